@@ -1,0 +1,62 @@
+//! The rules of ownership by code, and the words that a report names a fact by.
+
+/// What a loan lends (`docs/RULES.md`, "Facts").
+#[derive(Clone, Copy, Debug, PartialEq, Eq)]
+pub enum Loan {
+    /// To a borrower, for reading and writing.
+    Borrowed,
+    /// To an observer, for reading.
+    Observed,
+}
+
+/// The word of a report: which kind of fact forbids the act.
+#[derive(Clone, Copy, Debug, PartialEq, Eq, PartialOrd, Ord)]
+pub enum State {
+    /// The place was moved.
+    Moved,
+    /// The place is borrowed.
+    Borrowed,
+    /// The place is observed.
+    Observed,
+}
+
+/// A rule that a report names, in the order of reports.
+#[derive(Clone, Copy, Debug, PartialEq, Eq, PartialOrd, Ord)]
+pub enum Rule {
+    /// A read of a moved or borrowed place.
+    O1,
+    /// A comparison with `null` through a moved or borrowed place.
+    O2,
+    /// A write through a moved or borrowed place, or to a lent one.
+    O3,
+    /// A move of a moved or lent place.
+    O4,
+    /// A borrow of a moved or lent place.
+    O5,
+    /// An observation of a moved or borrowed place.
+    O6,
+    /// A reborrow by a borrower with a moved or lent part.
+    O7,
+    /// The end of a borrower with a moved part.
+    O8,
+    /// A return with a moved formal or package object.
+    O9,
+    /// An actual that is moved or lent.
+    O10,
+    /// A call whose callee uses a moved or lent package object.
+    O11,
+    /// A deallocation of a moved or lent place.
+    O14,
+    /// An actual that overlaps another actual.
+    A1,
+    /// An actual that overlaps a package object of the callee.
+    A2,
+    /// A write to, or a move out of, a constant view.
+    V1,
+    /// An observer whose source ends before it.
+    V2,
+    /// A traversal result that isn't rooted in the traversed parameter.
+    V3,
+    /// A borrower whose new source isn't rooted in it.
+    V4,
+}
