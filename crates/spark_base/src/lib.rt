@@ -7,4 +7,4 @@ mod position;
 
 pub use boxed::Boxed;
 pub use listed::Listed;
-pub use position::Pos;
+pub use position::{Pos, position_text};

@@ -1,0 +1,6 @@
+//! Finds the one control path of a source in the straight-line form.
+#![tactic(auto)]
+
+mod path;
+
+pub use path::{Deed, Place, PlacedDeed, StraightPath};
