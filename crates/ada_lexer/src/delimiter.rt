@@ -49,6 +49,7 @@ fn single(b: u8) -> Option<Symbol>
 }
 
 /// The delimiter at the front of a text, or the fault of its first byte.
+#[tactic(auto, unfolding(crate::specs::Delimiters::delimiter))]
 pub fn delimiter(text: &[u8]) -> Piece
     requires { 0 < length text.now }
     ensures value { result ≡ spec.delimiter (slice_index text.now 0) (slice_index text.now 1) }

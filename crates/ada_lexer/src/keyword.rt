@@ -1,6 +1,7 @@
 //! Tells reserved words from identifiers (Ada 2012, 2.9).
 
 ghost use Rattle.std.specs.Prelude.{◌≡◌, map};
+ghost use Rattle.std.specs.Str.{str_eq_ignore_ascii_case};
 ghost use Rattle.ada_lexer.specs.ReservedWords as spec;
 
 use crate::token::Reserved;
@@ -110,12 +111,18 @@ const OF_TWELVE: [(&[u8], Reserved); 1] = [
     (b"synchronized", Reserved::KwSynchronized),
 ];
 
+fn is_same_word(a: &[u8], b: &[u8]) -> bool
+    ensures { result ≡ str_eq_ignore_ascii_case a.now b.now }
+{
+    a.eq_ignore_ascii_case(b)
+}
+
 /// The entry of a table whose spelling is `word` but for letter case.
 fn entry_of(mut table: &[(&[u8], Reserved)], word: &[u8]) -> Option<Reserved>
     ensures { result ≡ spec.entry_of (map (λ entry. (entry.0.now, entry.1)) table.entry.now) word.now }
 {
     'entries: while let [entry, rest @ ..] = table {
-        if entry.0.eq_ignore_ascii_case(word) {
+        if is_same_word(entry.0, word) {
             return Some(entry.1);
         }
         table = rest;

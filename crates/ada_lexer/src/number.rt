@@ -64,6 +64,7 @@ fn spoils_number(rest: &[u8]) -> bool
 }
 
 /// The number at the front of a text that begins with a digit.
+#[tactic(auto, unfolding(crate::specs::Numbers::number))]
 pub fn number(text: &[u8]) -> Piece
     requires { character.is_digit (slice_index text.now 0) ≡ true }
     ensures value { result ≡ spec.number text.now }

@@ -45,6 +45,7 @@ fn comment_length(text: &[u8]) -> usize
 }
 
 /// The piece at the front of a text.
+#[tactic(auto, unfolding(crate::specs::Pieces::first_piece))]
 pub fn first_piece(text: &[u8]) -> Piece
     requires { 0 < length text.now }
     ensures value { result ≡ spec.first_piece text.now }

@@ -17,6 +17,7 @@ pub fn first_place(file: u16) -> Pos
 }
 
 /// The place behind bytes the first of which stands at `pos`.
+#[tactic(auto, unfolding(crate::specs::Places::behind))]
 pub fn behind(mut pos: Pos, bytes: &[u8]) -> Pos
     requires line { pos.line + length bytes.now < 2 ^ 32 }
     requires column { pos.column + length bytes.now < 2 ^ 32 }

@@ -35,6 +35,7 @@ fn elements_length(mut text: &[u8]) -> usize
 }
 
 /// The string at the front of a text that begins with a quote.
+#[tactic(auto, unfolding(crate::specs::Strings::string))]
 pub fn string(text: &[u8]) -> Piece
     requires { slice_index text.now 0 ≡ character.quote }
     ensures value { result ≡ spec.string text.now }

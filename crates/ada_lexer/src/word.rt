@@ -61,6 +61,7 @@ fn kind_by(word: Option<Reserved>) -> TokenKind
 }
 
 /// The identifier or the reserved word at the front of a text that begins with a letter.
+#[tactic(auto, unfolding(crate::specs::Identifiers::identifier))]
 pub fn identifier(text: &[u8]) -> Piece
     requires { character.is_letter (slice_index text.now 0) ≡ true }
     ensures value { result ≡ spec.identifier text.now }
