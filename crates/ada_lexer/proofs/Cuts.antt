@@ -24,7 +24,7 @@ cut_from-passed (suc left) pos room (b ∷ rest) = cut_from-passed left (next_pl
 -- The outcome behind a first piece of so many bytes.
 rest_from : (len : ℕ) (pos : Pos) (room : ℕ) (b : ℕ) (rest : Text) → 1 ≤ len
     → cut_from (len - 1) (next_place pos b) room rest
-      ≡ cut_from 0 (behind pos (take len (b ∷ rest))) room (drop len (b ∷ rest))
+    ≡ cut_from 0 (behind pos (take len (b ∷ rest))) room (drop len (b ∷ rest))
 unfolding behind
 rest_from zero pos room b rest some = absurd (omega arith)
 rest_from (suc len) pos room b rest some =
@@ -38,8 +38,8 @@ cut_from-gap len pos room (b ∷ rest) is some moves = rw is (rest_from len pos 
 pub cut_from-lexeme : (kind : TokenKind) (len : ℕ) (pos : Pos) (room : ℕ) (text : Text) → first_piece text ≡ Lexeme kind len
     → 0 < length text → 1 ≤ len → 0 < room
     → cut_from 0 pos room text
-      ≡ then_cut (record { kind = kind; text = take len text; pos = pos })
-        (cut_from 0 (behind pos (take len text)) (room - 1) (drop len text))
+    ≡ then_cut (record { kind = kind; text = take len text; pos = pos })
+    (cut_from 0 (behind pos (take len text)) (room - 1) (drop len text))
 cut_from-lexeme kind len pos room [] is some moves has_room = absurd (omega arith)
 cut_from-lexeme kind len pos room (b ∷ rest) is some moves has_room =
     let full : (room == 0) ≡ false = grind (arith, nat_tests) in
@@ -88,7 +88,7 @@ pub passes_lexeme : (found : List Cut) (kind : TokenKind) (len : ℕ) (pos : Pos
     → first_piece text ≡ Lexeme kind len → 0 < length text → 1 ≤ len → 0 < room
     → continued found (cut_from 0 pos room text) ≡ whole
     → continued (found ++ (record { kind = kind; text = take len text; pos = pos } ∷ []))
-      (cut_from 0 (behind pos (take len text)) (room - 1) (drop len text)) ≡ whole
+    (cut_from 0 (behind pos (take len text)) (room - 1) (drop len text)) ≡ whole
 passes_lexeme found kind len pos room text whole is some moves has_room joins =
     let token : Cut = record { kind = kind; text = take len text; pos = pos } in
     let behind_it = cut_from 0 (behind pos (take len text)) (room - 1) (drop len text) in

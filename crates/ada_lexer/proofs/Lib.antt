@@ -5,3 +5,4 @@ pub mod WordTables
 pub mod Cuts
 pub mod Bounds
 pub mod TokenLists
+pub mod Found

@@ -22,5 +22,5 @@ pub too_large : (value i : ℕ) (digits : List ℕ) → i < length digits
 too_large value i digits within is above =
     let more = fold_with_digit-le (with_digit value (get_or digits i 0)) (drop (suc i) digits) in
     let here : fold with_digit (with_digit value (get_or digits i 0)) (drop (suc i) digits) ≡ number_value digits
-        = rw (drop-cons digits i 0 within) at is in
+    = rw (drop-cons digits i 0 within) at is in
     omega arith

@@ -37,7 +37,7 @@ unfoldable pub number : Text → Piece
 number text =
     let digits = take (number_length text) text in
     if misplaces_underscore digits || spoils_number (drop (number_length text) text)
-        || nat_lt largest_number (number_value digits)
+    || nat_lt largest_number (number_value digits)
     then Broken BadNumber 0
     else Lexeme (Number (number_value digits)) (number_length text)
 

@@ -1,5 +1,5 @@
 -- Places in a file (docs/LANGUAGE.md, "Lexical elements"). Lines and columns count from 1, a column is a byte.
-use Rattle.std.specs.Prelude.{ℕ, ◌+◌, ◌==◌, if◌then◌else◌}
+use Rattle.std.specs.Prelude.{◌≡◌, ◌<◌, ◌⊎◌, ℕ, ◌+◌, ◌==◌, if◌then◌else◌}
 use Rattle.std.specs.List.{fold}
 use Rattle.spark_base.specs.declared.position.Pos.{Pos}
 use Rattle.ada_lexer.specs.Characters.{Text, line_feed}
@@ -16,3 +16,7 @@ next_place pos b =
 -- The place behind bytes the first of which stands at a place.
 unfoldable pub behind : Pos → Text → Pos
 behind = fold next_place
+
+-- The first place stands in front of the other.
+abbrev pub IsBefore : Pos → Pos → Type 0
+IsBefore a b = (a.line < b.line) ⊎ ((a.line ≡ b.line) × (a.column < b.column))

@@ -1,5 +1,5 @@
 -- The cut of a text into tokens, or its first lexical fault (docs/LANGUAGE.md, "Lexical elements").
-use Rattle.std.specs.Prelude.{◌≡◌, ℕ, zero, suc, ◌-◌, ◌==◌, if◌then◌else◌, List, [], ◌∷◌, map, take, Result, Ok, Err}
+use Rattle.std.specs.Prelude.{◌≡◌, ℕ, zero, suc, ◌-◌, ◌==◌, if◌then◌else◌, List, [], ◌∷◌, ◌++◌, map, take, Result, Ok, Err}
 use Rattle.spark_base.specs.declared.position.Pos.{Pos}
 use Rattle.ada_lexer.specs.declared.token.Token.{Token}
 use Rattle.ada_lexer.specs.declared.token.TokenKind.{TokenKind}
@@ -72,3 +72,19 @@ EndsOnce (Ident ∷ rest) = EndsOnce rest
 EndsOnce (Number value ∷ rest) = EndsOnce rest
 EndsOnce (Str ∷ rest) = EndsOnce rest
 EndsOnce (Symbol symbol ∷ rest) = EndsOnce rest
+
+-- The bytes of a token stand in the text, and its place is the one behind the bytes before them.
+pub record StandsIn (file : ℕ) (text : Text) (token : Cut) : Type 0 where
+  pub before : Text
+  pub rest : Text
+  pub splits : text ≡ before ++ token.text ++ rest
+  pub place : token.pos ≡ behind (first_place file) before
+
+-- The place that a refusal names is one of this file.
+abbrev pub NamesFile : ℕ → LexRefusal → Type 0
+NamesFile file (refused.BadByte pos) = pos.file ≡ file
+NamesFile file (refused.BadIdentifier pos) = pos.file ≡ file
+NamesFile file (refused.BadNumber pos) = pos.file ≡ file
+NamesFile file (refused.OpenString pos) = pos.file ≡ file
+NamesFile file (refused.TooMany pos) = pos.file ≡ file
+NamesFile file refused.Memory = Unit {0}

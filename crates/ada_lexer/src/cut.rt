@@ -1,16 +1,15 @@
 //! The cut of a whole text.
 
-ghost use Rattle.std.specs.Prelude.{◌≡◌, ◌≢◌, ◌≤◌, ◌+◌, Ok, Err, IfOk, IfErr, length, map};
+ghost use Rattle.std.specs.Prelude.{◌≡◌, ◌≢◌, ◌≤◌, ◌+◌, Ok, Err, IfOk, IfErr, All, AllPairs, length, map};
+ghost use Rattle.ada_lexer.specs.Places.{IsBefore};
 ghost use Rattle.ada_lexer.specs.Tokens as spec;
-
-use std::alloc::Global;
-
-use spark_base::Pos;
 
 use crate::piece::{Fault, Piece, first_piece};
 use crate::place::{behind, first_place};
 use crate::refusal::LexRefusal;
 use crate::token::{Token, TokenKind};
+use spark_base::Pos;
+use std::alloc::Global;
 
 fn refusal_at(fault: Fault, pos: Pos) -> LexRefusal
     ensures { result ≡ spec.refusal_at fault pos }
@@ -26,12 +25,21 @@ fn refusal_at(fault: Fault, pos: Pos) -> LexRefusal
 /// The tokens of a file, with the end of the file last, or the first lexical fault.
 ///
 /// `file` is the number that each place gets. There is room for `room` tokens before the end of the file.
-pub fn lex<'s>(alloc: Global, file: u16, text: &'s [u8], room: u32) -> Result<Vec<Token<'s>>, LexRefusal>
+pub fn lex<'s>(
+    alloc: Global,
+    file: u16,
+    text: &'s [u8],
+    room: u32,
+) -> Result<Vec<Token<'s>>, LexRefusal>
     requires { length text.now ≤ 4194304 }
     ensures found { IfOk result (λ found. spec.tokens file text.now room ≡ Ok (map spec.cut_of found.items)) }
     ensures fault { IfErr result (λ fault. fault ≢ LexRefusal.Memory → spec.tokens file text.now room ≡ Err fault) }
     ensures ends { IfOk result (λ found. spec.EndsOnce (spec.kinds_of found.items)) }
     ensures within { IfOk result (λ found. length found.items ≤ room + 1) }
+    ensures stands { IfOk result (λ found. All (λ token. spec.StandsIn file text.now (spec.cut_of token)) found.items) }
+    ensures ordered { IfOk result (λ found. AllPairs (λ a b. IsBefore a.pos b.pos) found.items) }
+    ensures file { IfOk result (λ found. All (λ token. token.pos.file ≡ file) found.items) }
+    ensures refused_file { IfErr result (λ fault. spec.NamesFile file fault) }
 {
     let mut found = Vec::new(alloc);
     let mut rest = text;

@@ -103,13 +103,9 @@ const OF_NINE: [(&[u8], Reserved); 5] = [
     (b"terminate", Reserved::KwTerminate),
 ];
 
-const OF_TEN: [(&[u8], Reserved); 1] = [
-    (b"overriding", Reserved::KwOverriding),
-];
+const OF_TEN: [(&[u8], Reserved); 1] = [(b"overriding", Reserved::KwOverriding)];
 
-const OF_TWELVE: [(&[u8], Reserved); 1] = [
-    (b"synchronized", Reserved::KwSynchronized),
-];
+const OF_TWELVE: [(&[u8], Reserved); 1] = [(b"synchronized", Reserved::KwSynchronized)];
 
 fn is_same_word(a: &[u8], b: &[u8]) -> bool
     ensures { result ≡ str_eq_ignore_ascii_case a.now b.now }

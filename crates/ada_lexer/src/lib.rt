@@ -15,6 +15,8 @@ mod piece;
 mod place;
 mod refusal;
 mod string;
+#[cfg(test)]
+mod tests;
 mod token;
 mod word;
 

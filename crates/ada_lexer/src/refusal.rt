@@ -1,8 +1,7 @@
 //! Why a text has no tokens.
 
-use std::alloc::{AllocError, AllocFailed};
-
 use spark_base::Pos;
+use std::alloc::{AllocError, AllocFailed};
 use thiserror::Error;
 
 /// The first lexical fault of a text, at the place of the byte that it names, or a want of memory.

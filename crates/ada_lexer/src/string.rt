@@ -13,7 +13,11 @@ use crate::token::TokenKind;
 fn begins_element(b: u8, next: u8) -> bool
     ensures { result ≡ spec.begins_element b next }
 {
-    if b == b'"' { next == b'"' } else { is_graphic(b) }
+    if b == b'"' {
+        next == b'"'
+    } else {
+        is_graphic(b)
+    }
 }
 
 /// How many bytes the string elements at the front of a text take.

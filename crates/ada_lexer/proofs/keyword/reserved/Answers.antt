@@ -46,5 +46,5 @@ returns-in-12 c = table_serves 12 _ _ _ refl c.in-12.is c.entry_of-in-12.ensures
 pub returns-in_default : goal.returns-in_default
 returns-in_default c =
     let none = none_of_length (length c.args.word.now) (omega arith) (omega arith) (omega arith) (omega arith) (omega arith)
-        (omega arith) (omega arith) (omega arith) (omega arith) (omega arith) in
+    (omega arith) (omega arith) (omega arith) (omega arith) (omega arith) in
     table_serves (length c.args.word.now) [] c.args.word.now None none refl refl
