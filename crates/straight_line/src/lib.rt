@@ -2,5 +2,7 @@
 #![tactic(auto)]
 
 mod path;
+mod reports;
 
 pub use path::{Deed, Place, PlacedDeed, StraightPath};
+pub use reports::{PathReport, path_reports, place_text};
