@@ -1,2 +1,6 @@
 -- what the public contracts rest on
 pub mod Deeds
+pub mod Within
+pub mod Declarations
+pub mod Form
+pub mod PathActs

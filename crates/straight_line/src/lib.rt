@@ -2,5 +2,7 @@
 #![tactic(auto)]
 
 mod path;
+mod scope;
 
 pub use path::{Deed, Place, PlacedDeed, StraightPath};
+pub use scope::{Declared, Mark};
