@@ -13,7 +13,7 @@ use Rattle.straight_line.specs.declared.path.PlacedDeed.{PlacedDeed}
 use Rattle.straight_line.specs.declared.reports.PathReport.{PathReport}
 use Rattle.straight_line.specs.declared.reports.Entry.{Entry}
 use Rattle.straight_line.specs.contracts.reports.EntryOrd.TheImpl as entry_ord
-use Rattle.straight_line.specs.Within.{place_object}
+use Rattle.straight_line.specs.Within.{root_of}
 use Rattle.straight_line.specs.Deeds.{name_of}
 use Rattle.straight_line.specs.Reported.{printed_name}
 
@@ -40,7 +40,7 @@ is_marked marks x = slice_index_or marks x false
 abbrev pub tested : List Bool → Pos → Option (Rule × Place) → Option PathReport
 tested marks pos None = None
 tested marks pos (Some t) =
-    if is_marked marks (place_object t.1) then Some (record { pos = pos; rule = t.0; place = t.1 }) else None
+    if is_marked marks (root_of t.1) then Some (record { pos = pos; rule = t.0; place = t.1 }) else None
 
 -- The report of a deed.
 abbrev pub report_at : List Bool → PlacedDeed → Option PathReport

@@ -1,9 +1,10 @@
 //! The reports of a straight path, in order (`docs/RULES.md`, "Reports").
 ghost use Rattle.std.specs.Prelude.{◌≡◌, ◌-◌, ◌<◌, ◌≤◌, IfOk, OnOk, length, map, vec_len};
+ghost use Rattle.std.specs.BTreeSet.{IsOrdered};
 ghost use Rattle.std.specs.Option.{ForSome};
 ghost use Rattle.place_names.specs.Reports.{Gives, IsReportList};
 ghost use Rattle.straight_line.specs.Deeds.{name_of, placed_of};
-ghost use Rattle.straight_line.specs.Within.{AreWithin, IsDeedWithin, IsWithin, place_object};
+ghost use Rattle.straight_line.specs.Within.{AreWithin, IsWithin, IsObject, root_of};
 ghost use Rattle.straight_line.specs.Reported.{printed_name, report_of};
 ghost use Rattle.straight_line.specs.Marks as walk;
 
@@ -58,7 +59,7 @@ pub fn path_reports(alloc: Global, path: &StraightPath) -> Result<Vec<PathReport
 
 /// The text of a place as a report shows it.
 pub fn place_text(alloc: Global, objects: &[Word], place: Place) -> Result<Vec<u8>, AllocError>
-    requires { IsWithin (length objects.now) (place_object place) }
+    requires { IsObject (length objects.now) (root_of place) }
     ensures { IfOk result (λ text. text.items ≡ printed_name objects.now (name_of place)) }
 {
     let object = objects[object_of(place) as usize - 1].as_bytes();
@@ -71,7 +72,7 @@ pub fn place_text(alloc: Global, objects: &[Word], place: Place) -> Result<Vec<u
 
 /// The number of the object in which a place lies.
 fn object_of(place: Place) -> u32
-    ensures { result ≡ place_object place }
+    ensures { result ≡ root_of place }
 {
     match place {
         Place::Object(x) | Place::Designated(x) => x,
@@ -100,7 +101,7 @@ fn test_of(deed: Deed) -> Option<(Rule, Place)>
 
 /// The report of a deed where the objects that are moved have their marks.
 fn report_at(moved: &[bool], placed: PlacedDeed) -> Option<PathReport>
-    requires { IsDeedWithin (length moved.now - 1) placed.deed }
+    requires { IsWithin (length moved.now - 1) placed.deed }
     ensures { result ≡ walk.report_at moved.now placed }
 {
     let (rule, place) = test_of(placed.deed)?;
@@ -110,7 +111,7 @@ fn report_at(moved: &[bool], placed: PlacedDeed) -> Option<PathReport>
 
 /// Keeps the marks of the objects that are moved behind a deed.
 fn mark(moved: &mut Vec<bool>, deed: Deed)
-    requires { IsDeedWithin (vec_len moved.old - 1) deed }
+    requires { IsWithin (vec_len moved.old - 1) deed }
     ensures { moved.new.items ≡ walk.marks_after moved.old.items deed }
 {
     match deed {
@@ -129,7 +130,7 @@ fn add_report(
     report: Option<PathReport>,
     entries: &mut BTreeSet<Entry>,
 ) -> Result<(), AllocError>
-    requires { ForSome report (λ r. IsWithin (length objects.now) (place_object r.place)) }
+    requires { ForSome report (λ r. IsObject (length objects.now) (root_of r.place)) }
     ensures { OnOk result (walk.Adds objects.now entries.old.keys entries.new.keys report) }
 {
     let Some(PathReport { pos, rule, place }) = report else {
@@ -148,7 +149,8 @@ fn add_report(
 
 /// The reports of the entries, in their order.
 fn in_order(alloc: Global, entries: BTreeSet<Entry>) -> Result<Vec<PathReport>, AllocError>
-    ensures { IfOk result (λ reports. reports.items ≡ map walk.report_in entries.keys) }
+    ensures items { IfOk result (λ reports. reports.items ≡ map walk.report_in entries.keys) }
+    ensures ordered { IsOrdered walk.entry_cmp entries }
 {
     entries.into_iter().map(report_in).collect(alloc)
 }
