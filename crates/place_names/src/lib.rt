@@ -2,9 +2,11 @@
 #![tactic(auto)]
 
 mod act;
+mod place_name;
 mod rule;
 mod selector;
 
 pub use act::Mode;
+pub use place_name::{PlaceName, TooDeep};
 pub use rule::{Loan, Rule, State};
-pub use selector::Sel;
+pub use selector::{Sel, agrees};
