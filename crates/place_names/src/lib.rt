@@ -3,10 +3,12 @@
 
 mod act;
 mod place_name;
+mod place_tail;
 mod rule;
 mod selector;
 
 pub use act::Mode;
 pub use place_name::{PlaceName, TooDeep};
+pub use place_tail::PlaceTail;
 pub use rule::{Loan, Rule, State};
 pub use selector::{Sel, agrees};
