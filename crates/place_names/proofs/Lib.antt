@@ -1,2 +1,6 @@
+-- what the proofs cite
 pub mod Selectors
+-- laws of the definitions
+pub mod Names
+pub mod Facts
 pub mod Examples
