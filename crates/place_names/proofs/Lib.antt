@@ -3,4 +3,5 @@ pub mod Selectors
 -- laws of the definitions
 pub mod Names
 pub mod Facts
+pub mod Rules
 pub mod Examples
