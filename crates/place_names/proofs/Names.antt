@@ -24,13 +24,14 @@ both_true a b e f = ap (λ x. x && b) e ∙ f
 
 pub same_name : (m n : Name) → Decides (names.eq-value.it m n) (m ≡ n)
 same_name m n =
-    let sels = slice_eq-Decides selector_eq-decides m.sels n.sels _ refl in
-    (λ e.
-        let parts = both_parts (m.root == n.root) _ e in
-        let root = eqb-true _ _ parts.0 in
-        let rest = sels.0 parts.1 in
-        λ i. record { root = root i; sels = rest i },
-     λ e. both_true (m.root == n.root) _ (eq-eqb _ _ (ap (λ k. k.root) e)) (sels.1 (ap (λ k. k.sels) e)))
+    let sels = slice_eq-Decides selector_eq-decides m.sels n.sels _ refl in (
+      λ e.
+          let parts = both_parts (m.root == n.root) _ e in
+          let root = eqb-true _ _ parts.0 in
+          let rest = sels.0 parts.1 in
+          λ i. record { root = root i; sels = rest i },
+      λ e. both_true (m.root == n.root) _ (eq-eqb _ _ (ap (λ k. k.root) e)) (sels.1 (ap (λ k. k.sels) e)),
+    )
 
 -- equal selectors are the same one
 pub is_equal-decides : (s t : Sel) → Decides (is_equal s t) (s ≡ t)
@@ -42,29 +43,31 @@ begins-decides [] m = (λ e. (m, refl), λ e. refl)
 begins-decides (s ∷ k) [] = (λ e. cc, λ e. let is = e.1 in cc)
 begins-decides (s ∷ k) (t ∷ m) =
     let same = is_equal-decides s t in
-    let more = begins-decides k m in
-    (λ e.
-        let parts = both_parts (is_equal s t) (begins k m) e in
-        let behind = more.0 parts.1 in
-        let head = same.0 parts.0 in
-        let tail = behind.1 in
-        (behind.0, cc),
-     λ e.
-        let is = e.1 in
-        both_true (is_equal s t) (begins k m) (same.1 cc) (more.1 (e.0, cc)))
+    let more = begins-decides k m in (
+      λ e.
+          let parts = both_parts (is_equal s t) (begins k m) e in
+          let behind = more.0 parts.1 in
+          let head = same.0 parts.0 in
+          let tail = behind.1 in
+          (behind.0, cc),
+      λ e.
+          let is = e.1 in
+          both_true (is_equal s t) (begins k m) (same.1 cc) (more.1 (e.0, cc)),
+    )
 
 -- k is a prefix of m where some selectors behind k give m
 pub is_prefix-decides : (k m : Name) → Decides (is_prefix k m) ((rest : List Sel) × (m ≡ extend k rest))
 is_prefix-decides k m =
-    let first = begins-decides k.sels m.sels in
-    (λ e.
-        let parts = both_parts (k.root == m.root) (begins k.sels m.sels) e in
-        let behind = first.0 parts.1 in
-        let root = eqb-true _ _ parts.0 in
-        (behind.0, λ i. record { root = sym root i; sels = behind.1 i }),
-     λ e.
-        let root = ap (λ n. n.root) e.1 in
-        both_true (k.root == m.root) (begins k.sels m.sels) (eq-eqb _ _ (sym root)) (first.1 (e.0, ap (λ n. n.sels) e.1)))
+    let first = begins-decides k.sels m.sels in (
+      λ e.
+          let parts = both_parts (k.root == m.root) (begins k.sels m.sels) e in
+          let behind = first.0 parts.1 in
+          let root = eqb-true _ _ parts.0 in
+          (behind.0, λ i. record { root = sym root i; sels = behind.1 i }),
+      λ e.
+          let root = ap (λ n. n.root) e.1 in
+          both_true (k.root == m.root) (begins k.sels m.sels) (eq-eqb _ _ (sym root)) (first.1 (e.0, ap (λ n. n.sels) e.1)),
+    )
 
 -- selectors agree along each other where they agree at each index that both lists have
 pub agree_along-decides : (k m : List Sel)
@@ -72,11 +75,12 @@ pub agree_along-decides : (k m : List Sel)
 agree_along-decides [] m = (λ e i d p q. absurd (omega arith), λ e. refl)
 agree_along-decides (s ∷ k) [] = (λ e i d p q. absurd (omega arith), λ e. refl)
 agree_along-decides (s ∷ k) (t ∷ m) =
-    let more = agree_along-decides k m in
-    (λ e.
-        let parts = both_parts (agrees s t) (agree_along k m) e in
-        at_each s t k m parts.0 (more.0 parts.1),
-     λ e. both_true (agrees s t) (agree_along k m) (e 0 s (omega arith) (omega arith)) (more.1 (λ i d p q. e (suc i) d (omega arith) (omega arith))))
+    let more = agree_along-decides k m in (
+      λ e.
+          let parts = both_parts (agrees s t) (agree_along k m) e in
+          at_each s t k m parts.0 (more.0 parts.1),
+      λ e. both_true (agrees s t) (agree_along k m) (e 0 s (omega arith) (omega arith)) (more.1 (λ i d p q. e (suc i) d (omega arith) (omega arith))),
+    )
   where
     at_each : (s t : Sel) (k m : List Sel) → IsTrue (agrees s t)
         → ((i : ℕ) (d : Sel) → i < length k → i < length m → IsTrue (agrees (get_or k i d) (get_or m i d)))
@@ -126,9 +130,10 @@ not_decides false d = (λ e p. let is = d.1 p in cc, λ e. refl)
 -- k covers m where it is a prefix of m and no selector of it is an `Elem`
 pub covers-decides : (k m : Name) → Decides (covers k m) (IsTrue (is_prefix k m) × (Has k.sels Elem → ⊥))
 covers-decides k m =
-    let none = not_decides (has_elem k.sels) (has_elem-decides k.sels) in
-    (λ e. let parts = both_parts (is_prefix k m) (not (has_elem k.sels)) e in (parts.0, none.0 parts.1),
-     λ e. both_true (is_prefix k m) (not (has_elem k.sels)) e.0 (none.1 e.1))
+    let none = not_decides (has_elem k.sels) (has_elem-decides k.sels) in (
+      λ e. let parts = both_parts (is_prefix k m) (not (has_elem k.sels)) e in (parts.0, none.0 parts.1),
+      λ e. both_true (is_prefix k m) (not (has_elem k.sels)) e.0 (none.1 e.1),
+    )
 
 -- n leads to m where it agrees with a prefix of m that is as long
 agrees_whole-decides : (n m : List Sel)
@@ -140,15 +145,17 @@ agrees_whole-decides (s ∷ n) [] = (λ e. cc, λ (front, first, long, along). n
     none [] first long = absurd (omega arith)
     none (t ∷ front) first long = first
 agrees_whole-decides (s ∷ n) (t ∷ m) =
-    let more = agrees_whole-decides n m in
-    (λ e.
-        let parts = both_parts (agrees s t) (agrees_whole n m) e in
-        let rest = more.0 parts.1 in
-        (t ∷ rest.0,
-         both_true (is_equal t t) (begins rest.0 m) ((is_equal-decides t t).1 refl) rest.1,
-         ap suc rest.2,
-         both_true (agrees s t) (agree_along n rest.0) parts.0 rest.3),
-     λ (front, first, long, along). back (λ x. more.1 x) front first long along)
+    let more = agrees_whole-decides n m in (
+      λ e.
+          let parts = both_parts (agrees s t) (agrees_whole n m) e in
+          let rest = more.0 parts.1 in (
+            t ∷ rest.0,
+            both_true (is_equal t t) (begins rest.0 m) ((is_equal-decides t t).1 refl) rest.1,
+            ap suc rest.2,
+            both_true (agrees s t) (agree_along n rest.0) parts.0 rest.3,
+          ),
+      λ (front, first, long, along). back (λ x. more.1 x) front first long along,
+    )
   where
     back : ((front : List Sel) × IsTrue (begins front m) × (length n ≡ length front) × IsTrue (agree_along n front) → IsTrue (agrees_whole n m))
         → (front : List Sel) → IsTrue (begins front (t ∷ m)) → length (s ∷ n) ≡ length front → IsTrue (agree_along (s ∷ n) front)
@@ -159,24 +166,26 @@ agrees_whole-decides (s ∷ n) (t ∷ m) =
         let two = both_parts (agrees s u) (agree_along n front) along in
         let same = (is_equal-decides u t).0 one.0 in
         both_true (agrees s t) (agrees_whole n m) (subst (λ v. IsTrue (agrees s v)) same two.0)
-            (more (front, one.1, (omega arith), two.1))
+        (more (front, one.1, (omega arith), two.1))
 
 pub leads_to-decides : (n m : Name)
     → Decides (leads_to n m) ((p : Name) × IsTrue (is_prefix p m) × (length n.sels ≡ length p.sels) × IsTrue (overlaps n p))
 leads_to-decides n m =
-    let whole = agrees_whole-decides n.sels m.sels in
-    (λ e.
-        let parts = both_parts (n.root == m.root) (agrees_whole n.sels m.sels) e in
-        let front = whole.0 parts.1 in
-        (record { root = n.root; sels = front.0 },
-         both_true (n.root == m.root) (begins front.0 m.sels) parts.0 front.1,
-         front.2,
-         both_true (n.root == n.root) (agree_along n.sels front.0) (eq-eqb _ _ refl) front.3),
-     λ (p, first, long, over).
-        let one = both_parts (p.root == m.root) (begins p.sels m.sels) first in
-        let two = both_parts (n.root == p.root) (agree_along n.sels p.sels) over in
-        both_true (n.root == m.root) (agrees_whole n.sels m.sels) (eq-eqb _ _ (eqb-true _ _ two.0 ∙ eqb-true _ _ one.0))
-            (whole.1 (p.sels, one.1, long, two.1)))
+    let whole = agrees_whole-decides n.sels m.sels in (
+      λ e.
+          let parts = both_parts (n.root == m.root) (agrees_whole n.sels m.sels) e in
+          let front = whole.0 parts.1 in (
+            record { root = n.root; sels = front.0 },
+            both_true (n.root == m.root) (begins front.0 m.sels) parts.0 front.1,
+            front.2,
+            both_true (n.root == n.root) (agree_along n.sels front.0) (eq-eqb _ _ refl) front.3,
+          ),
+      λ (p, first, long, over).
+          let one = both_parts (p.root == m.root) (begins p.sels m.sels) first in
+          let two = both_parts (n.root == p.root) (agree_along n.sels p.sels) over in
+          both_true (n.root == m.root) (agrees_whole n.sels m.sels) (eq-eqb _ _ (eqb-true _ _ two.0 ∙ eqb-true _ _ one.0))
+          (whole.1 (p.sels, one.1, long, two.1)),
+    )
 
 has_map : {A B : Type 0} (g : A → B) (xs : List A) (x : A) → Has xs x → Has (map g xs) (g x)
 has_map g [] x h = h
@@ -196,10 +205,11 @@ strict_front_is (s ∷ k) front h =
     elim h [
       | inl e ↦ (subst (λ f. IsTrue (begins f (s ∷ k))) e refl, subst (λ f. length f < length (s ∷ k)) e (omega arith))
       | inr h ↦
-        let found = from_map (λ rest. s ∷ rest) (strict_fronts k) front h in
-        let rest = strict_front_is k found.0 found.1 in
-        (subst (λ f. IsTrue (begins f (s ∷ k))) found.2 (both_true (is_equal s s) (begins found.0 k) ((is_equal-decides s s).1 refl) rest.0),
-         subst (λ f. length f < length (s ∷ k)) found.2 (omega arith))
+          let found = from_map (λ rest. s ∷ rest) (strict_fronts k) front h in
+          let rest = strict_front_is k found.0 found.1 in (
+            subst (λ f. IsTrue (begins f (s ∷ k))) found.2 (both_true (is_equal s s) (begins found.0 k) ((is_equal-decides s s).1 refl) rest.0),
+            subst (λ f. length f < length (s ∷ k)) found.2 (omega arith),
+          )
     ]
 
 is_strict_front : (k front : List Sel) → IsTrue (begins front k) → length front < length k → Has (strict_fronts k) front
@@ -214,17 +224,18 @@ is_strict_front (s ∷ k) (t ∷ front) first less =
 -- the strict prefixes of a name are its prefixes that are shorter
 pub is_strict_prefix-decides : (p k : Name) → Decides (is_strict_prefix p k) (Has (strict_prefixes k) p)
 is_strict_prefix-decides p k =
-    let make : List Sel → Name = λ front. record { root = k.root; sels = front } in
-    (λ e.
-        let parts = both_parts (is_prefix p k) (nat_lt (length p.sels) (length k.sels)) e in
-        let one = both_parts (p.root == k.root) (begins p.sels k.sels) parts.0 in
-        let root = eqb-true _ _ one.0 in
-        let has = has_map make (strict_fronts k.sels) p.sels (is_strict_front k.sels p.sels one.1 (ltb-true _ _ parts.1)) in
-        subst (λ r. Has (strict_prefixes k) (record { root = r; sels = p.sels })) (sym root) has,
-     λ h.
-        let found = from_map make (strict_fronts k.sels) p h in
-        let is = strict_front_is k.sels found.0 found.1 in
-        subst (λ n. IsTrue (is_strict_prefix n k)) found.2
-            (both_true (is_prefix (make found.0) k) (nat_lt (length found.0) (length k.sels))
-                (both_true (k.root == k.root) (begins found.0 k.sels) (eq-eqb _ _ refl) is.0)
-                (lt-ltb _ _ is.1)))
+    let make : List Sel → Name = λ front. record { root = k.root; sels = front } in (
+      λ e.
+          let parts = both_parts (is_prefix p k) (nat_lt (length p.sels) (length k.sels)) e in
+          let one = both_parts (p.root == k.root) (begins p.sels k.sels) parts.0 in
+          let root = eqb-true _ _ one.0 in
+          let has = has_map make (strict_fronts k.sels) p.sels (is_strict_front k.sels p.sels one.1 (ltb-true _ _ parts.1)) in
+          subst (λ r. Has (strict_prefixes k) (record { root = r; sels = p.sels })) (sym root) has,
+      λ h.
+          let found = from_map make (strict_fronts k.sels) p h in
+          let is = strict_front_is k.sels found.0 found.1 in
+          subst (λ n. IsTrue (is_strict_prefix n k)) found.2
+          (both_true (is_prefix (make found.0) k) (nat_lt (length found.0) (length k.sels))
+          (both_true (k.root == k.root) (begins found.0 k.sels) (eq-eqb _ _ refl) is.0)
+          (lt-ltb _ _ is.1)),
+    )

@@ -38,25 +38,25 @@ any_front [] (t ∷ k) = sym (lt-ltb _ _ (omega arith))
 any_front (s ∷ n) (t ∷ k) =
     let shorter : nat_lt (length n) (length k) ≡ nat_lt (length (s ∷ n)) (length (t ∷ k)) = search rules in
     any-map (λ front. agrees_whole (s ∷ n) front) (λ front. t ∷ front) (strict_fronts k)
-        ∙ any-and (agrees s t) (λ front. agrees_whole n front) (strict_fronts k)
-        ∙ ap (λ b. agrees s t && b) (any_front n k)
-        ∙ sym (and_assoc (agrees s t) (agrees_whole n k) (nat_lt (length n) (length k)))
-        ∙ ap (λ b. (agrees_whole (s ∷ n) (t ∷ k)) && b) shorter
+    ∙ any-and (agrees s t) (λ front. agrees_whole n front) (strict_fronts k)
+    ∙ ap (λ b. agrees s t && b) (any_front n k)
+    ∙ sym (and_assoc (agrees s t) (agrees_whole n k) (nat_lt (length n) (length k)))
+    ∙ ap (λ b. (agrees_whole (s ∷ n) (t ∷ k)) && b) shorter
 
 any_prefix : (n k : Name) → list_any (λ p. leads_to n p) (strict_prefixes k) ≡ (leads_to n k && nat_lt (length n.sels) (length k.sels))
 any_prefix n k =
     let same = n.root == k.root in
     any-map (λ p. leads_to n p) (λ front. record { root = k.root; sels = front }) (strict_fronts k.sels)
-        ∙ any-and same (λ front. agrees_whole n.sels front) (strict_fronts k.sels)
-        ∙ ap (λ b. same && b) (any_front n.sels k.sels)
-        ∙ sym (and_assoc same (agrees_whole n.sels k.sels) (nat_lt (length n.sels) (length k.sels)))
+    ∙ any-and same (λ front. agrees_whole n.sels front) (strict_fronts k.sels)
+    ∙ ap (λ b. same && b) (any_front n.sels k.sels)
+    ∙ sym (and_assoc same (agrees_whole n.sels k.sels) (nat_lt (length n.sels) (length k.sels)))
 
 -- a strict prefix of k is forbidden as a comparison is, where k is and the fact's name is shorter than k
 pub any_breaks_O2 : (k : Name) (f : Fact)
     → list_any (λ p. breaks_O2 p f) (strict_prefixes k) ≡ (breaks_O2 k f && nat_lt (length (place f).sels) (length k.sels))
 any_breaks_O2 k (Moved n) =
     any-or_false (λ p. leads_to n p) (strict_prefixes k)
-        ∙ any_prefix n k
-        ∙ ap (λ b. b && nat_lt (length n.sels) (length k.sels)) (sym (or_false (leads_to n k)))
+    ∙ any_prefix n k
+    ∙ ap (λ b. b && nat_lt (length n.sels) (length k.sels)) (sym (or_false (leads_to n k)))
 any_breaks_O2 k (Lent Borrowed h n) = any_prefix n k
 any_breaks_O2 k (Lent Observed h n) = any-false (strict_prefixes k)

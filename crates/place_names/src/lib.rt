@@ -6,6 +6,8 @@ mod place_name;
 mod place_tail;
 mod rule;
 mod selector;
+#[cfg(test)]
+mod tests;
 
 pub use act::Mode;
 pub use place_name::{PlaceName, TooDeep};
