@@ -9,10 +9,10 @@ use Rattle.ada_parser.specs.declared.tree.NextIdentifier.TheVariants.{After}
 use Rattle.ada_parser.specs.declared.tree.Item.{Item}
 use Rattle.ada_parser.specs.declared.tree.Item.TheVariants as item
 use Rattle.ada_parser.specs.declared.tree.SourceUnit.{SourceUnit}
-use Rattle.straight_line.specs.declared.scope.Mark.{Mark}
-use Rattle.straight_line.specs.declared.scope.Mark.TheVariants.{Integer, Access}
-use Rattle.straight_line.specs.declared.scope.Declared.{Declared}
-use Rattle.straight_line.specs.declared.scope.Declared.TheVariants.{Procedure, AccessType, Instance, Object}
+use Rattle.straight_line.specs.declared.kind.Mark.{Mark}
+use Rattle.straight_line.specs.declared.kind.Mark.TheVariants.{Integer, Access}
+use Rattle.straight_line.specs.declared.kind.Declared.{Declared}
+use Rattle.straight_line.specs.declared.kind.Declared.TheVariants.{Procedure, AccessType, Instance, Object}
 
 -- Identifiers are compared in lower case (Ada 2012, 2.3(5)).
 abbrev pub folded : Identifier → List ℕ

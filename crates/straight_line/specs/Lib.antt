@@ -4,3 +4,5 @@ pub mod Within
 pub mod Declarations
 pub mod Form
 pub mod PathActs
+-- what the functions inside promise each other
+pub mod Steps
