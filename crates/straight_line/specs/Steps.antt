@@ -38,6 +38,13 @@ abbrev pub items_follow : Declarations → List Item → Bool
 items_follow known [] = true
 items_follow known (item ∷ rest) = all_follow known (declared_by known item) && items_follow (known ++ declared_by known item) rest
 
+-- An access type or an instance is no object.
+abbrev pub IsOther : Declared → Type 0
+IsOther (Object n mark) = ⊥
+IsOther Procedure = Unit {0}
+IsOther (AccessType place) = Unit {0}
+IsOther (Instance place) = Unit {0}
+
 -- An object has one of the first n numbers.
 abbrev pub IsNumbered : ℕ → Declared → Type 0
 IsNumbered n (Object x mark) = IsObject n x

@@ -1,7 +1,8 @@
 //! The declarations of a source, found by their identifiers in lower case.
-ghost use Rattle.std.specs.Prelude.{◌≡◌, [], ◌∷◌, ◌++◌, true, false, codes, length, IfOk, OnOk};
+ghost use Rattle.std.specs.Prelude.{◌≡◌, [], ◌∷◌, ◌++◌, true, false, codes, length, Option, Some, IfOk, OnOk};
 ghost use Rattle.straight_line.specs.Declarations.{folded, same, meaning, access_place, mark_of};
-ghost use Rattle.straight_line.specs.Form.{may_be_declared, may_name_procedure, has_type};
+ghost use Rattle.straight_line.specs.Form.{may_be_declared, may_name_procedure, has_type, frees};
+ghost use Rattle.straight_line.specs.declared.kind.Mark.{Mark};
 ghost use Rattle.straight_line.specs.Steps.{may_enter};
 
 use crate::fault::Fault;
@@ -59,6 +60,22 @@ impl Scope {
             Some(Declared::AccessType(place)) => Ok(place),
             Some(Declared::Procedure | Declared::Instance(_) | Declared::Object(_, _)) | None => {
                 Ok(0)
+            }
+        }
+    }
+
+    /// The place of the access type of the instance that an identifier names.
+    pub fn instance(&self, alloc: Global, id: &Identifier) -> Result<usize, Fault>
+        ensures found { IfOk result (λ place. meaning self.now id.now ≡ Some (Declared.Instance place)) }
+        ensures out {
+            result ≡ Err Fault.OutOfForm →
+                (actual : Option Mark) → frees (meaning self.now id.now) actual ≡ false
+        }
+    {
+        match self.meaning(alloc, id)? {
+            Some(Declared::Instance(place)) => Ok(place),
+            Some(Declared::Procedure | Declared::AccessType(_) | Declared::Object(_, _)) | None => {
+                Err(Fault::OutOfForm)
             }
         }
     }
