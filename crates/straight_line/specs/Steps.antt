@@ -1,9 +1,12 @@
 -- One declaration and one statement at a time.
-use Rattle.std.specs.Prelude.{◌≡◌, ℕ, Bool, true, not, ◌&&◌, ◌≤◌, List, [], ◌∷◌, ◌++◌, length, nat_lt, is_none}
+use Rattle.std.specs.Prelude.{◌≡◌, ℕ, Bool, true, not, ◌&&◌, ◌≤◌, List, [], ◌∷◌, ◌++◌, flat_map, length, nat_lt, is_none, option_map, option_to_list, slice_get}
+use Rattle.std.specs.List.{list_all}
 use Rattle.std.specs.Map.{lookup}
+use Rattle.spark_base.specs.declared.position.Pos.{Pos}
 use Rattle.ada_parser.specs.declared.tree.Item.{Item}
 use Rattle.ada_parser.specs.declared.tree.Stmt.{Stmt}
-use Rattle.place_names.specs.Acts.{Act, Read, Move}
+use Rattle.ada_parser.specs.declared.tree.SourceUnit.{SourceUnit}
+use Rattle.place_names.specs.Acts.{Act, Read, Move, Placed}
 use Rattle.straight_line.specs.declared.kind.Mark.{Mark}
 use Rattle.straight_line.specs.declared.kind.Mark.TheVariants.{Integer, Access}
 use Rattle.straight_line.specs.declared.kind.Declared.{Declared}
@@ -12,8 +15,9 @@ use Rattle.straight_line.specs.declared.path.Place.{Place}
 use Rattle.straight_line.specs.declared.path.Place.TheVariants as place
 use Rattle.straight_line.specs.Deeds.{object_name, designated_name}
 use Rattle.straight_line.specs.Within.{IsObject}
-use Rattle.straight_line.specs.Declarations.{Declarations, same, object_count, declared_by}
-use Rattle.straight_line.specs.Form.{may_be_declared, has_type, has_types, has_numbers_within}
+use Rattle.straight_line.specs.Declarations.{Declarations, folded, same, object_count, declared_by}
+use Rattle.straight_line.specs.Form.{may_be_declared, may_name_procedure, has_type, has_types, has_numbers_within, statements}
+use Rattle.straight_line.specs.PathActs.{end_of}
 
 -- An identifier may be declared behind those that are known.
 abbrev pub may_enter : Declarations → List ℕ → Declared → Bool
@@ -71,3 +75,17 @@ source_act (place.Object x) (Access k) = Move (object_name x) ([] ∷ [])
 source_act (place.Object x) Integer = Read (object_name x)
 source_act (place.Designated x) Integer = Read (designated_name x)
 source_act (place.Designated x) (Access k) = Read (designated_name x)
+
+-- The declarations of a source, and the names of the procedure, have the form.
+abbrev pub declares_well : SourceUnit → Bool
+declares_well unit =
+    (may_enter [] (folded unit.name) Procedure && (may_name_procedure (folded unit.name) && same (folded unit.closing) (folded unit.name)))
+        && items_follow ((folded unit.name, Procedure) ∷ []) unit.items
+
+-- The statements of a source have the form.
+abbrev pub runs_well : Declarations → SourceUnit → Bool
+runs_well known unit = nat_lt (length unit.rest) 15000 && list_all (is_well known) (statements unit)
+
+-- The scope end of the declaration at a place.
+abbrev pub ends_at : Pos → Declarations → ℕ → List Placed
+ends_at pos known place = flat_map (end_of pos) (option_to_list (option_map (λ e. e.1) (slice_get known place)))

@@ -37,10 +37,11 @@ fn declare_object(
             (folded id.now, Declared.Object (object_count scope.old + 1) mark) ≡ false
     }
 {
-    if objects.len() >= MAX_OBJECTS {
+    let count = objects.len();
+    if count >= MAX_OBJECTS {
         return Err(Fault::OutOfForm);
     }
-    let number = objects.len() as u32 + 1;
+    let number = count as u32 + 1;
     scope.declare(alloc, id, Declared::Object(number, mark))?;
     objects.push(id.text.clone()?)?;
     Ok(())

@@ -1,5 +1,5 @@
 //! Why a source gives no path.
-ghost use Rattle.std.specs.Prelude.{◌≡◌};
+ghost use Rattle.std.specs.Prelude.{◌≡◌, true, false, OnOk};
 ghost use Rattle.straight_line.specs.declared.fault.Fault.TheVariants.{Memory};
 
 use std::alloc::{AllocError, AllocFailed};
@@ -27,4 +27,12 @@ impl<T: Drop> From<AllocFailed<T>> for Fault {
     fn from(_e: AllocFailed<T>) -> Fault {
         Fault::Memory
     }
+}
+
+/// Nothing, where the form has it so.
+pub fn demand(holds: bool) -> Result<(), Fault>
+    ensures form { OnOk result (holds ≡ true) }
+    ensures out { result ≡ Err Fault.OutOfForm → holds ≡ false }
+{
+    if holds { Ok(()) } else { Err(Fault::OutOfForm) }
 }

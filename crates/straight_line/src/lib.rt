@@ -2,10 +2,13 @@
 #![tactic(auto)]
 
 mod declare;
+mod ending;
 mod fault;
+mod form;
 mod kind;
 mod path;
 mod scope;
 mod statement;
 
+pub use form::straight_path;
 pub use path::{Deed, Place, PlacedDeed, StraightPath};

@@ -1,5 +1,5 @@
 //! The declarations of a source, found by their identifiers in lower case.
-ghost use Rattle.std.specs.Prelude.{◌≡◌, [], ◌∷◌, ◌++◌, true, false, codes, length, Option, Some, IfOk, OnOk};
+ghost use Rattle.std.specs.Prelude.{◌≡◌, [], ◌∷◌, ◌++◌, true, false, codes, length, Option, Some, option_map, slice_get, IfOk, OnOk};
 ghost use Rattle.straight_line.specs.Declarations.{folded, same, meaning, access_place, mark_of};
 ghost use Rattle.straight_line.specs.Form.{may_be_declared, may_name_procedure, has_type, frees};
 ghost use Rattle.straight_line.specs.declared.kind.Mark.{Mark};
@@ -90,6 +90,13 @@ impl Scope {
         } else {
             Ok(Mark::Access(place))
         }
+    }
+
+    /// What the identifier at a place is declared as.
+    pub fn kind_at(&self, place: usize) -> Option<Declared>
+        ensures { result ≡ option_map (λ e. e.1) (slice_get self.now place) }
+    {
+        self.known.get_index(place).map(|(_, kind)| *kind)
     }
 
     /// Declares an identifier.

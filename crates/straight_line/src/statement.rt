@@ -9,7 +9,7 @@ ghost use Rattle.straight_line.specs.PathActs.{placed, name_source, source_acts,
 ghost use Rattle.straight_line.specs.Steps.{AreNumbered, is_well, source_act};
 ghost use Rattle.place_names.specs.Acts.{Write};
 
-use crate::fault::Fault;
+use crate::fault::{Fault, demand};
 use crate::kind::{Declared, Mark};
 use crate::path::{Deed, Place, PlacedDeed};
 use crate::scope::Scope;
@@ -43,14 +43,6 @@ impl Named {
             deed,
         }
     }
-}
-
-/// Nothing, where the form has it so.
-fn demand(holds: bool) -> Result<(), Fault>
-    ensures form { OnOk result (holds ≡ true) }
-    ensures out { result ≡ Err Fault.OutOfForm → holds ≡ false }
-{
-    if holds { Ok(()) } else { Err(Fault::OutOfForm) }
 }
 
 /// The number and the type of the object that an identifier names.

@@ -12,4 +12,4 @@ pub returns-clause-grown : goal.returns-clause-grown
 returns-clause-grown c =
     c.in_ok-insert.ensures.entries
         ∙ insert_entry-new same c.self.inside.known c.in_ok-word.word c.args.kind (none_there _ (sym c.contains_key.ensures ∙ c.if-contains_key.false))
-        ∙ cc
+        ∙ cc (c.self.view_is, c.in_ok-word.ensures)
