@@ -1,3 +1,7 @@
+-- how declarations are numbered
+pub mod Numbering
+-- one turn of each loop over declarations
+pub mod Turns
 -- membership, and what one more act gives
 pub mod Lists
 pub mod Given
