@@ -83,7 +83,7 @@ breaks_O9 roots f = moved_in roots f
 -- An actual, by its mode and its type.
 abbrev pub breaks_O10 : Name → Mode → Bool → Bool → Fact → Bool
 -- mode in, a named access type, in a procedure call: as a borrow;
--- mode in and an owning type, in every other case: as an observation
+-- mode in and an owning type, in every other case: as an observation; other actuals of mode in are no acts
 breaks_O10 m In owning access f = if access then breaks_O5 m f else owning && breaks_O6 m f
 -- mode in out, an owning type: as a move; mode in out, a type that isn't owning: as a read or as a write
 breaks_O10 m InOut owning access f = if owning then breaks_O4 m f else breaks_O1 m f || breaks_O3 m f

@@ -1,9 +1,10 @@
 //! Names of places: an object, and the steps from it to a part of it.
-ghost use Rattle.std.specs.Prelude.{◌≡◌, ◌<◌, ◌≤◌, ◌↔◌, [], ◌∷◌, ◌++◌, length, IsOk, IsErr, OnOk, OnErr};
+ghost use Rattle.std.specs.Prelude.{⊤, ◌≡◌, ◌<◌, ◌≤◌, ◌↔◌, [], ◌∷◌, ◌++◌, length, IsOk, IsErr, OnOk, OnErr};
 ghost use Rattle.place_names.specs.Names.{Name, object, extend, is_prefix, overlaps, covers};
 
 use crate::selector::{Sel, agree_along, begins, has_elem};
 use arrayvec::ArrayVec;
+use std::alloc::AllocError;
 use std::marker::Model;
 use thiserror::Error;
 
@@ -14,7 +15,7 @@ pub struct TooDeep;
 
 /// The name of a place: an object by its number, and at most 16 steps from it to a part of it
 /// (`docs/RULES.md`, "Names of places"). Contracts see it as a `Name`.
-#[derive(Clone, Debug, PartialEq, Eq, Drop)]
+#[derive(Debug, PartialEq, Eq, Drop)]
 pub struct PlaceName {
     root: u32,
     sels: ArrayVec<Sel, 16>,
@@ -28,6 +29,20 @@ impl Model for PlaceName {
     ghost view = { λ place. record { root = place.root; sels = place.sels.items } };
 
     ghost inverse = { λ name. record { root = name.root; sels = record { items = name.sels } } };
+}
+
+/// The same name. It takes no memory.
+impl Clone for PlaceName {
+    ghost is_clone = { λ name copy. copy ≡ name };
+
+    ghost is_infallible = { λ name. ⊤ };
+
+    fn clone(&self) -> Result<PlaceName, AllocError> {
+        Ok(PlaceName {
+            root: self.root,
+            sels: self.sels.clone()?,
+        })
+    }
 }
 
 impl PlaceName {
