@@ -84,21 +84,21 @@ impl PlaceName {
         self.sels.as_slice()
     }
 
-    /// Whether this name is a prefix of the other. Each name is a prefix of itself.
+    /// Whether this name is a prefix of the other, as it is of itself.
     pub fn is_prefix(&self, other: &PlaceName) -> bool
         ensures { result ≡ is_prefix self.now other.now }
     {
         self.root == other.root && begins(&self.sels, &other.sels)
     }
 
-    /// Whether the two names overlap: the shorter agrees along the longer, with the same root.
+    /// Whether the two names overlap, so that one of the places may be the other or a part of it.
     pub fn overlaps(&self, other: &PlaceName) -> bool
         ensures { result ≡ overlaps self.now other.now }
     {
         self.root == other.root && agree_along(&self.sels, &other.sels)
     }
 
-    /// Whether this name covers the other: it is a prefix of it and has no `Elem`.
+    /// Whether this name covers the other: a prefix of it without an `Elem`, which may be that of another element.
     pub fn covers(&self, other: &PlaceName) -> bool
         ensures { result ≡ covers self.now other.now }
     {
