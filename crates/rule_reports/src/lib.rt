@@ -2,5 +2,7 @@
 #![tactic(auto)]
 
 mod code;
+mod line;
 
 pub use code::Code;
+pub use line::{accepted_line, refusal_line, usage_line};

@@ -6,3 +6,14 @@ pub mod Turns
 pub mod Sentences
 -- the scope end, one object at a time
 pub mod ScopeEnd
+-- membership, and what one more act gives
+pub mod Lists
+pub mod Given
+-- the marks stand for the facts
+pub mod Marked
+pub mod Tested
+-- the entries are in the order of reports
+pub mod Ordered
+pub mod Collected
+-- the walk along a path
+pub mod Walked

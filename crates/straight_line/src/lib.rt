@@ -7,8 +7,10 @@ mod fault;
 mod form;
 mod kind;
 mod path;
+mod reports;
 mod scope;
 mod statement;
 
 pub use form::straight_path;
 pub use path::{Deed, Place, PlacedDeed, StraightPath};
+pub use reports::{PathReport, path_reports, place_text};

@@ -1,0 +1,7 @@
+-- what the proofs cite
+pub mod Selectors
+-- laws of the definitions
+pub mod Names
+pub mod Facts
+pub mod Rules
+pub mod Examples
