@@ -80,4 +80,4 @@ scope_end pos known = flat_map (λ e. end_of pos e.1) (reverse known)
 -- Both of these stand at the word `end`. A declaration has no act.
 unfoldable pub path_acts : SourceUnit → List Placed
 path_acts unit = flat_map (statement_acts (declarations unit)) (statements unit)
-    ++ scope_end unit.end (declarations unit) ++ placed unit.end (Return []) ∷ []
+    ++ (scope_end unit.end (declarations unit) ++ placed unit.end (Return []) ∷ [])

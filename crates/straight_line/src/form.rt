@@ -50,6 +50,7 @@ fn declare_procedure(
     Ok(())
 }
 
+#[tactic(auto, unfolding(crate::specs::Declarations::declarations, crate::specs::Declarations::object_texts))]
 /// All declarations of a source. Its objects are listed as they are written.
 fn declare_all(alloc: Global, unit: &SourceUnit, objects: &mut Vec<Word>) -> Result<Scope, Fault>
     requires { objects.old.items ≡ [] }
