@@ -1,6 +1,6 @@
 -- membership, and what one more act gives
 pub mod Lists
-pub mod Given
+pub mod Gives
 -- the marks stand for the facts
 pub mod Marked
 pub mod Tested

@@ -18,7 +18,7 @@ use Rattle.straight_line.specs.Deeds.{placed_of}
 use Rattle.straight_line.specs.Within.{IsObject, IsWithin, AreWithin, root_of}
 use Rattle.straight_line.specs.Reported.{report_of}
 use Rattle.straight_line.specs.Marks.{is_marked, test_of, tested, report_at, marks_after, Adds}
-use Rattle.straight_line.proofs.Given.{acts_of, facts_after-push, gives_before, gives_next, gives_cases}
+use Rattle.straight_line.proofs.Gives.{acts_of, facts_after-push, gives_before, gives_next, gives_cases}
 use Rattle.straight_line.proofs.Marked.{Stands, stands_first, stands_next}
 use Rattle.straight_line.proofs.Tested.{given_reported, reported_given}
 use Rattle.straight_line.proofs.Collected.{Collected, collected_none, Grows, collected_next}
