@@ -177,3 +177,6 @@ fn report_in(entry: Entry) -> PathReport
         place,
     }
 }
+
+#[cfg(test)]
+mod tests;
