@@ -57,7 +57,7 @@ pieces-preserved c =
           record {
             cut = rw (c.behind-pos.ensures.value, take_rest, w.found-is, w.left-is, w.len-is) passed;
             found = rw (c.behind-pos.ensures.value, take_rest, w.found-is, w.len-is)
-              (found_behind _ _ rest c.pieces.pos _ len within.0 within.1 c.pieces.invariant.found);
+                (found_behind _ _ rest c.pieces.pos _ len within.0 within.1 c.pieces.invariant.found);
             count = rw (w.found-is, w.left-is) c.pieces.invariant.count;
             line = still_fits _ _ _ _ rest (rw w.len-is within.1) c.behind-pos.ensures.line c.pieces.invariant.line;
             column = still_fits _ _ _ _ rest (rw w.len-is within.1) c.behind-pos.ensures.column c.pieces.invariant.column;
@@ -72,7 +72,7 @@ pieces-preserved c =
           record {
             cut = rw (c.behind-pos.ensures.value, take_rest, w.found-is, w.left-is, w.len-is, w.in_ok-push-in-Lexeme.ensures.items) (simp map-append passed);
             found = rw (c.behind-pos.ensures.value, take_rest, w.found-is, w.len-is, w.in_ok-push-in-Lexeme.ensures.items)
-              (found_token _ _ rest c.pieces.pos _ _ len within.0 within.1 within.2 refl refl c.pieces.invariant.found);
+                (found_token _ _ rest c.pieces.pos _ _ len within.0 within.1 within.2 refl refl c.pieces.invariant.found);
             count = rw (w.found-is, w.left-is) (omega (arith, w.in_ok-push-in-Lexeme.ensures.len, c.pieces.invariant.count));
             line = still_fits _ _ _ _ rest (rw w.len-is within.1) c.behind-pos.ensures.line c.pieces.invariant.line;
             column = still_fits _ _ _ _ rest (rw w.len-is within.1) c.behind-pos.ensures.column c.pieces.invariant.column;
@@ -83,11 +83,11 @@ pub returns-clause-ends : goal.returns-clause-ends
 returns-clause-ends c =
     rw c.in_ok-push.ensures.items (EndsOnce-append _ _ c.pieces.invariant.found.inner refl)
 
-pub returns-then-left-eq0-clause-refused_file : goal.returns-then-left-eq0-clause-refused_file
-returns-then-left-eq0-clause-refused_file c = place-file _ _ _ c.pieces.pos _ c.pieces.invariant.found
+pub returns-then-left-eq0-clause-names_file : goal.returns-then-left-eq0-clause-names_file
+returns-then-left-eq0-clause-names_file c = place-file _ _ _ c.pieces.pos _ c.pieces.invariant.found
 
-pub returns-in-Broken-clause-refused_file : goal.returns-in-Broken-clause-refused_file
-returns-in-Broken-clause-refused_file c =
+pub returns-in-Broken-clause-names_file : goal.returns-in-Broken-clause-names_file
+returns-in-Broken-clause-names_file c =
     let here = place-file _ _ _ c.pieces.pos _ c.pieces.invariant.found in
     rw (c.refusal_at.ensures, c.behind.ensures.value) (refusal_at-file c.args.file c.in-Broken.fault _ (behind-file c.pieces.pos _ ∙ here))
 
@@ -97,7 +97,7 @@ returns-clause-stands c = rw c.in_ok-push.ensures.items (found_end _ _ c.pieces.
 pub returns-clause-ordered : goal.returns-clause-ordered
 returns-clause-ordered c = rw c.in_ok-push.ensures.items (found_end _ _ c.pieces.rest.now c.pieces.pos _ _ (grind (arith, nat_tests)) refl refl c.pieces.invariant.found).1
 
-pub returns-clause-file : goal.returns-clause-file
-returns-clause-file c =
+pub returns-clause-in_file : goal.returns-clause-in_file
+returns-clause-in_file c =
     rw c.in_ok-push.ensures.items
     (stand-file _ c.args.text.now _ (found_end _ _ c.pieces.rest.now c.pieces.pos _ _ (grind (arith, nat_tests)) refl refl c.pieces.invariant.found).0)
