@@ -1,7 +1,6 @@
 -- What the tokens found so far are, as tokens of the text.
-use Rattle.std.proofs.Common.{Bool, true, false, if◌then◌else◌, ◌==◌, ◌≡◌, ◌≢◌, ℕ, suc, ◌+◌, ◌-◌, ◌<◌, ◌≤◌, ◌⊎◌, inl, inr, List, [], ◌∷◌, ◌++◌, length, take, drop, get_or, refl, sym, ◌∙◌, ap, arith, rules, append_assoc}
-use Rattle.std.specs.List.{All, AllPairs, fold}
-use Rattle.std.proofs.lemmas.Bool.Decides.{nat_tests}
+use Rattle.std.proofs.Common.{Bool, true, false, if◌then◌else◌, ◌==◌, ◌≡◌, ◌≢◌, ℕ, ◌+◌, ◌<◌, ◌≤◌, inl, inr, List, [], ◌∷◌, ◌++◌, length, take, drop, get_or, refl, sym, ◌∙◌, ap, arith, append_assoc}
+use Rattle.std.specs.List.{All, AllPairs}
 use Rattle.std.proofs.lemmas.List.{take-append-drop, length-take-le, nil_from_length}
 use Rattle.std.proofs.lemmas.List.Elements.{All-push}
 use Rattle.std.proofs.lemmas.List.Quantifiers.{all_pairs_push}
@@ -13,7 +12,7 @@ use Rattle.ada_lexer.specs.declared.piece.Fault.{Fault}
 use Rattle.ada_lexer.specs.declared.piece.Fault.TheVariants.{BadByte, BadIdentifier, BadNumber, OpenString}
 use Rattle.ada_lexer.specs.Characters.{Text, line_feed}
 use Rattle.ada_lexer.specs.Places.{IsBefore, first_place, next_place, behind}
-use Rattle.ada_lexer.specs.Tokens.{Cut, StandsIn, NamesFile, refusal_at, cut_of}
+use Rattle.ada_lexer.specs.Tokens.{StandsIn, NamesFile, refusal_at, cut_of}
 
 -- Places go on from byte to byte.
 step_before : (is_feed : Bool) (pos : Pos)

@@ -1,12 +1,9 @@
-use Rattle.std.proofs.Common.{◌≡◌, ◌≢◌, ◌<◌, ◌≤◌, ◌-◌, Ok, Err, length, map, rules, arith, sym, ap, ◌∙◌, List, [], ◌∷◌, ◌++◌, refl}
+use Rattle.std.proofs.Common.{◌≡◌, ◌<◌, length, arith, sym, ◌∙◌, refl}
 use Rattle.std.proofs.lemmas.Bool.Decides.{nat_tests}
-use Rattle.std.proofs.lemmas.List.Elements.{All-push}
-use Rattle.std.proofs.lemmas.List.{take_rest, map-append, length-drop, length-take}
+use Rattle.std.proofs.lemmas.List.{take_rest, map-append}
 use Rattle.ada_lexer.specs.declared.piece.Piece.TheVariants.{Gap, Lexeme, Broken}
-use Rattle.ada_lexer.specs.declared.token.Token.{Token}
-use Rattle.ada_lexer.specs.declared.token.TokenKind.TheVariants.{EndOfFile}
 use Rattle.ada_lexer.specs.Pieces.{first_piece}
-use Rattle.ada_lexer.specs.Tokens.{tokens, cut_of}
+use Rattle.ada_lexer.specs.Tokens.{tokens}
 use Rattle.ada_lexer.proofs.Cuts.{continued_none, continued_fault, cut_from-full, cut_from-broken, passes_gap, passes_lexeme}
 use Rattle.ada_lexer.proofs.Bounds.{still_fits}
 use Rattle.ada_lexer.proofs.Found.{found_none, found_behind, found_token, found_end, place-file, stand-file, refusal_at-file, behind-file}
