@@ -1,1 +1,4 @@
 pub mod FirstKinds
+pub mod Sets
+pub mod Law
+

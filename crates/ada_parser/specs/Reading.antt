@@ -65,7 +65,7 @@ starts ms (t ∷ ts) = is_in ms (code t)
 
 -- ---- one token
 
-abbrev taken : {A : Type 0} → Option A → Spelled → Reader A
+abbrev pub taken : {A : Type 0} → Option A → Spelled → Reader A
 taken (Some a) t ts = Got a ts
 taken None t ts = Fails (t ∷ ts)
 
