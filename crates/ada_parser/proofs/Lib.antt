@@ -1,4 +1,4 @@
 pub mod FirstKinds
 pub mod Sets
 pub mod Law
-
+pub mod Many
