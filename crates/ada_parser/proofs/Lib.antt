@@ -2,3 +2,5 @@ pub mod FirstKinds
 pub mod Sets
 pub mod Law
 pub mod Many
+pub mod Fronts
+pub mod Forms
