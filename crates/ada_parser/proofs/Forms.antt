@@ -272,3 +272,215 @@ stmt_onto (Assign pos target becomes v end) good =
 
 pub law_stmt : Law r.stmt GoodStmt stmt_tokens (of_word KwNull ∷ of_ident ∷ []) [] false
 law_stmt = law_same r.stmt (law_to make_stmt GoodStmt stmt_tokens law_stmt_parts stmt_makes stmt_onto) stmt_same
+
+-- ---- declarations
+
+abbrev pub GoodItem : Item → Type 0
+GoodItem i = ItemPlaced i × ItemNamed i
+
+abbrev type_tokens : r.TypeParts → List Spelled
+type_tokens x = Word KwType x.0 ∷ id_token x.1.0 ∷ Word KwIs x.1.1.0 ∷ Word KwAccess x.1.1.1.0 ∷ id_token x.1.1.1.1.0
+    ∷ Delimiter Semicolon x.1.1.1.1.1 ∷ []
+
+abbrev TypeGood : r.TypeParts → Type 0
+TypeGood = Both Any (Both Any (Both Any (Both Any (Both (IsCalled integer_name) Any))))
+
+law_type : Law r.type_parts TypeGood type_tokens (of_word KwType ∷ []) [] false
+law_type = law_seq (law_word KwType) (law_seq law_ident (law_seq (law_word KwIs) (law_seq (law_word KwAccess)
+    (law_seq (law_called integer_name) (law_symbol Semicolon) refl) refl) refl) refl) refl
+
+abbrev generic_tokens : r.Generic → List Spelled
+generic_tokens x = id_token x.0 ∷ Delimiter Dot x.1.0 ∷ id_token x.1.1 ∷ []
+
+abbrev GenericGood : r.Generic → Type 0
+GenericGood = Both (IsCalled ada_name) (Both Any (IsCalled deallocation_name))
+
+law_generic : Law r.generic GenericGood generic_tokens (of_ident ∷ []) [] false
+unfolding r.generic
+law_generic = law_seq (law_called ada_name) (law_seq (law_symbol Dot) (law_called deallocation_name) refl) refl
+
+abbrev actuals_tokens : r.Actuals → List Spelled
+actuals_tokens x = Delimiter LeftParenthesis x.0 ∷ id_token x.1.0 ∷ Delimiter Comma x.1.1.0 ∷ id_token x.1.1.1.0
+    ∷ Delimiter RightParenthesis x.1.1.1.1.0 ∷ Delimiter Semicolon x.1.1.1.1.1 ∷ []
+
+abbrev ActualsGood : r.Actuals → Type 0
+ActualsGood = Both Any (Both (IsCalled integer_name) (Both Any (Both Any (Both Any Any))))
+
+law_actuals : Law r.actuals ActualsGood actuals_tokens (of_symbol LeftParenthesis ∷ []) [] false
+unfolding r.actuals
+law_actuals = law_seq (law_symbol LeftParenthesis) (law_seq (law_called integer_name) (law_seq (law_symbol Comma) (law_seq law_ident
+    (law_seq (law_symbol RightParenthesis) (law_symbol Semicolon) refl) refl) refl) refl) refl
+
+abbrev instance_tokens : r.InstanceParts → List Spelled
+instance_tokens x = Word KwProcedure x.0 ∷ id_token x.1.0 ∷ Word KwIs x.1.1.0 ∷ Word KwNew x.1.1.1.0
+    ∷ (generic_tokens x.1.1.1.1.0 ++ actuals_tokens x.1.1.1.1.1)
+
+abbrev InstanceGood : r.InstanceParts → Type 0
+InstanceGood = Both Any (Both Any (Both Any (Both Any (Both GenericGood ActualsGood))))
+
+law_instance : Law r.instance_parts InstanceGood instance_tokens (of_word KwProcedure ∷ []) [] false
+law_instance = law_seq (law_word KwProcedure) (law_seq law_ident (law_seq (law_word KwIs) (law_seq (law_word KwNew)
+    (law_seq law_generic law_actuals refl) refl) refl) refl) refl
+
+next_makes : (x : Pos × Identifier) → Both Any Any x → Any (r.make_next x) × (next_tokens (r.make_next x) ≡ Delimiter Comma x.0 ∷ id_token x.1 ∷ [])
+unfolding next_tokens
+next_makes x good = (tt, refl)
+
+next_onto : (n : NextIdentifier) → Any n → (x : Pos × Identifier) × (Both Any Any x × (r.make_next x ≡ n))
+next_onto (After pos name) good = ((pos, name), ((tt, tt), refl))
+
+pub law_next : Law r.next Any next_tokens (of_symbol Comma ∷ []) [] false
+unfolding r.next
+law_next = law_to r.make_next Any next_tokens (law_seq (law_symbol Comma) law_ident refl) next_makes next_onto
+
+law_nexts : Law r.nexts (Each Any) (flat_map next_tokens) (of_symbol Comma ∷ []) (of_symbol Comma ∷ []) true
+unfolding r.nexts
+law_nexts = law_many (of_symbol Comma ∷ []) law_next refl refl
+
+each_any : {A : Type 0} (xs : List A) → Each Any xs
+unfolding Each
+each_any [] = tt
+each_any (x ∷ xs) = (tt, each_any xs)
+
+abbrev object_tokens : r.ObjectParts → List Spelled
+object_tokens x = id_token x.0 ∷ (flat_map next_tokens x.1.0 ++ (Delimiter Colon x.1.1.0 ∷ id_token x.1.1.1.0 ∷ Delimiter Semicolon x.1.1.1.1 ∷ []))
+
+abbrev ObjectGood : r.ObjectParts → Type 0
+ObjectGood = Both Any (Both (Each Any) (Both Any (Both Any Any)))
+
+law_object : Law r.object_parts ObjectGood object_tokens (of_ident ∷ []) [] false
+law_object = law_seq law_ident (law_seq law_nexts (law_seq (law_symbol Colon) (law_seq law_ident (law_symbol Semicolon) refl) refl) refl) refl
+
+abbrev ItemParts : Type 0
+ItemParts = r.TypeParts ⊎ (r.InstanceParts ⊎ r.ObjectParts)
+
+abbrev item_parts : Reader ItemParts
+item_parts = choose (of_word KwType ∷ []) r.type_parts (choose (of_word KwProcedure ∷ []) r.instance_parts r.object_parts)
+
+abbrev item_parts_tokens : ItemParts → List Spelled
+item_parts_tokens = cases type_tokens (cases instance_tokens object_tokens)
+
+abbrev ItemPartsGood : ItemParts → Type 0
+ItemPartsGood = Either TypeGood (Either InstanceGood ObjectGood)
+
+law_item_parts : Law item_parts ItemPartsGood item_parts_tokens (of_word KwType ∷ of_word KwProcedure ∷ of_ident ∷ []) [] false
+law_item_parts = law_choose (of_word KwType ∷ []) law_type (law_choose (of_word KwProcedure ∷ []) law_instance law_object refl refl) refl refl
+
+abbrev make_item : ItemParts → Item
+make_item = cases r.make_access_type (cases r.make_instance r.make_objects)
+
+item_same : Same r.item (to make_item item_parts)
+unfolding r.item r.access_type r.instance r.objects
+item_same =
+    either_choice (of_word KwType ∷ []) r.make_access_type (cases r.make_instance r.make_objects) r.type_parts _ r.access_type _ (λ ts. refl)
+    (either_choice (of_word KwProcedure ∷ []) r.make_instance r.make_objects r.instance_parts r.object_parts r.instance r.objects (λ ts. refl) (λ ts. refl))
+
+item_makes : (x : ItemParts) → ItemPartsGood x → GoodItem (make_item x) × (item_tokens (make_item x) ≡ item_parts_tokens x)
+unfolding item_tokens ItemPlaced ItemNamed StartsAt
+item_makes (inl x) good = ((tt, good.1.1.1.1.0), refl)
+item_makes (inr (inl x)) good = ((tt, (good.1.1.1.1.0.0, good.1.1.1.1.0.1.1, good.1.1.1.1.1.1.0)), refl)
+item_makes (inr (inr x)) good = ((refl, tt), refl)
+
+item_onto : (i : Item) → GoodItem i → (x : ItemParts) × (ItemPartsGood x × (make_item x ≡ i))
+unfolding ItemPlaced ItemNamed StartsAt
+item_onto (AccessType pos name is access designated end) good =
+    (inl (pos, (name, (is, (access, (designated, end))))), ((tt, (tt, (tt, (tt, (good.1, tt))))), refl))
+item_onto (Instance pos name is new ada dot deallocation left designated comma access right end) good =
+    (inr (inl (pos, (name, (is, (new, ((ada, (dot, deallocation)), (left, (designated, (comma, (access, (right, end))))))))))),
+        ((tt, (tt, (tt, (tt, ((good.1.0, (tt, good.1.1)), (tt, (good.1.2, (tt, (tt, (tt, tt)))))))))), refl))
+item_onto (Objects pos first rest colon mark end) good =
+    (inr (inr (first, (rest, (colon, (mark, end))))), ((tt, (each_any rest, (tt, (tt, tt)))),
+        ap (λ q. Objects q first rest colon mark end) (some_same first.pos pos good.0)))
+
+pub law_item : Law r.item GoodItem item_tokens (of_word KwType ∷ of_word KwProcedure ∷ of_ident ∷ []) [] false
+law_item = law_same r.item (law_to make_item GoodItem item_tokens law_item_parts item_makes item_onto) item_same
+
+-- ---- the unit
+
+law_items : Law r.items (Each GoodItem) (flat_map item_tokens) (of_word KwType ∷ of_word KwProcedure ∷ of_ident ∷ [])
+    (of_word KwType ∷ of_word KwProcedure ∷ of_ident ∷ []) true
+unfolding r.items
+law_items = law_many r.item_starts law_item refl refl
+
+law_stmts : Law r.stmts (Each GoodStmt) (flat_map stmt_tokens) (of_word KwNull ∷ of_ident ∷ []) (of_word KwNull ∷ of_ident ∷ []) true
+unfolding r.stmts
+law_stmts = law_many r.stmt_starts law_stmt refl refl
+
+abbrev context_tokens : r.Context → List Spelled
+context_tokens x = Word KwWith x.0 ∷ (generic_tokens x.1.0 ++ (Delimiter Semicolon x.1.1 ∷ []))
+
+abbrev ContextGood : r.Context → Type 0
+ContextGood = Both Any (Both GenericGood Any)
+
+law_context : Law r.context ContextGood context_tokens (of_word KwWith ∷ []) [] false
+unfolding r.context
+law_context = law_seq (law_word KwWith) (law_seq law_generic (law_symbol Semicolon) refl) refl
+
+abbrev ending_tokens : r.Ending → List Spelled
+ending_tokens x = Word KwEnd x.0 ∷ id_token x.1.0 ∷ Delimiter Semicolon x.1.1 ∷ []
+
+law_ending : Law r.ending (Both Any (Both Any Any)) ending_tokens (of_word KwEnd ∷ []) [] false
+unfolding r.ending
+law_ending = law_seq (law_word KwEnd) (law_seq law_ident (law_symbol Semicolon) refl) refl
+
+abbrev unit_parts_tokens : r.UnitParts → List Spelled
+unit_parts_tokens x = context_tokens x.0 ++ (Word KwProcedure x.1.0 ∷ id_token x.1.1.0 ∷ Word KwIs x.1.1.1.0
+    ∷ (flat_map item_tokens x.1.1.1.1.0 ++ (Word KwBegin x.1.1.1.1.1.0 ∷ (stmt_tokens x.1.1.1.1.1.1.0
+    ++ (flat_map stmt_tokens x.1.1.1.1.1.1.1.0 ++ ending_tokens x.1.1.1.1.1.1.1.1)))))
+
+abbrev UnitPartsGood : r.UnitParts → Type 0
+UnitPartsGood = Both ContextGood (Both Any (Both Any (Both Any (Both (Each GoodItem) (Both Any (Both GoodStmt (Both (Each GoodStmt) (Both Any (Both Any Any)))))))))
+
+law_unit_parts : Law r.unit_parts UnitPartsGood unit_parts_tokens (of_word KwWith ∷ []) [] false
+law_unit_parts = law_seq law_context (law_seq (law_word KwProcedure) (law_seq law_ident (law_seq (law_word KwIs) (law_seq law_items
+    (law_seq (law_word KwBegin) (law_seq law_stmt (law_seq law_stmts law_ending refl) refl) refl) refl) refl) refl) refl) refl
+
+-- Two facts of each element.
+each_first : {A : Type 0} (P Q : A → Type 0) (xs : List A) → Each (λ x. P x × Q x) xs → Each P xs
+unfolding Each
+each_first P Q [] all = tt
+each_first P Q (x ∷ xs) all = (all.0.0, each_first P Q xs all.1)
+
+each_second : {A : Type 0} (P Q : A → Type 0) (xs : List A) → Each (λ x. P x × Q x) xs → Each Q xs
+unfolding Each
+each_second P Q [] all = tt
+each_second P Q (x ∷ xs) all = (all.0.1, each_second P Q xs all.1)
+
+each_both : {A : Type 0} (P Q : A → Type 0) (xs : List A) → Each P xs → Each Q xs → Each (λ x. P x × Q x) xs
+unfolding Each
+each_both P Q [] all also = tt
+each_both P Q (x ∷ xs) all also = ((all.0, also.0), each_both P Q xs all.1 also.1)
+
+abbrev pub GoodUnit : SourceUnit → Type 0
+GoodUnit u = WellPlaced u × FixedNames u
+
+unit_makes : (x : r.UnitParts) → UnitPartsGood x → GoodUnit (r.make_unit x) × (unit_tokens (r.make_unit x) ≡ unit_parts_tokens x)
+unfolding unit_tokens WellPlaced FixedNames
+unit_makes x good =
+    let items = good.1.1.1.1.0 in
+    let first = good.1.1.1.1.1.1.0 in
+    let rest = good.1.1.1.1.1.1.1.0 in
+    (((each_first ItemPlaced ItemNamed _ items, first.0, each_first StmtPlaced StmtNamed _ rest),
+        (good.0.1.0.0, good.0.1.0.1.1, each_second ItemPlaced ItemNamed _ items, first.1, each_second StmtPlaced StmtNamed _ rest)), refl)
+
+unit_onto : (u : SourceUnit) → GoodUnit u → (x : r.UnitParts) × (UnitPartsGood x × (r.make_unit x ≡ u))
+unfolding WellPlaced FixedNames
+unit_onto u good =
+    (((u.pos, ((u.ada, (u.dot, u.deallocation)), u.with_end)), (u.procedure, (u.name, (u.is, (u.items, (u.begin, (u.first, (u.rest, (u.end, (u.closing, u.unit_end)))))))))),
+        (((tt, ((good.1.0, (tt, good.1.1)), tt)), (tt, (tt, (tt, (each_both ItemPlaced ItemNamed u.items good.0.0 good.1.2, (tt, ((good.0.1, good.1.3),
+            (each_both StmtPlaced StmtNamed u.rest good.0.2 good.1.4, (tt, (tt, tt)))))))))), refl))
+
+law_unit : Law r.unit GoodUnit unit_tokens (of_word KwWith ∷ []) [] false
+unfolding r.unit
+law_unit = law_to r.make_unit GoodUnit unit_tokens law_unit_parts unit_makes unit_onto
+
+source_makes : (x : SourceUnit × Unit {0}) → Both GoodUnit Any x → GoodUnit (r.make_source x) × (Spelling (r.make_source x) ≡ unit_tokens x.0 ++ (EndOfFile ∷ []))
+unfolding Spelling
+source_makes x good = (good.0, refl)
+
+source_onto : (u : SourceUnit) → GoodUnit u → (x : SourceUnit × Unit {0}) × (Both GoodUnit Any x × (r.make_source x ≡ u))
+source_onto u good = ((u, tt), ((good, tt), refl))
+
+pub law_source : Law r.source GoodUnit Spelling (of_word KwWith ∷ []) [] false
+unfolding r.source
+law_source = law_to r.make_source GoodUnit Spelling (law_seq law_unit law_end refl) source_makes source_onto
