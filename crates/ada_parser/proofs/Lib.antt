@@ -4,3 +4,4 @@ pub mod Law
 pub mod Many
 pub mod Fronts
 pub mod Forms
+pub mod Theorem

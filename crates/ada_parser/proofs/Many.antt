@@ -103,6 +103,18 @@ turn_same (Fails more) q r same = refl
 abbrev pub Shortens : {A : Type 0} → Reader A → Type 0
 Shortens {A} p = (ts : List Spelled) (a : A) (rest : List Spelled) → p ts ≡ Got a rest → length rest < length ts
 
+-- What was read in earlier turns, before what an outcome has.
+abbrev pub with_front : {A : Type 0} → List A → Outcome (List A) → Outcome (List A)
+with_front xs o = and_then o (λ ys rest. Got (xs ++ ys) rest)
+
+pub front_none : {A : Type 0} (o : Outcome (List A)) → with_front [] o ≡ o
+front_none (Got xs rest) = refl
+front_none (Fails rest) = refl
+
+front_more : {A : Type 0} (xs : List A) (a : A) (o : Outcome (List A)) → with_front xs (and_then o (λ ys rest. Got (a ∷ ys) rest)) ≡ with_front (xs ++ a ∷ []) o
+front_more xs a (Got ys rest) = ap (λ zs. Got zs rest) (sym (append_assoc xs (a ∷ []) ys))
+front_more xs a (Fails rest) = refl
+
 module _ {A : Type 0} (ms : List ℕ) (p : Reader A) (shortens : Shortens p) where
   enough : (n m : ℕ) (ts : List Spelled) → length ts ≤ n → length ts ≤ m → many_up_to ms p n ts ≡ many_up_to ms p m ts
   enough zero zero ts h k = refl
@@ -119,18 +131,6 @@ module _ {A : Type 0} (ms : List ℕ) (p : Reader A) (shortens : Shortens p) whe
   many_turn [] = refl
   many_turn (t ∷ ts) = ap (λ o. if starts ms (t ∷ ts) then o else Got [] (t ∷ ts)) (turn_same (p (t ∷ ts)) (many_up_to ms p (length ts)) (many ms p)
       (λ a more e. let fewer : length more < length (t ∷ ts) = shortens (t ∷ ts) a more e in enough (length ts) (length more) more (omega arith) (omega arith)))
-
-  -- What was read in earlier turns, before what an outcome has.
-  abbrev pub with_front : List A → Outcome (List A) → Outcome (List A)
-  with_front xs o = and_then o (λ ys rest. Got (xs ++ ys) rest)
-
-  pub front_none : (o : Outcome (List A)) → with_front [] o ≡ o
-  front_none (Got xs rest) = refl
-  front_none (Fails rest) = refl
-
-  front_more : (xs : List A) (a : A) (o : Outcome (List A)) → with_front xs (and_then o (λ ys rest. Got (a ∷ ys) rest)) ≡ with_front (xs ++ a ∷ []) o
-  front_more xs a (Got ys rest) = ap (λ zs. Got zs rest) (sym (append_assoc xs (a ∷ []) ys))
-  front_more xs a (Fails rest) = refl
 
   pub goes_on : (xs : List A) (ts : List Spelled) (a : A) (more : List Spelled) (o : Outcome (List A)) → starts ms ts ≡ true → p ts ≡ Got a more
       → with_front xs (many ms p ts) ≡ o → with_front (xs ++ a ∷ []) (many ms p more) ≡ o

@@ -23,7 +23,7 @@ pub data Spelled : Type 0 where
   -- the place of the end of the file isn't kept, and isn't compared
   EndOfFile : Spelled
 
-abbrev told_as : TokenKind → Pos → List ℕ → Spelled
+abbrev pub told_as : TokenKind → Pos → List ℕ → Spelled
 told_as (kind.Word word) pos text = Word word pos
 told_as kind.Ident pos text = Ident pos text
 told_as (kind.Number number) pos text = Number number pos
