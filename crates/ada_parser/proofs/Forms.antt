@@ -24,7 +24,7 @@ use Rattle.ada_parser.specs.FixedNames.{IsCalled, ada_name, deallocation_name, i
 use Rattle.ada_parser.specs.Reading.{Reader, of_word, of_symbol, of_ident, of_number, word, symbol, ident, ident_called, number, file_end, nothing, to, seq, choose, many}
 use Rattle.ada_parser.specs.Readers as r
 use Rattle.ada_parser.proofs.Law.{Law, Any, Both, Either, cases, some_same, law_word, law_symbol, law_ident, law_called, law_number, law_end, law_nothing, law_seq, law_choose, law_to, law_same, law_wider}
-use Rattle.ada_parser.proofs.Many.{law_many}
+use Rattle.ada_parser.proofs.Many.{law_many, shorter, Shortens}
 use Rattle.ada_parser.proofs.Fronts.{Same, of_pair, either_choice, chain_seq, seq_made}
 
 -- ---- names
@@ -484,3 +484,14 @@ source_onto u good = ((u, tt), ((good, tt), refl))
 pub law_source : Law r.source GoodUnit Spelling (of_word KwWith ∷ []) [] false
 unfolding r.source
 law_source = law_to r.make_source GoodUnit Spelling (law_seq law_unit law_end refl) source_makes source_onto
+
+-- ---- each turn of a loop takes a token
+
+pub next_shortens : Shortens r.next
+next_shortens = shorter (of_symbol Comma ∷ []) law_next refl refl
+
+pub item_shortens : Shortens r.item
+item_shortens = shorter r.item_starts law_item refl refl
+
+pub stmt_shortens : Shortens r.stmt
+stmt_shortens = shorter r.stmt_starts law_stmt refl refl

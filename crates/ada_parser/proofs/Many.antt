@@ -5,7 +5,11 @@ use Rattle.std.specs.List.{flat_map}
 use Rattle.std.proofs.lemmas.List.{append_assoc, append-nil, length-append}
 use Rattle.ada_parser.specs.Spelled.{Spelled}
 use Rattle.ada_parser.specs.WellPlaced.{Each}
-use Rattle.ada_parser.specs.Reading.{Outcome, Got, Fails, Reader, code, is_in, starts, and_then, many_up_to, many}
+use Rattle.std.specs.Prelude.{Result, Ok, Err}
+use Rattle.std.specs.Result.{IsErrAnd}
+use Rattle.ada_parser.specs.declared.refusal.ParseRefusal.{ParseRefusal}
+use Rattle.ada_parser.specs.declared.refusal.ParseRefusal.TheVariants.{NotBuilt, Memory}
+use Rattle.ada_parser.specs.Reading.{Reads, Outcome, Got, Fails, Reader, code, is_in, starts, and_then, many_up_to, many}
 use Rattle.ada_parser.proofs.Sets.{apart, within, Leads, stops_both, stops_before, starts_within, leads_left}
 use Rattle.ada_parser.proofs.Law.{Law, and_then_got, got_same, if_true, if_false}
 
@@ -149,3 +153,14 @@ module _ {A : Type 0} (ms : List ℕ) (p : Reader A) (shortens : Shortens p) whe
   breaks xs ts more o sees one before =
       let here : many ms p ts ≡ Fails more = many_turn ts ∙ if_true (starts ms ts) _ _ sees ∙ ap (λ out. turn out (many ms p)) one in
       sym before ∙ ap (with_front xs) here
+
+  pub breaks_off : (fault : ParseRefusal) (xs : List A) (ts more : List Spelled) (o : Outcome (List A)) → starts ms ts ≡ true
+      → Reads (p ts) (Err fault) more → with_front xs (many ms p ts) ≡ o → Reads o (Err fault) more
+  breaks_off NotBuilt xs ts more o sees one before = breaks xs ts more o sees one before
+  breaks_off Memory xs ts more o sees one before = tt
+
+-- An error that `?` hands on as it is.
+pub handed_on : {A : Type 0} (o : Outcome A) (fault : ParseRefusal) (result : Result A ParseRefusal) (rest : List Spelled)
+    → Reads o (Err fault) rest → IsErrAnd result (λ e. e ≡ fault) → Reads o result rest
+handed_on o fault (Ok a) rest read is = absurd is
+handed_on o fault (Err e) rest read is = subst (λ f. Reads o (Err f) rest) (sym is) read

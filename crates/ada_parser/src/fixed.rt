@@ -11,7 +11,6 @@ use spark_base::Pos;
 use std::alloc::Global;
 
 /// Integer
-#[tactic(auto, using(crate::proofs::Theorem::no_tree))]
 pub fn integer(alloc: Global, tokens: &mut Cursor<'_, '_>) -> Result<Identifier, ParseRefusal>
     ensures { Reads (ident_called integer_name tokens.old) result tokens.new }
 {
