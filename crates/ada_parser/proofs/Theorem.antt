@@ -1,6 +1,9 @@
 -- What the reader of a source tells of the tokens of a file: their one tree, or that there is none.
 use Rattle.std.proofs.Common.{◌≡◌, refl, sym, ap, ◌∙◌, subst, List, [], ◌∷◌, ◌++◌, ◌⊎◌, inl, inr}
-use Rattle.std.specs.Prelude.{map}
+use Rattle.std.specs.Prelude.{map, Result, Ok, Err, IsErrOf}
+use Rattle.std.specs.Result.{IsErrAnd}
+use Rattle.ada_parser.specs.declared.refusal.ParseRefusal.{ParseRefusal}
+use Rattle.ada_parser.specs.declared.refusal.ParseRefusal.TheVariants.{NotBuilt, Memory}
 use Rattle.std.proofs.lemmas.List.{append_assoc, append-nil}
 use Rattle.spark_base.specs.declared.position.Pos.{Pos}
 use Rattle.ada_lexer.specs.declared.token.Token.{Token}
@@ -11,7 +14,7 @@ use Rattle.ada_parser.specs.declared.tree.SourceUnit.{SourceUnit}
 use Rattle.ada_parser.specs.Spelled.{Spelled, EndOfFile, told, told_as}
 use Rattle.ada_parser.specs.Spelling.{unit_tokens, Spelling}
 use Rattle.ada_parser.specs.Spells.{Spells}
-use Rattle.ada_parser.specs.Reading.{Outcome, Got, Fails}
+use Rattle.ada_parser.specs.Reading.{Reads, Outcome, Got, Fails}
 use Rattle.ada_parser.specs.Readers.{source}
 use Rattle.ada_parser.proofs.Law.{got_same}
 use Rattle.ada_parser.proofs.Forms.{law_source}
@@ -63,3 +66,14 @@ one_tree ts u v rest e s = (got_same v u rest [] (sym e ∙ reads ts u s)).0
 
 pub no_tree : (ts : List Token) (u : SourceUnit) (rest : List Spelled) → source (map told ts) ≡ Fails rest → ¬ Spells u ts
 no_tree ts u rest e s = let both : Got u [] ≡ Fails rest = sym (reads ts u s) ∙ e in cc
+
+-- The same for a cursor at the first token, and a refusal that `?` hands on.
+pub refused : {X : Type 0} (ts : List Token) (cursor : List Spelled) (fault : ParseRefusal) (result : Result X ParseRefusal) (rest : List Spelled)
+    → cursor ≡ map told ts → Reads (source cursor) (Err fault) rest → IsErrAnd result (λ e. e ≡ fault) → IsErrOf result NotBuilt
+    → (u : SourceUnit) → ¬ Spells u ts
+refused ts cursor fault (Ok x) rest at read is built u s = absurd (cc)
+refused ts cursor fault (Err e) rest at read is built u s =
+    let not_built : e ≡ NotBuilt = cc in
+    let read_here : Reads (source (map told ts)) (Err NotBuilt) rest =
+        subst (λ f. Reads (source (map told ts)) (Err f) rest) (sym is ∙ not_built) (subst (λ c. Reads (source c) (Err fault) rest) at read) in
+    no_tree ts u rest read_here s
