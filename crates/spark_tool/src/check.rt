@@ -1,15 +1,13 @@
 //! Checks the sources of a command.
-ghost use Rattle.std.specs.Prelude.{◌≡◌, ◌≢◌, ◌<◌, ◌≤◌, Err, IfOk, IfErr, IfSome, IfNone, OnErr, All, length, map, string_bytes};
+ghost use Rattle.std.specs.Prelude.{◌≡◌, ◌≢◌, ◌<◌, ◌≤◌, Err, Some, IfOk, IfSome, IfNone, OnErr, All, length, map, string_bytes};
 ghost use Rattle.std.specs.List.{list_all};
 ghost use Rattle.ada_lexer.specs.Tokens.{EndsOnce, kinds_of, cut_of};
-ghost use Rattle.place_names.specs.Reports.{Gives};
-ghost use Rattle.straight_line.specs.Deeds.{placed_of};
-ghost use Rattle.straight_line.specs.Reported.{printed_name};
+ghost use Rattle.ada_parser.specs.Spells.{Spells};
 ghost use Rattle.spark_tool.specs.Answers.{answer_of};
 ghost use Rattle.spark_tool.specs.Lexing.{IsAmong, texts_of};
 ghost use Rattle.spark_tool.specs.Product.{lexically_refused, Checks};
-ghost use Rattle.spark_tool.specs.Reading.{sources_of, Texts};
-ghost use Rattle.spark_tool.specs.StraightSource.{is_plain, IsStraightFile};
+ghost use Rattle.spark_tool.specs.Reading.{sources_of, IsWhole, Texts};
+ghost use Rattle.spark_tool.specs.StraightSource.{is_plain, no_underscore, IsStraightFile};
 ghost use Rattle.spark_tool.specs.StraightPaths.{IsPathOf, Judges, CanPrint};
 
 use crate::answer::{Answer, accepted, refused, refused_file, rejected};
@@ -17,18 +15,26 @@ use crate::lexing::lex_all;
 use crate::reading::Gathered;
 use crate::stop::Stop;
 use ada_lexer::{LexRefusal, Token, TokenKind};
+use ada_parser::tree::SourceUnit;
 use ada_parser::{ParseRefusal, parse};
 use rule_reports::{Code, report_lines};
 use spark_base::{FILES, SOURCE_BYTES};
 use std::alloc::{AllocError, Global};
 use straight_line::{StraightPath, path_reports, straight_path};
 
-/// Whether a number has digits alone; every other token passes.
+/// Whether a text has no underscore.
+fn has_digits_alone(text: &[u8]) -> bool
+    ensures { result ≡ list_all no_underscore text.now }
+{
+    text.iter().all(|byte| *byte != b'_')
+}
+
+/// Whether a token is no number with an underscore.
 fn has_plain_number(token: &Token<'_>) -> bool
     ensures { result ≡ is_plain token.now.kind token.now.text.now }
 {
     match token.kind {
-        TokenKind::Number(_) => token.text.iter().all(|byte| *byte != b'_'),
+        TokenKind::Number(_) => has_digits_alone(token.text),
         _ => true,
     }
 }
@@ -40,10 +46,23 @@ fn has_plain_numbers(tokens: &[Token<'_>]) -> bool
     tokens.iter().all(|token| has_plain_number(token))
 }
 
+/// The tree that the tokens of a file spell, or nothing where none does.
+fn unit_of(alloc: Global, tokens: &[Token<'_>]) -> Result<Option<SourceUnit>, AllocError>
+    requires { EndsOnce (kinds_of tokens.now) }
+    ensures found { IfOk result (λ found. IfSome found (λ unit. Spells unit tokens.now)) }
+    ensures only { IfOk result (λ found. (unit : _) → Spells unit tokens.now → found ≡ Some unit) }
+{
+    match parse(alloc, tokens) {
+        Ok(mut units) => Ok(units.pop()),
+        Err(ParseRefusal::NotBuilt) => Ok(None),
+        Err(ParseRefusal::Memory) => Err(AllocError),
+    }
+}
+
 /// The path of a file in the straight-line form, or nothing where the file hasn't that form.
 fn path_of(alloc: Global, tokens: &[Token<'_>]) -> Result<Option<StraightPath>, AllocError>
     requires ends { EndsOnce (kinds_of tokens.now) }
-    requires file { All (λ token. token.pos.file ≡ 0) tokens.now }
+    requires in_file { All (λ token. token.pos.file ≡ 0) tokens.now }
     ensures found { IfOk result (λ found. IfSome found (IsPathOf (map cut_of tokens.now))) }
     ensures can_print { IfOk result (λ found. IfSome found (CanPrint 1)) }
     ensures out { IfOk result (λ found. IfNone found ((unit : _) → ¬ IsStraightFile unit (map cut_of tokens.now))) }
@@ -51,15 +70,10 @@ fn path_of(alloc: Global, tokens: &[Token<'_>]) -> Result<Option<StraightPath>, 
     if !has_plain_numbers(tokens) {
         return Ok(None);
     }
-    let units = match parse(alloc, tokens) {
-        Ok(units) => units,
-        Err(ParseRefusal::NotBuilt) => return Ok(None),
-        Err(ParseRefusal::Memory) => return Err(AllocError),
+    let Some(unit) = unit_of(alloc, tokens)? else {
+        return Ok(None);
     };
-    match units.first() {
-        Some(unit) => Ok(straight_path(alloc, unit)?),
-        None => Ok(None),
-    }
+    Ok(straight_path(alloc, &unit)?)
 }
 
 /// The reports of a path, or that there are none.
@@ -118,6 +132,7 @@ fn check_texts(alloc: Global, names: &[String], texts: &[Vec<u8>]) -> Result<Ans
 
 /// The answer on what was read of the named files.
 pub(crate) fn check_sources(alloc: Global, names: &[String], gathered: Gathered) -> Result<Answer, Stop>
+    requires whole { IsWhole (length names.now) gathered }
     requires some { 0 < length names.now }
     requires few { length names.now ≤ FILES }
     ensures answer { IfOk result (λ answer. Checks (map string_bytes names.now) (sources_of gathered) (answer_of answer)) }
