@@ -1,3 +1,5 @@
 pub mod Names
 pub mod Sources
 pub mod AllTokens
+pub mod Straight
+pub mod InFile

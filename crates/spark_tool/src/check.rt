@@ -1,13 +1,13 @@
 //! Checks the sources of a command.
-ghost use Rattle.std.specs.Prelude.{◌≡◌, ◌≢◌, ◌<◌, ◌≤◌, Err, Some, IfOk, IfSome, IfNone, OnErr, All, length, map, string_bytes};
+ghost use Rattle.std.specs.Prelude.{◌≡◌, ◌≢◌, ◌<◌, ◌≤◌, Err, Some, IfOk, IfSome, IfNone, OnErr, All, length, map, slice_get, string_bytes};
 ghost use Rattle.std.specs.List.{list_all};
 ghost use Rattle.ada_lexer.specs.Tokens.{EndsOnce, kinds_of, cut_of};
 ghost use Rattle.ada_parser.specs.Spells.{Spells};
 ghost use Rattle.spark_tool.specs.Answers.{answer_of};
-ghost use Rattle.spark_tool.specs.Lexing.{IsAmong, texts_of};
+ghost use Rattle.spark_tool.specs.Lexing.{IsAmong, cuts_of, texts_of};
 ghost use Rattle.spark_tool.specs.Product.{lexically_refused, Checks};
 ghost use Rattle.spark_tool.specs.Reading.{sources_of, IsWhole, Texts};
-ghost use Rattle.spark_tool.specs.StraightSource.{is_plain, no_underscore, IsStraightFile};
+ghost use Rattle.spark_tool.specs.StraightSource.{is_plain, no_underscore, IsStraightFile, IsStraightSource};
 ghost use Rattle.spark_tool.specs.StraightPaths.{IsPathOf, Judges, CanPrint};
 
 use crate::answer::{Answer, accepted, refused, refused_file, rejected};
@@ -63,7 +63,7 @@ fn unit_of(alloc: Global, tokens: &[Token<'_>]) -> Result<Option<SourceUnit>, Al
 fn path_of(alloc: Global, tokens: &[Token<'_>]) -> Result<Option<StraightPath>, AllocError>
     requires ends { EndsOnce (kinds_of tokens.now) }
     requires in_file { All (λ token. token.pos.file ≡ 0) tokens.now }
-    ensures found { IfOk result (λ found. IfSome found (IsPathOf (map cut_of tokens.now))) }
+    ensures found { IfOk result (λ found. IfSome found (IsPathOf (λ unit. IsStraightFile unit (map cut_of tokens.now)))) }
     ensures can_print { IfOk result (λ found. IfSome found (CanPrint 1)) }
     ensures out { IfOk result (λ found. IfNone found ((unit : _) → ¬ IsStraightFile unit (map cut_of tokens.now))) }
 {
@@ -74,6 +74,21 @@ fn path_of(alloc: Global, tokens: &[Token<'_>]) -> Result<Option<StraightPath>, 
         return Ok(None);
     };
     Ok(straight_path(alloc, &unit)?)
+}
+
+/// The path of the one file of a source in the straight-line form, or nothing where the files aren't one such file.
+fn path_of_source(alloc: Global, files: &[Vec<Token<'_>>]) -> Result<Option<StraightPath>, AllocError>
+    requires ends { All (λ file. EndsOnce (kinds_of file.items)) files.now }
+    requires first { IfSome (slice_get files.now 0) (λ tokens. All (λ token. token.pos.file ≡ 0) tokens.items) }
+    ensures found { IfOk result (λ found. IfSome found (IsPathOf (λ unit. IsStraightSource unit (cuts_of files.now)))) }
+    ensures can_print { IfOk result (λ found. IfSome found (CanPrint 1)) }
+    ensures out { IfOk result (λ found. IfNone found ((unit : _) → ¬ IsStraightSource unit (cuts_of files.now))) }
+{
+    if files.len() != 1 {
+        return Ok(None);
+    }
+    let tokens = files[0].as_slice();
+    Ok(path_of(alloc, tokens)?)
 }
 
 /// The reports of a path, or that there are none.
@@ -120,11 +135,7 @@ fn check_texts(alloc: Global, names: &[String], texts: &[Vec<u8>]) -> Result<Ans
         Ok(files) => files,
         Err(fault) => return Ok(refused_lexically(alloc, names, fault)?),
     };
-    let path = match files.as_slice() {
-        [tokens] => path_of(alloc, tokens)?,
-        _ => None,
-    };
-    match path {
+    match path_of_source(alloc, &files)? {
         Some(path) => Ok(judge(alloc, names, &path)?),
         None => Ok(refused_file(alloc, names, 0, Code::U1)?),
     }
