@@ -23,5 +23,5 @@ pub in_first : (found : List (Vec Token Global)) (tokens : Vec Token Global) (al
     → (length found ≡ 0 → file ≡ 0) → IfSome (slice_get all 0) (λ first. All (λ token. token.pos.file ≡ 0) first.items)
 in_first found tokens all file is before in_file zero =
     subst (λ (files : List (Vec Token Global)). IfSome (slice_get files 0) (λ first. All (λ token. token.pos.file ≡ 0) first.items)) (sym is)
-        (first_stays found tokens (λ first. All (λ token. token.pos.file ≡ 0) first.items) before
-            (λ none. subst (λ (n : ℕ). All (λ token. token.pos.file ≡ n) tokens.items) (zero none) in_file))
+    (first_stays found tokens (λ first. All (λ token. token.pos.file ≡ 0) first.items) before
+    (λ none. subst (λ (n : ℕ). All (λ token. token.pos.file ≡ n) tokens.items) (zero none) in_file))

@@ -79,7 +79,7 @@ statement_in known (stmt.Null pos end) all = tt
 statement_in known (stmt.Assign pos target becomes v end) all =
     let behind = back_in (name_tokens target) _ all in
     both_in (source_acts known v) (target_act known target ∷ []) (value_in known v (front_in (value_tokens v) _ behind.1))
-        (target_in known target (front_in (name_tokens target) _ all), tt)
+    (target_in known target (front_in (name_tokens target) _ all), tt)
 statement_in known (stmt.Call pos callee left actual right end) all = (all.1.1.0, tt)
 
 statements_in : (known : Declarations) (ss : List Stmt) → AllIn (flat_map stmt_tokens ss) → EachIn (flat_map (statement_acts known) ss)
@@ -109,9 +109,9 @@ path_in unit all =
     let rest_on = back_in (stmt_tokens unit.first) _ first_on in
     let end_on = back_in (flat_map stmt_tokens unit.rest) _ rest_on in
     both_in (flat_map (statement_acts known) (statements unit)) _
-        (both_in (statement_acts known unit.first) _ (statement_in known unit.first (front_in (stmt_tokens unit.first) _ first_on))
-            (statements_in known unit.rest (front_in (flat_map stmt_tokens unit.rest) _ rest_on)))
-        (both_in (scope_end unit.end known) _ (ends_in unit.end (reverse known) end_on.0) (end_on.0, tt))
+    (both_in (statement_acts known unit.first) _ (statement_in known unit.first (front_in (stmt_tokens unit.first) _ first_on))
+    (statements_in known unit.rest (front_in (flat_map stmt_tokens unit.rest) _ rest_on)))
+    (both_in (scope_end unit.end known) _ (ends_in unit.end (reverse known) end_on.0) (end_on.0, tt))
 
 told_in : (k : TokenKind) (pos : Pos) (text : List ℕ) → pos.file ≡ 0 → InFile (told_as k pos text)
 told_in (kind.Word word) pos text at = at

@@ -3,3 +3,4 @@ pub mod Sources
 pub mod AllTokens
 pub mod Straight
 pub mod InFile
+pub mod CommandWords

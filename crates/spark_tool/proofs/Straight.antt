@@ -7,9 +7,13 @@ use Rattle.place_names.specs.Acts.{Placed}
 use Rattle.place_names.specs.Reports.{Gives, IsReportList}
 use Rattle.straight_line.specs.Reported.{printed_name}
 use Rattle.spark_tool.specs.Lexing.{all_tokens, cuts_of}
-use Rattle.spark_tool.specs.Product.{Answer, Checks, checked, judged}
+use Rattle.spark_tool.specs.Product.{Answer, Checks, checked, judged, lexical_code}
 use Rattle.spark_tool.specs.Reading.{Texts}
 use Rattle.std.proofs.lemmas.List.Folds.{list_all-map}
+use Rattle.spark_base.specs.declared.position.Pos.{Pos}
+use Rattle.rule_reports.specs.declared.code.Code.{Code}
+use Rattle.ada_lexer.specs.declared.refusal.LexRefusal.{LexRefusal}
+use Rattle.ada_lexer.specs.declared.refusal.LexRefusal.TheVariants.{Memory}
 use Rattle.ada_lexer.specs.declared.token.Token.{Token}
 use Rattle.ada_lexer.specs.Tokens.{Cut, cut_of}
 use Rattle.ada_parser.specs.declared.tree.SourceUnit.{SourceUnit}
@@ -52,7 +56,7 @@ path_found unit tokens (Some path) plain spelled form objects acts = record {
   unit = unit;
   in_form = record { digits = plain_cuts tokens ∙ plain; spelled = spells_cuts unit tokens spelled; form = form };
   objects = objects;
-  acts = acts
+  acts = acts;
 }
 
 -- no other tree is spelled by the tokens, so none is that of a file of the form
@@ -103,7 +107,7 @@ source_path cuts all (Some p) is path = record {
   unit = path.unit;
   in_form = subst (IsStraightSource path.unit) (sym is) path.in_form;
   objects = path.objects;
-  acts = path.acts
+  acts = path.acts;
 }
 
 pub source_no_path : (cuts : List Cut) (all : List (List Cut)) (found : Option StraightPath) → all ≡ cuts ∷ []
@@ -115,7 +119,7 @@ source_no_path cuts all (Some p) is out = tt
 pub prints_among : (n : ℕ) (path : StraightPath) → 0 < n → CanPrint 1 path → CanPrint n path
 prints_among n path some can = record {
   objects = can.objects;
-  files = λ k d within. omega (arith, can.files k d within)
+  files = λ k d within. omega (arith, can.files k d within);
 }
 
 -- the reports of the path of a source answer the check
@@ -124,10 +128,10 @@ pub checked_path : (names : List (List ℕ)) (texts : List (List ℕ)) (all : Li
     → Checks names (Texts texts) answer
 checked_path names texts all path answer cut of judges =
     let exact : IsReportList (printed_name (object_texts of.unit)) (Gives (path_acts of.unit)) judges.reports =
-        subst (λ (o : List (List ℕ)). IsReportList (printed_name o) (Gives (path_acts of.unit)) judges.reports) of.objects
-            (subst (λ (acts : List Placed). IsReportList (printed_name path.objects.items) (Gives acts) judges.reports) of.acts judges.exact) in
+    subst (λ (o : List (List ℕ)). IsReportList (printed_name o) (Gives (path_acts of.unit)) judges.reports) of.objects
+    (subst (λ (acts : List Placed). IsReportList (printed_name path.objects.items) (Gives acts) judges.reports) of.acts judges.exact) in
     let same : answer ≡ judged names (object_texts of.unit) judges.reports =
-        judges.judged ∙ ap (λ (o : List (List ℕ)). judged names o judges.reports) of.objects in
+    judges.judged ∙ ap (λ (o : List (List ℕ)). judged names o judges.reports) of.objects in
     subst (Checks names (Texts texts)) (sym same) (checked texts all of.unit judges.reports cut of.in_form exact)
 
 -- the tree that was found
@@ -140,11 +144,15 @@ pub known_path : (all held : List (Vec Token Global)) (found : Option StraightPa
     → IfSome found (IsPathOf (λ unit. IsStraightSource unit (cuts_of held))) → IsPathOf (λ unit. IsStraightSource unit (cuts_of all)) path
 known_path all held found path same is of =
     subst (λ (files : List (Vec Token Global)). IsPathOf (λ unit. IsStraightSource unit (cuts_of files)) path) same
-        (subst (λ (f : Option StraightPath). IfSome f (IsPathOf (λ unit. IsStraightSource unit (cuts_of held)))) is of)
+    (subst (λ (f : Option StraightPath). IfSome f (IsPathOf (λ unit. IsStraightSource unit (cuts_of held)))) is of)
 
 pub known_no_path : (all held : List (Vec Token Global)) (found : Option StraightPath) → held ≡ all → found ≡ None
     → IfNone found ((unit : SourceUnit) → ¬ IsStraightSource unit (cuts_of held)) → (unit : SourceUnit) → ¬ IsStraightSource unit (cuts_of all)
 known_no_path all held found same is out =
     let none : (unit : SourceUnit) → ¬ IsStraightSource unit (cuts_of held) =
-        subst (λ (f : Option StraightPath). IfNone f ((unit : SourceUnit) → ¬ IsStraightSource unit (cuts_of held))) is out in
+    subst (λ (f : Option StraightPath). IfNone f ((unit : SourceUnit) → ¬ IsStraightSource unit (cuts_of held))) is out in
     subst (λ (files : List (Vec Token Global)). (unit : SourceUnit) → ¬ IsStraightSource unit (cuts_of files)) same none
+
+-- want of memory has no code
+pub no_code : (fault : LexRefusal) (pos : Pos) (code : Code) → fault ≡ Memory → lexical_code fault ≡ Some (pos, code) → ⊥
+no_code fault pos code is coded = let none : None ≡ Some (pos, code) = ap lexical_code (sym is) ∙ coded in cc

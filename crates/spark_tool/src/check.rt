@@ -1,11 +1,13 @@
 //! Checks the sources of a command.
-ghost use Rattle.std.specs.Prelude.{◌≡◌, ◌≢◌, ◌<◌, ◌≤◌, Err, Some, IfOk, IfSome, IfNone, OnErr, All, length, map, slice_get, string_bytes};
+ghost use Rattle.std.specs.Prelude.{◌≡◌, ◌<◌, ◌≤◌, Err, Some, IfOk, IfSome, IfNone, OnErr, All, length, map, slice_get, string_bytes};
 ghost use Rattle.std.specs.List.{list_all};
 ghost use Rattle.ada_lexer.specs.Tokens.{EndsOnce, kinds_of, cut_of};
 ghost use Rattle.ada_parser.specs.Spells.{Spells};
 ghost use Rattle.spark_tool.specs.Answers.{answer_of};
 ghost use Rattle.spark_tool.specs.Lexing.{IsAmong, cuts_of, texts_of};
-ghost use Rattle.spark_tool.specs.Product.{lexically_refused, Checks};
+ghost use Rattle.spark_tool.specs.Product as spec;
+ghost use Rattle.spark_tool.specs.Product.{Checks};
+ghost use Rattle.spark_tool.specs.Refusals.{RefusesLexically, IsChecked};
 ghost use Rattle.spark_tool.specs.Reading.{sources_of, IsWhole, Texts};
 ghost use Rattle.spark_tool.specs.StraightSource.{is_plain, no_underscore, IsStraightFile, IsStraightSource};
 ghost use Rattle.spark_tool.specs.StraightPaths.{IsPathOf, Judges, CanPrint};
@@ -18,7 +20,7 @@ use ada_lexer::{LexRefusal, Token, TokenKind};
 use ada_parser::tree::SourceUnit;
 use ada_parser::{ParseRefusal, parse};
 use rule_reports::{Code, report_lines};
-use spark_base::{FILES, SOURCE_BYTES};
+use spark_base::{FILES, Pos, SOURCE_BYTES};
 use std::alloc::{AllocError, Global};
 use straight_line::{StraightPath, path_reports, straight_path};
 
@@ -77,7 +79,10 @@ fn path_of(alloc: Global, tokens: &[Token<'_>]) -> Result<Option<StraightPath>, 
 }
 
 /// The path of the one file of a source in the straight-line form, or nothing where the files aren't one such file.
-fn path_of_source(alloc: Global, files: &[Vec<Token<'_>>]) -> Result<Option<StraightPath>, AllocError>
+fn path_of_source(
+    alloc: Global,
+    files: &[Vec<Token<'_>>],
+) -> Result<Option<StraightPath>, AllocError>
     requires ends { All (λ file. EndsOnce (kinds_of file.items)) files.now }
     requires first { IfSome (slice_get files.now 0) (λ tokens. All (λ token. token.pos.file ≡ 0) tokens.items) }
     ensures found { IfOk result (λ found. IfSome found (IsPathOf (λ unit. IsStraightSource unit (cuts_of files.now)))) }
@@ -104,22 +109,30 @@ fn judge(alloc: Global, names: &[String], path: &StraightPath) -> Result<Answer,
     Ok(rejected(lines))
 }
 
+/// The place and the code of a lexical fault, or nothing where memory was wanting.
+fn lexical_code(fault: LexRefusal) -> Option<(Pos, Code)>
+    ensures { result ≡ spec.lexical_code fault }
+{
+    match fault {
+        LexRefusal::BadByte(pos) => Some((pos, Code::L1)),
+        LexRefusal::BadIdentifier(pos) => Some((pos, Code::L2)),
+        LexRefusal::BadNumber(pos) => Some((pos, Code::L3)),
+        LexRefusal::OpenString(pos) => Some((pos, Code::L4)),
+        LexRefusal::TooMany(pos) => Some((pos, Code::L5)),
+        LexRefusal::Memory => None,
+    }
+}
+
 /// The line of a lexical fault.
 fn refused_lexically(alloc: Global, names: &[String], fault: LexRefusal) -> Result<Answer, Stop>
     requires { IsAmong (length names.now) fault }
-    ensures line { IfOk result (λ answer. answer_of answer ≡ lexically_refused (map string_bytes names.now) fault) }
-    ensures fault { IfOk result (λ answer. fault ≢ LexRefusal.Memory) }
+    ensures line { IfOk result (λ answer. RefusesLexically (map string_bytes names.now) fault (answer_of answer)) }
     ensures memory { OnErr result (result ≡ Err Stop.Memory) }
 {
-    let (pos, code) = match fault {
-        LexRefusal::BadByte(pos) => (pos, Code::L1),
-        LexRefusal::BadIdentifier(pos) => (pos, Code::L2),
-        LexRefusal::BadNumber(pos) => (pos, Code::L3),
-        LexRefusal::OpenString(pos) => (pos, Code::L4),
-        LexRefusal::TooMany(pos) => (pos, Code::L5),
-        LexRefusal::Memory => return Err(Stop::Memory),
-    };
-    Ok(refused(alloc, names, pos, code)?)
+    match lexical_code(fault) {
+        Some((pos, code)) => Ok(refused(alloc, names, pos, code)?),
+        None => Err(Stop::Memory),
+    }
 }
 
 /// The answer on the texts of the named files.
@@ -142,11 +155,16 @@ fn check_texts(alloc: Global, names: &[String], texts: &[Vec<u8>]) -> Result<Ans
 }
 
 /// The answer on what was read of the named files.
-pub(crate) fn check_sources(alloc: Global, names: &[String], gathered: Gathered) -> Result<Answer, Stop>
+pub(crate) fn check_sources(
+    alloc: Global,
+    names: &[String],
+    gathered: Gathered,
+) -> Result<Answer, Stop>
     requires whole { IsWhole (length names.now) gathered }
     requires some { 0 < length names.now }
     requires few { length names.now ≤ FILES }
     ensures answer { IfOk result (λ answer. Checks (map string_bytes names.now) (sources_of gathered) (answer_of answer)) }
+    ensures checked { IfOk result (λ answer. IsChecked (answer_of answer)) }
     ensures memory { OnErr result (result ≡ Err Stop.Memory) }
 {
     match gathered {

@@ -8,4 +8,4 @@ pub returns-in_ok-refused_file-in-TooLarge-clause-answer : goal.returns-in_ok-re
 returns-in_ok-refused_file-in-TooLarge-clause-answer c =
     let names : List (List ℕ) = map string_bytes c.args.names.now in
     subst (λ (s : Sources). Checks names s (answer_of c.in_ok-refused_file-in-TooLarge.field-0)) (sym (ap sources_of c.in-TooLarge.is))
-        (subst (λ (a : Answer). Checks names (TooLarge c.in-TooLarge.file) a) (sym c.in_ok-refused_file-in-TooLarge.ensures) (too_large c.in-TooLarge.file))
+    (subst (λ (a : Answer). Checks names (TooLarge c.in-TooLarge.file) a) (sym c.in_ok-refused_file-in-TooLarge.ensures) (too_large c.in-TooLarge.file))

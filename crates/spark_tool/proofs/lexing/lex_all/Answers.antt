@@ -14,5 +14,5 @@ files-preserved c = record {
       (λ none. c.files.invariant.file ∙ sym c.files.invariant.count ∙ none);
   ends = grind (arith, common_steps);
   room = search rules;
-  file = search rules
+  file = search rules;
 }

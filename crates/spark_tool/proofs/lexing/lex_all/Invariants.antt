@@ -13,5 +13,5 @@ invariant-files l = record {
   first : IfSome (slice_get l.found.items 0) (λ tokens. All (λ token. token.pos.file ≡ 0) tokens.items);
   ends : All (λ file. EndsOnce (kinds_of file.items)) l.found.items;
   room : l.room ≤ TOKENS;
-  file : l.file ≡ l.text-index
+  file : l.file ≡ l.text-index;
 }
