@@ -1,7 +1,6 @@
 -- The law of each form of the grammar.
-use Rattle.std.proofs.Common.{◌≡◌, refl, sym, ap, ◌∙◌, subst, ℕ, Bool, true, false, List, [], ◌∷◌, ◌++◌, ◌⊎◌, inl, inr, Some}
+use Rattle.std.proofs.Common.{◌≡◌, refl, sym, ap, ◌∙◌, subst, ℕ, true, false, List, [], ◌∷◌, ◌++◌, ◌⊎◌, inl, inr}
 use Rattle.std.specs.List.{flat_map}
-use Rattle.std.proofs.lemmas.List.{append_assoc}
 use Rattle.spark_base.specs.declared.position.Pos.{Pos}
 use Rattle.ada_lexer.specs.declared.token.Reserved.TheVariants.{KwAccess, KwAll, KwBegin, KwEnd, KwIs, KwNew, KwNull, KwProcedure, KwType, KwWith}
 use Rattle.ada_lexer.specs.declared.token.Symbol.TheVariants.{Apostrophe, Becomes, Colon, Comma, Dot, LeftParenthesis, RightParenthesis, Semicolon}
@@ -17,13 +16,13 @@ use Rattle.ada_parser.specs.declared.tree.NextIdentifier.TheVariants.{After}
 use Rattle.ada_parser.specs.declared.tree.Item.{Item}
 use Rattle.ada_parser.specs.declared.tree.Item.TheVariants.{AccessType, Instance, Objects}
 use Rattle.ada_parser.specs.declared.tree.SourceUnit.{SourceUnit}
-use Rattle.ada_parser.specs.Spelled.{Spelled, Word, Ident, Number, Delimiter, EndOfFile}
+use Rattle.ada_parser.specs.Spelled.{Spelled, Word, Number, Delimiter, EndOfFile}
 use Rattle.ada_parser.specs.Spelling.{id_token, name_tokens, value_tokens, stmt_tokens, next_tokens, item_tokens, unit_tokens, Spelling}
 use Rattle.ada_parser.specs.WellPlaced.{Each, StartsAt, NamePlaced, ValuePlaced, StmtPlaced, ItemPlaced, WellPlaced}
 use Rattle.ada_parser.specs.FixedNames.{IsCalled, ada_name, deallocation_name, integer_name, ValueNamed, StmtNamed, ItemNamed, FixedNames}
-use Rattle.ada_parser.specs.Reading.{Reader, of_word, of_symbol, of_ident, of_number, word, symbol, ident, ident_called, number, file_end, nothing, to, seq, choose, many}
+use Rattle.ada_parser.specs.Reading.{Reader, of_word, of_symbol, of_ident, of_number, word, symbol, ident, number, nothing, to, seq, choose}
 use Rattle.ada_parser.specs.Readers as r
-use Rattle.ada_parser.proofs.Law.{Law, Any, Both, Either, cases, some_same, law_word, law_symbol, law_ident, law_called, law_number, law_end, law_nothing, law_seq, law_choose, law_to, law_same, law_wider}
+use Rattle.ada_parser.proofs.Law.{Law, Any, Both, Either, cases, some_same, law_word, law_symbol, law_ident, law_called, law_number, law_end, law_nothing, law_seq, law_choose, law_to, law_same}
 use Rattle.ada_parser.proofs.Many.{law_many, shorter, Shortens}
 use Rattle.ada_parser.proofs.Fronts.{Same, of_pair, either_choice, chain_seq, seq_made}
 

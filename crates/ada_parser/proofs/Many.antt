@@ -1,5 +1,5 @@
 -- The law of one after the other, and what each turn of a loop keeps that reads so.
-use Rattle.std.proofs.Common.{◌≡◌, refl, sym, ap, ◌∙◌, subst, ℕ, zero, suc, ◌+◌, ◌≤◌, ◌<◌, Bool, true, false, List, [], ◌∷◌, ◌++◌, length, ◌⊎◌, inl, inr, arith}
+use Rattle.std.proofs.Common.{◌≡◌, refl, sym, ap, ◌∙◌, subst, ℕ, zero, suc, ◌+◌, ◌≤◌, ◌<◌, Bool, true, false, List, [], ◌∷◌, ◌++◌, length, arith}
 use Rattle.std.specs.Prelude.{if◌then◌else◌}
 use Rattle.std.specs.List.{flat_map}
 use Rattle.std.proofs.lemmas.List.{append_assoc, append-nil, length-append}
@@ -9,8 +9,8 @@ use Rattle.std.specs.Prelude.{Result, Ok, Err}
 use Rattle.std.specs.Result.{IsErrAnd}
 use Rattle.ada_parser.specs.declared.refusal.ParseRefusal.{ParseRefusal}
 use Rattle.ada_parser.specs.declared.refusal.ParseRefusal.TheVariants.{NotBuilt, Memory}
-use Rattle.ada_parser.specs.Reading.{Reads, Outcome, Got, Fails, Reader, code, is_in, starts, and_then, many_up_to, many}
-use Rattle.ada_parser.proofs.Sets.{apart, within, Leads, stops_both, stops_before, starts_within, leads_left}
+use Rattle.ada_parser.specs.Reading.{Reads, Outcome, Got, Fails, Reader, starts, and_then, many_up_to, many}
+use Rattle.ada_parser.proofs.Sets.{apart, within, Leads, stops_both, stops_before, starts_within}
 use Rattle.ada_parser.proofs.Law.{Law, and_then_got, got_same, if_true, if_false}
 
 -- One turn: what `p` reads, and then as many as there are turns left.

@@ -3,7 +3,7 @@ use Rattle.std.proofs.Common.{◌≡◌, refl, sym, ap, ◌∙◌, subst, List, 
 use Rattle.std.specs.Prelude.{map, Result, Ok, Err, IsErrOf}
 use Rattle.std.specs.Result.{IsErrAnd}
 use Rattle.ada_parser.specs.declared.refusal.ParseRefusal.{ParseRefusal}
-use Rattle.ada_parser.specs.declared.refusal.ParseRefusal.TheVariants.{NotBuilt, Memory}
+use Rattle.ada_parser.specs.declared.refusal.ParseRefusal.TheVariants.{NotBuilt}
 use Rattle.std.proofs.lemmas.List.{append_assoc, append-nil}
 use Rattle.spark_base.specs.declared.position.Pos.{Pos}
 use Rattle.ada_lexer.specs.declared.token.Token.{Token}
@@ -14,7 +14,7 @@ use Rattle.ada_parser.specs.declared.tree.SourceUnit.{SourceUnit}
 use Rattle.ada_parser.specs.Spelled.{Spelled, EndOfFile, told, told_as}
 use Rattle.ada_parser.specs.Spelling.{unit_tokens, Spelling}
 use Rattle.ada_parser.specs.Spells.{Spells}
-use Rattle.ada_parser.specs.Reading.{Reads, Outcome, Got, Fails}
+use Rattle.ada_parser.specs.Reading.{Reads, Got, Fails}
 use Rattle.ada_parser.specs.Readers.{source}
 use Rattle.ada_parser.proofs.Law.{got_same}
 use Rattle.ada_parser.proofs.Forms.{law_source}

@@ -1,8 +1,7 @@
 -- The tokens that a tree is spelled by, one case for each alternative of the grammar
 -- (docs/LANGUAGE.md, "The straight-line form").
-use Rattle.std.specs.Prelude.{ℕ, List, [], ◌∷◌, ◌++◌}
+use Rattle.std.specs.Prelude.{List, [], ◌∷◌, ◌++◌}
 use Rattle.std.specs.List.{flat_map}
-use Rattle.spark_base.specs.declared.position.Pos.{Pos}
 use Rattle.ada_lexer.specs.declared.token.Reserved.TheVariants.{KwAccess, KwAll, KwBegin, KwEnd, KwIs, KwNew, KwNull, KwProcedure, KwType, KwWith}
 use Rattle.ada_lexer.specs.declared.token.Symbol.TheVariants.{Apostrophe, Becomes, Colon, Comma, Dot, LeftParenthesis, RightParenthesis, Semicolon}
 use Rattle.ada_parser.specs.declared.tree.Identifier.{Identifier}

@@ -1,4 +1,4 @@
-use Rattle.std.proofs.Common.{◌≡◌, sym, ap, ◌∙◌, [], ◌∷◌}
+use Rattle.std.proofs.Common.{sym, [], ◌∷◌}
 use Rattle.ada_lexer.specs.declared.token.Symbol.TheVariants.{Comma}
 use Rattle.ada_parser.specs.Reading.{of_symbol}
 use Rattle.ada_parser.specs.Readers as readers
