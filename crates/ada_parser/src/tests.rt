@@ -56,6 +56,7 @@ fn token_of<'s>(word: &'s str) -> Token<'s>
 }
 
 /// A token for each word, and the end of the file.
+#[tactic(auto, using(crate::proofs::TestTokens::none_more, crate::proofs::TestTokens::ends_once))]
 fn tokens_of<'s>(alloc: Global, front: &[&'s str], back: &[&'s str]) -> Result<Vec<Token<'s>>, AllocError>
     ensures { IfOk result (λ made. EndsOnce (kinds_of made.items)) }
 {
