@@ -1,4 +1,6 @@
 //! The rules of ownership by code, and the words that a report names a fact by.
+ghost use Rattle.std.specs.Prelude.{◌≡◌};
+ghost use Rattle.place_names.specs.Texts.{state_text, rule_text};
 
 /// What a loan lends (`docs/RULES.md`, "Facts").
 #[derive(Clone, Copy, Debug, PartialEq, Eq)]
@@ -18,6 +20,19 @@ pub enum State {
     Borrowed,
     /// The place is observed.
     Observed,
+}
+
+impl State {
+    /// The word as a report has it.
+    pub fn text(self) -> &'static str
+        ensures { result.now ≡ state_text self }
+    {
+        match self {
+            State::Moved => "moved",
+            State::Borrowed => "borrowed",
+            State::Observed => "observed",
+        }
+    }
 }
 
 /// A rule that a report names, in the order of reports.
@@ -59,4 +74,32 @@ pub enum Rule {
     V3,
     /// A borrower whose new source isn't rooted in it.
     V4,
+}
+
+impl Rule {
+    /// The code as a report has it.
+    pub fn text(self) -> &'static str
+        ensures { result.now ≡ rule_text self }
+    {
+        match self {
+            Rule::O1 => "O1",
+            Rule::O2 => "O2",
+            Rule::O3 => "O3",
+            Rule::O4 => "O4",
+            Rule::O5 => "O5",
+            Rule::O6 => "O6",
+            Rule::O7 => "O7",
+            Rule::O8 => "O8",
+            Rule::O9 => "O9",
+            Rule::O10 => "O10",
+            Rule::O11 => "O11",
+            Rule::O14 => "O14",
+            Rule::A1 => "A1",
+            Rule::A2 => "A2",
+            Rule::V1 => "V1",
+            Rule::V2 => "V2",
+            Rule::V3 => "V3",
+            Rule::V4 => "V4",
+        }
+    }
 }

@@ -1,4 +1,8 @@
 //! Where something stands in the sources.
+ghost use Rattle.std.specs.Prelude.{◌≡◌, ◌<◌, IfOk, length, map, string_bytes};
+ghost use Rattle.spark_base.specs.Positions as spec;
+
+use std::alloc::{AllocError, Global};
 
 /// A place in a source file. Lines and columns count from 1, and a column is a byte.
 #[derive(Clone, Copy, Debug, PartialEq, Eq, PartialOrd, Ord)]
@@ -9,4 +13,15 @@ pub struct Pos {
     pub line: u32,
     /// The byte within the line.
     pub column: u32,
+}
+
+/// A place as `FILE:LINE:COLUMN`, with the file's name as it was given (`docs/TOOL.md`, "Lines").
+pub fn position_text(alloc: Global, files: &[String], pos: Pos) -> Result<Vec<u8>, AllocError>
+    requires { pos.file < length files.now }
+    ensures { IfOk result (λ text. text.items ≡ spec.position_text (map string_bytes files.now) pos) }
+{
+    let name = files[pos.file as usize].as_str();
+    let line = pos.line;
+    let column = pos.column;
+    Ok(format!(in alloc; "{name}:{line}:{column}")?.into_bytes())
 }

@@ -1,0 +1,10 @@
+-- what the public contracts rest on
+pub mod Deeds
+pub mod Within
+pub mod Declarations
+pub mod Form
+pub mod PathActs
+pub mod Reported
+-- what the functions inside promise each other
+pub mod Steps
+pub mod Marks

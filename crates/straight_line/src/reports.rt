@@ -1,0 +1,182 @@
+//! The reports of a straight path, in order (`docs/RULES.md`, "Reports").
+ghost use Rattle.std.specs.Prelude.{◌≡◌, ℕ, ◌-◌, ◌<◌, All, IfOk, OnOk, length, map, vec_len};
+ghost use Rattle.std.specs.BTreeSet.{IsOrdered};
+ghost use Rattle.std.specs.Option.{ForSome};
+ghost use Rattle.place_names.specs.Reports.{Gives, IsReportList};
+ghost use Rattle.straight_line.specs.Deeds.{name_of, placed_of};
+ghost use Rattle.straight_line.specs.Within.{AreWithin, IsWithin, IsObject, root_of};
+ghost use Rattle.straight_line.specs.Reported.{printed_name, report_of};
+ghost use Rattle.straight_line.specs.Marks as walk;
+
+use std::alloc::{AllocError, Global};
+use std::cmp::Reverse;
+use std::collections::BTreeSet;
+
+use ada_parser::Word;
+use place_names::Rule;
+use spark_base::Pos;
+
+use crate::path::{Deed, Place, PlacedDeed, StraightPath};
+
+/// A rule that a moved object breaks, with the place that the deed names (`docs/RULES.md`, "Reports").
+#[derive(Clone, Copy, Debug, PartialEq, Eq)]
+pub struct PathReport {
+    /// Where the deed stands.
+    pub pos: Pos,
+    /// The rule.
+    pub rule: Rule,
+    /// The place that the deed names.
+    pub place: Place,
+}
+
+/// A report with the text of its place. Entries are in the order of reports: by position, rule, text and then the
+/// greater object; the last field follows from the text and the object.
+#[derive(Debug, PartialEq, Eq, PartialOrd, Ord, Drop)]
+struct Entry {
+    pos: Pos,
+    rule: Rule,
+    name: Vec<u8>,
+    root: Reverse<u32>,
+    is_designated: bool,
+}
+
+/// The reports of a path, sorted as reports are and without repeats: exactly those that some deed and some move before
+/// it give. The objects are numbered from 1 to their count.
+pub fn path_reports(alloc: Global, path: &StraightPath) -> Result<Vec<PathReport>, AllocError>
+    requires { AreWithin (length path.now.objects.items) path.now.deeds.items }
+    ensures exact { IfOk result (λ reports. IsReportList (printed_name path.now.objects.items)
+        (Gives (map placed_of path.now.deeds.items)) (map report_of reports.items)) }
+
+    // Each report names an object of the path, and stands in a file in which the path does.
+    ensures objects { IfOk result
+        (λ reports. All (λ r. IsObject (length path.now.objects.items) (root_of r.place)) reports.items) }
+    ensures files { IfOk result (λ reports. (n : ℕ)
+        → All (λ d. d.pos.file < n) path.now.deeds.items → All (λ r. r.pos.file < n) reports.items) }
+{
+    let mut moved = vec![in alloc; false; path.objects.len() + 1]?;
+    let mut entries = BTreeSet::new(alloc);
+    'deeds: for placed in &path.deeds {
+        let report = report_at(&moved, *placed);
+        add_report(alloc, &path.objects, report, &mut entries)?;
+        mark(&mut moved, placed.deed);
+    }
+    in_order(alloc, entries)
+}
+
+/// The text of a place as a report shows it.
+pub fn place_text(alloc: Global, objects: &[Word], place: Place) -> Result<Vec<u8>, AllocError>
+    requires { IsObject (length objects.now) (root_of place) }
+    ensures { IfOk result (λ text. text.items ≡ printed_name objects.now (name_of place)) }
+{
+    let object = objects[object_of(place) as usize - 1].as_bytes();
+    let mut text = Vec::from_slice(alloc, object)?;
+    if is_designated(place) {
+        text.extend_from_slice(b".all")?;
+    }
+    Ok(text)
+}
+
+/// The number of the object in which a place lies.
+fn object_of(place: Place) -> u32
+    ensures { result ≡ root_of place }
+{
+    match place {
+        Place::Object(x) | Place::Designated(x) => x,
+    }
+}
+
+/// Whether a place is what an object designates.
+fn is_designated(place: Place) -> bool
+    ensures { result ≡ walk.is_designated place }
+{
+    matches!(place, Place::Designated(_))
+}
+
+/// The rule that a deed breaks where its object was moved, and the place that it names.
+fn test_of(deed: Deed) -> Option<(Rule, Place)>
+    ensures { result ≡ walk.test_of deed }
+{
+    match deed {
+        Deed::Read(place) => Some((Rule::O1, place)),
+        Deed::Write(Place::Designated(x)) => Some((Rule::O3, Place::Designated(x))),
+        Deed::Move(x) => Some((Rule::O4, Place::Object(x))),
+        Deed::Free(x) => Some((Rule::O14, Place::Object(x))),
+        Deed::Write(Place::Object(_)) | Deed::EndScope(_) | Deed::Return => None,
+    }
+}
+
+/// The report of a deed where the objects that are moved have their marks.
+fn report_at(moved: &[bool], placed: PlacedDeed) -> Option<PathReport>
+    requires { IsWithin (length moved.now - 1) placed.deed }
+    ensures { result ≡ walk.report_at moved.now placed }
+{
+    let (rule, place) = test_of(placed.deed)?;
+    let pos = placed.pos;
+    moved[object_of(place) as usize].then_some(PathReport { pos, rule, place })
+}
+
+/// Keeps the marks of the objects that are moved behind a deed.
+fn mark(moved: &mut Vec<bool>, deed: Deed)
+    requires { IsWithin (vec_len moved.old - 1) deed }
+    ensures { moved.new.items ≡ walk.marks_after moved.old.items deed }
+{
+    match deed {
+        Deed::Move(x) => moved[x as usize] = true,
+        Deed::Write(Place::Object(x)) | Deed::Free(x) | Deed::EndScope(x) => {
+            moved[x as usize] = false;
+        }
+        Deed::Read(_) | Deed::Write(Place::Designated(_)) | Deed::Return => {}
+    }
+}
+
+/// Adds a report to the entries, unless an entry stands for it.
+fn add_report(
+    alloc: Global,
+    objects: &[Word],
+    report: Option<PathReport>,
+    entries: &mut BTreeSet<Entry>,
+) -> Result<(), AllocError>
+    requires { ForSome report (λ r. IsObject (length objects.now) (root_of r.place)) }
+    ensures { OnOk result (walk.Adds objects.now entries.old.keys entries.new.keys report) }
+{
+    let Some(PathReport { pos, rule, place }) = report else {
+        return Ok(());
+    };
+    let entry = Entry {
+        pos,
+        rule,
+        name: place_text(alloc, objects, place)?,
+        root: Reverse(object_of(place)),
+        is_designated: is_designated(place),
+    };
+    entries.insert(entry)?;
+    Ok(())
+}
+
+/// The reports of the entries, in their order.
+fn in_order(alloc: Global, entries: BTreeSet<Entry>) -> Result<Vec<PathReport>, AllocError>
+    ensures items { IfOk result (λ reports. reports.items ≡ map walk.report_in entries.keys) }
+    ensures ordered { IsOrdered walk.entry_cmp entries }
+{
+    entries.into_iter().map(report_in).collect(alloc)
+}
+
+/// The report that an entry stands for.
+fn report_in(entry: Entry) -> PathReport
+    ensures { result ≡ walk.report_in entry }
+{
+    let Reverse(object) = entry.root;
+    let place = if entry.is_designated {
+        Place::Designated(object)
+    } else {
+        Place::Object(object)
+    };
+    PathReport {
+        pos: entry.pos,
+        rule: entry.rule,
+        place,
+    }
+}
+
+#[cfg(test)]
+mod tests;
