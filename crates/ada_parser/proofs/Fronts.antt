@@ -21,7 +21,7 @@ module _ {A B C : Type 0} (ms : List ℕ) (f : A → C) (h : B → C) (p : Reade
   pub either_choice : (k l : Reader C) → Same k (to f p) → Same l (to h q) → Same (either ms k l) (to (cases f h) (choose ms p q))
   either_choice k l first second ts =
       ap (λ o. if starts ms ts then o else l ts) (first ts) ∙ ap (λ o. if starts ms ts then to f p ts else o) (second ts)
-          ∙ one_of_two (starts ms ts) (p ts) (q ts)
+      ∙ one_of_two (starts ms ts) (p ts) (q ts)
 
 -- What is made of a pair, and of what stands behind each first part.
 abbrev pub of_pair : {A B C : Type 0} → (A → B → C) → A × B → C

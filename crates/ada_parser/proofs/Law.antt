@@ -177,7 +177,7 @@ module _ {A B : Type 0} {p : Reader A} {q : Reader B} {g : A → Type 0} {h : B 
       let back = Q.sound one.1.0 two.0 two.1.0 two.1.1.0 in
       let same = got_same {A = A × B} (one.0, two.0) x two.1.0 rest two.1.1.1 in
       subst (λ y. Both g h y × (ts ≡ joined s t y ++ rest)) same.0
-          (seq_whole ts one.0 one.1.0 two.0 rest front.0 front.1 back.0 (back.1 ∙ ap (λ r. t two.0 ++ r) same.1))
+      (seq_whole ts one.0 one.1.0 two.0 rest front.0 front.1 back.0 (back.1 ∙ ap (λ r. t two.0 ++ r) same.1))
 
   seq_accepts : (x : A × B) (rest : List Spelled) → Both g h x → starts (if n then lp ++ lq else lq) rest ≡ false → seq p q (joined s t x ++ rest) ≡ Got x rest
   seq_accepts x rest good e =

@@ -11,7 +11,8 @@ use std::test::Fail;
 
 const HEAD: &str = "with Ada . Unchecked_Deallocation ; procedure Main is";
 
-const ROW: &str = "with Ada . Unchecked_Deallocation ; procedure Main is type Int_Ptr is access Integer ; procedure Free is new Ada . Unchecked_Deallocation ( Integer , Int_Ptr ) ; X , Y : Int_Ptr ; N : Integer ; begin X := new Integer ' ( 7 ) ; Y := X ; N := X . all ; X . all := 1 ; Y := null ; null ; Free ( Y ) ; end Main ;";
+const ROW: &str =
+    "with Ada . Unchecked_Deallocation ; procedure Main is type Int_Ptr is access Integer ; procedure Free is new Ada . Unchecked_Deallocation ( Integer , Int_Ptr ) ; X , Y : Int_Ptr ; N : Integer ; begin X := new Integer ' ( 7 ) ; Y := X ; N := X . all ; X . all := 1 ; Y := null ; null ; Free ( Y ) ; end Main ;";
 
 fn kind_of(word: &[u8]) -> TokenKind
     ensures { result ≢ TokenKind.EndOfFile }
@@ -57,7 +58,11 @@ fn token_of<'s>(word: &'s str) -> Token<'s>
 
 /// A token for each word, and the end of the file.
 #[tactic(auto, using(crate::proofs::TestTokens::none_more, crate::proofs::TestTokens::ends_once))]
-fn tokens_of<'s>(alloc: Global, front: &[&'s str], back: &[&'s str]) -> Result<Vec<Token<'s>>, AllocError>
+fn tokens_of<'s>(
+    alloc: Global,
+    front: &[&'s str],
+    back: &[&'s str],
+) -> Result<Vec<Token<'s>>, AllocError>
     ensures { IfOk result (λ made. EndsOnce (kinds_of made.items)) }
 {
     let mut made = Vec::new(alloc);
@@ -93,8 +98,14 @@ fn each_token_counts(rt: HostRuntime) -> Result<(), Fail> {
     assert!(rt; is_read(rt.alloc(), &words, &[])?);
     for at in 0..words.len() {
         let front = &words[..at];
-        assert!(rt; !is_read(rt.alloc(), front, &words[at + 1..])?, "without {at}");
-        assert!(rt; !is_read(rt.alloc(), &words[..at + 1], &words[at..])?, "twice {at}");
+        assert!(rt;
+            !is_read(rt.alloc(), front, &words[at + 1..])?,
+            "without {at}"
+        );
+        assert!(rt;
+            !is_read(rt.alloc(), &words[..at + 1], &words[at..])?,
+            "twice {at}"
+        );
     }
     Ok(())
 }
@@ -104,8 +115,14 @@ fn alternatives(rt: HostRuntime) -> Result<(), Fail> {
     for (rest, read) in [
         ("begin null ; end Main ;", true),
         ("begin null ; end Other ;", true),
-        ("A : Integer ; type P is access INTEGER ; B , C , D : P ; begin null ; null ; end Main ;", true),
-        ("procedure Free is new ada . UNCHECKED_DEALLOCATION ( integer , P ) ; begin Free ( A ) ; end Main ;", true),
+        (
+            "A : Integer ; type P is access INTEGER ; B , C , D : P ; begin null ; null ; end Main ;",
+            true,
+        ),
+        (
+            "procedure Free is new ada . UNCHECKED_DEALLOCATION ( integer , P ) ; begin Free ( A ) ; end Main ;",
+            true,
+        ),
         ("begin A . all := B . all ; end Main ;", true),
         ("begin end Main ;", false),
         ("begin null ; end Main ; end Main ;", false),
@@ -115,9 +132,18 @@ fn alternatives(rt: HostRuntime) -> Result<(), Fail> {
         ("A : access Integer ; begin null ; end Main ;", false),
         ("A B : Integer ; begin null ; end Main ;", false),
         ("type P is access Boolean ; begin null ; end Main ;", false),
-        ("procedure Free is new Text . Unchecked_Deallocation ( Integer , P ) ; begin null ; end Main ;", false),
-        ("procedure Free is new Ada . Text ( Integer , P ) ; begin null ; end Main ;", false),
-        ("procedure Free is new Ada . Unchecked_Deallocation ( Boolean , P ) ; begin null ; end Main ;", false),
+        (
+            "procedure Free is new Text . Unchecked_Deallocation ( Integer , P ) ; begin null ; end Main ;",
+            false,
+        ),
+        (
+            "procedure Free is new Ada . Text ( Integer , P ) ; begin null ; end Main ;",
+            false,
+        ),
+        (
+            "procedure Free is new Ada . Unchecked_Deallocation ( Boolean , P ) ; begin null ; end Main ;",
+            false,
+        ),
         ("begin A . B := 1 ; end Main ;", false),
         ("begin A . all . all := 1 ; end Main ;", false),
         ("begin A := ( 1 ) ; end Main ;", false),
