@@ -10,6 +10,8 @@ mod path;
 mod reports;
 mod scope;
 mod statement;
+#[cfg(test)]
+mod tests;
 
 pub use form::straight_path;
 pub use path::{Deed, Place, PlacedDeed, StraightPath};
