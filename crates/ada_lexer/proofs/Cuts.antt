@@ -1,17 +1,16 @@
 -- How the cut of a text goes on behind its first piece.
 use Rattle.std.proofs.lemmas.Bool.Decides.{nat_tests}
-use Rattle.std.proofs.Common.{false, ◌≡◌, ℕ, zero, suc, ◌-◌, ◌<◌, ◌≤◌, ◌==◌, List, [], ◌∷◌, ◌++◌, length, take, drop, map, refl, sym, ◌∙◌, ap, arith, rules, Result, Ok, Err, append_assoc}
+use Rattle.std.proofs.Common.{false, ◌≡◌, ℕ, zero, suc, ◌-◌, ◌<◌, ◌≤◌, ◌==◌, List, [], ◌∷◌, ◌++◌, length, take, drop, refl, sym, ◌∙◌, ap, arith, Ok, Err, append_assoc}
 use Rattle.spark_base.specs.declared.position.Pos.{Pos}
 use Rattle.ada_lexer.specs.declared.token.TokenKind.{TokenKind}
 use Rattle.ada_lexer.specs.declared.refusal.LexRefusal.{LexRefusal}
 use Rattle.ada_lexer.specs.declared.refusal.LexRefusal.TheVariants as refused
 use Rattle.ada_lexer.specs.declared.piece.Fault.{Fault}
-use Rattle.ada_lexer.specs.declared.piece.Piece.{Piece}
 use Rattle.ada_lexer.specs.declared.piece.Piece.TheVariants.{Gap, Lexeme, Broken}
 use Rattle.ada_lexer.specs.Characters.{Text}
 use Rattle.ada_lexer.specs.Pieces.{first_piece}
 use Rattle.ada_lexer.specs.Places.{behind, next_place}
-use Rattle.ada_lexer.specs.Tokens.{Cut, Outcome, cut_from, then_cut, with_piece, refusal_at}
+use Rattle.ada_lexer.specs.Tokens.{Cut, Outcome, cut_from, then_cut, refusal_at}
 
 -- The bytes that are still to be passed may be passed at once.
 pub cut_from-passed : (left : ℕ) (pos : Pos) (room : ℕ) (text : Text)

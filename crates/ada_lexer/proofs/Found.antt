@@ -1,7 +1,6 @@
 -- What the tokens found so far are, as tokens of the text.
-use Rattle.std.proofs.Common.{Bool, true, false, if◌then◌else◌, ◌==◌, ◌≡◌, ◌≢◌, ℕ, suc, ◌+◌, ◌-◌, ◌<◌, ◌≤◌, ◌⊎◌, inl, inr, List, [], ◌∷◌, ◌++◌, length, take, drop, get_or, refl, sym, ◌∙◌, ap, arith, rules, append_assoc}
-use Rattle.std.specs.List.{All, AllPairs, fold}
-use Rattle.std.proofs.lemmas.Bool.Decides.{nat_tests}
+use Rattle.std.proofs.Common.{Bool, true, false, if◌then◌else◌, ◌==◌, ◌≡◌, ◌≢◌, ℕ, ◌+◌, ◌<◌, ◌≤◌, inl, inr, List, [], ◌∷◌, ◌++◌, length, take, drop, get_or, refl, sym, ◌∙◌, ap, arith, append_assoc}
+use Rattle.std.specs.List.{All, AllPairs}
 use Rattle.std.proofs.lemmas.List.{take-append-drop, length-take-le, nil_from_length}
 use Rattle.std.proofs.lemmas.List.Elements.{All-push}
 use Rattle.std.proofs.lemmas.List.Quantifiers.{all_pairs_push}
@@ -13,7 +12,7 @@ use Rattle.ada_lexer.specs.declared.piece.Fault.{Fault}
 use Rattle.ada_lexer.specs.declared.piece.Fault.TheVariants.{BadByte, BadIdentifier, BadNumber, OpenString}
 use Rattle.ada_lexer.specs.Characters.{Text, line_feed}
 use Rattle.ada_lexer.specs.Places.{IsBefore, first_place, next_place, behind}
-use Rattle.ada_lexer.specs.Tokens.{Cut, StandsIn, NamesFile, refusal_at, cut_of}
+use Rattle.ada_lexer.specs.Tokens.{StandsIn, NamesFile, refusal_at, cut_of}
 
 -- Places go on from byte to byte.
 step_before : (is_feed : Bool) (pos : Pos)
@@ -97,7 +96,7 @@ pub stands_here : (file : ℕ) (text rest : Text) (pos : Pos) (found : List Toke
     → token.text.now ≡ take len rest → token.pos ≡ pos → StandsIn file text (cut_of token)
 stands_here file text rest pos found token len so_far bytes at =
     let splits : text ≡ so_far.before ++ (token.text.now ++ drop len rest)
-        = so_far.splits ∙ ap (λ (end : Text). so_far.before ++ end) (sym (take-append-drop len rest) ∙ ap (λ (front : Text). front ++ drop len rest) (sym bytes)) in
+    = so_far.splits ∙ ap (λ (end : Text). so_far.before ++ end) (sym (take-append-drop len rest) ∙ ap (λ (front : Text). front ++ drop len rest) (sym bytes)) in
     record {
       before = so_far.before;
       rest = drop len rest;
@@ -127,9 +126,10 @@ pub found_end : (file : ℕ) (text rest : Text) (pos : Pos) (found : List Token)
     → token.text.now ≡ rest → token.pos ≡ pos → Found file text rest pos found
     → All (λ t. StandsIn file text (cut_of t)) (found ++ token ∷ []) × AllPairs (λ a b. IsBefore a.pos b.pos) (found ++ token ∷ [])
 found_end file text rest pos found token none bytes at so_far =
-    let all_of_it : token.text.now ≡ take 0 rest = bytes ∙ nil_from_length rest none in
-    (All-push (λ (t : Token). StandsIn file text (cut_of t)) found token so_far.stands (stands_here file text rest pos found token 0 so_far all_of_it at),
-     all_pairs_push (λ (a b : Token). IsBefore a.pos b.pos) found token so_far.ordered (λ k d below. rw at (so_far.earlier k d below)))
+    let all_of_it : token.text.now ≡ take 0 rest = bytes ∙ nil_from_length rest none in (
+      All-push (λ (t : Token). StandsIn file text (cut_of t)) found token so_far.stands (stands_here file text rest pos found token 0 so_far all_of_it at),
+      all_pairs_push (λ (a b : Token). IsBefore a.pos b.pos) found token so_far.ordered (λ k d below. rw at (so_far.earlier k d below)),
+    )
 
 -- Places behind the first one of a file are in that file.
 pub place-file : (file : ℕ) (text rest : Text) (pos : Pos) (found : List Token) → Found file text rest pos found → pos.file ≡ file

@@ -1,5 +1,5 @@
 -- The end of the file behind tokens that aren't.
-use Rattle.std.proofs.Common.{◌≡◌, ◌≢◌, ℕ, suc, zero, List, [], ◌∷◌, ◌++◌, refl, arith, ◌<◌, length}
+use Rattle.std.proofs.Common.{◌≡◌, ◌≢◌, suc, List, [], ◌∷◌, ◌++◌, refl, arith}
 use Rattle.std.specs.List.{All}
 use Rattle.ada_lexer.specs.declared.token.Token.{Token}
 use Rattle.ada_lexer.specs.declared.token.TokenKind.{TokenKind}

@@ -2,7 +2,6 @@
 use Rattle.std.proofs.Common.{◌≡◌, ℕ, suc, ◌<◌, ◌≤◌, List, [], ◌∷◌, length, get_or, drop, arith}
 use Rattle.std.specs.List.{fold}
 use Rattle.std.proofs.Math.Seq.{drop-cons}
-use Rattle.std.proofs.lemmas.List.{drop_more}
 use Rattle.ada_lexer.specs.Numbers.{with_digit, number_value, largest_number}
 
 with_digit-le : (value b : ℕ) → value ≤ with_digit value b

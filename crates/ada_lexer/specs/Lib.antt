@@ -8,3 +8,5 @@ pub mod Delimiters
 pub mod Pieces
 pub mod Places
 pub mod Tokens
+-- what the functions inside promise each other
+pub mod Promises

@@ -1,5 +1,5 @@
 -- Decimal literals without a point and an exponent (docs/LANGUAGE.md, "Lexical elements"; Ada 2012, 2.4.1).
-use Rattle.std.specs.Prelude.{◌≡◌, ◌<◌, ◌≤◌, Option, Some, None, ℕ, ◌+◌, ◌*◌, ◌-◌, Bool, ◌||◌, ◌&&◌, ◌==◌, nat_lt, if◌then◌else◌, take, drop, slice_index}
+use Rattle.std.specs.Prelude.{ℕ, ◌+◌, ◌*◌, ◌-◌, Bool, ◌||◌, ◌&&◌, ◌==◌, nat_lt, if◌then◌else◌, take, drop, slice_index}
 use Rattle.std.specs.List.{prefix_len, fold}
 use Rattle.ada_lexer.specs.declared.token.TokenKind.TheVariants.{Number}
 use Rattle.ada_lexer.specs.declared.piece.Fault.TheVariants.{BadNumber}
@@ -26,7 +26,7 @@ number_value digits = fold with_digit 0 digits
 abbrev pub largest_number : ℕ
 largest_number = 2147483648
 
--- What stands behind a number can't: a letter, a number sign, or a point with a digit.
+-- What may not stand behind a number: a letter, a number sign, or a point with a digit.
 abbrev pub spoils_number : Text → Bool
 spoils_number rest =
     is_letter (slice_index rest 0) || slice_index rest 0 == number_sign
@@ -40,8 +40,3 @@ number text =
     || nat_lt largest_number (number_value digits)
     then Broken BadNumber 0
     else Lexeme (Number (number_value digits)) (number_length text)
-
--- A value that is read, or none where it is too large.
-abbrev pub IsInRange : ℕ → Option ℕ → Type 0
-IsInRange value None = largest_number < value
-IsInRange value (Some read) = (read ≡ value) × (value ≤ largest_number)

@@ -1,10 +1,9 @@
 -- What stands at the front of a text that isn't empty: a separator or a comment, the longest token, or a fault
 -- (docs/LANGUAGE.md, "Lexical elements"; Ada 2012, 2.2 and 2.7).
-use Rattle.std.specs.Prelude.{◌≢◌, ◌<◌, ◌≤◌, ℕ, length, ◌&&◌, ◌==◌, not, if◌then◌else◌, slice_index}
+use Rattle.std.specs.Prelude.{ℕ, ◌&&◌, ◌==◌, not, if◌then◌else◌, slice_index}
 use Rattle.std.specs.List.{prefix_len}
-use Rattle.ada_lexer.specs.declared.token.TokenKind.TheVariants.{EndOfFile}
 use Rattle.ada_lexer.specs.declared.piece.Piece.{Piece}
-use Rattle.ada_lexer.specs.declared.piece.Piece.TheVariants.{Gap, Lexeme, Broken}
+use Rattle.ada_lexer.specs.declared.piece.Piece.TheVariants.{Gap}
 use Rattle.ada_lexer.specs.Characters.{Text, is_separator, is_letter, is_digit, line_feed, hyphen, quote}
 use Rattle.ada_lexer.specs.Identifiers.{identifier}
 use Rattle.ada_lexer.specs.Numbers.{number}
@@ -15,6 +14,7 @@ use Rattle.ada_lexer.specs.Delimiters.{delimiter}
 abbrev pub comment_length : Text → ℕ
 comment_length text = prefix_len (λ b. not (b == line_feed)) text
 
+-- In this order; what is left is a delimiter or a byte that begins no token.
 unfoldable pub first_piece : Text → Piece
 first_piece text =
     let b = slice_index text 0 in
@@ -25,9 +25,3 @@ first_piece text =
     else (if is_digit b then number text
     else (if b == quote then string text
     else delimiter b next))))
-
--- A piece takes a byte at least and lies within the text, as the byte that a fault names does. No piece is the end of the file.
-abbrev pub IsWithin : Text → Piece → Type 0
-IsWithin text (Gap len) = (1 ≤ len) × (len ≤ length text)
-IsWithin text (Lexeme kind len) = (1 ≤ len) × (len ≤ length text) × (kind ≢ EndOfFile)
-IsWithin text (Broken fault before) = before < length text

@@ -1,4 +1,4 @@
--- Reserved words (docs/LANGUAGE.md, "Reserved words"; Ada 2012, 2.9).
+-- Reserved words (docs/LANGUAGE.md, "Lexical elements"; Ada 2012, 2.9).
 use Rattle.std.specs.Prelude.{if◌then◌else◌, List, [], ◌∷◌, Option, Some, None}
 use Rattle.std.specs.Str.{str_eq_ignore_ascii_case}
 use lib.Chars.{codes}

@@ -1,5 +1,5 @@
 -- String literals (docs/LANGUAGE.md, "Lexical elements"; Ada 2012, 2.6).
-use Rattle.std.specs.Prelude.{ℕ, suc, ◌+◌, Bool, true, false, ◌||◌, ◌&&◌, ◌==◌, nat_le, if◌then◌else◌, [], ◌∷◌, length, drop, slice_index}
+use Rattle.std.specs.Prelude.{ℕ, suc, ◌+◌, Bool, true, false, ◌||◌, ◌==◌, nat_le, if◌then◌else◌, [], ◌∷◌, length, drop, slice_index}
 use Rattle.ada_lexer.specs.declared.token.TokenKind.TheVariants.{Str}
 use Rattle.ada_lexer.specs.declared.piece.Fault.TheVariants.{OpenString, BadByte}
 use Rattle.ada_lexer.specs.declared.piece.Piece.{Piece}

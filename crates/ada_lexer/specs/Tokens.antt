@@ -35,8 +35,8 @@ abbrev pub then_cut : Cut → Outcome → Outcome
 then_cut token (Ok tokens) = Ok (token ∷ tokens)
 then_cut token (Err fault) = Err fault
 
--- What the piece at the front of a text adds to what comes behind it, by the piece's length and the room left there.
--- A token for which no room is left is refused; a fault goes before that.
+-- What the piece at the front of a text adds to the outcome of what comes behind it, which goes by the piece's length and
+-- the room left there. A token for which no room is left is refused; a fault at its place goes before that.
 abbrev pub with_piece : Piece → Pos → ℕ → Text → (ℕ → ℕ → Outcome) → Outcome
 with_piece (Gap len) pos room text outcome_behind = outcome_behind len room
 with_piece (Lexeme kind len) pos room text outcome_behind =

@@ -2,7 +2,7 @@
 
 ghost use Rattle.std.specs.Prelude.{◌≡◌, ◌<◌, length, slice_index};
 ghost use Rattle.ada_lexer.specs.Delimiters as spec;
-ghost use Rattle.ada_lexer.specs.Pieces.{IsWithin};
+ghost use Rattle.ada_lexer.specs.Promises.{IsWithin};
 
 use crate::character::byte;
 use crate::piece::{Fault, Piece};

@@ -3,7 +3,7 @@
 ghost use Rattle.std.specs.Prelude.{◌≡◌, ◌≤◌, length, slice_index, true};
 ghost use Rattle.ada_lexer.specs.Characters as character;
 ghost use Rattle.ada_lexer.specs.Numbers as spec;
-ghost use Rattle.ada_lexer.specs.Pieces.{IsWithin};
+ghost use Rattle.ada_lexer.specs.Promises.{IsInRange, IsWithin};
 
 use crate::character::{byte, is_digit, is_letter};
 use crate::piece::{Fault, Piece};
@@ -31,7 +31,7 @@ fn number_length(text: &[u8]) -> usize
 /// A value with one digit more, or `None` where that is too large.
 fn with_digit(value: u32, b: u8) -> Option<u32>
     requires { value ≤ spec.largest_number }
-    ensures { spec.IsInRange (spec.with_digit value b) result }
+    ensures { IsInRange (spec.with_digit value b) result }
 {
     if b == b'_' {
         return Some(value);
@@ -46,7 +46,7 @@ fn with_digit(value: u32, b: u8) -> Option<u32>
 
 /// The value of digits in base ten, or `None` where it is too large.
 fn number_value(digits: &[u8]) -> Option<u32>
-    ensures { spec.IsInRange (spec.number_value digits.now) result }
+    ensures { IsInRange (spec.number_value digits.now) result }
 {
     let mut value: u32 = 0;
     'digits: for b in digits {

@@ -3,6 +3,7 @@
 ghost use Rattle.std.specs.Prelude.{◌≡◌, ◌<◌, ◌≤◌, length, slice_index};
 ghost use Rattle.ada_lexer.specs.Characters.{hyphen};
 ghost use Rattle.ada_lexer.specs.Pieces as spec;
+ghost use Rattle.ada_lexer.specs.Promises.{IsWithin};
 
 use crate::character::{byte, is_digit, is_letter, is_separator};
 use crate::delimiter::delimiter;
@@ -49,7 +50,7 @@ fn comment_length(text: &[u8]) -> usize
 pub fn first_piece(text: &[u8]) -> Piece
     requires { 0 < length text.now }
     ensures value { result ≡ spec.first_piece text.now }
-    ensures within { spec.IsWithin text.now result }
+    ensures within { IsWithin text.now result }
 {
     let b = text[0];
     let next = byte(text, 1);

@@ -2,7 +2,7 @@
 
 ghost use Rattle.std.specs.Prelude.{◌≡◌, ◌≤◌, length, slice_index, false};
 ghost use Rattle.ada_lexer.specs.Characters as character;
-ghost use Rattle.ada_lexer.specs.Pieces.{IsWithin};
+ghost use Rattle.ada_lexer.specs.Promises.{IsWithin};
 ghost use Rattle.ada_lexer.specs.Strings as spec;
 
 use crate::character::{byte, is_graphic};

@@ -3,7 +3,7 @@
 ghost use Rattle.std.specs.Prelude.{◌≡◌, ◌≢◌, ◌≤◌, length, slice_index, true};
 ghost use Rattle.ada_lexer.specs.Characters as character;
 ghost use Rattle.ada_lexer.specs.Identifiers as spec;
-ghost use Rattle.ada_lexer.specs.Pieces.{IsWithin};
+ghost use Rattle.ada_lexer.specs.Promises.{IsWithin};
 
 use crate::character::{byte, is_digit, is_letter};
 use crate::keyword::reserved;

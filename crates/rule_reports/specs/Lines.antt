@@ -1,7 +1,13 @@
--- The lines of refusals and of the fixed texts (docs/TOOL.md, "Lines").
-use Rattle.std.specs.Prelude.{ℕ, List, [], ◌∷◌, ◌++◌, codes}
+-- The lines of refusals and reports, and the fixed lines (docs/TOOL.md, "Lines").
+use Rattle.std.specs.Prelude.{ℕ, List, [], ◌∷◌, ◌++◌, Option, Some, None, flat_map, codes}
 use Rattle.spark_base.specs.declared.position.Pos.{Pos}
 use Rattle.spark_base.specs.Positions.{position_text}
+use Rattle.place_names.specs.declared.rule.State.{State}
+use Rattle.place_names.specs.declared.rule.Rule.{Rule}
+use Rattle.place_names.specs.declared.rule.Rule.TheVariants.{O1, O2, O3, O4, O5, O6, O7, O8, O9, O10, O11, O14, A1, A2, V1, V2, V3, V4}
+use Rattle.place_names.specs.Names.{Name}
+use Rattle.place_names.specs.Reports.{Report}
+use Rattle.place_names.specs.Texts.{state_text, rule_text}
 use Rattle.rule_reports.specs.declared.code.Code.{Code}
 use Rattle.rule_reports.specs.Codes.{code_letters, code_text}
 
@@ -13,6 +19,40 @@ line text = text ++ 10 ∷ []
 abbrev pub refusal_line : List (List ℕ) → Pos → Code → List ℕ
 refusal_line files pos code =
     line (position_text files pos ++ codes ": " ++ code_letters code ++ codes " " ++ code_text code)
+
+-- What the rules that look at the text without paths say. The others say which kind of fact forbids.
+abbrev pub rule_words : Rule → List ℕ
+rule_words O1 = []
+rule_words O2 = []
+rule_words O3 = []
+rule_words O4 = []
+rule_words O5 = []
+rule_words O6 = []
+rule_words O7 = []
+rule_words O8 = []
+rule_words O9 = []
+rule_words O10 = []
+rule_words O11 = []
+rule_words O14 = []
+rule_words A1 = codes "overlaps another actual"
+rule_words A2 = codes "overlaps a global of the callee"
+rule_words V1 = codes "constant view"
+rule_words V2 = codes "source ends before the observer"
+rule_words V3 = codes "not rooted in the traversed parameter"
+rule_words V4 = codes "not rooted in the borrower"
+
+abbrev pub word_text : Rule → Option State → List ℕ
+word_text rule None = rule_words rule
+word_text rule (Some word) = state_text word
+
+-- POS: RULE NAME: WORD. The text of each file's name and of each name of a place is given.
+abbrev pub report_line : List (List ℕ) → (Name → List ℕ) → Report → List ℕ
+report_line files printed r =
+    line (position_text files r.pos ++ codes ": " ++ rule_text r.rule ++ codes " " ++ printed r.name ++ codes ": " ++ word_text r.rule r.word)
+
+-- The lines of some reports, in their order.
+abbrev pub report_lines : List (List ℕ) → (Name → List ℕ) → List Report → List ℕ
+report_lines files printed reports = flat_map (report_line files printed) reports
 
 -- What `spark check` writes where nothing is reported.
 abbrev pub accepted_line : List ℕ

@@ -122,6 +122,14 @@ collected_next objects P Q None old new g adds c = record {
 collected_next objects P Q (Some p) old new g adds c =
     subst (Collected objects Q) (sym adds.3) (put_in objects P Q p old adds.0 adds.1 adds.2 g c)
 
+-- an entry was there, or stands for the report that came
+pub added_cases : (objects : List (List ℕ)) (o : Option PathReport) (old new : List Entry) → Adds objects old new o → (e : Entry) → Has new e → Has old e ⊎ (o ≡ Some (report_in e))
+added_cases objects None old new adds e h = inl (subst (λ t. Has t e) adds h)
+added_cases objects (Some p) old new adds e h = elim (insert_cases old adds.0 e (subst (λ t. Has t e) adds.3 h)) [
+    inl h ↦ inl h
+  | inr same ↦ inr (ap Some (sym adds.1 ∙ ap report_in same))
+  ]
+
 -- ---- the reports in order
 
 at_each : (Q : Entry → Type 0) (xs : List Entry) (x : Entry) → AllByRecursion Q xs → Has xs x → Q x

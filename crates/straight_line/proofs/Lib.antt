@@ -8,7 +8,7 @@ pub mod Sentences
 pub mod ScopeEnd
 -- membership, and what one more act gives
 pub mod Lists
-pub mod Given
+pub mod Gives
 -- the marks stand for the facts
 pub mod Marked
 pub mod Tested

@@ -1,6 +1,7 @@
 -- Membership, and the last element of a list.
 use Rattle.std.proofs.Common.{◌≡◌, ◌⊎◌, inl, inr, Bool, true, false, cond, List, [], ◌∷◌, ◌++◌, map, refl, sym, ap, ◌∙◌, subst}
-use Rattle.std.specs.List.{filter}
+use Rattle.std.specs.List.{filter, All}
+use Rattle.std.proofs.lemmas.List.Elements.{All-nil, All-cons, All-head, All-tail}
 use Rattle.place_names.specs.Lists.{Has}
 
 pub Has-append_left : {A : Type 0} (xs ys : List A) (x : A) → Has xs x → Has (xs ++ ys) x
@@ -75,3 +76,15 @@ last_same (z ∷ xs) (w ∷ ys) x y e =
     let first : z ≡ w = cc in
     let same = last_same xs ys x y rest in
     (λ i. first i ∷ same.0 i, same.1)
+
+-- `All` goes by index
+pub All-has : {A : Type 0} (P : A → Type 0) (xs : List A) (x : A) → All P xs → Has xs x → P x
+All-has P [] x all h = absurd h
+All-has P (y ∷ xs) x all h = elim h [
+    inl e ↦ subst P e (All-head P y xs all)
+  | inr h ↦ All-has P xs x (All-tail P y xs all) h
+  ]
+
+pub All-from_has : {A : Type 0} (P : A → Type 0) (xs : List A) → ((x : A) → Has xs x → P x) → All P xs
+All-from_has P [] f = All-nil P
+All-from_has P (x ∷ xs) f = All-cons P x xs (f x (inl refl)) (All-from_has P xs (λ y h. f y (inr h)))

@@ -20,7 +20,7 @@ use Rattle.straight_line.specs.Deeds.{object_name, designated_name, name_of, act
 use Rattle.straight_line.specs.Within.{root_of}
 use Rattle.straight_line.specs.Reported.{report_of}
 use Rattle.straight_line.specs.Marks.{is_marked, test_of, tested, report_at}
-use Rattle.straight_line.proofs.Given.{acts_of, GivesNext}
+use Rattle.straight_line.proofs.Gives.{acts_of, GivesNext}
 use Rattle.straight_line.proofs.Marked.{Stands}
 
 -- what the move of object y forbids at a test

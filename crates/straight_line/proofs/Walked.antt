@@ -1,6 +1,8 @@
 -- The walk along a path keeps the marks for its facts, and the entries for its reports.
 use Rattle.std.proofs.Common.{◌≡◌, ◌⊎◌, inl, inr, ℕ, ◌+◌, ◌-◌, ◌<◌, ◌≤◌, Bool, true, false, List, [], ◌∷◌, ◌++◌, length, take, get_or, map, Option, Some, None, refl, sym, ap, ◌∙◌, subst, arith, if◌then◌else◌}
-use Rattle.std.specs.Prelude.{replicate}
+use Rattle.std.specs.Prelude.{replicate, All}
+use Rattle.std.proofs.lemmas.List.Elements.{All-map}
+use Rattle.spark_base.specs.declared.position.Pos.{Pos}
 use Rattle.std.proofs.lemmas.List.{map-append, length-set, length-replicate, take_more}
 use Rattle.place_names.specs.declared.rule.Rule.{Rule}
 use Rattle.place_names.specs.Lists.{Has}
@@ -17,19 +19,28 @@ use Rattle.straight_line.specs.declared.reports.PathReport.{PathReport}
 use Rattle.straight_line.specs.Deeds.{placed_of}
 use Rattle.straight_line.specs.Within.{IsObject, IsWithin, AreWithin, root_of}
 use Rattle.straight_line.specs.Reported.{report_of}
-use Rattle.straight_line.specs.Marks.{is_marked, test_of, tested, report_at, marks_after, Adds}
-use Rattle.straight_line.proofs.Given.{acts_of, facts_after-push, gives_before, gives_next, gives_cases}
+use Rattle.straight_line.specs.Marks.{report_in, is_marked, test_of, tested, report_at, marks_after, Adds}
+use Rattle.straight_line.proofs.Gives.{acts_of, facts_after-push, gives_before, gives_next, gives_cases}
 use Rattle.straight_line.proofs.Marked.{Stands, stands_first, stands_next}
 use Rattle.straight_line.proofs.Tested.{given_reported, reported_given}
-use Rattle.straight_line.proofs.Collected.{Collected, collected_none, Grows, collected_next}
+use Rattle.straight_line.proofs.Collected.{Collected, collected_none, Grows, collected_next, added_cases}
+use Rattle.straight_line.proofs.Lists.{Has-append_left, Has-append_right, All-has, All-from_has}
 
 abbrev pub placed : List PlacedDeed → List Placed
 placed deeds = map placed_of deeds
+
+-- A report names an object that there is, and stands where a deed does.
+pub record Fits (objects : List (List ℕ)) (done : List PlacedDeed) (p : PathReport) : Type 0 where
+  pub object : IsObject (length objects) (root_of p.place)
+  pub deed : PlacedDeed
+  pub has : Has done deed
+  pub pos : deed.pos ≡ p.pos
 
 pub record Walked (objects : List (List ℕ)) (done : List PlacedDeed) (marks : List Bool) (entries : List Entry) : Type 0 where
   pub long : length marks ≡ length objects + 1
   pub stands : Stands marks (facts_after (acts_of (placed done)))
   pub collected : Collected objects (Gives (placed done)) entries
+  pub fits : (e : Entry) → Has entries e → Fits objects done (report_in e)
 
 -- ---- the objects of a deed and of its report
 
@@ -45,21 +56,25 @@ test_within n (Free x) t w e = subst (λ (t : Rule × Place). IsObject n (root_o
 test_within n (EndScope x) t w e = cc
 test_within n Return t w e = cc
 
--- the place of a report is that of its test
-place_by : (marks : List Bool) (d : PlacedDeed) (t : Rule × Place) (p : PathReport) (b : Bool) → (if b then Some (record { pos = d.pos; rule = t.0; place = t.1 }) else None) ≡ Some p → t.1 ≡ p.place
-place_by marks d t p true e =
-    let same : record { pos = d.pos; rule = t.0; place = t.1 } ≡ p = cc in
-    ap (λ (p : PathReport). p.place) same
-place_by marks d t p false e = cc
+abbrev report_by : PlacedDeed → Rule × Place → PathReport
+report_by d t = record { pos = d.pos; rule = t.0; place = t.1 }
 
-test_place : (marks : List Bool) (d : PlacedDeed) (o : Option (Rule × Place)) (p : PathReport) → tested marks d.pos o ≡ Some p → (t : Rule × Place) × (o ≡ Some t) × (t.1 ≡ p.place)
-test_place marks d None p e = cc
-test_place marks d (Some t) p e = (t, refl, place_by marks d t p (is_marked marks (root_of t.1)) e)
+-- a report is that of its test
+test_by : (d : PlacedDeed) (t : Rule × Place) (p : PathReport) (b : Bool) → (if b then Some (report_by d t) else None) ≡ Some p → report_by d t ≡ p
+test_by d t p true e = same_some (report_by d t) p e
+test_by d t p false e = cc
+
+test_found : (marks : List Bool) (d : PlacedDeed) (o : Option (Rule × Place)) (p : PathReport) → tested marks d.pos o ≡ Some p → (t : Rule × Place) × (o ≡ Some t) × (report_by d t ≡ p)
+test_found marks d None p e = cc
+test_found marks d (Some t) p e = (t, refl, test_by d t p (is_marked marks (root_of t.1)) e)
 
 pub report_within : (n : ℕ) (marks : List Bool) (d : PlacedDeed) (p : PathReport) → IsWithin n d.deed → report_at marks d ≡ Some p → IsObject n (root_of p.place)
 report_within n marks d p w e =
-    let t = test_place marks d (test_of d.deed) p e in
-    subst (λ q. IsObject n (root_of q)) t.2 (test_within n d.deed t.0 w t.1)
+    let t = test_found marks d (test_of d.deed) p e in
+    subst (λ (q : PathReport). IsObject n (root_of q.place)) t.2 (test_within n d.deed t.0 w t.1)
+
+report_pos : (marks : List Bool) (d : PlacedDeed) (p : PathReport) → report_at marks d ≡ Some p → d.pos ≡ p.pos
+report_pos marks d p e = ap (λ (q : PathReport). q.pos) (test_found marks d (test_of d.deed) p e).2
 
 pub marks_within : (n : ℕ) (marks : List Bool) (d : Deed) → length marks ≡ n + 1 → IsWithin n d → IsWithin (length marks - 1) d
 marks_within n marks d e w = let m : n ≡ length marks - 1 = omega arith in subst (λ m. IsWithin m d) m w
@@ -87,6 +102,7 @@ walked_first objects marks n count e = record {
   long = ap length e ∙ length-replicate (n + 1) false ∙ ap (λ m. m + 1) count;
   stands = subst (λ t. Stands t []) (sym e) (stands_first (n + 1));
   collected = collected_none objects (Gives []) gives_none;
+  fits = λ e h. absurd h;
 }
 
 grows : (done : List PlacedDeed) (d : PlacedDeed) (marks : List Bool) → Stands marks (facts_after (acts_of (placed done)))
@@ -98,6 +114,16 @@ grows done d marks s = record {
     ];
   stays = λ r g. gives_before (placed done) (placed_of d) r g;
   comes = λ p e. gives_next (placed done) (placed_of d) (report_of p) (reported_given (placed done) marks d p s e);
+}
+
+fits_more : (objects : List (List ℕ)) (done : List PlacedDeed) (d : PlacedDeed) (p : PathReport) → Fits objects done p → Fits objects (done ++ d ∷ []) p
+fits_more objects done d p f = record { object = f.object; deed = f.deed; has = Has-append_left done (d ∷ []) f.deed f.has; pos = f.pos }
+
+fits_next : (objects : List (List ℕ)) (done : List PlacedDeed) (d : PlacedDeed) (marks : List Bool) (p : PathReport) → IsWithin (length objects) d.deed
+    → report_at marks d ≡ Some p → Fits objects (done ++ d ∷ []) p
+fits_next objects done d marks p w e = record {
+  object = report_within (length objects) marks d p w e; deed = d;
+  has = Has-append_right done (d ∷ []) d (inl refl); pos = report_pos marks d p e;
 }
 
 pub walked_next : (objects : List (List ℕ)) (done : List PlacedDeed) (d : PlacedDeed) (marks : List Bool) (old new : List Entry)
@@ -112,6 +138,10 @@ walked_next objects done d marks old new w k adds =
           (stands_next d.deed marks (facts_after (acts_of (placed done))) (marks_within (length objects) marks d.deed k.long w) k.stands);
       collected = subst (λ t. Collected objects (Gives t) new) (sym acts)
           (collected_next objects (Gives (placed done)) (Gives (placed done ++ placed_of d ∷ [])) (report_at marks d) old new (grows done d marks k.stands) adds k.collected);
+      fits = λ e h. elim (added_cases objects (report_at marks d) old new adds e h) [
+          inl g ↦ fits_more objects done d (report_in e) (k.fits e g)
+        | inr g ↦ fits_next objects done d marks (report_in e) w g
+        ];
     }
 
 -- ---- one turn of the loop: what the code reads is what the path has
@@ -136,3 +166,20 @@ walked_turn objects objs deeds items marks seen next old new i first o same know
         walked_next objects (take i deeds) d marks old new (within i first below) walked added in
     let marked : marks_after marks d.deed ≡ next = sym (after ∙ (λ j. marks_after marks (get_or (same j) i first).deed)) in
     subst (λ t. t) (λ j. Walked objects (sym (take_more deeds i first below) j) (marked j) new) on
+
+-- ---- all of the reports fit the path
+
+fits_file : (objects : List (List ℕ)) (deeds : List PlacedDeed) (p : PathReport) (n : ℕ) → All (λ (d : PlacedDeed). d.pos.file < n) deeds → Fits objects deeds p → p.pos.file < n
+fits_file objects deeds p n all f = subst (λ (q : Pos). q.file < n) f.pos (All-has (λ (d : PlacedDeed). d.pos.file < n) deeds f.deed all f.has)
+
+pub reports_fit : (objects : List (List ℕ)) (deeds : List PlacedDeed) (marks : List Bool) (entries : List Entry) (reports : List PathReport)
+    → Walked objects deeds marks entries → reports ≡ map report_in entries → All (λ (p : PathReport). IsObject (length objects) (root_of p.place)) reports
+reports_fit objects deeds marks entries reports k e =
+    let P = λ (p : PathReport). IsObject (length objects) (root_of p.place) in
+    subst (All P) (sym e) (All-map P report_in entries (All-from_has (λ (e : Entry). P (report_in e)) entries (λ e h. (k.fits e h).object)))
+
+pub reports_placed : (objects : List (List ℕ)) (deeds : List PlacedDeed) (marks : List Bool) (entries : List Entry) (reports : List PathReport)
+    → Walked objects deeds marks entries → reports ≡ map report_in entries → (n : ℕ) → All (λ (d : PlacedDeed). d.pos.file < n) deeds → All (λ (p : PathReport). p.pos.file < n) reports
+reports_placed objects deeds marks entries reports k e n all =
+    let P = λ (p : PathReport). p.pos.file < n in
+    subst (All P) (sym e) (All-map P report_in entries (All-from_has (λ (e : Entry). P (report_in e)) entries (λ e h. fits_file objects deeds (report_in e) n all (k.fits e h))))

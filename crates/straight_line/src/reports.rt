@@ -1,5 +1,5 @@
 //! The reports of a straight path, in order (`docs/RULES.md`, "Reports").
-ghost use Rattle.std.specs.Prelude.{◌≡◌, ◌-◌, ◌<◌, ◌≤◌, IfOk, OnOk, length, map, vec_len};
+ghost use Rattle.std.specs.Prelude.{◌≡◌, ℕ, ◌-◌, ◌<◌, All, IfOk, OnOk, length, map, vec_len};
 ghost use Rattle.std.specs.BTreeSet.{IsOrdered};
 ghost use Rattle.std.specs.Option.{ForSome};
 ghost use Rattle.place_names.specs.Reports.{Gives, IsReportList};
@@ -44,8 +44,14 @@ struct Entry {
 /// it give. The objects are numbered from 1 to their count.
 pub fn path_reports(alloc: Global, path: &StraightPath) -> Result<Vec<PathReport>, AllocError>
     requires { AreWithin (length path.now.objects.items) path.now.deeds.items }
-    ensures { IfOk result (λ reports. IsReportList (printed_name path.now.objects.items)
+    ensures exact { IfOk result (λ reports. IsReportList (printed_name path.now.objects.items)
         (Gives (map placed_of path.now.deeds.items)) (map report_of reports.items)) }
+
+    // Each report names an object of the path, and stands in a file in which the path does.
+    ensures objects { IfOk result
+        (λ reports. All (λ r. IsObject (length path.now.objects.items) (root_of r.place)) reports.items) }
+    ensures files { IfOk result (λ reports. (n : ℕ)
+        → All (λ d. d.pos.file < n) path.now.deeds.items → All (λ r. r.pos.file < n) reports.items) }
 {
     let mut moved = vec![in alloc; false; path.objects.len() + 1]?;
     let mut entries = BTreeSet::new(alloc);
@@ -171,3 +177,6 @@ fn report_in(entry: Entry) -> PathReport
         place,
     }
 }
+
+#[cfg(test)]
+mod tests;

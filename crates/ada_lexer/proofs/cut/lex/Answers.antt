@@ -1,12 +1,9 @@
-use Rattle.std.proofs.Common.{◌≡◌, ◌≢◌, ◌<◌, ◌≤◌, ◌-◌, Ok, Err, length, map, rules, arith, sym, ap, ◌∙◌, List, [], ◌∷◌, ◌++◌, refl}
+use Rattle.std.proofs.Common.{◌≡◌, ◌<◌, length, arith, sym, ◌∙◌, refl}
 use Rattle.std.proofs.lemmas.Bool.Decides.{nat_tests}
-use Rattle.std.proofs.lemmas.List.Elements.{All-push}
-use Rattle.std.proofs.lemmas.List.{take_rest, map-append, length-drop, length-take}
+use Rattle.std.proofs.lemmas.List.{take_rest, map-append}
 use Rattle.ada_lexer.specs.declared.piece.Piece.TheVariants.{Gap, Lexeme, Broken}
-use Rattle.ada_lexer.specs.declared.token.Token.{Token}
-use Rattle.ada_lexer.specs.declared.token.TokenKind.TheVariants.{EndOfFile}
 use Rattle.ada_lexer.specs.Pieces.{first_piece}
-use Rattle.ada_lexer.specs.Tokens.{tokens, cut_of}
+use Rattle.ada_lexer.specs.Tokens.{tokens}
 use Rattle.ada_lexer.proofs.Cuts.{continued_none, continued_fault, cut_from-full, cut_from-broken, passes_gap, passes_lexeme}
 use Rattle.ada_lexer.proofs.Bounds.{still_fits}
 use Rattle.ada_lexer.proofs.Found.{found_none, found_behind, found_token, found_end, place-file, stand-file, refusal_at-file, behind-file}
@@ -57,7 +54,7 @@ pieces-preserved c =
           record {
             cut = rw (c.behind-pos.ensures.value, take_rest, w.found-is, w.left-is, w.len-is) passed;
             found = rw (c.behind-pos.ensures.value, take_rest, w.found-is, w.len-is)
-              (found_behind _ _ rest c.pieces.pos _ len within.0 within.1 c.pieces.invariant.found);
+                (found_behind _ _ rest c.pieces.pos _ len within.0 within.1 c.pieces.invariant.found);
             count = rw (w.found-is, w.left-is) c.pieces.invariant.count;
             line = still_fits _ _ _ _ rest (rw w.len-is within.1) c.behind-pos.ensures.line c.pieces.invariant.line;
             column = still_fits _ _ _ _ rest (rw w.len-is within.1) c.behind-pos.ensures.column c.pieces.invariant.column;
@@ -72,7 +69,7 @@ pieces-preserved c =
           record {
             cut = rw (c.behind-pos.ensures.value, take_rest, w.found-is, w.left-is, w.len-is, w.in_ok-push-in-Lexeme.ensures.items) (simp map-append passed);
             found = rw (c.behind-pos.ensures.value, take_rest, w.found-is, w.len-is, w.in_ok-push-in-Lexeme.ensures.items)
-              (found_token _ _ rest c.pieces.pos _ _ len within.0 within.1 within.2 refl refl c.pieces.invariant.found);
+                (found_token _ _ rest c.pieces.pos _ _ len within.0 within.1 within.2 refl refl c.pieces.invariant.found);
             count = rw (w.found-is, w.left-is) (omega (arith, w.in_ok-push-in-Lexeme.ensures.len, c.pieces.invariant.count));
             line = still_fits _ _ _ _ rest (rw w.len-is within.1) c.behind-pos.ensures.line c.pieces.invariant.line;
             column = still_fits _ _ _ _ rest (rw w.len-is within.1) c.behind-pos.ensures.column c.pieces.invariant.column;
@@ -83,11 +80,11 @@ pub returns-clause-ends : goal.returns-clause-ends
 returns-clause-ends c =
     rw c.in_ok-push.ensures.items (EndsOnce-append _ _ c.pieces.invariant.found.inner refl)
 
-pub returns-then-left-eq0-clause-refused_file : goal.returns-then-left-eq0-clause-refused_file
-returns-then-left-eq0-clause-refused_file c = place-file _ _ _ c.pieces.pos _ c.pieces.invariant.found
+pub returns-then-left-eq0-clause-names_file : goal.returns-then-left-eq0-clause-names_file
+returns-then-left-eq0-clause-names_file c = place-file _ _ _ c.pieces.pos _ c.pieces.invariant.found
 
-pub returns-in-Broken-clause-refused_file : goal.returns-in-Broken-clause-refused_file
-returns-in-Broken-clause-refused_file c =
+pub returns-in-Broken-clause-names_file : goal.returns-in-Broken-clause-names_file
+returns-in-Broken-clause-names_file c =
     let here = place-file _ _ _ c.pieces.pos _ c.pieces.invariant.found in
     rw (c.refusal_at.ensures, c.behind.ensures.value) (refusal_at-file c.args.file c.in-Broken.fault _ (behind-file c.pieces.pos _ ∙ here))
 
@@ -97,7 +94,7 @@ returns-clause-stands c = rw c.in_ok-push.ensures.items (found_end _ _ c.pieces.
 pub returns-clause-ordered : goal.returns-clause-ordered
 returns-clause-ordered c = rw c.in_ok-push.ensures.items (found_end _ _ c.pieces.rest.now c.pieces.pos _ _ (grind (arith, nat_tests)) refl refl c.pieces.invariant.found).1
 
-pub returns-clause-file : goal.returns-clause-file
-returns-clause-file c =
+pub returns-clause-in_file : goal.returns-clause-in_file
+returns-clause-in_file c =
     rw c.in_ok-push.ensures.items
     (stand-file _ c.args.text.now _ (found_end _ _ c.pieces.rest.now c.pieces.pos _ _ (grind (arith, nat_tests)) refl refl c.pieces.invariant.found).0)

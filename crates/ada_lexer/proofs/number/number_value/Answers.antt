@@ -1,4 +1,4 @@
-use Rattle.std.proofs.Common.{arith, rules}
+use Rattle.std.proofs.Common.{arith}
 use Rattle.ada_lexer.proofs.Values.{too_large}
 use Rattle.ada_lexer.proofs.number.number_value.Goals as goal
 

@@ -5,7 +5,7 @@ use Rattle.std.proofs.lemmas.Result.{IfOk-weaker}
 use Rattle.straight_line.specs.Marks.{report_in}
 use Rattle.straight_line.specs.declared.path.PlacedDeed.{PlacedDeed}
 use Rattle.straight_line.specs.declared.reports.PathReport.{PathReport}
-use Rattle.straight_line.proofs.Walked.{Walked, walked_first, turn_fits, walked_turn, marks_within}
+use Rattle.straight_line.proofs.Walked.{Walked, walked_first, turn_fits, walked_turn, reports_fit, reports_placed}
 use Rattle.straight_line.proofs.Collected.{report_list}
 use Rattle.straight_line.proofs.reports.path_reports.Goals as goal
 
@@ -26,9 +26,21 @@ deeds-preserved c =
     walked_turn c.args.path.now.objects.items _ c.args.path.now.deeds.items _ c.deeds.moved.items _ _ _ _ _ _ _ c.deref-placed-items.ensures.value c.deref-in-deeds.ensures.value
       c.deref.ensures.value (omega arith) c.requires c.deeds.invariant c.report_at-report.ensures c.in_ok-add_report.ensures c.mark.ensures
 
-pub returns : goal.returns
-returns c =
-    let objects = c.args.path.now.objects.items in
+-- the whole path is walked
+walked_all : (c : goal.After-drop-moved-2) → Walked c.args.path.now.objects.items c.args.path.now.deeds.items c.deeds.moved.items c.deeds.entries.keys
+walked_all c =
     let whole : take c.deeds.placed-index c.args.path.now.deeds.items ≡ c.args.path.now.deeds.items = take_all _ _ (omega arith) in
-    let walked = subst (λ t. Walked objects t c.deeds.moved.items c.deeds.entries.keys) whole c.deeds.invariant in
-    IfOk-weaker c.in_order.result _ _ (λ (reports : _) e. report_list objects _ c.deeds.entries.keys reports.items walked.collected c.in_order.ensures.ordered e) c.in_order.ensures.items
+    subst (λ t. Walked c.args.path.now.objects.items t c.deeds.moved.items c.deeds.entries.keys) whole c.deeds.invariant
+
+pub returns-clause-exact : goal.returns-clause-exact
+returns-clause-exact c = IfOk-weaker c.in_order.result _ _
+    (λ (reports : _) e. report_list c.args.path.now.objects.items _ c.deeds.entries.keys reports.items (walked_all c).collected c.in_order.ensures.ordered e)
+    c.in_order.ensures.items
+
+pub returns-clause-objects : goal.returns-clause-objects
+returns-clause-objects c = IfOk-weaker c.in_order.result _ _
+    (λ (reports : _) e. reports_fit c.args.path.now.objects.items _ _ c.deeds.entries.keys reports.items (walked_all c) e) c.in_order.ensures.items
+
+pub returns-clause-files : goal.returns-clause-files
+returns-clause-files c = IfOk-weaker c.in_order.result _ _
+    (λ (reports : _) e n all. reports_placed c.args.path.now.objects.items _ _ c.deeds.entries.keys reports.items (walked_all c) e n all) c.in_order.ensures.items
