@@ -71,12 +71,14 @@ fn statements_have_their_types(rt: HostRuntime) -> Result<(), Fail> {
         ("H (X);", false),
     ];
     for (statement, want) in table {
-        let text = format!(in rt.alloc(); "with Ada.Unchecked_Deallocation; procedure Main is
+        let text = format!(in rt.alloc();
+            "with Ada.Unchecked_Deallocation; procedure Main is
             type T is access Integer; type U is access Integer;
             procedure F is new Ada.Unchecked_Deallocation (Integer, T);
             procedure G is new Ada.Unchecked_Deallocation (Integer, U);
             X, Y : T; Z : U; N, M : Integer;
-            begin null; {statement} end Main;")?;
+            begin null; {statement} end Main;"
+        )?;
         assert_eq!(rt; is_in_form(rt.alloc(), text.as_str())?, want, "{statement}");
     }
     Ok(())
@@ -99,13 +101,27 @@ fn declarations_stand_in_order(rt: HostRuntime) -> Result<(), Fail> {
         ("Ada : Integer;", false),
         ("INTEGER : Integer;", false),
         ("Natural, True : Integer;", true),
-        ("type T is access Integer; procedure F is new Ada.Unchecked_Deallocation (Integer, T);", true),
-        ("procedure F is new Ada.Unchecked_Deallocation (Integer, T); type T is access Integer;", false),
-        ("X : Integer; procedure F is new Ada.Unchecked_Deallocation (Integer, X);", false),
-        ("procedure F is new Ada.Unchecked_Deallocation (Integer, Integer);", false),
+        (
+            "type T is access Integer; procedure F is new Ada.Unchecked_Deallocation (Integer, T);",
+            true,
+        ),
+        (
+            "procedure F is new Ada.Unchecked_Deallocation (Integer, T); type T is access Integer;",
+            false,
+        ),
+        (
+            "X : Integer; procedure F is new Ada.Unchecked_Deallocation (Integer, X);",
+            false,
+        ),
+        (
+            "procedure F is new Ada.Unchecked_Deallocation (Integer, Integer);",
+            false,
+        ),
     ];
     for (items, want) in table {
-        let text = format!(in rt.alloc(); "with Ada.Unchecked_Deallocation; procedure Main is {items} begin null; end Main;")?;
+        let text = format!(in rt.alloc();
+            "with Ada.Unchecked_Deallocation; procedure Main is {items} begin null; end Main;"
+        )?;
         assert_eq!(rt; is_in_form(rt.alloc(), text.as_str())?, want, "{items}");
     }
     Ok(())
@@ -127,8 +143,14 @@ fn the_procedure_is_named_twice(rt: HostRuntime) -> Result<(), Fail> {
         ("Trues", "Trues", true),
     ];
     for (name, closing, want) in table {
-        let text = format!(in rt.alloc(); "with Ada.Unchecked_Deallocation; procedure {name} is begin null; end {closing};")?;
-        assert_eq!(rt; is_in_form(rt.alloc(), text.as_str())?, want, "{name} {closing}");
+        let text = format!(in rt.alloc();
+            "with Ada.Unchecked_Deallocation; procedure {name} is begin null; end {closing};"
+        )?;
+        assert_eq!(rt;
+            is_in_form(rt.alloc(), text.as_str())?,
+            want,
+            "{name} {closing}"
+        );
     }
     Ok(())
 }
@@ -142,7 +164,9 @@ fn objects_and_statements_are_counted(rt: HostRuntime) -> Result<(), Fail> {
         (1, 15_001, false),
     ];
     for (objects, statements, want) in table {
-        let mut text = format!(in rt.alloc(); "with Ada.Unchecked_Deallocation; procedure Main is")?;
+        let mut text = format!(in rt.alloc();
+            "with Ada.Unchecked_Deallocation; procedure Main is"
+        )?;
         for number in 0..objects {
             text.push_str(format!(in rt.alloc(); " X{number} : Integer;")?.as_str())?;
         }
@@ -151,7 +175,11 @@ fn objects_and_statements_are_counted(rt: HostRuntime) -> Result<(), Fail> {
             text.push_str(" X0 := X0;")?;
         }
         text.push_str(" end Main;")?;
-        assert_eq!(rt; is_in_form(rt.alloc(), text.as_str())?, want, "{objects} {statements}");
+        assert_eq!(rt;
+            is_in_form(rt.alloc(), text.as_str())?,
+            want,
+            "{objects} {statements}"
+        );
     }
     Ok(())
 }
