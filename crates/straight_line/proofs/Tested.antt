@@ -1,10 +1,9 @@
 -- What the facts forbid at a deed is what the marks report.
-use Rattle.std.proofs.Common.{◌≡◌, ℕ, Bool, true, false, ◌&&◌, ◌||◌, ◌==◌, List, Option, Some, None, refl, sym, ap, ◌∙◌, subst, eqb-true, eq-eqb, if◌then◌else◌}
+use Rattle.std.proofs.Common.{◌≡◌, ℕ, Bool, true, false, ◌&&◌, ◌||◌, ◌==◌, List, Option, Some, None, refl, sym, ap, ◌∙◌, eqb-true, eq-eqb, if◌then◌else◌}
 use Rattle.spark_base.specs.declared.position.Pos.{Pos}
 use Rattle.place_names.specs.declared.rule.State.TheVariants as state
 use Rattle.place_names.specs.declared.rule.Rule.{Rule}
 use Rattle.place_names.specs.declared.rule.Rule.TheVariants.{O1, O3, O4, O14}
-use Rattle.place_names.specs.Lists.{Has}
 use Rattle.place_names.specs.Facts.{Fact, Moved, facts_after}
 use Rattle.place_names.specs.Rules.{Forbidden, forbids, forbidden_if}
 use Rattle.place_names.specs.Reports.{Report}
@@ -74,7 +73,9 @@ record IsForbidden (marks : List Bool) (pos : Pos) (t : Option (Rule × Place)) 
 forbidden_by : (marks : List Bool) (pos : Pos) (t : Rule × Place) (r : PathReport) (b : Bool) → is_marked marks (root_of t.1) ≡ b
     → (if b then Some (record { pos = pos; rule = t.0; place = t.1 }) else None) ≡ Some r → IsForbidden marks pos (Some t) r
 forbidden_by marks pos t r true marked e = record {
-  object = root_of t.1; marked = marked; found = found_of t;
+  object = root_of t.1;
+  marked = marked;
+  found = found_of t;
   forbidden = ap (λ b. if b then Some (found_of t) else None) (eq-eqb (root_of t.1) (root_of t.1) refl);
   reported = ap report_of (sym (same_some (record { pos = pos; rule = t.0; place = t.1 }) r e));
 }
@@ -90,7 +91,7 @@ pub given_reported : (acts : List Placed) (marks : List Bool) (d : PlacedDeed) (
 given_reported acts marks d r s g =
     let which = s.only g.fact g.holds in
     let is : forbidden_at which.0 (test_of d.deed) ≡ Some g.found =
-        sym (forbids_is d.deed which.0) ∙ ap (forbids (act_of d.deed)) (sym which.1) ∙ g.forbidden in
+    sym (forbids_is d.deed which.0) ∙ ap (forbids (act_of d.deed)) (sym which.1) ∙ g.forbidden in
     let p = tested_from marks d.pos which.0 (test_of d.deed) g.found which.2 is in
     (p.0, p.1, p.2 ∙ sym g.reported)
 
@@ -99,7 +100,9 @@ pub reported_given : (acts : List Placed) (marks : List Bool) (d : PlacedDeed) (
 reported_given acts marks d p s e =
     let is = forbidden_from marks d.pos (test_of d.deed) p e in
     record {
-      fact = moved is.object; holds = s.kept is.object is.marked; found = is.found;
+      fact = moved is.object;
+      holds = s.kept is.object is.marked;
+      found = is.found;
       forbidden = forbids_is d.deed is.object ∙ is.forbidden;
       reported = is.reported;
     }

@@ -1,5 +1,5 @@
 -- The walk along a path keeps the marks for its facts, and the entries for its reports.
-use Rattle.std.proofs.Common.{◌≡◌, ◌⊎◌, inl, inr, ℕ, ◌+◌, ◌-◌, ◌<◌, ◌≤◌, Bool, true, false, List, [], ◌∷◌, ◌++◌, length, take, get_or, map, Option, Some, None, refl, sym, ap, ◌∙◌, subst, arith, if◌then◌else◌}
+use Rattle.std.proofs.Common.{◌≡◌, inl, inr, ℕ, ◌+◌, ◌-◌, ◌<◌, Bool, true, false, List, [], ◌∷◌, ◌++◌, length, take, get_or, map, Option, Some, None, refl, sym, ap, ◌∙◌, subst, arith, if◌then◌else◌}
 use Rattle.std.specs.Prelude.{replicate, All}
 use Rattle.std.proofs.lemmas.List.Elements.{All-map}
 use Rattle.spark_base.specs.declared.position.Pos.{Pos}
@@ -109,9 +109,9 @@ grows : (done : List PlacedDeed) (d : PlacedDeed) (marks : List Bool) → Stands
     → Grows (Gives (placed done)) (Gives (placed done ++ placed_of d ∷ [])) (report_at marks d)
 grows done d marks s = record {
   from = λ r g. elim (gives_cases (placed done) (placed_of d) r g) [
-      inl h ↦ inl h
+    | inl h ↦ inl h
     | inr h ↦ inr (given_reported (placed done) marks d r s h)
-    ];
+  ];
   stays = λ r g. gives_before (placed done) (placed_of d) r g;
   comes = λ p e. gives_next (placed done) (placed_of d) (report_of p) (reported_given (placed done) marks d p s e);
 }
@@ -122,8 +122,10 @@ fits_more objects done d p f = record { object = f.object; deed = f.deed; has = 
 fits_next : (objects : List (List ℕ)) (done : List PlacedDeed) (d : PlacedDeed) (marks : List Bool) (p : PathReport) → IsWithin (length objects) d.deed
     → report_at marks d ≡ Some p → Fits objects (done ++ d ∷ []) p
 fits_next objects done d marks p w e = record {
-  object = report_within (length objects) marks d p w e; deed = d;
-  has = Has-append_right done (d ∷ []) d (inl refl); pos = report_pos marks d p e;
+  object = report_within (length objects) marks d p w e;
+  deed = d;
+  has = Has-append_right done (d ∷ []) d (inl refl);
+  pos = report_pos marks d p e;
 }
 
 pub walked_next : (objects : List (List ℕ)) (done : List PlacedDeed) (d : PlacedDeed) (marks : List Bool) (old new : List Entry)
@@ -139,9 +141,9 @@ walked_next objects done d marks old new w k adds =
       collected = subst (λ t. Collected objects (Gives t) new) (sym acts)
           (collected_next objects (Gives (placed done)) (Gives (placed done ++ placed_of d ∷ [])) (report_at marks d) old new (grows done d marks k.stands) adds k.collected);
       fits = λ e h. elim (added_cases objects (report_at marks d) old new adds e h) [
-          inl g ↦ fits_more objects done d (report_in e) (k.fits e g)
+        | inl g ↦ fits_more objects done d (report_in e) (k.fits e g)
         | inr g ↦ fits_next objects done d marks (report_in e) w g
-        ];
+      ];
     }
 
 -- ---- one turn of the loop: what the code reads is what the path has
@@ -163,7 +165,7 @@ walked_turn objects objs deeds items marks seen next old new i first o same know
     let report : o ≡ report_at marks d = is ∙ (λ j. report_at (read j) (get_or (same j) i first)) in
     let added : Adds objects old new (report_at marks d) = subst (λ t. t) (λ j. Adds (known j) old new (report j)) adds in
     let on : Walked objects (take i deeds ++ d ∷ []) (marks_after marks d.deed) new =
-        walked_next objects (take i deeds) d marks old new (within i first below) walked added in
+    walked_next objects (take i deeds) d marks old new (within i first below) walked added in
     let marked : marks_after marks d.deed ≡ next = sym (after ∙ (λ j. marks_after marks (get_or (same j) i first).deed)) in
     subst (λ t. t) (λ j. Walked objects (sym (take_more deeds i first below) j) (marked j) new) on
 

@@ -1,10 +1,7 @@
 -- The walk along the path, deed by deed.
-use Rattle.std.proofs.Common.{◌≡◌, ℕ, ◌+◌, length, take, List, [], map, sym, ap, ◌∙◌, subst, arith}
+use Rattle.std.proofs.Common.{◌≡◌, length, take, [], sym, subst, arith}
 use Rattle.std.proofs.lemmas.List.{take_all}
 use Rattle.std.proofs.lemmas.Result.{IfOk-weaker}
-use Rattle.straight_line.specs.Marks.{report_in}
-use Rattle.straight_line.specs.declared.path.PlacedDeed.{PlacedDeed}
-use Rattle.straight_line.specs.declared.reports.PathReport.{PathReport}
 use Rattle.straight_line.proofs.Walked.{Walked, walked_first, turn_fits, walked_turn, reports_fit, reports_placed}
 use Rattle.straight_line.proofs.Collected.{report_list}
 use Rattle.straight_line.proofs.reports.path_reports.Goals as goal
@@ -19,12 +16,12 @@ deeds-init c =
 pub add_report-requires : goal.add_report-requires
 add_report-requires c p some =
     turn_fits c.args.path.now.objects.items _ c.args.path.now.deeds.items _ _ _ _ _ p c.deref-placed-items.ensures.value c.deref-in-deeds.ensures.value
-      (omega arith) c.requires c.report_at-report.ensures some
+    (omega arith) c.requires c.report_at-report.ensures some
 
 pub deeds-preserved : goal.deeds-preserved
 deeds-preserved c =
     walked_turn c.args.path.now.objects.items _ c.args.path.now.deeds.items _ c.deeds.moved.items _ _ _ _ _ _ _ c.deref-placed-items.ensures.value c.deref-in-deeds.ensures.value
-      c.deref.ensures.value (omega arith) c.requires c.deeds.invariant c.report_at-report.ensures c.in_ok-add_report.ensures c.mark.ensures
+    c.deref.ensures.value (omega arith) c.requires c.deeds.invariant c.report_at-report.ensures c.in_ok-add_report.ensures c.mark.ensures
 
 -- the whole path is walked
 walked_all : (c : goal.After-drop-moved-2) → Walked c.args.path.now.objects.items c.args.path.now.deeds.items c.deeds.moved.items c.deeds.entries.keys
