@@ -1,15 +1,18 @@
 -- Small paths, worked by hand from the rules: what each act leaves and what it is forbidden by.
-use Rattle.std.proofs.Common.{◌≡◌, refl, ℕ, List, [], ◌∷◌, ◌++◌, true, false, Some, None}
+use Rattle.std.proofs.Common.{◌≡◌, refl, ℕ, List, [], ◌∷◌, true, false, Some, None, inl}
 use Rattle.std.specs.Prelude.{codes}
+use Rattle.std.specs.declared.cmp.Ordering.TheVariants.{Less}
+use Rattle.spark_base.specs.declared.position.Pos.{Pos}
 use Rattle.place_names.specs.declared.selector.Sel.TheVariants.{Field, Elem, Deref}
 use Rattle.place_names.specs.declared.act.Mode.TheVariants.{In, Out, InOut}
 use Rattle.place_names.specs.declared.rule.Loan.TheVariants as loan
 use Rattle.place_names.specs.declared.rule.State.TheVariants as state
-use Rattle.place_names.specs.declared.rule.Rule.TheVariants.{O1, O2, O3, O4, O6, O7, O8, O9, O10, O11, O14}
+use Rattle.place_names.specs.declared.rule.Rule.TheVariants.{O1, O2, O3, O4, O7, O8, O9, O10, O11, O14}
 use Rattle.place_names.specs.Names.{Name, object}
-use Rattle.place_names.specs.Acts.{Act, Read, Look, Write, Move, Borrow, Observe, Reborrow, EndScope, Return, Actual, Global, Free, Give}
-use Rattle.place_names.specs.Facts.{Fact, Moved, Lent, facts_after}
-use Rattle.place_names.specs.Rules.{Forbidden, forbids}
+use Rattle.place_names.specs.Acts.{Act, Placed, Read, Look, Write, Move, Borrow, Observe, Reborrow, EndScope, Return, Actual, Global, Free}
+use Rattle.place_names.specs.Facts.{Moved, Lent, facts_after}
+use Rattle.place_names.specs.Rules.{forbids}
+use Rattle.place_names.specs.Reports.{Report, Gives, report_cmp}
 use Rattle.place_names.specs.Printed.{printed}
 
 -- X, X.all, X.all.Next, where Next is the component with number 1, and X (?)
@@ -54,7 +57,7 @@ write_below_stays = refl
 write_into_moved : forbids (Write x_next) (Moved x) ≡ Some (record { rule = O3; name = x_next; word = state.Moved })
 write_into_moved = refl
 
--- a free of a moved X is forbidden, and of another X not
+-- a free of a moved X is forbidden, and clears it all the same; a free alone has nothing to do
 free_after_move : forbids (Free x) (Moved x) ≡ Some (record { rule = O14; name = x; word = state.Moved })
 free_after_move = refl
 
@@ -64,7 +67,7 @@ free_removes = refl
 free_alone : facts_after (Free x ∷ []) ≡ []
 free_alone = refl
 
--- a free of X whose part was moved is allowed
+-- a free of X with a hole in what it designates is allowed
 free_of_hole : forbids (Free x) (Moved x_next) ≡ None
 free_of_hole = refl
 
@@ -161,3 +164,45 @@ out_clears = refl
 -- the text of X (?).all.Next
 text_of_name : printed (λ r. codes "X") (λ before i. codes "Next") (record { root = 1; sels = Elem ∷ Deref ∷ Field 1 ∷ [] }) ≡ codes "X(?).all.Next"
 text_of_name = refl
+
+-- The reports of one path: X is moved at line 8, column 28, and X.all is read at column 36 of that line.
+abbrev moved_at : Pos
+moved_at = record { file = 0; line = 8; column = 28 }
+
+abbrev read_at : Pos
+read_at = record { file = 0; line = 8; column = 36 }
+
+abbrev path : List Placed
+path = record { pos = moved_at; act = move_x } ∷ record { pos = read_at; act = Read x_all } ∷ []
+
+abbrev read_report : Report
+read_report = record { pos = read_at; rule = O1; name = x_all; word = Some state.Moved }
+
+path_gives : Gives path read_report
+path_gives = record {
+  before = record { pos = moved_at; act = move_x } ∷ [];
+  placed = record { pos = read_at; act = Read x_all };
+  after = [];
+  split = refl;
+  fact = Moved x;
+  holds = inl refl;
+  found = record { rule = O1; name = x_all; word = state.Moved };
+  forbidden = refl;
+  reported = refl;
+}
+
+-- O2 stands before O10, and a text before a longer one; at equal reports the root that is declared later stands first
+abbrev same_text : Name → List ℕ
+same_text m = codes "X"
+
+rules_in_order : report_cmp same_text (record read_report { rule = O2 }) (record read_report { rule = O10 }) ≡ Less
+rules_in_order = refl
+
+later_line : report_cmp same_text (record read_report { rule = O9 }) (record { pos = record { file = 0; line = 9; column = 1 }; rule = O1; name = x; word = None }) ≡ Less
+later_line = refl
+
+longer_text : report_cmp (λ m. printed (λ r. codes "X") (λ before i. codes "Next") m) (record read_report { name = x }) read_report ≡ Less
+longer_text = refl
+
+later_root : report_cmp same_text (record read_report { name = object 2 }) (record read_report { name = object 1 }) ≡ Less
+later_root = refl

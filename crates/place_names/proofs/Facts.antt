@@ -1,6 +1,5 @@
 -- What the effects of acts leave alone.
-use Rattle.std.proofs.Common.{◌≡◌, refl, Bool, true, false, List, [], ◌∷◌, ◌⊎◌, inl, inr}
-use Rattle.place_names.specs.declared.act.Mode.TheVariants.{In, Out, InOut}
+use Rattle.std.proofs.Common.{◌≡◌, refl, false, [], ◌⊎◌, inl, inr}
 use Rattle.place_names.specs.Acts.{Act, Read, Look, Write, Move, Borrow, Observe, Reborrow, EndScope, Return, Actual, Global, Free, Give}
 use Rattle.place_names.specs.Facts.{Fact, adds, removes}
 

@@ -4,4 +4,5 @@ pub mod Selectors
 pub mod Names
 pub mod Facts
 pub mod Rules
+pub mod Reports
 pub mod Examples

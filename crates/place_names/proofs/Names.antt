@@ -1,7 +1,6 @@
 -- What the tests on names say of their roots and selectors.
-use Rattle.std.proofs.Common.{◌≡◌, refl, sym, ap, ◌∙◌, subst, Bool, true, false, ◌&&◌, ◌||◌, ℕ, ◌<◌, ◌==◌, List, [], ◌∷◌, ◌++◌, length, get_or, map, nat_lt, ◌⊎◌, inl, inr, rules, eqb-true, eq-eqb, ltb-true, lt-ltb, zero, suc, not, IsTrue, arith}
+use Rattle.std.proofs.Common.{◌≡◌, refl, sym, ap, ◌∙◌, subst, Bool, true, false, ◌&&◌, ℕ, ◌<◌, ◌==◌, List, [], ◌∷◌, ◌++◌, length, get_or, map, nat_lt, inl, inr, rules, eqb-true, eq-eqb, ltb-true, lt-ltb, zero, suc, not, IsTrue, arith}
 use Rattle.std.specs.Bool.{Decides}
-use Rattle.std.specs.List.{list_any}
 use Rattle.std.proofs.lemmas.Slice.Eq.{slice_eq-Decides}
 use Rattle.place_names.specs.declared.selector.Sel.{Sel}
 use Rattle.place_names.specs.declared.selector.Sel.TheVariants.{Field, Elem, Deref}
@@ -87,6 +86,17 @@ agree_along-decides (s ∷ k) (t ∷ m) =
         → (i : ℕ) (d : Sel) → i < length (s ∷ k) → i < length (t ∷ m) → IsTrue (agrees (get_or (s ∷ k) i d) (get_or (t ∷ m) i d))
     at_each s t k m first rest zero d p q = first
     at_each s t k m first rest (suc i) d p q = rest i d (omega arith) (omega arith)
+
+-- two names overlap where the roots are the same and the selectors agree as far as both names go
+pub overlaps-decides : (k m : Name)
+    → Decides (overlaps k m) ((k.root ≡ m.root) × ((i : ℕ) (d : Sel) → i < length k.sels → i < length m.sels → IsTrue (agrees (get_or k.sels i d) (get_or m.sels i d))))
+overlaps-decides k m =
+    let along = agree_along-decides k.sels m.sels in (
+      λ e.
+          let parts = both_parts (k.root == m.root) (agree_along k.sels m.sels) e in
+          (eqb-true _ _ parts.0, along.0 parts.1),
+      λ e. both_true (k.root == m.root) (agree_along k.sels m.sels) (eq-eqb _ _ e.0) (along.1 e.1),
+    )
 
 is_equal-sym : (s t : Sel) → is_equal s t ≡ is_equal t s
 is_equal-sym (Field i) (Field j) = search rules

@@ -1,5 +1,5 @@
 -- The rule of writes without its list of prefixes.
-use Rattle.std.proofs.Common.{◌≡◌, refl, sym, ap, ◌∙◌, Bool, true, false, ◌&&◌, ◌||◌, ◌==◌, ℕ, List, [], ◌∷◌, length, map, nat_lt, rules, arith, lt-ltb}
+use Rattle.std.proofs.Common.{◌≡◌, refl, sym, ap, ◌∙◌, Bool, true, false, ◌&&◌, ◌||◌, ◌==◌, List, [], ◌∷◌, length, map, nat_lt, rules, arith, lt-ltb}
 use Rattle.std.specs.List.{list_any}
 use Rattle.std.proofs.Math.Bool.{and_assoc}
 use Rattle.place_names.specs.declared.selector.Sel.{Sel}

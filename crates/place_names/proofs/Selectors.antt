@@ -1,5 +1,5 @@
 -- What comparisons of slices of selectors say.
-use Rattle.std.proofs.Common.{◌≡◌, refl, ap, ◌∙◌, sym, Bool, true, false, ◌&&◌, ◌||◌, List, [], ◌∷◌, length, take, zip}
+use Rattle.std.proofs.Common.{◌≡◌, refl, ap, ◌∙◌, ◌&&◌, List, [], ◌∷◌, zip}
 use Rattle.std.specs.List.{list_any, list_all, starts_with}
 use Rattle.place_names.specs.declared.selector.Sel.{Sel}
 use Rattle.place_names.specs.declared.selector.Sel.TheVariants.{Field, Elem, Deref}

@@ -27,12 +27,12 @@ abbrev pub belongs_to : ℕ → Fact → Bool
 belongs_to x (Moved n) = n.root == x
 belongs_to x (Lent l h n) = h == x
 
--- The facts that an act adds. They depend on the act alone.
+-- The new facts of an act, whatever held before it.
 abbrev pub adds : Act → List Fact
 adds (Read m) = []
 adds (Look m) = []
 adds (Write k) = []
--- each access part of the name's type is moved
+-- one for each access part of the name's type
 adds (Move m parts) = map (λ q. Moved (extend m q)) parts
 adds (Borrow h m) = Lent Borrowed h m ∷ []
 -- an observer of what another observer sees takes no loan
@@ -45,7 +45,8 @@ adds (Global g written) = []
 adds (Free k) = []
 adds (Give m borrows) = []
 
--- An act removes a fact. It looks at the act and that fact alone.
+-- A fact ends at an act, whatever else holds: a moved place where it gets a value as a whole, and at the end of a scope
+-- what belongs to its object.
 abbrev pub removes : Act → Fact → Bool
 removes (Read m) f = false
 removes (Look m) f = false
@@ -67,6 +68,6 @@ removes (Give m borrows) f = false
 abbrev pub effect : Act → List Fact → List Fact
 effect a facts = filter (λ f. not (removes a f)) facts ++ adds a
 
--- The facts behind some acts in order. Each subprogram begins without facts.
+-- The facts behind some acts in order, from none at the start of a subprogram.
 abbrev pub facts_after : List Act → List Fact
 facts_after acts = fold (λ facts a. effect a facts) [] acts

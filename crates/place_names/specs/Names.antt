@@ -16,7 +16,7 @@ object x = record { root = x; sels = [] }
 abbrev pub extend : Name → List Sel → Name
 extend m q = record { root = m.root; sels = m.sels ++ q }
 
--- Two selectors are equal.
+-- One selector is the other: the same component, or both `Elem`, or both `Deref`.
 abbrev pub is_equal : Sel → Sel → Bool
 is_equal (Field i) (Field j) = i == j
 is_equal (Field i) Elem = false
@@ -28,57 +28,56 @@ is_equal Deref (Field j) = false
 is_equal Deref Elem = false
 is_equal Deref Deref = true
 
--- Two selectors agree where they are equal.
+-- Two selectors may lead to one place. As no index is known, only equal ones do.
 abbrev pub agrees : Sel → Sel → Bool
 agrees s t = is_equal s t
 
--- The selectors of the first list are the first selectors of the second.
+-- One list of selectors is the start of another.
 abbrev pub begins : List Sel → List Sel → Bool
 begins [] m = true
 begins (s ∷ k) [] = false
 begins (s ∷ k) (t ∷ m) = is_equal s t && begins k m
 
--- k is a prefix of m where the roots are equal and the selectors of k are the first selectors of m.
--- Each name is a prefix of itself.
+-- A prefix of a name starts at its root and goes along its selectors, to their end or less far.
 abbrev pub is_prefix : Name → Name → Bool
 is_prefix k m = (k.root == m.root) && begins k.sels m.sels
 
--- A strict prefix is shorter.
+-- A strict prefix goes less far.
 abbrev pub is_strict_prefix : Name → Name → Bool
 is_strict_prefix k m = is_prefix k m && nat_lt (length k.sels) (length m.sels)
 
--- The selectors of the shorter list agree, one by one, with the first selectors of the longer.
+-- Two lists agree at each index that both have, so as far as the shorter one goes.
 abbrev pub agree_along : List Sel → List Sel → Bool
 agree_along [] m = true
 agree_along (s ∷ k) [] = true
 agree_along (s ∷ k) (t ∷ m) = agrees s t && agree_along k m
 
--- Two names overlap where the roots are equal and the shorter agrees along the longer.
+-- Two names overlap where one of the places may be the other or a part of it.
 abbrev pub overlaps : Name → Name → Bool
 overlaps k m = (k.root == m.root) && agree_along k.sels m.sels
 
--- A list has an `Elem`.
+-- Some selector of a list is an `Elem`.
 abbrev pub has_elem : List Sel → Bool
 has_elem [] = false
 has_elem (Elem ∷ k) = true
 has_elem (Field i ∷ k) = has_elem k
 has_elem (Deref ∷ k) = has_elem k
 
--- k covers m where k is a prefix of m and has no `Elem`.
+-- A name covers what it is a prefix of. One with an `Elem` may be that of another element, so it covers nothing.
 abbrev pub covers : Name → Name → Bool
 covers k m = is_prefix k m && not (has_elem k.sels)
 
--- The first list agrees, selector by selector over its whole length, with the second or with a first part of it.
+-- The first list agrees to its end with the start of the second, which is as long or longer.
 abbrev pub agrees_whole : List Sel → List Sel → Bool
 agrees_whole [] m = true
 agrees_whole (s ∷ n) [] = false
 agrees_whole (s ∷ n) (t ∷ m) = agrees s t && agrees_whole n m
 
--- A name agrees over its whole length with m or with a prefix of m.
+-- A name may be that of the place m, or of one on the way to it.
 abbrev pub leads_to : Name → Name → Bool
 leads_to n m = (n.root == m.root) && agrees_whole n.sels m.sels
 
--- The first parts of a list that are shorter than it, from the empty one on.
+-- The starts of a list that are shorter than it, from the empty one on.
 abbrev pub strict_fronts : List Sel → List (List Sel)
 strict_fronts [] = []
 strict_fronts (s ∷ k) = [] ∷ map (λ front. s ∷ front) (strict_fronts k)

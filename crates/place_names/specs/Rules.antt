@@ -12,81 +12,81 @@ use Rattle.place_names.specs.Names.{Name, object, overlaps, leads_to, strict_pre
 use Rattle.place_names.specs.Acts.{Act, Read, Look, Write, Move, Borrow, Observe, Reborrow, EndScope, Return, Actual, Global, Free, Give}
 use Rattle.place_names.specs.Facts.{Fact, Moved, Lent, place}
 
--- A moved name or a borrow loan's name overlaps m.
+-- The place was moved or is lent to a borrower, and overlaps m.
 abbrev pub moved_or_borrowed : Name → Fact → Bool
 moved_or_borrowed m (Moved n) = overlaps n m
 moved_or_borrowed m (Lent Borrowed h n) = overlaps n m
 moved_or_borrowed m (Lent Observed h n) = false
 
--- A moved name or any loan's name overlaps m.
+-- The place was moved or is lent, to a borrower or an observer, and overlaps m.
 abbrev pub moved_or_lent : Name → Fact → Bool
 moved_or_lent m f = overlaps (place f) m
 
--- Any loan's name overlaps k.
+-- The place is lent, to a borrower or an observer, and overlaps k.
 abbrev pub lent : Name → Fact → Bool
 lent k (Moved n) = false
 lent k (Lent l h n) = overlaps n k
 
--- A moved name leads to m.
+-- The place was moved, and is m or on the way to it.
 abbrev pub moved_above : Name → Fact → Bool
 moved_above m (Moved n) = leads_to n m
 moved_above m (Lent l h n) = false
 
--- A borrow loan's name leads to m.
+-- The place is lent to a borrower, and is m or on the way to it.
 abbrev pub borrowed_above : Name → Fact → Bool
 borrowed_above m (Moved n) = false
 borrowed_above m (Lent Borrowed h n) = leads_to n m
 borrowed_above m (Lent Observed h n) = false
 
--- A moved name is rooted in one of some objects.
+-- The place was moved, and is one of some objects or a part of one.
 abbrev pub moved_in : List ℕ → Fact → Bool
 moved_in roots (Moved n) = list_any (λ x. x == n.root) roots
 moved_in roots (Lent l h n) = false
 
--- A read: a moved name or a borrow loan's name overlaps m.
+-- A read: nothing that overlaps m may be moved or borrowed.
 abbrev pub breaks_O1 : Name → Fact → Bool
 breaks_O1 m f = moved_or_borrowed m f
 
--- A comparison with null: a moved name or a borrow loan's name agrees, selector by selector over its whole length,
--- with m or with a prefix of m.
+-- A comparison with null looks at m alone, not below it: neither m nor a place on the way to it may be moved or borrowed.
 abbrev pub breaks_O2 : Name → Fact → Bool
 breaks_O2 m f = moved_above m f || borrowed_above m f
 
--- A write: a strict prefix of k is forbidden as a comparison is, or any loan's name overlaps k.
+-- A write needs the way to k, which has to pass as a comparison does, and nothing that overlaps k may be lent.
+-- k itself may be moved.
 abbrev pub breaks_O3 : Name → Fact → Bool
 breaks_O3 k f = list_any (λ p. breaks_O2 p f) (strict_prefixes k) || lent k f
 
--- A move: a moved name or any loan's name overlaps m.
+-- A move: nothing that overlaps m may be moved or lent.
 abbrev pub breaks_O4 : Name → Fact → Bool
 breaks_O4 m f = moved_or_lent m f
 
--- A borrow: the same.
+-- A borrow: nothing that overlaps m may be moved or lent.
 abbrev pub breaks_O5 : Name → Fact → Bool
 breaks_O5 m f = moved_or_lent m f
 
--- An observation: a moved name or a borrow loan's name overlaps m.
+-- An observation: nothing that overlaps m may be moved or borrowed. Other observers may be there.
 abbrev pub breaks_O6 : Name → Fact → Bool
 breaks_O6 m f = moved_or_borrowed m f
 
--- A reborrow: a moved name or any loan's name overlaps the borrower.
+-- A reborrow: no part of the borrower may be moved or lent.
 abbrev pub breaks_O7 : ℕ → Fact → Bool
 breaks_O7 b f = moved_or_lent (object b) f
 
--- The end of a borrower: a moved name is rooted in it. Other objects end freely.
+-- The end of a borrower: it has to give back all that it borrowed. Other objects may end with moved parts.
 abbrev pub breaks_O8 : ℕ → Bool → Fact → Bool
 breaks_O8 x borrower f = borrower && moved_in (x ∷ []) f
 
--- The end of a call: a moved name is rooted in a formal or in a package object.
+-- The end of a call: no part of a formal or package object may be moved.
 abbrev pub breaks_O9 : List ℕ → Fact → Bool
 breaks_O9 roots f = moved_in roots f
 
 -- An actual, by its mode and its type.
 abbrev pub breaks_O10 : Name → Mode → Bool → Bool → Fact → Bool
 -- mode in, a named access type, in a procedure call: as a borrow;
--- mode in and an owning type, in every other case: as an observation
-breaks_O10 m In owning access f = if access then breaks_O5 m f else owning && breaks_O6 m f
+-- mode in and an owning type, in every other case: as an observation; other actuals of mode in are no acts
+breaks_O10 m In owning access f = if access then breaks_O5 m f else (owning && breaks_O6 m f)
 -- mode in out, an owning type: as a move; mode in out, a type that isn't owning: as a read or as a write
-breaks_O10 m InOut owning access f = if owning then breaks_O4 m f else breaks_O1 m f || breaks_O3 m f
+breaks_O10 m InOut owning access f = if owning then breaks_O4 m f else (breaks_O1 m f || breaks_O3 m f)
 -- mode out: as a write
 breaks_O10 m Out owning access f = breaks_O3 m f
 
@@ -94,7 +94,7 @@ breaks_O10 m Out owning access f = breaks_O3 m f
 abbrev pub breaks_O11 : ℕ → Bool → Fact → Bool
 breaks_O11 g written f = if written then breaks_O4 (object g) f else breaks_O6 (object g) f
 
--- A deallocation: a moved name forbids k as it does a comparison, or any loan's name overlaps k.
+-- A deallocation: neither k nor a place on the way to it may be moved, and nothing that overlaps k may be lent.
 abbrev pub breaks_O14 : Name → Fact → Bool
 breaks_O14 k f = moved_above k f || lent k f
 

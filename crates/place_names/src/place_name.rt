@@ -1,9 +1,10 @@
 //! Names of places: an object, and the steps from it to a part of it.
-ghost use Rattle.std.specs.Prelude.{◌≡◌, ◌<◌, ◌≤◌, ◌↔◌, [], ◌∷◌, ◌++◌, length, IsOk, IsErr, OnOk, OnErr};
+ghost use Rattle.std.specs.Prelude.{⊤, ◌≡◌, ◌<◌, ◌≤◌, ◌↔◌, [], ◌∷◌, ◌++◌, length, IsOk, IsErr, OnOk, OnErr};
 ghost use Rattle.place_names.specs.Names.{Name, object, extend, is_prefix, overlaps, covers};
 
 use crate::selector::{Sel, agree_along, begins, has_elem};
 use arrayvec::ArrayVec;
+use std::alloc::AllocError;
 use std::marker::Model;
 use thiserror::Error;
 
@@ -14,7 +15,7 @@ pub struct TooDeep;
 
 /// The name of a place: an object by its number, and at most 16 steps from it to a part of it
 /// (`docs/RULES.md`, "Names of places"). Contracts see it as a `Name`.
-#[derive(Clone, Debug, PartialEq, Eq, Drop)]
+#[derive(Debug, PartialEq, Eq, Drop)]
 pub struct PlaceName {
     root: u32,
     sels: ArrayVec<Sel, 16>,
@@ -28,6 +29,20 @@ impl Model for PlaceName {
     ghost view = { λ place. record { root = place.root; sels = place.sels.items } };
 
     ghost inverse = { λ name. record { root = name.root; sels = record { items = name.sels } } };
+}
+
+/// The same name. It takes no memory.
+impl Clone for PlaceName {
+    ghost is_clone = { λ name copy. copy ≡ name };
+
+    ghost is_infallible = { λ name. ⊤ };
+
+    fn clone(&self) -> Result<PlaceName, AllocError> {
+        Ok(PlaceName {
+            root: self.root,
+            sels: self.sels.clone()?,
+        })
+    }
 }
 
 impl PlaceName {
@@ -69,21 +84,21 @@ impl PlaceName {
         self.sels.as_slice()
     }
 
-    /// Whether this name is a prefix of the other. Each name is a prefix of itself.
+    /// Whether this name is a prefix of the other, as it is of itself.
     pub fn is_prefix(&self, other: &PlaceName) -> bool
         ensures { result ≡ is_prefix self.now other.now }
     {
         self.root == other.root && begins(&self.sels, &other.sels)
     }
 
-    /// Whether the two names overlap: the shorter agrees along the longer, with the same root.
+    /// Whether the two names overlap, so that one of the places may be the other or a part of it.
     pub fn overlaps(&self, other: &PlaceName) -> bool
         ensures { result ≡ overlaps self.now other.now }
     {
         self.root == other.root && agree_along(&self.sels, &other.sels)
     }
 
-    /// Whether this name covers the other: it is a prefix of it and has no `Elem`.
+    /// Whether this name covers the other: a prefix of it without an `Elem`, which may be that of another element.
     pub fn covers(&self, other: &PlaceName) -> bool
         ensures { result ≡ covers self.now other.now }
     {

@@ -1,14 +1,15 @@
 //! Steps from any place to a part of it.
-ghost use Rattle.std.specs.Prelude.{◌≡◌, ◌<◌, ◌≤◌, ◌↔◌, [], ◌∷◌, ◌++◌, length, IsOk, IsErr, OnOk, OnErr};
+ghost use Rattle.std.specs.Prelude.{⊤, ◌≡◌, ◌<◌, ◌≤◌, ◌↔◌, [], ◌∷◌, ◌++◌, length, IsOk, IsErr, OnOk, OnErr};
 
 use crate::place_name::TooDeep;
 use crate::selector::Sel;
 use arrayvec::ArrayVec;
+use std::alloc::AllocError;
 use std::marker::Model;
 
 /// At most 16 steps from a place to a part of it, as the access parts of a type are given by
 /// (`docs/RULES.md`, "Names of places"). Contracts see the list of them.
-#[derive(Clone, Debug, PartialEq, Eq, Drop)]
+#[derive(Debug, PartialEq, Eq, Drop)]
 pub struct PlaceTail {
     sels: ArrayVec<Sel, 16>,
 }
@@ -22,6 +23,19 @@ impl Model for PlaceTail {
     ghost view = { λ tail. tail.sels.items };
 
     ghost inverse = { λ sels. record { sels = record { items = sels } } };
+}
+
+/// The same steps. It takes no memory.
+impl Clone for PlaceTail {
+    ghost is_clone = { λ tail copy. copy ≡ tail };
+
+    ghost is_infallible = { λ tail. ⊤ };
+
+    fn clone(&self) -> Result<PlaceTail, AllocError> {
+        Ok(PlaceTail {
+            sels: self.sels.clone()?,
+        })
+    }
 }
 
 impl PlaceTail {

@@ -14,7 +14,7 @@ pub enum Sel {
     Deref,
 }
 
-/// Whether two selectors agree: they are equal (`docs/RULES.md`, "Names of places").
+/// Whether two selectors may lead to one place, as only equal ones do (`docs/RULES.md`, "Names of places").
 pub fn agrees(a: Sel, b: Sel) -> bool
     ensures { result ≡ agrees a b }
 {
@@ -28,7 +28,7 @@ pub(crate) fn begins(front: &[Sel], whole: &[Sel]) -> bool
     whole.starts_with(front)
 }
 
-/// Whether the selectors of the shorter list agree, one by one, with the first selectors of the longer.
+/// Whether two lists agree as far as the shorter one goes.
 pub(crate) fn agree_along(a: &[Sel], b: &[Sel]) -> bool
     ensures { result ≡ agree_along a.now b.now }
 {
