@@ -207,11 +207,12 @@ pub enum Symbol {
 pub enum TokenKind {
     /// A reserved word.
     Word(Reserved),
-    /// An identifier (Ada 2012, 2.3).
+    /// An identifier (Ada 2012, 2.3). Letter case makes no difference; the token's text keeps it.
     Ident,
     /// A decimal literal without a point and an exponent (Ada 2012, 2.4.1), with its value, at most 2147483648.
+    /// Underscores between digits don't change it.
     Number(u32),
-    /// A string literal (Ada 2012, 2.6).
+    /// A string literal (Ada 2012, 2.6). The token's text has its quotes, and doubled ones as they stand.
     Str,
     /// A delimiter.
     Symbol(Symbol),

@@ -1,3 +1,11 @@
+-- how declarations are numbered
+pub mod Numbering
+-- one turn of each loop over declarations
+pub mod Turns
+-- the sentences of the form, and the tests of each step
+pub mod Sentences
+-- the scope end, one object at a time
+pub mod ScopeEnd
 -- membership, and what one more act gives
 pub mod Lists
 pub mod Gives
@@ -9,3 +17,5 @@ pub mod Ordered
 pub mod Collected
 -- the walk along a path
 pub mod Walked
+-- the definitions, worked out on one program
+pub mod Worked

@@ -9,10 +9,10 @@ use Rattle.ada_parser.specs.declared.tree.NextIdentifier.TheVariants.{After}
 use Rattle.ada_parser.specs.declared.tree.Item.{Item}
 use Rattle.ada_parser.specs.declared.tree.Item.TheVariants as item
 use Rattle.ada_parser.specs.declared.tree.SourceUnit.{SourceUnit}
-use Rattle.straight_line.specs.declared.scope.Mark.{Mark}
-use Rattle.straight_line.specs.declared.scope.Mark.TheVariants.{Integer, Access}
-use Rattle.straight_line.specs.declared.scope.Declared.{Declared}
-use Rattle.straight_line.specs.declared.scope.Declared.TheVariants.{Procedure, AccessType, Instance, Object}
+use Rattle.straight_line.specs.declared.kind.Mark.{Mark}
+use Rattle.straight_line.specs.declared.kind.Mark.TheVariants.{Integer, Access}
+use Rattle.straight_line.specs.declared.kind.Declared.{Declared}
+use Rattle.straight_line.specs.declared.kind.Declared.TheVariants.{Procedure, AccessType, Instance, Object}
 
 -- Identifiers are compared in lower case (Ada 2012, 2.3(5)).
 abbrev pub folded : Identifier → List ℕ
@@ -75,11 +75,16 @@ known_behind known (item ∷ rest) = known_behind (known ++ declared_by known it
 unfoldable pub declarations : SourceUnit → Declarations
 declarations unit = known_behind ((folded unit.name, Procedure) ∷ []) unit.items
 
-abbrev pub object_identifiers : Item → List Identifier
-object_identifiers (item.AccessType pos name is access designated end) = []
-object_identifiers (item.Instance pos name is new ada dot deallocation left designated comma access right end) = []
-object_identifiers (item.Objects pos first rest colon mark end) = first ∷ map next_name rest
+-- Identifiers as they are written.
+abbrev pub texts : List Identifier → List (List ℕ)
+texts ids = map (λ id. id.text) ids
 
--- The objects as they are declared, in order.
+-- The identifiers of the objects that a declaration declares.
+abbrev pub item_texts : Item → List (List ℕ)
+item_texts (item.AccessType pos name is access designated end) = []
+item_texts (item.Instance pos name is new ada dot deallocation left designated comma access right end) = []
+item_texts (item.Objects pos first rest colon mark end) = texts (first ∷ map next_name rest)
+
+-- The identifiers of the objects of a source as they are declared, in order.
 unfoldable pub object_texts : SourceUnit → List (List ℕ)
-object_texts unit = map (λ id. id.text) (flat_map object_identifiers unit.items)
+object_texts unit = flat_map item_texts unit.items

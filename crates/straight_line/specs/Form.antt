@@ -9,10 +9,10 @@ use Rattle.ada_parser.specs.declared.tree.Value.TheVariants.{Number, NullAccess,
 use Rattle.ada_parser.specs.declared.tree.Stmt.{Stmt}
 use Rattle.ada_parser.specs.declared.tree.Stmt.TheVariants.{Null, Assign, Call}
 use Rattle.ada_parser.specs.declared.tree.SourceUnit.{SourceUnit}
-use Rattle.straight_line.specs.declared.scope.Mark.{Mark}
-use Rattle.straight_line.specs.declared.scope.Mark.TheVariants.{Integer, Access}
-use Rattle.straight_line.specs.declared.scope.Declared.{Declared}
-use Rattle.straight_line.specs.declared.scope.Declared.TheVariants.{Procedure, AccessType, Instance, Object}
+use Rattle.straight_line.specs.declared.kind.Mark.{Mark}
+use Rattle.straight_line.specs.declared.kind.Mark.TheVariants.{Integer, Access}
+use Rattle.straight_line.specs.declared.kind.Declared.{Declared}
+use Rattle.straight_line.specs.declared.kind.Declared.TheVariants.{Procedure, AccessType, Instance, Object}
 use Rattle.straight_line.specs.Declarations.{Declarations, folded, same, meaning, object_count, declarations}
 
 -- No identifier is declared twice: none is declared that the declarations before it have.

@@ -6,4 +6,5 @@ pub mod Form
 pub mod PathActs
 pub mod Reported
 -- what the functions inside promise each other
+pub mod Steps
 pub mod Marks

@@ -10,10 +10,10 @@ use Rattle.ada_parser.specs.declared.tree.Stmt.{Stmt}
 use Rattle.ada_parser.specs.declared.tree.Stmt.TheVariants.{Null, Assign, Call}
 use Rattle.ada_parser.specs.declared.tree.SourceUnit.{SourceUnit}
 use Rattle.place_names.specs.Acts.{Act, Read, Write, Move, Free, EndScope, Return, Placed}
-use Rattle.straight_line.specs.declared.scope.Mark.{Mark}
-use Rattle.straight_line.specs.declared.scope.Mark.TheVariants.{Integer, Access}
-use Rattle.straight_line.specs.declared.scope.Declared.{Declared}
-use Rattle.straight_line.specs.declared.scope.Declared.TheVariants.{Procedure, AccessType, Instance, Object}
+use Rattle.straight_line.specs.declared.kind.Mark.{Mark}
+use Rattle.straight_line.specs.declared.kind.Mark.TheVariants.{Integer, Access}
+use Rattle.straight_line.specs.declared.kind.Declared.{Declared}
+use Rattle.straight_line.specs.declared.kind.Declared.TheVariants.{Procedure, AccessType, Instance, Object}
 use Rattle.straight_line.specs.Deeds.{object_name, designated_name}
 use Rattle.straight_line.specs.Declarations.{Declarations, meaning, declarations}
 use Rattle.straight_line.specs.Form.{statements}
@@ -55,11 +55,14 @@ abbrev pub target_act : Declarations → Name → Placed
 target_act known (name.Object pos id) = placed id.pos (Write (object_name (number_of (meaning known id))))
 target_act known (name.Designated pos id dot all) = placed id.pos (Write (designated_name (number_of (meaning known id))))
 
+abbrev pub free_act : Declarations → Identifier → Placed
+free_act known id = placed id.pos (Free (object_name (number_of (meaning known id))))
+
 -- The acts of a statement. An assignment evaluates its source before it writes its target.
 abbrev pub statement_acts : Declarations → Stmt → List Placed
 statement_acts known (Null pos end) = []
 statement_acts known (Assign pos target becomes value end) = source_acts known value ++ target_act known target ∷ []
-statement_acts known (Call pos callee left actual right end) = placed actual.pos (Free (object_name (number_of (meaning known actual)))) ∷ []
+statement_acts known (Call pos callee left actual right end) = free_act known actual ∷ []
 
 -- The scope of an access object ends. The end of the scope of an Integer object is no act.
 abbrev pub end_of : Pos → Declared → List Placed
@@ -77,4 +80,4 @@ scope_end pos known = flat_map (λ e. end_of pos e.1) (reverse known)
 -- Both of these stand at the word `end`. A declaration has no act.
 unfoldable pub path_acts : SourceUnit → List Placed
 path_acts unit = flat_map (statement_acts (declarations unit)) (statements unit)
-    ++ scope_end unit.end (declarations unit) ++ placed unit.end (Return []) ∷ []
+    ++ (scope_end unit.end (declarations unit) ++ placed unit.end (Return []) ∷ [])

@@ -1,0 +1,8 @@
+-- what is read of numbers and words
+pub mod Values
+pub mod WordTables
+-- how the cut of a text goes on behind its first piece, its places, and what stands last
+pub mod Cuts
+pub mod Bounds
+pub mod TokenLists
+pub mod Found

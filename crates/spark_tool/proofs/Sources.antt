@@ -1,0 +1,9 @@
+-- What was read of the files so far.
+use Rattle.std.proofs.Common.{◌≡◌, ℕ, List, [], ◌∷◌, ◌++◌, refl}
+use Rattle.spark_tool.specs.Reading.{Sources, Texts, TooLarge, Missing}
+
+-- the texts of the files before
+abbrev pub with_texts : List (List ℕ) → Sources → Sources
+with_texts before (Texts texts) = Texts (before ++ texts)
+with_texts before (TooLarge file) = TooLarge file
+with_texts before Missing = Missing
