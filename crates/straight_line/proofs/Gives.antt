@@ -12,7 +12,8 @@ use Rattle.straight_line.proofs.Lists.{ends, last_same}
 abbrev pub acts_of : List Placed → List Act
 acts_of acts = map (λ (p : Placed). p.act) acts
 
-pub facts_after-push : (acts : List Placed) (d : Placed) → facts_after (acts_of (acts ++ d ∷ [])) ≡ effect d.act (facts_after (acts_of acts))
+pub facts_after-push : (acts : List Placed) (d : Placed)
+    → facts_after (acts_of (acts ++ d ∷ [])) ≡ effect d.act (facts_after (acts_of acts))
 facts_after-push acts d =
     ap facts_after (map-append (λ (p : Placed). p.act) acts (d ∷ [])) ∙ fold-append (λ facts a. effect a facts) [] (acts_of acts) (d.act ∷ [])
 
@@ -50,7 +51,8 @@ gives_next acts d r g = record {
   reported = g.reported;
 }
 
-pub gives_cases : (acts : List Placed) (d : Placed) (r : Report) → Gives (acts ++ d ∷ []) r → Gives acts r ⊎ GivesNext acts d r
+pub gives_cases : (acts : List Placed) (d : Placed) (r : Report) → Gives (acts ++ d ∷ []) r
+    → Gives acts r ⊎ GivesNext acts d r
 gives_cases acts d r g = elim (ends g.after) [
   | inl none ↦ (
       let same = last_same acts g.before d g.placed (g.split ∙ ap (λ t. g.before ++ g.placed ∷ t) none) in

@@ -37,7 +37,8 @@ moved x = Moved (object_name x)
 
 -- what an act has to do with the marks for the new ones to stand for the facts behind it
 record Keeps (a : Act) (old new : List Bool) : Type 0 where
-  from : (x : ℕ) → is_marked new x ≡ true → ((is_marked old x ≡ true) × (removes a (moved x) ≡ false)) ⊎ Has (adds a) (moved x)
+  from : (x : ℕ) → is_marked new x ≡ true
+      → ((is_marked old x ≡ true) × (removes a (moved x) ≡ false)) ⊎ Has (adds a) (moved x)
   stays : (x : ℕ) → is_marked old x ≡ true → removes a (moved x) ≡ false → is_marked new x ≡ true
   added : (f : Fact) → Has (adds a) f → (x : ℕ) × (f ≡ moved x) × (is_marked new x ≡ true)
 
@@ -45,7 +46,8 @@ turned : (b : Bool) → not b ≡ true → b ≡ false
 turned true e = cc
 turned false e = refl
 
-stands_on : (a : Act) (old new : List Bool) (facts : List Fact) → Keeps a old new → Stands old facts → Stands new (effect a facts)
+stands_on : (a : Act) (old new : List Bool) (facts : List Fact) → Keeps a old new → Stands old facts
+    → Stands new (effect a facts)
 stands_on a old new facts k s = record {
   kept = λ x e. elim (k.from x e) [
     | inl h ↦ Has-append_left _ (adds a) _ (Has-filter_passes (λ f. not (removes a f)) facts _ (s.kept x h.0) (ap not h.1))
@@ -70,7 +72,8 @@ keeps_all a marks e f = record {
 }
 
 -- an act that removes one object
-clears : (a : Act) (marks : List Bool) (x : ℕ) → x < length marks → adds a ≡ [] → ((y : ℕ) → removes a (moved y) ≡ (x == y)) → Keeps a marks (slice_set marks x false)
+clears : (a : Act) (marks : List Bool) (x : ℕ) → x < length marks → adds a ≡ []
+    → ((y : ℕ) → removes a (moved y) ≡ (x == y)) → Keeps a marks (slice_set marks x false)
 clears a marks x l e f = record {
   from = λ y h. inl (at y (x == y) refl h);
   stays = λ y h g. (
@@ -80,7 +83,8 @@ clears a marks x l e f = record {
   added = λ g h. absurd (subst (λ t. Has t g) e h);
 }
   where
-    at : (y : ℕ) (b : Bool) → (x == y) ≡ b → is_marked (slice_set marks x false) y ≡ true → (is_marked marks y ≡ true) × (removes a (moved y) ≡ false)
+    at : (y : ℕ) (b : Bool) → (x == y) ≡ b → is_marked (slice_set marks x false) y ≡ true
+        → (is_marked marks y ≡ true) × (removes a (moved y) ≡ false)
     at y true s h =
         let same : x ≡ y = eqb-true x y s in
         let gone : false ≡ true = sym (get_or-set_same marks x false false l) ∙ subst (λ z. is_marked (slice_set marks x false) z ≡ true) (sym same) h in
@@ -91,7 +95,8 @@ clears a marks x l e f = record {
         (sym (get_or-set_other marks x y false false apart) ∙ h, f y ∙ s)
 
 -- an act that adds one object
-marks_one : (a : Act) (marks : List Bool) (x : ℕ) → x < length marks → adds a ≡ moved x ∷ [] → ((y : ℕ) → removes a (moved y) ≡ false) → Keeps a marks (slice_set marks x true)
+marks_one : (a : Act) (marks : List Bool) (x : ℕ) → x < length marks → adds a ≡ moved x ∷ []
+    → ((y : ℕ) → removes a (moved y) ≡ false) → Keeps a marks (slice_set marks x true)
 marks_one a marks x l e f = record {
   from = λ y h. at y (x == y) refl h;
   stays = λ y h g. rest y (x == y) refl h;
@@ -101,7 +106,8 @@ marks_one a marks x l e f = record {
   ];
 }
   where
-    at : (y : ℕ) (b : Bool) → (x == y) ≡ b → is_marked (slice_set marks x true) y ≡ true → ((is_marked marks y ≡ true) × (removes a (moved y) ≡ false)) ⊎ Has (adds a) (moved y)
+    at : (y : ℕ) (b : Bool) → (x == y) ≡ b → is_marked (slice_set marks x true) y ≡ true
+        → ((is_marked marks y ≡ true) × (removes a (moved y) ≡ false)) ⊎ Has (adds a) (moved y)
     at y true s h = inr (subst (λ t. Has t (moved y)) (sym e) (inl (ap moved (eqb-true x y s))))
     at y false s h =
         let other : x ≢ y = eqb-false x y s in
@@ -132,6 +138,7 @@ keeps (Free x) marks w = clears _ marks x (omega arith) refl (λ y. covers_it (x
 keeps (EndScope x) marks w = clears _ marks x (omega arith) refl (λ y. nat_eq_equiv.symm y x)
 keeps Return marks w = keeps_all _ marks refl (λ x. refl)
 
-pub stands_next : (d : Deed) (marks : List Bool) (facts : List Fact) → IsWithin (length marks - 1) d → Stands marks facts
+pub stands_next : (d : Deed) (marks : List Bool) (facts : List Fact) → IsWithin (length marks - 1) d
+    → Stands marks facts
     → Stands (marks_after marks d) (effect (act_of d) facts)
 stands_next d marks facts w s = stands_on (act_of d) marks (marks_after marks d) facts (keeps d marks w) s

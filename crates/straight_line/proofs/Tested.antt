@@ -31,13 +31,26 @@ forbidden_at y (Some t) =
 abbrev moved : ℕ → Fact
 moved y = Moved (object_name y)
 
+-- the tests of one move, as the rules compute them
+read_test : (b : Bool) → (b && true) ≡ b
+read_test true = refl
+read_test false = refl
+
+write_test : (b : Bool) → ((((b && true) || false) || false) || false) ≡ b
+write_test true = refl
+write_test false = refl
+
+free_test : (b : Bool) → ((b && true) || false) ≡ b
+free_test true = refl
+free_test false = refl
+
 pub forbids_is : (d : Deed) (y : ℕ) → forbids (act_of d) (Moved (object_name y)) ≡ forbidden_at y (test_of d)
-forbids_is (Read (Object x)) y = elim (y == x) as (λ b. forbidden_if (b && true) O1 (object_name x) (moved y) ≡ (if b then Some (record { rule = O1; name = object_name x; word = state.Moved }) else None)) [ true ↦ refl | false ↦ refl ]
-forbids_is (Read (Designated x)) y = elim (y == x) as (λ b. forbidden_if (b && true) O1 (designated_name x) (moved y) ≡ (if b then Some (record { rule = O1; name = designated_name x; word = state.Moved }) else None)) [ true ↦ refl | false ↦ refl ]
+forbids_is (Read (Object x)) y = ap (λ b. forbidden_if b O1 (object_name x) (moved y)) (read_test (y == x))
+forbids_is (Read (Designated x)) y = ap (λ b. forbidden_if b O1 (designated_name x) (moved y)) (read_test (y == x))
 forbids_is (Write (Object x)) y = refl
-forbids_is (Write (Designated x)) y = elim (y == x) as (λ b. forbidden_if (((((b && true) || false) || false)) || false) O3 (designated_name x) (moved y) ≡ (if b then Some (record { rule = O3; name = designated_name x; word = state.Moved }) else None)) [ true ↦ refl | false ↦ refl ]
-forbids_is (Move x) y = elim (y == x) as (λ b. forbidden_if (b && true) O4 (object_name x) (moved y) ≡ (if b then Some (record { rule = O4; name = object_name x; word = state.Moved }) else None)) [ true ↦ refl | false ↦ refl ]
-forbids_is (Free x) y = elim (y == x) as (λ b. forbidden_if ((b && true) || false) O14 (object_name x) (moved y) ≡ (if b then Some (record { rule = O14; name = object_name x; word = state.Moved }) else None)) [ true ↦ refl | false ↦ refl ]
+forbids_is (Write (Designated x)) y = ap (λ b. forbidden_if b O3 (designated_name x) (moved y)) (write_test (y == x))
+forbids_is (Move x) y = ap (λ b. forbidden_if b O4 (object_name x) (moved y)) (read_test (y == x))
+forbids_is (Free x) y = ap (λ b. forbidden_if b O14 (object_name x) (moved y)) (free_test (y == x))
 forbids_is (EndScope x) y = refl
 forbids_is Return y = refl
 
@@ -48,7 +61,8 @@ abbrev found_of : Rule × Place → Forbidden
 found_of t = record { rule = t.0; name = name_of t.1; word = state.Moved }
 
 -- what is forbidden by the move of a marked object is tested
-tested_by : (marks : List Bool) (pos : Pos) (y : ℕ) (t : Rule × Place) (found : Forbidden) (b : Bool) → (y == root_of t.1) ≡ b
+tested_by : (marks : List Bool) (pos : Pos) (y : ℕ) (t : Rule × Place) (found : Forbidden) (b : Bool)
+    → (y == root_of t.1) ≡ b
     → is_marked marks y ≡ true → (if b then Some (found_of t) else None) ≡ Some found
     → (r : PathReport) × (tested marks pos (Some t) ≡ Some r) × (report_of r ≡ given.report_at pos found)
 tested_by marks pos y t found true same marked e =
@@ -57,7 +71,8 @@ tested_by marks pos y t found true same marked e =
     (r, ap (λ b. if b then Some r else None) here, ap (given.report_at pos) (same_some (found_of t) found e))
 tested_by marks pos y t found false same marked e = cc
 
-tested_from : (marks : List Bool) (pos : Pos) (y : ℕ) (t : Option (Rule × Place)) (found : Forbidden) → is_marked marks y ≡ true
+tested_from : (marks : List Bool) (pos : Pos) (y : ℕ) (t : Option (Rule × Place)) (found : Forbidden)
+    → is_marked marks y ≡ true
     → forbidden_at y t ≡ Some found → (r : PathReport) × (tested marks pos t ≡ Some r) × (report_of r ≡ given.report_at pos found)
 tested_from marks pos y None found marked e = cc
 tested_from marks pos y (Some t) found marked e = tested_by marks pos y t found (y == root_of t.1) refl marked e
@@ -70,7 +85,8 @@ record IsForbidden (marks : List Bool) (pos : Pos) (t : Option (Rule × Place)) 
   forbidden : forbidden_at object t ≡ Some found
   reported : report_of r ≡ given.report_at pos found
 
-forbidden_by : (marks : List Bool) (pos : Pos) (t : Rule × Place) (r : PathReport) (b : Bool) → is_marked marks (root_of t.1) ≡ b
+forbidden_by : (marks : List Bool) (pos : Pos) (t : Rule × Place) (r : PathReport) (b : Bool)
+    → is_marked marks (root_of t.1) ≡ b
     → (if b then Some (record { pos = pos; rule = t.0; place = t.1 }) else None) ≡ Some r → IsForbidden marks pos (Some t) r
 forbidden_by marks pos t r true marked e = record {
   object = root_of t.1;
@@ -81,12 +97,14 @@ forbidden_by marks pos t r true marked e = record {
 }
 forbidden_by marks pos t r false marked e = cc
 
-forbidden_from : (marks : List Bool) (pos : Pos) (t : Option (Rule × Place)) (r : PathReport) → tested marks pos t ≡ Some r → IsForbidden marks pos t r
+forbidden_from : (marks : List Bool) (pos : Pos) (t : Option (Rule × Place)) (r : PathReport)
+    → tested marks pos t ≡ Some r → IsForbidden marks pos t r
 forbidden_from marks pos None r e = cc
 forbidden_from marks pos (Some t) r e = forbidden_by marks pos t r (is_marked marks (root_of t.1)) refl e
 
 -- the report of a deed is what its act gives
-pub given_reported : (acts : List Placed) (marks : List Bool) (d : PlacedDeed) (r : Report) → Stands marks (facts_after (acts_of acts))
+pub given_reported : (acts : List Placed) (marks : List Bool) (d : PlacedDeed) (r : Report)
+    → Stands marks (facts_after (acts_of acts))
     → GivesNext acts (placed_of d) r → (p : PathReport) × (report_at marks d ≡ Some p) × (report_of p ≡ r)
 given_reported acts marks d r s g =
     let which = s.only g.fact g.holds in
@@ -95,7 +113,8 @@ given_reported acts marks d r s g =
     let p = tested_from marks d.pos which.0 (test_of d.deed) g.found which.2 is in
     (p.0, p.1, p.2 ∙ sym g.reported)
 
-pub reported_given : (acts : List Placed) (marks : List Bool) (d : PlacedDeed) (p : PathReport) → Stands marks (facts_after (acts_of acts))
+pub reported_given : (acts : List Placed) (marks : List Bool) (d : PlacedDeed) (p : PathReport)
+    → Stands marks (facts_after (acts_of acts))
     → report_at marks d ≡ Some p → GivesNext acts (placed_of d) (report_of p)
 reported_given acts marks d p s e =
     let is = forbidden_from marks d.pos (test_of d.deed) p e in

@@ -62,7 +62,11 @@ entry_cmp = (entry_ord.ghosts).cmp
 
 -- The report that an entry stands for.
 abbrev pub report_in : Entry → PathReport
-report_in e = record { pos = e.pos; rule = e.rule; place = if e.is_designated then Designated (e.root).0 else Object (e.root).0 }
+report_in e = record {
+  pos = e.pos;
+  rule = e.rule;
+  place = if e.is_designated then Designated (e.root).0 else Object (e.root).0;
+}
 
 -- An entry has the text of its report's place.
 abbrev pub IsNamed : List (List ℕ) → Entry → Type 0

@@ -16,7 +16,8 @@ use std::alloc::{AllocError, Global};
 use std::cmp::Reverse;
 use std::collections::BTreeSet;
 
-/// A rule that a moved object breaks, with the place that the deed names (`docs/RULES.md`, "Reports").
+/// A rule that a deed breaks because its object was moved, and the place that the deed names (`docs/RULES.md`,
+/// "Reports").
 #[derive(Clone, Copy, Debug, PartialEq, Eq)]
 pub struct PathReport {
     /// Where the deed stands.
