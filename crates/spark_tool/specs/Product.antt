@@ -1,0 +1,87 @@
+-- What a command writes and answers (docs/TOOL.md, "Order of work").
+use Rattle.std.specs.Prelude.{◌≡◌, ℕ, List, [], ◌∷◌, Option, None, Some, Ok, Err}
+use Rattle.spark_base.specs.declared.position.Pos.{Pos}
+use Rattle.spark_base.specs.declared.limits.TheConstants.{SOURCE_BYTES, TOKENS}
+use Rattle.ada_lexer.specs.declared.refusal.LexRefusal.{LexRefusal}
+use Rattle.ada_lexer.specs.declared.refusal.LexRefusal.TheVariants.{BadByte, BadIdentifier, BadNumber, OpenString, TooMany, Memory}
+use Rattle.ada_lexer.specs.Places.{first_place}
+use Rattle.ada_lexer.specs.Tokens.{Cut}
+use Rattle.ada_parser.specs.declared.tree.SourceUnit.{SourceUnit}
+use Rattle.place_names.specs.Reports.{Report, Gives, IsReportList}
+use Rattle.straight_line.specs.Declarations.{object_texts}
+use Rattle.straight_line.specs.PathActs.{path_acts}
+use Rattle.straight_line.specs.Reported.{printed_name}
+use Rattle.rule_reports.specs.declared.code.Code.{Code}
+use Rattle.rule_reports.specs.declared.code.Code.TheVariants.{S1, L1, L2, L3, L4, L5, U1}
+use Rattle.rule_reports.specs.Lines.{refusal_line, report_lines, accepted_line, usage_line}
+use Rattle.spark_tool.specs.Commands.{Command, Check, command_of}
+use Rattle.spark_tool.specs.Reading.{Sources, Texts, TooLarge, Missing, sources}
+use Rattle.spark_tool.specs.Lexing.{all_tokens}
+use Rattle.spark_tool.specs.StraightSource.{IsStraightSource}
+
+-- The bytes for both outputs, and the status.
+pub record Answer : Type 0 where
+  pub out : List ℕ
+  pub err : List ℕ
+  pub status : ℕ
+
+-- One refusal line.
+abbrev pub refused : List (List ℕ) → Pos → Code → Answer
+refused names pos code = record { out = []; err = refusal_line names pos code; status = 2 }
+
+-- The usage line.
+abbrev pub misused : Answer
+misused = record { out = []; err = usage_line; status = 6 }
+
+-- The line that says that there is no report.
+abbrev pub accepted : Answer
+accepted = record { out = accepted_line; err = []; status = 0 }
+
+-- The lines of reports.
+abbrev pub rejected : List ℕ → Answer
+rejected lines = record { out = []; err = lines; status = 1 }
+
+-- A named file isn't there, and nothing is written.
+abbrev pub unread : Answer
+unread = record { out = []; err = []; status = 7 }
+
+-- A lexical fault, by its code and its place.
+abbrev pub lexically_refused : List (List ℕ) → LexRefusal → Answer
+lexically_refused names (BadByte pos) = refused names pos L1
+lexically_refused names (BadIdentifier pos) = refused names pos L2
+lexically_refused names (BadNumber pos) = refused names pos L3
+lexically_refused names (OpenString pos) = refused names pos L4
+lexically_refused names (TooMany pos) = refused names pos L5
+-- the definition of tokens doesn't give this
+lexically_refused names Memory = record { out = []; err = []; status = 9 }
+
+-- The reports, or that there are none.
+abbrev pub judged : List (List ℕ) → List (List ℕ) → List Report → Answer
+judged names objects [] = accepted
+judged names objects (report ∷ more) = rejected (report_lines names (printed_name objects) (report ∷ more))
+
+-- What `check` answers on the sources of the named files. The first row that applies decides.
+pub data Checks (names : List (List ℕ)) : Sources → Answer → Type 0 where
+  -- a named file isn't there
+  missing : Checks names Missing unread
+  -- a file has the first byte past the limit
+  too_large : (file : ℕ) → Checks names (TooLarge file) (refused names (first_place file) S1)
+  -- the first lexical fault over all files in order
+  lexical : (texts : List (List ℕ)) (fault : LexRefusal) → all_tokens 0 TOKENS texts ≡ Err fault
+      → Checks names (Texts texts) (lexically_refused names fault)
+  -- the sources aren't one file of the straight-line form
+  not_built : (texts : List (List ℕ)) (cuts : List (List Cut)) → all_tokens 0 TOKENS texts ≡ Ok cuts
+      → ((unit : SourceUnit) → ¬ IsStraightSource unit cuts) → Checks names (Texts texts) (refused names (first_place 0) U1)
+  -- the reports of the one control path
+  checked : (texts : List (List ℕ)) (cuts : List (List Cut)) (unit : SourceUnit) (reports : List Report)
+      → all_tokens 0 TOKENS texts ≡ Ok cuts → IsStraightSource unit cuts
+      → IsReportList (printed_name (object_texts unit)) (Gives (path_acts unit)) reports
+      → Checks names (Texts texts) (judged names (object_texts unit) reports)
+
+-- What the tool answers to words over the files of a store.
+pub data Product (stored : List (List ℕ × List ℕ)) (words : List (List ℕ)) : Answer → Type 0 where
+  -- the words give no command
+  usage : command_of words ≡ None → Product stored words misused
+  -- check FILE..
+  check : (names : List (List ℕ)) (answer : Answer) → command_of words ≡ Some (Check names)
+      → Checks names (sources stored 0 SOURCE_BYTES names) answer → Product stored words answer

@@ -1,0 +1,31 @@
+-- The path of a straight-line source, as a program holds it.
+use Rattle.std.specs.Prelude.{◌≡◌, ◌<◌, ℕ, List, All, length, map}
+use Rattle.ada_lexer.specs.Tokens.{Cut}
+use Rattle.ada_parser.specs.declared.tree.SourceUnit.{SourceUnit}
+use Rattle.place_names.specs.Reports.{Report, Gives, IsReportList}
+use Rattle.straight_line.specs.declared.path.StraightPath.{StraightPath}
+use Rattle.straight_line.specs.Declarations.{object_texts}
+use Rattle.straight_line.specs.Deeds.{placed_of}
+use Rattle.straight_line.specs.PathActs.{path_acts}
+use Rattle.straight_line.specs.Reported.{printed_name}
+use Rattle.straight_line.specs.Within.{AreWithin}
+use Rattle.spark_tool.specs.StraightSource.{IsStraightFile}
+use Rattle.spark_tool.specs.Product.{Answer, judged}
+
+-- The tokens are those of a file of the form, and the path is its one control path.
+pub record IsPathOf (cuts : List Cut) (path : StraightPath) : Type 0 where
+  pub unit : SourceUnit
+  pub file : IsStraightFile unit cuts
+  pub objects : path.objects.items ≡ object_texts unit
+  pub acts : map placed_of path.deeds.items ≡ path_acts unit
+
+-- Each deed names an object of the path, and stands in one of the first n files.
+pub record CanPrint (n : ℕ) (path : StraightPath) : Type 0 where
+  pub objects : AreWithin (length path.objects.items) path.deeds.items
+  pub files : All (λ deed. deed.pos.file < n) path.deeds.items
+
+-- The answer has exactly the reports of the path.
+pub record Judges (names : List (List ℕ)) (path : StraightPath) (answer : Answer) : Type 0 where
+  pub reports : List Report
+  pub exact : IsReportList (printed_name path.objects.items) (Gives (map placed_of path.deeds.items)) reports
+  pub judged : answer ≡ judged names path.objects.items reports

@@ -1,0 +1,97 @@
+//! What a command writes and answers.
+ghost use Rattle.std.specs.Prelude.{◌≡◌, ◌<◌, IfOk, [], length, map, string_bytes};
+ghost use Rattle.ada_lexer.specs.Places.{first_place};
+ghost use Rattle.spark_tool.specs.Product as spec;
+ghost use Rattle.spark_tool.specs.Answers.{answer_of};
+
+use rule_reports::{Code, accepted_line, refusal_line, usage_line};
+use spark_base::Pos;
+use std::alloc::{AllocError, Global};
+
+/// One of the two outputs.
+#[derive(Clone, Copy, Debug, PartialEq, Eq)]
+pub(crate) enum Stream {
+    /// What standard output is for.
+    Out,
+    /// What standard error is for.
+    Err,
+}
+
+/// The bytes that a command writes, all to one output, and the status.
+#[derive(Debug, Drop)]
+pub(crate) struct Answer {
+    /// Where the bytes go.
+    pub(crate) stream: Stream,
+    /// The bytes.
+    pub(crate) text: Vec<u8>,
+    /// The status of the program.
+    pub(crate) status: u8,
+}
+
+/// The words give no command.
+pub(crate) fn misused(alloc: Global) -> Result<Answer, AllocError>
+    ensures { IfOk result (λ answer. answer_of answer ≡ spec.misused) }
+{
+    Ok(Answer {
+        stream: Stream::Err,
+        text: Vec::from_slice(alloc, usage_line().as_bytes())?,
+        status: 6,
+    })
+}
+
+/// One refusal line.
+pub(crate) fn refused(
+    alloc: Global,
+    names: &[String],
+    pos: Pos,
+    code: Code,
+) -> Result<Answer, AllocError>
+    requires { pos.file < length names.now }
+    ensures { IfOk result (λ answer. answer_of answer ≡ spec.refused (map string_bytes names.now) pos code) }
+{
+    Ok(Answer {
+        stream: Stream::Err,
+        text: refusal_line(alloc, names, pos, code)?,
+        status: 2,
+    })
+}
+
+/// A refusal at the first place of a file.
+pub(crate) fn refused_file(
+    alloc: Global,
+    names: &[String],
+    file: u16,
+    code: Code,
+) -> Result<Answer, AllocError>
+    requires { file < length names.now }
+    ensures { IfOk result (λ answer. answer_of answer ≡ spec.refused (map string_bytes names.now) (first_place file) code) }
+{
+    let pos = Pos {
+        file,
+        line: 1,
+        column: 1,
+    };
+    Ok(refused(alloc, names, pos, code)?)
+}
+
+/// No report.
+pub(crate) fn accepted(alloc: Global) -> Result<Answer, AllocError>
+    ensures { IfOk result (λ answer. answer_of answer ≡ spec.accepted) }
+{
+    Ok(Answer {
+        stream: Stream::Out,
+        text: Vec::from_slice(alloc, accepted_line().as_bytes())?,
+        status: 0,
+    })
+}
+
+/// The lines of reports.
+pub(crate) fn rejected(lines: Vec<u8>) -> Answer
+    ensures { answer_of result ≡ spec.rejected lines.items }
+{
+    Answer {
+        stream: Stream::Err,
+        text: lines,
+        status: 1,
+    }
+}
