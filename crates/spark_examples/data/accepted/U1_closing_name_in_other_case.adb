@@ -1,0 +1,10 @@
+--  U1: the name after end is the procedure's, in any letter case.
+--> spark check U1_closing_name_in_other_case.adb
+--> status 0
+--> out accepted
+with Ada.Unchecked_Deallocation;
+procedure Main is
+   N : Integer;
+begin
+   N := 1;
+end MAIN;

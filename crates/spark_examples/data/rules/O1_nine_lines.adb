@@ -1,0 +1,13 @@
+--  O1: a name that was moved may not be read. All acts stand on one line here.
+--> spark check O1_nine_lines.adb
+--> status 1
+--> err O1_nine_lines.adb:12:36: O1 X.all: moved
+with Ada.Unchecked_Deallocation;
+procedure Main is
+type Int_Ptr is access Integer;
+procedure Free is new Ada.Unchecked_Deallocation (Integer, Int_Ptr);
+X, Y : Int_Ptr;
+N : Integer;
+begin
+X := new Integer'(7); Y := X; N := X.all; Free (Y);
+end Main;

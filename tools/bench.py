@@ -1,0 +1,110 @@
+#!/usr/bin/env python3
+"""Times `./spark check` on sources of 4 MiB, and prints a row for each; docs/COSTS.md has the rows.
+
+    python3 tools/bench.py [FOLDER]
+
+The sources are written to FOLDER, or to a temporary folder that is removed at the end. /usr/bin/time of GNU is needed.
+"""
+import pathlib
+import subprocess
+import sys
+import tempfile
+
+TOP = pathlib.Path(__file__).resolve().parent.parent
+SOURCE_BYTES = 4_194_304
+TOKENS = 1_000_000
+STATEMENTS = 15_000
+OBJECTS = 512
+
+RESERVED = """abort abs abstract accept access aliased all and array at begin body case constant declare delay delta
+    digits do else elsif end entry exception exit for function generic goto if in interface is limited loop mod new not
+    null of or others out overriding package pragma private procedure protected raise range record rem renames requeue
+    return reverse select separate some subtype synchronized tagged task terminate then type until use when while with
+    xor""".split()
+DELIMITERS = "& ' ( ) * + , - . / : ; < = > | => .. := /= >= <=".split()
+
+
+def filled(text):
+    """The text, made SOURCE_BYTES long by a last comment."""
+    rest = SOURCE_BYTES - len(text)
+    assert rest >= 3
+    return text + "--" + "=" * (rest - 3) + "\n"
+
+
+def form(statement):
+    """A source of the straight-line form with as many objects and statements as may be, and long names and comments."""
+    names = ["Object_%03d_" % i + "X" * 50 for i in range(OBJECTS)]
+    lines = ["with Ada.Unchecked_Deallocation;", "procedure Main is", "   type Int_Ptr is access Integer;"]
+    lines += ["   procedure Free is new Ada.Unchecked_Deallocation (Integer, Int_Ptr);"]
+    lines += ["   %s : Int_Ptr;" % name for name in names]
+    lines += ["begin"]
+    for i in range(STATEMENTS):
+        lines.append("   " + statement(names, i) + "  --  " + "c" * 100)
+    lines.append("end Main;")
+    return filled("\n".join(lines) + "\n")
+
+
+def moved_on(names, i):
+    """Each object is moved to the next one, so nothing is reported."""
+    return "%s := %s;" % (names[(i + 1) % OBJECTS], names[i % OBJECTS])
+
+
+def moved_again(names, i):
+    """The first object is moved in each statement, so each but the first is reported."""
+    return "%s := %s;" % (names[1 + i % (OBJECTS - 1)], names[0])
+
+
+def token_kinds():
+    """A text of all kinds of tokens, separators and comments."""
+    line = " ".join(RESERVED) + " " + " ".join(word.upper() for word in RESERVED) + "\t" + " ".join(DELIMITERS)
+    line += ' A_1 Object 0 7 1_000 2147483648 "a string with ""quotes"" in it" "" \v\f\r\n--  a comment \xe4\xf6\xfc\n'
+    per_line = 2 * len(RESERVED) + len(DELIMITERS) + 8
+    return filled(line * min(TOKENS // per_line, SOURCE_BYTES // len(line) - 1))
+
+
+def cases():
+    """Each source with its name, and how `check` has to end: the status, and the lines on both outputs together."""
+    yield "form_accepted", form(moved_on), 0, 1
+    yield "form_reports", form(moved_again), 1, STATEMENTS - 1
+    yield "token_kinds", token_kinds(), 2, 1
+
+
+def measured(path, status, lines):
+    """Seconds and MiB of one run, which has to end as it should."""
+    times = path.with_suffix(".time")
+    command = ["/usr/bin/time", "-v", "-o", str(times), str(TOP / "spark"), "check", path.name]
+    run = subprocess.run(command, cwd=path.parent, stdin=subprocess.DEVNULL, capture_output=True)
+    written = (run.stdout + run.stderr).count(b"\n")
+    if (run.returncode, written) != (status, lines):
+        sys.exit("%s: status %d and %d lines in place of %d and %d" % (path.name, run.returncode, written, status, lines))
+    values = dict(line.strip().rsplit(": ", 1) for line in times.read_text().splitlines() if ": " in line)
+    clock = values["Elapsed (wall clock) time (h:mm:ss or m:ss)"].split(":")
+    seconds = sum(float(part) * 60**place for place, part in enumerate(reversed(clock)))
+    return seconds, int(values["Maximum resident set size (kbytes)"]) / 1024
+
+
+def bench(folder):
+    # builds what there is to build, outside the times
+    subprocess.run([str(TOP / "spark")], stdin=subprocess.DEVNULL, capture_output=True)
+    print("| source | bytes | status | lines | seconds | MiB |")
+    print("|---|---|---|---|---|---|")
+    for name, text, status, lines in cases():
+        path = folder / (name + ".adb")
+        path.write_bytes(text.encode("latin-1"))
+        assert path.stat().st_size == SOURCE_BYTES
+        seconds, mib = measured(path, status, lines)
+        print("| %s | %d | %d | %d | %.2f | %.0f |" % (name, SOURCE_BYTES, status, lines, seconds, mib))
+
+
+def main():
+    if len(sys.argv) > 1:
+        folder = pathlib.Path(sys.argv[1])
+        folder.mkdir(parents=True, exist_ok=True)
+        bench(folder)
+    else:
+        with tempfile.TemporaryDirectory() as folder:
+            bench(pathlib.Path(folder))
+
+
+if __name__ == "__main__":
+    main()
