@@ -155,4 +155,6 @@ known_no_path all held found same is out =
 
 -- want of memory has no code
 pub no_code : (fault : LexRefusal) (pos : Pos) (code : Code) → fault ≡ Memory → lexical_code fault ≡ Some (pos, code) → ⊥
-no_code fault pos code is coded = let none : None ≡ Some (pos, code) = ap lexical_code (sym is) ∙ coded in cc
+no_code fault pos code is coded =
+    let none : Option (Pos × Code) = None in
+    let same : none ≡ Some (pos, code) = ap lexical_code (sym is) ∙ coded in cc

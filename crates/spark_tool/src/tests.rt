@@ -12,18 +12,19 @@ const HEAD: &str =
 const USAGE: &str =
     "usage: spark check FILE... | run [--steps=N] [--stats] FILE... | leaks FILE... | make N | selftest N\n";
 
-/// Which calls of each object fail.
+/// The number of a call of each object that fails.
 #[derive(Clone, Copy)]
-struct Faults<'a> {
-    files: &'a [u64],
-    out: &'a [u64],
-    err: &'a [u64],
+struct Faults {
+    files: u64,
+    out: u64,
+    err: u64,
 }
 
-const NO_FAULTS: Faults<'static> = Faults {
-    files: &[],
-    out: &[],
-    err: &[],
+/// No call has so large a number.
+const NO_FAULTS: Faults = Faults {
+    files: 1_000_000,
+    out: 1_000_000,
+    err: 1_000_000,
 };
 
 /// What a command wrote and answered.
@@ -34,12 +35,13 @@ struct Seen {
     status: u8,
 }
 
-fn texts(alloc: Global, words: &[&str]) -> Result<Vec<String>, AllocError> {
-    let mut owned = Vec::new(alloc);
-    for word in words {
-        owned.push(String::from_str(alloc, word)?)?;
+/// The words of a line, with a blank between two.
+fn words_of(alloc: Global, line: &str) -> Result<Vec<String>, AllocError> {
+    let mut words = Vec::new(alloc);
+    for word in line.split(' ') {
+        words.push(String::from_str(alloc, word)?)?;
     }
-    Ok(owned)
+    Ok(words)
 }
 
 fn copied(alloc: Global, words: &[String]) -> Result<Vec<String>, AllocError>
@@ -56,12 +58,12 @@ fn run(
     alloc: Global,
     words: &[String],
     stored: Vec<(String, Vec<u8>)>,
-    faults: Faults<'_>,
+    faults: Faults,
 ) -> Result<Seen, AllocError> {
-    let mut files = MemFiles::new(copied(alloc, words)?, stored, faults.files.to_vec(alloc)?);
+    let mut files = MemFiles::new(copied(alloc, words)?, stored, vec![in alloc; faults.files]?);
     let mut input = MemSource::new(Vec::new(alloc), Vec::new(alloc));
-    let mut out = MemSink::new(alloc, faults.out.to_vec(alloc)?);
-    let mut err = MemSink::new(alloc, faults.err.to_vec(alloc)?);
+    let mut out = MemSink::new(alloc, vec![in alloc; faults.out]?);
+    let mut err = MemSink::new(alloc, vec![in alloc; faults.err]?);
     let status = run_tool(alloc, words, &mut files, &mut input, &mut out, &mut err);
     Ok(Seen { out, err, status })
 }
@@ -71,9 +73,9 @@ fn check(
     alloc: Global,
     first: Vec<u8>,
     second: Option<Vec<u8>>,
-    faults: Faults<'_>,
+    faults: Faults,
 ) -> Result<Seen, AllocError> {
-    let mut words = texts(alloc, &["check", "f.adb"])?;
+    let mut words = words_of(alloc, "check f.adb")?;
     let mut stored = Vec::new(alloc);
     stored.push((String::from_str(alloc, "f.adb")?, first))?;
     if let Some(second) = second {
@@ -81,6 +83,17 @@ fn check(
         stored.push((String::from_str(alloc, "g.adb")?, second))?;
     }
     run(alloc, &words, stored, faults)
+}
+
+/// The answer of `check f.adb` where the calls with these numbers fail.
+fn check_faulty(
+    alloc: Global,
+    text: Vec<u8>,
+    files: u64,
+    out: u64,
+    err: u64,
+) -> Result<Seen, AllocError> {
+    check(alloc, text, None, Faults { files, out, err })
 }
 
 /// A text of so many bytes.
@@ -160,25 +173,28 @@ fn one_line_of_statements(rt: HostRuntime) -> Result<(), Fail> {
 #[test]
 fn words_out_of_form(rt: HostRuntime) -> Result<(), Fail> {
     let alloc = rt.alloc();
-    for words in [
-        [].as_slice(),
-        ["check"].as_slice(),
-        ["check", ""].as_slice(),
-        ["check", "-"].as_slice(),
-        ["check", "--"].as_slice(),
-        ["check", "f.adb", "-x"].as_slice(),
-        ["Check", "f.adb"].as_slice(),
-        ["", "f.adb"].as_slice(),
-        ["run", "f.adb"].as_slice(),
-        ["selftest", "3"].as_slice(),
-        ["--help"].as_slice(),
+    for line in [
+        "",
+        "check",
+        "check ",
+        "check -",
+        "check --",
+        "check f.adb -x",
+        "Check f.adb",
+        " f.adb",
+        "run f.adb",
+        "selftest 3",
+        "--help",
     ] {
-        let owned = texts(alloc, words)?;
-        let seen = run(alloc, &owned, Vec::new(alloc), NO_FAULTS)?;
-        assert_eq!(rt; seen.status, 6);
+        let words = words_of(alloc, line)?;
+        let seen = run(alloc, &words, Vec::new(alloc), NO_FAULTS)?;
+        assert_eq!(rt; seen.status, 6, "{line}");
         assert_eq!(rt; seen.out.bytes(), b"".as_slice());
         assert_eq!(rt; seen.err.bytes(), USAGE.as_bytes());
     }
+    let seen = run(alloc, &[], Vec::new(alloc), NO_FAULTS)?;
+    assert_eq!(rt; seen.status, 6);
+    assert_eq!(rt; seen.err.bytes(), USAGE.as_bytes());
     Ok(())
 }
 
@@ -186,7 +202,7 @@ fn words_out_of_form(rt: HostRuntime) -> Result<(), Fail> {
 fn many_files(rt: HostRuntime) -> Result<(), Fail> {
     let alloc = rt.alloc();
     for (count, err, status) in [(64, "f.adb:1:1: U1 form not built\n", 2), (65, USAGE, 6)] {
-        let mut words = texts(alloc, &["check"])?;
+        let mut words = words_of(alloc, "check")?;
         let mut stored = Vec::new(alloc);
         for _file in 0..count {
             words.push(String::from_str(alloc, "f.adb")?)?;
@@ -241,24 +257,24 @@ fn limits(rt: HostRuntime) -> Result<(), Fail> {
 #[test]
 fn faults_of_the_outside(rt: HostRuntime) -> Result<(), Fail> {
     let alloc = rt.alloc();
-    let faulty = |files, out, err| Faults { files, out, err };
-    for (line, faults, status) in [
-        ("Y := X; Free (X);", faulty(&[0], &[], &[]), 7),
-        ("Y := X; Free (X);", faulty(&[1], &[], &[]), 7),
-        ("Y := X; Free (X);", faulty(&[2], &[], &[]), 7),
-        ("Y := X; Free (X);", faulty(&[], &[], &[0]), 8),
-        ("null;", faulty(&[], &[0], &[]), 8),
+    // The numbers of the failing calls of the files, the first output and the second; 9 is none of them.
+    for (line, files, out, err, status) in [
+        ("Y := X; Free (X);", 0, 9, 9, 7),
+        ("Y := X; Free (X);", 1, 9, 9, 7),
+        ("Y := X; Free (X);", 2, 9, 9, 7),
+        ("Y := X; Free (X);", 9, 9, 0, 8),
+        ("null;", 9, 0, 9, 8),
     ] {
-        let seen = check(alloc, with_line(alloc, line)?, None, faults)?;
+        let seen = check_faulty(alloc, with_line(alloc, line)?, files, out, err)?;
         assert_eq!(rt; seen.status, status, "{line}");
         assert_eq!(rt; seen.out.bytes(), b"".as_slice());
         assert_eq!(rt; seen.err.bytes(), b"".as_slice());
     }
-    for (line, faults, status) in [
-        ("Y := X; Free (X);", faulty(&[3], &[0], &[1]), 1),
-        ("null;", faulty(&[3], &[1], &[0]), 0),
+    for (line, files, out, err, status) in [
+        ("Y := X; Free (X);", 3, 0, 1, 1),
+        ("null;", 3, 1, 0, 0),
     ] {
-        let seen = check(alloc, with_line(alloc, line)?, None, faults)?;
+        let seen = check_faulty(alloc, with_line(alloc, line)?, files, out, err)?;
         assert_eq!(rt; seen.status, status, "{line}");
     }
     Ok(())
@@ -267,7 +283,7 @@ fn faults_of_the_outside(rt: HostRuntime) -> Result<(), Fail> {
 #[test]
 fn a_missing_file(rt: HostRuntime) -> Result<(), Fail> {
     let alloc = rt.alloc();
-    let words = texts(alloc, &["check", "f.adb", "z.adb"])?;
+    let words = words_of(alloc, "check f.adb z.adb")?;
     let mut stored = Vec::new(alloc);
     stored.push((String::from_str(alloc, "f.adb")?, with_line(alloc, "?")?))?;
     let seen = run(alloc, &words, stored, NO_FAULTS)?;
