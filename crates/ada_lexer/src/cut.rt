@@ -2,13 +2,14 @@
 
 ghost use Rattle.std.specs.Prelude.{◌≡◌, ◌≢◌, ◌≤◌, ◌+◌, Ok, Err, IfOk, IfErr, All, AllPairs, length, map};
 ghost use Rattle.ada_lexer.specs.Places.{IsBefore};
-ghost use Rattle.ada_lexer.specs.Tokens.{refusal_at, tokens, cut_of, kinds_of, EndsOnce, StandsIn, NamesFile};
+ghost use Rattle.ada_lexer.specs.Tokens.{refusal_at, tokens, cut_of, kinds_of};
+ghost use Rattle.ada_lexer.specs.Tokens.{EndsOnce, StandsIn, NamesFile};
 
 use crate::piece::{Fault, Piece, first_piece};
 use crate::place::{behind, first_place};
 use crate::refusal::LexRefusal;
 use crate::token::{Token, TokenKind};
-use spark_base::Pos;
+use spark_base::{Pos, SOURCE_BYTES};
 use std::alloc::Global;
 
 /// The refusal for a fault at a place.
@@ -38,7 +39,7 @@ pub fn lex<'s>(
     text: &'s [u8],
     room: u32,
 ) -> Result<Vec<Token<'s>>, LexRefusal>
-    requires { length text.now ≤ 4194304 }
+    requires { length text.now ≤ SOURCE_BYTES }
     // what is found, and each fault but a want of memory, is what the definition says
     ensures found { IfOk result (λ found. tokens file text.now room ≡ Ok (map cut_of found.items)) }
     ensures fault { IfErr result (λ fault. fault ≢ LexRefusal.Memory → tokens file text.now room ≡ Err fault) }

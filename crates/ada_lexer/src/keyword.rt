@@ -115,7 +115,8 @@ fn is_same_word(a: &[u8], b: &[u8]) -> bool
 
 /// The entry of a table whose spelling is `word` but for letter case.
 fn entry_of(mut table: &[(&[u8], Reserved)], word: &[u8]) -> Option<Reserved>
-    ensures { result ≡ spec.entry_of (map (λ entry. (entry.0.now, entry.1)) table.entry.now) word.now }
+    ensures { let entries = map (λ entry. (entry.0.now, entry.1)) table.entry.now in
+        result ≡ spec.entry_of entries word.now }
 {
     'entries: while let [entry, rest @ ..] = table {
         if is_same_word(entry.0, word) {

@@ -1,5 +1,5 @@
 use crate::{LexRefusal, Reserved, Symbol, Token, TokenKind, lex};
-use spark_base::Pos;
+use spark_base::{Pos, SOURCE_BYTES};
 use std::alloc::{AllocError, Global};
 use std::test::Fail;
 
@@ -13,7 +13,7 @@ fn at(line: u32, column: u32) -> Pos {
 
 /// The tokens of a text, which is file 3.
 fn tokens<'s>(alloc: Global, text: &'s [u8], room: u32) -> Result<Vec<Token<'s>>, LexRefusal> {
-    if text.len() > 4_194_304 {
+    if text.len() > SOURCE_BYTES {
         return Err(LexRefusal::Memory);
     }
     lex(alloc, 3, text, room)

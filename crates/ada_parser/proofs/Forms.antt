@@ -1,7 +1,6 @@
 -- The law of each form of the grammar.
-use Rattle.std.proofs.Common.{◌≡◌, refl, sym, ap, ◌∙◌, subst, ℕ, Bool, true, false, List, [], ◌∷◌, ◌++◌, ◌⊎◌, inl, inr, Some}
+use Rattle.std.proofs.Common.{◌≡◌, refl, sym, ap, ◌∙◌, subst, ℕ, true, false, List, [], ◌∷◌, ◌++◌, ◌⊎◌, inl, inr}
 use Rattle.std.specs.List.{flat_map}
-use Rattle.std.proofs.lemmas.List.{append_assoc}
 use Rattle.spark_base.specs.declared.position.Pos.{Pos}
 use Rattle.ada_lexer.specs.declared.token.Reserved.TheVariants.{KwAccess, KwAll, KwBegin, KwEnd, KwIs, KwNew, KwNull, KwProcedure, KwType, KwWith}
 use Rattle.ada_lexer.specs.declared.token.Symbol.TheVariants.{Apostrophe, Becomes, Colon, Comma, Dot, LeftParenthesis, RightParenthesis, Semicolon}
@@ -17,13 +16,13 @@ use Rattle.ada_parser.specs.declared.tree.NextIdentifier.TheVariants.{After}
 use Rattle.ada_parser.specs.declared.tree.Item.{Item}
 use Rattle.ada_parser.specs.declared.tree.Item.TheVariants.{AccessType, Instance, Objects}
 use Rattle.ada_parser.specs.declared.tree.SourceUnit.{SourceUnit}
-use Rattle.ada_parser.specs.Spelled.{Spelled, Word, Ident, Number, Delimiter, EndOfFile}
+use Rattle.ada_parser.specs.Spelled.{Spelled, Word, Number, Delimiter, EndOfFile}
 use Rattle.ada_parser.specs.Spelling.{id_token, name_tokens, value_tokens, stmt_tokens, next_tokens, item_tokens, unit_tokens, Spelling}
 use Rattle.ada_parser.specs.WellPlaced.{Each, StartsAt, NamePlaced, ValuePlaced, StmtPlaced, ItemPlaced, WellPlaced}
 use Rattle.ada_parser.specs.FixedNames.{IsCalled, ada_name, deallocation_name, integer_name, ValueNamed, StmtNamed, ItemNamed, FixedNames}
-use Rattle.ada_parser.specs.Reading.{Reader, of_word, of_symbol, of_ident, of_number, word, symbol, ident, ident_called, number, file_end, nothing, to, seq, choose, many}
+use Rattle.ada_parser.specs.Reading.{Reader, of_word, of_symbol, of_ident, of_number, word, symbol, ident, number, nothing, to, seq, choose}
 use Rattle.ada_parser.specs.Readers as r
-use Rattle.ada_parser.proofs.Law.{Law, Any, Both, Either, cases, some_same, law_word, law_symbol, law_ident, law_called, law_number, law_end, law_nothing, law_seq, law_choose, law_to, law_same, law_wider}
+use Rattle.ada_parser.proofs.Law.{Law, Any, Both, Either, cases, some_same, law_word, law_symbol, law_ident, law_called, law_number, law_end, law_nothing, law_seq, law_choose, law_to, law_same}
 use Rattle.ada_parser.proofs.Many.{law_many, shorter, Shortens}
 use Rattle.ada_parser.proofs.Fronts.{Same, of_pair, either_choice, chain_seq, seq_made}
 
@@ -54,7 +53,7 @@ name_after_same : (object : Identifier) → Same (r.name_after object) (to (make
 unfolding r.name_after
 name_after_same object =
     either_choice (of_symbol Dot ∷ []) (r.make_designated object) (r.make_object object) r.dereference nothing
-        (to (r.make_designated object) r.dereference) (to (r.make_object object) nothing) (λ ts. refl) (λ ts. refl)
+    (to (r.make_designated object) r.dereference) (to (r.make_object object) nothing) (λ ts. refl) (λ ts. refl)
 
 abbrev NameParts : Type 0
 NameParts = Identifier × Behind
@@ -167,9 +166,10 @@ value_onto (value.Number pos n) good = (inl (pos, n), (tt, refl))
 value_onto (value.NullAccess pos) good = (inr (inl pos), (tt, refl))
 value_onto (value.Named pos n) good =
     (inr (inr (inr n)), (good.0.1, ap (λ q. value.Named q n) (pos_of_starts n pos good.0.0 good.0.1)))
-value_onto (value.Allocator pos designated apostrophe left number_pos n right) good =
-    (inr (inr (inl (pos, (designated, (apostrophe, (left, ((number_pos, n), right))))))),
-        ((tt, (good.1, (tt, (tt, (tt, tt))))), refl))
+value_onto (value.Allocator pos designated apostrophe left number_pos n right) good = (
+  inr (inr (inl (pos, (designated, (apostrophe, (left, ((number_pos, n), right))))))),
+  ((tt, (good.1, (tt, (tt, (tt, tt))))), refl),
+)
 
 law_value : Law r.value_of GoodValue value_tokens
     (of_number ∷ of_word KwNull ∷ of_word KwNew ∷ of_ident ∷ []) (of_symbol Dot ∷ []) false
@@ -253,22 +253,31 @@ stmt_makes : (x : StmtParts) → StmtPartsGood x → GoodStmt (make_stmt x) × (
 unfolding stmt_tokens StmtPlaced StmtNamed StartsAt
 stmt_makes (inl x) good = ((tt, tt), refl)
 stmt_makes (inr (i, inl x)) good = ((refl, tt), refl)
-stmt_makes (inr (i, inr (b, x))) good =
-    (((name_starts i b, name_placed i b, good.1.1.1.0.0), good.1.1.1.0.1),
-        ap (λ u. u ++ assigned_tokens x) (name_spelled i b))
+stmt_makes (inr (i, inr (b, x))) good = (
+  ((name_starts i b, name_placed i b, good.1.1.1.0.0), good.1.1.1.0.1),
+  ap (λ u. u ++ assigned_tokens x) (name_spelled i b),
+)
 
 stmt_onto : (st : Stmt) → GoodStmt st → (x : StmtParts) × (StmtPartsGood x × (make_stmt x ≡ st))
 unfolding StmtPlaced StmtNamed StartsAt
 stmt_onto (Null pos end) good = (inl (pos, end), ((tt, tt), refl))
-stmt_onto (Call pos callee left actual right end) good =
-    (inr (callee, inl (left, (actual, (right, end)))), ((tt, (tt, (tt, (tt, tt)))),
-        ap (λ q. Call q callee left actual right end) (some_same callee.pos pos good.0)))
+stmt_onto (Call pos callee left actual right end) good = (
+  inr (callee, inl (left, (actual, (right, end)))),
+  (
+    (tt, (tt, (tt, (tt, tt)))),
+    ap (λ q. Call q callee left actual right end) (some_same callee.pos pos good.0),
+  ),
+)
 stmt_onto (Assign pos target becomes v end) good =
     let from = name_onto target good.0.1 in
     let same : Assign (r.name_pos target) target becomes v end ≡ Assign pos target becomes v end =
-        ap (λ q. Assign q target becomes v end) (pos_of_starts target pos good.0.0 good.0.1) in
-    (inr (from.0.0, inr (from.0.1, (becomes, (v, end)))), ((tt, (from.1.0.1, (tt, ((good.0.2, good.1), tt)))),
-        ap (λ n. Assign (r.name_pos n) n becomes v end) from.1.1 ∙ same))
+    ap (λ q. Assign q target becomes v end) (pos_of_starts target pos good.0.0 good.0.1) in (
+      inr (from.0.0, inr (from.0.1, (becomes, (v, end)))),
+      (
+        (tt, (from.1.0.1, (tt, ((good.0.2, good.1), tt)))),
+        ap (λ n. Assign (r.name_pos n) n becomes v end) from.1.1 ∙ same,
+      ),
+    )
 
 pub law_stmt : Law r.stmt GoodStmt stmt_tokens (of_word KwNull ∷ of_ident ∷ []) [] false
 law_stmt = law_same r.stmt (law_to make_stmt GoodStmt stmt_tokens law_stmt_parts stmt_makes stmt_onto) stmt_same
@@ -385,12 +394,17 @@ item_onto : (i : Item) → GoodItem i → (x : ItemParts) × (ItemPartsGood x ×
 unfolding ItemPlaced ItemNamed StartsAt
 item_onto (AccessType pos name is access designated end) good =
     (inl (pos, (name, (is, (access, (designated, end))))), ((tt, (tt, (tt, (tt, (good.1, tt))))), refl))
-item_onto (Instance pos name is new ada dot deallocation left designated comma access right end) good =
-    (inr (inl (pos, (name, (is, (new, ((ada, (dot, deallocation)), (left, (designated, (comma, (access, (right, end))))))))))),
-        ((tt, (tt, (tt, (tt, ((good.1.0, (tt, good.1.1)), (tt, (good.1.2, (tt, (tt, (tt, tt)))))))))), refl))
-item_onto (Objects pos first rest colon mark end) good =
-    (inr (inr (first, (rest, (colon, (mark, end))))), ((tt, (each_any rest, (tt, (tt, tt)))),
-        ap (λ q. Objects q first rest colon mark end) (some_same first.pos pos good.0)))
+item_onto (Instance pos name is new ada dot deallocation left designated comma access right end) good = (
+  inr (inl (pos, (name, (is, (new, ((ada, (dot, deallocation)), (left, (designated, (comma, (access, (right, end))))))))))),
+  ((tt, (tt, (tt, (tt, ((good.1.0, (tt, good.1.1)), (tt, (good.1.2, (tt, (tt, (tt, tt)))))))))), refl),
+)
+item_onto (Objects pos first rest colon mark end) good = (
+  inr (inr (first, (rest, (colon, (mark, end))))),
+  (
+    (tt, (each_any rest, (tt, (tt, tt)))),
+    ap (λ q. Objects q first rest colon mark end) (some_same first.pos pos good.0),
+  ),
+)
 
 pub law_item : Law r.item GoodItem item_tokens (of_word KwType ∷ of_word KwProcedure ∷ of_ident ∷ []) [] false
 law_item = law_same r.item (law_to make_item GoodItem item_tokens law_item_parts item_makes item_onto) item_same
@@ -459,16 +473,44 @@ unfolding unit_tokens WellPlaced FixedNames
 unit_makes x good =
     let items = good.1.1.1.1.0 in
     let first = good.1.1.1.1.1.1.0 in
-    let rest = good.1.1.1.1.1.1.1.0 in
-    (((each_first ItemPlaced ItemNamed _ items, first.0, each_first StmtPlaced StmtNamed _ rest),
-        (good.0.1.0.0, good.0.1.0.1.1, each_second ItemPlaced ItemNamed _ items, first.1, each_second StmtPlaced StmtNamed _ rest)), refl)
+    let rest = good.1.1.1.1.1.1.1.0 in (
+      (
+        (each_first ItemPlaced ItemNamed _ items, first.0, each_first StmtPlaced StmtNamed _ rest),
+        (good.0.1.0.0, good.0.1.0.1.1, each_second ItemPlaced ItemNamed _ items, first.1, each_second StmtPlaced StmtNamed _ rest),
+      ),
+      refl,
+    )
 
 unit_onto : (u : SourceUnit) → GoodUnit u → (x : r.UnitParts) × (UnitPartsGood x × (r.make_unit x ≡ u))
 unfolding WellPlaced FixedNames
-unit_onto u good =
-    (((u.pos, ((u.ada, (u.dot, u.deallocation)), u.with_end)), (u.procedure, (u.name, (u.is, (u.items, (u.begin, (u.first, (u.rest, (u.end, (u.closing, u.unit_end)))))))))),
-        (((tt, ((good.1.0, (tt, good.1.1)), tt)), (tt, (tt, (tt, (each_both ItemPlaced ItemNamed u.items good.0.0 good.1.2, (tt, ((good.0.1, good.1.3),
-            (each_both StmtPlaced StmtNamed u.rest good.0.2 good.1.4, (tt, (tt, tt)))))))))), refl))
+unit_onto u good = (
+  ((u.pos, ((u.ada, (u.dot, u.deallocation)), u.with_end)), (u.procedure, (u.name, (u.is, (u.items, (u.begin, (u.first, (u.rest, (u.end, (u.closing, u.unit_end)))))))))),
+  (
+    (
+      (tt, ((good.1.0, (tt, good.1.1)), tt)),
+      (
+        tt,
+        (
+          tt,
+          (
+            tt,
+            (
+              each_both ItemPlaced ItemNamed u.items good.0.0 good.1.2,
+              (
+                tt,
+                (
+                  (good.0.1, good.1.3),
+                  (each_both StmtPlaced StmtNamed u.rest good.0.2 good.1.4, (tt, (tt, tt))),
+                ),
+              ),
+            ),
+          ),
+        ),
+      ),
+    ),
+    refl,
+  ),
+)
 
 law_unit : Law r.unit GoodUnit unit_tokens (of_word KwWith ∷ []) [] false
 unfolding r.unit

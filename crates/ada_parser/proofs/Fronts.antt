@@ -1,5 +1,5 @@
 -- A reader that hands what it has read to the next one reads as the sequence and the choice do, of which there is a law.
-use Rattle.std.proofs.Common.{◌≡◌, refl, sym, ap, ◌∙◌, subst, ℕ, Bool, true, false, List, [], ◌∷◌, ◌++◌, ◌⊎◌, inl, inr}
+use Rattle.std.proofs.Common.{◌≡◌, refl, ap, ◌∙◌, ℕ, Bool, true, false, List, inl, inr}
 use Rattle.std.specs.Prelude.{if◌then◌else◌}
 use Rattle.ada_parser.specs.Spelled.{Spelled}
 use Rattle.ada_parser.specs.Reading.{Outcome, Got, Fails, Reader, starts, and_then, to, seq, chain, either, choose}
@@ -21,7 +21,7 @@ module _ {A B C : Type 0} (ms : List ℕ) (f : A → C) (h : B → C) (p : Reade
   pub either_choice : (k l : Reader C) → Same k (to f p) → Same l (to h q) → Same (either ms k l) (to (cases f h) (choose ms p q))
   either_choice k l first second ts =
       ap (λ o. if starts ms ts then o else l ts) (first ts) ∙ ap (λ o. if starts ms ts then to f p ts else o) (second ts)
-          ∙ one_of_two (starts ms ts) (p ts) (q ts)
+      ∙ one_of_two (starts ms ts) (p ts) (q ts)
 
 -- What is made of a pair, and of what stands behind each first part.
 abbrev pub of_pair : {A B C : Type 0} → (A → B → C) → A × B → C

@@ -1,6 +1,6 @@
 -- What a reader owes: it takes the spelling of a tree, and any such spelling. Proved once for each way to make a reader.
-use Rattle.std.proofs.Common.{◌≡◌, refl, sym, ap, ◌∙◌, subst, ℕ, Bool, true, false, not, List, [], ◌∷◌, ◌++◌, Option, Some, None, ◌⊎◌, inl, inr, arith}
-use Rattle.std.specs.Prelude.{◌==◌, ◌||◌, ◌&&◌, if◌then◌else◌, map, codes}
+use Rattle.std.proofs.Common.{◌≡◌, refl, sym, ap, ◌∙◌, subst, ℕ, Bool, true, false, List, [], ◌∷◌, ◌++◌, Option, Some, None, ◌⊎◌, inl, inr}
+use Rattle.std.specs.Prelude.{◌&&◌, if◌then◌else◌, map}
 use Rattle.std.specs.Char.{to_ascii_lowercase}
 use Rattle.std.specs.Str.{bytes_eq}
 use Rattle.std.specs.Cmp.Lexicographic.{bytes_decides}
@@ -177,7 +177,7 @@ module _ {A B : Type 0} {p : Reader A} {q : Reader B} {g : A → Type 0} {h : B 
       let back = Q.sound one.1.0 two.0 two.1.0 two.1.1.0 in
       let same = got_same {A = A × B} (one.0, two.0) x two.1.0 rest two.1.1.1 in
       subst (λ y. Both g h y × (ts ≡ joined s t y ++ rest)) same.0
-          (seq_whole ts one.0 one.1.0 two.0 rest front.0 front.1 back.0 (back.1 ∙ ap (λ r. t two.0 ++ r) same.1))
+      (seq_whole ts one.0 one.1.0 two.0 rest front.0 front.1 back.0 (back.1 ∙ ap (λ r. t two.0 ++ r) same.1))
 
   seq_accepts : (x : A × B) (rest : List Spelled) → Both g h x → starts (if n then lp ++ lq else lq) rest ≡ false → seq p q (joined s t x ++ rest) ≡ Got x rest
   seq_accepts x rest good e =

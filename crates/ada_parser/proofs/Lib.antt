@@ -5,3 +5,4 @@ pub mod Many
 pub mod Fronts
 pub mod Forms
 pub mod Theorem
+pub mod TestTokens

@@ -1,5 +1,5 @@
 -- The law of one after the other, and what each turn of a loop keeps that reads so.
-use Rattle.std.proofs.Common.{◌≡◌, refl, sym, ap, ◌∙◌, subst, ℕ, zero, suc, ◌+◌, ◌≤◌, ◌<◌, Bool, true, false, List, [], ◌∷◌, ◌++◌, length, ◌⊎◌, inl, inr, arith}
+use Rattle.std.proofs.Common.{◌≡◌, refl, sym, ap, ◌∙◌, subst, ℕ, zero, suc, ◌+◌, ◌≤◌, ◌<◌, Bool, true, false, List, [], ◌∷◌, ◌++◌, length, arith}
 use Rattle.std.specs.Prelude.{if◌then◌else◌}
 use Rattle.std.specs.List.{flat_map}
 use Rattle.std.proofs.lemmas.List.{append_assoc, append-nil, length-append}
@@ -9,8 +9,8 @@ use Rattle.std.specs.Prelude.{Result, Ok, Err}
 use Rattle.std.specs.Result.{IsErrAnd}
 use Rattle.ada_parser.specs.declared.refusal.ParseRefusal.{ParseRefusal}
 use Rattle.ada_parser.specs.declared.refusal.ParseRefusal.TheVariants.{NotBuilt, Memory}
-use Rattle.ada_parser.specs.Reading.{Reads, Outcome, Got, Fails, Reader, code, is_in, starts, and_then, many_up_to, many}
-use Rattle.ada_parser.proofs.Sets.{apart, within, Leads, stops_both, stops_before, starts_within, leads_left}
+use Rattle.ada_parser.specs.Reading.{Reads, Outcome, Got, Fails, Reader, starts, and_then, many_up_to, many}
+use Rattle.ada_parser.proofs.Sets.{apart, within, Leads, stops_both, stops_before, starts_within}
 use Rattle.ada_parser.proofs.Law.{Law, and_then_got, got_same, if_true, if_false}
 
 -- One turn: what `p` reads, and then as many as there are turns left.
@@ -42,7 +42,7 @@ module _ {A : Type 0} {p : Reader A} {g : A → Type 0} {s : A → List Spelled}
       let front = P.sound ts one.0 one.1.0 one.1.1.0 in
       let back = ih one.1.0 two.0 two.1.0 two.1.1.0 in
       let read : ts ≡ (s one.0 ++ flat_map s two.0) ++ rest =
-          front.1 ∙ ap (λ m. s one.0 ++ m) (back.1 ∙ ap (λ r. flat_map s two.0 ++ r) same.1) ∙ sym (append_assoc (s one.0) (flat_map s two.0) rest) in
+      front.1 ∙ ap (λ m. s one.0 ++ m) (back.1 ∙ ap (λ r. flat_map s two.0 ++ r) same.1) ∙ sym (append_assoc (s one.0) (flat_map s two.0) rest) in
       subst (λ zs. Each g zs × (ts ≡ flat_map s zs ++ rest)) same.0 ((front.0, back.0), read)
   turn_sound q ih false ts xs rest e =
       let same = got_same [] xs ts rest e in
@@ -72,22 +72,22 @@ module _ {A : Type 0} {p : Reader A} {g : A → Type 0} {s : A → List Spelled}
   up_accepts zero (x ∷ xs) rest good e le =
       let has : 0 < length (s x) = some_token (s x) (P.leads x good.0) in
       let whole : length ((s x ++ flat_map s xs) ++ rest) ≡ length (s x) + length (flat_map s xs ++ rest) =
-          ap length (append_assoc (s x) (flat_map s xs) rest) ∙ length-append (s x) (flat_map s xs ++ rest) in
+      ap length (append_assoc (s x) (flat_map s xs) rest) ∙ length-append (s x) (flat_map s xs ++ rest) in
       absurd (omega arith)
   up_accepts (suc n) [] rest good e le = if_false (starts ms rest) _ _ (stops_both ms lp rest e).0
   up_accepts (suc n) (x ∷ xs) rest good e le =
       let has : 0 < length (s x) = some_token (s x) (P.leads x good.0) in
       let whole : length ((s x ++ flat_map s xs) ++ rest) ≡ length (s x) + length (flat_map s xs ++ rest) =
-          ap length (append_assoc (s x) (flat_map s xs) rest) ∙ length-append (s x) (flat_map s xs ++ rest) in
+      ap length (append_assoc (s x) (flat_map s xs) rest) ∙ length-append (s x) (flat_map s xs ++ rest) in
       let fewer : length (flat_map s xs ++ rest) ≤ n = omega arith in
       let between : starts lp (flat_map s xs ++ rest) ≡ false =
-          stops_before lp fp side true (flat_map s xs) rest (leads_flat xs good.1) (λ _. (stops_both ms lp rest e).1) in
+      stops_before lp fp side true (flat_map s xs) rest (leads_flat xs good.1) (λ _. (stops_both ms lp rest e).1) in
       let one : p (s x ++ (flat_map s xs ++ rest)) ≡ Got x (flat_map s xs ++ rest) = P.accepts x (flat_map s xs ++ rest) good.0 between in
       let more : many_up_to ms p n (flat_map s xs ++ rest) ≡ Got xs rest = up_accepts n xs rest good.1 e fewer in
       let here : starts ms (s x ++ (flat_map s xs ++ rest)) ≡ true =
-          starts_within fp ms taken_in (s x) (flat_map s xs ++ rest) (P.leads x good.0) in
+      starts_within fp ms taken_in (s x) (flat_map s xs ++ rest) (P.leads x good.0) in
       rw append_assoc (if_true (starts ms (s x ++ (flat_map s xs ++ rest))) _ _ here
-          ∙ ap (λ o. turn o (many_up_to ms p n)) one ∙ ap (λ o. and_then o (λ ys r. Got (x ∷ ys) r)) more)
+      ∙ ap (λ o. turn o (many_up_to ms p n)) one ∙ ap (λ o. and_then o (λ ys r. Got (x ∷ ys) r)) more)
 
   pub law_many : Law (many ms p) (Each g) (flat_map s) fp (ms ++ lp) true
   unfolding many
@@ -128,7 +128,7 @@ module _ {A : Type 0} (ms : List ℕ) (p : Reader A) (shortens : Shortens p) whe
   enough (suc n) zero (t ∷ ts) h k = absurd (omega arith)
   enough (suc n) (suc m) ts h k =
       ap (λ o. if starts ms ts then o else Got [] ts) (turn_same (p ts) (many_up_to ms p n) (many_up_to ms p m)
-          (λ a more e. let fewer : length more < length ts = shortens ts a more e in enough n m more (omega arith) (omega arith)))
+      (λ a more e. let fewer : length more < length ts = shortens ts a more e in enough n m more (omega arith) (omega arith)))
 
   many_turn : (ts : List Spelled) → many ms p ts ≡ (if starts ms ts then turn (p ts) (many ms p) else Got [] ts)
   unfolding many
@@ -140,7 +140,7 @@ module _ {A : Type 0} (ms : List ℕ) (p : Reader A) (shortens : Shortens p) whe
       → with_front xs (many ms p ts) ≡ o → with_front (xs ++ a ∷ []) (many ms p more) ≡ o
   goes_on xs ts a more o sees one before =
       let here : many ms p ts ≡ and_then (many ms p more) (λ ys rest. Got (a ∷ ys) rest) =
-          many_turn ts ∙ if_true (starts ms ts) _ _ sees ∙ ap (λ out. turn out (many ms p)) one in
+      many_turn ts ∙ if_true (starts ms ts) _ _ sees ∙ ap (λ out. turn out (many ms p)) one in
       sym (front_more xs a (many ms p more)) ∙ ap (with_front xs) (sym here) ∙ before
 
   pub ends : (xs : List A) (ts : List Spelled) (o : Outcome (List A)) → starts ms ts ≡ false → with_front xs (many ms p ts) ≡ o → o ≡ Got xs ts

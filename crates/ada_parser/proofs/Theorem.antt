@@ -3,7 +3,7 @@ use Rattle.std.proofs.Common.{◌≡◌, refl, sym, ap, ◌∙◌, subst, List, 
 use Rattle.std.specs.Prelude.{map, Result, Ok, Err, IsErrOf}
 use Rattle.std.specs.Result.{IsErrAnd}
 use Rattle.ada_parser.specs.declared.refusal.ParseRefusal.{ParseRefusal}
-use Rattle.ada_parser.specs.declared.refusal.ParseRefusal.TheVariants.{NotBuilt, Memory}
+use Rattle.ada_parser.specs.declared.refusal.ParseRefusal.TheVariants.{NotBuilt}
 use Rattle.std.proofs.lemmas.List.{append_assoc, append-nil}
 use Rattle.spark_base.specs.declared.position.Pos.{Pos}
 use Rattle.ada_lexer.specs.declared.token.Token.{Token}
@@ -14,7 +14,7 @@ use Rattle.ada_parser.specs.declared.tree.SourceUnit.{SourceUnit}
 use Rattle.ada_parser.specs.Spelled.{Spelled, EndOfFile, told, told_as}
 use Rattle.ada_parser.specs.Spelling.{unit_tokens, Spelling}
 use Rattle.ada_parser.specs.Spells.{Spells}
-use Rattle.ada_parser.specs.Reading.{Reads, Outcome, Got, Fails}
+use Rattle.ada_parser.specs.Reading.{Reads, Got, Fails}
 use Rattle.ada_parser.specs.Readers.{source}
 use Rattle.ada_parser.proofs.Law.{got_same}
 use Rattle.ada_parser.proofs.Forms.{law_source}
@@ -47,7 +47,7 @@ ends_at (t ∷ ts) once [] rest e =
 ends_at (t ∷ ts) once (u ∷ us) rest e =
     let tail : map told ts ≡ us ++ (EndOfFile ∷ rest) = cc in
     elim (first_ends t.kind t.pos t.text.now (kinds_of ts) once)
-        [ inl none ↦ absurd (not_empty us rest (sym (no_kinds ts none) ∙ tail)) | inr more ↦ ends_at ts more.0 us rest tail ]
+    [ inl none ↦ absurd (not_empty us rest (sym (no_kinds ts none) ∙ tail)) | inr more ↦ ends_at ts more.0 us rest tail ]
 
 pub spells : (ts : List Token) (u : SourceUnit) (rest : List Spelled) → EndsOnce (kinds_of ts) → source (map told ts) ≡ Got u rest → Spells u ts
 unfolding Spelling
@@ -75,5 +75,5 @@ refused ts cursor fault (Ok x) rest at read is built u s = absurd (cc)
 refused ts cursor fault (Err e) rest at read is built u s =
     let not_built : e ≡ NotBuilt = cc in
     let read_here : Reads (source (map told ts)) (Err NotBuilt) rest =
-        subst (λ f. Reads (source (map told ts)) (Err f) rest) (sym is ∙ not_built) (subst (λ c. Reads (source c) (Err fault) rest) at read) in
+    subst (λ f. Reads (source (map told ts)) (Err f) rest) (sym is ∙ not_built) (subst (λ c. Reads (source c) (Err fault) rest) at read) in
     no_tree ts u rest read_here s

@@ -42,4 +42,4 @@ ItemNamed (item.Objects pos first rest colon mark end) = Unit {0}
 unfoldable pub FixedNames : SourceUnit → Type 0
 FixedNames unit =
     IsCalled ada_name unit.ada × IsCalled deallocation_name unit.deallocation × Each ItemNamed unit.items
-        × StmtNamed unit.first × Each StmtNamed unit.rest
+    × StmtNamed unit.first × Each StmtNamed unit.rest

@@ -196,7 +196,11 @@ impl<'t, 's> Cursor<'t, 's> {
     }
 
     /// Reads an identifier that has this spelling in lower case.
-    pub fn identifier_called(&mut self, alloc: Global, name: &[u8]) -> Result<Identifier, ParseRefusal>
+    pub fn identifier_called(
+        &mut self,
+        alloc: Global,
+        name: &[u8],
+    ) -> Result<Identifier, ParseRefusal>
         requires { map to_ascii_lowercase name.now ≡ name.now }
         ensures { Reads (reading.ident_called name.now self.old) result self.new }
     {

@@ -5,9 +5,9 @@ ghost use Rattle.ada_parser.specs.Readers as readers;
 use crate::cursor::Cursor;
 use crate::fixed::{generic, integer};
 use crate::refusal::ParseRefusal;
-use crate::tree::{Identifier, Item, NextIdentifier};
+use crate::tree::{Item, NextIdentifier};
 use ada_lexer::{Reserved, Symbol};
-use spark_base::{Listed, Pos};
+use spark_base::Listed;
 use std::alloc::Global;
 
 /// `type` id `is` `access` Integer `;` (Ada 2012, 3.10).
@@ -66,7 +66,10 @@ fn instance(alloc: Global, tokens: &mut Cursor<'_, '_>) -> Result<Item, ParseRef
 
 /// `,` id
 #[tactic(auto, unfolding(crate::specs::Readers::next))]
-fn next_identifier(alloc: Global, tokens: &mut Cursor<'_, '_>) -> Result<NextIdentifier, ParseRefusal>
+fn next_identifier(
+    alloc: Global,
+    tokens: &mut Cursor<'_, '_>,
+) -> Result<NextIdentifier, ParseRefusal>
     ensures { Reads (readers.next tokens.old) result tokens.new }
 {
     let pos = tokens.symbol(Symbol::Comma)?;

@@ -12,6 +12,8 @@ mod declaration;
 mod fixed;
 mod refusal;
 mod statement;
+#[cfg(test)]
+mod tests;
 pub mod tree;
 mod unit;
 mod word;

@@ -29,7 +29,12 @@ fn name_after(tokens: &mut Cursor<'_, '_>, object: Identifier) -> Result<Name, P
     if tokens.sees_symbol(Symbol::Dot) {
         let dot = tokens.symbol(Symbol::Dot)?;
         let all = tokens.word(Reserved::KwAll)?;
-        return Ok(Name::Designated { pos, object, dot, all });
+        return Ok(Name::Designated {
+            pos,
+            object,
+            dot,
+            all,
+        });
     }
     Ok(Name::Object { pos, object })
 }

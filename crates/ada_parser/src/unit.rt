@@ -1,9 +1,8 @@
 //! The parts of a unit, and the source of a file.
-ghost use Rattle.std.specs.Prelude.{◌≡◌, [], ◌∷◌, map, IfOk, IsErrOf};
+ghost use Rattle.std.specs.Prelude.{◌≡◌, [], ◌∷◌, IfOk, IsErrOf};
 ghost use Rattle.ada_lexer.specs.Tokens.{EndsOnce, kinds_of};
 ghost use Rattle.ada_parser.specs.Reading.{Reads, starts};
 ghost use Rattle.ada_parser.specs.Readers as readers;
-
 ghost use Rattle.ada_parser.specs.Spells.{Spells, IsOne};
 
 use crate::cursor::Cursor;
@@ -11,9 +10,9 @@ use crate::declaration::item;
 use crate::fixed::generic;
 use crate::refusal::ParseRefusal;
 use crate::statement::statement;
-use crate::tree::{Identifier, Item, SourceUnit, Stmt};
+use crate::tree::{Item, SourceUnit, Stmt};
 use ada_lexer::{Reserved, Symbol, Token};
-use spark_base::{Listed, Pos};
+use spark_base::Listed;
 use std::alloc::Global;
 
 /// Whether a declaration may begin with the next token.

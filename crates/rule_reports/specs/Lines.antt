@@ -20,7 +20,7 @@ abbrev pub refusal_line : List (List ℕ) → Pos → Code → List ℕ
 refusal_line files pos code =
     line (position_text files pos ++ codes ": " ++ code_letters code ++ codes " " ++ code_text code)
 
--- What the rules that look at the text without paths say. The others say which kind of fact forbids.
+-- What the rules that look at the text without paths say. A report of another rule has a word: the kind of fact that forbids.
 abbrev pub rule_words : Rule → List ℕ
 rule_words O1 = []
 rule_words O2 = []
@@ -48,7 +48,8 @@ word_text rule (Some word) = state_text word
 -- POS: RULE NAME: WORD. The text of each file's name and of each name of a place is given.
 abbrev pub report_line : List (List ℕ) → (Name → List ℕ) → Report → List ℕ
 report_line files printed r =
-    line (position_text files r.pos ++ codes ": " ++ rule_text r.rule ++ codes " " ++ printed r.name ++ codes ": " ++ word_text r.rule r.word)
+    line (position_text files r.pos ++ codes ": " ++ rule_text r.rule ++ codes " " ++ printed r.name
+    ++ codes ": " ++ word_text r.rule r.word)
 
 -- The lines of some reports, in their order.
 abbrev pub report_lines : List (List ℕ) → (Name → List ℕ) → List Report → List ℕ

@@ -2,11 +2,9 @@
 ghost use Rattle.std.specs.Prelude.{◌≡◌, ◌<◌, IfOk, length, map, string_bytes};
 ghost use Rattle.rule_reports.specs.Lines as spec;
 
-use std::alloc::{AllocError, Global};
-
-use spark_base::{Pos, position_text};
-
 use crate::Code;
+use spark_base::{Pos, position_text};
+use std::alloc::{AllocError, Global};
 
 /// The line of a refusal, `POS: CODE TEXT`. The files are the names as they were given, by number.
 pub fn refusal_line(

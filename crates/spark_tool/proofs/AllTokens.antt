@@ -1,5 +1,8 @@
 -- The tokens of the files so far.
-use Rattle.std.proofs.Common.{◌≡◌, ◌++◌, List, Result, Ok, Err}
+use Rattle.std.proofs.Common.{◌≡◌, ◌++◌, ◌∷◌, [], List, length, ℕ, Vec, Result, Ok, Err, IfSome, All, refl, subst, sym}
+use Rattle.std.specs.declared.alloc.Global.{Global}
+use Rattle.ada_lexer.specs.declared.token.Token.{Token}
+use Rattle.std.specs.List.{slice_get}
 use Rattle.ada_lexer.specs.Tokens.{Cut}
 use Rattle.spark_tool.specs.Lexing.{AllTokens}
 
@@ -7,3 +10,18 @@ use Rattle.spark_tool.specs.Lexing.{AllTokens}
 abbrev pub with_files : List (List Cut) → AllTokens → AllTokens
 with_files before (Ok others) = Ok (before ++ others)
 with_files before (Err fault) = Err fault
+
+-- a fact of the first element stays when one is added
+pub first_stays : {X : Type 0} (found : List X) (x : X) (P : X → Type 0) → IfSome (slice_get found 0) P → (length found ≡ 0 → P x)
+    → IfSome (slice_get (found ++ x ∷ []) 0) P
+first_stays [] x P before here = here refl
+first_stays (y ∷ found) x P before here = before
+
+-- the tokens of the first file stand in file 0
+pub in_first : (found : List (Vec Token Global)) (tokens : Vec Token Global) (all : List (Vec Token Global)) (file : ℕ) → all ≡ found ++ tokens ∷ []
+    → IfSome (slice_get found 0) (λ first. All (λ token. token.pos.file ≡ 0) first.items) → All (λ token. token.pos.file ≡ file) tokens.items
+    → (length found ≡ 0 → file ≡ 0) → IfSome (slice_get all 0) (λ first. All (λ token. token.pos.file ≡ 0) first.items)
+in_first found tokens all file is before in_file zero =
+    subst (λ (files : List (Vec Token Global)). IfSome (slice_get files 0) (λ first. All (λ token. token.pos.file ≡ 0) first.items)) (sym is)
+    (first_stays found tokens (λ first. All (λ token. token.pos.file ≡ 0) first.items) before
+    (λ none. subst (λ (n : ℕ). All (λ token. token.pos.file ≡ n) tokens.items) (zero none) in_file))

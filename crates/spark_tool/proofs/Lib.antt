@@ -1,3 +1,6 @@
 pub mod Names
 pub mod Sources
 pub mod AllTokens
+pub mod Straight
+pub mod InFile
+pub mod CommandWords

@@ -4,7 +4,9 @@ pub mod Reading
 pub mod Lexing
 pub mod StraightSource
 pub mod Product
-
+pub mod Promises
 -- what the functions inside promise each other
+pub mod Stops
 pub mod Answers
+pub mod Refusals
 pub mod StraightPaths

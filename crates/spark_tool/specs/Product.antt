@@ -45,15 +45,14 @@ rejected lines = record { out = []; err = lines; status = 1 }
 abbrev pub unread : Answer
 unread = record { out = []; err = []; status = 7 }
 
--- A lexical fault, by its code and its place.
-abbrev pub lexically_refused : List (List ℕ) → LexRefusal → Answer
-lexically_refused names (BadByte pos) = refused names pos L1
-lexically_refused names (BadIdentifier pos) = refused names pos L2
-lexically_refused names (BadNumber pos) = refused names pos L3
-lexically_refused names (OpenString pos) = refused names pos L4
-lexically_refused names (TooMany pos) = refused names pos L5
--- the definition of tokens doesn't give this
-lexically_refused names Memory = record { out = []; err = []; status = 9 }
+-- The place and the code of a lexical fault. Want of memory is none.
+abbrev pub lexical_code : LexRefusal → Option (Pos × Code)
+lexical_code (BadByte pos) = Some (pos, L1)
+lexical_code (BadIdentifier pos) = Some (pos, L2)
+lexical_code (BadNumber pos) = Some (pos, L3)
+lexical_code (OpenString pos) = Some (pos, L4)
+lexical_code (TooMany pos) = Some (pos, L5)
+lexical_code Memory = None
 
 -- The reports, or that there are none.
 abbrev pub judged : List (List ℕ) → List (List ℕ) → List Report → Answer
@@ -67,8 +66,8 @@ pub data Checks (names : List (List ℕ)) : Sources → Answer → Type 0 where
   -- a file has the first byte past the limit
   too_large : (file : ℕ) → Checks names (TooLarge file) (refused names (first_place file) S1)
   -- the first lexical fault over all files in order
-  lexical : (texts : List (List ℕ)) (fault : LexRefusal) → all_tokens 0 TOKENS texts ≡ Err fault
-      → Checks names (Texts texts) (lexically_refused names fault)
+  lexical : (texts : List (List ℕ)) (fault : LexRefusal) (pos : Pos) (code : Code) → all_tokens 0 TOKENS texts ≡ Err fault
+      → lexical_code fault ≡ Some (pos, code) → Checks names (Texts texts) (refused names pos code)
   -- the sources aren't one file of the straight-line form
   not_built : (texts : List (List ℕ)) (cuts : List (List Cut)) → all_tokens 0 TOKENS texts ≡ Ok cuts
       → ((unit : SourceUnit) → ¬ IsStraightSource unit cuts) → Checks names (Texts texts) (refused names (first_place 0) U1)

@@ -1,7 +1,8 @@
 -- What is read of the files (docs/TOOL.md, "Order of work").
-use Rattle.std.specs.Prelude.{◌≡◌, ◌<◌, ◌≤◌, ℕ, ◌+◌, ◌-◌, nat_le, if◌then◌else◌, List, [], ◌∷◌, ◌++◌, map, length, Option, Some, MatchOption, Vec, IfSome, Result, Ok, Err}
+use Rattle.std.specs.Prelude.{◌≡◌, ◌<◌, ◌≤◌, ℕ, ◌+◌, ◌-◌, nat_le, if◌then◌else◌, List, [], ◌∷◌, ◌++◌, map, length, Option, Some, MatchOption, Vec, All}
 use Rattle.std.specs.Option.{option_map_or}
 use Rattle.std.specs.declared.alloc.Global.{Global}
+use Rattle.spark_base.specs.declared.limits.TheConstants.{SOURCE_BYTES}
 use Rattle.spark_base.specs.Outside.{file_bytes}
 use Rattle.spark_tool.specs.declared.reading.Gathered.{Gathered}
 use Rattle.spark_tool.specs.declared.reading.Gathered.TheVariants as found
@@ -36,3 +37,8 @@ IsWithin bytes room found = MatchOption found (room < length bytes) (λ text. (t
 -- The file is there, and its bytes were read.
 abbrev pub ReadsFile : List (List ℕ × List ℕ) → List ℕ → ℕ → Option (Vec ℕ Global) → Type 0
 ReadsFile stored name room found = (bytes : List ℕ) × (file_bytes stored name ≡ Some bytes) × IsWithin bytes room found
+
+-- Each of n files was read, and none is too large; or one of them has the byte past the limit.
+abbrev pub IsWhole : ℕ → Gathered → Type 0
+IsWhole n (found.All texts) = (length texts.items ≡ n) × All (λ text. length text.items ≤ SOURCE_BYTES) texts.items
+IsWhole n (found.TooLarge file) = file < n

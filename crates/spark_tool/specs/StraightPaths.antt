@@ -1,6 +1,5 @@
 -- The path of a straight-line source, as a program holds it.
 use Rattle.std.specs.Prelude.{◌≡◌, ◌<◌, ℕ, List, All, length, map}
-use Rattle.ada_lexer.specs.Tokens.{Cut}
 use Rattle.ada_parser.specs.declared.tree.SourceUnit.{SourceUnit}
 use Rattle.place_names.specs.Reports.{Report, Gives, IsReportList}
 use Rattle.straight_line.specs.declared.path.StraightPath.{StraightPath}
@@ -9,13 +8,12 @@ use Rattle.straight_line.specs.Deeds.{placed_of}
 use Rattle.straight_line.specs.PathActs.{path_acts}
 use Rattle.straight_line.specs.Reported.{printed_name}
 use Rattle.straight_line.specs.Within.{AreWithin}
-use Rattle.spark_tool.specs.StraightSource.{IsStraightFile}
 use Rattle.spark_tool.specs.Product.{Answer, judged}
 
--- The tokens are those of a file of the form, and the path is its one control path.
-pub record IsPathOf (cuts : List Cut) (path : StraightPath) : Type 0 where
+-- The path is the one control path of a tree of the form.
+pub record IsPathOf (form : SourceUnit → Type 0) (path : StraightPath) : Type 0 where
   pub unit : SourceUnit
-  pub file : IsStraightFile unit cuts
+  pub in_form : form unit
   pub objects : path.objects.items ≡ object_texts unit
   pub acts : map placed_of path.deeds.items ≡ path_acts unit
 

@@ -6,7 +6,7 @@ use Rattle.ada_lexer.specs.declared.token.TokenKind.TheVariants.{Word, Ident, Nu
 use Rattle.ada_lexer.specs.Tokens.{Cut}
 use Rattle.ada_parser.specs.declared.tree.SourceUnit.{SourceUnit}
 use Rattle.ada_parser.specs.Spelled.{Spelled, told_as}
-use Rattle.ada_parser.specs.Spells.{Spells}
+use Rattle.ada_parser.specs.Spells.{IsSpelledBy}
 use Rattle.straight_line.specs.Form.{IsStraightLine}
 
 -- What a token is to the grammar.
@@ -29,7 +29,7 @@ is_plain EndOfFile text = true
 -- The tokens of one file are those of a tree of the form.
 pub record IsStraightFile (unit : SourceUnit) (cuts : List Cut) : Type 0 where
   pub digits : list_all (λ cut. is_plain cut.kind cut.text) cuts ≡ true
-  pub spelled : Spells unit (map spelled_as cuts)
+  pub spelled : IsSpelledBy unit (map spelled_as cuts)
   pub form : IsStraightLine unit
 
 -- The sources are one file of the form.

@@ -1,15 +1,15 @@
 //! Checks the sources of a command.
-ghost use Rattle.std.specs.Prelude.{◌≡◌, ◌≢◌, ◌<◌, ◌≤◌, Err, IfOk, IfErr, IfSome, IfNone, OnErr, All, length, map, string_bytes};
+ghost use Rattle.std.specs.Prelude.{◌≡◌, ◌<◌, ◌≤◌, Err, Some, IfOk, IfSome, IfNone, OnErr, All, length, map, slice_get, string_bytes};
 ghost use Rattle.std.specs.List.{list_all};
 ghost use Rattle.ada_lexer.specs.Tokens.{EndsOnce, kinds_of, cut_of};
-ghost use Rattle.place_names.specs.Reports.{Gives};
-ghost use Rattle.straight_line.specs.Deeds.{placed_of};
-ghost use Rattle.straight_line.specs.Reported.{printed_name};
+ghost use Rattle.ada_parser.specs.Spells.{Spells};
 ghost use Rattle.spark_tool.specs.Answers.{answer_of};
-ghost use Rattle.spark_tool.specs.Lexing.{IsAmong, texts_of};
-ghost use Rattle.spark_tool.specs.Product.{lexically_refused, Checks};
-ghost use Rattle.spark_tool.specs.Reading.{sources_of, Texts};
-ghost use Rattle.spark_tool.specs.StraightSource.{is_plain, IsStraightFile};
+ghost use Rattle.spark_tool.specs.Lexing.{IsAmong, cuts_of, texts_of};
+ghost use Rattle.spark_tool.specs.Product as spec;
+ghost use Rattle.spark_tool.specs.Product.{Checks};
+ghost use Rattle.spark_tool.specs.Refusals.{RefusesLexically, IsChecked};
+ghost use Rattle.spark_tool.specs.Reading.{sources_of, IsWhole, Texts};
+ghost use Rattle.spark_tool.specs.StraightSource.{is_plain, no_underscore, IsStraightFile, IsStraightSource};
 ghost use Rattle.spark_tool.specs.StraightPaths.{IsPathOf, Judges, CanPrint};
 
 use crate::answer::{Answer, accepted, refused, refused_file, rejected};
@@ -17,18 +17,26 @@ use crate::lexing::lex_all;
 use crate::reading::Gathered;
 use crate::stop::Stop;
 use ada_lexer::{LexRefusal, Token, TokenKind};
+use ada_parser::tree::SourceUnit;
 use ada_parser::{ParseRefusal, parse};
 use rule_reports::{Code, report_lines};
-use spark_base::{FILES, SOURCE_BYTES};
+use spark_base::{FILES, Pos, SOURCE_BYTES};
 use std::alloc::{AllocError, Global};
 use straight_line::{StraightPath, path_reports, straight_path};
 
-/// Whether a number has digits alone; every other token passes.
+/// Whether a text has no underscore.
+fn has_digits_alone(text: &[u8]) -> bool
+    ensures { result ≡ list_all no_underscore text.now }
+{
+    text.iter().all(|byte| *byte != b'_')
+}
+
+/// Whether a token is no number with an underscore.
 fn has_plain_number(token: &Token<'_>) -> bool
     ensures { result ≡ is_plain token.now.kind token.now.text.now }
 {
     match token.kind {
-        TokenKind::Number(_) => token.text.iter().all(|byte| *byte != b'_'),
+        TokenKind::Number(_) => has_digits_alone(token.text),
         _ => true,
     }
 }
@@ -40,26 +48,52 @@ fn has_plain_numbers(tokens: &[Token<'_>]) -> bool
     tokens.iter().all(|token| has_plain_number(token))
 }
 
+/// The tree that the tokens of a file spell, or nothing where none does.
+fn unit_of(alloc: Global, tokens: &[Token<'_>]) -> Result<Option<SourceUnit>, AllocError>
+    requires { EndsOnce (kinds_of tokens.now) }
+    ensures found { IfOk result (λ found. IfSome found (λ unit. Spells unit tokens.now)) }
+    ensures only { IfOk result (λ found. (unit : _) → Spells unit tokens.now → found ≡ Some unit) }
+{
+    match parse(alloc, tokens) {
+        Ok(mut units) => Ok(units.pop()),
+        Err(ParseRefusal::NotBuilt) => Ok(None),
+        Err(ParseRefusal::Memory) => Err(AllocError),
+    }
+}
+
 /// The path of a file in the straight-line form, or nothing where the file hasn't that form.
 fn path_of(alloc: Global, tokens: &[Token<'_>]) -> Result<Option<StraightPath>, AllocError>
     requires ends { EndsOnce (kinds_of tokens.now) }
-    requires file { All (λ token. token.pos.file ≡ 0) tokens.now }
-    ensures found { IfOk result (λ found. IfSome found (IsPathOf (map cut_of tokens.now))) }
+    requires in_file { All (λ token. token.pos.file ≡ 0) tokens.now }
+    ensures found { IfOk result (λ found. IfSome found (IsPathOf (λ unit. IsStraightFile unit (map cut_of tokens.now)))) }
     ensures can_print { IfOk result (λ found. IfSome found (CanPrint 1)) }
     ensures out { IfOk result (λ found. IfNone found ((unit : _) → ¬ IsStraightFile unit (map cut_of tokens.now))) }
 {
     if !has_plain_numbers(tokens) {
         return Ok(None);
     }
-    let units = match parse(alloc, tokens) {
-        Ok(units) => units,
-        Err(ParseRefusal::NotBuilt) => return Ok(None),
-        Err(ParseRefusal::Memory) => return Err(AllocError),
+    let Some(unit) = unit_of(alloc, tokens)? else {
+        return Ok(None);
     };
-    match units.first() {
-        Some(unit) => Ok(straight_path(alloc, unit)?),
-        None => Ok(None),
+    Ok(straight_path(alloc, &unit)?)
+}
+
+/// The path of the one file of a source in the straight-line form, or nothing where the files aren't one such file.
+fn path_of_source(
+    alloc: Global,
+    files: &[Vec<Token<'_>>],
+) -> Result<Option<StraightPath>, AllocError>
+    requires ends { All (λ file. EndsOnce (kinds_of file.items)) files.now }
+    requires first { IfSome (slice_get files.now 0) (λ tokens. All (λ token. token.pos.file ≡ 0) tokens.items) }
+    ensures found { IfOk result (λ found. IfSome found (IsPathOf (λ unit. IsStraightSource unit (cuts_of files.now)))) }
+    ensures can_print { IfOk result (λ found. IfSome found (CanPrint 1)) }
+    ensures out { IfOk result (λ found. IfNone found ((unit : _) → ¬ IsStraightSource unit (cuts_of files.now))) }
+{
+    if files.len() != 1 {
+        return Ok(None);
     }
+    let tokens = files[0].as_slice();
+    Ok(path_of(alloc, tokens)?)
 }
 
 /// The reports of a path, or that there are none.
@@ -75,22 +109,30 @@ fn judge(alloc: Global, names: &[String], path: &StraightPath) -> Result<Answer,
     Ok(rejected(lines))
 }
 
+/// The place and the code of a lexical fault, or nothing where memory was wanting.
+fn lexical_code(fault: LexRefusal) -> Option<(Pos, Code)>
+    ensures { result ≡ spec.lexical_code fault }
+{
+    match fault {
+        LexRefusal::BadByte(pos) => Some((pos, Code::L1)),
+        LexRefusal::BadIdentifier(pos) => Some((pos, Code::L2)),
+        LexRefusal::BadNumber(pos) => Some((pos, Code::L3)),
+        LexRefusal::OpenString(pos) => Some((pos, Code::L4)),
+        LexRefusal::TooMany(pos) => Some((pos, Code::L5)),
+        LexRefusal::Memory => None,
+    }
+}
+
 /// The line of a lexical fault.
 fn refused_lexically(alloc: Global, names: &[String], fault: LexRefusal) -> Result<Answer, Stop>
     requires { IsAmong (length names.now) fault }
-    ensures line { IfOk result (λ answer. answer_of answer ≡ lexically_refused (map string_bytes names.now) fault) }
-    ensures fault { IfOk result (λ answer. fault ≢ LexRefusal.Memory) }
+    ensures line { IfOk result (λ answer. RefusesLexically (map string_bytes names.now) fault (answer_of answer)) }
     ensures memory { OnErr result (result ≡ Err Stop.Memory) }
 {
-    let (pos, code) = match fault {
-        LexRefusal::BadByte(pos) => (pos, Code::L1),
-        LexRefusal::BadIdentifier(pos) => (pos, Code::L2),
-        LexRefusal::BadNumber(pos) => (pos, Code::L3),
-        LexRefusal::OpenString(pos) => (pos, Code::L4),
-        LexRefusal::TooMany(pos) => (pos, Code::L5),
-        LexRefusal::Memory => return Err(Stop::Memory),
-    };
-    Ok(refused(alloc, names, pos, code)?)
+    match lexical_code(fault) {
+        Some((pos, code)) => Ok(refused(alloc, names, pos, code)?),
+        None => Err(Stop::Memory),
+    }
 }
 
 /// The answer on the texts of the named files.
@@ -106,21 +148,23 @@ fn check_texts(alloc: Global, names: &[String], texts: &[Vec<u8>]) -> Result<Ans
         Ok(files) => files,
         Err(fault) => return Ok(refused_lexically(alloc, names, fault)?),
     };
-    let path = match files.as_slice() {
-        [tokens] => path_of(alloc, tokens)?,
-        _ => None,
-    };
-    match path {
+    match path_of_source(alloc, &files)? {
         Some(path) => Ok(judge(alloc, names, &path)?),
         None => Ok(refused_file(alloc, names, 0, Code::U1)?),
     }
 }
 
 /// The answer on what was read of the named files.
-pub(crate) fn check_sources(alloc: Global, names: &[String], gathered: Gathered) -> Result<Answer, Stop>
+pub(crate) fn check_sources(
+    alloc: Global,
+    names: &[String],
+    gathered: Gathered,
+) -> Result<Answer, Stop>
+    requires whole { IsWhole (length names.now) gathered }
     requires some { 0 < length names.now }
     requires few { length names.now ≤ FILES }
     ensures answer { IfOk result (λ answer. Checks (map string_bytes names.now) (sources_of gathered) (answer_of answer)) }
+    ensures checked { IfOk result (λ answer. IsChecked (answer_of answer)) }
     ensures memory { OnErr result (result ≡ Err Stop.Memory) }
 {
     match gathered {

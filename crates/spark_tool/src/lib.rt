@@ -1,4 +1,9 @@
 //! Runs a command: reads its words and files, checks the sources, and writes the answer.
+//!
+//! `run_tool` takes the words after the program's name, the outside (files, input, two outputs) and gives a status.
+//! What it writes and answers, `specs/Product.antt` defines; `docs/TOOL.md` says it in words.
+//! Refused are words that give no command, files that can't be read, and sources that a stage refuses.
+//! Time is linear in the sources, but for the sorting of reports.
 #![tactic(auto)]
 
 mod answer;
@@ -8,3 +13,6 @@ mod deliver;
 mod lexing;
 mod reading;
 mod stop;
+mod tool;
+
+pub use tool::run_tool;

@@ -2,7 +2,7 @@
 ghost use Rattle.std.specs.Prelude.{◌≡◌, ◌≢◌, ◌⊎◌, ◌≤◌, ◌<◌, ◌^◌, Ok, Err, IsTrue, IfOk, IfSome, IsSomeAnd, All, Contains, length, map, string_bytes};
 ghost use Rattle.spark_base.specs.Outside.{Rose, Lacks};
 ghost use Rattle.spark_base.specs.Words.{operands};
-ghost use Rattle.spark_tool.specs.Reading.{IsWithin, ReadsFile, sources, sources_of, Missing};
+ghost use Rattle.spark_tool.specs.Reading.{IsWithin, ReadsFile, IsWhole, sources, sources_of, Missing};
 
 use crate::stop::Stop;
 use spark_base::{FILES, FileStore, SOURCE_BYTES};
@@ -86,6 +86,7 @@ pub(crate) fn read_files<F: FileStore>(
     requires few { length names.now ≤ FILES }
     ensures found { IfOk result (λ found. IfSome (F.stored files.old)
         (λ stored. sources stored 0 SOURCE_BYTES (map string_bytes names.now) ≡ sources_of found)) }
+    ensures whole { IfOk result (IsWhole (length names.now)) }
     ensures fault { result ≡ Err Stop.Read → Rose (F.faults files.old) (F.faults files.new)
         ⊎ IsSomeAnd (F.stored files.old) (λ stored. sources stored 0 SOURCE_BYTES (map string_bytes names.now) ≡ Missing) }
     ensures no_fault { result ≢ Err Stop.Read → F.faults files.new ≡ F.faults files.old }

@@ -1,4 +1,6 @@
 //! Why a command ends before its answer is written.
+ghost use Rattle.std.specs.Prelude.{◌≡◌};
+ghost use Rattle.spark_tool.specs.Stops.{stop_status};
 
 use std::alloc::{AllocError, AllocFailed};
 
@@ -11,6 +13,19 @@ pub(crate) enum Stop {
     Write,
     /// There is no memory left.
     Memory,
+}
+
+impl Stop {
+    /// The status of the program.
+    pub(crate) fn status(self) -> u8
+        ensures { result ≡ stop_status self }
+    {
+        match self {
+            Stop::Read => 7,
+            Stop::Write => 8,
+            Stop::Memory => 9,
+        }
+    }
 }
 
 impl From<AllocError> for Stop {

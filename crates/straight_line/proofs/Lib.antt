@@ -17,3 +17,5 @@ pub mod Ordered
 pub mod Collected
 -- the walk along a path
 pub mod Walked
+-- the definitions, worked out on one program
+pub mod Worked

@@ -1,12 +1,11 @@
 -- Objects are numbered by their count.
-use Rattle.std.proofs.Common.{◌≡◌, ℕ, ◌+◌, ◌≤◌, ◌<◌, Bool, true, false, cond, List, [], ◌∷◌, ◌++◌, length, Option, Some, None, refl, sym, ap, subst, ◌∙◌, arith, length-append}
+use Rattle.std.proofs.Common.{◌≡◌, ℕ, ◌+◌, ◌≤◌, ◌<◌, Bool, true, false, List, [], ◌∷◌, ◌++◌, length, Some, refl, sym, ap, subst, ◌∙◌, arith, length-append}
 use Rattle.std.proofs.lemmas.List.Sums.{sum_by-append}
 use Rattle.std.specs.Map.{lookup}
 use Rattle.straight_line.specs.declared.kind.Mark.{Mark}
 use Rattle.straight_line.specs.declared.kind.Declared.{Declared}
 use Rattle.straight_line.specs.declared.kind.Declared.TheVariants.{Procedure, AccessType, Instance, Object}
-use Rattle.straight_line.specs.Within.{IsObject}
-use Rattle.straight_line.specs.Declarations.{Declarations, is_object, object_count}
+use Rattle.straight_line.specs.Declarations.{Declarations, object_count}
 use Rattle.straight_line.specs.Steps.{IsNumbered, AreNumbered, IsOther, GoWith}
 
 pub object_count-append : (known rest : Declarations) → object_count (known ++ rest) ≡ object_count known + object_count rest
@@ -47,7 +46,7 @@ pub GoWith-object : (known : Declarations) (objects : List (List ℕ)) (word tex
     → GoWith (known ++ (word, Object (object_count known + 1) mark) ∷ []) (objects ++ text ∷ [])
 GoWith-object known objects word text mark go room =
     let count : object_count (known ++ (word, Object (object_count known + 1) mark) ∷ []) ≡ object_count known + 1 =
-        object_count-append known ((word, Object (object_count known + 1) mark) ∷ []) in
+    object_count-append known ((word, Object (object_count known + 1) mark) ∷ []) in
     let size : length (objects ++ text ∷ []) ≡ length objects + 1 = length-append objects (text ∷ []) in
     record {
       counted = size ∙ ap (λ n. n + 1) go.counted ∙ sym count;
@@ -73,7 +72,7 @@ pub GoWith-other : (known : Declarations) (objects : List (List ℕ)) (word : Li
     → IsOther kind → GoWith known objects → GoWith (known ++ (word, kind) ∷ []) objects
 GoWith-other known objects word kind other go =
     let count : object_count (known ++ (word, kind) ∷ []) ≡ object_count known + object_count ((word, kind) ∷ []) =
-        object_count-append known ((word, kind) ∷ []) in
+    object_count-append known ((word, kind) ∷ []) in
     let unchanged : object_count (known ++ (word, kind) ∷ []) ≡ object_count known = omega (arith, count, none_counted word kind other) in
     record {
       counted = go.counted ∙ sym unchanged;
@@ -91,4 +90,4 @@ GoWith-declared known known' objects objects' word text number mark go room is g
     let known_is : known ++ (word, Object (object_count known + 1) mark) ∷ [] ≡ known' = ap (λ n. known ++ (word, Object n mark) ∷ []) (sym counted) ∙ sym grown in
     let room_is : object_count known < 512 = omega (arith, go.counted, room) in
     subst (λ k. GoWith k objects') known_is
-        (subst (GoWith (known ++ (word, Object (object_count known + 1) mark) ∷ [])) (sym named) (GoWith-object known objects word text mark go room_is))
+    (subst (GoWith (known ++ (word, Object (object_count known + 1) mark) ∷ [])) (sym named) (GoWith-object known objects word text mark go room_is))

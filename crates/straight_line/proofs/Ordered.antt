@@ -14,7 +14,6 @@ use Rattle.place_names.specs.Reports.{position_cmp, rule_rank, report_cmp}
 use Rattle.straight_line.specs.declared.path.Place.{Place}
 use Rattle.straight_line.specs.declared.path.Place.TheVariants.{Object, Designated}
 use Rattle.straight_line.specs.declared.reports.Entry.{Entry}
-use Rattle.straight_line.specs.declared.reports.PathReport.{PathReport}
 use Rattle.straight_line.specs.Deeds.{name_of}
 use Rattle.straight_line.specs.Reported.{object_text, printed_name, report_of}
 use Rattle.straight_line.specs.Marks.{entry_cmp, report_in, IsNamed}
@@ -41,8 +40,8 @@ without_last : (a b c d e : Ordering) → (c ≡ Equal → d ≡ Equal → e ≡
     → ordering_then a (ordering_then b (ordering_then c (ordering_then d e))) ≡ Less → ordering_then a (ordering_then b (ordering_then c d)) ≡ Less
 without_last a b c d e f less =
     then_less a (ordering_then b (ordering_then c (ordering_then d e))) (ordering_then b (ordering_then c d)) (λ _ less.
-      then_less b (ordering_then c (ordering_then d e)) (ordering_then c d) (λ _ less.
-        then_less c (ordering_then d e) d (λ same less. then_last d e (f same) less) less) less) less
+    then_less b (ordering_then c (ordering_then d e)) (ordering_then c d) (λ _ less.
+    then_less c (ordering_then d e) d (λ same less. then_last d e (f same) less) less) less) less
 
 -- ---- what compares equal is equal
 
@@ -102,7 +101,8 @@ abbrev place_in : Bool → ℕ → Place
 place_in designated x = if designated then Designated x else Object x
 
 -- the text of an object and that of what it designates differ
-texts_differ : (objects : List (List ℕ)) (x : ℕ) (a b : Bool) → printed_name objects (name_of (place_in a x)) ≡ printed_name objects (name_of (place_in b x)) → a ≡ b
+texts_differ : (objects : List (List ℕ)) (x : ℕ) (a b : Bool)
+    → printed_name objects (name_of (place_in a x)) ≡ printed_name objects (name_of (place_in b x)) → a ≡ b
 texts_differ objects x true true e = refl
 texts_differ objects x false false e = refl
 texts_differ objects x true false e =
@@ -132,22 +132,33 @@ no_less : (a : Bool) → bool_cmp a a ≡ Less → ⊥
 no_less true e = cc
 no_less false e = cc
 
+abbrev text_of : List (List ℕ) → Entry → List ℕ
+text_of objects e = printed_name objects (name_of (report_in e).place)
+
+-- where texts and objects are the same, nothing is left to tell apart
+same_to_the_end : (objects : List (List ℕ)) (a b : Entry) → IsNamed objects a → IsNamed objects b
+    → slice_cmp nat_cmp a.name.items b.name.items ≡ Equal → nat_cmp (b.root).0 (a.root).0 ≡ Equal
+    → bool_cmp a.is_designated b.is_designated ≡ Less → ⊥
+same_to_the_end objects a b named_a named_b same_text same_object less =
+    let text = bytes_equal a.name.items b.name.items same_text in
+    let object = nat_equal (b.root).0 (a.root).0 same_object in
+    let at_one = ap (λ x. printed_name objects (name_of (place_in b.is_designated x))) object in
+    let designated = texts_differ objects (a.root).0 a.is_designated b.is_designated (sym named_a ∙ text ∙ named_b ∙ at_one) in
+    no_less b.is_designated (ap (λ d. bool_cmp d b.is_designated) (sym designated) ∙ less)
+
 pub entry_less : (objects : List (List ℕ)) (a b : Entry) → IsNamed objects a → IsNamed objects b → entry_cmp a b ≡ Less
     → report_cmp (printed_name objects) (report_of (report_in a)) (report_of (report_in b)) ≡ Less
 entry_less objects a b named_a named_b e =
-    let texts : slice_cmp nat_cmp a.name.items b.name.items ≡ slice_cmp nat_cmp (printed_name objects (name_of (report_in a).place)) (printed_name objects (name_of (report_in b).place)) =
-        λ i. slice_cmp nat_cmp (named_a i) (named_b i) in
-    let roots : nat_cmp (b.root).0 (a.root).0 ≡ nat_cmp (name_of (report_in b).place).root (name_of (report_in a).place).root =
-        λ i. nat_cmp (sym (root_in b.is_designated (b.root).0) i) (sym (root_in a.is_designated (a.root).0) i) in
-    let last = λ (same : slice_cmp nat_cmp a.name.items b.name.items ≡ Equal) (objects_same : nat_cmp (b.root).0 (a.root).0 ≡ Equal) (less : bool_cmp a.is_designated b.is_designated ≡ Less).
-        let text = bytes_equal a.name.items b.name.items same in
-        let root = nat_equal (b.root).0 (a.root).0 objects_same in
-        let printed_same : printed_name objects (name_of (place_in a.is_designated (a.root).0)) ≡ printed_name objects (name_of (place_in b.is_designated (a.root).0)) =
-            sym named_a ∙ text ∙ named_b ∙ ap (λ x. printed_name objects (name_of (place_in b.is_designated x))) root in
-        let designated = texts_differ objects (a.root).0 a.is_designated b.is_designated printed_same in
-        no_less b.is_designated (ap (λ d. bool_cmp d b.is_designated) (sym designated) ∙ less) in
-    let alike : ordering_then (position_cmp a.pos b.pos) (ordering_then (rule_cmp a.rule b.rule) (ordering_then (slice_cmp nat_cmp a.name.items b.name.items) (nat_cmp (b.root).0 (a.root).0)))
-            ≡ report_cmp (printed_name objects) (report_of (report_in a)) (report_of (report_in b)) =
-        λ i. ordering_then (position_cmp a.pos b.pos) (ordering_then (rule_order a.rule b.rule i) (ordering_then (texts i) (roots i))) in
-    sym alike ∙ without_last (position_cmp a.pos b.pos) (rule_cmp a.rule b.rule) (slice_cmp nat_cmp a.name.items b.name.items)
-        (nat_cmp (b.root).0 (a.root).0) (bool_cmp a.is_designated b.is_designated) last e
+    let positions = position_cmp a.pos b.pos in
+    let rules = rule_cmp a.rule b.rule in
+    let texts = slice_cmp nat_cmp a.name.items b.name.items in
+    let roots = nat_cmp (b.root).0 (a.root).0 in
+    let same_texts : texts ≡ slice_cmp nat_cmp (text_of objects a) (text_of objects b) =
+    λ i. slice_cmp nat_cmp (named_a i) (named_b i) in
+    let same_roots : roots ≡ nat_cmp (name_of (report_in b).place).root (name_of (report_in a).place).root =
+    λ i. nat_cmp (sym (root_in b.is_designated (b.root).0) i) (sym (root_in a.is_designated (a.root).0) i) in
+    let alike : ordering_then positions (ordering_then rules (ordering_then texts roots))
+    ≡ report_cmp (printed_name objects) (report_of (report_in a)) (report_of (report_in b)) =
+    λ i. ordering_then positions (ordering_then (rule_order a.rule b.rule i) (ordering_then (same_texts i) (same_roots i))) in
+    sym alike ∙ without_last positions rules texts roots (bool_cmp a.is_designated b.is_designated)
+    (same_to_the_end objects a b named_a named_b) e

@@ -1,5 +1,5 @@
 -- The scope end, one object at a time.
-use Rattle.std.proofs.Common.{◌≡◌, ℕ, zero, suc, ◌+◌, ◌-◌, ◌<◌, ◌≤◌, List, [], ◌∷◌, ◌++◌, take, length, reverse, flat_map, Option, Some, None, get_or, slice_get, refl, sym, ap, subst, ◌∙◌, arith, append_assoc}
+use Rattle.std.proofs.Common.{◌≡◌, ℕ, zero, suc, ◌+◌, ◌-◌, ◌<◌, ◌≤◌, List, [], ◌∷◌, ◌++◌, take, length, flat_map, Some, get_or, slice_get, sym, ap, subst, ◌∙◌, arith, append_assoc}
 use Rattle.std.specs.Prelude.{option_map, option_to_list}
 use Rattle.std.proofs.lemmas.List.{append-nil, reverse-append}
 use Rattle.std.proofs.lemmas.Grind.{take_at_read}
@@ -31,10 +31,10 @@ scope_end-take : (pos : Pos) (known : Declarations) (i : ℕ) → i < length kno
 scope_end-take pos known i inside =
     let l = last_at known i inside in
     let ends : ends_at pos known i ≡ end_of pos l.entry.1 =
-        ap (λ found. flat_map (end_of pos) (option_to_list (option_map (λ e. e.1) found))) l.there ∙ append-nil (end_of pos l.entry.1) in
+    ap (λ found. flat_map (end_of pos) (option_to_list (option_map (λ e. e.1) found))) l.there ∙ append-nil (end_of pos l.entry.1) in
     ap (scope_end pos) l.last
-        ∙ ap (flat_map (λ e. end_of pos e.1)) (reverse-append (take i known) (l.entry ∷ []))
-        ∙ ap (λ acts. acts ++ scope_end pos (take i known)) (sym ends)
+    ∙ ap (flat_map (λ e. end_of pos e.1)) (reverse-append (take i known) (l.entry ∷ []))
+    ∙ ap (λ acts. acts ++ scope_end pos (take i known)) (sym ends)
 
 pub one_ended : (pos : Pos) (known : Declarations) (left : ℕ) (whole before after : List Placed)
     → whole ≡ before ++ scope_end pos (take left known) → 0 < left → left ≤ length known
@@ -42,9 +42,9 @@ pub one_ended : (pos : Pos) (known : Declarations) (left : ℕ) (whole before af
 one_ended pos known left whole before after is some inside grown =
     let back : left ≡ left - 1 + 1 = omega arith in
     is ∙ ap (λ n. before ++ scope_end pos (take n known)) back
-        ∙ ap (λ acts. before ++ acts) (scope_end-take pos known (left - 1) (omega arith))
-        ∙ sym (append_assoc before (ends_at pos known (left - 1)) (scope_end pos (take (left - 1) known)))
-        ∙ ap (λ acts. acts ++ scope_end pos (take (left - 1) known)) (sym grown)
+    ∙ ap (λ acts. before ++ acts) (scope_end-take pos known (left - 1) (omega arith))
+    ∙ sym (append_assoc before (ends_at pos known (left - 1)) (scope_end pos (take (left - 1) known)))
+    ∙ ap (λ acts. acts ++ scope_end pos (take (left - 1) known)) (sym grown)
 
 -- a declaration at a place is numbered
 pub IsNumbered-at : (n : ℕ) (known : Declarations) (i : ℕ) (kind : Declared) → AreNumbered n known

@@ -1,8 +1,8 @@
 -- The sentences of the form hold exactly where each declaration may follow those before it, and each statement is well.
-use Rattle.std.proofs.Common.{◌≡◌, ℕ, ◌+◌, ◌≤◌, ◌<◌, Bool, true, false, ◌&&◌, List, [], ◌∷◌, ◌++◌, length, refl, sym, ap, subst, ◌∙◌, arith, append_assoc}
+use Rattle.std.proofs.Common.{◌≡◌, ℕ, ◌≤◌, Bool, true, false, ◌&&◌, List, [], ◌∷◌, ◌++◌, length, refl, sym, ap, subst, ◌∙◌, arith, append_assoc}
 use Rattle.std.proofs.lemmas.List.{append-nil}
 use Rattle.std.proofs.lemmas.Bool.{ltb-true, lt-ltb, false≢true}
-use Rattle.std.specs.Prelude.{nat_lt, is_none, IsTrue}
+use Rattle.std.specs.Prelude.{nat_lt, is_none}
 use Rattle.std.specs.List.{list_all}
 use Rattle.std.specs.Map.{lookup}
 use Rattle.ada_parser.specs.declared.tree.Item.{Item}
@@ -11,7 +11,7 @@ use Rattle.straight_line.specs.declared.kind.Declared.{Declared}
 use Rattle.straight_line.specs.declared.kind.Declared.TheVariants.{Procedure, AccessType, Instance, Object}
 use Rattle.straight_line.specs.Declarations.{Declarations, folded, same, object_count, declared_by, known_behind, declarations}
 use Rattle.straight_line.specs.Form.{all_new, may_be_declared, may_name_procedure, has_type, has_types, has_numbers_within, statements, IsStraightLine}
-use Rattle.straight_line.specs.Steps.{may_enter, has_room, may_follow, all_follow, items_follow, is_well, declares_well, runs_well}
+use Rattle.straight_line.specs.Steps.{may_enter, has_room, may_follow, all_follow, items_follow, declares_well, runs_well}
 use Rattle.straight_line.proofs.Numbering.{object_count-append}
 
 both : (s t : Bool) → (s && t) ≡ true → (s ≡ true) × (t ≡ true)
@@ -52,20 +52,20 @@ known_behind-entries : (known : Declarations) (items : List Item) → known_behi
 known_behind-entries known [] = sym (append-nil known)
 known_behind-entries known (item ∷ rest) =
     known_behind-entries (known ++ declared_by known item) rest
-        ∙ append_assoc known (declared_by known item) (entries_in (known ++ declared_by known item) rest)
+    ∙ append_assoc known (declared_by known item) (entries_in (known ++ declared_by known item) rest)
 
 all_follow-append : (known xs ys : Declarations) → all_follow known (xs ++ ys) ≡ (all_follow known xs && all_follow (known ++ xs) ys)
 all_follow-append known [] ys = ap (λ k. all_follow k ys) (sym (append-nil known))
 all_follow-append known (e ∷ xs) ys =
     ap (λ b. may_follow known e && b) (all_follow-append (known ++ e ∷ []) xs ys
-            ∙ ap (λ k. all_follow (known ++ e ∷ []) xs && all_follow k ys) (append_assoc known (e ∷ []) xs))
-        ∙ and_assoc (may_follow known e) (all_follow (known ++ e ∷ []) xs) (all_follow (known ++ e ∷ xs) ys)
+    ∙ ap (λ k. all_follow (known ++ e ∷ []) xs && all_follow k ys) (append_assoc known (e ∷ []) xs))
+    ∙ and_assoc (may_follow known e) (all_follow (known ++ e ∷ []) xs) (all_follow (known ++ e ∷ xs) ys)
 
 items_follow-entries : (known : Declarations) (items : List Item) → items_follow known items ≡ all_follow known (entries_in known items)
 items_follow-entries known [] = refl
 items_follow-entries known (item ∷ rest) =
     ap (λ b. all_follow known (declared_by known item) && b) (items_follow-entries (known ++ declared_by known item) rest)
-        ∙ sym (all_follow-append known (declared_by known item) (entries_in (known ++ declared_by known item) rest))
+    ∙ sym (all_follow-append known (declared_by known item) (entries_in (known ++ declared_by known item) rest))
 
 -- there is room for an object exactly where at most 512 are declared with it
 room_left : (known : Declarations) (word : List ℕ) (kind : Declared) → object_count known ≤ 512 → has_room known kind ≡ true
@@ -115,7 +115,7 @@ sentences_follow known (e ∷ rest) s =
     let word = both (may_be_declared e.0) _ s.words in
     let mark = both (has_type e.1) _ s.marks in
     both_true _ _ (both_true _ _ (room_there known e.0 e.1 here) (both_true _ _ new.0 (both_true _ _ word.0 mark.0)))
-        (sentences_follow (known ++ e ∷ []) rest (record { once = new.1; words = word.1; marks = mark.1; few = whole }))
+    (sentences_follow (known ++ e ∷ []) rest (record { once = new.1; words = word.1; marks = mark.1; few = whole }))
 
 module _ (unit : SourceUnit) where
   abbrev own : Declarations
@@ -130,7 +130,7 @@ module _ (unit : SourceUnit) where
       let parts = both _ (items_follow own unit.items) h in
       let names = both (may_enter [] (folded unit.name) Procedure) _ parts.0 in
       ap (all_follow []) declarations_are
-          ∙ both_true _ _ names.0 (sym (items_follow-entries own unit.items) ∙ parts.1)
+      ∙ both_true _ _ names.0 (sym (items_follow-entries own unit.items) ∙ parts.1)
 
   -- where the steps find no fault, the sentences hold
   pub straight_line : declares_well unit ≡ true → runs_well (declarations unit) unit ≡ true → IsStraightLine unit
@@ -162,7 +162,7 @@ module _ (unit : SourceUnit) where
   declares form =
       let parts = both (may_follow [] (folded unit.name, Procedure)) _ (follows form) in
       both_true _ _ (both_true _ _ parts.0 (both_true _ _ form.procedure_word form.closing))
-          (items_follow-entries own unit.items ∙ parts.1)
+      (items_follow-entries own unit.items ∙ parts.1)
 
   pub runs : IsStraightLine unit → runs_well (declarations unit) unit ≡ true
   runs form = both_true _ _ (lt-ltb (length unit.rest) 15000 (omega (arith, form.statement_count)))

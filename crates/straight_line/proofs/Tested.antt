@@ -1,10 +1,9 @@
 -- What the facts forbid at a deed is what the marks report.
-use Rattle.std.proofs.Common.{◌≡◌, ℕ, Bool, true, false, ◌&&◌, ◌||◌, ◌==◌, List, Option, Some, None, refl, sym, ap, ◌∙◌, subst, eqb-true, eq-eqb, if◌then◌else◌}
+use Rattle.std.proofs.Common.{◌≡◌, ℕ, Bool, true, false, ◌&&◌, ◌||◌, ◌==◌, List, Option, Some, None, refl, sym, ap, ◌∙◌, eqb-true, eq-eqb, if◌then◌else◌}
 use Rattle.spark_base.specs.declared.position.Pos.{Pos}
 use Rattle.place_names.specs.declared.rule.State.TheVariants as state
 use Rattle.place_names.specs.declared.rule.Rule.{Rule}
 use Rattle.place_names.specs.declared.rule.Rule.TheVariants.{O1, O3, O4, O14}
-use Rattle.place_names.specs.Lists.{Has}
 use Rattle.place_names.specs.Facts.{Fact, Moved, facts_after}
 use Rattle.place_names.specs.Rules.{Forbidden, forbids, forbidden_if}
 use Rattle.place_names.specs.Reports.{Report}
@@ -32,13 +31,26 @@ forbidden_at y (Some t) =
 abbrev moved : ℕ → Fact
 moved y = Moved (object_name y)
 
+-- the tests of one move, as the rules compute them
+read_test : (b : Bool) → (b && true) ≡ b
+read_test true = refl
+read_test false = refl
+
+write_test : (b : Bool) → ((((b && true) || false) || false) || false) ≡ b
+write_test true = refl
+write_test false = refl
+
+free_test : (b : Bool) → ((b && true) || false) ≡ b
+free_test true = refl
+free_test false = refl
+
 pub forbids_is : (d : Deed) (y : ℕ) → forbids (act_of d) (Moved (object_name y)) ≡ forbidden_at y (test_of d)
-forbids_is (Read (Object x)) y = elim (y == x) as (λ b. forbidden_if (b && true) O1 (object_name x) (moved y) ≡ (if b then Some (record { rule = O1; name = object_name x; word = state.Moved }) else None)) [ true ↦ refl | false ↦ refl ]
-forbids_is (Read (Designated x)) y = elim (y == x) as (λ b. forbidden_if (b && true) O1 (designated_name x) (moved y) ≡ (if b then Some (record { rule = O1; name = designated_name x; word = state.Moved }) else None)) [ true ↦ refl | false ↦ refl ]
+forbids_is (Read (Object x)) y = ap (λ b. forbidden_if b O1 (object_name x) (moved y)) (read_test (y == x))
+forbids_is (Read (Designated x)) y = ap (λ b. forbidden_if b O1 (designated_name x) (moved y)) (read_test (y == x))
 forbids_is (Write (Object x)) y = refl
-forbids_is (Write (Designated x)) y = elim (y == x) as (λ b. forbidden_if (((((b && true) || false) || false)) || false) O3 (designated_name x) (moved y) ≡ (if b then Some (record { rule = O3; name = designated_name x; word = state.Moved }) else None)) [ true ↦ refl | false ↦ refl ]
-forbids_is (Move x) y = elim (y == x) as (λ b. forbidden_if (b && true) O4 (object_name x) (moved y) ≡ (if b then Some (record { rule = O4; name = object_name x; word = state.Moved }) else None)) [ true ↦ refl | false ↦ refl ]
-forbids_is (Free x) y = elim (y == x) as (λ b. forbidden_if ((b && true) || false) O14 (object_name x) (moved y) ≡ (if b then Some (record { rule = O14; name = object_name x; word = state.Moved }) else None)) [ true ↦ refl | false ↦ refl ]
+forbids_is (Write (Designated x)) y = ap (λ b. forbidden_if b O3 (designated_name x) (moved y)) (write_test (y == x))
+forbids_is (Move x) y = ap (λ b. forbidden_if b O4 (object_name x) (moved y)) (read_test (y == x))
+forbids_is (Free x) y = ap (λ b. forbidden_if b O14 (object_name x) (moved y)) (free_test (y == x))
 forbids_is (EndScope x) y = refl
 forbids_is Return y = refl
 
@@ -49,7 +61,8 @@ abbrev found_of : Rule × Place → Forbidden
 found_of t = record { rule = t.0; name = name_of t.1; word = state.Moved }
 
 -- what is forbidden by the move of a marked object is tested
-tested_by : (marks : List Bool) (pos : Pos) (y : ℕ) (t : Rule × Place) (found : Forbidden) (b : Bool) → (y == root_of t.1) ≡ b
+tested_by : (marks : List Bool) (pos : Pos) (y : ℕ) (t : Rule × Place) (found : Forbidden) (b : Bool)
+    → (y == root_of t.1) ≡ b
     → is_marked marks y ≡ true → (if b then Some (found_of t) else None) ≡ Some found
     → (r : PathReport) × (tested marks pos (Some t) ≡ Some r) × (report_of r ≡ given.report_at pos found)
 tested_by marks pos y t found true same marked e =
@@ -58,7 +71,8 @@ tested_by marks pos y t found true same marked e =
     (r, ap (λ b. if b then Some r else None) here, ap (given.report_at pos) (same_some (found_of t) found e))
 tested_by marks pos y t found false same marked e = cc
 
-tested_from : (marks : List Bool) (pos : Pos) (y : ℕ) (t : Option (Rule × Place)) (found : Forbidden) → is_marked marks y ≡ true
+tested_from : (marks : List Bool) (pos : Pos) (y : ℕ) (t : Option (Rule × Place)) (found : Forbidden)
+    → is_marked marks y ≡ true
     → forbidden_at y t ≡ Some found → (r : PathReport) × (tested marks pos t ≡ Some r) × (report_of r ≡ given.report_at pos found)
 tested_from marks pos y None found marked e = cc
 tested_from marks pos y (Some t) found marked e = tested_by marks pos y t found (y == root_of t.1) refl marked e
@@ -71,35 +85,43 @@ record IsForbidden (marks : List Bool) (pos : Pos) (t : Option (Rule × Place)) 
   forbidden : forbidden_at object t ≡ Some found
   reported : report_of r ≡ given.report_at pos found
 
-forbidden_by : (marks : List Bool) (pos : Pos) (t : Rule × Place) (r : PathReport) (b : Bool) → is_marked marks (root_of t.1) ≡ b
+forbidden_by : (marks : List Bool) (pos : Pos) (t : Rule × Place) (r : PathReport) (b : Bool)
+    → is_marked marks (root_of t.1) ≡ b
     → (if b then Some (record { pos = pos; rule = t.0; place = t.1 }) else None) ≡ Some r → IsForbidden marks pos (Some t) r
 forbidden_by marks pos t r true marked e = record {
-  object = root_of t.1; marked = marked; found = found_of t;
+  object = root_of t.1;
+  marked = marked;
+  found = found_of t;
   forbidden = ap (λ b. if b then Some (found_of t) else None) (eq-eqb (root_of t.1) (root_of t.1) refl);
   reported = ap report_of (sym (same_some (record { pos = pos; rule = t.0; place = t.1 }) r e));
 }
 forbidden_by marks pos t r false marked e = cc
 
-forbidden_from : (marks : List Bool) (pos : Pos) (t : Option (Rule × Place)) (r : PathReport) → tested marks pos t ≡ Some r → IsForbidden marks pos t r
+forbidden_from : (marks : List Bool) (pos : Pos) (t : Option (Rule × Place)) (r : PathReport)
+    → tested marks pos t ≡ Some r → IsForbidden marks pos t r
 forbidden_from marks pos None r e = cc
 forbidden_from marks pos (Some t) r e = forbidden_by marks pos t r (is_marked marks (root_of t.1)) refl e
 
 -- the report of a deed is what its act gives
-pub given_reported : (acts : List Placed) (marks : List Bool) (d : PlacedDeed) (r : Report) → Stands marks (facts_after (acts_of acts))
+pub given_reported : (acts : List Placed) (marks : List Bool) (d : PlacedDeed) (r : Report)
+    → Stands marks (facts_after (acts_of acts))
     → GivesNext acts (placed_of d) r → (p : PathReport) × (report_at marks d ≡ Some p) × (report_of p ≡ r)
 given_reported acts marks d r s g =
     let which = s.only g.fact g.holds in
     let is : forbidden_at which.0 (test_of d.deed) ≡ Some g.found =
-        sym (forbids_is d.deed which.0) ∙ ap (forbids (act_of d.deed)) (sym which.1) ∙ g.forbidden in
+    sym (forbids_is d.deed which.0) ∙ ap (forbids (act_of d.deed)) (sym which.1) ∙ g.forbidden in
     let p = tested_from marks d.pos which.0 (test_of d.deed) g.found which.2 is in
     (p.0, p.1, p.2 ∙ sym g.reported)
 
-pub reported_given : (acts : List Placed) (marks : List Bool) (d : PlacedDeed) (p : PathReport) → Stands marks (facts_after (acts_of acts))
+pub reported_given : (acts : List Placed) (marks : List Bool) (d : PlacedDeed) (p : PathReport)
+    → Stands marks (facts_after (acts_of acts))
     → report_at marks d ≡ Some p → GivesNext acts (placed_of d) (report_of p)
 reported_given acts marks d p s e =
     let is = forbidden_from marks d.pos (test_of d.deed) p e in
     record {
-      fact = moved is.object; holds = s.kept is.object is.marked; found = is.found;
+      fact = moved is.object;
+      holds = s.kept is.object is.marked;
+      found = is.found;
       forbidden = forbids_is d.deed is.object ∙ is.forbidden;
       reported = is.reported;
     }

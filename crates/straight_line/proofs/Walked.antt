@@ -1,5 +1,5 @@
 -- The walk along a path keeps the marks for its facts, and the entries for its reports.
-use Rattle.std.proofs.Common.{◌≡◌, ◌⊎◌, inl, inr, ℕ, ◌+◌, ◌-◌, ◌<◌, ◌≤◌, Bool, true, false, List, [], ◌∷◌, ◌++◌, length, take, get_or, map, Option, Some, None, refl, sym, ap, ◌∙◌, subst, arith, if◌then◌else◌}
+use Rattle.std.proofs.Common.{◌≡◌, inl, inr, ℕ, ◌+◌, ◌-◌, ◌<◌, Bool, true, false, List, [], ◌∷◌, ◌++◌, length, take, get_or, map, Option, Some, None, refl, sym, ap, ◌∙◌, subst, arith, if◌then◌else◌}
 use Rattle.std.specs.Prelude.{replicate, All}
 use Rattle.std.proofs.lemmas.List.Elements.{All-map}
 use Rattle.spark_base.specs.declared.position.Pos.{Pos}
@@ -60,15 +60,18 @@ abbrev report_by : PlacedDeed → Rule × Place → PathReport
 report_by d t = record { pos = d.pos; rule = t.0; place = t.1 }
 
 -- a report is that of its test
-test_by : (d : PlacedDeed) (t : Rule × Place) (p : PathReport) (b : Bool) → (if b then Some (report_by d t) else None) ≡ Some p → report_by d t ≡ p
+test_by : (d : PlacedDeed) (t : Rule × Place) (p : PathReport) (b : Bool)
+    → (if b then Some (report_by d t) else None) ≡ Some p → report_by d t ≡ p
 test_by d t p true e = same_some (report_by d t) p e
 test_by d t p false e = cc
 
-test_found : (marks : List Bool) (d : PlacedDeed) (o : Option (Rule × Place)) (p : PathReport) → tested marks d.pos o ≡ Some p → (t : Rule × Place) × (o ≡ Some t) × (report_by d t ≡ p)
+test_found : (marks : List Bool) (d : PlacedDeed) (o : Option (Rule × Place)) (p : PathReport)
+    → tested marks d.pos o ≡ Some p → (t : Rule × Place) × (o ≡ Some t) × (report_by d t ≡ p)
 test_found marks d None p e = cc
 test_found marks d (Some t) p e = (t, refl, test_by d t p (is_marked marks (root_of t.1)) e)
 
-pub report_within : (n : ℕ) (marks : List Bool) (d : PlacedDeed) (p : PathReport) → IsWithin n d.deed → report_at marks d ≡ Some p → IsObject n (root_of p.place)
+pub report_within : (n : ℕ) (marks : List Bool) (d : PlacedDeed) (p : PathReport) → IsWithin n d.deed
+    → report_at marks d ≡ Some p → IsObject n (root_of p.place)
 report_within n marks d p w e =
     let t = test_found marks d (test_of d.deed) p e in
     subst (λ (q : PathReport). IsObject n (root_of q.place)) t.2 (test_within n d.deed t.0 w t.1)
@@ -76,7 +79,8 @@ report_within n marks d p w e =
 report_pos : (marks : List Bool) (d : PlacedDeed) (p : PathReport) → report_at marks d ≡ Some p → d.pos ≡ p.pos
 report_pos marks d p e = ap (λ (q : PathReport). q.pos) (test_found marks d (test_of d.deed) p e).2
 
-pub marks_within : (n : ℕ) (marks : List Bool) (d : Deed) → length marks ≡ n + 1 → IsWithin n d → IsWithin (length marks - 1) d
+pub marks_within : (n : ℕ) (marks : List Bool) (d : Deed) → length marks ≡ n + 1 → IsWithin n d
+    → IsWithin (length marks - 1) d
 marks_within n marks d e w = let m : n ≡ length marks - 1 = omega arith in subst (λ m. IsWithin m d) m w
 
 -- ---- the walk
@@ -97,7 +101,8 @@ gives_none r g = none g.before g.split
     none [] e = cc
     none (a ∷ before) e = cc
 
-pub walked_first : (objects : List (List ℕ)) (marks : List Bool) (n : ℕ) → n ≡ length objects → marks ≡ replicate (n + 1) false → Walked objects [] marks []
+pub walked_first : (objects : List (List ℕ)) (marks : List Bool) (n : ℕ) → n ≡ length objects
+    → marks ≡ replicate (n + 1) false → Walked objects [] marks []
 walked_first objects marks n count e = record {
   long = ap length e ∙ length-replicate (n + 1) false ∙ ap (λ m. m + 1) count;
   stands = subst (λ t. Stands t []) (sym e) (stands_first (n + 1));
@@ -105,25 +110,30 @@ walked_first objects marks n count e = record {
   fits = λ e h. absurd h;
 }
 
-grows : (done : List PlacedDeed) (d : PlacedDeed) (marks : List Bool) → Stands marks (facts_after (acts_of (placed done)))
+grows : (done : List PlacedDeed) (d : PlacedDeed) (marks : List Bool)
+    → Stands marks (facts_after (acts_of (placed done)))
     → Grows (Gives (placed done)) (Gives (placed done ++ placed_of d ∷ [])) (report_at marks d)
 grows done d marks s = record {
   from = λ r g. elim (gives_cases (placed done) (placed_of d) r g) [
-      inl h ↦ inl h
+    | inl h ↦ inl h
     | inr h ↦ inr (given_reported (placed done) marks d r s h)
-    ];
+  ];
   stays = λ r g. gives_before (placed done) (placed_of d) r g;
   comes = λ p e. gives_next (placed done) (placed_of d) (report_of p) (reported_given (placed done) marks d p s e);
 }
 
-fits_more : (objects : List (List ℕ)) (done : List PlacedDeed) (d : PlacedDeed) (p : PathReport) → Fits objects done p → Fits objects (done ++ d ∷ []) p
+fits_more : (objects : List (List ℕ)) (done : List PlacedDeed) (d : PlacedDeed) (p : PathReport) → Fits objects done p
+    → Fits objects (done ++ d ∷ []) p
 fits_more objects done d p f = record { object = f.object; deed = f.deed; has = Has-append_left done (d ∷ []) f.deed f.has; pos = f.pos }
 
-fits_next : (objects : List (List ℕ)) (done : List PlacedDeed) (d : PlacedDeed) (marks : List Bool) (p : PathReport) → IsWithin (length objects) d.deed
+fits_next : (objects : List (List ℕ)) (done : List PlacedDeed) (d : PlacedDeed) (marks : List Bool) (p : PathReport)
+    → IsWithin (length objects) d.deed
     → report_at marks d ≡ Some p → Fits objects (done ++ d ∷ []) p
 fits_next objects done d marks p w e = record {
-  object = report_within (length objects) marks d p w e; deed = d;
-  has = Has-append_right done (d ∷ []) d (inl refl); pos = report_pos marks d p e;
+  object = report_within (length objects) marks d p w e;
+  deed = d;
+  has = Has-append_right done (d ∷ []) d (inl refl);
+  pos = report_pos marks d p e;
 }
 
 pub walked_next : (objects : List (List ℕ)) (done : List PlacedDeed) (d : PlacedDeed) (marks : List Bool) (old new : List Entry)
@@ -137,24 +147,27 @@ walked_next objects done d marks old new w k adds =
       stands = subst (Stands (marks_after marks d.deed)) (sym facts)
           (stands_next d.deed marks (facts_after (acts_of (placed done))) (marks_within (length objects) marks d.deed k.long w) k.stands);
       collected = subst (λ t. Collected objects (Gives t) new) (sym acts)
-          (collected_next objects (Gives (placed done)) (Gives (placed done ++ placed_of d ∷ [])) (report_at marks d) old new (grows done d marks k.stands) adds k.collected);
+          (collected_next objects (Gives (placed done)) (Gives (placed done ++ placed_of d ∷ [])) (report_at marks d) old new
+          (grows done d marks k.stands) adds k.collected);
       fits = λ e h. elim (added_cases objects (report_at marks d) old new adds e h) [
-          inl g ↦ fits_more objects done d (report_in e) (k.fits e g)
+        | inl g ↦ fits_more objects done d (report_in e) (k.fits e g)
         | inr g ↦ fits_next objects done d marks (report_in e) w g
-        ];
+      ];
     }
 
 -- ---- one turn of the loop: what the code reads is what the path has
 
 -- the report of a turn names an object that there is
-pub turn_fits : (objects objs : List (List ℕ)) (deeds items : List PlacedDeed) (marks : List Bool) (i : ℕ) (first : PlacedDeed) (o : Option PathReport) (p : PathReport)
+pub turn_fits : (objects objs : List (List ℕ)) (deeds items : List PlacedDeed) (marks : List Bool) (i : ℕ) (first : PlacedDeed)
+    (o : Option PathReport) (p : PathReport)
     → items ≡ deeds → objs ≡ objects → i < length deeds → AreWithin (length objects) deeds → o ≡ report_at marks (get_or items i first) → o ≡ Some p
     → IsObject (length objs) (root_of p.place)
 turn_fits objects objs deeds items marks i first o p same known below within is some =
     let w = subst (λ t. IsWithin (length objects) (get_or t i first).deed) (sym same) (within i first below) in
     subst (λ t. IsObject (length t) (root_of p.place)) (sym known) (report_within (length objects) marks (get_or items i first) p w (sym is ∙ some))
 
-pub walked_turn : (objects objs : List (List ℕ)) (deeds items : List PlacedDeed) (marks seen next : List Bool) (old new : List Entry) (i : ℕ) (first : PlacedDeed) (o : Option PathReport)
+pub walked_turn : (objects objs : List (List ℕ)) (deeds items : List PlacedDeed) (marks seen next : List Bool) (old new : List Entry)
+    (i : ℕ) (first : PlacedDeed) (o : Option PathReport)
     → items ≡ deeds → objs ≡ objects → seen ≡ marks → i < length deeds → AreWithin (length objects) deeds → Walked objects (take i deeds) marks old
     → o ≡ report_at seen (get_or items i first) → Adds objs old new o → next ≡ marks_after marks (get_or items i first).deed
     → Walked objects (take (i + 1) deeds) next new
@@ -163,23 +176,29 @@ walked_turn objects objs deeds items marks seen next old new i first o same know
     let report : o ≡ report_at marks d = is ∙ (λ j. report_at (read j) (get_or (same j) i first)) in
     let added : Adds objects old new (report_at marks d) = subst (λ t. t) (λ j. Adds (known j) old new (report j)) adds in
     let on : Walked objects (take i deeds ++ d ∷ []) (marks_after marks d.deed) new =
-        walked_next objects (take i deeds) d marks old new (within i first below) walked added in
+    walked_next objects (take i deeds) d marks old new (within i first below) walked added in
     let marked : marks_after marks d.deed ≡ next = sym (after ∙ (λ j. marks_after marks (get_or (same j) i first).deed)) in
     subst (λ t. t) (λ j. Walked objects (sym (take_more deeds i first below) j) (marked j) new) on
 
 -- ---- all of the reports fit the path
 
-fits_file : (objects : List (List ℕ)) (deeds : List PlacedDeed) (p : PathReport) (n : ℕ) → All (λ (d : PlacedDeed). d.pos.file < n) deeds → Fits objects deeds p → p.pos.file < n
-fits_file objects deeds p n all f = subst (λ (q : Pos). q.file < n) f.pos (All-has (λ (d : PlacedDeed). d.pos.file < n) deeds f.deed all f.has)
+fits_file : (objects : List (List ℕ)) (deeds : List PlacedDeed) (p : PathReport) (n : ℕ)
+    → All (λ (d : PlacedDeed). d.pos.file < n) deeds → Fits objects deeds p → p.pos.file < n
+fits_file objects deeds p n all f =
+    let below = All-has (λ (d : PlacedDeed). d.pos.file < n) deeds f.deed all f.has in
+    subst (λ (q : Pos). q.file < n) f.pos below
 
-pub reports_fit : (objects : List (List ℕ)) (deeds : List PlacedDeed) (marks : List Bool) (entries : List Entry) (reports : List PathReport)
-    → Walked objects deeds marks entries → reports ≡ map report_in entries → All (λ (p : PathReport). IsObject (length objects) (root_of p.place)) reports
-reports_fit objects deeds marks entries reports k e =
-    let P = λ (p : PathReport). IsObject (length objects) (root_of p.place) in
-    subst (All P) (sym e) (All-map P report_in entries (All-from_has (λ (e : Entry). P (report_in e)) entries (λ e h. (k.fits e h).object)))
+-- what holds of the report of each entry holds of all reports
+all_reports : (P : PathReport → Type 0) (entries : List Entry) (reports : List PathReport) → reports ≡ map report_in entries
+    → ((e : Entry) → Has entries e → P (report_in e)) → All P reports
+all_reports P entries reports e f =
+    subst (All P) (sym e) (All-map P report_in entries (All-from_has (λ (e : Entry). P (report_in e)) entries f))
 
-pub reports_placed : (objects : List (List ℕ)) (deeds : List PlacedDeed) (marks : List Bool) (entries : List Entry) (reports : List PathReport)
-    → Walked objects deeds marks entries → reports ≡ map report_in entries → (n : ℕ) → All (λ (d : PlacedDeed). d.pos.file < n) deeds → All (λ (p : PathReport). p.pos.file < n) reports
-reports_placed objects deeds marks entries reports k e n all =
-    let P = λ (p : PathReport). p.pos.file < n in
-    subst (All P) (sym e) (All-map P report_in entries (All-from_has (λ (e : Entry). P (report_in e)) entries (λ e h. fits_file objects deeds (report_in e) n all (k.fits e h))))
+module _ (objects : List (List ℕ)) (deeds : List PlacedDeed) (marks : List Bool) (entries : List Entry) (k : Walked objects deeds marks entries)
+    (reports : List PathReport) (e : reports ≡ map report_in entries) where
+  pub reports_fit : All (λ (p : PathReport). IsObject (length objects) (root_of p.place)) reports
+  reports_fit = all_reports (λ (p : PathReport). IsObject (length objects) (root_of p.place)) entries reports e (λ e h. (k.fits e h).object)
+
+  pub reports_placed : (n : ℕ) → All (λ (d : PlacedDeed). d.pos.file < n) deeds → All (λ (p : PathReport). p.pos.file < n) reports
+  reports_placed n all = all_reports (λ (p : PathReport). p.pos.file < n) entries reports e
+      (λ e h. fits_file objects deeds (report_in e) n all (k.fits e h))

@@ -1,5 +1,5 @@
 -- Which sources have the straight-line form, beyond the grammar (docs/LANGUAGE.md, "The straight-line form").
-use Rattle.std.specs.Prelude.{◌≡◌, ℕ, ◌≤◌, Bool, true, false, not, ◌&&◌, ◌||◌, List, [], ◌∷◌, ◌++◌, length, nat_eq, nat_le, Option, Some, None, is_none, IsTrue, codes}
+use Rattle.std.specs.Prelude.{ℕ, ◌≤◌, Bool, true, false, not, ◌&&◌, ◌||◌, List, [], ◌∷◌, ◌++◌, length, nat_eq, nat_le, Option, Some, None, is_none, IsTrue, codes}
 use Rattle.std.specs.List.{list_all}
 use Rattle.std.specs.Map.{lookup}
 use Rattle.ada_parser.specs.declared.tree.Name.{Name}

@@ -1,5 +1,5 @@
 -- What the walk along a path keeps: which objects are moved, and the reports so far.
-use Rattle.std.specs.Prelude.{◌≡◌, ℕ, ◌==◌, Bool, true, false, List, [], ◌∷◌, Option, Some, None, slice_index_or, slice_set, if◌then◌else◌}
+use Rattle.std.specs.Prelude.{◌≡◌, ℕ, Bool, true, false, List, Option, Some, None, slice_index_or, slice_set, if◌then◌else◌}
 use Rattle.std.specs.BTreeSet.{insert_key}
 use Rattle.std.specs.declared.cmp.Ordering.{Ordering}
 use Rattle.spark_base.specs.declared.position.Pos.{Pos}
@@ -62,7 +62,11 @@ entry_cmp = (entry_ord.ghosts).cmp
 
 -- The report that an entry stands for.
 abbrev pub report_in : Entry → PathReport
-report_in e = record { pos = e.pos; rule = e.rule; place = if e.is_designated then Designated (e.root).0 else Object (e.root).0 }
+report_in e = record {
+  pos = e.pos;
+  rule = e.rule;
+  place = if e.is_designated then Designated (e.root).0 else Object (e.root).0;
+}
 
 -- An entry has the text of its report's place.
 abbrev pub IsNamed : List (List ℕ) → Entry → Type 0

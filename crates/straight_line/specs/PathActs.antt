@@ -10,7 +10,6 @@ use Rattle.ada_parser.specs.declared.tree.Stmt.{Stmt}
 use Rattle.ada_parser.specs.declared.tree.Stmt.TheVariants.{Null, Assign, Call}
 use Rattle.ada_parser.specs.declared.tree.SourceUnit.{SourceUnit}
 use Rattle.place_names.specs.Acts.{Act, Read, Write, Move, Free, EndScope, Return, Placed}
-use Rattle.straight_line.specs.declared.kind.Mark.{Mark}
 use Rattle.straight_line.specs.declared.kind.Mark.TheVariants.{Integer, Access}
 use Rattle.straight_line.specs.declared.kind.Declared.{Declared}
 use Rattle.straight_line.specs.declared.kind.Declared.TheVariants.{Procedure, AccessType, Instance, Object}

@@ -1,5 +1,5 @@
 -- One declaration and one statement at a time.
-use Rattle.std.specs.Prelude.{◌≡◌, ℕ, Bool, true, not, ◌&&◌, ◌≤◌, List, [], ◌∷◌, ◌++◌, flat_map, length, nat_lt, is_none, option_map, option_to_list, slice_get}
+use Rattle.std.specs.Prelude.{◌≡◌, ℕ, Bool, true, ◌&&◌, ◌≤◌, List, [], ◌∷◌, ◌++◌, flat_map, length, nat_lt, is_none, option_map, option_to_list, slice_get}
 use Rattle.std.specs.List.{list_all}
 use Rattle.std.specs.Map.{lookup}
 use Rattle.spark_base.specs.declared.position.Pos.{Pos}
@@ -80,7 +80,7 @@ source_act (place.Designated x) (Access k) = Read (designated_name x)
 abbrev pub declares_well : SourceUnit → Bool
 declares_well unit =
     (may_enter [] (folded unit.name) Procedure && (may_name_procedure (folded unit.name) && same (folded unit.closing) (folded unit.name)))
-        && items_follow ((folded unit.name, Procedure) ∷ []) unit.items
+    && items_follow ((folded unit.name, Procedure) ∷ []) unit.items
 
 -- The statements of a source have the form.
 abbrev pub runs_well : Declarations → SourceUnit → Bool

@@ -22,20 +22,14 @@ fn declare_object(
     mark: Mark,
 ) -> Result<(), Fault>
     requires { GoWith scope.old objects.old.items }
-    ensures form {
-        OnOk result (may_follow scope.old
-            (folded id.now, Declared.Object (object_count scope.old + 1) mark) ≡ true)
-    }
-    ensures grown {
-        OnOk result (scope.new ≡ scope.old
-            ++ (folded id.now, Declared.Object (object_count scope.old + 1) mark) ∷ [])
-    }
+    ensures form { OnOk result (may_follow scope.old
+        (folded id.now, Declared.Object (object_count scope.old + 1) mark) ≡ true) }
+    ensures grown { OnOk result (scope.new ≡ scope.old
+        ++ (folded id.now, Declared.Object (object_count scope.old + 1) mark) ∷ []) }
     ensures named { OnOk result (objects.new.items ≡ objects.old.items ++ id.now.text ∷ []) }
     ensures listed { OnOk result (GoWith scope.new objects.new.items) }
-    ensures out {
-        result ≡ Err Fault.OutOfForm → may_follow scope.old
-            (folded id.now, Declared.Object (object_count scope.old + 1) mark) ≡ false
-    }
+    ensures out { result ≡ Err Fault.OutOfForm → may_follow scope.old
+        (folded id.now, Declared.Object (object_count scope.old + 1) mark) ≡ false }
 {
     let count = objects.len();
     if count >= MAX_OBJECTS {
@@ -56,22 +50,14 @@ fn declare_rest(
     mark: Mark,
 ) -> Result<(), Fault>
     requires { GoWith scope.old objects.old.items }
-    ensures form {
-        OnOk result (all_follow scope.old
-            (numbered (object_count scope.old) mark (map next_name rest.now)) ≡ true)
-    }
-    ensures grown {
-        OnOk result (scope.new ≡ scope.old
-            ++ numbered (object_count scope.old) mark (map next_name rest.now))
-    }
-    ensures named {
-        OnOk result (objects.new.items ≡ objects.old.items ++ texts (map next_name rest.now))
-    }
+    ensures form { OnOk result (all_follow scope.old
+        (numbered (object_count scope.old) mark (map next_name rest.now)) ≡ true) }
+    ensures grown { OnOk result (scope.new ≡ scope.old
+        ++ numbered (object_count scope.old) mark (map next_name rest.now)) }
+    ensures named { OnOk result (objects.new.items ≡ objects.old.items ++ texts (map next_name rest.now)) }
     ensures listed { OnOk result (GoWith scope.new objects.new.items) }
-    ensures out {
-        result ≡ Err Fault.OutOfForm → all_follow scope.old
-            (numbered (object_count scope.old) mark (map next_name rest.now)) ≡ false
-    }
+    ensures out { result ≡ Err Fault.OutOfForm → all_follow scope.old
+        (numbered (object_count scope.old) mark (map next_name rest.now)) ≡ false }
 {
     'turns: for next in rest {
         let NextIdentifier::After { name, .. } = next;
@@ -90,23 +76,15 @@ fn declare_objects(
     mark: Mark,
 ) -> Result<(), Fault>
     requires { GoWith scope.old objects.old.items }
-    ensures form {
-        OnOk result (all_follow scope.old
-            (numbered (object_count scope.old) mark (first.now ∷ map next_name rest.now)) ≡ true)
-    }
-    ensures grown {
-        OnOk result (scope.new ≡ scope.old
-            ++ numbered (object_count scope.old) mark (first.now ∷ map next_name rest.now))
-    }
-    ensures named {
-        OnOk result (objects.new.items
-            ≡ objects.old.items ++ texts (first.now ∷ map next_name rest.now))
-    }
+    ensures form { OnOk result (all_follow scope.old
+        (numbered (object_count scope.old) mark (first.now ∷ map next_name rest.now)) ≡ true) }
+    ensures grown { OnOk result (scope.new ≡ scope.old
+        ++ numbered (object_count scope.old) mark (first.now ∷ map next_name rest.now)) }
+    ensures named { OnOk result (objects.new.items
+        ≡ objects.old.items ++ texts (first.now ∷ map next_name rest.now)) }
     ensures listed { OnOk result (GoWith scope.new objects.new.items) }
-    ensures out {
-        result ≡ Err Fault.OutOfForm → all_follow scope.old
-            (numbered (object_count scope.old) mark (first.now ∷ map next_name rest.now)) ≡ false
-    }
+    ensures out { result ≡ Err Fault.OutOfForm → all_follow scope.old
+        (numbered (object_count scope.old) mark (first.now ∷ map next_name rest.now)) ≡ false }
 {
     declare_object(alloc, scope, objects, first, mark)?;
     declare_rest(alloc, scope, objects, rest, mark)?;
@@ -126,9 +104,7 @@ fn declare_other(
     ensures form { OnOk result (all_follow scope.old ((folded id.now, kind) ∷ []) ≡ true) }
     ensures grown { OnOk result (scope.new ≡ scope.old ++ (folded id.now, kind) ∷ []) }
     ensures listed { OnOk result (GoWith scope.new objects.now) }
-    ensures out {
-        result ≡ Err Fault.OutOfForm → all_follow scope.old ((folded id.now, kind) ∷ []) ≡ false
-    }
+    ensures out { result ≡ Err Fault.OutOfForm → all_follow scope.old ((folded id.now, kind) ∷ []) ≡ false }
 {
     scope.declare(alloc, id, kind)?;
     Ok(())
@@ -144,13 +120,9 @@ fn declare_item(
     requires { GoWith scope.old objects.old.items }
     ensures form { OnOk result (all_follow scope.old (declared_by scope.old item.now) ≡ true) }
     ensures grown { OnOk result (scope.new ≡ scope.old ++ declared_by scope.old item.now) }
-    ensures named {
-        OnOk result (objects.new.items ≡ objects.old.items ++ item_texts item.now)
-    }
+    ensures named { OnOk result (objects.new.items ≡ objects.old.items ++ item_texts item.now) }
     ensures listed { OnOk result (GoWith scope.new objects.new.items) }
-    ensures out {
-        result ≡ Err Fault.OutOfForm → all_follow scope.old (declared_by scope.old item.now) ≡ false
-    }
+    ensures out { result ≡ Err Fault.OutOfForm → all_follow scope.old (declared_by scope.old item.now) ≡ false }
 {
     match item {
         Item::AccessType { name, .. } => {
@@ -162,7 +134,10 @@ fn declare_item(
             Ok(declare_other(alloc, scope, name, kind, objects)?)
         }
         Item::Objects {
-            first, rest, mark, ..
+            first,
+            rest,
+            mark,
+            ..
         } => {
             let mark = scope.mark(alloc, mark)?;
             Ok(declare_objects(alloc, scope, objects, first, rest.as_slice(), mark)?)
@@ -180,10 +155,8 @@ pub fn declare_items(
     requires { GoWith scope.old objects.old.items }
     ensures form { OnOk result (items_follow scope.old items.now ≡ true) }
     ensures grown { OnOk result (scope.new ≡ known_behind scope.old items.now) }
-    ensures named {
-        OnOk result (objects.new.items
-            ≡ objects.old.items ++ flat_map item_texts items.now)
-    }
+    ensures named { OnOk result (objects.new.items
+        ≡ objects.old.items ++ flat_map item_texts items.now) }
     ensures listed { OnOk result (GoWith scope.new objects.new.items) }
     ensures out { result ≡ Err Fault.OutOfForm → items_follow scope.old items.now ≡ false }
 {

@@ -16,9 +16,7 @@ use spark_base::Pos;
 /// The end of the scope of what an identifier is declared as, where that is a deed.
 fn end_deed(pos: Pos, kind: Declared) -> Option<PlacedDeed>
     ensures act { map placed_of (option_to_list result) ≡ end_of pos kind }
-    ensures within {
-        (n : ℕ) → IsNumbered n kind → AreWithin n (option_to_list result)
-    }
+    ensures within { (n : ℕ) → IsNumbered n kind → AreWithin n (option_to_list result) }
 {
     match kind {
         Declared::Object(number, Mark::Access(_)) => Some(PlacedDeed {
@@ -33,19 +31,12 @@ fn end_deed(pos: Pos, kind: Declared) -> Option<PlacedDeed>
 }
 
 /// The end of the scope of the declaration at a place.
-fn end_at(
-    scope: &Scope,
-    place: usize,
-    pos: Pos,
-    deeds: &mut Vec<PlacedDeed>,
-) -> Result<(), Fault>
+fn end_at(scope: &Scope, place: usize, pos: Pos, deeds: &mut Vec<PlacedDeed>) -> Result<(), Fault>
     requires numbered { AreNumbered (object_count scope.now) scope.now }
     requires within { AreWithin (object_count scope.now) deeds.old.items }
     requires place { place < length scope.now }
-    ensures acts {
-        OnOk result (map placed_of deeds.new.items ≡ map placed_of deeds.old.items
-            ++ ends_at pos scope.now place)
-    }
+    ensures acts { OnOk result (map placed_of deeds.new.items ≡ map placed_of deeds.old.items
+        ++ ends_at pos scope.now place) }
     ensures within { OnOk result (AreWithin (object_count scope.now) deeds.new.items) }
     ensures memory { result ≢ Err Fault.OutOfForm }
 {
@@ -61,10 +52,8 @@ fn end_at(
 fn end_scopes(scope: &Scope, pos: Pos, deeds: &mut Vec<PlacedDeed>) -> Result<(), Fault>
     requires numbered { AreNumbered (object_count scope.now) scope.now }
     requires within { AreWithin (object_count scope.now) deeds.old.items }
-    ensures acts {
-        OnOk result (map placed_of deeds.new.items
-            ≡ map placed_of deeds.old.items ++ scope_end pos scope.now)
-    }
+    ensures acts { OnOk result (map placed_of deeds.new.items
+        ≡ map placed_of deeds.old.items ++ scope_end pos scope.now) }
     ensures within { OnOk result (AreWithin (object_count scope.now) deeds.new.items) }
     ensures memory { result ≢ Err Fault.OutOfForm }
 {
@@ -80,10 +69,8 @@ fn end_scopes(scope: &Scope, pos: Pos, deeds: &mut Vec<PlacedDeed>) -> Result<()
 pub fn finish(scope: &Scope, pos: Pos, deeds: &mut Vec<PlacedDeed>) -> Result<(), Fault>
     requires numbered { AreNumbered (object_count scope.now) scope.now }
     requires within { AreWithin (object_count scope.now) deeds.old.items }
-    ensures acts {
-        OnOk result (map placed_of deeds.new.items ≡ map placed_of deeds.old.items
-            ++ (scope_end pos scope.now ++ placed pos (Return []) ∷ []))
-    }
+    ensures acts { OnOk result (map placed_of deeds.new.items ≡ map placed_of deeds.old.items
+        ++ (scope_end pos scope.now ++ placed pos (Return []) ∷ [])) }
     ensures within { OnOk result (AreWithin (object_count scope.now) deeds.new.items) }
     ensures memory { result ≢ Err Fault.OutOfForm }
 {

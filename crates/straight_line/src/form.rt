@@ -31,17 +31,13 @@ fn declare_procedure(
     closing: &Identifier,
 ) -> Result<(), Fault>
     requires { scope.old ≡ [] }
-    ensures form {
-        OnOk result ((may_enter [] (folded name.now) Declared.Procedure
-            && (may_name_procedure (folded name.now) && same (folded closing.now) (folded name.now)))
-                ≡ true)
-    }
+    ensures form { OnOk result ((may_enter [] (folded name.now) Declared.Procedure
+        && (may_name_procedure (folded name.now) && same (folded closing.now) (folded name.now)))
+        ≡ true) }
     ensures grown { OnOk result (scope.new ≡ (folded name.now, Declared.Procedure) ∷ []) }
-    ensures out {
-        result ≡ Err Fault.OutOfForm → (may_enter [] (folded name.now) Declared.Procedure
-            && (may_name_procedure (folded name.now) && same (folded closing.now) (folded name.now)))
-                ≡ false
-    }
+    ensures out { result ≡ Err Fault.OutOfForm → (may_enter [] (folded name.now) Declared.Procedure
+        && (may_name_procedure (folded name.now) && same (folded closing.now) (folded name.now)))
+        ≡ false }
 {
     scope.declare(alloc, name, Declared::Procedure)?;
     let word = name.text.folded(alloc)?;
@@ -70,11 +66,9 @@ fn declare_all(alloc: Global, unit: &SourceUnit, objects: &mut Vec<Word>) -> Res
 fn deeds_of(alloc: Global, scope: &Scope, unit: &SourceUnit) -> Result<Vec<PlacedDeed>, Fault>
     requires { AreNumbered (object_count scope.now) scope.now }
     ensures form { OnOk result (runs_well scope.now unit.now ≡ true) }
-    ensures acts {
-        IfOk result (λ deeds. map placed_of deeds.items
-            ≡ flat_map (statement_acts scope.now) (statements unit.now)
-                ++ (scope_end unit.now.end scope.now ++ placed unit.now.end (Return []) ∷ []))
-    }
+    ensures acts { IfOk result (λ deeds. map placed_of deeds.items
+        ≡ flat_map (statement_acts scope.now) (statements unit.now)
+        ++ (scope_end unit.now.end scope.now ++ placed unit.now.end (Return []) ∷ [])) }
     ensures within { IfOk result (λ deeds. AreWithin (object_count scope.now) deeds.items) }
     ensures out { result ≡ Err Fault.OutOfForm → runs_well scope.now unit.now ≡ false }
 {
@@ -91,9 +85,7 @@ fn path_of(alloc: Global, unit: &SourceUnit) -> Result<StraightPath, Fault>
     ensures in_form { OnOk result (IsStraightLine unit.now) }
     ensures objects { IfOk result (λ path. path.objects.items ≡ object_texts unit.now) }
     ensures acts { IfOk result (λ path. map placed_of path.deeds.items ≡ path_acts unit.now) }
-    ensures within {
-        IfOk result (λ path. AreWithin (length path.objects.items) path.deeds.items)
-    }
+    ensures within { IfOk result (λ path. AreWithin (length path.objects.items) path.deeds.items) }
     ensures few { IfOk result (λ path. length path.objects.items ≤ 512) }
     ensures out { result ≡ Err Fault.OutOfForm → ¬ IsStraightLine unit.now }
 {
@@ -108,20 +100,12 @@ fn path_of(alloc: Global, unit: &SourceUnit) -> Result<StraightPath, Fault>
 /// memory.
 pub fn straight_path(alloc: Global, unit: &SourceUnit) -> Result<Option<StraightPath>, AllocError>
     ensures in_form { IfOk result (λ found. OnSome found (IsStraightLine unit.now)) }
-    ensures objects {
-        IfOk result (λ found. IfSome found (λ path. path.objects.items ≡ object_texts unit.now))
-    }
-    ensures acts {
-        IfOk result (λ found. IfSome found (λ path.
-            map placed_of path.deeds.items ≡ path_acts unit.now))
-    }
-    ensures within {
-        IfOk result (λ found. IfSome found (λ path.
-            AreWithin (length path.objects.items) path.deeds.items))
-    }
-    ensures few {
-        IfOk result (λ found. IfSome found (λ path. length path.objects.items ≤ 512))
-    }
+    ensures objects { IfOk result (λ found. IfSome found (λ path. path.objects.items ≡ object_texts unit.now)) }
+    ensures acts { IfOk result (λ found. IfSome found (λ path.
+        map placed_of path.deeds.items ≡ path_acts unit.now)) }
+    ensures within { IfOk result (λ found. IfSome found (λ path.
+        AreWithin (length path.objects.items) path.deeds.items)) }
+    ensures few { IfOk result (λ found. IfSome found (λ path. length path.objects.items ≤ 512)) }
     ensures not_in_form { IfOk result (λ found. IfNone found (¬ IsStraightLine unit.now)) }
 {
     match path_of(alloc, unit) {

@@ -8,17 +8,16 @@ ghost use Rattle.straight_line.specs.Within.{AreWithin, IsWithin, IsObject, root
 ghost use Rattle.straight_line.specs.Reported.{printed_name, report_of};
 ghost use Rattle.straight_line.specs.Marks as walk;
 
+use crate::path::{Deed, Place, PlacedDeed, StraightPath};
+use ada_parser::Word;
+use place_names::Rule;
+use spark_base::Pos;
 use std::alloc::{AllocError, Global};
 use std::cmp::Reverse;
 use std::collections::BTreeSet;
 
-use ada_parser::Word;
-use place_names::Rule;
-use spark_base::Pos;
-
-use crate::path::{Deed, Place, PlacedDeed, StraightPath};
-
-/// A rule that a moved object breaks, with the place that the deed names (`docs/RULES.md`, "Reports").
+/// A rule that a deed breaks because its object was moved, and the place that the deed names (`docs/RULES.md`,
+/// "Reports").
 #[derive(Clone, Copy, Debug, PartialEq, Eq)]
 pub struct PathReport {
     /// Where the deed stands.

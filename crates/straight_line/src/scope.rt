@@ -67,10 +67,8 @@ impl Scope {
     /// The place of the access type of the instance that an identifier names.
     pub fn instance(&self, alloc: Global, id: &Identifier) -> Result<usize, Fault>
         ensures found { IfOk result (λ place. meaning self.now id.now ≡ Some (Declared.Instance place)) }
-        ensures out {
-            result ≡ Err Fault.OutOfForm →
-                (actual : Option Mark) → frees (meaning self.now id.now) actual ≡ false
-        }
+        ensures out { result ≡ Err Fault.OutOfForm →
+            (actual : Option Mark) → frees (meaning self.now id.now) actual ≡ false }
     {
         match self.meaning(alloc, id)? {
             Some(Declared::Instance(place)) => Ok(place),

@@ -64,13 +64,9 @@ fn object(alloc: Global, scope: &Scope, id: &Identifier) -> Result<(u32, Mark), 
 fn resolve(alloc: Global, scope: &Scope, name: &Name) -> Result<Named, Fault>
     requires { AreNumbered (object_count scope.now) scope.now }
     ensures mark { IfOk result (λ n. type_of scope.now name.now ≡ Some n.mark) }
-    ensures target {
-        IfOk result (λ n. target_act scope.now name.now ≡ placed n.pos (Write (name_of n.place)))
-    }
-    ensures source {
-        IfOk result (λ n. name_source scope.now name.now
-            ≡ placed n.pos (source_act n.place n.mark) ∷ [])
-    }
+    ensures target { IfOk result (λ n. target_act scope.now name.now ≡ placed n.pos (Write (name_of n.place))) }
+    ensures source { IfOk result (λ n. name_source scope.now name.now
+        ≡ placed n.pos (source_act n.place n.mark) ∷ []) }
     ensures within { IfOk result (λ n. IsObject (object_count scope.now) (root_of n.place)) }
     ensures out { result ≡ Err Fault.OutOfForm → type_of scope.now name.now ≡ None }
 {
@@ -108,14 +104,10 @@ fn source(
     requires numbered { AreNumbered (object_count scope.now) scope.now }
     requires within { AreWithin (object_count scope.now) deeds.old.items }
     ensures form { OnOk result (is_mark mark (type_of scope.now name.now) ≡ true) }
-    ensures acts {
-        OnOk result (map placed_of deeds.new.items
-            ≡ map placed_of deeds.old.items ++ name_source scope.now name.now)
-    }
+    ensures acts { OnOk result (map placed_of deeds.new.items
+        ≡ map placed_of deeds.old.items ++ name_source scope.now name.now) }
     ensures within { OnOk result (AreWithin (object_count scope.now) deeds.new.items) }
-    ensures out {
-        result ≡ Err Fault.OutOfForm → is_mark mark (type_of scope.now name.now) ≡ false
-    }
+    ensures out { result ≡ Err Fault.OutOfForm → is_mark mark (type_of scope.now name.now) ≡ false }
 {
     let source = resolve(alloc, scope, name)?;
     demand(mark == source.mark)?;
@@ -133,18 +125,12 @@ fn evaluate(
 ) -> Result<(), Fault>
     requires numbered { AreNumbered (object_count scope.now) scope.now }
     requires within { AreWithin (object_count scope.now) deeds.old.items }
-    ensures form {
-        OnOk result ((takes scope.now mark value.now && has_number_within value.now) ≡ true)
-    }
-    ensures acts {
-        OnOk result (map placed_of deeds.new.items
-            ≡ map placed_of deeds.old.items ++ source_acts scope.now value.now)
-    }
+    ensures form { OnOk result ((takes scope.now mark value.now && has_number_within value.now) ≡ true) }
+    ensures acts { OnOk result (map placed_of deeds.new.items
+        ≡ map placed_of deeds.old.items ++ source_acts scope.now value.now) }
     ensures within { OnOk result (AreWithin (object_count scope.now) deeds.new.items) }
-    ensures out {
-        result ≡ Err Fault.OutOfForm →
-            (takes scope.now mark value.now && has_number_within value.now) ≡ false
-    }
+    ensures out { result ≡ Err Fault.OutOfForm →
+        (takes scope.now mark value.now && has_number_within value.now) ≡ false }
 {
     match value {
         Value::Number { number, .. } => {
@@ -168,20 +154,14 @@ fn assign(
 ) -> Result<(), Fault>
     requires numbered { AreNumbered (object_count scope.now) scope.now }
     requires within { AreWithin (object_count scope.now) deeds.old.items }
-    ensures form {
-        OnOk result ((assigns scope.now (type_of scope.now target.now) value.now
-            && has_number_within value.now) ≡ true)
-    }
-    ensures acts {
-        OnOk result (map placed_of deeds.new.items ≡ map placed_of deeds.old.items
-            ++ (source_acts scope.now value.now ++ target_act scope.now target.now ∷ []))
-    }
+    ensures form { OnOk result ((assigns scope.now (type_of scope.now target.now) value.now
+        && has_number_within value.now) ≡ true) }
+    ensures acts { OnOk result (map placed_of deeds.new.items ≡ map placed_of deeds.old.items
+        ++ (source_acts scope.now value.now ++ target_act scope.now target.now ∷ [])) }
     ensures within { OnOk result (AreWithin (object_count scope.now) deeds.new.items) }
-    ensures out {
-        result ≡ Err Fault.OutOfForm →
-            (assigns scope.now (type_of scope.now target.now) value.now
-                && has_number_within value.now) ≡ false
-    }
+    ensures out { result ≡ Err Fault.OutOfForm →
+        (assigns scope.now (type_of scope.now target.now) value.now
+        && has_number_within value.now) ≡ false }
 {
     let target = resolve(alloc, scope, target)?;
     evaluate(alloc, scope, target.mark, value, deeds)?;
@@ -202,19 +182,13 @@ fn free(
 ) -> Result<(), Fault>
     requires numbered { AreNumbered (object_count scope.now) scope.now }
     requires within { AreWithin (object_count scope.now) deeds.old.items }
-    ensures form {
-        OnOk result (frees (meaning scope.now callee.now)
-            (object_type (meaning scope.now actual.now)) ≡ true)
-    }
-    ensures acts {
-        OnOk result (map placed_of deeds.new.items
-            ≡ map placed_of deeds.old.items ++ free_act scope.now actual.now ∷ [])
-    }
+    ensures form { OnOk result (frees (meaning scope.now callee.now)
+        (object_type (meaning scope.now actual.now)) ≡ true) }
+    ensures acts { OnOk result (map placed_of deeds.new.items
+        ≡ map placed_of deeds.old.items ++ free_act scope.now actual.now ∷ []) }
     ensures within { OnOk result (AreWithin (object_count scope.now) deeds.new.items) }
-    ensures out {
-        result ≡ Err Fault.OutOfForm → frees (meaning scope.now callee.now)
-            (object_type (meaning scope.now actual.now)) ≡ false
-    }
+    ensures out { result ≡ Err Fault.OutOfForm → frees (meaning scope.now callee.now)
+        (object_type (meaning scope.now actual.now)) ≡ false }
 {
     let place = scope.instance(alloc, callee)?;
     let (number, mark) = object(alloc, scope, actual)?;
@@ -236,10 +210,8 @@ pub fn walk(
     requires numbered { AreNumbered (object_count scope.now) scope.now }
     requires within { AreWithin (object_count scope.now) deeds.old.items }
     ensures form { OnOk result (is_well scope.now stmt.now ≡ true) }
-    ensures acts {
-        OnOk result (map placed_of deeds.new.items
-            ≡ map placed_of deeds.old.items ++ statement_acts scope.now stmt.now)
-    }
+    ensures acts { OnOk result (map placed_of deeds.new.items
+        ≡ map placed_of deeds.old.items ++ statement_acts scope.now stmt.now) }
     ensures within { OnOk result (AreWithin (object_count scope.now) deeds.new.items) }
     ensures out { result ≡ Err Fault.OutOfForm → is_well scope.now stmt.now ≡ false }
 {
@@ -260,10 +232,8 @@ pub fn walk_all(
     requires numbered { AreNumbered (object_count scope.now) scope.now }
     requires within { AreWithin (object_count scope.now) deeds.old.items }
     ensures form { OnOk result (list_all (is_well scope.now) stmts.now ≡ true) }
-    ensures acts {
-        OnOk result (map placed_of deeds.new.items
-            ≡ map placed_of deeds.old.items ++ flat_map (statement_acts scope.now) stmts.now)
-    }
+    ensures acts { OnOk result (map placed_of deeds.new.items
+        ≡ map placed_of deeds.old.items ++ flat_map (statement_acts scope.now) stmts.now) }
     ensures within { OnOk result (AreWithin (object_count scope.now) deeds.new.items) }
     ensures out { result ≡ Err Fault.OutOfForm → list_all (is_well scope.now) stmts.now ≡ false }
 {

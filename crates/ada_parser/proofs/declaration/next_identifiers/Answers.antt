@@ -1,4 +1,4 @@
-use Rattle.std.proofs.Common.{◌≡◌, sym, ap, ◌∙◌, [], ◌∷◌}
+use Rattle.std.proofs.Common.{sym, [], ◌∷◌}
 use Rattle.ada_lexer.specs.declared.token.Symbol.TheVariants.{Comma}
 use Rattle.ada_parser.specs.Reading.{of_symbol}
 use Rattle.ada_parser.specs.Readers as readers
@@ -10,7 +10,7 @@ pub returns-in_err-next_identifier : goal.returns-in_err-next_identifier
 unfolding readers.nexts
 returns-in_err-next_identifier c =
     let read = breaks_off (of_symbol Comma ∷ []) readers.next next_shortens _ c.turns.all c.turns.tokens c.next_identifier.new.tokens _
-        (sym c.turns-test.ensures) c.in_err-next_identifier.ensures c.turns.invariant in
+    (sym c.turns-test.ensures) c.in_err-next_identifier.ensures c.turns.invariant in
     handed_on _ _ c.from_residual.result c.next_identifier.new.tokens read c.from_residual.ensures.1
 
 pub turns-smaller : goal.turns-smaller
@@ -19,8 +19,8 @@ turns-smaller c = next_shortens c.turns.tokens _ c.next_identifier.new.tokens c.
 pub turns-preserved : goal.turns-preserved
 turns-preserved c =
     rw c.in_ok-push.ensures.ok
-        (goes_on (of_symbol Comma ∷ []) readers.next next_shortens c.turns.all c.turns.tokens _ c.next_identifier.new.tokens _
-            (sym c.turns-test.ensures) c.in_ok-next_identifier.ensures c.turns.invariant)
+    (goes_on (of_symbol Comma ∷ []) readers.next next_shortens c.turns.all c.turns.tokens _ c.next_identifier.new.tokens _
+    (sym c.turns-test.ensures) c.in_ok-next_identifier.ensures c.turns.invariant)
 
 pub returns : goal.returns
 unfolding readers.nexts

@@ -8,7 +8,7 @@ pub returns-in_err-statement : goal.returns-in_err-statement
 unfolding readers.stmts
 returns-in_err-statement c =
     let read = breaks_off readers.stmt_starts readers.stmt stmt_shortens _ c.turns.all c.turns.tokens c.statement.new.tokens _
-        (sym c.turns-test.ensures) c.in_err-statement.ensures c.turns.invariant in
+    (sym c.turns-test.ensures) c.in_err-statement.ensures c.turns.invariant in
     handed_on _ _ c.from_residual.result c.statement.new.tokens read c.from_residual.ensures.1
 
 pub turns-smaller : goal.turns-smaller
@@ -17,8 +17,8 @@ turns-smaller c = stmt_shortens c.turns.tokens _ c.statement.new.tokens c.in_ok-
 pub turns-preserved : goal.turns-preserved
 turns-preserved c =
     rw c.in_ok-push.ensures.ok
-        (goes_on readers.stmt_starts readers.stmt stmt_shortens c.turns.all c.turns.tokens _ c.statement.new.tokens _
-            (sym c.turns-test.ensures) c.in_ok-statement.ensures c.turns.invariant)
+    (goes_on readers.stmt_starts readers.stmt stmt_shortens c.turns.all c.turns.tokens _ c.statement.new.tokens _
+    (sym c.turns-test.ensures) c.in_ok-statement.ensures c.turns.invariant)
 
 pub returns : goal.returns
 unfolding readers.stmts

@@ -1,6 +1,5 @@
-use Rattle.std.proofs.Common.{◌≡◌, [], ◌∷◌, length}
-use Rattle.ada_lexer.specs.declared.token.Symbol.TheVariants.{Comma}
-use Rattle.ada_parser.specs.Reading.{many, of_symbol}
+use Rattle.std.proofs.Common.{◌≡◌, length}
+use Rattle.ada_parser.specs.Reading.{many}
 use Rattle.ada_parser.specs.Readers as readers
 use Rattle.ada_parser.proofs.Many.{with_front}
 use Rattle.ada_parser.proofs.unit.statements.Given as goal

@@ -1,4 +1,4 @@
-use Rattle.std.proofs.Common.{◌≡◌, sym, subst}
+use Rattle.std.proofs.Common.{sym, subst}
 use Rattle.std.proofs.lemmas.List.Elements.{All-append}
 use Rattle.straight_line.specs.Within.{IsWithin, AreWithin}
 use Rattle.straight_line.specs.Declarations.{object_count}
@@ -10,4 +10,4 @@ returns-in_ok-push-clause-within c =
     let n = object_count c.args.scope.now in
     let numbered = IsNumbered-at n c.args.scope.now c.args.place c.in-Some.kind c.requires.numbered (sym c.in-Some.ensures) in
     subst (AreWithin n) (sym c.in_ok-push.ensures.items)
-        (All-append (λ d. IsWithin n d.deed) _ _ c.requires.within (c.in-Some-end_deed.ensures.within n numbered))
+    (All-append (λ d. IsWithin n d.deed) _ _ c.requires.within (c.in-Some-end_deed.ensures.within n numbered))

@@ -1,4 +1,4 @@
-use Rattle.std.proofs.Common.{◌≡◌, arith}
+use Rattle.std.proofs.Common.{arith}
 use Rattle.straight_line.proofs.ScopeEnd.{one_ended}
 use Rattle.straight_line.proofs.ending.end_scopes.Goals as goal
 

@@ -1,11 +1,9 @@
-use Rattle.std.proofs.Common.{◌≡◌, ◌++◌, ◌∷◌, [], flat_map, Err, rules, true, false, sym, ap, subst, ◌∙◌}
-use Rattle.std.specs.declared.result.Result.{Result}
+use Rattle.std.proofs.Common.{◌≡◌, ◌++◌, ◌∷◌, [], flat_map, Err, rules, true, false, ap, subst, ◌∙◌}
 use Rattle.place_names.specs.Acts.{Return}
-use Rattle.straight_line.specs.declared.fault.Fault.{Fault}
 use Rattle.straight_line.specs.declared.fault.Fault.TheVariants.{OutOfForm}
 use Rattle.straight_line.specs.Form.{statements}
 use Rattle.straight_line.specs.PathActs.{path_acts, placed, statement_acts, scope_end}
-use Rattle.straight_line.specs.Steps.{declares_well, runs_well}
+use Rattle.straight_line.specs.Steps.{runs_well}
 use Rattle.straight_line.proofs.Sentences.{straight_line, declarations_refused, statements_refused}
 use Rattle.straight_line.proofs.form.path_of.Goals as goal
 
@@ -29,5 +27,5 @@ unfolding path_acts
 returns-clause-acts c =
     let unit = c.args.unit.now in
     c.in_ok-deeds.ensures.acts
-        ∙ ap (λ known. flat_map (statement_acts known) (statements unit) ++ (scope_end unit.end known ++ placed unit.end (Return []) ∷ []))
-            c.in_ok-scope.ensures.known
+    ∙ ap (λ known. flat_map (statement_acts known) (statements unit) ++ (scope_end unit.end known ++ placed unit.end (Return []) ∷ []))
+    c.in_ok-scope.ensures.known

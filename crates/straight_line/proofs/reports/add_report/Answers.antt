@@ -12,8 +12,11 @@ pub returns : goal.returns
 returns c =
     let report = c.in-Some.field-0 in
     let entry : Entry = record {
-      pos = report.pos; rule = report.rule; name = c.in_ok-place_text.field-0;
-      root = record { 0 = c.object_of.result }; is_designated = c.is_designated.result;
+      pos = report.pos;
+      rule = report.rule;
+      name = c.in_ok-place_text.field-0;
+      root = record { 0 = c.object_of.result };
+      is_designated = c.is_designated.result;
     } in
     let is : report_in entry ≡ report = stands_for entry report refl refl c.object_of.ensures c.is_designated.ensures in
     let named = c.in_ok-place_text.ensures ∙ ap (λ (r : PathReport). printed_name c.args.objects.now (name_of r.place)) (sym is) in

@@ -1,10 +1,7 @@
 -- The walk along the path, deed by deed.
-use Rattle.std.proofs.Common.{◌≡◌, ℕ, ◌+◌, length, take, List, [], map, sym, ap, ◌∙◌, subst, arith}
+use Rattle.std.proofs.Common.{◌≡◌, length, take, [], sym, subst, arith}
 use Rattle.std.proofs.lemmas.List.{take_all}
 use Rattle.std.proofs.lemmas.Result.{IfOk-weaker}
-use Rattle.straight_line.specs.Marks.{report_in}
-use Rattle.straight_line.specs.declared.path.PlacedDeed.{PlacedDeed}
-use Rattle.straight_line.specs.declared.reports.PathReport.{PathReport}
 use Rattle.straight_line.proofs.Walked.{Walked, walked_first, turn_fits, walked_turn, reports_fit, reports_placed}
 use Rattle.straight_line.proofs.Collected.{report_list}
 use Rattle.straight_line.proofs.reports.path_reports.Goals as goal
@@ -19,28 +16,30 @@ deeds-init c =
 pub add_report-requires : goal.add_report-requires
 add_report-requires c p some =
     turn_fits c.args.path.now.objects.items _ c.args.path.now.deeds.items _ _ _ _ _ p c.deref-placed-items.ensures.value c.deref-in-deeds.ensures.value
-      (omega arith) c.requires c.report_at-report.ensures some
+    (omega arith) c.requires c.report_at-report.ensures some
 
 pub deeds-preserved : goal.deeds-preserved
 deeds-preserved c =
     walked_turn c.args.path.now.objects.items _ c.args.path.now.deeds.items _ c.deeds.moved.items _ _ _ _ _ _ _ c.deref-placed-items.ensures.value c.deref-in-deeds.ensures.value
-      c.deref.ensures.value (omega arith) c.requires c.deeds.invariant c.report_at-report.ensures c.in_ok-add_report.ensures c.mark.ensures
+    c.deref.ensures.value (omega arith) c.requires c.deeds.invariant c.report_at-report.ensures c.in_ok-add_report.ensures c.mark.ensures
 
 -- the whole path is walked
-walked_all : (c : goal.After-drop-moved-2) → Walked c.args.path.now.objects.items c.args.path.now.deeds.items c.deeds.moved.items c.deeds.entries.keys
+walked_all : (c : goal.After-drop-moved-2)
+    → Walked c.args.path.now.objects.items c.args.path.now.deeds.items c.deeds.moved.items c.deeds.entries.keys
 walked_all c =
-    let whole : take c.deeds.placed-index c.args.path.now.deeds.items ≡ c.args.path.now.deeds.items = take_all _ _ (omega arith) in
+    let deeds = c.args.path.now.deeds.items in
+    let whole : take c.deeds.placed-index deeds ≡ deeds = take_all _ _ (omega arith) in
     subst (λ t. Walked c.args.path.now.objects.items t c.deeds.moved.items c.deeds.entries.keys) whole c.deeds.invariant
 
 pub returns-clause-exact : goal.returns-clause-exact
 returns-clause-exact c = IfOk-weaker c.in_order.result _ _
-    (λ (reports : _) e. report_list c.args.path.now.objects.items _ c.deeds.entries.keys reports.items (walked_all c).collected c.in_order.ensures.ordered e)
+    (λ (reports : _) e. report_list _ _ _ reports.items (walked_all c).collected c.in_order.ensures.ordered e)
     c.in_order.ensures.items
 
 pub returns-clause-objects : goal.returns-clause-objects
 returns-clause-objects c = IfOk-weaker c.in_order.result _ _
-    (λ (reports : _) e. reports_fit c.args.path.now.objects.items _ _ c.deeds.entries.keys reports.items (walked_all c) e) c.in_order.ensures.items
+    (λ (reports : _) e. reports_fit _ _ _ _ (walked_all c) reports.items e) c.in_order.ensures.items
 
 pub returns-clause-files : goal.returns-clause-files
 returns-clause-files c = IfOk-weaker c.in_order.result _ _
-    (λ (reports : _) e n all. reports_placed c.args.path.now.objects.items _ _ c.deeds.entries.keys reports.items (walked_all c) e n all) c.in_order.ensures.items
+    (λ (reports : _) e. reports_placed _ _ _ _ (walked_all c) reports.items e) c.in_order.ensures.items

@@ -1,0 +1,11 @@
+use Rattle.std.proofs.Common.{List, ℕ, ap, sym, subst, map, string_bytes}
+use Rattle.spark_tool.specs.Answers.{answer_of}
+use Rattle.spark_tool.specs.Product.{Answer, Checks, too_large}
+use Rattle.spark_tool.specs.Reading.{Sources, TooLarge, sources_of}
+use Rattle.spark_tool.proofs.check.check_sources.Goals as goal
+
+pub returns-in_ok-refused_file-in-TooLarge-clause-answer : goal.returns-in_ok-refused_file-in-TooLarge-clause-answer
+returns-in_ok-refused_file-in-TooLarge-clause-answer c =
+    let names : List (List ℕ) = map string_bytes c.args.names.now in
+    subst (λ (s : Sources). Checks names s (answer_of c.in_ok-refused_file-in-TooLarge.field-0)) (sym (ap sources_of c.in-TooLarge.is))
+    (subst (λ (a : Answer). Checks names (TooLarge c.in-TooLarge.file) a) (sym c.in_ok-refused_file-in-TooLarge.ensures) (too_large c.in-TooLarge.file))
