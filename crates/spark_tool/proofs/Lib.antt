@@ -4,3 +4,4 @@ pub mod AllTokens
 pub mod Straight
 pub mod InFile
 pub mod CommandWords
+pub mod Complete

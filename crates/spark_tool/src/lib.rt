@@ -16,3 +16,6 @@ mod stop;
 mod tool;
 
 pub use tool::run_tool;
+
+#[cfg(test)]
+mod tests;

@@ -98,6 +98,13 @@ pub fn run_tool<F: FileStore, S: Source, K: Sink>(
         (λ stored. Delivers stored (map string_bytes words.now)
         (K.written out.old) (K.written out.new) (K.written err.old) (K.written err.new) result) }
 
+    // Where no count rose in the call, that is so of each status but 9, and 7 too is the defined one.
+    ensures complete { ¬ Rose (F.faults files.old) (F.faults files.new)
+        → ¬ Rose (K.faults out.old) (K.faults out.new) → ¬ Rose (K.faults err.old) (K.faults err.new)
+        → result ≢ 9 → IfSome (F.stored files.old)
+        (λ stored. Delivers stored (map string_bytes words.now)
+        (K.written out.old) (K.written out.new) (K.written err.old) (K.written err.new) result) }
+
     // 6: exactly where the words give no command, whatever the store tells.
     ensures misused { IsRegular result → command_of (map string_bytes words.now) ≡ None
         → (result ≡ 6) × Appends (K.written err.old) (K.written err.new) usage_line }

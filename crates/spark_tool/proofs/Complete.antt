@@ -1,0 +1,35 @@
+-- An answer is the defined one where no count rose.
+use Rattle.std.proofs.Common.{◌≡◌, ◌≢◌, ◌⊎◌, inl, inr, ℕ, refl, sym, subst, List, [], Option, None, Some, IfSome, IsSomeAnd}
+use Rattle.std.specs.Io.KnownBytes.{Appends, Keeps}
+use Rattle.std.proofs.KnownBytes.{Appends-nil, Appends-kept}
+use Rattle.spark_tool.specs.Product.{Product, unread}
+use Rattle.spark_tool.specs.Promises.{Delivers}
+use Rattle.spark_tool.specs.Stops.{stop_status}
+use Rattle.spark_tool.specs.declared.stop.Stop.{Stop}
+use Rattle.spark_tool.specs.declared.stop.Stop.TheVariants.{Read, Write, Memory}
+
+kept : (old new : Option (List ℕ)) → Keeps old new → Appends old new []
+kept old new same = Appends-kept old old new [] (Appends-nil old) same
+
+-- a named file isn't there, and nothing was written
+pub unread_delivers : (stored : Option (List (List ℕ × List ℕ))) (words : List (List ℕ)) (out new_out err new_err : Option (List ℕ))
+    → Keeps out new_out → Keeps err new_err → IsSomeAnd stored (λ files. Product files words unread)
+    → IfSome stored (λ files. Delivers files words out new_out err new_err 7)
+unread_delivers None words out new_out err new_err same_out same_err gone = tt
+unread_delivers (Some files) words out new_out err new_err same_out same_err gone =
+    record { answer = unread; defined = gone; to_out = kept out new_out same_out; to_err = kept err new_err same_err; answered = refl }
+
+-- each way to stop: one with a count that rose, one with no memory, or a file that isn't there
+pub stop_delivers : (stop : Stop) (status : ℕ) (stored : Option (List (List ℕ × List ℕ))) (words : List (List ℕ)) (out new_out err new_err : Option (List ℕ))
+    (FilesRose OutRose ErrRose : Type 0) → status ≡ stop_status stop → ¬ FilesRose → ¬ OutRose → ¬ ErrRose → status ≢ 9
+    → (stop ≡ Read → FilesRose ⊎ IsSomeAnd stored (λ files. Product files words unread)) → (stop ≡ Write → OutRose ⊎ ErrRose)
+    → (stop ≢ Write → Keeps out new_out × Keeps err new_err)
+    → IfSome stored (λ files. Delivers files words out new_out err new_err status)
+stop_delivers Read status stored words out new_out err new_err F O E is files_stay out_stays err_stays memory read write nothing =
+    let same : Keeps out new_out × Keeps err new_err = nothing (λ e. cc) in
+    let gone : IsSomeAnd stored (λ files. Product files words unread) = elim (read refl) [ inl rose ↦ absurd (files_stay rose) | inr gone ↦ gone ] in
+    subst (λ (n : ℕ). IfSome stored (λ files. Delivers files words out new_out err new_err n)) (sym is)
+    (unread_delivers stored words out new_out err new_err same.0 same.1 gone)
+stop_delivers Write status stored words out new_out err new_err F O E is files_stay out_stays err_stays memory read write nothing =
+    absurd (elim (write refl) [ inl rose ↦ out_stays rose | inr rose ↦ err_stays rose ])
+stop_delivers Memory status stored words out new_out err new_err F O E is files_stay out_stays err_stays memory read write nothing = absurd (memory is)
