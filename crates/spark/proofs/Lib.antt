@@ -1,0 +1,2 @@
+-- What a write in parts keeps.
+pub mod Parts

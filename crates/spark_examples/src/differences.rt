@@ -1,0 +1,43 @@
+//! Says how an answer differs from what a head says.
+use crate::answer::Answer;
+use crate::head::Head;
+use std::alloc::{AllocError, Global};
+
+/// Both texts of an output, where they differ.
+fn add_output(
+    alloc: Global,
+    lines: &mut String,
+    output: &str,
+    expected: &[u8],
+    found: &[u8],
+) -> Result<(), AllocError> {
+    if expected != found {
+        let expected = String::from_utf8_lossy(alloc, expected)?;
+        let found = String::from_utf8_lossy(alloc, found)?;
+        write!(
+            lines,
+            "{output} is expected as:\n{expected}and is:\n{found}"
+        )?;
+    }
+    Ok(())
+}
+
+/// What differs, in lines; nothing where nothing does.
+pub(crate) fn differences(
+    alloc: Global,
+    head: &Head,
+    answer: &Answer,
+) -> Result<String, AllocError> {
+    let mut lines = String::new(alloc);
+    if answer.status != head.status {
+        let expected = head.status;
+        let found = answer.status;
+        write!(
+            lines,
+            "the status is expected as {expected} and is {found}\n"
+        )?;
+    }
+    add_output(alloc, &mut lines, "out", &head.out, answer.out.bytes())?;
+    add_output(alloc, &mut lines, "err", &head.err, answer.err.bytes())?;
+    Ok(lines)
+}
