@@ -1,0 +1,2 @@
+-- what the adapters show
+pub mod Outputs

@@ -7,6 +7,8 @@
 //! Words that aren't UTF-8 are a usage fault, as no words are.
 #![tactic(auto)]
 
+ghost use Rattle.spark_tool.specs.Promises.{IsStatus};
+
 mod files;
 mod outputs;
 mod reading;
@@ -16,7 +18,7 @@ use files::RealFiles;
 use outputs::Output;
 use reading::Reading;
 use spark_tool::run_tool;
-use std::io::ErrorKind;
+use std::io::{ErrorKind, Stderr, Stdout};
 use std::process::ExitCode;
 use std::{env, io};
 use writing::Writing;
@@ -33,12 +35,17 @@ fn words_after_name(rt: &HostRuntime) -> io::Result<Vec<String>> {
     Ok(words)
 }
 
+/// An output of the process as a sink.
+type Outgoing = Writing<Output<Stdout, Stderr>>;
+
 /// Runs the tool on the real objects.
-fn run_really(rt: &HostRuntime, words: &[String]) -> u8 {
+fn run_really(rt: &HostRuntime, words: &[String]) -> u8
+    ensures { IsStatus result }
+{
     let mut files = RealFiles::new(rt, words);
     let mut input = Reading::new(rt.stdin());
-    let mut out = Writing::new(Output::Out(rt.stdout()));
-    let mut err = Writing::new(Output::Err(rt.stderr()));
+    let mut out: Outgoing = Writing::new(Output::Out(rt.stdout()));
+    let mut err: Outgoing = Writing::new(Output::Err(rt.stderr()));
     run_tool(
         rt.alloc(),
         words,

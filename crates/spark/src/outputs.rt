@@ -1,17 +1,21 @@
 //! The two outputs of the process under one type.
 use std::io;
-use std::io::{Stderr, Stdout, Write};
+use std::io::Write;
 
-/// Standard output or standard error. What reaches them, no clause knows.
-#[derive(Clone, Copy)]
-pub enum Output {
+/// Standard output or standard error, or any two writers in their place. It tells what the one that it is tells.
+#[derive(Drop)]
+pub enum Output<O, E> {
     /// Standard output.
-    Out(Stdout),
+    Out(O),
     /// Standard error.
-    Err(Stderr),
+    Err(E),
 }
 
-impl Write for Output {
+impl<O: Write, E: Write> Write for Output<O, E> {
+    ghost use Rattle.spark.specs.Outputs.{output_contents};
+
+    ghost contents = { output_contents O.contents E.contents };
+
     fn write(&mut self, bytes: &[u8]) -> io::Result<usize> {
         match self {
             Output::Out(stream) => stream.write(bytes),

@@ -4,7 +4,7 @@ use crate::outputs::Output;
 use crate::reading::Reading;
 use crate::writing::Writing;
 use spark_base::{Failed, FileStore, OpenFault, Sink, SinkFault, Source};
-use std::io::Write;
+use std::io::{Stderr, Stdout, Write};
 use std::test::Fail;
 use std::{fs, io};
 
@@ -88,8 +88,8 @@ fn a_piece_is_written_whole_in_parts(rt: HostRuntime) -> Result<(), Fail> {
     assert_eq!(rt; sink.write(b"ytes"), Err(SinkFault::Failed));
     assert_eq!(rt; sink.faults, 1);
     assert_eq!(rt; sink.inner.taken.as_slice(), b"seven by".as_slice());
-    let mut out = Writing::new(Output::Out(rt.stdout()));
-    let mut err = Writing::new(Output::Err(rt.stderr()));
+    let mut out: Writing<Output<Stdout, Stderr>> = Writing::new(Output::Out(rt.stdout()));
+    let mut err: Writing<Output<Stdout, Stderr>> = Writing::new(Output::Err(rt.stderr()));
     assert_eq!(rt; out.write(b"to the output\n"), Ok(()));
     assert_eq!(rt; err.write(b"to the error output\n"), Ok(()));
     Ok(())
