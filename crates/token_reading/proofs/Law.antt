@@ -1,0 +1,114 @@
+-- What a reader owes, whatever it is made of.
+use Rattle.std.proofs.Common.{◌≡◌, refl, sym, ap, ◌∙◌, subst, ℕ, Bool, true, false, List, [], ◌∷◌, ◌++◌}
+use Rattle.std.proofs.lemmas.List.{append_assoc, append_cancel_right}
+use Rattle.token_reading.specs.Spelled.{Spelled}
+use Rattle.token_reading.specs.Marks.{Mark, bare, Light, Marking, Count}
+use Rattle.token_reading.specs.Reading.{Cause, Refused, Deep, Outcome, Got, Fails, Reader, starts, and_then}
+use Rattle.token_reading.proofs.Sets.{Leads}
+
+-- A tree is good, none of its tokens is one too many, and the list begins with its spelling.
+pub record Read {A : Type 0} (good : A → Type 0) (s : Marking A) (next : Count A) (k : ℕ) (ts : List Spelled) (a : A) (j : ℕ)
+    (rest : List Spelled) : Type 0 where
+  pub fits : good a
+  pub light : Light (s k a)
+  pub count : j ≡ next k a
+  pub whole : ts ≡ bare (s k a) ++ rest
+
+-- A list that begins with the spelling of a tree gives that tree, unless a token is one too many.
+-- So trees with such tokens are trees too, and no source begins as a refused list does, not even a too deep one.
+abbrev pub Accepted : {A : Type 0} → A → ℕ → List Spelled → Outcome A → Type 0
+Accepted a j rest (Got b i more) = (b ≡ a) × (i ≡ j) × (more ≡ rest)
+Accepted a j rest (Fails Deep more) = Unit {0}
+Accepted a j rest (Fails Refused more) = ⊥
+
+-- The first of the tokens left is one too many.
+pub record OneTooMany (reached : List Mark) (rest : List Spelled) : Type 0 where
+  pub mark : Mark
+  pub is_heavy : mark.heavy ≡ true
+  pub alone : reached ≡ mark ∷ []
+  pub behind : List Spelled
+  pub at : rest ≡ mark.token ∷ behind
+
+-- What is reached of the tokens left: none where the first one can't stand there.
+abbrev pub Reached : Cause → List Mark → List Spelled → Type 0
+Reached Refused reached rest = reached ≡ []
+Reached Deep reached rest = OneTooMany reached rest
+
+-- The tokens before the faulty one, and through it where it is one too many, begin the spelling of a good tree, and none
+-- before it is one too many.
+pub record Broken {A : Type 0} (good : A → Type 0) (s : A → List Mark) (c : Cause) (ts rest : List Spelled) : Type 0 where
+  pub before : List Mark
+  pub tree : A
+  pub reached : List Mark
+  pub more : List Mark
+  pub fits : good tree
+  pub clear : Light before
+  pub reach : Reached c reached rest
+  pub splits : ts ≡ bare before ++ rest
+  pub goes_on : s tree ≡ before ++ (reached ++ more)
+
+-- A failure of a reader of such trees.
+abbrev pub failed : (A : Type 0) → Cause → List Spelled → Outcome A
+failed A c rest = Fails c rest
+
+-- The tokens that an outcome leaves, and the outcome that leaves others.
+abbrev pub rest_of : {A : Type 0} → Outcome A → List Spelled
+rest_of (Got a k rest) = rest
+rest_of (Fails c rest) = rest
+
+abbrev pub put : {A : Type 0} → List Spelled → Outcome A → Outcome A
+put new (Got a k rest) = Got a k new
+put new (Fails c rest) = Fails c new
+
+-- `good` trees are read, `s` is their spelling and `next` the operators behind them, both by the operators before them.
+-- A spelling begins with a kind of `first`, and is empty only if `may`. A list goes on behind a spelling with a token that
+-- the reader would not take, which is of no kind of `last`.
+pub record Law {A : Type 0} (p : Reader A) (good : A → Type 0) (s : Marking A) (next : Count A) (first last : List ℕ) (may : Bool) : Type 0 where
+  pub example : A
+  pub sample : good example
+  pub leads : (k : ℕ) (a : A) → good a → Leads may first (bare (s k a))
+  pub sound : (k : ℕ) (ts : List Spelled) (a : A) (j : ℕ) (rest : List Spelled) → p k ts ≡ Got a j rest → Read good s next k ts a j rest
+  pub accepts : (k : ℕ) (a : A) (rest : List Spelled) → good a → starts last rest ≡ false
+      → Accepted a (next k a) rest (p k (bare (s k a) ++ rest))
+  pub breaks : (k : ℕ) (ts : List Spelled) (c : Cause) (rest : List Spelled) → p k ts ≡ Fails c rest → Broken good (s k) c ts rest
+  -- the outcome hangs on the tokens through the first one left
+  pub local : (k : ℕ) (u : List Spelled) (x : Spelled) (r q : List Spelled) → rest_of (p k (u ++ (x ∷ r))) ≡ x ∷ r
+      → p k (u ++ (x ∷ q)) ≡ put (x ∷ q) (p k (u ++ (x ∷ r)))
+
+-- ---- outcomes taken apart
+
+pub and_then_got : {A B : Type 0} (o : Outcome A) (q : A → Reader B) (b : B) (i : ℕ) (rest : List Spelled) → and_then o q ≡ Got b i rest
+    → (a : A) × ((j : ℕ) × ((more : List Spelled) × ((o ≡ Got a j more) × (q a j more ≡ Got b i rest))))
+and_then_got (Got a j more) q b i rest e = (a, (j, (more, (refl, e))))
+and_then_got (Fails c more) q b i rest e = absurd (cc)
+
+pub got_same : {A : Type 0} (a b : A) (j i : ℕ) (rest more : List Spelled) → Got a j rest ≡ Got b i more → (a ≡ b) × (j ≡ i) × (rest ≡ more)
+got_same a b j i rest more e = (cc, cc, cc)
+
+pub fails_same : {A : Type 0} (c d : Cause) (rest more : List Spelled) → failed A c rest ≡ Fails d more → (c ≡ d) × (rest ≡ more)
+fails_same c d rest more e = (cc, cc)
+
+-- A token that can't stand at the front of the list.
+pub refused_here : {A : Type 0} {good : A → Type 0} {s : A → List Mark} (a : A) → good a → (ts : List Spelled) (c : Cause) (rest : List Spelled)
+    → failed A Refused ts ≡ Fails c rest → Broken good s c ts rest
+refused_here {s = s} a g ts Refused rest e =
+    record { before = []; tree = a; reached = []; more = s a; fits = g; clear = tt; reach = refl; splits = cc; goes_on = refl }
+refused_here a g ts Deep rest e = absurd (cc)
+
+-- ---- what follows from a law
+
+module _ {A : Type 0} {p : Reader A} {good : A → Type 0} {s : Marking A} {next : Count A} {first last : List ℕ} {may : Bool}
+    (P : Law p good s next first last may) where
+  -- The tokens that are left end the list.
+  pub prefix : (k : ℕ) (ts : List Spelled) → (u : List Spelled) × (ts ≡ u ++ rest_of (p k ts))
+  prefix k ts = of_outcome (p k ts) refl
+    where
+      of_outcome : (o : Outcome A) → p k ts ≡ o → (u : List Spelled) × (ts ≡ u ++ rest_of o)
+      of_outcome (Got a j rest) e = (bare (s k a), (P.sound k ts a j rest e).whole)
+      of_outcome (Fails c rest) e = let broken = P.breaks k ts c rest e in (bare broken.before, broken.splits)
+
+  -- What is read is read too where later tokens are others.
+  pub steady : (k : ℕ) (u v : List Spelled) (x : Spelled) (r q : List Spelled) (a : A) (j : ℕ) → p k (u ++ (v ++ (x ∷ r))) ≡ Got a j (v ++ (x ∷ r))
+      → p k (u ++ (v ++ (x ∷ q))) ≡ Got a j (v ++ (x ∷ q))
+  steady k u [] x r q a j e = P.local k u x r q (ap rest_of e) ∙ ap (put (x ∷ q)) e
+  steady k u (y ∷ v) x r q a j e = P.local k u y (v ++ (x ∷ r)) (v ++ (x ∷ q)) (ap rest_of e) ∙ ap (put (y ∷ (v ++ (x ∷ q)))) e

@@ -1,0 +1,4 @@
+pub mod Sets
+pub mod Lists
+pub mod Law
+pub mod Tokens

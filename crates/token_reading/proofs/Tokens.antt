@@ -1,0 +1,125 @@
+-- The laws of the readers of one token.
+use Rattle.std.proofs.Common.{◌≡◌, refl, sym, ap, ◌∙◌, subst, ℕ, ◌<◌, Bool, true, false, List, [], ◌∷◌, ◌++◌, Option, Some, None, arith}
+use Rattle.std.specs.Prelude.{if◌then◌else◌, map}
+use Rattle.std.specs.Char.{to_ascii_lowercase}
+use Rattle.std.specs.Str.{bytes_eq}
+use Rattle.std.specs.Cmp.Lexicographic.{bytes_decides}
+use Rattle.spark_base.specs.declared.position.Pos.{Pos}
+use denote.Enum.Bare.{sameb, same_true, true_same}
+use Rattle.ada_lexer.specs.declared.token.Reserved.{Reserved}
+use Rattle.ada_lexer.specs.declared.token.Symbol.{Symbol}
+use Rattle.ada_lexer.specs.contracts.token.Reserved as reserved
+use Rattle.ada_lexer.specs.contracts.token.Symbol as symbols
+use Rattle.token_reading.specs.Spelled.{Spelled, Word, Ident, Number, Str, Delimiter, EndOfFile}
+use Rattle.token_reading.specs.Marks.{Mark, plain, bare, IsLight, Light, Marking, Count}
+use Rattle.token_reading.specs.Reading.{Cause, Refused, Deep, Outcome, Got, Fails, Reader, of_word, of_symbol, of_ident, of_number, of_string, code, is_in, starts, Weight, weightless, opener, operator, weighed, taken, one_of, word_place, word, opens_word, operator_word, symbol_place, symbol, opens_symbol, operator_symbol, PlacedText, identifier_of, ident, called_of, ident_called, string_of, string, number_of, number}
+use Rattle.token_reading.proofs.Sets.{is_in-own}
+use Rattle.token_reading.proofs.Lists.{nothing_before, not_longer}
+use Rattle.token_reading.proofs.Law.{Read, Accepted, OneTooMany, Broken, Law, failed, rest_of, put, refused_here}
+
+abbrev pub Any : {A : Type 0} → A → Type 0
+Any a = Unit {0}
+
+pub some_same : {A : Type 0} (a b : A) → Some a ≡ Some b → a ≡ b
+some_same a b e = cc
+
+-- ---- any one token
+
+module _ {A : Type 0} (w : Weight) (f : Spelled → Option A) (good : A → Type 0) (token_of : A → Spelled) (first : List ℕ)
+    (tells : (t : Spelled) (a : A) → f t ≡ Some a → good a × (t ≡ token_of a)) (takes : (a : A) → good a → f (token_of a) ≡ Some a)
+    (begins : (a : A) → is_in first (code (token_of a)) ≡ true) (inside : (a : A) → token_of a ≡ EndOfFile → ⊥)
+    (example : A) (sample : good example) where
+  abbrev one_marks : Marking A
+  one_marks k a = record { token = token_of a; heavy = w.heavy k } ∷ []
+
+  abbrev one_count : Count A
+  one_count k a = w.step k
+
+  weighed_got : (h : Bool) (b : A) (i : ℕ) (t : Spelled) (ts : List Spelled) (a : A) (j : ℕ) (rest : List Spelled)
+      → (if h then Fails Deep (t ∷ ts) else Got b i ts) ≡ Got a j rest → (h ≡ false) × (b ≡ a) × (i ≡ j) × (ts ≡ rest)
+  weighed_got true b i t ts a j rest e = absurd (cc)
+  weighed_got false b i t ts a j rest e = (refl, cc, cc, cc)
+
+  taken_sound : (o : Option A) (k : ℕ) (t : Spelled) (ts : List Spelled) (a : A) (j : ℕ) (rest : List Spelled) → f t ≡ o
+      → taken w o k t ts ≡ Got a j rest → Read good one_marks one_count k (t ∷ ts) a j rest
+  taken_sound (Some b) k t ts a j rest is e =
+      let got = weighed_got (w.heavy k) b (w.step k) t ts a j rest e in
+      let told = tells t a (is ∙ ap (λ c. Some c) got.1) in
+      let head : t ≡ token_of a = told.1 in
+      let tail : ts ≡ rest = got.3 in
+      record { fits = told.0; light = (record { allowed = got.0; within_file = inside a }, tt); count = sym got.2; whole = cc }
+  taken_sound None k t ts a j rest is e = absurd (cc)
+
+  one_sound : (k : ℕ) (ts : List Spelled) (a : A) (j : ℕ) (rest : List Spelled) → one_of w f k ts ≡ Got a j rest
+      → Read good one_marks one_count k ts a j rest
+  one_sound k [] a j rest e = absurd (cc)
+  one_sound k (t ∷ ts) a j rest e = taken_sound (f t) k t ts a j rest refl e
+
+  weighed_accepts : (h : Bool) (a : A) (j : ℕ) (t : Spelled) (rest : List Spelled)
+      → Accepted a j rest (if h then Fails Deep (t ∷ rest) else Got a j rest)
+  weighed_accepts true a j t rest = tt
+  weighed_accepts false a j t rest = (refl, refl, refl)
+
+  one_accepts : (k : ℕ) (a : A) (rest : List Spelled) → good a → Accepted a (w.step k) rest (one_of w f k (token_of a ∷ rest))
+  one_accepts k a rest g =
+      subst (λ o. Accepted a (w.step k) rest (taken w o k (token_of a) rest)) (sym (takes a g)) (weighed_accepts (w.heavy k) a (w.step k) (token_of a) rest)
+
+  weighed_breaks : (h : Bool) (a : A) (k : ℕ) (t : Spelled) (ts : List Spelled) (c : Cause) (rest : List Spelled) → w.heavy k ≡ h
+      → good a → t ≡ token_of a → (if h then failed A Deep (t ∷ ts) else Got a (w.step k) ts) ≡ Fails c rest
+      → Broken good (one_marks k) c (t ∷ ts) rest
+  weighed_breaks true a k t ts Deep rest heavy g at e = record {
+    before = []; tree = a; reached = one_marks k a; more = []; fits = g; clear = tt;
+    reach = record { mark = record { token = token_of a; heavy = w.heavy k }; is_heavy = heavy; alone = refl; behind = ts; at = cc };
+    splits = cc; goes_on = refl;
+  }
+  weighed_breaks true a k t ts Refused rest heavy g at e = absurd (cc)
+  weighed_breaks false a k t ts c rest heavy g at e = absurd (cc)
+
+  taken_breaks : (o : Option A) (k : ℕ) (t : Spelled) (ts : List Spelled) (c : Cause) (rest : List Spelled) → f t ≡ o
+      → taken w o k t ts ≡ Fails c rest → Broken good (one_marks k) c (t ∷ ts) rest
+  taken_breaks (Some a) k t ts c rest is e =
+      let told = tells t a is in weighed_breaks (w.heavy k) a k t ts c rest refl told.0 told.1 e
+  taken_breaks None k t ts c rest is e = refused_here example sample (t ∷ ts) c rest e
+
+  one_breaks : (k : ℕ) (ts : List Spelled) (c : Cause) (rest : List Spelled) → one_of w f k ts ≡ Fails c rest → Broken good (one_marks k) c ts rest
+  one_breaks k [] c rest e = refused_here example sample [] c rest e
+  one_breaks k (t ∷ ts) c rest e = taken_breaks (f t) k t ts c rest refl e
+
+  weighed_local : (h : Bool) (a : A) (i : ℕ) (t : Spelled) (u : List Spelled) (x : Spelled) (r q : List Spelled)
+      → rest_of (if h then failed A Deep (t ∷ (u ++ (x ∷ r))) else Got a i (u ++ (x ∷ r))) ≡ x ∷ r
+      → (if h then failed A Deep (t ∷ (u ++ (x ∷ q))) else Got a i (u ++ (x ∷ q)))
+      ≡ put (x ∷ q) (if h then failed A Deep (t ∷ (u ++ (x ∷ r))) else Got a i (u ++ (x ∷ r)))
+  weighed_local true a i t u x r q e = absurd (not_longer t u (x ∷ r) e)
+  weighed_local false a i t u x r q e = let none : u ≡ [] = nothing_before u (x ∷ r) e in ap (λ v. Got a i (v ++ (x ∷ q))) none
+
+  taken_local : (o : Option A) (k : ℕ) (t : Spelled) (u : List Spelled) (x : Spelled) (r q : List Spelled)
+      → rest_of (taken w o k t (u ++ (x ∷ r))) ≡ x ∷ r → taken w o k t (u ++ (x ∷ q)) ≡ put (x ∷ q) (taken w o k t (u ++ (x ∷ r)))
+  taken_local (Some a) k t u x r q e = weighed_local (w.heavy k) a (w.step k) t u x r q e
+  taken_local None k t u x r q e = absurd (not_longer t u (x ∷ r) e)
+
+  weighed_first : (h : Bool) (a : A) (i : ℕ) (x : Spelled) (r q : List Spelled)
+      → rest_of (if h then failed A Deep (x ∷ r) else Got a i r) ≡ x ∷ r
+      → (if h then failed A Deep (x ∷ q) else Got a i q) ≡ put (x ∷ q) (if h then failed A Deep (x ∷ r) else Got a i r)
+  weighed_first true a i x r q e = refl
+  weighed_first false a i x r q e = absurd (not_longer x [] r (sym e))
+
+  taken_first : (o : Option A) (k : ℕ) (x : Spelled) (r q : List Spelled)
+      → rest_of (taken w o k x r) ≡ x ∷ r → taken w o k x q ≡ put (x ∷ q) (taken w o k x r)
+  taken_first (Some a) k x r q e = weighed_first (w.heavy k) a (w.step k) x r q e
+  taken_first None k x r q e = refl
+
+  one_local : (k : ℕ) (u : List Spelled) (x : Spelled) (r q : List Spelled) → rest_of (one_of w f k (u ++ (x ∷ r))) ≡ x ∷ r
+      → one_of w f k (u ++ (x ∷ q)) ≡ put (x ∷ q) (one_of w f k (u ++ (x ∷ r)))
+  one_local k [] x r q e = taken_first (f x) k x r q e
+  one_local k (t ∷ u) x r q e = taken_local (f t) k t u x r q e
+
+  pub law_one : Law (one_of w f) good one_marks one_count first [] false
+  law_one = record {
+    example = example;
+    sample = sample;
+    leads = λ k a g. begins a;
+    sound = one_sound;
+    accepts = λ k a rest g e. one_accepts k a rest g;
+    breaks = one_breaks;
+    local = one_local;
+  }
