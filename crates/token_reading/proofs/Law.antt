@@ -1,5 +1,5 @@
 -- What a reader owes, whatever it is made of.
-use Rattle.std.proofs.Common.{◌≡◌, refl, sym, ap, ◌∙◌, subst, ℕ, Bool, true, false, List, [], ◌∷◌, ◌++◌}
+use Rattle.std.proofs.Common.{◌≡◌, refl, sym, ap, ◌∙◌, subst, ℕ, Bool, true, false, List, [], ◌∷◌, ◌++◌, ◌⊎◌, inl, inr}
 use Rattle.std.proofs.lemmas.List.{append_assoc, append_cancel_right}
 use Rattle.token_reading.specs.Spelled.{Spelled}
 use Rattle.token_reading.specs.Marks.{Mark, bare, Light, Marking, Count}
@@ -85,8 +85,45 @@ and_then_got (Fails c more) q b i rest e = absurd (cc)
 pub got_same : {A : Type 0} (a b : A) (j i : ℕ) (rest more : List Spelled) → Got a j rest ≡ Got b i more → (a ≡ b) × (j ≡ i) × (rest ≡ more)
 got_same a b j i rest more e = (cc, cc, cc)
 
+pub got_fails : {A : Type 0} (a : A) (j : ℕ) (c : Cause) (rest more : List Spelled) → Got a j rest ≡ Fails c more → ⊥
+got_fails a j c rest more e = cc
+
 pub fails_same : {A : Type 0} (c d : Cause) (rest more : List Spelled) → failed A c rest ≡ Fails d more → (c ≡ d) × (rest ≡ more)
 fails_same c d rest more e = (cc, cc)
+
+pub and_then_fails : {A B : Type 0} (o : Outcome A) (q : A → Reader B) (c : Cause) (rest : List Spelled) → and_then o q ≡ Fails c rest
+    → (o ≡ Fails c rest) ⊎ ((a : A) × ((j : ℕ) × ((more : List Spelled) × ((o ≡ Got a j more) × (q a j more ≡ Fails c rest)))))
+and_then_fails (Got a j more) q c rest e = inr (a, (j, (more, (refl, e))))
+and_then_fails (Fails d more) q c rest e = inl (cc)
+
+pub read_same : {A : Type 0} {good : A → Type 0} {s : Marking A} {next : Count A} (k : ℕ) (ts : List Spelled) (a b : A) (j i : ℕ)
+    (rest more : List Spelled) → Got a j rest ≡ Got b i more → Read good s next k ts a j rest → Read good s next k ts b i more
+read_same {good = good} {s = s} {next = next} k ts a b j i rest more e read =
+    let same = got_same a b j i rest more e in
+    subst (λ c. Read good s next k ts c i more) same.0
+    (subst (λ l. Read good s next k ts a l more) same.1 (subst (λ r. Read good s next k ts a j r) same.2 read))
+
+-- What is accepted goes on to the next reader.
+pub accepted_then : {A B : Type 0} (a : A) (j : ℕ) (more : List Spelled) (b : B) (i : ℕ) (rest : List Spelled) (q : A → Reader B) (o : Outcome A)
+    → Accepted a j more o → Accepted b i rest (q a j more) → Accepted b i rest (and_then o q)
+accepted_then a j more b i rest q (Got c l ts) one two =
+    let first : a ≡ c = sym one.0 in
+    let second : j ≡ l = sym one.1 in
+    let third : more ≡ ts = sym one.2 in
+    let same : Got a j more ≡ Got c l ts = cc in
+    subst (λ o. Accepted b i rest (and_then o q)) same two
+accepted_then a j more b i rest q (Fails Deep ts) one two = tt
+accepted_then a j more b i rest q (Fails Refused ts) one two = absurd one
+
+-- Making a tree of what is read leaves the tokens as they are.
+pub rest_made : {A B : Type 0} (f : A → B) (c : ℕ → ℕ) (o : Outcome A) → rest_of (and_then o (λ a j rest. Got (f a) (c j) rest)) ≡ rest_of o
+rest_made f c (Got a j rest) = refl
+rest_made f c (Fails d rest) = refl
+
+pub put_made : {A B : Type 0} (f : A → B) (c : ℕ → ℕ) (new : List Spelled) (o : Outcome A)
+    → and_then (put new o) (λ a j rest. Got (f a) (c j) rest) ≡ put new (and_then o (λ a j rest. Got (f a) (c j) rest))
+put_made f c new (Got a j rest) = refl
+put_made f c new (Fails d rest) = refl
 
 -- A token that can't stand at the front of the list.
 pub refused_here : {A : Type 0} {good : A → Type 0} {s : A → List Mark} (a : A) → good a → (ts : List Spelled) (c : Cause) (rest : List Spelled)
@@ -112,3 +149,14 @@ module _ {A : Type 0} {p : Reader A} {good : A → Type 0} {s : Marking A} {next
       → p k (u ++ (v ++ (x ∷ q))) ≡ Got a j (v ++ (x ∷ q))
   steady k u [] x r q a j e = P.local k u x r q (ap rest_of e) ∙ ap (put (x ∷ q)) e
   steady k u (y ∷ v) x r q a j e = P.local k u y (v ++ (x ∷ r)) (v ++ (x ∷ q)) (ap rest_of e) ∙ ap (put (y ∷ (v ++ (x ∷ q)))) e
+
+  -- The same where what is left goes on to the place from which other tokens stand.
+  pub goes_past : (k : ℕ) (u : List Spelled) (x : Spelled) (r q : List Spelled) (a : A) (j : ℕ) (mid v : List Spelled)
+      → p k (u ++ (x ∷ r)) ≡ Got a j mid → mid ≡ v ++ (x ∷ r) → p k (u ++ (x ∷ q)) ≡ Got a j (v ++ (x ∷ q))
+  goes_past k u x r q a j mid v e at =
+      let read = P.sound k (u ++ (x ∷ r)) a j mid e in
+      let w : List Spelled = bare (s k a) in
+      let whole : u ++ (x ∷ r) ≡ (w ++ v) ++ (x ∷ r) = read.whole ∙ ap (λ ts. w ++ ts) at ∙ sym (append_assoc w v (x ∷ r)) in
+      let front : u ≡ w ++ v = append_cancel_right u (w ++ v) (x ∷ r) whole in
+      let split : (y : List Spelled) → u ++ (x ∷ y) ≡ w ++ (v ++ (x ∷ y)) = λ y. ap (λ z. z ++ (x ∷ y)) front ∙ append_assoc w v (x ∷ y) in
+      ap (λ ts. p k ts) (split q) ∙ steady k w v x r q a j (ap (λ ts. p k ts) (sym (split r)) ∙ e ∙ ap (λ ts. Got a j ts) at)

@@ -2,3 +2,9 @@ pub mod Sets
 pub mod Lists
 pub mod Law
 pub mod Tokens
+pub mod FirstKinds
+pub mod Seq
+pub mod Made
+pub mod Choice
+pub mod Many
+pub mod Nesting

@@ -1,6 +1,6 @@
 -- The laws of the readers of one token.
-use Rattle.std.proofs.Common.{◌≡◌, refl, sym, ap, ◌∙◌, subst, ℕ, ◌<◌, Bool, true, false, List, [], ◌∷◌, ◌++◌, Option, Some, None, arith}
-use Rattle.std.specs.Prelude.{if◌then◌else◌, map}
+use Rattle.std.proofs.Common.{◌≡◌, refl, sym, ap, ◌∙◌, subst, ℕ, suc, Bool, true, false, List, [], ◌∷◌, ◌++◌, Option, Some, None}
+use Rattle.std.specs.Prelude.{if◌then◌else◌, map, codes}
 use Rattle.std.specs.Char.{to_ascii_lowercase}
 use Rattle.std.specs.Str.{bytes_eq}
 use Rattle.std.specs.Cmp.Lexicographic.{bytes_decides}
@@ -123,3 +123,139 @@ module _ {A : Type 0} (w : Weight) (f : Spelled → Option A) (good : A → Type
     breaks = one_breaks;
     local = one_local;
   }
+
+-- ---- each kind of token
+
+abbrev pub some_place : Pos
+some_place = record { file = 0; line = 1; column = 1 }
+
+pub if_some : {A : Type 0} (r : Bool) (a b : A) → (if r then Some a else None) ≡ Some b → (r ≡ true) × (a ≡ b)
+if_some true a b e = (refl, cc)
+if_some false a b e = absurd (cc)
+
+pub some_if : {A : Type 0} (r : Bool) (a : A) → r ≡ true → (if r then Some a else None) ≡ Some a
+some_if true a e = refl
+some_if false a e = absurd (cc)
+
+word_tells : (v : Reserved) (t : Spelled) (p : Pos) → word_place v t ≡ Some p → Any p × (t ≡ Word v p)
+word_tells v (Word it pos) p e =
+    let got = if_some (sameb reserved.the_type it v) pos p e in
+    let same : it ≡ v = same_true reserved.the_type tt it v got.0 in
+    let at : pos ≡ p = got.1 in
+    (tt, cc)
+word_tells v (Ident pos text) p e = absurd (cc)
+word_tells v (Number n pos) p e = absurd (cc)
+word_tells v (Str pos text) p e = absurd (cc)
+word_tells v (Delimiter s pos) p e = absurd (cc)
+word_tells v EndOfFile p e = absurd (cc)
+
+-- A word of any weight.
+abbrev pub weighed_word : Reserved → Weight → Marking Pos
+weighed_word v w k p = record { token = Word v p; heavy = w.heavy k } ∷ []
+
+pub law_weighed_word : (v : Reserved) (w : Weight) → Law (one_of w (word_place v)) Any (weighed_word v w) (λ k p. w.step k) (of_word v ∷ []) [] false
+law_weighed_word v w = law_one w (word_place v) Any (λ p. Word v p) (of_word v ∷ []) (word_tells v)
+    (λ p g. some_if (sameb reserved.the_type v v) p (true_same reserved.the_type v v refl)) (λ p. is_in-own (of_word v)) (λ p e. cc) some_place tt
+
+pub law_word : (v : Reserved) → Law (word v) Any (λ k p. plain (Word v p) ∷ []) (λ k p. k) (of_word v ∷ []) [] false
+law_word v = law_weighed_word v weightless
+
+pub law_opens_word : (v : Reserved) (full : Bool) → Law (opens_word v full) Any (weighed_word v (opener full)) (λ k p. k) (of_word v ∷ []) [] false
+law_opens_word v full = law_weighed_word v (opener full)
+
+pub law_operator_word : (v : Reserved) → Law (operator_word v) Any (weighed_word v operator) (λ k p. suc k) (of_word v ∷ []) [] false
+law_operator_word v = law_weighed_word v operator
+
+symbol_tells : (v : Symbol) (t : Spelled) (p : Pos) → symbol_place v t ≡ Some p → Any p × (t ≡ Delimiter v p)
+symbol_tells v (Delimiter it pos) p e =
+    let got = if_some (sameb symbols.the_type it v) pos p e in
+    let same : it ≡ v = same_true symbols.the_type tt it v got.0 in
+    let at : pos ≡ p = got.1 in
+    (tt, cc)
+symbol_tells v (Ident pos text) p e = absurd (cc)
+symbol_tells v (Number n pos) p e = absurd (cc)
+symbol_tells v (Str pos text) p e = absurd (cc)
+symbol_tells v (Word s pos) p e = absurd (cc)
+symbol_tells v EndOfFile p e = absurd (cc)
+
+-- A delimiter of any weight.
+abbrev pub weighed_symbol : Symbol → Weight → Marking Pos
+weighed_symbol v w k p = record { token = Delimiter v p; heavy = w.heavy k } ∷ []
+
+pub law_weighed_symbol : (v : Symbol) (w : Weight) → Law (one_of w (symbol_place v)) Any (weighed_symbol v w) (λ k p. w.step k) (of_symbol v ∷ []) [] false
+law_weighed_symbol v w = law_one w (symbol_place v) Any (λ p. Delimiter v p) (of_symbol v ∷ []) (symbol_tells v)
+    (λ p g. some_if (sameb symbols.the_type v v) p (true_same symbols.the_type v v refl)) (λ p. is_in-own (of_symbol v)) (λ p e. cc) some_place tt
+
+pub law_symbol : (v : Symbol) → Law (symbol v) Any (λ k p. plain (Delimiter v p) ∷ []) (λ k p. k) (of_symbol v ∷ []) [] false
+law_symbol v = law_weighed_symbol v weightless
+
+pub law_opens_symbol : (v : Symbol) (full : Bool) → Law (opens_symbol v full) Any (weighed_symbol v (opener full)) (λ k p. k) (of_symbol v ∷ []) [] false
+law_opens_symbol v full = law_weighed_symbol v (opener full)
+
+pub law_operator_symbol : (v : Symbol) → Law (operator_symbol v) Any (weighed_symbol v operator) (λ k p. suc k) (of_symbol v ∷ []) [] false
+law_operator_symbol v = law_weighed_symbol v operator
+
+abbrev pub id_token : PlacedText → Spelled
+id_token x = Ident x.0 x.1
+
+ident_tells : (t : Spelled) (x : PlacedText) → identifier_of t ≡ Some x → Any x × (t ≡ id_token x)
+ident_tells (Ident pos text) x e = (tt, ap id_token (some_same (pos, text) x e))
+ident_tells (Word v pos) x e = absurd (cc)
+ident_tells (Number n pos) x e = absurd (cc)
+ident_tells (Str pos text) x e = absurd (cc)
+ident_tells (Delimiter s pos) x e = absurd (cc)
+ident_tells EndOfFile x e = absurd (cc)
+
+pub law_ident : Law ident Any (λ k x. plain (id_token x) ∷ []) (λ k x. k) (of_ident ∷ []) [] false
+law_ident = law_one weightless identifier_of Any id_token (of_ident ∷ []) ident_tells (λ x g. refl) (λ x. refl) (λ x e. cc)
+    (some_place, codes "a") tt
+
+-- The identifier has this spelling, which is in lower case.
+abbrev pub IsCalled : List ℕ → PlacedText → Type 0
+IsCalled name x = map to_ascii_lowercase x.1 ≡ name
+
+called_tells : (name : List ℕ) (t : Spelled) (x : PlacedText) → called_of name t ≡ Some x → IsCalled name x × (t ≡ id_token x)
+called_tells name (Ident pos text) x e =
+    let got = if_some {A = PlacedText} (bytes_eq (map to_ascii_lowercase text) name) (pos, text) x e in
+    (subst (IsCalled name) got.1 ((bytes_decides (map to_ascii_lowercase text) name).0 got.0), ap id_token got.1)
+called_tells name (Word v pos) x e = absurd (cc)
+called_tells name (Number n pos) x e = absurd (cc)
+called_tells name (Str pos text) x e = absurd (cc)
+called_tells name (Delimiter s pos) x e = absurd (cc)
+called_tells name EndOfFile x e = absurd (cc)
+
+pub law_called : (name : List ℕ) → map to_ascii_lowercase name ≡ name
+    → Law (ident_called name) (IsCalled name) (λ k x. plain (id_token x) ∷ []) (λ k x. k) (of_ident ∷ []) [] false
+law_called name lower = law_one weightless (called_of name) (IsCalled name) id_token (of_ident ∷ []) (called_tells name)
+    (λ x g. some_if (bytes_eq (map to_ascii_lowercase x.1) name) x ((bytes_decides (map to_ascii_lowercase x.1) name).1 g)) (λ x. refl) (λ x e. cc)
+    (some_place, name) lower
+
+abbrev pub string_token : PlacedText → Spelled
+string_token x = Str x.0 x.1
+
+string_tells : (t : Spelled) (x : PlacedText) → string_of t ≡ Some x → Any x × (t ≡ string_token x)
+string_tells (Str pos text) x e = (tt, ap string_token (some_same (pos, text) x e))
+string_tells (Word v pos) x e = absurd (cc)
+string_tells (Number n pos) x e = absurd (cc)
+string_tells (Ident pos text) x e = absurd (cc)
+string_tells (Delimiter s pos) x e = absurd (cc)
+string_tells EndOfFile x e = absurd (cc)
+
+pub law_string : Law string Any (λ k x. plain (string_token x) ∷ []) (λ k x. k) (of_string ∷ []) [] false
+law_string = law_one weightless string_of Any string_token (of_string ∷ []) string_tells (λ x g. refl) (λ x. refl) (λ x e. cc)
+    (some_place, 34 ∷ 34 ∷ []) tt
+
+abbrev pub number_token : Pos × ℕ → Spelled
+number_token x = Number x.1 x.0
+
+number_tells : (t : Spelled) (x : Pos × ℕ) → number_of t ≡ Some x → Any x × (t ≡ number_token x)
+number_tells (Number n pos) x e = (tt, ap number_token (some_same (pos, n) x e))
+number_tells (Word v pos) x e = absurd (cc)
+number_tells (Ident pos text) x e = absurd (cc)
+number_tells (Str pos text) x e = absurd (cc)
+number_tells (Delimiter s pos) x e = absurd (cc)
+number_tells EndOfFile x e = absurd (cc)
+
+pub law_number : Law number Any (λ k x. plain (number_token x) ∷ []) (λ k x. k) (of_number ∷ []) [] false
+law_number = law_one weightless number_of Any number_token (of_number ∷ []) number_tells (λ x g. refl) (λ x. refl) (λ x e. cc)
+    (some_place, 0) tt

@@ -48,9 +48,13 @@ Gives outcome (Err fault.Refused) new = outcome ≡ Fails Refused new.tokens
 Gives outcome (Err fault.Deep) new = outcome ≡ Fails Deep new.tokens
 Gives outcome (Err fault.Memory) new = Unit {0}
 
+-- The outcome of a reader at a cursor.
+abbrev pub at : {A : Type 0} → Reader A → Ahead → Outcome A
+at p old = p old.operators old.tokens
+
 -- What a function promises that reads from a cursor as this reader does.
 abbrev pub Reads : {A : Type 0} → Reader A → Ahead → Result A ReadFault → Ahead → Type 0
-Reads p old result new = Gives (p old.operators old.tokens) result new
+Reads p old result new = Gives (at p old) result new
 
 -- ---- how such a cursor is coded as a value that a contract sees
 
@@ -247,6 +251,10 @@ many ms p k ts = many_up_to ms p (length ts) k ts
 -- an outermost expression, whose operators are counted by themselves
 abbrev pub outermost : {A : Type 0} → Reader A → Reader A
 outermost p k ts = and_then (p 0 ts) (λ a j rest. Got a k rest)
+
+-- a whole file: what this reader reads, and then the end of the file
+abbrev pub whole_file : {A : Type 0} → Reader A → Reader A
+whole_file p = to (λ x. x.0) (seq p file_end)
 
 -- ---- the place of a part that begins with another part
 
