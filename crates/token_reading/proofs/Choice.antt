@@ -8,7 +8,7 @@ use Rattle.token_reading.proofs.Sets.{apart, within, Leads, stops_both, stops_la
 use Rattle.token_reading.proofs.Lists.{if_true, if_false}
 use Rattle.token_reading.proofs.Tokens.{Any}
 use Rattle.token_reading.proofs.Made.{law_to, law_nothing}
-use Rattle.token_reading.proofs.Law.{Read, Accepted, Broken, Law, rest_of, put}
+use Rattle.token_reading.proofs.Law.{Read, Accepted, Broken, Law, Leaves, rest_of, put, left_is, left_same}
 
 -- The front of a list is the same, whatever stands behind a token.
 pub same_start : (ms : List ℕ) (u : List Spelled) (x : Spelled) (r z : List Spelled) → starts ms (u ++ (x ∷ z)) ≡ starts ms (u ++ (x ∷ r))
@@ -65,7 +65,7 @@ module _ {A : Type 0} {p q : Reader A} {g h : A → Type 0} {s : Marking A} {nex
   either_breaks false k ts c rest e = cut_either k ts c rest h second (Q.breaks k ts c rest e)
 
   either_local : (b : Bool) (k : ℕ) (u : List Spelled) (x : Spelled) (r z : List Spelled)
-      → rest_of (if b then p k (u ++ (x ∷ r)) else q k (u ++ (x ∷ r))) ≡ x ∷ r
+      → Leaves (if b then p k (u ++ (x ∷ r)) else q k (u ++ (x ∷ r))) (x ∷ r)
       → (if b then p k (u ++ (x ∷ z)) else q k (u ++ (x ∷ z))) ≡ put (x ∷ z) (if b then p k (u ++ (x ∷ r)) else q k (u ++ (x ∷ r)))
   either_local true k u x r z e = P.local k u x r z e
   either_local false k u x r z e = Q.local k u x r z e

@@ -56,6 +56,15 @@ abbrev pub rest_of : {A : Type 0} → Outcome A → List Spelled
 rest_of (Got a k rest) = rest
 rest_of (Fails c rest) = rest
 
+-- These tokens are left, and none was one too many.
+abbrev pub FirstLeft : Cause → List Spelled → List Spelled → Type 0
+FirstLeft Refused rest ts = rest ≡ ts
+FirstLeft Deep rest ts = ⊥
+
+abbrev pub Leaves : {A : Type 0} → Outcome A → List Spelled → Type 0
+Leaves (Got a k rest) ts = rest ≡ ts
+Leaves (Fails c rest) ts = FirstLeft c rest ts
+
 abbrev pub put : {A : Type 0} → List Spelled → Outcome A → Outcome A
 put new (Got a k rest) = Got a k new
 put new (Fails c rest) = Fails c new
@@ -71,8 +80,8 @@ pub record Law {A : Type 0} (p : Reader A) (good : A → Type 0) (s : Marking A)
   pub accepts : (k : ℕ) (a : A) (rest : List Spelled) → good a → starts last rest ≡ false
       → Accepted a (next k a) rest (p k (bare (s k a) ++ rest))
   pub breaks : (k : ℕ) (ts : List Spelled) (c : Cause) (rest : List Spelled) → p k ts ≡ Fails c rest → Broken good (s k) c ts rest
-  -- the outcome hangs on the tokens through the first one left
-  pub local : (k : ℕ) (u : List Spelled) (x : Spelled) (r q : List Spelled) → rest_of (p k (u ++ (x ∷ r))) ≡ x ∷ r
+  -- the outcome hangs on the tokens through the first one left; only a token that is one too many may be told by later ones
+  pub local : (k : ℕ) (u : List Spelled) (x : Spelled) (r q : List Spelled) → Leaves (p k (u ++ (x ∷ r))) (x ∷ r)
       → p k (u ++ (x ∷ q)) ≡ put (x ∷ q) (p k (u ++ (x ∷ r)))
 
 -- ---- outcomes taken apart
@@ -115,11 +124,20 @@ accepted_then a j more b i rest q (Got c l ts) one two =
 accepted_then a j more b i rest q (Fails Deep ts) one two = tt
 accepted_then a j more b i rest q (Fails Refused ts) one two = absurd one
 
--- Making a tree of what is read leaves the tokens as they are.
-pub rest_made : {A B : Type 0} (f : A → B) (c : ℕ → ℕ) (o : Outcome A) → rest_of (and_then o (λ a j rest. Got (f a) (c j) rest)) ≡ rest_of o
-rest_made f c (Got a j rest) = refl
-rest_made f c (Fails d rest) = refl
+pub left_is : {A : Type 0} (o : Outcome A) (ts : List Spelled) → Leaves o ts → rest_of o ≡ ts
+left_is (Got a k rest) ts l = l
+left_is (Fails Refused rest) ts l = l
+left_is (Fails Deep rest) ts l = absurd l
 
+pub left_same : {A : Type 0} (o u : Outcome A) (ts : List Spelled) → o ≡ u → Leaves u ts → Leaves o ts
+left_same o u ts e l = subst (λ v. Leaves v ts) (sym e) l
+
+pub left_made : {A B : Type 0} (f : A → B) (c : ℕ → ℕ) (o : Outcome A) (ts : List Spelled)
+    → Leaves (and_then o (λ a j rest. Got (f a) (c j) rest)) ts → Leaves o ts
+left_made f c (Got a j rest) ts l = l
+left_made f c (Fails d rest) ts l = l
+
+-- Making a tree of what is read leaves the tokens as they are.
 pub put_made : {A B : Type 0} (f : A → B) (c : ℕ → ℕ) (new : List Spelled) (o : Outcome A)
     → and_then (put new o) (λ a j rest. Got (f a) (c j) rest) ≡ put new (and_then o (λ a j rest. Got (f a) (c j) rest))
 put_made f c new (Got a j rest) = refl
@@ -147,8 +165,8 @@ module _ {A : Type 0} {p : Reader A} {good : A → Type 0} {s : Marking A} {next
   -- What is read is read too where later tokens are others.
   pub steady : (k : ℕ) (u v : List Spelled) (x : Spelled) (r q : List Spelled) (a : A) (j : ℕ) → p k (u ++ (v ++ (x ∷ r))) ≡ Got a j (v ++ (x ∷ r))
       → p k (u ++ (v ++ (x ∷ q))) ≡ Got a j (v ++ (x ∷ q))
-  steady k u [] x r q a j e = P.local k u x r q (ap rest_of e) ∙ ap (put (x ∷ q)) e
-  steady k u (y ∷ v) x r q a j e = P.local k u y (v ++ (x ∷ r)) (v ++ (x ∷ q)) (ap rest_of e) ∙ ap (put (y ∷ (v ++ (x ∷ q)))) e
+  steady k u [] x r q a j e = P.local k u x r q (left_same (p k (u ++ (x ∷ r))) (Got a j (x ∷ r)) (x ∷ r) e refl) ∙ ap (put (x ∷ q)) e
+  steady k u (y ∷ v) x r q a j e = P.local k u y (v ++ (x ∷ r)) (v ++ (x ∷ q)) (left_same (p k (u ++ (y ∷ (v ++ (x ∷ r))))) (Got a j (y ∷ (v ++ (x ∷ r)))) (y ∷ (v ++ (x ∷ r))) e refl) ∙ ap (put (y ∷ (v ++ (x ∷ q)))) e
 
   -- The same where what is left goes on to the place from which other tokens stand.
   pub goes_past : (k : ℕ) (u : List Spelled) (x : Spelled) (r q : List Spelled) (a : A) (j : ℕ) (mid v : List Spelled)

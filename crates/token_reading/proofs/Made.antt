@@ -6,7 +6,7 @@ use Rattle.token_reading.specs.Reading.{Cause, Refused, Deep, Outcome, Got, Fail
 use Rattle.token_reading.proofs.Sets.{within, Leads, stops_within, leads_within}
 use Rattle.token_reading.proofs.Lists.{nothing_before}
 use Rattle.token_reading.proofs.Tokens.{Any}
-use Rattle.token_reading.proofs.Law.{Read, Accepted, Broken, Law, rest_of, put, and_then_got, and_then_fails, got_fails, read_same, accepted_then, rest_made, put_made}
+use Rattle.token_reading.proofs.Law.{Read, Accepted, Broken, Law, Leaves, rest_of, put, left_is, left_same, and_then_got, and_then_fails, got_fails, read_same, accepted_then, left_made, put_made}
 
 module _ {A B : Type 0} {p : Reader A} {g : A → Type 0} {s : Marking A} {np : Count A} {first last : List ℕ} {may : Bool}
     (before : ℕ → ℕ) (behind : ℕ → ℕ → ℕ) (f : A → B) (h : B → Type 0) (t : Marking B) (nq : Count B) (P : Law p g s np first last may)
@@ -71,10 +71,10 @@ module _ {A B : Type 0} {p : Reader A} {g : A → Type 0} {s : Marking A} {np : 
         }
       | inr one ↦ absurd (got_fails (f one.0) (behind k one.1.0) c one.1.1.0 rest one.1.1.1.1) ]
 
-  made_local : (k : ℕ) (u : List Spelled) (x : Spelled) (r z : List Spelled) → rest_of (made k (u ++ (x ∷ r))) ≡ x ∷ r
+  made_local : (k : ℕ) (u : List Spelled) (x : Spelled) (r z : List Spelled) → Leaves (made k (u ++ (x ∷ r))) (x ∷ r)
       → made k (u ++ (x ∷ z)) ≡ put (x ∷ z) (made k (u ++ (x ∷ r)))
   made_local k u x r z e =
-      let left = sym (rest_made f (behind k) (p (before k) (u ++ (x ∷ r)))) ∙ e in
+      let left = left_made f (behind k) (p (before k) (u ++ (x ∷ r))) (x ∷ r) e in
       ap (λ o. and_then o (finish k)) (P.local (before k) u x r z left) ∙ put_made f (behind k) (x ∷ z) (p (before k) (u ++ (x ∷ r)))
 
   pub law_made : Law made h t nq first last may
@@ -121,7 +121,7 @@ law_same {p = p} {g = g} {s = s} {np = np} q P same = record {
   sound = λ k ts a j rest e. P.sound k ts a j rest (sym (same k ts) ∙ e);
   accepts = λ k a rest good e. subst (λ o. Accepted a (np k a) rest o) (sym (same k (bare (s k a) ++ rest))) (P.accepts k a rest good e);
   breaks = λ k ts c rest e. P.breaks k ts c rest (sym (same k ts) ∙ e);
-  local = λ k u x r z e. same k (u ++ (x ∷ z)) ∙ P.local k u x r z (ap rest_of (sym (same k (u ++ (x ∷ r)))) ∙ e) ∙ ap (put (x ∷ z)) (sym (same k (u ++ (x ∷ r))));
+  local = λ k u x r z e. same k (u ++ (x ∷ z)) ∙ P.local k u x r z (left_same (p k (u ++ (x ∷ r))) (q k (u ++ (x ∷ r))) (x ∷ r) (sym (same k (u ++ (x ∷ r)))) e) ∙ ap (put (x ∷ z)) (sym (same k (u ++ (x ∷ r))));
 }
 
 to_itself : {A : Type 0} (o : Outcome A) → o ≡ and_then o (λ a j rest. Got a j rest)

@@ -10,7 +10,7 @@ use Rattle.token_reading.proofs.Sets.{apart, within, Leads, stops_both, stops_be
 use Rattle.token_reading.proofs.Lists.{bare-append, bare_both, light-append, nothing_before, if_true, if_false}
 use Rattle.token_reading.proofs.Made.{law_reworded}
 use Rattle.token_reading.proofs.Choice.{same_start}
-use Rattle.token_reading.proofs.Law.{Read, Accepted, Broken, Law, rest_of, put, and_then_got, and_then_fails, got_fails, got_same, read_same, accepted_then, rest_made, put_made, goes_past}
+use Rattle.token_reading.proofs.Law.{Read, Accepted, Broken, Law, Leaves, rest_of, put, left_is, left_same, and_then_got, and_then_fails, got_fails, got_same, read_same, accepted_then, left_made, put_made, goes_past}
 
 abbrev pub add_front : {A : Type 0} → A → List A → Reader (List A)
 add_front a xs i rest = Got (a ∷ xs) i rest
@@ -175,18 +175,18 @@ module _ {A : Type 0} {p : Reader A} {g : A → Type 0} {s : Marking A} {next : 
   -- what is owed of the later turns
   abbrev Local : ℕ → ℕ → Type 0
   Local n m = (k : ℕ) (u : List Spelled) (x : Spelled) (r z : List Spelled) → length (u ++ (x ∷ r)) ≤ n → length (u ++ (x ∷ z)) ≤ m
-      → rest_of (up n k (u ++ (x ∷ r))) ≡ x ∷ r → up m k (u ++ (x ∷ z)) ≡ put (x ∷ z) (up n k (u ++ (x ∷ r)))
+      → Leaves (up n k (u ++ (x ∷ r))) (x ∷ r) → up m k (u ++ (x ∷ z)) ≡ put (x ∷ z) (up n k (u ++ (x ∷ r)))
 
   first_local : (n m : ℕ) → Local n m → (k : ℕ) (u : List Spelled) (x : Spelled) (r z : List Spelled) → length (u ++ (x ∷ r)) ≤ suc n
-      → length (u ++ (x ∷ z)) ≤ suc m → (o : Outcome A) → p k (u ++ (x ∷ r)) ≡ o → rest_of (turn o (up n)) ≡ x ∷ r
+      → length (u ++ (x ∷ z)) ≤ suc m → (o : Outcome A) → p k (u ++ (x ∷ r)) ≡ o → Leaves (turn o (up n)) (x ∷ r)
       → turn (p k (u ++ (x ∷ z))) (up m) ≡ put (x ∷ z) (turn o (up n))
-  first_local n m ih k u x r z le lm (Fails c rest) is at = ap (λ o. turn o (up m)) (P.local k u x r z (ap rest_of is ∙ at) ∙ ap (put (x ∷ z)) is)
+  first_local n m ih k u x r z le lm (Fails c rest) is at = ap (λ o. turn o (up m)) (P.local k u x r z (left_same (p k (u ++ (x ∷ r))) (Fails c rest) (x ∷ r) is at) ∙ ap (put (x ∷ z)) is)
   first_local n m ih k u x r z le lm (Got a j mid) is at =
-      let left : rest_of (up n j mid) ≡ x ∷ r = sym (rest_made (λ (xs : List A). a ∷ xs) (λ i. i) (up n j mid)) ∙ at in
+      let leaves = left_made (λ (xs : List A). a ∷ xs) (λ i. i) (up n j mid) (x ∷ r) at in
       let cut = up_prefix n j mid in
-      let split : mid ≡ cut.0 ++ (x ∷ r) = cut.1 ∙ ap (λ ts. cut.0 ++ ts) left in
+      let split : mid ≡ cut.0 ++ (x ∷ r) = cut.1 ∙ ap (λ ts. cut.0 ++ ts) (left_is (up n j mid) (x ∷ r) leaves) in
       let past = goes_past P k u x r z a j mid cut.0 is split in
-      let there : rest_of (up n j (cut.0 ++ (x ∷ r))) ≡ x ∷ r = ap (λ ts. rest_of (up n j ts)) (sym split) ∙ left in
+      let there = subst (λ ts. Leaves (up n j ts) (x ∷ r)) split leaves in
       let less : length mid < length (u ++ (x ∷ r)) = shorter k (u ++ (x ∷ r)) a j mid is in
       let size : length mid ≡ length (cut.0 ++ (x ∷ r)) = ap length split in
       let fewer : length (cut.0 ++ (x ∷ z)) < length (u ++ (x ∷ z)) = shorter k (u ++ (x ∷ z)) a j (cut.0 ++ (x ∷ z)) past in
@@ -195,7 +195,7 @@ module _ {A : Type 0} {p : Reader A} {g : A → Type 0} {s : Marking A} {next : 
       ∙ put_made (λ (xs : List A). a ∷ xs) (λ i. i) (x ∷ z) (up n j mid)
 
   turn_local : (n m : ℕ) → Local n m → (k : ℕ) (u : List Spelled) (x : Spelled) (r z : List Spelled) → length (u ++ (x ∷ r)) ≤ suc n
-      → length (u ++ (x ∷ z)) ≤ suc m → (b : Bool) → rest_of (if b then turn (p k (u ++ (x ∷ r))) (up n) else Got [] k (u ++ (x ∷ r))) ≡ x ∷ r
+      → length (u ++ (x ∷ z)) ≤ suc m → (b : Bool) → Leaves (if b then turn (p k (u ++ (x ∷ r))) (up n) else Got [] k (u ++ (x ∷ r))) (x ∷ r)
       → (if b then turn (p k (u ++ (x ∷ z))) (up m) else Got [] k (u ++ (x ∷ z)))
       ≡ put (x ∷ z) (if b then turn (p k (u ++ (x ∷ r))) (up n) else Got [] k (u ++ (x ∷ r)))
   turn_local n m ih k u x r z le lm true at = first_local n m ih k u x r z le lm (p k (u ++ (x ∷ r))) refl at

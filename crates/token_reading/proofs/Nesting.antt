@@ -11,7 +11,7 @@ use Rattle.token_reading.proofs.Sets.{Leads}
 use Rattle.token_reading.proofs.Lists.{bare-append, bare_both}
 use Rattle.token_reading.proofs.Tokens.{Any, weighed_word, weighed_symbol, law_opens_word, law_opens_symbol}
 use Rattle.token_reading.proofs.Seq.{Both, joined, counted_both, law_seq}
-use Rattle.token_reading.proofs.Law.{Read, Accepted, Broken, Law, rest_of, put, and_then_got, and_then_fails}
+use Rattle.token_reading.proofs.Law.{Read, Accepted, Broken, Law, Leaves, rest_of, put, left_is, left_same, and_then_got, and_then_fails}
 
 -- Where each tree of the first part has a token that is one too many, nothing is owed by the second part, which is never reached.
 module _ {A B : Type 0} {p : Reader A} {g : A → Type 0} {s : Marking A} {np : Count A} {first lp : List ℕ}
@@ -77,13 +77,13 @@ module _ {A B : Type 0} {p : Reader A} {g : A → Type 0} {s : Marking A} {np : 
       [ inl first ↦ cut_first k ts c rest (P.breaks k ts c rest first)
       | inr one ↦ absurd (not_got k ts one.0 one.1.0 one.1.1.0 one.1.1.1.0) ]
 
-  blocked_local : (k : ℕ) (u : List Spelled) (x : Spelled) (r z : List Spelled) → rest_of (blocked k (u ++ (x ∷ r))) ≡ x ∷ r
+  blocked_local : (k : ℕ) (u : List Spelled) (x : Spelled) (r z : List Spelled) → Leaves (blocked k (u ++ (x ∷ r))) (x ∷ r)
       → blocked k (u ++ (x ∷ z)) ≡ put (x ∷ z) (blocked k (u ++ (x ∷ r)))
   blocked_local k u x r z e = of_first (p k (u ++ (x ∷ r))) refl e
     where
-      of_first : (o : Outcome A) → p k (u ++ (x ∷ r)) ≡ o → rest_of (and_then o behind) ≡ x ∷ r
+      of_first : (o : Outcome A) → p k (u ++ (x ∷ r)) ≡ o → Leaves (and_then o behind) (x ∷ r)
           → blocked k (u ++ (x ∷ z)) ≡ put (x ∷ z) (and_then o behind)
-      of_first (Fails c rest) is at = ap (λ o. and_then o behind) (P.local k u x r z (ap rest_of is ∙ at) ∙ ap (put (x ∷ z)) is)
+      of_first (Fails c rest) is at = ap (λ o. and_then o behind) (P.local k u x r z (left_same (p k (u ++ (x ∷ r))) (Fails c rest) (x ∷ r) is at) ∙ ap (put (x ∷ z)) is)
       of_first (Got a j mid) is at = absurd (not_got k (u ++ (x ∷ r)) a j mid is)
 
   pub law_blocked : Law blocked (Both g h) (joined s np t) (counted_both np nq) first last false

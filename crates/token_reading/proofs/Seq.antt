@@ -7,7 +7,7 @@ use Rattle.token_reading.specs.Marks.{Mark, bare, Light, Marking, Count}
 use Rattle.token_reading.specs.Reading.{Cause, Refused, Deep, Outcome, Got, Fails, Reader, starts, and_then, seq_on, seq}
 use Rattle.token_reading.proofs.Sets.{apart, Leads, stops_last, stops_before, leads_first}
 use Rattle.token_reading.proofs.Lists.{bare-append, bare_both, light-append}
-use Rattle.token_reading.proofs.Law.{Read, Accepted, Broken, Law, rest_of, put, and_then_got, and_then_fails, got_fails, read_same, accepted_then, rest_made, put_made, prefix, goes_past}
+use Rattle.token_reading.proofs.Law.{Read, Accepted, Broken, Law, Leaves, rest_of, put, left_is, left_same, and_then_got, and_then_fails, got_fails, read_same, accepted_then, left_made, put_made, prefix, goes_past}
 
 abbrev pub BothOn : {A B : Type 0} → (A → Type 0) → (A → B → Type 0) → A × B → Type 0
 BothOn g h x = g x.0 × h x.0 x.1
@@ -110,22 +110,22 @@ module _ {A B : Type 0} {p : Reader A} {q : A → Reader B} {g : A → Type 0} {
         [ inl second ↦ in_second k ts one.0 one.1.0 one.1.1.0 c rest front ((Q one.0 front.fits).breaks one.1.0 one.1.1.0 c rest second)
         | inr two ↦ absurd (got_fails {A = A × B} (one.0, two.0) two.1.0 c two.1.1.0 rest two.1.1.1.1) ] ]
 
-  on_local : (k : ℕ) (u : List Spelled) (x : Spelled) (r z : List Spelled) → rest_of (seq_on p q k (u ++ (x ∷ r))) ≡ x ∷ r
+  on_local : (k : ℕ) (u : List Spelled) (x : Spelled) (r z : List Spelled) → Leaves (seq_on p q k (u ++ (x ∷ r))) (x ∷ r)
       → seq_on p q k (u ++ (x ∷ z)) ≡ put (x ∷ z) (seq_on p q k (u ++ (x ∷ r)))
   on_local k u x r z e = of_first (p k (u ++ (x ∷ r))) refl e
     where
-      of_first : (o : Outcome A) → p k (u ++ (x ∷ r)) ≡ o → rest_of (and_then o behind) ≡ x ∷ r
+      of_first : (o : Outcome A) → p k (u ++ (x ∷ r)) ≡ o → Leaves (and_then o behind) (x ∷ r)
           → seq_on p q k (u ++ (x ∷ z)) ≡ put (x ∷ z) (and_then o behind)
       of_first (Fails c rest) is at =
-          ap (λ o. and_then o behind) (P.local k u x r z (ap rest_of is ∙ at) ∙ ap (put (x ∷ z)) is)
+          ap (λ o. and_then o behind) (P.local k u x r z (left_same (p k (u ++ (x ∷ r))) (Fails c rest) (x ∷ r) is at) ∙ ap (put (x ∷ z)) is)
       of_first (Got a j mid) is at =
           let front = P.sound k (u ++ (x ∷ r)) a j mid is in
           let second = Q a front.fits in
-          let left : rest_of (q a j mid) ≡ x ∷ r = sym (rest_made (λ (b : B). (a, b)) (λ i. i) (q a j mid)) ∙ at in
+          let leaves = left_made (λ (b : B). (a, b)) (λ i. i) (q a j mid) (x ∷ r) at in
           let cut = prefix second j mid in
-          let split : mid ≡ cut.0 ++ (x ∷ r) = cut.1 ∙ ap (λ ts. cut.0 ++ ts) left in
+          let split : mid ≡ cut.0 ++ (x ∷ r) = cut.1 ∙ ap (λ ts. cut.0 ++ ts) (left_is (q a j mid) (x ∷ r) leaves) in
           let past = goes_past P k u x r z a j mid cut.0 is split in
-          let there : rest_of (q a j (cut.0 ++ (x ∷ r))) ≡ x ∷ r = ap (λ ts. rest_of (q a j ts)) (sym split) ∙ left in
+          let there = subst (λ ts. Leaves (q a j ts) (x ∷ r)) split leaves in
           let more = second.local j cut.0 x r z there in
           ap (λ o. and_then o behind) past ∙ ap (λ o. and_then o (pair_up a)) (more ∙ ap (λ ts. put (x ∷ z) (q a j ts)) (sym split))
           ∙ put_made (λ (b : B). (a, b)) (λ i. i) (x ∷ z) (q a j mid)

@@ -15,7 +15,7 @@ use Rattle.token_reading.specs.Marks.{Mark, plain, bare, IsLight, Light, Marking
 use Rattle.token_reading.specs.Reading.{Cause, Refused, Deep, Outcome, Got, Fails, Reader, of_word, of_symbol, of_ident, of_number, of_string, code, is_in, starts, Weight, weightless, opener, operator, weighed, taken, one_of, word_place, word, opens_word, operator_word, symbol_place, symbol, opens_symbol, operator_symbol, PlacedText, identifier_of, ident, called_of, ident_called, string_of, string, number_of, number}
 use Rattle.token_reading.proofs.Sets.{is_in-own}
 use Rattle.token_reading.proofs.Lists.{nothing_before, not_longer}
-use Rattle.token_reading.proofs.Law.{Read, Accepted, OneTooMany, Broken, Law, failed, rest_of, put, refused_here}
+use Rattle.token_reading.proofs.Law.{Read, Accepted, OneTooMany, Broken, Law, failed, Leaves, put, refused_here}
 
 abbrev pub Any : {A : Type 0} → A → Type 0
 Any a = Unit {0}
@@ -86,29 +86,29 @@ module _ {A : Type 0} (w : Weight) (f : Spelled → Option A) (good : A → Type
   one_breaks k (t ∷ ts) c rest e = taken_breaks (f t) k t ts c rest refl e
 
   weighed_local : (h : Bool) (a : A) (i : ℕ) (t : Spelled) (u : List Spelled) (x : Spelled) (r q : List Spelled)
-      → rest_of (if h then failed A Deep (t ∷ (u ++ (x ∷ r))) else Got a i (u ++ (x ∷ r))) ≡ x ∷ r
+      → Leaves (if h then failed A Deep (t ∷ (u ++ (x ∷ r))) else Got a i (u ++ (x ∷ r))) (x ∷ r)
       → (if h then failed A Deep (t ∷ (u ++ (x ∷ q))) else Got a i (u ++ (x ∷ q)))
       ≡ put (x ∷ q) (if h then failed A Deep (t ∷ (u ++ (x ∷ r))) else Got a i (u ++ (x ∷ r)))
-  weighed_local true a i t u x r q e = absurd (not_longer t u (x ∷ r) e)
+  weighed_local true a i t u x r q e = absurd e
   weighed_local false a i t u x r q e = let none : u ≡ [] = nothing_before u (x ∷ r) e in ap (λ v. Got a i (v ++ (x ∷ q))) none
 
   taken_local : (o : Option A) (k : ℕ) (t : Spelled) (u : List Spelled) (x : Spelled) (r q : List Spelled)
-      → rest_of (taken w o k t (u ++ (x ∷ r))) ≡ x ∷ r → taken w o k t (u ++ (x ∷ q)) ≡ put (x ∷ q) (taken w o k t (u ++ (x ∷ r)))
+      → Leaves (taken w o k t (u ++ (x ∷ r))) (x ∷ r) → taken w o k t (u ++ (x ∷ q)) ≡ put (x ∷ q) (taken w o k t (u ++ (x ∷ r)))
   taken_local (Some a) k t u x r q e = weighed_local (w.heavy k) a (w.step k) t u x r q e
   taken_local None k t u x r q e = absurd (not_longer t u (x ∷ r) e)
 
   weighed_first : (h : Bool) (a : A) (i : ℕ) (x : Spelled) (r q : List Spelled)
-      → rest_of (if h then failed A Deep (x ∷ r) else Got a i r) ≡ x ∷ r
+      → Leaves (if h then failed A Deep (x ∷ r) else Got a i r) (x ∷ r)
       → (if h then failed A Deep (x ∷ q) else Got a i q) ≡ put (x ∷ q) (if h then failed A Deep (x ∷ r) else Got a i r)
-  weighed_first true a i x r q e = refl
+  weighed_first true a i x r q e = absurd e
   weighed_first false a i x r q e = absurd (not_longer x [] r (sym e))
 
   taken_first : (o : Option A) (k : ℕ) (x : Spelled) (r q : List Spelled)
-      → rest_of (taken w o k x r) ≡ x ∷ r → taken w o k x q ≡ put (x ∷ q) (taken w o k x r)
+      → Leaves (taken w o k x r) (x ∷ r) → taken w o k x q ≡ put (x ∷ q) (taken w o k x r)
   taken_first (Some a) k x r q e = weighed_first (w.heavy k) a (w.step k) x r q e
   taken_first None k x r q e = refl
 
-  one_local : (k : ℕ) (u : List Spelled) (x : Spelled) (r q : List Spelled) → rest_of (one_of w f k (u ++ (x ∷ r))) ≡ x ∷ r
+  one_local : (k : ℕ) (u : List Spelled) (x : Spelled) (r q : List Spelled) → Leaves (one_of w f k (u ++ (x ∷ r))) (x ∷ r)
       → one_of w f k (u ++ (x ∷ q)) ≡ put (x ∷ q) (one_of w f k (u ++ (x ∷ r)))
   one_local k [] x r q e = taken_first (f x) k x r q e
   one_local k (t ∷ u) x r q e = taken_local (f t) k t u x r q e
