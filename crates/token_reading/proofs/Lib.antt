@@ -8,3 +8,4 @@ pub mod Made
 pub mod Choice
 pub mod Many
 pub mod Nesting
+pub mod Places
