@@ -9,3 +9,6 @@ pub mod Choice
 pub mod Many
 pub mod Nesting
 pub mod Places
+pub mod Fronts
+pub mod Loop
+pub mod Theorem

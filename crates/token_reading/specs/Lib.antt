@@ -2,4 +2,4 @@
 pub mod Spelled
 pub mod Marks
 pub mod Reading
--- what the functions inside promise each other
+pub mod Sources

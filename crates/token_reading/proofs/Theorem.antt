@@ -1,0 +1,116 @@
+-- What a reader of a whole file tells, where the reader of its tree has a law.
+use Rattle.std.proofs.Common.{◌≡◌, refl, sym, ap, ◌∙◌, subst, ℕ, Bool, true, false, List, [], ◌∷◌, ◌++◌, ◌⊎◌, inl, inr}
+use Rattle.std.specs.Prelude.{◌||◌, map}
+use Rattle.std.proofs.lemmas.List.{append_assoc, append-nil}
+use Rattle.spark_base.specs.declared.position.Pos.{Pos}
+use Rattle.ada_lexer.specs.declared.token.Token.{Token}
+use Rattle.ada_lexer.specs.declared.token.TokenKind.{TokenKind}
+use Rattle.ada_lexer.specs.declared.token.TokenKind.TheVariants as kind
+use Rattle.ada_lexer.specs.Tokens.{EndsOnce, kinds_of}
+use Rattle.token_reading.specs.Spelled.{Spelled, Word, Ident, Number, Str, Delimiter, EndOfFile, told, told_as}
+use Rattle.token_reading.specs.Marks.{Mark, bare, IsLight, Light, Marking, Count}
+use Rattle.token_reading.specs.Reading.{Cause, Refused, Deep, Outcome, Got, Fails, Reader, of_end, code, is_in, starts, and_then, weightless, end_of, taken, file_end, seq, whole_file}
+use Rattle.token_reading.specs.Sources.{file_of, Begins, LightlyBegins, IsTreeOf, IsFaulty, IsTooMany, IsFile}
+use Rattle.token_reading.proofs.Lists.{bare-append}
+use Rattle.token_reading.proofs.Law.{Read, Accepted, OneTooMany, Broken, Law, Leaves, put, and_then_got, and_then_fails, got_same, got_fails, left_same}
+
+-- ---- lists that end at their one end of the file
+
+pub not_at_end : (us : List Mark) → Light us → IsFile (bare us) → ⊥
+not_at_end [] light file = file
+not_at_end (m ∷ []) light file = light.0.within_file file
+not_at_end (m ∷ (n ∷ us)) light file = not_at_end (n ∷ us) light.1 file.1
+
+-- nothing stands behind the end
+pub ends_there : (us : List Spelled) (rest : List Spelled) → IsFile (us ++ (EndOfFile ∷ rest)) → rest ≡ []
+ends_there [] [] file = refl
+ends_there [] (r ∷ rest) file = absurd (file.0 refl)
+ends_there (u ∷ []) rest file = ends_there [] rest file.1
+ends_there (u ∷ (v ∷ us)) rest file = ends_there (v ∷ us) rest file.1
+
+first_ends : (k : TokenKind) (pos : Pos) (text : List ℕ) (ks : List TokenKind) → EndsOnce (k ∷ ks)
+    → ((ks ≡ []) × (told_as k pos text ≡ EndOfFile)) ⊎ (EndsOnce ks × (told_as k pos text ≡ EndOfFile → ⊥))
+first_ends kind.EndOfFile pos text ks once = inl (once, refl)
+first_ends (kind.Word w) pos text ks once = inr (once, λ e. cc)
+first_ends kind.Ident pos text ks once = inr (once, λ e. cc)
+first_ends (kind.Number n) pos text ks once = inr (once, λ e. cc)
+first_ends kind.Str pos text ks once = inr (once, λ e. cc)
+first_ends (kind.Symbol s) pos text ks once = inr (once, λ e. cc)
+
+-- The tokens of a text are those of a file.
+pub is_file : (ts : List Token) → EndsOnce (kinds_of ts) → IsFile (map told ts)
+is_file [] once = once
+is_file (t ∷ []) once = elim (first_ends t.kind t.pos t.text.now [] once) [ inl last ↦ last.1 | inr more ↦ absurd more.0 ]
+is_file (t ∷ (u ∷ ts)) once =
+    elim (first_ends t.kind t.pos t.text.now (kinds_of (u ∷ ts)) once)
+    [ inl last ↦ let never : kinds_of (u ∷ ts) ≡ [] = last.0 in absurd (cc) | inr more ↦ (more.1, is_file (u ∷ ts) more.0) ]
+
+-- ---- the end of the file
+
+end_got : (t : Spelled) (ts : List Spelled) (k : ℕ) (a : Unit {0}) (j : ℕ) (rest : List Spelled) → file_end k (t ∷ ts) ≡ Got a j rest
+    → (t ≡ EndOfFile) × (ts ≡ rest)
+end_got EndOfFile ts k a j rest e = (refl, cc)
+end_got (Word v pos) ts k a j rest e = absurd (cc)
+end_got (Ident pos text) ts k a j rest e = absurd (cc)
+end_got (Number n pos) ts k a j rest e = absurd (cc)
+end_got (Str pos text) ts k a j rest e = absurd (cc)
+end_got (Delimiter v pos) ts k a j rest e = absurd (cc)
+
+end_fails : (t : Spelled) (ts : List Spelled) (k : ℕ) (c : Cause) (rest : List Spelled) → file_end k (t ∷ ts) ≡ Fails c rest
+    → (t ≡ EndOfFile → ⊥) × (c ≡ Refused) × (t ∷ ts ≡ rest)
+end_fails EndOfFile ts k c rest e = absurd (cc)
+end_fails (Word v pos) ts k c rest e = (λ is. cc, cc, cc)
+end_fails (Ident pos text) ts k c rest e = (λ is. cc, cc, cc)
+end_fails (Number n pos) ts k c rest e = (λ is. cc, cc, cc)
+end_fails (Str pos text) ts k c rest e = (λ is. cc, cc, cc)
+end_fails (Delimiter v pos) ts k c rest e = (λ is. cc, cc, cc)
+
+-- ---- the four things that are told
+
+module _ {A : Type 0} {p : Reader A} {good : A → Type 0} {s : Marking A} {next : Count A} {first last : List ℕ} {may : Bool}
+    (P : Law p good s next first last may) (ends : is_in last of_end ≡ false) where
+  -- two trees of one file are one
+  unique : (ts : List Spelled) (a b : A) (j : ℕ) (rest : List Spelled) → p 0 ts ≡ Got a j rest → good b → file_of (s 0 b) ≡ ts → b ≡ a
+  unique ts a b j rest e fits whole =
+      let accepted : Accepted b (next 0 b) (EndOfFile ∷ []) (p 0 (file_of (s 0 b))) = P.accepts 0 b (EndOfFile ∷ []) fits ends in
+      let same = subst (λ o. Accepted b (next 0 b) (EndOfFile ∷ []) o) (ap (λ us. p 0 us) whole ∙ e) accepted in
+      sym same.0
+
+  after_tree : A → Reader (A × Unit {0})
+  after_tree a j more = and_then (file_end j more) (λ u i rest. Got (a, u) i rest)
+
+  pub read_file : (ts : List Spelled) (tree : A) (j : ℕ) (rest : List Spelled) → IsFile ts → whole_file p 0 ts ≡ Got tree j rest
+      → IsTreeOf good (s 0) ts tree × (rest ≡ [])
+  read_file ts tree j rest file e = ?
+
+  -- no source begins as a refused list does through its first token left
+  pub faulty : (u : List Spelled) (x : Spelled) (r : List Spelled) → p 0 (u ++ (x ∷ r)) ≡ Fails Refused (x ∷ r)
+      → Begins good (s 0) (u ++ (x ∷ [])) → ⊥
+  faulty u x r e begins =
+      let z : List Spelled = begins.behind in
+      let there : p 0 (u ++ (x ∷ z)) ≡ Fails Refused (x ∷ z) =
+      P.local 0 u x r z (left_same (p 0 (u ++ (x ∷ r))) (Fails Refused (x ∷ r)) (x ∷ r) e refl) ∙ ap (put (x ∷ z)) e in
+      let whole : file_of (s 0 begins.tree) ≡ u ++ (x ∷ z) = begins.whole ∙ append_assoc u (x ∷ []) z in
+      let accepted : Accepted begins.tree (next 0 begins.tree) (EndOfFile ∷ []) (p 0 (file_of (s 0 begins.tree))) =
+      P.accepts 0 begins.tree (EndOfFile ∷ []) begins.fits ends in
+      subst (λ o. Accepted begins.tree (next 0 begins.tree) (EndOfFile ∷ []) o) (ap (λ us. p 0 us) whole ∙ there) accepted
+
+  -- no source begins with a whole tree and a token that isn't the end of the file
+  pub faulty_behind : (u : List Spelled) (x : Spelled) (r : List Spelled) (a : A) (j : ℕ) → p 0 (u ++ (x ∷ r)) ≡ Got a j (x ∷ r)
+      → (x ≡ EndOfFile → ⊥) → Begins good (s 0) (u ++ (x ∷ [])) → ⊥
+  faulty_behind u x r a j e other begins =
+      let z : List Spelled = begins.behind in
+      let there : p 0 (u ++ (x ∷ z)) ≡ Got a j (x ∷ z) =
+      P.local 0 u x r z (left_same (p 0 (u ++ (x ∷ r))) (Got a j (x ∷ r)) (x ∷ r) e refl) ∙ ap (put (x ∷ z)) e in
+      let whole : file_of (s 0 begins.tree) ≡ u ++ (x ∷ z) = begins.whole ∙ append_assoc u (x ∷ []) z in
+      let accepted : Accepted begins.tree (next 0 begins.tree) (EndOfFile ∷ []) (p 0 (file_of (s 0 begins.tree))) =
+      P.accepts 0 begins.tree (EndOfFile ∷ []) begins.fits ends in
+      let same = subst (λ o. Accepted begins.tree (next 0 begins.tree) (EndOfFile ∷ []) o) (ap (λ us. p 0 us) whole ∙ there) accepted in
+      let left : x ∷ z ≡ EndOfFile ∷ [] = same.2 in
+      other (cc)
+
+  pub refused_file : (ts rest : List Spelled) → IsFile ts → whole_file p 0 ts ≡ Fails Refused rest → IsFaulty good (s 0) ts rest
+  refused_file ts rest file e = ?
+
+  pub deep_file : (ts rest : List Spelled) → whole_file p 0 ts ≡ Fails Deep rest → IsTooMany good (s 0) ts rest
+  deep_file ts rest e = ?
