@@ -76,12 +76,51 @@ module _ {A : Type 0} {p : Reader A} {good : A → Type 0} {s : Marking A} {next
       let same = subst (λ o. Accepted b (next 0 b) (EndOfFile ∷ []) o) (ap (λ us. p 0 us) whole ∙ e) accepted in
       sym same.0
 
-  after_tree : A → Reader (A × Unit {0})
+  abbrev after_tree : A → Reader (A × Unit {0})
   after_tree a j more = and_then (file_end j more) (λ u i rest. Got (a, u) i rest)
+
+  abbrev made_tree : A × Unit {0} → Reader A
+  made_tree x j rest = Got x.0 j rest
+
+  at_end : (k : ℕ) (ts : List Spelled) (a : Unit {0}) (j : ℕ) (rest : List Spelled) → file_end k ts ≡ Got a j rest → ts ≡ EndOfFile ∷ rest
+  at_end k [] a j rest e = absurd (cc)
+  at_end k (t ∷ ts) a j rest e = let got = end_got t ts k a j rest e in let head : t ≡ EndOfFile = got.0 in let tail : ts ≡ rest = got.1 in cc
+
+  file_got : (ts : List Spelled) (tree : A) (j : ℕ) (rest : List Spelled) → whole_file p 0 ts ≡ Got tree j rest
+      → (i : ℕ) × (p 0 ts ≡ Got tree i (EndOfFile ∷ rest))
+  file_got ts tree j rest e =
+      let one = and_then_got (and_then (p 0 ts) after_tree) made_tree tree j rest e in
+      let two = and_then_got (p 0 ts) after_tree one.0 one.1.0 one.1.1.0 one.1.1.1.0 in
+      let three = and_then_got (file_end two.1.0 two.1.1.0) (λ u i rest. Got (two.0, u) i rest) one.0 one.1.0 one.1.1.0 two.1.1.1.1 in
+      let pair = got_same {A = A × Unit {0}} (two.0, three.0) one.0 three.1.0 one.1.0 three.1.1.0 one.1.1.0 three.1.1.1.1 in
+      let made = got_same one.0.0 tree one.1.0 j one.1.1.0 rest one.1.1.1.1 in
+      let same : two.0 ≡ tree = ap (λ y. y.0) pair.0 ∙ made.0 in
+      let left : two.1.1.0 ≡ EndOfFile ∷ rest =
+      at_end two.1.0 two.1.1.0 three.0 three.1.0 three.1.1.0 three.1.1.1.0 ∙ ap (λ r. EndOfFile ∷ r) (pair.2 ∙ made.2) in
+      (two.1.0, two.1.1.1.0 ∙ ap (λ a. Got a two.1.0 two.1.1.0) same ∙ ap (λ r. Got tree two.1.0 r) left)
+
+  file_fails : (ts : List Spelled) (c : Cause) (rest : List Spelled) → whole_file p 0 ts ≡ Fails c rest
+      → (p 0 ts ≡ Fails c rest) ⊎ ((a : A) × ((i : ℕ) × ((mid : List Spelled) × ((p 0 ts ≡ Got a i mid) × (file_end i mid ≡ Fails c rest)))))
+  file_fails ts c rest e = elim (and_then_fails (and_then (p 0 ts) after_tree) made_tree c rest e)
+      [ inl one ↦ elim (and_then_fails (p 0 ts) after_tree c rest one)
+        [ inl early ↦ inl early
+        | inr two ↦ elim (and_then_fails (file_end two.1.0 two.1.1.0) (λ u i rest. Got (two.0, u) i rest) c rest two.1.1.1.1)
+          [ inl late ↦ inr (two.0, (two.1.0, (two.1.1.0, (two.1.1.1.0, late))))
+          | inr three ↦ absurd (got_fails {A = A × Unit {0}} (two.0, three.0) three.1.0 c three.1.1.0 rest three.1.1.1.1) ] ]
+      | inr one ↦ absurd (got_fails one.0.0 one.1.0 c one.1.1.0 rest one.1.1.1.1) ]
 
   pub read_file : (ts : List Spelled) (tree : A) (j : ℕ) (rest : List Spelled) → IsFile ts → whole_file p 0 ts ≡ Got tree j rest
       → IsTreeOf good (s 0) ts tree × (rest ≡ [])
-  read_file ts tree j rest file e = ?
+  read_file ts tree j rest file e =
+      let got = file_got ts tree j rest e in
+      let read = P.sound 0 ts tree got.0 (EndOfFile ∷ rest) got.1 in
+      let none : rest ≡ [] = ends_there (bare (s 0 tree)) rest (subst IsFile read.whole file) in
+      (record {
+        fits = read.fits;
+        spelled = sym (read.whole ∙ ap (λ r. bare (s 0 tree) ++ (EndOfFile ∷ r)) none);
+        light = read.light;
+        only = λ other fits whole. unique ts tree other got.0 (EndOfFile ∷ rest) got.1 fits whole;
+      }, none)
 
   -- no source begins as a refused list does through its first token left
   pub faulty : (u : List Spelled) (x : Spelled) (r : List Spelled) → p 0 (u ++ (x ∷ r)) ≡ Fails Refused (x ∷ r)
@@ -109,8 +148,77 @@ module _ {A : Type 0} {p : Reader A} {good : A → Type 0} {s : Marking A} {next
       let left : x ∷ z ≡ EndOfFile ∷ [] = same.2 in
       other (cc)
 
+  refused_early : (ts rest : List Spelled) → IsFile ts → p 0 ts ≡ Fails Refused rest → Broken good (s 0) Refused ts rest → IsFaulty good (s 0) ts rest
+  refused_early ts [] file e broken =
+      absurd (not_at_end broken.before broken.clear (subst IsFile (broken.splits ∙ append-nil (bare broken.before)) file))
+  refused_early ts (x ∷ r) file e broken = record {
+    before = bare broken.before;
+    token = x;
+    behind = r;
+    at = refl;
+    splits = broken.splits;
+    possible = record {
+      tree = broken.tree;
+      fits = broken.fits;
+      before = broken.before;
+      more = broken.reached ++ broken.more;
+      clear = broken.clear;
+      begun = refl;
+      whole = broken.goes_on;
+    };
+    impossible = faulty (bare broken.before) x r (ap (λ us. p 0 us) (sym broken.splits) ∙ e);
+  }
+
+  refused_late : (ts : List Spelled) (a : A) (i : ℕ) (mid rest : List Spelled) → IsFile ts → p 0 ts ≡ Got a i mid → file_end i mid ≡ Fails Refused rest
+      → Read good s next 0 ts a i mid → IsFaulty good (s 0) ts rest
+  refused_late ts a i [] rest file got e read =
+      absurd (not_at_end (s 0 a) read.light (subst IsFile (read.whole ∙ append-nil (bare (s 0 a))) file))
+  refused_late ts a i (x ∷ r) rest file got e read =
+      let fails = end_fails x r i Refused rest e in
+      record {
+        before = bare (s 0 a);
+        token = x;
+        behind = r;
+        at = sym fails.2;
+        splits = read.whole ∙ ap (λ us. bare (s 0 a) ++ us) fails.2;
+        possible = record {
+          tree = a;
+          fits = read.fits;
+          before = s 0 a;
+          more = [];
+          clear = read.light;
+          begun = refl;
+          whole = sym (append-nil (s 0 a));
+        };
+        impossible = faulty_behind (bare (s 0 a)) x r a i (ap (λ us. p 0 us) (sym read.whole) ∙ got) fails.0;
+      }
+
   pub refused_file : (ts rest : List Spelled) → IsFile ts → whole_file p 0 ts ≡ Fails Refused rest → IsFaulty good (s 0) ts rest
-  refused_file ts rest file e = ?
+  refused_file ts rest file e = elim (file_fails ts Refused rest e)
+      [ inl early ↦ refused_early ts rest file early (P.breaks 0 ts Refused rest early)
+      | inr late ↦
+        refused_late ts late.0 late.1.0 late.1.1.0 rest file late.1.1.1.0 late.1.1.1.1 (P.sound 0 ts late.0 late.1.0 late.1.1.0 late.1.1.1.0) ]
+
+  never_deep : (i : ℕ) (mid rest : List Spelled) → file_end i mid ≡ Fails Deep rest → ⊥
+  never_deep i [] rest e = cc
+  never_deep i (x ∷ r) rest e = let fails = end_fails x r i Deep rest e in let same : Deep ≡ Refused = fails.1 in cc
 
   pub deep_file : (ts rest : List Spelled) → whole_file p 0 ts ≡ Fails Deep rest → IsTooMany good (s 0) ts rest
-  deep_file ts rest e = ?
+  deep_file ts rest e = elim (file_fails ts Deep rest e)
+      [ inl early ↦
+        let broken = P.breaks 0 ts Deep rest early in
+        let reach : OneTooMany broken.reached rest = broken.reach in
+        record {
+          before = broken.before;
+          mark = reach.mark;
+          behind = reach.behind;
+          tree = broken.tree;
+          more = broken.more;
+          at = reach.at;
+          splits = broken.splits;
+          clear = broken.clear;
+          is_heavy = reach.is_heavy;
+          fits = broken.fits;
+          whole = broken.goes_on ∙ ap (λ ms. broken.before ++ (ms ++ broken.more)) reach.alone;
+        }
+      | inr late ↦ absurd (never_deep late.1.0 late.1.1.0 rest late.1.1.1.1) ]
