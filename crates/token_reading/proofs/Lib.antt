@@ -12,3 +12,4 @@ pub mod Places
 pub mod Fronts
 pub mod Loop
 pub mod Theorem
+pub mod Sample
