@@ -10,6 +10,8 @@
 
 mod cursor;
 mod fault;
+#[cfg(test)]
+mod tests;
 mod token;
 
 pub use cursor::Cursor;
