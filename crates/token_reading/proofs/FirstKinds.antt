@@ -1,5 +1,5 @@
 -- The sets of kinds that have one word, one delimiter or one other kind tell whether a token is of it.
-use Rattle.std.proofs.Common.{◌≡◌, refl, ap, ℕ, ◌+◌, ◌<◌, Bool, true, false, [], ◌∷◌, Some, None, arith}
+use Rattle.std.proofs.Common.{◌≡◌, refl, ap, ℕ, ◌+◌, ◌<◌, Bool, true, false, List, [], ◌∷◌, Some, None, arith}
 use Rattle.std.specs.Prelude.{◌==◌, ◌||◌, if◌then◌else◌}
 use Rattle.std.specs.Option.{is_some}
 use Rattle.std.proofs.lemmas.Bool.Decides.{Decides-eqb, same_from_decides}
@@ -83,6 +83,14 @@ is_string (Number value pos) = refl
 is_string (Str pos text) = refl
 is_string (Delimiter it pos) = let h : of_symbol it < 200 = symbol_small it in or_false _ (differ (of_symbol it) 202 (λ e. omega arith))
 is_string EndOfFile = refl
+
+-- A set is seen where its first kind is, or another one.
+pub in_more : (m : ℕ) (ms : List ℕ) (n : ℕ) → is_in (m ∷ ms) n ≡ (is_in (m ∷ []) n || is_in ms n)
+in_more m ms n = first_or (n == m) (is_in ms n)
+  where
+    first_or : (a b : Bool) → (a || b) ≡ ((a || false) || b)
+    first_or true b = refl
+    first_or false b = refl
 
 -- A set of two kinds, and one of three, is seen where one of them is.
 pub in_two : (j k n : ℕ) → is_in (j ∷ k ∷ []) n ≡ (is_in (j ∷ []) n || is_in (k ∷ []) n)

@@ -5,10 +5,11 @@ use Rattle.std.specs.List.{flat_map}
 use Rattle.std.proofs.lemmas.List.{append_assoc, append-nil, length-append}
 use Rattle.token_reading.specs.Spelled.{Spelled}
 use Rattle.token_reading.specs.Marks.{Mark, bare, Light, Marking, Count, keeps, marked, counted}
-use Rattle.token_reading.specs.Reading.{Cause, Refused, Deep, Outcome, Got, Fails, Reader, starts, and_then, many_up_to, many, Each}
+use Rattle.token_reading.specs.Reading.{Cause, Refused, Deep, Outcome, Got, Fails, Reader, starts, and_then, many_up_to, many, in_front, some, Each}
 use Rattle.token_reading.proofs.Sets.{apart, within, Leads, stops_both, stops_before, starts_within}
 use Rattle.token_reading.proofs.Lists.{bare-append, bare_both, light-append, nothing_before, if_true, if_false}
-use Rattle.token_reading.proofs.Made.{law_reworded}
+use Rattle.token_reading.proofs.Made.{law_to, law_reworded}
+use Rattle.token_reading.proofs.Seq.{Both, law_seq}
 use Rattle.token_reading.proofs.Choice.{same_start}
 use Rattle.token_reading.proofs.Law.{Read, Accepted, Broken, Law, Leaves, rest_of, put, left_is, left_same, and_then_got, and_then_fails, got_fails, got_same, read_same, accepted_then, left_made, put_made, goes_past}
 
@@ -234,4 +235,28 @@ pub law_each : {A : Type 0} {p : Reader A} {g : A → Type 0} {s : A → List Ma
     → Law p g (λ k. s) keeps fp lp false → within fp ms ≡ true → apart lp fp ≡ true → Law (many ms p) (Each g) (λ k. flat_map s) keeps fp (ms ++ lp) true
 law_each {g = g} {s = s} ms P taken_in side =
     law_reworded (Each g) (λ k. flat_map s) keeps (law_many ms P taken_in side) (λ xs good. good) (λ xs good. good)
+    (λ k xs good. sym (marked_same s k xs)) (λ k xs good. sym (counted_same k xs))
+
+-- ---- at least one
+
+abbrev pub SomeEach : {A : Type 0} → (A → Type 0) → List A → Type 0
+SomeEach g [] = ⊥
+SomeEach g (x ∷ xs) = g x × Each g xs
+
+module _ {A : Type 0} {p : Reader A} {g : A → Type 0} {s : Marking A} {next : Count A} {fp lp : List ℕ} (ms : List ℕ)
+    (P : Law p g s next fp lp false) (taken_in : within fp ms ≡ true) (side : apart lp fp ≡ true) where
+  onto_some : (xs : List A) → SomeEach g xs → (x : A × List A) × (Both g (Each g) x × (in_front x ≡ xs))
+  onto_some [] good = absurd good
+  onto_some (x ∷ xs) good = ((x, xs), (good, refl))
+
+  pub law_some : Law (some ms p) (SomeEach g) (marked s next) (counted next) fp (lp ++ (ms ++ lp)) false
+  law_some = law_to in_front (SomeEach g) (marked s next) (counted next)
+      (law_seq P (law_many ms P taken_in side) side) (λ x good. good) (λ k x good. refl) (λ k x good. refl) onto_some
+
+-- The same of parts that have no operator of the expression that they stand in.
+pub law_some_each : {A : Type 0} {p : Reader A} {g : A → Type 0} {s : A → List Mark} {fp lp : List ℕ} (ms : List ℕ)
+    → Law p g (λ k. s) keeps fp lp false → within fp ms ≡ true → apart lp fp ≡ true
+    → Law (some ms p) (SomeEach g) (λ k. flat_map s) keeps fp (lp ++ (ms ++ lp)) false
+law_some_each {g = g} {s = s} ms P taken_in side =
+    law_reworded (SomeEach g) (λ k. flat_map s) keeps (law_some ms P taken_in side) (λ xs good. good) (λ xs good. good)
     (λ k xs good. sym (marked_same s k xs)) (λ k xs good. sym (counted_same k xs))

@@ -9,7 +9,7 @@ use Rattle.token_reading.specs.Reading.{Cause, Refused, Deep, Outcome, Got, Fail
 use Rattle.token_reading.proofs.Sets.{Leads}
 use Rattle.token_reading.proofs.Lists.{bare-append, bare_both, light-append}
 use Rattle.token_reading.proofs.Tokens.{Any, weighed_word, weighed_symbol, law_opens_word, law_opens_symbol}
-use Rattle.token_reading.proofs.Seq.{BothOn, joined_on, counted_on, Both, joined, counted_both}
+use Rattle.token_reading.proofs.Seq.{pair_up, on_whole, in_first, in_second, BothOn, joined_on, counted_on, Both, joined, counted_both}
 use Rattle.token_reading.proofs.Law.{Read, Accepted, Broken, Law, Leaves, rest_of, put, left_is, left_same, and_then_got, and_then_fails, got_fails, read_same, accepted_then, left_made, put_made, prefix, goes_past}
 
 -- A law is owed of the second part only behind a first part that has no token too many: behind others it is never reached.
@@ -25,9 +25,6 @@ module _ {A B : Type 0} {p : Reader A} {q : A → Reader B} {g : A → Type 0} {
   abbrev count : Count (A × B)
   count = counted_on np nq
 
-  abbrev pair_up : A → B → Reader (A × B)
-  pair_up a b i rest = Got (a, b) i rest
-
   abbrev behind : A → Reader (A × B)
   behind a j more = and_then (q a j more) (pair_up a)
 
@@ -40,17 +37,6 @@ module _ {A B : Type 0} {p : Reader A} {q : A → Reader B} {g : A → Type 0} {
       subst (λ us. Leads false first us) (sym (bare-append (s k x.0) (t x.0 (np k x.0) x.1)))
       (leads_on (bare (s k x.0)) (bare (t x.0 (np k x.0) x.1)) (P.leads k x.0 good.0))
 
-  guarded_whole : (k : ℕ) (ts : List Spelled) (a : A) (j : ℕ) (mid : List Spelled) (b : B) (i : ℕ) (rest : List Spelled)
-      → Read g s np k ts a j mid → Read (h a) (t a) (nq a) j mid b i rest → Read Good marks count k ts (a, b) i rest
-  guarded_whole k ts a j mid b i rest front behind_front =
-      let back = subst (λ l. Read (h a) (t a) (nq a) l mid b i rest) front.count behind_front in
-      record {
-        fits = (front.fits, back.fits);
-        light = light-append (s k a) (t a (np k a) b) front.light back.light;
-        count = back.count;
-        whole = front.whole ∙ ap (λ r. bare (s k a) ++ r) back.whole ∙ sym (bare_both (s k a) (t a (np k a) b) rest);
-      }
-
   guarded_sound : (k : ℕ) (ts : List Spelled) (x : A × B) (i : ℕ) (rest : List Spelled) → seq_on p q k ts ≡ Got x i rest
       → Read Good marks count k ts x i rest
   guarded_sound k ts x i rest e =
@@ -59,7 +45,7 @@ module _ {A B : Type 0} {p : Reader A} {q : A → Reader B} {g : A → Type 0} {
       let front = P.sound k ts one.0 one.1.0 one.1.1.0 one.1.1.1.0 in
       let back = (Q k one.0 front.fits front.light).sound one.1.0 one.1.1.0 two.0 two.1.0 two.1.1.0 two.1.1.1.0 in
       read_same {A = A × B} k ts (one.0, two.0) x two.1.0 i two.1.1.0 rest two.1.1.1.1
-      (guarded_whole k ts one.0 one.1.0 one.1.1.0 two.0 two.1.0 two.1.1.0 front back)
+      (on_whole g h s t np nq k ts one.0 one.1.0 one.1.1.0 two.0 two.1.0 two.1.1.0 front back)
 
   starts_none : (ts : List Spelled) → starts [] ts ≡ false
   starts_none [] = refl
@@ -88,47 +74,14 @@ module _ {A B : Type 0} {p : Reader A} {q : A → Reader B} {g : A → Type 0} {
       of_first after second (Fails Deep more) is one = tt
       of_first after second (Fails Refused more) is one = absurd one
 
-  in_first : (k : ℕ) (ts : List Spelled) (c : Cause) (rest : List Spelled) → Broken g (s k) c ts rest → Broken Good (marks k) c ts rest
-  in_first k ts c rest broken =
-      let other = example broken.tree broken.fits in
-      let after : List Mark = t broken.tree (np k broken.tree) other.0 in
-      record {
-        before = broken.before;
-        tree = (broken.tree, other.0);
-        reached = broken.reached;
-        more = broken.more ++ after;
-        fits = (broken.fits, other.1);
-        clear = broken.clear;
-        reach = broken.reach;
-        splits = broken.splits;
-        goes_on = ap (λ ms. ms ++ after) broken.goes_on ∙ append_assoc broken.before (broken.reached ++ broken.more) after
-        ∙ ap (λ ms. broken.before ++ ms) (append_assoc broken.reached broken.more after);
-      }
-
-  in_second : (k : ℕ) (ts : List Spelled) (a : A) (j : ℕ) (mid : List Spelled) (c : Cause) (rest : List Spelled)
-      → Read g s np k ts a j mid → Broken (h a) (t a j) c mid rest → Broken Good (marks k) c ts rest
-  in_second k ts a j mid c rest front cut =
-      let broken = subst (λ l. Broken (h a) (t a l) c mid rest) front.count cut in
-      record {
-        before = s k a ++ broken.before;
-        tree = (a, broken.tree);
-        reached = broken.reached;
-        more = broken.more;
-        fits = (front.fits, broken.fits);
-        clear = light-append (s k a) broken.before front.light broken.clear;
-        reach = broken.reach;
-        splits = front.whole ∙ ap (λ r. bare (s k a) ++ r) broken.splits ∙ sym (bare_both (s k a) broken.before rest);
-        goes_on = ap (λ ms. s k a ++ ms) broken.goes_on ∙ sym (append_assoc (s k a) broken.before (broken.reached ++ broken.more));
-      }
-
   guarded_breaks : (k : ℕ) (ts : List Spelled) (c : Cause) (rest : List Spelled) → seq_on p q k ts ≡ Fails c rest → Broken Good (marks k) c ts rest
   guarded_breaks k ts c rest e = elim (and_then_fails (p k ts) behind c rest e)
-      [ inl early ↦ in_first k ts c rest (P.breaks k ts c rest early)
+      [ inl early ↦ in_first g h s t np nq k ts c rest example (P.breaks k ts c rest early)
       | inr one ↦
         let front = P.sound k ts one.0 one.1.0 one.1.1.0 one.1.1.1.0 in
         elim (and_then_fails (q one.0 one.1.0 one.1.1.0) (pair_up one.0) c rest one.1.1.1.1)
         [ inl second ↦
-          in_second k ts one.0 one.1.0 one.1.1.0 c rest front ((Q k one.0 front.fits front.light).breaks one.1.0 one.1.1.0 c rest second)
+          in_second g h s t np nq k ts one.0 one.1.0 one.1.1.0 c rest front ((Q k one.0 front.fits front.light).breaks one.1.0 one.1.1.0 c rest second)
         | inr two ↦ absurd (got_fails {A = A × B} (one.0, two.0) two.1.0 c two.1.1.0 rest two.1.1.1.1) ] ]
 
   guarded_local : (k : ℕ) (u : List Spelled) (x : Spelled) (r z : List Spelled) → Leaves (seq_on p q k (u ++ (x ∷ r))) (x ∷ r)

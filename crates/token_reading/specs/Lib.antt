@@ -2,4 +2,5 @@
 pub mod Spelled
 pub mod Marks
 pub mod Reading
+pub mod Kinds
 pub mod Sources

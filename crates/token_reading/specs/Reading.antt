@@ -249,6 +249,13 @@ many_up_to ms p (suc n) k ts =
 unfoldable pub many : {A : Type 0} → List ℕ → Reader A → Reader (List A)
 many ms p k ts = many_up_to ms p (length ts) k ts
 
+abbrev pub in_front : {A : Type 0} → A × List A → List A
+in_front x = x.0 ∷ x.1
+
+-- at least one, and then one after the other while the next token is of one of these kinds
+abbrev pub some : {A : Type 0} → List ℕ → Reader A → Reader (List A)
+some ms p = to in_front (seq p (many ms p))
+
 -- an outermost expression, whose operators are counted by themselves
 abbrev pub outermost : {A : Type 0} → Reader A → Reader A
 outermost p k ts = and_then (p 0 ts) (λ a j rest. Got a k rest)

@@ -3,10 +3,12 @@ ghost use Rattle.std.specs.Prelude.{◌≡◌, [], ◌∷◌, map};
 ghost use Rattle.std.specs.Option.{is_some};
 ghost use Rattle.std.specs.Char.{to_ascii_lowercase};
 ghost use Rattle.token_reading.specs.Spelled.{told};
+ghost use Rattle.token_reading.specs.Kinds.{of_kind};
 ghost use Rattle.token_reading.specs.Reading as reading;
 ghost use Rattle.token_reading.specs.Reading.{Reads, StandsAt, starts, of_word, of_symbol, of_ident, of_number, of_string};
 
 use crate::fault::ReadFault;
+use crate::kind::{Kind, is_of_kinds};
 use crate::token::{
     is_called, is_file_end, is_identifier, is_string, number_of, symbol_place, word_place,
 };
@@ -98,6 +100,16 @@ impl<'t, 's> Cursor<'t, 's> {
     {
         match self.rest.split_first() {
             Some((token, _)) => is_string(token),
+            None => false,
+        }
+    }
+
+    /// Whether the next token is of one of these kinds.
+    pub fn sees_any(&self, kinds: &[Kind]) -> bool
+        ensures { result ≡ starts (map of_kind kinds.now) self.now.tokens }
+    {
+        match self.rest.split_first() {
+            Some((token, _)) => is_of_kinds(token, kinds),
             None => false,
         }
     }

@@ -10,9 +10,11 @@
 
 mod cursor;
 mod fault;
+mod kind;
 #[cfg(test)]
 mod tests;
 mod token;
 
 pub use cursor::Cursor;
 pub use fault::ReadFault;
+pub use kind::Kind;
