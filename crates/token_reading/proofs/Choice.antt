@@ -2,13 +2,13 @@
 use Rattle.std.proofs.Common.{◌≡◌, refl, sym, ap, ◌∙◌, subst, ℕ, Bool, true, false, List, [], ◌∷◌, ◌++◌, Option, Some, None, ◌⊎◌, inl, inr}
 use Rattle.std.specs.Prelude.{if◌then◌else◌}
 use Rattle.token_reading.specs.Spelled.{Spelled}
-use Rattle.token_reading.specs.Marks.{Mark, bare, Light, Marking, Count}
-use Rattle.token_reading.specs.Reading.{Cause, Refused, Deep, Outcome, Got, Fails, Reader, starts, and_then, to, nothing, either, choose, optional}
+use Rattle.token_reading.specs.Marks.{bare, Marking, Count}
+use Rattle.token_reading.specs.Reading.{Cause, Got, Fails, Reader, starts, to, either, choose, optional}
 use Rattle.token_reading.proofs.Sets.{apart, within, Leads, stops_both, stops_last, stops_before, starts_within, leads_left, leads_right}
 use Rattle.token_reading.proofs.Lists.{if_true, if_false}
 use Rattle.token_reading.proofs.Tokens.{Any}
 use Rattle.token_reading.proofs.Made.{law_to, law_nothing}
-use Rattle.token_reading.proofs.Law.{Read, Accepted, Broken, Law, Leaves, rest_of, put, left_is, left_same}
+use Rattle.token_reading.proofs.Law.{Read, Accepted, Broken, Law, Leaves, put}
 
 -- The front of a list is the same, whatever stands behind a token.
 pub same_start : (ms : List ℕ) (u : List Spelled) (x : Spelled) (r z : List Spelled) → starts ms (u ++ (x ∷ z)) ≡ starts ms (u ++ (x ∷ r))
@@ -39,24 +39,33 @@ module _ {A : Type 0} {p q : Reader A} {g h : A → Type 0} {s : Marking A} {nex
       let ts : List Spelled = bare (s k a) ++ rest in
       let stops = stops_last n ms (lp ++ lq) rest e in
       let both = stops_both lp lq rest stops.1 in
-      elim (which a fits)
-      [ inl fits_first ↦ subst (λ o. Accepted a (next k a) rest o)
-        (sym (if_true (starts ms ts) (p k ts) (q k ts) (starts_within fp ms taken_in (bare (s k a)) rest (P.leads k a fits_first))))
-        (P.accepts k a rest fits_first both.0)
-      | inr fits_second ↦ subst (λ o. Accepted a (next k a) rest o)
-        (sym (if_false (starts ms ts) (p k ts) (q k ts) (stops_before ms fq side n (bare (s k a)) rest (Q.leads k a fits_second) stops.0)))
-        (Q.accepts k a rest fits_second both.1) ]
+      elim (which a fits) [
+        | inl fits_first ↦ subst (λ o. Accepted a (next k a) rest o)
+            (sym (if_true (starts ms ts) (p k ts) (q k ts) (starts_within fp ms taken_in (bare (s k a)) rest (P.leads k a fits_first))))
+            (P.accepts k a rest fits_first both.0)
+        | inr fits_second ↦ subst (λ o. Accepted a (next k a) rest o)
+            (sym (if_false (starts ms ts) (p k ts) (q k ts) (stops_before ms fq side n (bare (s k a)) rest (Q.leads k a fits_second) stops.0)))
+            (Q.accepts k a rest fits_second both.1)
+      ]
 
   either_leads : (k : ℕ) (a : A) → good a → Leads n (fp ++ fq) (bare (s k a))
-  either_leads k a fits = elim (which a fits)
-      [ inl fits_first ↦ leads_left n fp fq (bare (s k a)) (P.leads k a fits_first)
-      | inr fits_second ↦ leads_right n fp fq (bare (s k a)) (Q.leads k a fits_second) ]
+  either_leads k a fits = elim (which a fits) [
+    | inl fits_first ↦ leads_left n fp fq (bare (s k a)) (P.leads k a fits_first)
+    | inr fits_second ↦ leads_right n fp fq (bare (s k a)) (Q.leads k a fits_second)
+  ]
 
   cut_either : (k : ℕ) (ts : List Spelled) (c : Cause) (rest : List Spelled) (f : A → Type 0) → ((a : A) → f a → good a)
       → Broken f (s k) c ts rest → Broken good (s k) c ts rest
   cut_either k ts c rest f to_good broken = record {
-    before = broken.before; tree = broken.tree; reached = broken.reached; more = broken.more; fits = to_good broken.tree broken.fits;
-    clear = broken.clear; reach = broken.reach; splits = broken.splits; goes_on = broken.goes_on;
+    before = broken.before;
+    tree = broken.tree;
+    reached = broken.reached;
+    more = broken.more;
+    fits = to_good broken.tree broken.fits;
+    clear = broken.clear;
+    reach = broken.reach;
+    splits = broken.splits;
+    goes_on = broken.goes_on;
   }
 
   either_breaks : (r : Bool) (k : ℕ) (ts : List Spelled) (c : Cause) (rest : List Spelled) → (if r then p k ts else q k ts) ≡ Fails c rest

@@ -1,9 +1,9 @@
 -- Marked spellings in a row, and lists that end alike.
-use Rattle.std.proofs.Common.{◌≡◌, refl, sym, ap, ◌∙◌, List, [], ◌∷◌, ◌++◌, Bool, true, false}
+use Rattle.std.proofs.Common.{◌≡◌, refl, ap, ◌∙◌, List, [], ◌∷◌, ◌++◌, Bool, true, false}
 use Rattle.std.specs.Prelude.{if◌then◌else◌}
 use Rattle.std.proofs.lemmas.List.{append_assoc, append_cancel_right}
 use Rattle.token_reading.specs.Spelled.{Spelled}
-use Rattle.token_reading.specs.Marks.{Mark, bare, IsLight, Light}
+use Rattle.token_reading.specs.Marks.{Mark, bare, Light}
 
 pub bare-append : (ms ns : List Mark) → bare (ms ++ ns) ≡ bare ms ++ bare ns
 bare-append [] ns = refl

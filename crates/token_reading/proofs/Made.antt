@@ -1,12 +1,12 @@
 -- The laws of a reader whose tree is made of what another one read, and other words for the same law.
-use Rattle.std.proofs.Common.{◌≡◌, refl, sym, ap, ◌∙◌, subst, ℕ, Bool, true, false, List, [], ◌∷◌, ◌++◌, ◌⊎◌, inl, inr}
+use Rattle.std.proofs.Common.{◌≡◌, refl, sym, ap, ◌∙◌, subst, ℕ, Bool, true, false, List, [], ◌∷◌, ◌++◌, inl, inr}
 use Rattle.token_reading.specs.Spelled.{Spelled}
-use Rattle.token_reading.specs.Marks.{Mark, bare, Light, Marking, Count, keeps}
-use Rattle.token_reading.specs.Reading.{Cause, Refused, Deep, Outcome, Got, Fails, Reader, starts, and_then, to, nothing, outermost}
+use Rattle.token_reading.specs.Marks.{bare, Light, Marking, Count, keeps}
+use Rattle.token_reading.specs.Reading.{Cause, Outcome, Got, Fails, Reader, starts, and_then, to, nothing, outermost}
 use Rattle.token_reading.proofs.Sets.{within, Leads, stops_within, leads_within}
 use Rattle.token_reading.proofs.Lists.{nothing_before}
 use Rattle.token_reading.proofs.Tokens.{Any}
-use Rattle.token_reading.proofs.Law.{Read, Accepted, Broken, Law, Leaves, rest_of, put, left_is, left_same, and_then_got, and_then_fails, got_fails, read_same, accepted_then, left_made, put_made}
+use Rattle.token_reading.proofs.Law.{Read, Accepted, Broken, Law, Leaves, put, left_same, and_then_got, and_then_fails, got_fails, read_same, accepted_then, left_made, put_made}
 
 module _ {A B : Type 0} {p : Reader A} {g : A → Type 0} {s : Marking A} {np : Count A} {first last : List ℕ} {may : Bool}
     (before : ℕ → ℕ) (behind : ℕ → ℕ → ℕ) (f : A → B) (h : B → Type 0) (t : Marking B) (nq : Count B) (P : Law p g s np first last may)
@@ -55,8 +55,8 @@ module _ {A B : Type 0} {p : Reader A} {g : A → Type 0} {s : Marking A} {np : 
       (accepted_then a (np (before k) a) rest b (nq k b) rest (finish k) (p (before k) (bare (s (before k) a) ++ rest)) one (from.1.1, count, refl))
 
   made_breaks : (k : ℕ) (ts : List Spelled) (c : Cause) (rest : List Spelled) → made k ts ≡ Fails c rest → Broken h (t k) c ts rest
-  made_breaks k ts c rest e = elim (and_then_fails (p (before k) ts) (finish k) c rest e)
-      [ inl first ↦
+  made_breaks k ts c rest e = elim (and_then_fails (p (before k) ts) (finish k) c rest e) [
+    | inl first ↦
         let broken = P.breaks (before k) ts c rest first in
         record {
           before = broken.before;
@@ -69,7 +69,8 @@ module _ {A B : Type 0} {p : Reader A} {g : A → Type 0} {s : Marking A} {np : 
           splits = broken.splits;
           goes_on = spells k broken.tree broken.fits ∙ broken.goes_on;
         }
-      | inr one ↦ absurd (got_fails (f one.0) (behind k one.1.0) c one.1.1.0 rest one.1.1.1.1) ]
+    | inr one ↦ absurd (got_fails (f one.0) (behind k one.1.0) c one.1.1.0 rest one.1.1.1.1)
+  ]
 
   made_local : (k : ℕ) (u : List Spelled) (x : Spelled) (r z : List Spelled) → Leaves (made k (u ++ (x ∷ r))) (x ∷ r)
       → made k (u ++ (x ∷ z)) ≡ put (x ∷ z) (made k (u ++ (x ∷ r)))

@@ -1,17 +1,17 @@
 -- The laws of one after the other.
-use Rattle.std.proofs.Common.{◌≡◌, refl, sym, ap, ◌∙◌, subst, ℕ, zero, suc, ◌+◌, ◌≤◌, ◌<◌, Bool, true, false, List, [], ◌∷◌, ◌++◌, ◌⊎◌, inl, inr, length, arith}
+use Rattle.std.proofs.Common.{◌≡◌, refl, sym, ap, ◌∙◌, subst, ℕ, zero, suc, ◌+◌, ◌≤◌, ◌<◌, Bool, true, false, List, [], ◌∷◌, ◌++◌, inl, inr, length, arith}
 use Rattle.std.specs.Prelude.{if◌then◌else◌}
 use Rattle.std.specs.List.{flat_map}
 use Rattle.std.proofs.lemmas.List.{append_assoc, append-nil, length-append}
 use Rattle.token_reading.specs.Spelled.{Spelled}
-use Rattle.token_reading.specs.Marks.{Mark, bare, Light, Marking, Count, keeps, marked, counted}
-use Rattle.token_reading.specs.Reading.{Cause, Refused, Deep, Outcome, Got, Fails, Reader, starts, and_then, many_up_to, many, in_front, some, Each}
+use Rattle.token_reading.specs.Marks.{Mark, bare, Marking, Count, keeps, marked, counted}
+use Rattle.token_reading.specs.Reading.{Cause, Outcome, Got, Fails, Reader, starts, and_then, many_up_to, many, in_front, some, Each}
 use Rattle.token_reading.proofs.Sets.{apart, within, Leads, stops_both, stops_before, starts_within}
 use Rattle.token_reading.proofs.Lists.{bare-append, bare_both, light-append, nothing_before, if_true, if_false}
 use Rattle.token_reading.proofs.Made.{law_to, law_reworded}
 use Rattle.token_reading.proofs.Seq.{Both, law_seq}
 use Rattle.token_reading.proofs.Choice.{same_start}
-use Rattle.token_reading.proofs.Law.{Read, Accepted, Broken, Law, Leaves, rest_of, put, left_is, left_same, and_then_got, and_then_fails, got_fails, got_same, read_same, accepted_then, left_made, put_made, goes_past}
+use Rattle.token_reading.proofs.Law.{Read, Accepted, Broken, Law, Leaves, rest_of, put, left_is, left_same, and_then_got, and_then_fails, got_fails, read_same, accepted_then, left_made, put_made, goes_past}
 
 abbrev pub add_front : {A : Type 0} → A → List A → Reader (List A)
 add_front a xs i rest = Got (a ∷ xs) i rest
@@ -149,13 +149,15 @@ module _ {A : Type 0} {p : Reader A} {g : A → Type 0} {s : Marking A} {next : 
       → ((k : ℕ) (ts : List Spelled) (c : Cause) (rest : List Spelled) → up n k ts ≡ Fails c rest → Broken (Each g) (marked s next k) c ts rest)
       → (r : Bool) (k : ℕ) (ts : List Spelled) (c : Cause) (rest : List Spelled) → (if r then turn (p k ts) (up n) else Got [] k ts) ≡ Fails c rest
       → Broken (Each g) (marked s next k) c ts rest
-  turn_breaks n ih true k ts c rest e = elim (and_then_fails (p k ts) (later n) c rest e)
-      [ inl first ↦ cut_first k ts c rest (P.breaks k ts c rest first)
-      | inr one ↦
+  turn_breaks n ih true k ts c rest e = elim (and_then_fails (p k ts) (later n) c rest e) [
+    | inl first ↦ cut_first k ts c rest (P.breaks k ts c rest first)
+    | inr one ↦
         let front = P.sound k ts one.0 one.1.0 one.1.1.0 one.1.1.1.0 in
-        elim (and_then_fails (up n one.1.0 one.1.1.0) (add_front one.0) c rest one.1.1.1.1)
-        [ inl second ↦ cut_later k ts one.0 one.1.0 one.1.1.0 c rest front (ih one.1.0 one.1.1.0 c rest second)
-        | inr two ↦ absurd (got_fails (one.0 ∷ two.0) two.1.0 c two.1.1.0 rest two.1.1.1.1) ] ]
+        elim (and_then_fails (up n one.1.0 one.1.1.0) (add_front one.0) c rest one.1.1.1.1) [
+          | inl second ↦ cut_later k ts one.0 one.1.0 one.1.1.0 c rest front (ih one.1.0 one.1.1.0 c rest second)
+          | inr two ↦ absurd (got_fails (one.0 ∷ two.0) two.1.0 c two.1.1.0 rest two.1.1.1.1)
+        ]
+  ]
   turn_breaks n ih false k ts c rest e = absurd (got_fails [] k c ts rest e)
 
   up_breaks : (n k : ℕ) (ts : List Spelled) (c : Cause) (rest : List Spelled) → up n k ts ≡ Fails c rest → Broken (Each g) (marked s next k) c ts rest

@@ -1,16 +1,15 @@
 -- The laws of forms that open a construct, where a level is left for it and where none is.
-use Rattle.std.proofs.Common.{◌≡◌, refl, sym, ap, ◌∙◌, subst, ℕ, Bool, true, false, List, [], ◌∷◌, ◌++◌, ◌⊎◌, inl, inr}
-use Rattle.std.proofs.lemmas.List.{append_assoc}
+use Rattle.std.proofs.Common.{◌≡◌, refl, sym, ap, ◌∙◌, subst, ℕ, Bool, false, List, [], ◌∷◌, ◌++◌, inl, inr}
 use Rattle.ada_lexer.specs.declared.token.Reserved.{Reserved}
 use Rattle.ada_lexer.specs.declared.token.Symbol.{Symbol}
 use Rattle.token_reading.specs.Spelled.{Spelled}
-use Rattle.token_reading.specs.Marks.{Mark, bare, Light, Marking, Count, keeps}
+use Rattle.token_reading.specs.Marks.{bare, Light, Marking, Count, keeps}
 use Rattle.token_reading.specs.Reading.{Cause, Refused, Deep, Outcome, Got, Fails, Reader, starts, and_then, of_word, of_symbol, opener, opens_word, opens_symbol, seq_on, seq}
 use Rattle.token_reading.proofs.Sets.{Leads}
-use Rattle.token_reading.proofs.Lists.{bare-append, bare_both, light-append}
+use Rattle.token_reading.proofs.Lists.{bare-append, bare_both}
 use Rattle.token_reading.proofs.Tokens.{Any, weighed_word, weighed_symbol, law_opens_word, law_opens_symbol}
 use Rattle.token_reading.proofs.Seq.{pair_up, on_whole, in_first, in_second, BothOn, joined_on, counted_on, Both, joined, counted_both}
-use Rattle.token_reading.proofs.Law.{Read, Accepted, Broken, Law, Leaves, rest_of, put, left_is, left_same, and_then_got, and_then_fails, got_fails, read_same, accepted_then, left_made, put_made, prefix, goes_past}
+use Rattle.token_reading.proofs.Law.{Read, Accepted, Broken, Law, Leaves, put, left_is, left_same, and_then_got, and_then_fails, got_fails, read_same, accepted_then, left_made, put_made, prefix, goes_past}
 
 -- A law is owed of the second part only behind a first part that has no token too many: behind others it is never reached.
 module _ {A B : Type 0} {p : Reader A} {q : A → Reader B} {g : A → Type 0} {h : A → B → Type 0} {s : Marking A} {t : A → Marking B}
@@ -75,14 +74,16 @@ module _ {A B : Type 0} {p : Reader A} {q : A → Reader B} {g : A → Type 0} {
       of_first after second (Fails Refused more) is one = absurd one
 
   guarded_breaks : (k : ℕ) (ts : List Spelled) (c : Cause) (rest : List Spelled) → seq_on p q k ts ≡ Fails c rest → Broken Good (marks k) c ts rest
-  guarded_breaks k ts c rest e = elim (and_then_fails (p k ts) behind c rest e)
-      [ inl early ↦ in_first g h s t np nq k ts c rest example (P.breaks k ts c rest early)
-      | inr one ↦
+  guarded_breaks k ts c rest e = elim (and_then_fails (p k ts) behind c rest e) [
+    | inl early ↦ in_first g h s t np nq k ts c rest example (P.breaks k ts c rest early)
+    | inr one ↦
         let front = P.sound k ts one.0 one.1.0 one.1.1.0 one.1.1.1.0 in
-        elim (and_then_fails (q one.0 one.1.0 one.1.1.0) (pair_up one.0) c rest one.1.1.1.1)
-        [ inl second ↦
-          in_second g h s t np nq k ts one.0 one.1.0 one.1.1.0 c rest front ((Q k one.0 front.fits front.light).breaks one.1.0 one.1.1.0 c rest second)
-        | inr two ↦ absurd (got_fails {A = A × B} (one.0, two.0) two.1.0 c two.1.1.0 rest two.1.1.1.1) ] ]
+        elim (and_then_fails (q one.0 one.1.0 one.1.1.0) (pair_up one.0) c rest one.1.1.1.1) [
+          | inl second ↦
+              in_second g h s t np nq k ts one.0 one.1.0 one.1.1.0 c rest front ((Q k one.0 front.fits front.light).breaks one.1.0 one.1.1.0 c rest second)
+          | inr two ↦ absurd (got_fails {A = A × B} (one.0, two.0) two.1.0 c two.1.1.0 rest two.1.1.1.1)
+        ]
+  ]
 
   guarded_local : (k : ℕ) (u : List Spelled) (x : Spelled) (r z : List Spelled) → Leaves (seq_on p q k (u ++ (x ∷ r))) (x ∷ r)
       → seq_on p q k (u ++ (x ∷ z)) ≡ put (x ∷ z) (seq_on p q k (u ++ (x ∷ r)))

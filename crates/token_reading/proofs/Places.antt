@@ -1,12 +1,12 @@
 -- The law of a part that begins with another part, and keeps its place.
-use Rattle.std.proofs.Common.{◌≡◌, refl, sym, ap, ◌∙◌, subst, ℕ, Bool, true, false, List, [], ◌∷◌, ◌++◌, Option, Some, None, ◌⊎◌, inl, inr}
+use Rattle.std.proofs.Common.{◌≡◌, refl, sym, ap, ◌∙◌, subst, ℕ, false, List, [], ◌∷◌, ◌++◌, Option, Some, None, inl, inr}
 use Rattle.spark_base.specs.declared.position.Pos.{Pos}
 use Rattle.token_reading.specs.Spelled.{Spelled}
-use Rattle.token_reading.specs.Marks.{Mark, bare, Light, Marking, Count}
-use Rattle.token_reading.specs.Reading.{Cause, Refused, Deep, Outcome, Got, Fails, Reader, starts, and_then, place, stays, here, seq, StartsAt}
+use Rattle.token_reading.specs.Marks.{bare, Marking, Count}
+use Rattle.token_reading.specs.Reading.{Cause, Refused, Got, Fails, Reader, starts, and_then, place, stays, here, seq, StartsAt}
 use Rattle.token_reading.proofs.Sets.{Leads}
 use Rattle.token_reading.proofs.Lists.{nothing_before}
-use Rattle.token_reading.proofs.Law.{Read, Accepted, Broken, Law, failed, Leaves, rest_of, put, left_same, left_made, put_made, and_then_got, and_then_fails, got_same, got_fails, read_same, accepted_then, refused_here}
+use Rattle.token_reading.proofs.Law.{Read, Accepted, Broken, Law, failed, Leaves, put, left_made, put_made, and_then_got, and_then_fails, got_fails, read_same, accepted_then, refused_here}
 
 -- `Stands a pos` says that a tree's first token stands at a place.
 module _ {A : Type 0} {p : Reader A} {g : A → Type 0} {s : Marking A} {next : Count A} {first last : List ℕ} (P : Law p g s next first last false)
@@ -97,16 +97,18 @@ module _ {A : Type 0} {p : Reader A} {g : A → Type 0} {s : Marking A} {next : 
       }
 
   placed_breaks : (k : ℕ) (ts : List Spelled) (c : Cause) (rest : List Spelled) → seq here p k ts ≡ Fails c rest → Broken Placed (of_second k) c ts rest
-  placed_breaks k ts c rest e = elim (and_then_fails (here k ts) with_place c rest e)
-      [ inl early ↦
+  placed_breaks k ts c rest e = elim (and_then_fails (here k ts) with_place c rest e) [
+    | inl early ↦
         let at = somewhere P.example P.sample in
         refused_here {A = Pos × A} (at.0, P.example) (P.sample, at.1) ts c rest (here_fails k ts c rest early)
-      | inr one ↦
+    | inr one ↦
         let at = here_got k ts one.0 one.1.0 one.1.1.0 one.1.1.1.0 in
-        elim (and_then_fails (p one.1.0 one.1.1.0) (λ a i rest. Got (one.0, a) i rest) c rest one.1.1.1.1)
-        [ inl second ↦
-          cut_placed k ts c rest (P.breaks k ts c rest (ap (λ l. p l ts) at.1 ∙ ap (λ us. p one.1.0 us) at.2 ∙ second))
-        | inr two ↦ absurd (got_fails {A = Pos × A} (one.0, two.0) two.1.0 c two.1.1.0 rest two.1.1.1.1) ] ]
+        elim (and_then_fails (p one.1.0 one.1.1.0) (λ a i rest. Got (one.0, a) i rest) c rest one.1.1.1.1) [
+          | inl second ↦
+              cut_placed k ts c rest (P.breaks k ts c rest (ap (λ l. p l ts) at.1 ∙ ap (λ us. p one.1.0 us) at.2 ∙ second))
+          | inr two ↦ absurd (got_fails {A = Pos × A} (one.0, two.0) two.1.0 c two.1.1.0 rest two.1.1.1.1)
+        ]
+  ]
 
   -- one token in front, of which the place is known or isn't
   of_front : (o : Option Pos) (k : ℕ) (u : List Spelled) (x : Spelled) (r z : List Spelled)

@@ -7,7 +7,7 @@
 --     arg  = expr ["=>" expr], the arrow only behind a lone identifier
 --
 -- A parenthesis opens a construct, a `+` is an operator, and an expression keeps the place of its first token.
-use Rattle.std.proofs.Common.{◌≡◌, refl, sym, ap, ◌∙◌, subst, ℕ, zero, suc, Bool, true, false, List, [], ◌∷◌, ◌++◌, Option, Some, None, ◌⊎◌, inl, inr}
+use Rattle.std.proofs.Common.{◌≡◌, refl, sym, ap, ℕ, zero, suc, Bool, true, false, List, [], ◌∷◌, ◌++◌, Option, Some, None, ◌⊎◌, inl, inr}
 use Rattle.std.specs.Prelude.{if◌then◌else◌}
 use Rattle.std.specs.List.{flat_map}
 use Rattle.std.proofs.lemmas.List.{append-nil}
@@ -16,10 +16,10 @@ use Rattle.spark_base.specs.declared.position.Pos.{Pos}
 use Rattle.spark_base.specs.declared.limits.TheConstants.{OPERATORS}
 use Rattle.ada_lexer.specs.declared.token.Reserved.TheVariants.{KwNull}
 use Rattle.ada_lexer.specs.declared.token.Symbol.TheVariants.{Arrow, LeftParenthesis, Plus, RightParenthesis, Semicolon}
-use Rattle.token_reading.specs.Spelled.{Spelled, Word, Ident, Number, Delimiter}
-use Rattle.token_reading.specs.Marks.{Mark, plain, bare, Light, Marking, Count, keeps, marked, counted}
-use Rattle.token_reading.specs.Reading.{Cause, Refused, Deep, Outcome, Got, Fails, Reader, of_word, of_symbol, of_ident, of_number, operator, opener, PlacedText, word, symbol, opens_symbol, operator_symbol, ident, number, to, seq_on, seq, nothing, choose, optional, many, outermost, here, StartsAt, Each, whole_file}
-use Rattle.token_reading.specs.Sources.{Begins, IsTreeOf, IsFaulty, IsTooMany, IsFile}
+use Rattle.token_reading.specs.Spelled.{Spelled, Word, Number, Delimiter}
+use Rattle.token_reading.specs.Marks.{Mark, plain, bare, Marking, Count, keeps, marked, counted}
+use Rattle.token_reading.specs.Reading.{Refused, Deep, Got, Fails, Reader, of_word, of_symbol, of_ident, of_number, operator, opener, PlacedText, word, symbol, opens_symbol, operator_symbol, ident, number, to, seq_on, seq, nothing, choose, optional, many, outermost, here, StartsAt, Each, whole_file}
+use Rattle.token_reading.specs.Sources.{IsTreeOf, IsFaulty, IsTooMany, IsFile}
 use Rattle.token_reading.proofs.Law.{Law}
 use Rattle.token_reading.proofs.Tokens.{Any, some_place, some_same, weighed_symbol, id_token, number_token, law_word, law_symbol, law_operator_symbol, law_ident, law_number}
 use Rattle.token_reading.proofs.Seq.{Both, BothOn, joined, joined_on, counted_both, counted_on, law_seq_on, law_seq}
@@ -27,7 +27,7 @@ use Rattle.token_reading.proofs.Made.{law_to, law_nothing, law_wider, law_reword
 use Rattle.token_reading.proofs.Choice.{Either, of_either, Maybe, maybe_marked, maybe_counted, law_choose, law_optional}
 use Rattle.token_reading.proofs.Many.{law_many, law_each}
 use Rattle.token_reading.proofs.Nesting.{law_opened_symbol}
-use Rattle.token_reading.proofs.Places.{Placed, of_second, count_of_second, law_here}
+use Rattle.token_reading.proofs.Places.{law_here}
 use Rattle.token_reading.proofs.Theorem.{read_file, refused_file, deep_file}
 
 -- ---- trees
@@ -216,6 +216,7 @@ law_given d inner L true =
     there : (y : Option (Pos × Expr)) → Maybe (Both Any GoodExpr) y → GoodGiven true y
     there None good = tt
     there (Some y) good = (refl, good.1)
+
     back : (y : Option (Pos × Expr)) → GoodGiven true y → Maybe (Both Any GoodExpr) y
     back None good = tt
     back (Some y) good = (tt, good.1)

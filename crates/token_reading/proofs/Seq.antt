@@ -1,13 +1,13 @@
 -- The law of one reader and then another.
-use Rattle.std.proofs.Common.{◌≡◌, refl, sym, ap, ◌∙◌, subst, ℕ, Bool, true, false, List, [], ◌∷◌, ◌++◌, ◌⊎◌, inl, inr}
+use Rattle.std.proofs.Common.{◌≡◌, refl, sym, ap, ◌∙◌, subst, ℕ, Bool, true, false, List, ◌∷◌, ◌++◌, inl, inr}
 use Rattle.std.specs.Prelude.{◌&&◌, if◌then◌else◌}
 use Rattle.std.proofs.lemmas.List.{append_assoc}
 use Rattle.token_reading.specs.Spelled.{Spelled}
-use Rattle.token_reading.specs.Marks.{Mark, bare, Light, Marking, Count}
-use Rattle.token_reading.specs.Reading.{Cause, Refused, Deep, Outcome, Got, Fails, Reader, starts, and_then, seq_on, seq}
+use Rattle.token_reading.specs.Marks.{Mark, bare, Marking, Count}
+use Rattle.token_reading.specs.Reading.{Cause, Outcome, Got, Fails, Reader, starts, and_then, seq_on, seq}
 use Rattle.token_reading.proofs.Sets.{apart, Leads, stops_last, stops_before, leads_first}
 use Rattle.token_reading.proofs.Lists.{bare-append, bare_both, light-append}
-use Rattle.token_reading.proofs.Law.{Read, Accepted, Broken, Law, Leaves, rest_of, put, left_is, left_same, and_then_got, and_then_fails, got_fails, read_same, accepted_then, left_made, put_made, prefix, goes_past}
+use Rattle.token_reading.proofs.Law.{Read, Accepted, Broken, Law, Leaves, put, left_is, left_same, and_then_got, and_then_fails, got_fails, read_same, accepted_then, left_made, put_made, prefix, goes_past}
 
 abbrev pub BothOn : {A B : Type 0} → (A → Type 0) → (A → B → Type 0) → A × B → Type 0
 BothOn g h x = g x.0 × h x.0 x.1
@@ -48,7 +48,7 @@ module _ {A B : Type 0} (g : A → Type 0) (h : A → B → Type 0) (s : Marking
         reach = broken.reach;
         splits = broken.splits;
         goes_on = ap (λ ms. ms ++ after) broken.goes_on ∙ append_assoc broken.before (broken.reached ++ broken.more) after
-        ∙ ap (λ ms. broken.before ++ ms) (append_assoc broken.reached broken.more after);
+            ∙ ap (λ ms. broken.before ++ ms) (append_assoc broken.reached broken.more after);
       }
 
   pub in_second : (k : ℕ) (ts : List Spelled) (a : A) (j : ℕ) (mid : List Spelled) (c : Cause) (rest : List Spelled)
@@ -106,13 +106,15 @@ module _ {A B : Type 0} {p : Reader A} {q : A → Reader B} {g : A → Type 0} {
       (accepted_then x.0 (np k x.0) (bare after ++ rest) x (counted_on np nq k x) rest behind (p k (bare (s k x.0) ++ (bare after ++ rest))) one pair)
 
   on_breaks : (k : ℕ) (ts : List Spelled) (c : Cause) (rest : List Spelled) → seq_on p q k ts ≡ Fails c rest → Broken (BothOn g h) (joined_on s np t k) c ts rest
-  on_breaks k ts c rest e = elim (and_then_fails (p k ts) behind c rest e)
-      [ inl first ↦ in_first g h s t np nq k ts c rest (λ a good. ((Q a good).example, (Q a good).sample)) (P.breaks k ts c rest first)
-      | inr one ↦
+  on_breaks k ts c rest e = elim (and_then_fails (p k ts) behind c rest e) [
+    | inl first ↦ in_first g h s t np nq k ts c rest (λ a good. ((Q a good).example, (Q a good).sample)) (P.breaks k ts c rest first)
+    | inr one ↦
         let front = P.sound k ts one.0 one.1.0 one.1.1.0 one.1.1.1.0 in
-        elim (and_then_fails (q one.0 one.1.0 one.1.1.0) (pair_up one.0) c rest one.1.1.1.1)
-        [ inl second ↦ in_second g h s t np nq k ts one.0 one.1.0 one.1.1.0 c rest front ((Q one.0 front.fits).breaks one.1.0 one.1.1.0 c rest second)
-        | inr two ↦ absurd (got_fails {A = A × B} (one.0, two.0) two.1.0 c two.1.1.0 rest two.1.1.1.1) ] ]
+        elim (and_then_fails (q one.0 one.1.0 one.1.1.0) (pair_up one.0) c rest one.1.1.1.1) [
+          | inl second ↦ in_second g h s t np nq k ts one.0 one.1.0 one.1.1.0 c rest front ((Q one.0 front.fits).breaks one.1.0 one.1.1.0 c rest second)
+          | inr two ↦ absurd (got_fails {A = A × B} (one.0, two.0) two.1.0 c two.1.1.0 rest two.1.1.1.1)
+        ]
+  ]
 
   on_local : (k : ℕ) (u : List Spelled) (x : Spelled) (r z : List Spelled) → Leaves (seq_on p q k (u ++ (x ∷ r))) (x ∷ r)
       → seq_on p q k (u ++ (x ∷ z)) ≡ put (x ∷ z) (seq_on p q k (u ++ (x ∷ r)))

@@ -1,6 +1,6 @@
 -- What a reader of a whole file tells, where the reader of its tree has a law.
-use Rattle.std.proofs.Common.{◌≡◌, refl, sym, ap, ◌∙◌, subst, ℕ, Bool, true, false, List, [], ◌∷◌, ◌++◌, ◌⊎◌, inl, inr}
-use Rattle.std.specs.Prelude.{◌||◌, map}
+use Rattle.std.proofs.Common.{◌≡◌, refl, sym, ap, ◌∙◌, subst, ℕ, Bool, false, List, [], ◌∷◌, ◌++◌, ◌⊎◌, inl, inr}
+use Rattle.std.specs.Prelude.{map}
 use Rattle.std.proofs.lemmas.List.{append_assoc, append-nil}
 use Rattle.spark_base.specs.declared.position.Pos.{Pos}
 use Rattle.ada_lexer.specs.declared.token.Token.{Token}
@@ -8,11 +8,10 @@ use Rattle.ada_lexer.specs.declared.token.TokenKind.{TokenKind}
 use Rattle.ada_lexer.specs.declared.token.TokenKind.TheVariants as kind
 use Rattle.ada_lexer.specs.Tokens.{EndsOnce, kinds_of}
 use Rattle.token_reading.specs.Spelled.{Spelled, Word, Ident, Number, Str, Delimiter, EndOfFile, told, told_as}
-use Rattle.token_reading.specs.Marks.{Mark, bare, IsLight, Light, Marking, Count}
-use Rattle.token_reading.specs.Reading.{Cause, Refused, Deep, Outcome, Got, Fails, Reader, of_end, code, is_in, starts, and_then, weightless, end_of, taken, file_end, seq, whole_file}
-use Rattle.token_reading.specs.Sources.{file_of, Begins, LightlyBegins, IsTreeOf, IsFaulty, IsTooMany, IsFile}
-use Rattle.token_reading.proofs.Lists.{bare-append}
-use Rattle.token_reading.proofs.Law.{Read, Accepted, OneTooMany, Broken, Law, Leaves, put, and_then_got, and_then_fails, got_same, got_fails, left_same}
+use Rattle.token_reading.specs.Marks.{Mark, bare, Light, Marking, Count}
+use Rattle.token_reading.specs.Reading.{Cause, Refused, Deep, Got, Fails, Reader, of_end, is_in, and_then, file_end, whole_file}
+use Rattle.token_reading.specs.Sources.{file_of, Begins, IsTreeOf, IsFaulty, IsTooMany, IsFile}
+use Rattle.token_reading.proofs.Law.{Read, Accepted, OneTooMany, Broken, Law, put, and_then_got, and_then_fails, got_same, got_fails, left_same}
 
 -- ---- lists that end at their one end of the file
 
@@ -101,26 +100,31 @@ module _ {A : Type 0} {p : Reader A} {good : A → Type 0} {s : Marking A} {next
 
   file_fails : (ts : List Spelled) (c : Cause) (rest : List Spelled) → whole_file p 0 ts ≡ Fails c rest
       → (p 0 ts ≡ Fails c rest) ⊎ ((a : A) × ((i : ℕ) × ((mid : List Spelled) × ((p 0 ts ≡ Got a i mid) × (file_end i mid ≡ Fails c rest)))))
-  file_fails ts c rest e = elim (and_then_fails (and_then (p 0 ts) after_tree) made_tree c rest e)
-      [ inl one ↦ elim (and_then_fails (p 0 ts) after_tree c rest one)
-        [ inl early ↦ inl early
-        | inr two ↦ elim (and_then_fails (file_end two.1.0 two.1.1.0) (λ u i rest. Got (two.0, u) i rest) c rest two.1.1.1.1)
-          [ inl late ↦ inr (two.0, (two.1.0, (two.1.1.0, (two.1.1.1.0, late))))
-          | inr three ↦ absurd (got_fails {A = A × Unit {0}} (two.0, three.0) three.1.0 c three.1.1.0 rest three.1.1.1.1) ] ]
-      | inr one ↦ absurd (got_fails one.0.0 one.1.0 c one.1.1.0 rest one.1.1.1.1) ]
+  file_fails ts c rest e = elim (and_then_fails (and_then (p 0 ts) after_tree) made_tree c rest e) [
+    | inl one ↦ elim (and_then_fails (p 0 ts) after_tree c rest one) [
+      | inl early ↦ inl early
+      | inr two ↦ elim (and_then_fails (file_end two.1.0 two.1.1.0) (λ u i rest. Got (two.0, u) i rest) c rest two.1.1.1.1) [
+        | inl late ↦ inr (two.0, (two.1.0, (two.1.1.0, (two.1.1.1.0, late))))
+        | inr three ↦ absurd (got_fails {A = A × Unit {0}} (two.0, three.0) three.1.0 c three.1.1.0 rest three.1.1.1.1)
+      ]
+    ]
+    | inr one ↦ absurd (got_fails one.0.0 one.1.0 c one.1.1.0 rest one.1.1.1.1)
+  ]
 
   pub read_file : (ts : List Spelled) (tree : A) (j : ℕ) (rest : List Spelled) → IsFile ts → whole_file p 0 ts ≡ Got tree j rest
       → IsTreeOf good (s 0) ts tree × (rest ≡ [])
   read_file ts tree j rest file e =
       let got = file_got ts tree j rest e in
       let read = P.sound 0 ts tree got.0 (EndOfFile ∷ rest) got.1 in
-      let none : rest ≡ [] = ends_there (bare (s 0 tree)) rest (subst IsFile read.whole file) in
-      (record {
-        fits = read.fits;
-        spelled = sym (read.whole ∙ ap (λ r. bare (s 0 tree) ++ (EndOfFile ∷ r)) none);
-        light = read.light;
-        only = λ other fits whole. unique ts tree other got.0 (EndOfFile ∷ rest) got.1 fits whole;
-      }, none)
+      let none : rest ≡ [] = ends_there (bare (s 0 tree)) rest (subst IsFile read.whole file) in (
+        record {
+          fits = read.fits;
+          spelled = sym (read.whole ∙ ap (λ r. bare (s 0 tree) ++ (EndOfFile ∷ r)) none);
+          light = read.light;
+          only = λ other fits whole. unique ts tree other got.0 (EndOfFile ∷ rest) got.1 fits whole;
+        },
+        none,
+      )
 
   -- no source begins as a refused list does through its first token left
   pub faulty : (u : List Spelled) (x : Spelled) (r : List Spelled) → p 0 (u ++ (x ∷ r)) ≡ Fails Refused (x ∷ r)
@@ -194,18 +198,19 @@ module _ {A : Type 0} {p : Reader A} {good : A → Type 0} {s : Marking A} {next
       }
 
   pub refused_file : (ts rest : List Spelled) → IsFile ts → whole_file p 0 ts ≡ Fails Refused rest → IsFaulty good (s 0) ts rest
-  refused_file ts rest file e = elim (file_fails ts Refused rest e)
-      [ inl early ↦ refused_early ts rest file early (P.breaks 0 ts Refused rest early)
-      | inr late ↦
-        refused_late ts late.0 late.1.0 late.1.1.0 rest file late.1.1.1.0 late.1.1.1.1 (P.sound 0 ts late.0 late.1.0 late.1.1.0 late.1.1.1.0) ]
+  refused_file ts rest file e = elim (file_fails ts Refused rest e) [
+    | inl early ↦ refused_early ts rest file early (P.breaks 0 ts Refused rest early)
+    | inr late ↦
+        refused_late ts late.0 late.1.0 late.1.1.0 rest file late.1.1.1.0 late.1.1.1.1 (P.sound 0 ts late.0 late.1.0 late.1.1.0 late.1.1.1.0)
+  ]
 
   never_deep : (i : ℕ) (mid rest : List Spelled) → file_end i mid ≡ Fails Deep rest → ⊥
   never_deep i [] rest e = cc
   never_deep i (x ∷ r) rest e = let fails = end_fails x r i Deep rest e in let same : Deep ≡ Refused = fails.1 in cc
 
   pub deep_file : (ts rest : List Spelled) → whole_file p 0 ts ≡ Fails Deep rest → IsTooMany good (s 0) ts rest
-  deep_file ts rest e = elim (file_fails ts Deep rest e)
-      [ inl early ↦
+  deep_file ts rest e = elim (file_fails ts Deep rest e) [
+    | inl early ↦
         let broken = P.breaks 0 ts Deep rest early in
         let reach : OneTooMany broken.reached rest = broken.reach in
         record {
@@ -221,4 +226,5 @@ module _ {A : Type 0} {p : Reader A} {good : A → Type 0} {s : Marking A} {next
           fits = broken.fits;
           whole = broken.goes_on ∙ ap (λ ms. broken.before ++ (ms ++ broken.more)) reach.alone;
         }
-      | inr late ↦ absurd (never_deep late.1.0 late.1.1.0 rest late.1.1.1.1) ]
+    | inr late ↦ absurd (never_deep late.1.0 late.1.1.0 rest late.1.1.1.1)
+  ]

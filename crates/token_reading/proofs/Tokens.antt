@@ -11,11 +11,11 @@ use Rattle.ada_lexer.specs.declared.token.Symbol.{Symbol}
 use Rattle.ada_lexer.specs.contracts.token.Reserved as reserved
 use Rattle.ada_lexer.specs.contracts.token.Symbol as symbols
 use Rattle.token_reading.specs.Spelled.{Spelled, Word, Ident, Number, Str, Delimiter, EndOfFile}
-use Rattle.token_reading.specs.Marks.{Mark, plain, bare, IsLight, Light, Marking, Count}
-use Rattle.token_reading.specs.Reading.{Cause, Refused, Deep, Outcome, Got, Fails, Reader, of_word, of_symbol, of_ident, of_number, of_string, code, is_in, starts, Weight, weightless, opener, operator, weighed, taken, one_of, word_place, word, opens_word, operator_word, symbol_place, symbol, opens_symbol, operator_symbol, PlacedText, identifier_of, ident, called_of, ident_called, string_of, string, number_of, number}
+use Rattle.token_reading.specs.Marks.{plain, Marking, Count}
+use Rattle.token_reading.specs.Reading.{Cause, Refused, Deep, Got, Fails, of_word, of_symbol, of_ident, of_number, of_string, code, is_in, Weight, weightless, opener, operator, taken, one_of, word_place, word, opens_word, operator_word, symbol_place, symbol, opens_symbol, operator_symbol, PlacedText, identifier_of, ident, called_of, ident_called, string_of, string, number_of, number}
 use Rattle.token_reading.proofs.Sets.{is_in-own}
 use Rattle.token_reading.proofs.Lists.{nothing_before, not_longer}
-use Rattle.token_reading.proofs.Law.{Read, Accepted, OneTooMany, Broken, Law, failed, Leaves, put, refused_here}
+use Rattle.token_reading.proofs.Law.{Read, Accepted, Broken, Law, failed, Leaves, put, refused_here}
 
 abbrev pub Any : {A : Type 0} → A → Type 0
 Any a = Unit {0}
@@ -68,9 +68,15 @@ module _ {A : Type 0} (w : Weight) (f : Spelled → Option A) (good : A → Type
       → good a → t ≡ token_of a → (if h then failed A Deep (t ∷ ts) else Got a (w.step k) ts) ≡ Fails c rest
       → Broken good (one_marks k) c (t ∷ ts) rest
   weighed_breaks true a k t ts Deep rest heavy g at e = record {
-    before = []; tree = a; reached = one_marks k a; more = []; fits = g; clear = tt;
+    before = [];
+    tree = a;
+    reached = one_marks k a;
+    more = [];
+    fits = g;
+    clear = tt;
     reach = record { mark = record { token = token_of a; heavy = w.heavy k }; is_heavy = heavy; alone = refl; behind = ts; at = cc };
-    splits = cc; goes_on = refl;
+    splits = cc;
+    goes_on = refl;
   }
   weighed_breaks true a k t ts Refused rest heavy g at e = absurd (cc)
   weighed_breaks false a k t ts c rest heavy g at e = absurd (cc)

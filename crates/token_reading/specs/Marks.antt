@@ -1,6 +1,6 @@
 -- Spellings whose tokens carry whether they are one too many: an opener of a construct where no level is left, or an
 -- operator past the limit (docs/TOOL.md, "Limits").
-use Rattle.std.specs.Prelude.{◌≡◌, ℕ, Bool, true, false, List, [], ◌∷◌, ◌++◌}
+use Rattle.std.specs.Prelude.{◌≡◌, ℕ, Bool, false, List, [], ◌∷◌, ◌++◌}
 use Rattle.token_reading.specs.Spelled.{Spelled, EndOfFile}
 
 pub record Mark : Type 0 where

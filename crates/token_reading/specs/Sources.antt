@@ -1,10 +1,9 @@
 -- What a parser owes of a whole file: its one tree, or the faulty token (docs/TOOL.md, "Refusals").
 --
 -- `good` says which trees count, and `marks` how one is spelled, with the tokens that are one too many.
-use Rattle.std.specs.Prelude.{◌≡◌, ℕ, Bool, true, false, List, [], ◌∷◌, ◌++◌, map}
-use Rattle.ada_lexer.specs.declared.token.Token.{Token}
-use Rattle.token_reading.specs.Spelled.{Spelled, EndOfFile, told}
-use Rattle.token_reading.specs.Marks.{Mark, plain, bare, Light}
+use Rattle.std.specs.Prelude.{◌≡◌, true, List, [], ◌∷◌, ◌++◌}
+use Rattle.token_reading.specs.Spelled.{Spelled, EndOfFile}
+use Rattle.token_reading.specs.Marks.{Mark, bare, Light}
 
 -- The tokens of a file whose tree is spelled so.
 abbrev pub file_of : List Mark → List Spelled

@@ -1,6 +1,8 @@
 //! A cursor over the tokens of a file, and the readers of one token.
 ghost use Rattle.std.specs.Prelude.{◌≡◌, [], ◌∷◌, map};
 ghost use Rattle.std.specs.Option.{is_some};
+ghost use lib.Dec.{leb};
+ghost use Rattle.spark_base.specs.declared.limits.TheConstants.{OPERATORS};
 ghost use Rattle.std.specs.Char.{to_ascii_lowercase};
 ghost use Rattle.token_reading.specs.Spelled.{told};
 ghost use Rattle.token_reading.specs.Kinds.{of_kind};
@@ -127,6 +129,13 @@ impl<'t, 's> Cursor<'t, 's> {
         Ok(token.pos)
     }
 
+    /// Whether the outermost expression has all the operators that it may have.
+    fn has_all_operators(&self) -> bool
+        ensures { result ≡ leb OPERATORS self.now.operators }
+    {
+        self.count >= OPERATORS
+    }
+
     /// Reads this reserved word.
     pub fn word(&mut self, word: Reserved) -> Result<Pos, ReadFault>
         ensures { Reads (reading.word word) self.old result self.new }
@@ -168,7 +177,7 @@ impl<'t, 's> Cursor<'t, 's> {
         let Some(pos) = word_place(token, word) else {
             return Err(ReadFault::Refused);
         };
-        if self.count >= OPERATORS {
+        if self.has_all_operators() {
             return Err(ReadFault::Deep);
         }
         self.count += 1;
@@ -217,7 +226,7 @@ impl<'t, 's> Cursor<'t, 's> {
         let Some(pos) = symbol_place(token, symbol) else {
             return Err(ReadFault::Refused);
         };
-        if self.count >= OPERATORS {
+        if self.has_all_operators() {
             return Err(ReadFault::Deep);
         }
         self.count += 1;

@@ -12,6 +12,7 @@ use std::alloc::{AllocError, Global};
 use std::test::Fail;
 
 type Number = (Pos, u32);
+
 type Term = (Pos, Number);
 
 /// `+` number
@@ -60,8 +61,11 @@ fn group(
 }
 
 const LEFT: TokenKind = TokenKind::Symbol(Symbol::LeftParenthesis);
+
 const RIGHT: TokenKind = TokenKind::Symbol(Symbol::RightParenthesis);
+
 const PLUS: TokenKind = TokenKind::Symbol(Symbol::Plus);
+
 const ONE: TokenKind = TokenKind::Number(1);
 
 /// A token for each kind, in columns from 1.
@@ -137,7 +141,10 @@ fn groups(rt: HostRuntime) -> Result<(), Fail> {
             0,
         ),
     ] {
-        assert!(rt; read(rt.alloc(), &kinds, full)? == (fault, column), "{column}");
+        assert!(rt;
+            read(rt.alloc(), &kinds, full)? == (fault, column),
+            "{column}"
+        );
     }
     Ok(())
 }
