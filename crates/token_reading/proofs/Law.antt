@@ -1,0 +1,180 @@
+-- What a reader owes, whatever it is made of.
+use Rattle.std.proofs.Common.{◌≡◌, refl, sym, ap, ◌∙◌, subst, ℕ, Bool, true, false, List, [], ◌∷◌, ◌++◌, ◌⊎◌, inl, inr}
+use Rattle.std.proofs.lemmas.List.{append_assoc, append_cancel_right}
+use Rattle.token_reading.specs.Spelled.{Spelled}
+use Rattle.token_reading.specs.Marks.{Mark, bare, Light, Marking, Count}
+use Rattle.token_reading.specs.Reading.{Cause, Refused, Deep, Outcome, Got, Fails, Reader, starts, and_then}
+use Rattle.token_reading.proofs.Sets.{Leads}
+
+-- A tree is good, none of its tokens is one too many, and the list begins with its spelling.
+pub record Read {A : Type 0} (good : A → Type 0) (s : Marking A) (next : Count A) (k : ℕ) (ts : List Spelled) (a : A) (j : ℕ)
+    (rest : List Spelled) : Type 0 where
+  pub fits : good a
+  pub light : Light (s k a)
+  pub count : j ≡ next k a
+  pub whole : ts ≡ bare (s k a) ++ rest
+
+-- A list that begins with the spelling of a tree gives that tree, unless a token is one too many.
+-- So trees with such tokens are trees too, and no source begins as a refused list does, not even a too deep one.
+abbrev pub Accepted : {A : Type 0} → A → ℕ → List Spelled → Outcome A → Type 0
+Accepted a j rest (Got b i more) = (b ≡ a) × (i ≡ j) × (more ≡ rest)
+Accepted a j rest (Fails Deep more) = Unit {0}
+Accepted a j rest (Fails Refused more) = ⊥
+
+-- The first of the tokens left is one too many.
+pub record OneTooMany (reached : List Mark) (rest : List Spelled) : Type 0 where
+  pub mark : Mark
+  pub is_heavy : mark.heavy ≡ true
+  pub alone : reached ≡ mark ∷ []
+  pub behind : List Spelled
+  pub at : rest ≡ mark.token ∷ behind
+
+-- What is reached of the tokens left: none where the first one can't stand there.
+abbrev pub Reached : Cause → List Mark → List Spelled → Type 0
+Reached Refused reached rest = reached ≡ []
+Reached Deep reached rest = OneTooMany reached rest
+
+-- The tokens before the faulty one, and through it where it is one too many, begin the spelling of a good tree, and none
+-- before it is one too many.
+pub record Broken {A : Type 0} (good : A → Type 0) (s : A → List Mark) (c : Cause) (ts rest : List Spelled) : Type 0 where
+  pub before : List Mark
+  pub tree : A
+  pub reached : List Mark
+  pub more : List Mark
+  pub fits : good tree
+  pub clear : Light before
+  pub reach : Reached c reached rest
+  pub splits : ts ≡ bare before ++ rest
+  pub goes_on : s tree ≡ before ++ (reached ++ more)
+
+-- A failure of a reader of such trees.
+abbrev pub failed : (A : Type 0) → Cause → List Spelled → Outcome A
+failed A c rest = Fails c rest
+
+-- The tokens that an outcome leaves, and the outcome that leaves others.
+abbrev pub rest_of : {A : Type 0} → Outcome A → List Spelled
+rest_of (Got a k rest) = rest
+rest_of (Fails c rest) = rest
+
+-- These tokens are left, and none was one too many.
+abbrev pub FirstLeft : Cause → List Spelled → List Spelled → Type 0
+FirstLeft Refused rest ts = rest ≡ ts
+FirstLeft Deep rest ts = ⊥
+
+abbrev pub Leaves : {A : Type 0} → Outcome A → List Spelled → Type 0
+Leaves (Got a k rest) ts = rest ≡ ts
+Leaves (Fails c rest) ts = FirstLeft c rest ts
+
+abbrev pub put : {A : Type 0} → List Spelled → Outcome A → Outcome A
+put new (Got a k rest) = Got a k new
+put new (Fails c rest) = Fails c new
+
+-- `good` trees are read, `s` is their spelling and `next` the operators behind them, both by the operators before them.
+-- A spelling begins with a kind of `first`, and is empty only if `may`. A list goes on behind a spelling with a token that
+-- the reader would not take, which is of no kind of `last`.
+pub record Law {A : Type 0} (p : Reader A) (good : A → Type 0) (s : Marking A) (next : Count A) (first last : List ℕ) (may : Bool) : Type 0 where
+  pub example : A
+  pub sample : good example
+  pub leads : (k : ℕ) (a : A) → good a → Leads may first (bare (s k a))
+  pub sound : (k : ℕ) (ts : List Spelled) (a : A) (j : ℕ) (rest : List Spelled) → p k ts ≡ Got a j rest → Read good s next k ts a j rest
+  pub accepts : (k : ℕ) (a : A) (rest : List Spelled) → good a → starts last rest ≡ false
+      → Accepted a (next k a) rest (p k (bare (s k a) ++ rest))
+  pub breaks : (k : ℕ) (ts : List Spelled) (c : Cause) (rest : List Spelled) → p k ts ≡ Fails c rest → Broken good (s k) c ts rest
+  -- the outcome hangs on the tokens through the first one left; only a token that is one too many may be told by later ones
+  pub local : (k : ℕ) (u : List Spelled) (x : Spelled) (r q : List Spelled) → Leaves (p k (u ++ (x ∷ r))) (x ∷ r)
+      → p k (u ++ (x ∷ q)) ≡ put (x ∷ q) (p k (u ++ (x ∷ r)))
+
+-- ---- outcomes taken apart
+
+pub and_then_got : {A B : Type 0} (o : Outcome A) (q : A → Reader B) (b : B) (i : ℕ) (rest : List Spelled) → and_then o q ≡ Got b i rest
+    → (a : A) × ((j : ℕ) × ((more : List Spelled) × ((o ≡ Got a j more) × (q a j more ≡ Got b i rest))))
+and_then_got (Got a j more) q b i rest e = (a, (j, (more, (refl, e))))
+and_then_got (Fails c more) q b i rest e = absurd (cc)
+
+pub got_same : {A : Type 0} (a b : A) (j i : ℕ) (rest more : List Spelled) → Got a j rest ≡ Got b i more → (a ≡ b) × (j ≡ i) × (rest ≡ more)
+got_same a b j i rest more e = (cc, cc, cc)
+
+pub got_fails : {A : Type 0} (a : A) (j : ℕ) (c : Cause) (rest more : List Spelled) → Got a j rest ≡ Fails c more → ⊥
+got_fails a j c rest more e = cc
+
+pub fails_same : {A : Type 0} (c d : Cause) (rest more : List Spelled) → failed A c rest ≡ Fails d more → (c ≡ d) × (rest ≡ more)
+fails_same c d rest more e = (cc, cc)
+
+pub and_then_fails : {A B : Type 0} (o : Outcome A) (q : A → Reader B) (c : Cause) (rest : List Spelled) → and_then o q ≡ Fails c rest
+    → (o ≡ Fails c rest) ⊎ ((a : A) × ((j : ℕ) × ((more : List Spelled) × ((o ≡ Got a j more) × (q a j more ≡ Fails c rest)))))
+and_then_fails (Got a j more) q c rest e = inr (a, (j, (more, (refl, e))))
+and_then_fails (Fails d more) q c rest e = inl (cc)
+
+pub read_same : {A : Type 0} {good : A → Type 0} {s : Marking A} {next : Count A} (k : ℕ) (ts : List Spelled) (a b : A) (j i : ℕ)
+    (rest more : List Spelled) → Got a j rest ≡ Got b i more → Read good s next k ts a j rest → Read good s next k ts b i more
+read_same {good = good} {s = s} {next = next} k ts a b j i rest more e read =
+    let same = got_same a b j i rest more e in
+    subst (λ c. Read good s next k ts c i more) same.0
+    (subst (λ l. Read good s next k ts a l more) same.1 (subst (λ r. Read good s next k ts a j r) same.2 read))
+
+-- What is accepted goes on to the next reader.
+pub accepted_then : {A B : Type 0} (a : A) (j : ℕ) (more : List Spelled) (b : B) (i : ℕ) (rest : List Spelled) (q : A → Reader B) (o : Outcome A)
+    → Accepted a j more o → Accepted b i rest (q a j more) → Accepted b i rest (and_then o q)
+accepted_then a j more b i rest q (Got c l ts) one two =
+    let first : a ≡ c = sym one.0 in
+    let second : j ≡ l = sym one.1 in
+    let third : more ≡ ts = sym one.2 in
+    let same : Got a j more ≡ Got c l ts = cc in
+    subst (λ o. Accepted b i rest (and_then o q)) same two
+accepted_then a j more b i rest q (Fails Deep ts) one two = tt
+accepted_then a j more b i rest q (Fails Refused ts) one two = absurd one
+
+pub left_is : {A : Type 0} (o : Outcome A) (ts : List Spelled) → Leaves o ts → rest_of o ≡ ts
+left_is (Got a k rest) ts l = l
+left_is (Fails Refused rest) ts l = l
+left_is (Fails Deep rest) ts l = absurd l
+
+pub left_same : {A : Type 0} (o u : Outcome A) (ts : List Spelled) → o ≡ u → Leaves u ts → Leaves o ts
+left_same o u ts e l = subst (λ v. Leaves v ts) (sym e) l
+
+pub left_made : {A B : Type 0} (f : A → B) (c : ℕ → ℕ) (o : Outcome A) (ts : List Spelled)
+    → Leaves (and_then o (λ a j rest. Got (f a) (c j) rest)) ts → Leaves o ts
+left_made f c (Got a j rest) ts l = l
+left_made f c (Fails d rest) ts l = l
+
+-- Making a tree of what is read leaves the tokens as they are.
+pub put_made : {A B : Type 0} (f : A → B) (c : ℕ → ℕ) (new : List Spelled) (o : Outcome A)
+    → and_then (put new o) (λ a j rest. Got (f a) (c j) rest) ≡ put new (and_then o (λ a j rest. Got (f a) (c j) rest))
+put_made f c new (Got a j rest) = refl
+put_made f c new (Fails d rest) = refl
+
+-- A token that can't stand at the front of the list.
+pub refused_here : {A : Type 0} {good : A → Type 0} {s : A → List Mark} (a : A) → good a → (ts : List Spelled) (c : Cause) (rest : List Spelled)
+    → failed A Refused ts ≡ Fails c rest → Broken good s c ts rest
+refused_here {s = s} a g ts Refused rest e =
+    record { before = []; tree = a; reached = []; more = s a; fits = g; clear = tt; reach = refl; splits = cc; goes_on = refl }
+refused_here a g ts Deep rest e = absurd (cc)
+
+-- ---- what follows from a law
+
+module _ {A : Type 0} {p : Reader A} {good : A → Type 0} {s : Marking A} {next : Count A} {first last : List ℕ} {may : Bool}
+    (P : Law p good s next first last may) where
+  -- The tokens that are left end the list.
+  pub prefix : (k : ℕ) (ts : List Spelled) → (u : List Spelled) × (ts ≡ u ++ rest_of (p k ts))
+  prefix k ts = of_outcome (p k ts) refl
+    where
+      of_outcome : (o : Outcome A) → p k ts ≡ o → (u : List Spelled) × (ts ≡ u ++ rest_of o)
+      of_outcome (Got a j rest) e = (bare (s k a), (P.sound k ts a j rest e).whole)
+      of_outcome (Fails c rest) e = let broken = P.breaks k ts c rest e in (bare broken.before, broken.splits)
+
+  -- What is read is read too where later tokens are others.
+  pub steady : (k : ℕ) (u v : List Spelled) (x : Spelled) (r q : List Spelled) (a : A) (j : ℕ) → p k (u ++ (v ++ (x ∷ r))) ≡ Got a j (v ++ (x ∷ r))
+      → p k (u ++ (v ++ (x ∷ q))) ≡ Got a j (v ++ (x ∷ q))
+  steady k u [] x r q a j e = P.local k u x r q (left_same (p k (u ++ (x ∷ r))) (Got a j (x ∷ r)) (x ∷ r) e refl) ∙ ap (put (x ∷ q)) e
+  steady k u (y ∷ v) x r q a j e = P.local k u y (v ++ (x ∷ r)) (v ++ (x ∷ q)) (left_same (p k (u ++ (y ∷ (v ++ (x ∷ r))))) (Got a j (y ∷ (v ++ (x ∷ r)))) (y ∷ (v ++ (x ∷ r))) e refl) ∙ ap (put (y ∷ (v ++ (x ∷ q)))) e
+
+  -- The same where what is left goes on to the place from which other tokens stand.
+  pub goes_past : (k : ℕ) (u : List Spelled) (x : Spelled) (r q : List Spelled) (a : A) (j : ℕ) (mid v : List Spelled)
+      → p k (u ++ (x ∷ r)) ≡ Got a j mid → mid ≡ v ++ (x ∷ r) → p k (u ++ (x ∷ q)) ≡ Got a j (v ++ (x ∷ q))
+  goes_past k u x r q a j mid v e at =
+      let read = P.sound k (u ++ (x ∷ r)) a j mid e in
+      let w : List Spelled = bare (s k a) in
+      let whole : u ++ (x ∷ r) ≡ (w ++ v) ++ (x ∷ r) = read.whole ∙ ap (λ ts. w ++ ts) at ∙ sym (append_assoc w v (x ∷ r)) in
+      let front : u ≡ w ++ v = append_cancel_right u (w ++ v) (x ∷ r) whole in
+      let split : (y : List Spelled) → u ++ (x ∷ y) ≡ w ++ (v ++ (x ∷ y)) = λ y. ap (λ z. z ++ (x ∷ y)) front ∙ append_assoc w v (x ∷ y) in
+      ap (λ ts. p k ts) (split q) ∙ steady k w v x r q a j (ap (λ ts. p k ts) (sym (split r)) ∙ e ∙ ap (λ ts. Got a j ts) at)

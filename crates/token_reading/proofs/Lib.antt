@@ -1,0 +1,15 @@
+pub mod Sets
+pub mod Lists
+pub mod Law
+pub mod Tokens
+pub mod FirstKinds
+pub mod Seq
+pub mod Made
+pub mod Choice
+pub mod Many
+pub mod Nesting
+pub mod Places
+pub mod Fronts
+pub mod Loop
+pub mod Theorem
+pub mod Sample

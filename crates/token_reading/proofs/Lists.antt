@@ -1,0 +1,34 @@
+-- Marked spellings in a row, and lists that end alike.
+use Rattle.std.proofs.Common.{◌≡◌, refl, ap, ◌∙◌, List, [], ◌∷◌, ◌++◌, Bool, true, false}
+use Rattle.std.specs.Prelude.{if◌then◌else◌}
+use Rattle.std.proofs.lemmas.List.{append_assoc, append_cancel_right}
+use Rattle.token_reading.specs.Spelled.{Spelled}
+use Rattle.token_reading.specs.Marks.{Mark, bare, Light}
+
+pub bare-append : (ms ns : List Mark) → bare (ms ++ ns) ≡ bare ms ++ bare ns
+bare-append [] ns = refl
+bare-append (m ∷ ms) ns = ap (λ ts. m.token ∷ ts) (bare-append ms ns)
+
+-- Two spellings before some tokens.
+pub bare_both : (ms ns : List Mark) (rest : List Spelled) → bare (ms ++ ns) ++ rest ≡ bare ms ++ (bare ns ++ rest)
+bare_both ms ns rest = ap (λ ts. ts ++ rest) (bare-append ms ns) ∙ append_assoc (bare ms) (bare ns) rest
+
+pub light-append : (ms ns : List Mark) → Light ms → Light ns → Light (ms ++ ns)
+light-append [] ns l k = k
+light-append (m ∷ ms) ns l k = (l.0, light-append ms ns l.1 k)
+
+-- Nothing stands before a list that is the whole.
+pub nothing_before : (u w : List Spelled) → u ++ w ≡ w → u ≡ []
+nothing_before u w e = append_cancel_right u [] w e
+
+-- A list is longer with a token before it.
+pub not_longer : (t : Spelled) (u w : List Spelled) → (t ∷ u) ++ w ≡ w → ⊥
+not_longer t u w e = let none : t ∷ u ≡ [] = nothing_before (t ∷ u) w e in cc
+
+pub if_true : {A : Type 0} (r : Bool) (a b : A) → r ≡ true → (if r then a else b) ≡ a
+if_true true a b e = refl
+if_true false a b e = absurd (cc)
+
+pub if_false : {A : Type 0} (r : Bool) (a b : A) → r ≡ false → (if r then a else b) ≡ b
+if_false true a b e = absurd (cc)
+if_false false a b e = refl

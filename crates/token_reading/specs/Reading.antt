@@ -1,0 +1,303 @@
+-- Pure readers of lists of tokens, and how larger ones are made of them.
+--
+-- A reader takes a tree from the front of a list, or tells from where on the list can't be read, and why. It is told
+-- how many operators the outermost expression has so far, and tells how many there are behind what it read.
+use Rattle.std.specs.Prelude.{◌≡◌, ℕ, zero, suc, ◌+◌, Bool, false, ◌==◌, ◌||◌, if◌then◌else◌, List, [], ◌∷◌, length, map, Option, Some, None, Result, Ok, Err, ◌⊎◌, refl}
+use Rattle.std.specs.Coded.{Coded, code_by, coded×, coded_ℕ, coded_list}
+use Rattle.std.specs.Str.{bytes_eq}
+use Rattle.std.specs.Char.{to_ascii_lowercase}
+use Rattle.std.proofs.Common.{inl, inr}
+use lib.Dec.{leb}
+use denote.Enum.Bare.{sameb}
+use denote.Enum.Declared.{tag_of}
+use Rattle.spark_base.specs.declared.position.Pos.{Pos}
+use Rattle.spark_base.specs.declared.limits.TheConstants.{OPERATORS}
+use Rattle.ada_lexer.specs.declared.token.Reserved.{Reserved}
+use Rattle.ada_lexer.specs.declared.token.Symbol.{Symbol}
+use Rattle.ada_lexer.specs.declared.token.Token.{Token}
+use Rattle.ada_lexer.specs.contracts.token.Reserved as reserved
+use Rattle.ada_lexer.specs.contracts.token.Symbol as symbols
+use Rattle.token_reading.specs.declared.fault.ReadFault.{ReadFault}
+use Rattle.token_reading.specs.declared.fault.ReadFault.TheVariants as fault
+use Rattle.token_reading.specs.Spelled.{Spelled, Word, Ident, Number, Str, Delimiter, EndOfFile, told, spelled_code}
+
+pub data Cause : Type 0 where
+  -- the token can't stand there
+  Refused : Cause
+  -- the token opens one construct too many, or is one operator too many
+  Deep : Cause
+
+pub data Outcome (A : Type 0) : Type 0 where
+  -- what was read, the operators so far, and the tokens behind it
+  Got : A → ℕ → List Spelled → Outcome A
+  -- the tokens from the faulty one on
+  Fails : Cause → List Spelled → Outcome A
+
+-- by the operators so far and the tokens
+abbrev pub Reader : Type 0 → Type 0
+Reader A = ℕ → List Spelled → Outcome A
+
+-- What a cursor has: the operators of the outermost expression so far, and the tokens that haven't been read.
+pub record Ahead : Type 0 where
+  pub operators : ℕ
+  pub tokens : List Spelled
+
+-- A result tells of this outcome, but for want of memory.
+abbrev pub Gives : {A : Type 0} → Outcome A → Result A ReadFault → Ahead → Type 0
+Gives outcome (Ok a) new = outcome ≡ Got a new.operators new.tokens
+Gives outcome (Err fault.Refused) new = outcome ≡ Fails Refused new.tokens
+Gives outcome (Err fault.Deep) new = outcome ≡ Fails Deep new.tokens
+Gives outcome (Err fault.Memory) new = Unit {0}
+
+-- The outcome of a reader at a cursor.
+abbrev pub at : {A : Type 0} → Reader A → Ahead → Outcome A
+at p old = p old.operators old.tokens
+
+-- What a function promises that reads from a cursor as this reader does.
+abbrev pub Reads : {A : Type 0} → Reader A → Ahead → Result A ReadFault → Ahead → Type 0
+Reads p old result new = Gives (at p old) result new
+
+-- ---- how such a cursor is coded as a value that a contract sees
+
+abbrev pub ahead_code : Coded Ahead
+ahead_code = code_by (ℕ × List Spelled) (coded× coded_ℕ (coded_list spelled_code))
+    (λ a. (a.operators, a.tokens)) (λ x. record { operators = x.0; tokens = x.1 }) (λ a. refl)
+
+-- ---- kinds of tokens by number, so that sets of them are lists of numbers
+
+abbrev pub of_word : Reserved → ℕ
+of_word word = tag_of reserved.the_type word
+
+abbrev pub of_symbol : Symbol → ℕ
+of_symbol symbol = 100 + tag_of symbols.the_type symbol
+
+abbrev pub of_ident : ℕ
+of_ident = 200
+
+abbrev pub of_number : ℕ
+of_number = 201
+
+abbrev pub of_string : ℕ
+of_string = 202
+
+abbrev pub of_end : ℕ
+of_end = 203
+
+abbrev pub code : Spelled → ℕ
+code (Word word pos) = of_word word
+code (Ident pos text) = of_ident
+code (Number value pos) = of_number
+code (Str pos text) = of_string
+code (Delimiter symbol pos) = of_symbol symbol
+code EndOfFile = of_end
+
+abbrev pub is_in : List ℕ → ℕ → Bool
+is_in [] k = false
+is_in (m ∷ ms) k = (k == m) || is_in ms k
+
+-- The next token is of one of these kinds.
+abbrev pub starts : List ℕ → List Spelled → Bool
+starts ms [] = false
+starts ms (t ∷ ts) = is_in ms (code t)
+
+-- ---- one token
+
+-- Whether a token is one too many, and the operators behind it, both by the operators before it.
+pub record Weight : Type 0 where
+  pub heavy : ℕ → Bool
+  pub step : ℕ → ℕ
+
+abbrev pub weightless : Weight
+weightless = record { heavy = λ k. false; step = λ k. k }
+
+-- an opener of a construct, where there is no level left or there is one
+abbrev pub opener : Bool → Weight
+opener full = record { heavy = λ k. full; step = λ k. k }
+
+-- an operator
+abbrev pub operator : Weight
+operator = record { heavy = λ k. leb OPERATORS k; step = λ k. suc k }
+
+abbrev pub weighed : {A : Type 0} → Weight → A → ℕ → Spelled → List Spelled → Outcome A
+weighed w a k t ts = if w.heavy k then Fails Deep (t ∷ ts) else Got a (w.step k) ts
+
+abbrev pub taken : {A : Type 0} → Weight → Option A → ℕ → Spelled → List Spelled → Outcome A
+taken w (Some a) k t ts = weighed w a k t ts
+taken w None k t ts = Fails Refused (t ∷ ts)
+
+abbrev pub one_of : {A : Type 0} → Weight → (Spelled → Option A) → Reader A
+one_of w f k [] = Fails Refused []
+one_of w f k (t ∷ ts) = taken w (f t) k t ts
+
+abbrev pub word_place : Reserved → Spelled → Option Pos
+word_place word (Word it pos) = if sameb reserved.the_type it word then Some pos else None
+word_place word _ = None
+
+-- the reserved word, as its place
+abbrev pub word : Reserved → Reader Pos
+word v = one_of weightless (word_place v)
+
+-- the reserved word, which opens a construct
+abbrev pub opens_word : Reserved → Bool → Reader Pos
+opens_word v full = one_of (opener full) (word_place v)
+
+-- the reserved word, which is an operator
+abbrev pub operator_word : Reserved → Reader Pos
+operator_word v = one_of operator (word_place v)
+
+abbrev pub symbol_place : Symbol → Spelled → Option Pos
+symbol_place symbol (Delimiter it pos) = if sameb symbols.the_type it symbol then Some pos else None
+symbol_place symbol _ = None
+
+-- the delimiter, as its place
+abbrev pub symbol : Symbol → Reader Pos
+symbol v = one_of weightless (symbol_place v)
+
+-- the delimiter, which opens a construct
+abbrev pub opens_symbol : Symbol → Bool → Reader Pos
+opens_symbol v full = one_of (opener full) (symbol_place v)
+
+-- the delimiter, which is an operator
+abbrev pub operator_symbol : Symbol → Reader Pos
+operator_symbol v = one_of operator (symbol_place v)
+
+-- A place, and the text that stands there.
+abbrev pub PlacedText : Type 0
+PlacedText = Pos × List ℕ
+
+abbrev pub identifier_of : Spelled → Option PlacedText
+identifier_of (Ident pos text) = Some (pos, text)
+identifier_of _ = None
+
+abbrev pub ident : Reader PlacedText
+ident = one_of weightless identifier_of
+
+abbrev pub called_of : List ℕ → Spelled → Option PlacedText
+called_of name (Ident pos text) = if bytes_eq (map to_ascii_lowercase text) name then Some (pos, text) else None
+called_of name _ = None
+
+-- the identifier with this spelling in lower case
+abbrev pub ident_called : List ℕ → Reader PlacedText
+ident_called name = one_of weightless (called_of name)
+
+abbrev pub string_of : Spelled → Option PlacedText
+string_of (Str pos text) = Some (pos, text)
+string_of _ = None
+
+abbrev pub string : Reader PlacedText
+string = one_of weightless string_of
+
+abbrev pub number_of : Spelled → Option (Pos × ℕ)
+number_of (Number value pos) = Some (pos, value)
+number_of _ = None
+
+-- the number, as its place and its value
+abbrev pub number : Reader (Pos × ℕ)
+number = one_of weightless number_of
+
+abbrev pub end_of : Spelled → Option (Unit {0})
+end_of EndOfFile = Some tt
+end_of _ = None
+
+abbrev pub file_end : Reader (Unit {0})
+file_end = one_of weightless end_of
+
+-- ---- larger readers
+
+abbrev pub and_then : {A B : Type 0} → Outcome A → (A → Reader B) → Outcome B
+and_then (Got a k rest) q = q a k rest
+and_then (Fails c rest) q = Fails c rest
+
+-- one reader, then one that may look at what was read
+abbrev pub chain : {A B : Type 0} → Reader A → (A → Reader B) → Reader B
+chain p q k ts = and_then (p k ts) q
+
+-- what is read, made into a tree
+abbrev pub to : {A B : Type 0} → (A → B) → Reader A → Reader B
+to f p k ts = and_then (p k ts) (λ a j rest. Got (f a) j rest)
+
+-- one reader, then another that may look at what was read
+abbrev pub seq_on : {A B : Type 0} → Reader A → (A → Reader B) → Reader (A × B)
+seq_on p q k ts = and_then (p k ts) (λ a j more. and_then (q a j more) (λ b i rest. Got (a, b) i rest))
+
+-- one reader, then another
+abbrev pub seq : {A B : Type 0} → Reader A → Reader B → Reader (A × B)
+seq p q = seq_on p (λ a. q)
+
+abbrev pub nothing : Reader (Unit {0})
+nothing k ts = Got tt k ts
+
+-- the first reader where the next token is of one of these kinds, else the second
+abbrev pub either : {A : Type 0} → List ℕ → Reader A → Reader A → Reader A
+either ms p q k ts = if starts ms ts then p k ts else q k ts
+
+-- the same, which tells the two apart
+abbrev pub choose : {A B : Type 0} → List ℕ → Reader A → Reader B → Reader (A ⊎ B)
+choose ms p q k ts = if starts ms ts then to inl p k ts else to inr q k ts
+
+-- the reader where the next token is of one of these kinds, else nothing
+abbrev pub optional : {A : Type 0} → List ℕ → Reader A → Reader (Option A)
+optional ms p k ts = if starts ms ts then to Some p k ts else Got None k ts
+
+abbrev pub many_up_to : {A : Type 0} → List ℕ → Reader A → ℕ → Reader (List A)
+many_up_to ms p zero k ts = Got [] k ts
+many_up_to ms p (suc n) k ts =
+    if starts ms ts then and_then (p k ts) (λ a j more. and_then (many_up_to ms p n j more) (λ more_of i rest. Got (a ∷ more_of) i rest))
+    else Got [] k ts
+
+-- one after the other while the next token is of one of these kinds; each takes a token, so their count is enough
+unfoldable pub many : {A : Type 0} → List ℕ → Reader A → Reader (List A)
+many ms p k ts = many_up_to ms p (length ts) k ts
+
+abbrev pub in_front : {A : Type 0} → A × List A → List A
+in_front x = x.0 ∷ x.1
+
+-- at least one, and then one after the other while the next token is of one of these kinds
+abbrev pub some : {A : Type 0} → List ℕ → Reader A → Reader (List A)
+some ms p = to in_front (seq p (many ms p))
+
+-- an outermost expression, whose operators are counted by themselves
+abbrev pub outermost : {A : Type 0} → Reader A → Reader A
+outermost p k ts = and_then (p 0 ts) (λ a j rest. Got a k rest)
+
+-- a whole file: what this reader reads, and then the end of the file
+abbrev pub whole_file : {A : Type 0} → Reader A → Reader A
+whole_file p = to (λ x. x.0) (seq p file_end)
+
+-- ---- the place of a part that begins with another part
+
+abbrev pub place : Spelled → Option Pos
+place (Word word pos) = Some pos
+place (Ident pos text) = Some pos
+place (Number value pos) = Some pos
+place (Str pos text) = Some pos
+place (Delimiter symbol pos) = Some pos
+place EndOfFile = None
+
+abbrev pub stays : Option Pos → ℕ → List Spelled → Outcome Pos
+stays (Some pos) k ts = Got pos k ts
+stays None k ts = Fails Refused ts
+
+-- the place of the next token, which stays
+abbrev pub here : Reader Pos
+here k [] = Fails Refused []
+here k (t ∷ ts) = stays (place t) k (t ∷ ts)
+
+-- what is read, made into a tree with the place of its first token
+abbrev pub placed : {A B : Type 0} → (Pos → A → B) → Reader A → Reader B
+placed f p = to (λ x. f x.0 x.1) (seq here p)
+
+-- The first of the tokens stands there.
+abbrev pub StartsAt : Pos → List Spelled → Type 0
+StartsAt pos [] = ⊥
+StartsAt pos (t ∷ ts) = place t ≡ Some pos
+
+-- The token is the next one, or none is left.
+abbrev pub StandsAt : Option Token → List Spelled → Type 0
+StandsAt None ts = ts ≡ []
+StandsAt (Some token) ts = (rest : List Spelled) × (ts ≡ told token ∷ rest)
+
+-- The fact holds of each element.
+abbrev pub Each : {A : Type 0} → (A → Type 0) → List A → Type 0
+Each P [] = Unit {0}
+Each P (x ∷ xs) = P x × Each P xs
