@@ -1,0 +1,465 @@
+//! Expressions and names. They contain each other.
+
+use crate::identifier::{Dotted, Identifier};
+use crate::operator::{AddingOperator, MultiplyingOperator, RelationalOperator, Sign};
+use crate::word::Word;
+use spark_base::{Boxed, Listed, Pos};
+
+/// expr, an expression (Ada 2012, 4.4). A chain of one operator groups to the left.
+#[cycle(expression)]
+#[derive(Debug, Drop)]
+pub enum Expr {
+    /// rel
+    Lone {
+        /// The place of the relation.
+        pos: Pos,
+        /// The relation.
+        relation: Boxed<Rel>,
+    },
+    /// rel `and` rel {`and` rel} (Ada 2012, 4.4 and 4.5.1)
+    And {
+        /// The place of the first operand.
+        pos: Pos,
+        /// The first operand.
+        first: Boxed<Rel>,
+        /// `and`
+        and: Pos,
+        /// The second operand.
+        second: Boxed<Rel>,
+        /// The operands behind it, each with its `and`.
+        rest: Listed<Operand>,
+    },
+    /// rel `or` rel {`or` rel} (Ada 2012, 4.4 and 4.5.1)
+    Or {
+        /// The place of the first operand.
+        pos: Pos,
+        /// The first operand.
+        first: Boxed<Rel>,
+        /// `or`
+        or: Pos,
+        /// The second operand.
+        second: Boxed<Rel>,
+        /// The operands behind it, each with its `or`.
+        rest: Listed<Operand>,
+    },
+    /// rel `xor` rel {`xor` rel} (Ada 2012, 4.4 and 4.5.1)
+    Xor {
+        /// The place of the first operand.
+        pos: Pos,
+        /// The first operand.
+        first: Boxed<Rel>,
+        /// `xor`
+        xor: Pos,
+        /// The second operand.
+        second: Boxed<Rel>,
+        /// The operands behind it, each with its `xor`.
+        rest: Listed<Operand>,
+    },
+    /// rel `and` `then` rel {`and` `then` rel} (Ada 2012, 4.4 and 4.5.1)
+    AndThen {
+        /// The place of the first operand.
+        pos: Pos,
+        /// The first operand.
+        first: Boxed<Rel>,
+        /// `and`
+        and: Pos,
+        /// `then`
+        then: Pos,
+        /// The second operand.
+        second: Boxed<Rel>,
+        /// The operands behind it, each with its `and` `then`.
+        rest: Listed<ShortOperand>,
+    },
+    /// rel `or` `else` rel {`or` `else` rel} (Ada 2012, 4.4 and 4.5.1)
+    OrElse {
+        /// The place of the first operand.
+        pos: Pos,
+        /// The first operand.
+        first: Boxed<Rel>,
+        /// `or`
+        or: Pos,
+        /// `else`
+        otherwise: Pos,
+        /// The second operand.
+        second: Boxed<Rel>,
+        /// The operands behind it, each with its `or` `else`.
+        rest: Listed<ShortOperand>,
+    },
+}
+
+/// A further operand of a chain of `and`, `or` or `xor`.
+#[cycle(expression)]
+#[derive(Debug, Drop)]
+pub enum Operand {
+    /// (`and` | `or` | `xor`) rel (Ada 2012, 4.4)
+    Next {
+        /// The operator.
+        pos: Pos,
+        /// The operand.
+        operand: Boxed<Rel>,
+    },
+}
+
+/// A further operand of a chain of `and` `then` or `or` `else`.
+#[cycle(expression)]
+#[derive(Debug, Drop)]
+pub enum ShortOperand {
+    /// (`and` `then` | `or` `else`) rel (Ada 2012, 4.4)
+    NextShort {
+        /// The first word of the operator.
+        pos: Pos,
+        /// Its second word.
+        second_word: Pos,
+        /// The operand.
+        operand: Boxed<Rel>,
+    },
+}
+
+/// rel, a relation (Ada 2012, 4.4).
+#[cycle(expression)]
+#[derive(Debug, Drop)]
+pub enum Rel {
+    /// sum
+    Sole {
+        /// The place of the sum.
+        pos: Pos,
+        /// The sum.
+        sum: Boxed<Sum>,
+    },
+    /// sum (`=` | `/=` | `<` | `<=` | `>` | `>=`) sum (Ada 2012, 4.4 and 4.5.2)
+    Compared {
+        /// The place of the left operand.
+        pos: Pos,
+        /// The left operand.
+        left: Boxed<Sum>,
+        /// Which operator stands there.
+        operator: RelationalOperator,
+        /// The operator.
+        operator_pos: Pos,
+        /// The right operand.
+        right: Boxed<Sum>,
+    },
+}
+
+/// sum, a simple expression (Ada 2012, 4.4).
+#[cycle(expression)]
+#[derive(Debug, Drop)]
+pub enum Sum {
+    /// term {(`+` | `-` | `&`) term}
+    Unsigned {
+        /// The place of the first term.
+        pos: Pos,
+        /// The first term.
+        first: Boxed<Term>,
+        /// The terms behind it.
+        rest: Listed<NextTerm>,
+    },
+    /// (`+` | `-`) term {(`+` | `-` | `&`) term} (Ada 2012, 4.4 and 4.5.4)
+    Signed {
+        /// The sign.
+        pos: Pos,
+        /// Which sign stands there.
+        sign: Sign,
+        /// The first term.
+        first: Boxed<Term>,
+        /// The terms behind it.
+        rest: Listed<NextTerm>,
+    },
+}
+
+/// A further term of a sum.
+#[cycle(expression)]
+#[derive(Debug, Drop)]
+pub enum NextTerm {
+    /// (`+` | `-` | `&`) term (Ada 2012, 4.4 and 4.5.3)
+    Added {
+        /// The operator.
+        pos: Pos,
+        /// Which operator stands there.
+        operator: AddingOperator,
+        /// The term.
+        term: Boxed<Term>,
+    },
+}
+
+/// term (Ada 2012, 4.4).
+#[cycle(expression)]
+#[derive(Debug, Drop)]
+pub enum Term {
+    /// factor {(`*` | `/` | `mod` | `rem`) factor}
+    Product {
+        /// The place of the first factor.
+        pos: Pos,
+        /// The first factor.
+        first: Boxed<Factor>,
+        /// The factors behind it.
+        rest: Listed<NextFactor>,
+    },
+}
+
+/// A further factor of a term.
+#[cycle(expression)]
+#[derive(Debug, Drop)]
+pub enum NextFactor {
+    /// (`*` | `/` | `mod` | `rem`) factor (Ada 2012, 4.4 and 4.5.5)
+    Multiplied {
+        /// The operator.
+        pos: Pos,
+        /// Which operator stands there.
+        operator: MultiplyingOperator,
+        /// The factor.
+        factor: Boxed<Factor>,
+    },
+}
+
+/// factor (Ada 2012, 4.4).
+#[cycle(expression)]
+#[derive(Debug, Drop)]
+pub enum Factor {
+    /// primary
+    Plain {
+        /// The place of the primary.
+        pos: Pos,
+        /// The primary.
+        primary: Boxed<Primary>,
+    },
+    /// `abs` primary (Ada 2012, 4.4 and 4.5.6)
+    Abs {
+        /// `abs`
+        pos: Pos,
+        /// The operand.
+        primary: Boxed<Primary>,
+    },
+    /// `not` primary (Ada 2012, 4.4 and 4.5.6)
+    Not {
+        /// `not`
+        pos: Pos,
+        /// The operand.
+        primary: Boxed<Primary>,
+    },
+}
+
+/// primary (Ada 2012, 4.4).
+#[cycle(expression)]
+#[derive(Debug, Drop)]
+pub enum Primary {
+    /// number (Ada 2012, 2.4)
+    Number {
+        /// Its first digit.
+        pos: Pos,
+        /// Its value.
+        number: u32,
+    },
+    /// string (Ada 2012, 2.6)
+    Text {
+        /// Its opening quote.
+        pos: Pos,
+        /// Its bytes, with its quotes.
+        text: Word,
+    },
+    /// `null` (Ada 2012, 4.4)
+    Null {
+        /// `null`
+        pos: Pos,
+    },
+    /// name (Ada 2012, 4.1)
+    Named {
+        /// The place of the name.
+        pos: Pos,
+        /// The name.
+        name: Boxed<Name>,
+    },
+    /// `(` expr `)` (Ada 2012, 4.4)
+    Parenthesized {
+        /// `(`
+        pos: Pos,
+        /// The expression.
+        expression: Boxed<Expr>,
+        /// `)`
+        right_paren: Pos,
+    },
+    /// aggregate (Ada 2012, 4.3)
+    Aggregated {
+        /// The place of the aggregate.
+        pos: Pos,
+        /// The aggregate.
+        aggregate: Boxed<Aggregate>,
+    },
+    /// `new` mark (Ada 2012, 4.8)
+    Allocated {
+        /// `new`
+        pos: Pos,
+        /// The mark.
+        mark: Dotted,
+    },
+    /// `new` mark `'` aggregate (Ada 2012, 4.7 and 4.8)
+    AllocatedAggregate {
+        /// `new`
+        pos: Pos,
+        /// The mark.
+        mark: Dotted,
+        /// `'`
+        apostrophe: Pos,
+        /// The aggregate.
+        aggregate: Boxed<Aggregate>,
+    },
+    /// `new` mark `'` `(` expr `)` (Ada 2012, 4.7 and 4.8)
+    AllocatedValue {
+        /// `new`
+        pos: Pos,
+        /// The mark.
+        mark: Dotted,
+        /// `'`
+        apostrophe: Pos,
+        /// `(`
+        left_paren: Pos,
+        /// The value.
+        value: Boxed<Expr>,
+        /// `)`
+        right_paren: Pos,
+    },
+}
+
+/// aggregate (Ada 2012, 4.3).
+#[cycle(expression)]
+#[derive(Debug, Drop)]
+pub enum Aggregate {
+    /// `(` arg `,` arg {`,` arg} `)` (Ada 2012, 4.3.1 and 4.3.3)
+    Several {
+        /// `(`
+        pos: Pos,
+        /// The first component or element.
+        first: Boxed<Arg>,
+        /// `,`
+        comma: Pos,
+        /// The second one.
+        second: Boxed<Arg>,
+        /// The ones behind it.
+        rest: Listed<NextArg>,
+        /// `)`
+        right_paren: Pos,
+    },
+    /// `(` id `=>` expr `)` (Ada 2012, 4.3.1)
+    Single {
+        /// `(`
+        pos: Pos,
+        /// The name of the component.
+        name: Identifier,
+        /// `=>`
+        arrow: Pos,
+        /// Its value.
+        value: Boxed<Expr>,
+        /// `)`
+        right_paren: Pos,
+    },
+    /// `(` `others` `=>` expr `)` (Ada 2012, 4.3.3)
+    Others {
+        /// `(`
+        pos: Pos,
+        /// `others`
+        others: Pos,
+        /// `=>`
+        arrow: Pos,
+        /// The value of each element.
+        value: Boxed<Expr>,
+        /// `)`
+        right_paren: Pos,
+    },
+}
+
+/// arg, an actual, an index, a component or an element (Ada 2012, 4.1.1, 4.3.1 and 6.4).
+#[cycle(expression)]
+#[derive(Debug, Drop)]
+pub enum Arg {
+    /// expr
+    Positional {
+        /// The place of the expression.
+        pos: Pos,
+        /// The expression.
+        value: Boxed<Expr>,
+    },
+    /// id `=>` expr (Ada 2012, 4.3.1 and 6.4)
+    Association {
+        /// The place of the identifier.
+        pos: Pos,
+        /// The name of the formal or component.
+        name: Identifier,
+        /// `=>`
+        arrow: Pos,
+        /// The expression.
+        value: Boxed<Expr>,
+    },
+}
+
+/// A further arg.
+#[cycle(expression)]
+#[derive(Debug, Drop)]
+pub enum NextArg {
+    /// `,` arg
+    NextArgument {
+        /// `,`
+        pos: Pos,
+        /// The arg.
+        arg: Boxed<Arg>,
+    },
+}
+
+/// name (Ada 2012, 4.1).
+#[cycle(expression)]
+#[derive(Debug, Drop)]
+pub enum Name {
+    /// id {`.` id | `.` `all` | `(` args `)` | `'` (id | `range`)}
+    Prefixed {
+        /// The place of the identifier.
+        pos: Pos,
+        /// The identifier.
+        first: Identifier,
+        /// What stands behind it.
+        rest: Listed<Suffix>,
+    },
+}
+
+/// What a name goes on with.
+#[cycle(expression)]
+#[derive(Debug, Drop)]
+pub enum Suffix {
+    /// `.` id (Ada 2012, 4.1.3)
+    Selected {
+        /// `.`
+        pos: Pos,
+        /// The selector.
+        selector: Identifier,
+    },
+    /// `.` `all` (Ada 2012, 4.1)
+    Dereferenced {
+        /// `.`
+        pos: Pos,
+        /// `all`
+        all: Pos,
+    },
+    /// `(` arg {`,` arg} `)` (Ada 2012, 4.1.1 and 6.4)
+    Applied {
+        /// `(`
+        pos: Pos,
+        /// The first index or actual.
+        first: Boxed<Arg>,
+        /// The ones behind it.
+        rest: Listed<NextArg>,
+        /// `)`
+        right_paren: Pos,
+    },
+    /// `'` id (Ada 2012, 4.1.4)
+    Attribute {
+        /// `'`
+        pos: Pos,
+        /// The attribute.
+        attribute: Identifier,
+    },
+    /// `'` `range` (Ada 2012, 4.1.4)
+    RangeAttribute {
+        /// `'`
+        pos: Pos,
+        /// `range`
+        range: Pos,
+    },
+}

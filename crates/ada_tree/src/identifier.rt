@@ -1,0 +1,60 @@
+//! Identifiers, and names that are made of identifiers alone.
+
+use crate::word::Word;
+use spark_base::{Listed, Pos};
+
+/// An identifier, as it is written (Ada 2012, 2.3).
+#[derive(Debug, Drop)]
+pub struct Identifier {
+    /// Its first byte.
+    pub pos: Pos,
+    /// Its bytes.
+    pub text: Word,
+}
+
+/// `,` id
+#[derive(Debug, Drop)]
+pub enum NextIdentifier {
+    /// `,` id (Ada 2012, 3.3.1)
+    After {
+        /// `,`
+        pos: Pos,
+        /// The identifier.
+        name: Identifier,
+    },
+}
+
+/// dotted = id {`.` id} (Ada 2012, 4.1.3). A mark is one: mark = dotted (Ada 2012, 3.2.2).
+#[derive(Debug, Drop)]
+pub struct Dotted {
+    /// The place of the first identifier.
+    pub pos: Pos,
+    /// The first identifier.
+    pub first: Identifier,
+    /// The identifiers behind it.
+    pub rest: Listed<NextPart>,
+}
+
+/// `.` id
+#[derive(Debug, Drop)]
+pub enum NextPart {
+    /// `.` id (Ada 2012, 4.1.3)
+    Dot {
+        /// `.`
+        pos: Pos,
+        /// The identifier.
+        name: Identifier,
+    },
+}
+
+/// `,` dotted
+#[derive(Debug, Drop)]
+pub enum NextDotted {
+    /// `,` dotted (Ada 2012, 8.4 and 10.1.2)
+    Comma {
+        /// `,`
+        pos: Pos,
+        /// The dotted name.
+        name: Dotted,
+    },
+}
