@@ -2,7 +2,7 @@
 use Rattle.std.proofs.Common.{◌≡◌, refl, sym, ap, ◌∙◌, subst, ℕ, Bool, true, false, List, [], ◌∷◌, ◌++◌, Option, Some, None, ◌⊎◌, inl, inr}
 use Rattle.std.specs.Prelude.{if◌then◌else◌}
 use Rattle.token_reading.specs.Spelled.{Spelled}
-use Rattle.token_reading.specs.Marks.{bare, Marking, Count}
+use Rattle.token_reading.specs.Marks.{Mark, bare, after}
 use Rattle.token_reading.specs.Reading.{Cause, Got, Fails, Reader, starts, to, either, choose, optional}
 use Rattle.token_reading.proofs.Sets.{apart, within, Leads, stops_both, stops_last, stops_before, starts_within, leads_left, leads_right}
 use Rattle.token_reading.proofs.Lists.{if_true, if_false}
@@ -15,18 +15,18 @@ pub same_start : (ms : List ℕ) (u : List Spelled) (x : Spelled) (r z : List Sp
 same_start ms [] x r z = refl
 same_start ms (t ∷ u) x r z = refl
 
-module _ {A : Type 0} {p q : Reader A} {g h : A → Type 0} {s : Marking A} {next : Count A} {fp lp fq lq : List ℕ} {n : Bool}
-    (ms : List ℕ) (good : A → Type 0) (P : Law p g s next fp lp false) (Q : Law q h s next fq lq n)
+module _ {A : Type 0} {p q : Reader A} {g h : A → Type 0} {s : A → List Mark} {fp lp fq lq : List ℕ} {n : Bool}
+    (ms : List ℕ) (good : A → Type 0) (P : Law p g s fp lp false) (Q : Law q h s fq lq n)
     (first : (a : A) → g a → good a) (second : (a : A) → h a → good a) (which : (a : A) → good a → g a ⊎ h a)
     (taken_in : within fp ms ≡ true) (side : apart ms fq ≡ true) where
-  read_first : (k : ℕ) (ts : List Spelled) (a : A) (j : ℕ) (rest : List Spelled) → Read g s next k ts a j rest → Read good s next k ts a j rest
+  read_first : (k : ℕ) (ts : List Spelled) (a : A) (j : ℕ) (rest : List Spelled) → Read g s k ts a j rest → Read good s k ts a j rest
   read_first k ts a j rest read = record { fits = first a read.fits; light = read.light; count = read.count; whole = read.whole }
 
-  read_second : (k : ℕ) (ts : List Spelled) (a : A) (j : ℕ) (rest : List Spelled) → Read h s next k ts a j rest → Read good s next k ts a j rest
+  read_second : (k : ℕ) (ts : List Spelled) (a : A) (j : ℕ) (rest : List Spelled) → Read h s k ts a j rest → Read good s k ts a j rest
   read_second k ts a j rest read = record { fits = second a read.fits; light = read.light; count = read.count; whole = read.whole }
 
   either_sound : (r : Bool) (k : ℕ) (ts : List Spelled) (a : A) (j : ℕ) (rest : List Spelled) → (if r then p k ts else q k ts) ≡ Got a j rest
-      → Read good s next k ts a j rest
+      → Read good s k ts a j rest
   either_sound true k ts a j rest e = read_first k ts a j rest (P.sound k ts a j rest e)
   either_sound false k ts a j rest e = read_second k ts a j rest (Q.sound k ts a j rest e)
 
@@ -34,28 +34,28 @@ module _ {A : Type 0} {p q : Reader A} {g h : A → Type 0} {s : Marking A} {nex
   last = if n then ms ++ (lp ++ lq) else (lp ++ lq)
 
   either_accepts : (k : ℕ) (a : A) (rest : List Spelled) → good a → starts last rest ≡ false
-      → Accepted a (next k a) rest (either ms p q k (bare (s k a) ++ rest))
+      → Accepted a (after k (s a)) rest (either ms p q k (bare (s a) ++ rest))
   either_accepts k a rest fits e =
-      let ts : List Spelled = bare (s k a) ++ rest in
+      let ts : List Spelled = bare (s a) ++ rest in
       let stops = stops_last n ms (lp ++ lq) rest e in
       let both = stops_both lp lq rest stops.1 in
       elim (which a fits) [
-        | inl fits_first ↦ subst (λ o. Accepted a (next k a) rest o)
-            (sym (if_true (starts ms ts) (p k ts) (q k ts) (starts_within fp ms taken_in (bare (s k a)) rest (P.leads k a fits_first))))
+        | inl fits_first ↦ subst (λ o. Accepted a (after k (s a)) rest o)
+            (sym (if_true (starts ms ts) (p k ts) (q k ts) (starts_within fp ms taken_in (bare (s a)) rest (P.leads a fits_first))))
             (P.accepts k a rest fits_first both.0)
-        | inr fits_second ↦ subst (λ o. Accepted a (next k a) rest o)
-            (sym (if_false (starts ms ts) (p k ts) (q k ts) (stops_before ms fq side n (bare (s k a)) rest (Q.leads k a fits_second) stops.0)))
+        | inr fits_second ↦ subst (λ o. Accepted a (after k (s a)) rest o)
+            (sym (if_false (starts ms ts) (p k ts) (q k ts) (stops_before ms fq side n (bare (s a)) rest (Q.leads a fits_second) stops.0)))
             (Q.accepts k a rest fits_second both.1)
       ]
 
-  either_leads : (k : ℕ) (a : A) → good a → Leads n (fp ++ fq) (bare (s k a))
-  either_leads k a fits = elim (which a fits) [
-    | inl fits_first ↦ leads_left n fp fq (bare (s k a)) (P.leads k a fits_first)
-    | inr fits_second ↦ leads_right n fp fq (bare (s k a)) (Q.leads k a fits_second)
+  either_leads : (a : A) → good a → Leads n (fp ++ fq) (bare (s a))
+  either_leads a fits = elim (which a fits) [
+    | inl fits_first ↦ leads_left n fp fq (bare (s a)) (P.leads a fits_first)
+    | inr fits_second ↦ leads_right n fp fq (bare (s a)) (Q.leads a fits_second)
   ]
 
   cut_either : (k : ℕ) (ts : List Spelled) (c : Cause) (rest : List Spelled) (f : A → Type 0) → ((a : A) → f a → good a)
-      → Broken f (s k) c ts rest → Broken good (s k) c ts rest
+      → Broken f s k c ts rest → Broken good s k c ts rest
   cut_either k ts c rest f to_good broken = record {
     before = broken.before;
     tree = broken.tree;
@@ -69,7 +69,7 @@ module _ {A : Type 0} {p q : Reader A} {g h : A → Type 0} {s : Marking A} {nex
   }
 
   either_breaks : (r : Bool) (k : ℕ) (ts : List Spelled) (c : Cause) (rest : List Spelled) → (if r then p k ts else q k ts) ≡ Fails c rest
-      → Broken good (s k) c ts rest
+      → Broken good s k c ts rest
   either_breaks true k ts c rest e = cut_either k ts c rest g first (P.breaks k ts c rest e)
   either_breaks false k ts c rest e = cut_either k ts c rest h second (Q.breaks k ts c rest e)
 
@@ -79,7 +79,7 @@ module _ {A : Type 0} {p q : Reader A} {g h : A → Type 0} {s : Marking A} {nex
   either_local true k u x r z e = P.local k u x r z e
   either_local false k u x r z e = Q.local k u x r z e
 
-  pub law_either : Law (either ms p q) good s next (fp ++ fq) last n
+  pub law_either : Law (either ms p q) good s (fp ++ fq) last n
   law_either = record {
     example = P.example;
     sample = first P.example P.sample;
@@ -102,16 +102,16 @@ abbrev pub cases : {A B C : Type 0} → (A → C) → (B → C) → A ⊎ B → 
 cases s t (inl a) = s a
 cases s t (inr b) = t b
 
--- The spelling, and the operators, of the one that stands there.
-abbrev pub of_either : {A B C : Type 0} → (ℕ → A → C) → (ℕ → B → C) → ℕ → A ⊎ B → C
-of_either s t k (inl a) = s k a
-of_either s t k (inr b) = t k b
+-- The spelling of the one that stands there.
+abbrev pub of_either : {A B : Type 0} → (A → List Mark) → (B → List Mark) → A ⊎ B → List Mark
+of_either s t (inl a) = s a
+of_either s t (inr b) = t b
 
 abbrev Never : {A : Type 0} → A → Type 0
 Never a = ⊥
 
-module _ {A B : Type 0} {p : Reader A} {q : Reader B} {g : A → Type 0} {h : B → Type 0} {s : Marking A} {t : Marking B} {np : Count A} {nq : Count B}
-    {fp lp fq lq : List ℕ} {n : Bool} (ms : List ℕ) (P : Law p g s np fp lp false) (Q : Law q h t nq fq lq n) where
+module _ {A B : Type 0} {p : Reader A} {q : Reader B} {g : A → Type 0} {h : B → Type 0} {s : A → List Mark} {t : B → List Mark}
+    {fp lp fq lq : List ℕ} {n : Bool} (ms : List ℕ) (P : Law p g s fp lp false) (Q : Law q h t fq lq n) where
   onto_left : (x : A ⊎ B) → Either g Never x → (a : A) × (g a × (inl a ≡ x))
   onto_left (inl a) good = (a, (good, refl))
   onto_left (inr b) good = absurd good
@@ -132,14 +132,14 @@ module _ {A B : Type 0} {p : Reader A} {q : Reader B} {g : A → Type 0} {h : B 
   which_one (inl a) good = inl good
   which_one (inr b) good = inr good
 
-  law_left : Law (to inl p) (Either g Never) (of_either s t) (of_either np nq) fp lp false
-  law_left = law_to inl (Either g Never) (of_either s t) (of_either np nq) P (λ a good. good) (λ k a good. refl) (λ k a good. refl) onto_left
+  law_left : Law (to inl p) (Either g Never) (of_either s t) fp lp false
+  law_left = law_to inl (Either g Never) (of_either s t) P (λ a good. good) (λ a good. refl) onto_left
 
-  law_right : Law (to inr q) (Either Never h) (of_either s t) (of_either np nq) fq lq n
-  law_right = law_to inr (Either Never h) (of_either s t) (of_either np nq) Q (λ b good. good) (λ k b good. refl) (λ k b good. refl) onto_right
+  law_right : Law (to inr q) (Either Never h) (of_either s t) fq lq n
+  law_right = law_to inr (Either Never h) (of_either s t) Q (λ b good. good) (λ b good. refl) onto_right
 
   pub law_choose : within fp ms ≡ true → apart ms fq ≡ true
-      → Law (choose ms p q) (Either g h) (of_either s t) (of_either np nq) (fp ++ fq) (if n then ms ++ (lp ++ lq) else (lp ++ lq)) n
+      → Law (choose ms p q) (Either g h) (of_either s t) (fp ++ fq) (if n then ms ++ (lp ++ lq) else (lp ++ lq)) n
   law_choose taken_in side = law_either ms (Either g h) law_left law_right is_left is_right which_one taken_in side
 
 -- ---- left out or not
@@ -148,13 +148,9 @@ abbrev pub Maybe : {A : Type 0} → (A → Type 0) → Option A → Type 0
 Maybe g (Some a) = g a
 Maybe g None = Unit {0}
 
-abbrev pub maybe_marked : {A : Type 0} → Marking A → Marking (Option A)
-maybe_marked s k (Some a) = s k a
-maybe_marked s k None = []
-
-abbrev pub maybe_counted : {A : Type 0} → Count A → Count (Option A)
-maybe_counted next k (Some a) = next k a
-maybe_counted next k None = k
+abbrev pub maybe_marked : {A : Type 0} → (A → List Mark) → Option A → List Mark
+maybe_marked s (Some a) = s a
+maybe_marked s None = []
 
 abbrev There : {A : Type 0} → (A → Type 0) → Option A → Type 0
 There g (Some a) = g a
@@ -164,8 +160,8 @@ abbrev Absent : {A : Type 0} → Option A → Type 0
 Absent (Some a) = ⊥
 Absent None = Unit {0}
 
-module _ {A : Type 0} {p : Reader A} {g : A → Type 0} {s : Marking A} {next : Count A} {fp lp : List ℕ}
-    (ms : List ℕ) (P : Law p g s next fp lp false) where
+module _ {A : Type 0} {p : Reader A} {g : A → Type 0} {s : A → List Mark} {fp lp : List ℕ}
+    (ms : List ℕ) (P : Law p g s fp lp false) where
   onto_some : (x : Option A) → There g x → (a : A) × (g a × (Some a ≡ x))
   onto_some (Some a) good = (a, (good, refl))
   onto_some None good = absurd good
@@ -186,10 +182,10 @@ module _ {A : Type 0} {p : Reader A} {g : A → Type 0} {s : Marking A} {next : 
   there_or_not (Some a) good = inl good
   there_or_not None good = inr tt
 
-  pub law_optional : within fp ms ≡ true → Law (optional ms p) (Maybe g) (maybe_marked s) (maybe_counted next) (fp ++ []) (ms ++ (lp ++ [])) true
+  pub law_optional : within fp ms ≡ true → Law (optional ms p) (Maybe g) (maybe_marked s) (fp ++ []) (ms ++ (lp ++ [])) true
   law_optional taken_in = law_either ms (Maybe g)
-      (law_to Some (There g) (maybe_marked s) (maybe_counted next) P (λ a good. good) (λ k a good. refl) (λ k a good. refl) onto_some)
-      (law_to (λ u. None) Absent (maybe_marked s) (maybe_counted next) law_nothing (λ u good. tt) (λ k u good. refl) (λ k u good. refl) onto_none)
+      (law_to Some (There g) (maybe_marked s) P (λ a good. good) (λ a good. refl) onto_some)
+      (law_to (λ u. None) Absent (maybe_marked s) law_nothing (λ u good. tt) (λ u good. refl) onto_none)
       is_there is_absent there_or_not taken_in (apart_none ms)
     where
       apart_none : (ns : List ℕ) → apart ns [] ≡ true

@@ -2,17 +2,16 @@
 use Rattle.std.proofs.Common.{◌≡◌, refl, sym, ap, ◌∙◌, subst, ℕ, Bool, true, false, List, [], ◌∷◌, ◌++◌, ◌⊎◌, inl, inr}
 use Rattle.std.proofs.lemmas.List.{append_assoc, append_cancel_right}
 use Rattle.token_reading.specs.Spelled.{Spelled}
-use Rattle.token_reading.specs.Marks.{Mark, bare, Light, Marking, Count}
+use Rattle.token_reading.specs.Marks.{Mark, bare, after, Light}
 use Rattle.token_reading.specs.Reading.{Cause, Refused, Deep, Outcome, Got, Fails, Reader, starts, and_then}
 use Rattle.token_reading.proofs.Sets.{Leads}
 
 -- A tree is good, none of its tokens is one too many, and the list begins with its spelling.
-pub record Read {A : Type 0} (good : A → Type 0) (s : Marking A) (next : Count A) (k : ℕ) (ts : List Spelled) (a : A) (j : ℕ)
-    (rest : List Spelled) : Type 0 where
+pub record Read {A : Type 0} (good : A → Type 0) (s : A → List Mark) (k : ℕ) (ts : List Spelled) (a : A) (j : ℕ) (rest : List Spelled) : Type 0 where
   pub fits : good a
-  pub light : Light (s k a)
-  pub count : j ≡ next k a
-  pub whole : ts ≡ bare (s k a) ++ rest
+  pub light : Light k (s a)
+  pub count : j ≡ after k (s a)
+  pub whole : ts ≡ bare (s a) ++ rest
 
 -- A list that begins with the spelling of a tree gives that tree, unless a token is one too many.
 -- So trees with such tokens are trees too, and no source begins as a refused list does, not even a too deep one.
@@ -21,29 +20,29 @@ Accepted a j rest (Got b i more) = (b ≡ a) × (i ≡ j) × (more ≡ rest)
 Accepted a j rest (Fails Deep more) = Unit {0}
 Accepted a j rest (Fails Refused more) = ⊥
 
--- The first of the tokens left is one too many.
-pub record OneTooMany (reached : List Mark) (rest : List Spelled) : Type 0 where
+-- The first of the tokens left is one too many, where so many operators stand before it.
+pub record OneTooMany (k : ℕ) (reached : List Mark) (rest : List Spelled) : Type 0 where
   pub mark : Mark
-  pub is_heavy : mark.heavy ≡ true
+  pub is_heavy : mark.weight.heavy k ≡ true
   pub alone : reached ≡ mark ∷ []
   pub behind : List Spelled
   pub at : rest ≡ mark.token ∷ behind
 
 -- What is reached of the tokens left: none where the first one can't stand there.
-abbrev pub Reached : Cause → List Mark → List Spelled → Type 0
-Reached Refused reached rest = reached ≡ []
-Reached Deep reached rest = OneTooMany reached rest
+abbrev pub Reached : Cause → ℕ → List Mark → List Spelled → Type 0
+Reached Refused k reached rest = reached ≡ []
+Reached Deep k reached rest = OneTooMany k reached rest
 
 -- The tokens before the faulty one, and through it where it is one too many, begin the spelling of a good tree, and none
 -- before it is one too many.
-pub record Broken {A : Type 0} (good : A → Type 0) (s : A → List Mark) (c : Cause) (ts rest : List Spelled) : Type 0 where
+pub record Broken {A : Type 0} (good : A → Type 0) (s : A → List Mark) (k : ℕ) (c : Cause) (ts rest : List Spelled) : Type 0 where
   pub before : List Mark
   pub tree : A
   pub reached : List Mark
   pub more : List Mark
   pub fits : good tree
-  pub clear : Light before
-  pub reach : Reached c reached rest
+  pub clear : Light k before
+  pub reach : Reached c (after k before) reached rest
   pub splits : ts ≡ bare before ++ rest
   pub goes_on : s tree ≡ before ++ (reached ++ more)
 
@@ -69,17 +68,16 @@ abbrev pub put : {A : Type 0} → List Spelled → Outcome A → Outcome A
 put new (Got a k rest) = Got a k new
 put new (Fails c rest) = Fails c new
 
--- `good` trees are read, `s` is their spelling and `next` the operators behind them, both by the operators before them.
--- A spelling begins with a kind of `first`, and is empty only if `may`. A list goes on behind a spelling with a token that
--- the reader would not take, which is of no kind of `last`.
-pub record Law {A : Type 0} (p : Reader A) (good : A → Type 0) (s : Marking A) (next : Count A) (first last : List ℕ) (may : Bool) : Type 0 where
+-- `good` trees are read, and `s` is their spelling. It begins with a kind of `first`, and is empty only if `may`.
+-- A list goes on behind a spelling with a token that the reader would not take, which is of no kind of `last`.
+pub record Law {A : Type 0} (p : Reader A) (good : A → Type 0) (s : A → List Mark) (first last : List ℕ) (may : Bool) : Type 0 where
   pub example : A
   pub sample : good example
-  pub leads : (k : ℕ) (a : A) → good a → Leads may first (bare (s k a))
-  pub sound : (k : ℕ) (ts : List Spelled) (a : A) (j : ℕ) (rest : List Spelled) → p k ts ≡ Got a j rest → Read good s next k ts a j rest
+  pub leads : (a : A) → good a → Leads may first (bare (s a))
+  pub sound : (k : ℕ) (ts : List Spelled) (a : A) (j : ℕ) (rest : List Spelled) → p k ts ≡ Got a j rest → Read good s k ts a j rest
   pub accepts : (k : ℕ) (a : A) (rest : List Spelled) → good a → starts last rest ≡ false
-      → Accepted a (next k a) rest (p k (bare (s k a) ++ rest))
-  pub breaks : (k : ℕ) (ts : List Spelled) (c : Cause) (rest : List Spelled) → p k ts ≡ Fails c rest → Broken good (s k) c ts rest
+      → Accepted a (after k (s a)) rest (p k (bare (s a) ++ rest))
+  pub breaks : (k : ℕ) (ts : List Spelled) (c : Cause) (rest : List Spelled) → p k ts ≡ Fails c rest → Broken good s k c ts rest
   -- the outcome hangs on the tokens through the first one left; only a token that is one too many may be told by later ones
   pub local : (k : ℕ) (u : List Spelled) (x : Spelled) (r q : List Spelled) → Leaves (p k (u ++ (x ∷ r))) (x ∷ r)
       → p k (u ++ (x ∷ q)) ≡ put (x ∷ q) (p k (u ++ (x ∷ r)))
@@ -105,12 +103,12 @@ pub and_then_fails : {A B : Type 0} (o : Outcome A) (q : A → Reader B) (c : Ca
 and_then_fails (Got a j more) q c rest e = inr (a, (j, (more, (refl, e))))
 and_then_fails (Fails d more) q c rest e = inl (cc)
 
-pub read_same : {A : Type 0} {good : A → Type 0} {s : Marking A} {next : Count A} (k : ℕ) (ts : List Spelled) (a b : A) (j i : ℕ)
-    (rest more : List Spelled) → Got a j rest ≡ Got b i more → Read good s next k ts a j rest → Read good s next k ts b i more
-read_same {good = good} {s = s} {next = next} k ts a b j i rest more e read =
+pub read_same : {A : Type 0} {good : A → Type 0} {s : A → List Mark} (k : ℕ) (ts : List Spelled) (a b : A) (j i : ℕ) (rest more : List Spelled)
+    → Got a j rest ≡ Got b i more → Read good s k ts a j rest → Read good s k ts b i more
+read_same {good = good} {s = s} k ts a b j i rest more e read =
     let same = got_same a b j i rest more e in
-    subst (λ c. Read good s next k ts c i more) same.0
-    (subst (λ l. Read good s next k ts a l more) same.1 (subst (λ r. Read good s next k ts a j r) same.2 read))
+    subst (λ c. Read good s k ts c i more) same.0
+    (subst (λ l. Read good s k ts a l more) same.1 (subst (λ r. Read good s k ts a j r) same.2 read))
 
 -- What is accepted goes on to the next reader.
 pub accepted_then : {A B : Type 0} (a : A) (j : ℕ) (more : List Spelled) (b : B) (i : ℕ) (rest : List Spelled) (q : A → Reader B) (o : Outcome A)
@@ -132,34 +130,34 @@ left_is (Fails Deep rest) ts l = absurd l
 pub left_same : {A : Type 0} (o u : Outcome A) (ts : List Spelled) → o ≡ u → Leaves u ts → Leaves o ts
 left_same o u ts e l = subst (λ v. Leaves v ts) (sym e) l
 
-pub left_made : {A B : Type 0} (f : A → B) (c : ℕ → ℕ) (o : Outcome A) (ts : List Spelled)
-    → Leaves (and_then o (λ a j rest. Got (f a) (c j) rest)) ts → Leaves o ts
-left_made f c (Got a j rest) ts l = l
-left_made f c (Fails d rest) ts l = l
+pub left_made : {A B : Type 0} (f : A → B) (o : Outcome A) (ts : List Spelled)
+    → Leaves (and_then o (λ a j rest. Got (f a) j rest)) ts → Leaves o ts
+left_made f (Got a j rest) ts l = l
+left_made f (Fails d rest) ts l = l
 
 -- Making a tree of what is read leaves the tokens as they are.
-pub put_made : {A B : Type 0} (f : A → B) (c : ℕ → ℕ) (new : List Spelled) (o : Outcome A)
-    → and_then (put new o) (λ a j rest. Got (f a) (c j) rest) ≡ put new (and_then o (λ a j rest. Got (f a) (c j) rest))
-put_made f c new (Got a j rest) = refl
-put_made f c new (Fails d rest) = refl
+pub put_made : {A B : Type 0} (f : A → B) (new : List Spelled) (o : Outcome A)
+    → and_then (put new o) (λ a j rest. Got (f a) j rest) ≡ put new (and_then o (λ a j rest. Got (f a) j rest))
+put_made f new (Got a j rest) = refl
+put_made f new (Fails d rest) = refl
 
 -- A token that can't stand at the front of the list.
-pub refused_here : {A : Type 0} {good : A → Type 0} {s : A → List Mark} (a : A) → good a → (ts : List Spelled) (c : Cause) (rest : List Spelled)
-    → failed A Refused ts ≡ Fails c rest → Broken good s c ts rest
-refused_here {s = s} a g ts Refused rest e =
+pub refused_here : {A : Type 0} {good : A → Type 0} {s : A → List Mark} (a : A) → good a → (k : ℕ) (ts : List Spelled) (c : Cause) (rest : List Spelled)
+    → failed A Refused ts ≡ Fails c rest → Broken good s k c ts rest
+refused_here {s = s} a g k ts Refused rest e =
     record { before = []; tree = a; reached = []; more = s a; fits = g; clear = tt; reach = refl; splits = cc; goes_on = refl }
-refused_here a g ts Deep rest e = absurd (cc)
+refused_here a g k ts Deep rest e = absurd (cc)
 
 -- ---- what follows from a law
 
-module _ {A : Type 0} {p : Reader A} {good : A → Type 0} {s : Marking A} {next : Count A} {first last : List ℕ} {may : Bool}
-    (P : Law p good s next first last may) where
+module _ {A : Type 0} {p : Reader A} {good : A → Type 0} {s : A → List Mark} {first last : List ℕ} {may : Bool}
+    (P : Law p good s first last may) where
   -- The tokens that are left end the list.
   pub prefix : (k : ℕ) (ts : List Spelled) → (u : List Spelled) × (ts ≡ u ++ rest_of (p k ts))
   prefix k ts = of_outcome (p k ts) refl
     where
       of_outcome : (o : Outcome A) → p k ts ≡ o → (u : List Spelled) × (ts ≡ u ++ rest_of o)
-      of_outcome (Got a j rest) e = (bare (s k a), (P.sound k ts a j rest e).whole)
+      of_outcome (Got a j rest) e = (bare (s a), (P.sound k ts a j rest e).whole)
       of_outcome (Fails c rest) e = let broken = P.breaks k ts c rest e in (bare broken.before, broken.splits)
 
   -- What is read is read too where later tokens are others.
@@ -173,7 +171,7 @@ module _ {A : Type 0} {p : Reader A} {good : A → Type 0} {s : Marking A} {next
       → p k (u ++ (x ∷ r)) ≡ Got a j mid → mid ≡ v ++ (x ∷ r) → p k (u ++ (x ∷ q)) ≡ Got a j (v ++ (x ∷ q))
   goes_past k u x r q a j mid v e at =
       let read = P.sound k (u ++ (x ∷ r)) a j mid e in
-      let w : List Spelled = bare (s k a) in
+      let w : List Spelled = bare (s a) in
       let whole : u ++ (x ∷ r) ≡ (w ++ v) ++ (x ∷ r) = read.whole ∙ ap (λ ts. w ++ ts) at ∙ sym (append_assoc w v (x ∷ r)) in
       let front : u ≡ w ++ v = append_cancel_right u (w ++ v) (x ∷ r) whole in
       let split : (y : List Spelled) → u ++ (x ∷ y) ≡ w ++ (v ++ (x ∷ y)) = λ y. ap (λ z. z ++ (x ∷ y)) front ∙ append_assoc w v (x ∷ y) in

@@ -1,25 +1,22 @@
 -- The law of a part that begins with another part, and keeps its place.
 use Rattle.std.proofs.Common.{◌≡◌, refl, sym, ap, ◌∙◌, subst, ℕ, false, List, [], ◌∷◌, ◌++◌, Option, Some, None, inl, inr}
 use Rattle.spark_base.specs.declared.position.Pos.{Pos}
-use Rattle.token_reading.specs.Spelled.{Spelled}
-use Rattle.token_reading.specs.Marks.{bare, Marking, Count}
-use Rattle.token_reading.specs.Reading.{Cause, Refused, Got, Fails, Reader, starts, and_then, place, stays, here, seq, StartsAt}
+use Rattle.token_reading.specs.Spelled.{Spelled, Word, Ident, Number, Str, Delimiter, EndOfFile}
+use Rattle.token_reading.specs.Marks.{Mark, bare, after}
+use Rattle.token_reading.specs.Reading.{Cause, Refused, Got, Fails, Reader, of_end, is_in, starts, and_then, place, stays, here, seq, StartsAt}
 use Rattle.token_reading.proofs.Sets.{Leads}
 use Rattle.token_reading.proofs.Lists.{nothing_before}
 use Rattle.token_reading.proofs.Law.{Read, Accepted, Broken, Law, failed, Leaves, put, left_made, put_made, and_then_got, and_then_fails, got_fails, read_same, accepted_then, refused_here}
 
 -- `Stands a pos` says that a tree's first token stands at a place.
-module _ {A : Type 0} {p : Reader A} {g : A → Type 0} {s : Marking A} {next : Count A} {first last : List ℕ} (P : Law p g s next first last false)
-    (Stands : A → Pos → Type 0) (tells : (k : ℕ) (a : A) (pos : Pos) → g a → StartsAt pos (bare (s k a)) → Stands a pos)
-    (gives : (k : ℕ) (a : A) (pos : Pos) → g a → Stands a pos → StartsAt pos (bare (s k a))) (somewhere : (a : A) → g a → (pos : Pos) × Stands a pos) where
+module _ {A : Type 0} {p : Reader A} {g : A → Type 0} {s : A → List Mark} {first last : List ℕ} (P : Law p g s first last false)
+    (Stands : A → Pos → Type 0) (tells : (a : A) (pos : Pos) → g a → StartsAt pos (bare (s a)) → Stands a pos)
+    (gives : (a : A) (pos : Pos) → g a → Stands a pos → StartsAt pos (bare (s a))) (somewhere : (a : A) → g a → (pos : Pos) × Stands a pos) where
   abbrev pub Placed : Pos × A → Type 0
   Placed x = g x.1 × Stands x.1 x.0
 
-  abbrev pub of_second : Marking (Pos × A)
-  of_second k x = s k x.1
-
-  abbrev pub count_of_second : Count (Pos × A)
-  count_of_second k x = next k x.1
+  abbrev pub of_second : Pos × A → List Mark
+  of_second x = s x.1
 
   abbrev with_place : Pos → Reader (Pos × A)
   with_place pos j more = and_then (p j more) (λ a i rest. Got (pos, a) i rest)
@@ -54,34 +51,34 @@ module _ {A : Type 0} {p : Reader A} {g : A → Type 0} {s : Marking A} {next : 
   with_rest [] rest pos at = absurd at
   with_rest (u ∷ us) rest pos at = at
 
-  placed_whole : (k : ℕ) (ts : List Spelled) (pos : Pos) (a : A) (i : ℕ) (rest : List Spelled) → StartsAt pos ts → Read g s next k ts a i rest
-      → Read Placed of_second count_of_second k ts (pos, a) i rest
+  placed_whole : (k : ℕ) (ts : List Spelled) (pos : Pos) (a : A) (i : ℕ) (rest : List Spelled) → StartsAt pos ts → Read g s k ts a i rest
+      → Read Placed of_second k ts (pos, a) i rest
   placed_whole k ts pos a i rest at read =
-      let front = front_of (bare (s k a)) rest pos (P.leads k a read.fits) (subst (StartsAt pos) read.whole at) in
-      record { fits = (read.fits, tells k a pos read.fits front); light = read.light; count = read.count; whole = read.whole }
+      let front = front_of (bare (s a)) rest pos (P.leads a read.fits) (subst (StartsAt pos) read.whole at) in
+      record { fits = (read.fits, tells a pos read.fits front); light = read.light; count = read.count; whole = read.whole }
 
   placed_sound : (k : ℕ) (ts : List Spelled) (x : Pos × A) (i : ℕ) (rest : List Spelled) → seq here p k ts ≡ Got x i rest
-      → Read Placed of_second count_of_second k ts x i rest
+      → Read Placed of_second k ts x i rest
   placed_sound k ts x i rest e =
       let one = and_then_got (here k ts) with_place x i rest e in
       let two = and_then_got (p one.1.0 one.1.1.0) (λ a i rest. Got (one.0, a) i rest) x i rest one.1.1.1.1 in
       let at = here_got k ts one.0 one.1.0 one.1.1.0 one.1.1.1.0 in
       let read = P.sound one.1.0 one.1.1.0 two.0 two.1.0 two.1.1.0 two.1.1.1.0 in
-      let read_here = subst (λ l. Read g s next l ts two.0 two.1.0 two.1.1.0) (sym at.1)
-      (subst (λ us. Read g s next one.1.0 us two.0 two.1.0 two.1.1.0) (sym at.2) read) in
+      let read_here = subst (λ l. Read g s l ts two.0 two.1.0 two.1.1.0) (sym at.1)
+      (subst (λ us. Read g s one.1.0 us two.0 two.1.0 two.1.1.0) (sym at.2) read) in
       read_same {A = Pos × A} k ts (one.0, two.0) x two.1.0 i two.1.1.0 rest two.1.1.1.1
       (placed_whole k ts one.0 two.0 two.1.0 two.1.1.0 at.0 read_here)
 
   placed_accepts : (k : ℕ) (x : Pos × A) (rest : List Spelled) → Placed x → starts last rest ≡ false
-      → Accepted x (next k x.1) rest (seq here p k (bare (s k x.1) ++ rest))
+      → Accepted x (after k (s x.1)) rest (seq here p k (bare (s x.1) ++ rest))
   placed_accepts k x rest good e =
-      let ts : List Spelled = bare (s k x.1) ++ rest in
-      let at = with_rest (bare (s k x.1)) rest x.0 (gives k x.1 x.0 good.0 good.1) in
-      subst (λ o. Accepted x (next k x.1) rest (and_then o with_place)) (sym (here_stands k ts x.0 at))
-      (accepted_then x.1 (next k x.1) rest x (next k x.1) rest (λ a i rest. Got (x.0, a) i rest) (p k ts)
+      let ts : List Spelled = bare (s x.1) ++ rest in
+      let at = with_rest (bare (s x.1)) rest x.0 (gives x.1 x.0 good.0 good.1) in
+      subst (λ o. Accepted x (after k (s x.1)) rest (and_then o with_place)) (sym (here_stands k ts x.0 at))
+      (accepted_then x.1 (after k (s x.1)) rest x (after k (s x.1)) rest (λ a i rest. Got (x.0, a) i rest) (p k ts)
       (P.accepts k x.1 rest good.0 e) (refl, refl, refl))
 
-  cut_placed : (k : ℕ) (ts : List Spelled) (c : Cause) (rest : List Spelled) → Broken g (s k) c ts rest → Broken Placed (of_second k) c ts rest
+  cut_placed : (k : ℕ) (ts : List Spelled) (c : Cause) (rest : List Spelled) → Broken g s k c ts rest → Broken Placed of_second k c ts rest
   cut_placed k ts c rest broken =
       let at = somewhere broken.tree broken.fits in
       record {
@@ -96,11 +93,11 @@ module _ {A : Type 0} {p : Reader A} {g : A → Type 0} {s : Marking A} {next : 
         goes_on = broken.goes_on;
       }
 
-  placed_breaks : (k : ℕ) (ts : List Spelled) (c : Cause) (rest : List Spelled) → seq here p k ts ≡ Fails c rest → Broken Placed (of_second k) c ts rest
+  placed_breaks : (k : ℕ) (ts : List Spelled) (c : Cause) (rest : List Spelled) → seq here p k ts ≡ Fails c rest → Broken Placed of_second k c ts rest
   placed_breaks k ts c rest e = elim (and_then_fails (here k ts) with_place c rest e) [
     | inl early ↦
         let at = somewhere P.example P.sample in
-        refused_here {A = Pos × A} (at.0, P.example) (P.sample, at.1) ts c rest (here_fails k ts c rest early)
+        refused_here {A = Pos × A} (at.0, P.example) (P.sample, at.1) k ts c rest (here_fails k ts c rest early)
     | inr one ↦
         let at = here_got k ts one.0 one.1.0 one.1.1.0 one.1.1.1.0 in
         elim (and_then_fails (p one.1.0 one.1.1.0) (λ a i rest. Got (one.0, a) i rest) c rest one.1.1.1.1) [
@@ -115,9 +112,9 @@ module _ {A : Type 0} {p : Reader A} {g : A → Type 0} {s : Marking A} {next : 
       → (o ≡ None → u ≡ []) → Leaves (and_then (stays o k (u ++ (x ∷ r))) with_place) (x ∷ r)
       → and_then (stays o k (u ++ (x ∷ z))) with_place ≡ put (x ∷ z) (and_then (stays o k (u ++ (x ∷ r))) with_place)
   of_front (Some pos) k u x r z none e =
-      let leaves = left_made (λ (a : A). (pos, a)) (λ i. i) (p k (u ++ (x ∷ r))) (x ∷ r) e in
+      let leaves = left_made (λ (a : A). (pos, a)) (p k (u ++ (x ∷ r))) (x ∷ r) e in
       ap (λ o. and_then o (λ a i rest. Got (pos, a) i rest)) (P.local k u x r z leaves)
-      ∙ put_made (λ (a : A). (pos, a)) (λ i. i) (x ∷ z) (p k (u ++ (x ∷ r)))
+      ∙ put_made (λ (a : A). (pos, a)) (x ∷ z) (p k (u ++ (x ∷ r)))
   of_front None k u x r z none e = ap (λ v. Fails Refused (v ++ (x ∷ z))) (none refl)
 
   nothing_left : (o : Option Pos) (k : ℕ) (u : List Spelled) (x : Spelled) (r : List Spelled)
@@ -130,15 +127,31 @@ module _ {A : Type 0} {p : Reader A} {g : A → Type 0} {s : Marking A} {next : 
   placed_local k [] x r z e = of_front (place x) k [] x r z (λ is. refl) e
   placed_local k (t ∷ u) x r z e = of_front (place t) k (t ∷ u) x r z (nothing_left (place t) k (t ∷ u) x r e) e
 
-  pub law_here : Law (seq here p) Placed of_second count_of_second first last false
+  pub law_here : Law (seq here p) Placed of_second first last false
   law_here =
       let at = somewhere P.example P.sample in
       record {
         example = (at.0, P.example);
         sample = (P.sample, at.1);
-        leads = λ k x good. P.leads k x.1 good.0;
+        leads = λ x good. P.leads x.1 good.0;
         sound = placed_sound;
         accepts = placed_accepts;
         breaks = placed_breaks;
         local = placed_local;
       }
+
+-- The place is that of the spelling's first token. A spelling that begins with the end of the file has none.
+module _ {A : Type 0} {p : Reader A} {g : A → Type 0} {s : A → List Mark} {first last : List ℕ} (P : Law p g s first last false)
+    (inside : is_in first of_end ≡ false) where
+  first_place : (us : List Spelled) → Leads false first us → (pos : Pos) × StartsAt pos us
+  first_place [] l = absurd (cc)
+  first_place (Word v pos ∷ us) l = (pos, refl)
+  first_place (Ident pos text ∷ us) l = (pos, refl)
+  first_place (Number n pos ∷ us) l = (pos, refl)
+  first_place (Str pos text ∷ us) l = (pos, refl)
+  first_place (Delimiter v pos ∷ us) l = (pos, refl)
+  first_place (EndOfFile ∷ us) l = absurd (cc)
+
+  pub law_placed : Law (seq here p) (λ x. g x.1 × StartsAt x.0 (bare (s x.1))) (λ x. s x.1) first last false
+  law_placed = law_here P (λ a pos. StartsAt pos (bare (s a))) (λ a pos good at. at) (λ a pos good at. at)
+      (λ a good. first_place (bare (s a)) (P.leads a good))

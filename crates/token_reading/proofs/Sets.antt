@@ -107,6 +107,10 @@ pub leads_within : (fs ms : List ℕ) → within fs ms ≡ true → (may : Bool)
 leads_within fs ms h may [] l = l
 leads_within fs ms h may (t ∷ us) l = within_in fs ms (code t) h l
 
+pub leads_may : (fs : List ℕ) (us : List Spelled) → Leads false fs us → Leads true fs us
+leads_may fs [] l = refl
+leads_may fs (t ∷ us) l = l
+
 -- The first set of two parts: that of the second counts where the first may be empty.
 pub leads_first : (m n : Bool) (fs gs : List ℕ) (us vs : List Spelled) → Leads m fs us → Leads n gs vs
     → Leads (m && n) (if m then fs ++ gs else fs) (us ++ vs)

@@ -8,17 +8,17 @@ use Rattle.ada_lexer.specs.declared.token.TokenKind.{TokenKind}
 use Rattle.ada_lexer.specs.declared.token.TokenKind.TheVariants as kind
 use Rattle.ada_lexer.specs.Tokens.{EndsOnce, kinds_of}
 use Rattle.token_reading.specs.Spelled.{Spelled, Word, Ident, Number, Str, Delimiter, EndOfFile, told, told_as}
-use Rattle.token_reading.specs.Marks.{Mark, bare, Light, Marking, Count}
-use Rattle.token_reading.specs.Reading.{Cause, Refused, Deep, Got, Fails, Reader, of_end, is_in, and_then, file_end, whole_file}
-use Rattle.token_reading.specs.Sources.{file_of, Begins, IsTreeOf, IsFaulty, IsTooMany, IsFile}
+use Rattle.token_reading.specs.Marks.{Mark, bare, after, Light}
+use Rattle.token_reading.specs.Reading.{Cause, Refused, Deep, Outcome, Got, Fails, Reader, of_end, is_in, and_then, file_end, whole_file}
+use Rattle.token_reading.specs.Sources.{file_of, IsSpelledBy, IsTreeOf, Begins, IsFaulty, IsTooMany, AtFirst, IsFile}
 use Rattle.token_reading.proofs.Law.{Read, Accepted, OneTooMany, Broken, Law, put, and_then_got, and_then_fails, got_same, got_fails, left_same}
 
 -- ---- lists that end at their one end of the file
 
-pub not_at_end : (us : List Mark) → Light us → IsFile (bare us) → ⊥
-not_at_end [] light file = file
-not_at_end (m ∷ []) light file = light.0.within_file file
-not_at_end (m ∷ (n ∷ us)) light file = not_at_end (n ∷ us) light.1 file.1
+pub not_at_end : (k : ℕ) (us : List Mark) → Light k us → IsFile (bare us) → ⊥
+not_at_end k [] light file = file
+not_at_end k (m ∷ []) light file = light.0.within_file file
+not_at_end k (m ∷ (n ∷ us)) light file = not_at_end (m.weight.step k) (n ∷ us) light.1 file.1
 
 -- nothing stands behind the end
 pub ends_there : (us : List Spelled) (rest : List Spelled) → IsFile (us ++ (EndOfFile ∷ rest)) → rest ≡ []
@@ -64,15 +64,19 @@ end_fails (Number n pos) ts k c rest e = (λ is. cc, cc, cc)
 end_fails (Str pos text) ts k c rest e = (λ is. cc, cc, cc)
 end_fails (Delimiter v pos) ts k c rest e = (λ is. cc, cc, cc)
 
+got_as : {A : Type 0} (o : Outcome A) (a b : A) (i : ℕ) (mid rest : List Spelled) → o ≡ Got a i mid → a ≡ b → mid ≡ rest → o ≡ Got b i rest
+got_as o a b i mid rest e same left = subst (λ r. o ≡ Got b i r) left (subst (λ c. o ≡ Got c i mid) same e)
+
 -- ---- the four things that are told
 
-module _ {A : Type 0} {p : Reader A} {good : A → Type 0} {s : Marking A} {next : Count A} {first last : List ℕ} {may : Bool}
-    (P : Law p good s next first last may) (ends : is_in last of_end ≡ false) where
+module _ {A : Type 0} {p : Reader A} {good : A → Type 0} {s : A → List Mark} {first last : List ℕ} {may : Bool}
+    (P : Law p good s first last may) (ends : is_in last of_end ≡ false) where
   -- two trees of one file are one
-  unique : (ts : List Spelled) (a b : A) (j : ℕ) (rest : List Spelled) → p 0 ts ≡ Got a j rest → good b → file_of (s 0 b) ≡ ts → b ≡ a
-  unique ts a b j rest e fits whole =
-      let accepted : Accepted b (next 0 b) (EndOfFile ∷ []) (p 0 (file_of (s 0 b))) = P.accepts 0 b (EndOfFile ∷ []) fits ends in
-      let same = subst (λ o. Accepted b (next 0 b) (EndOfFile ∷ []) o) (ap (λ us. p 0 us) whole ∙ e) accepted in
+  unique : (ts : List Spelled) (a b : A) (j : ℕ) (rest : List Spelled) → p 0 ts ≡ Got a j rest → IsSpelledBy good s ts b → b ≡ a
+  unique ts a b j rest e spells =
+      let i : ℕ = after 0 (s b) in
+      let accepted : Accepted b i (EndOfFile ∷ []) (p 0 (file_of (s b))) = P.accepts 0 b (EndOfFile ∷ []) spells.fits ends in
+      let same = subst (λ o. Accepted b i (EndOfFile ∷ []) o) (ap (λ us. p 0 us) spells.spelled ∙ e) accepted in
       sym same.0
 
   abbrev after_tree : A → Reader (A × Unit {0})
@@ -96,7 +100,7 @@ module _ {A : Type 0} {p : Reader A} {good : A → Type 0} {s : Marking A} {next
       let same : two.0 ≡ tree = ap (λ y. y.0) pair.0 ∙ made.0 in
       let left : two.1.1.0 ≡ EndOfFile ∷ rest =
       at_end two.1.0 two.1.1.0 three.0 three.1.0 three.1.1.0 three.1.1.1.0 ∙ ap (λ r. EndOfFile ∷ r) (pair.2 ∙ made.2) in
-      (two.1.0, two.1.1.1.0 ∙ ap (λ a. Got a two.1.0 two.1.1.0) same ∙ ap (λ r. Got tree two.1.0 r) left)
+      (two.1.0, got_as (p 0 ts) two.0 tree two.1.0 two.1.1.0 (EndOfFile ∷ rest) two.1.1.1.0 same left)
 
   file_fails : (ts : List Spelled) (c : Cause) (rest : List Spelled) → whole_file p 0 ts ≡ Fails c rest
       → (p 0 ts ≡ Fails c rest) ⊎ ((a : A) × ((i : ℕ) × ((mid : List Spelled) × ((p 0 ts ≡ Got a i mid) × (file_end i mid ≡ Fails c rest)))))
@@ -112,92 +116,98 @@ module _ {A : Type 0} {p : Reader A} {good : A → Type 0} {s : Marking A} {next
   ]
 
   pub read_file : (ts : List Spelled) (tree : A) (j : ℕ) (rest : List Spelled) → IsFile ts → whole_file p 0 ts ≡ Got tree j rest
-      → IsTreeOf good (s 0) ts tree × (rest ≡ [])
+      → IsTreeOf good s ts tree × (rest ≡ [])
   read_file ts tree j rest file e =
       let got = file_got ts tree j rest e in
       let read = P.sound 0 ts tree got.0 (EndOfFile ∷ rest) got.1 in
-      let none : rest ≡ [] = ends_there (bare (s 0 tree)) rest (subst IsFile read.whole file) in (
+      let none : rest ≡ [] = ends_there (bare (s tree)) rest (subst IsFile read.whole file) in (
         record {
-          fits = read.fits;
-          spelled = sym (read.whole ∙ ap (λ r. bare (s 0 tree) ++ (EndOfFile ∷ r)) none);
+          spells = record { fits = read.fits; spelled = sym (read.whole ∙ ap (λ r. bare (s tree) ++ (EndOfFile ∷ r)) none) };
           light = read.light;
-          only = λ other fits whole. unique ts tree other got.0 (EndOfFile ∷ rest) got.1 fits whole;
+          only = λ other spells. unique ts tree other got.0 (EndOfFile ∷ rest) got.1 spells;
         },
         none,
       )
 
   -- no source begins as a refused list does through its first token left
   pub faulty : (u : List Spelled) (x : Spelled) (r : List Spelled) → p 0 (u ++ (x ∷ r)) ≡ Fails Refused (x ∷ r)
-      → Begins good (s 0) (u ++ (x ∷ [])) → ⊥
+      → Begins good s (u ++ (x ∷ [])) → ⊥
   faulty u x r e begins =
       let z : List Spelled = begins.behind in
+      let i : ℕ = after 0 (s begins.tree) in
       let there : p 0 (u ++ (x ∷ z)) ≡ Fails Refused (x ∷ z) =
       P.local 0 u x r z (left_same (p 0 (u ++ (x ∷ r))) (Fails Refused (x ∷ r)) (x ∷ r) e refl) ∙ ap (put (x ∷ z)) e in
-      let whole : file_of (s 0 begins.tree) ≡ u ++ (x ∷ z) = begins.whole ∙ append_assoc u (x ∷ []) z in
-      let accepted : Accepted begins.tree (next 0 begins.tree) (EndOfFile ∷ []) (p 0 (file_of (s 0 begins.tree))) =
+      let whole : file_of (s begins.tree) ≡ u ++ (x ∷ z) = begins.whole ∙ append_assoc u (x ∷ []) z in
+      let accepted : Accepted begins.tree i (EndOfFile ∷ []) (p 0 (file_of (s begins.tree))) =
       P.accepts 0 begins.tree (EndOfFile ∷ []) begins.fits ends in
-      subst (λ o. Accepted begins.tree (next 0 begins.tree) (EndOfFile ∷ []) o) (ap (λ us. p 0 us) whole ∙ there) accepted
+      subst (λ o. Accepted begins.tree i (EndOfFile ∷ []) o) (ap (λ us. p 0 us) whole ∙ there) accepted
 
   -- no source begins with a whole tree and a token that isn't the end of the file
   pub faulty_behind : (u : List Spelled) (x : Spelled) (r : List Spelled) (a : A) (j : ℕ) → p 0 (u ++ (x ∷ r)) ≡ Got a j (x ∷ r)
-      → (x ≡ EndOfFile → ⊥) → Begins good (s 0) (u ++ (x ∷ [])) → ⊥
+      → (x ≡ EndOfFile → ⊥) → Begins good s (u ++ (x ∷ [])) → ⊥
   faulty_behind u x r a j e other begins =
       let z : List Spelled = begins.behind in
+      let i : ℕ = after 0 (s begins.tree) in
       let there : p 0 (u ++ (x ∷ z)) ≡ Got a j (x ∷ z) =
       P.local 0 u x r z (left_same (p 0 (u ++ (x ∷ r))) (Got a j (x ∷ r)) (x ∷ r) e refl) ∙ ap (put (x ∷ z)) e in
-      let whole : file_of (s 0 begins.tree) ≡ u ++ (x ∷ z) = begins.whole ∙ append_assoc u (x ∷ []) z in
-      let accepted : Accepted begins.tree (next 0 begins.tree) (EndOfFile ∷ []) (p 0 (file_of (s 0 begins.tree))) =
+      let whole : file_of (s begins.tree) ≡ u ++ (x ∷ z) = begins.whole ∙ append_assoc u (x ∷ []) z in
+      let accepted : Accepted begins.tree i (EndOfFile ∷ []) (p 0 (file_of (s begins.tree))) =
       P.accepts 0 begins.tree (EndOfFile ∷ []) begins.fits ends in
-      let same = subst (λ o. Accepted begins.tree (next 0 begins.tree) (EndOfFile ∷ []) o) (ap (λ us. p 0 us) whole ∙ there) accepted in
+      let same = subst (λ o. Accepted begins.tree i (EndOfFile ∷ []) o) (ap (λ us. p 0 us) whole ∙ there) accepted in
       let left : x ∷ z ≡ EndOfFile ∷ [] = same.2 in
       other (cc)
 
-  refused_early : (ts rest : List Spelled) → IsFile ts → p 0 ts ≡ Fails Refused rest → Broken good (s 0) Refused ts rest → IsFaulty good (s 0) ts rest
+  refused_early : (ts rest : List Spelled) → IsFile ts → p 0 ts ≡ Fails Refused rest → Broken good s 0 Refused ts rest
+      → AtFirst (IsFaulty good s) ts rest
   refused_early ts [] file e broken =
-      absurd (not_at_end broken.before broken.clear (subst IsFile (broken.splits ∙ append-nil (bare broken.before)) file))
+      absurd (not_at_end 0 broken.before broken.clear (subst IsFile (broken.splits ∙ append-nil (bare broken.before)) file))
   refused_early ts (x ∷ r) file e broken = record {
     before = bare broken.before;
     token = x;
     behind = r;
     at = refl;
     splits = broken.splits;
-    possible = record {
-      tree = broken.tree;
-      fits = broken.fits;
-      before = broken.before;
-      more = broken.reached ++ broken.more;
-      clear = broken.clear;
-      begun = refl;
-      whole = broken.goes_on;
+    holds = record {
+      possible = record {
+        tree = broken.tree;
+        fits = broken.fits;
+        front = broken.before;
+        behind = broken.reached ++ broken.more;
+        clear = broken.clear;
+        begun = refl;
+        whole = broken.goes_on;
+      };
+      impossible = faulty (bare broken.before) x r (ap (λ us. p 0 us) (sym broken.splits) ∙ e);
     };
-    impossible = faulty (bare broken.before) x r (ap (λ us. p 0 us) (sym broken.splits) ∙ e);
   }
 
   refused_late : (ts : List Spelled) (a : A) (i : ℕ) (mid rest : List Spelled) → IsFile ts → p 0 ts ≡ Got a i mid → file_end i mid ≡ Fails Refused rest
-      → Read good s next 0 ts a i mid → IsFaulty good (s 0) ts rest
+      → Read good s 0 ts a i mid → AtFirst (IsFaulty good s) ts rest
   refused_late ts a i [] rest file got e read =
-      absurd (not_at_end (s 0 a) read.light (subst IsFile (read.whole ∙ append-nil (bare (s 0 a))) file))
+      absurd (not_at_end 0 (s a) read.light (subst IsFile (read.whole ∙ append-nil (bare (s a))) file))
   refused_late ts a i (x ∷ r) rest file got e read =
       let fails = end_fails x r i Refused rest e in
       record {
-        before = bare (s 0 a);
+        before = bare (s a);
         token = x;
         behind = r;
         at = sym fails.2;
-        splits = read.whole ∙ ap (λ us. bare (s 0 a) ++ us) fails.2;
-        possible = record {
-          tree = a;
-          fits = read.fits;
-          before = s 0 a;
-          more = [];
-          clear = read.light;
-          begun = refl;
-          whole = sym (append-nil (s 0 a));
+        splits = read.whole ∙ ap (λ us. bare (s a) ++ us) fails.2;
+        holds = record {
+          possible = record {
+            tree = a;
+            fits = read.fits;
+            front = s a;
+            behind = [];
+            clear = read.light;
+            begun = refl;
+            whole = sym (append-nil (s a));
+          };
+          impossible = faulty_behind (bare (s a)) x r a i (ap (λ us. p 0 us) (sym read.whole) ∙ got) fails.0;
         };
-        impossible = faulty_behind (bare (s 0 a)) x r a i (ap (λ us. p 0 us) (sym read.whole) ∙ got) fails.0;
       }
 
-  pub refused_file : (ts rest : List Spelled) → IsFile ts → whole_file p 0 ts ≡ Fails Refused rest → IsFaulty good (s 0) ts rest
+  pub refused_file : (ts rest : List Spelled) → IsFile ts → whole_file p 0 ts ≡ Fails Refused rest → AtFirst (IsFaulty good s) ts rest
   refused_file ts rest file e = elim (file_fails ts Refused rest e) [
     | inl early ↦ refused_early ts rest file early (P.breaks 0 ts Refused rest early)
     | inr late ↦
@@ -208,23 +218,29 @@ module _ {A : Type 0} {p : Reader A} {good : A → Type 0} {s : Marking A} {next
   never_deep i [] rest e = cc
   never_deep i (x ∷ r) rest e = let fails = end_fails x r i Deep rest e in let same : Deep ≡ Refused = fails.1 in cc
 
-  pub deep_file : (ts rest : List Spelled) → whole_file p 0 ts ≡ Fails Deep rest → IsTooMany good (s 0) ts rest
+  pub deep_file : (ts rest : List Spelled) → whole_file p 0 ts ≡ Fails Deep rest → AtFirst (IsTooMany good s) ts rest
   deep_file ts rest e = elim (file_fails ts Deep rest e) [
     | inl early ↦
         let broken = P.breaks 0 ts Deep rest early in
-        let reach : OneTooMany broken.reached rest = broken.reach in
+        let reach : OneTooMany (after 0 broken.before) broken.reached rest = broken.reach in
         record {
-          before = broken.before;
-          mark = reach.mark;
+          before = bare broken.before;
+          token = reach.mark.token;
           behind = reach.behind;
-          tree = broken.tree;
-          more = broken.more;
           at = reach.at;
           splits = broken.splits;
-          clear = broken.clear;
-          is_heavy = reach.is_heavy;
-          fits = broken.fits;
-          whole = broken.goes_on ∙ ap (λ ms. broken.before ++ (ms ++ broken.more)) reach.alone;
+          holds = record {
+            tree = broken.tree;
+            fits = broken.fits;
+            front = broken.before;
+            mark = reach.mark;
+            behind = broken.more;
+            clear = broken.clear;
+            begun = refl;
+            is_token = refl;
+            is_heavy = reach.is_heavy;
+            whole = broken.goes_on ∙ ap (λ ms. broken.before ++ (ms ++ broken.more)) reach.alone;
+          };
         }
     | inr late ↦ absurd (never_deep late.1.0 late.1.1.0 rest late.1.1.1.1)
   ]

@@ -1,5 +1,5 @@
 -- The laws of the readers of one token.
-use Rattle.std.proofs.Common.{◌≡◌, refl, sym, ap, ◌∙◌, subst, ℕ, suc, Bool, true, false, List, [], ◌∷◌, ◌++◌, Option, Some, None}
+use Rattle.std.proofs.Common.{◌≡◌, refl, sym, ap, ◌∙◌, subst, ℕ, Bool, true, false, List, [], ◌∷◌, ◌++◌, Option, Some, None}
 use Rattle.std.specs.Prelude.{if◌then◌else◌, map, codes}
 use Rattle.std.specs.Char.{to_ascii_lowercase}
 use Rattle.std.specs.Str.{bytes_eq}
@@ -11,8 +11,10 @@ use Rattle.ada_lexer.specs.declared.token.Symbol.{Symbol}
 use Rattle.ada_lexer.specs.contracts.token.Reserved as reserved
 use Rattle.ada_lexer.specs.contracts.token.Symbol as symbols
 use Rattle.token_reading.specs.Spelled.{Spelled, Word, Ident, Number, Str, Delimiter, EndOfFile}
-use Rattle.token_reading.specs.Marks.{plain, Marking, Count}
-use Rattle.token_reading.specs.Reading.{Cause, Refused, Deep, Got, Fails, of_word, of_symbol, of_ident, of_number, of_string, code, is_in, Weight, weightless, opener, operator, taken, one_of, word_place, word, opens_word, operator_word, symbol_place, symbol, opens_symbol, operator_symbol, PlacedText, identifier_of, ident, called_of, ident_called, string_of, string, number_of, number}
+use Rattle.token_reading.specs.declared.side.Side.{Side}
+use Rattle.token_reading.specs.declared.side.Side.TheVariants.{Apart, Within}
+use Rattle.token_reading.specs.Marks.{Weight, resting, opening, operating, Mark, plain, opens, operates}
+use Rattle.token_reading.specs.Reading.{Cause, Refused, Deep, Got, Fails, of_word, of_symbol, of_ident, of_number, of_string, code, is_in, taken, one_of, word_place, word, opens_word, operator_word, symbol_place, symbol, opens_symbol, operator_symbol, PlacedText, identifier_of, ident, called_of, ident_called, string_of, string, number_of, number}
 use Rattle.token_reading.proofs.Sets.{is_in-own}
 use Rattle.token_reading.proofs.Lists.{nothing_before, not_longer}
 use Rattle.token_reading.proofs.Law.{Read, Accepted, Broken, Law, failed, Leaves, put, refused_here}
@@ -29,11 +31,8 @@ module _ {A : Type 0} (w : Weight) (f : Spelled → Option A) (good : A → Type
     (tells : (t : Spelled) (a : A) → f t ≡ Some a → good a × (t ≡ token_of a)) (takes : (a : A) → good a → f (token_of a) ≡ Some a)
     (begins : (a : A) → is_in first (code (token_of a)) ≡ true) (inside : (a : A) → token_of a ≡ EndOfFile → ⊥)
     (example : A) (sample : good example) where
-  abbrev one_marks : Marking A
-  one_marks k a = record { token = token_of a; heavy = w.heavy k } ∷ []
-
-  abbrev one_count : Count A
-  one_count k a = w.step k
+  abbrev one_mark : A → List Mark
+  one_mark a = record { token = token_of a; weight = w } ∷ []
 
   weighed_got : (h : Bool) (b : A) (i : ℕ) (t : Spelled) (ts : List Spelled) (a : A) (j : ℕ) (rest : List Spelled)
       → (if h then Fails Deep (t ∷ ts) else Got b i ts) ≡ Got a j rest → (h ≡ false) × (b ≡ a) × (i ≡ j) × (ts ≡ rest)
@@ -41,7 +40,7 @@ module _ {A : Type 0} (w : Weight) (f : Spelled → Option A) (good : A → Type
   weighed_got false b i t ts a j rest e = (refl, cc, cc, cc)
 
   taken_sound : (o : Option A) (k : ℕ) (t : Spelled) (ts : List Spelled) (a : A) (j : ℕ) (rest : List Spelled) → f t ≡ o
-      → taken w o k t ts ≡ Got a j rest → Read good one_marks one_count k (t ∷ ts) a j rest
+      → taken w o k t ts ≡ Got a j rest → Read good one_mark k (t ∷ ts) a j rest
   taken_sound (Some b) k t ts a j rest is e =
       let got = weighed_got (w.heavy k) b (w.step k) t ts a j rest e in
       let told = tells t a (is ∙ ap (λ c. Some c) got.1) in
@@ -51,7 +50,7 @@ module _ {A : Type 0} (w : Weight) (f : Spelled → Option A) (good : A → Type
   taken_sound None k t ts a j rest is e = absurd (cc)
 
   one_sound : (k : ℕ) (ts : List Spelled) (a : A) (j : ℕ) (rest : List Spelled) → one_of w f k ts ≡ Got a j rest
-      → Read good one_marks one_count k ts a j rest
+      → Read good one_mark k ts a j rest
   one_sound k [] a j rest e = absurd (cc)
   one_sound k (t ∷ ts) a j rest e = taken_sound (f t) k t ts a j rest refl e
 
@@ -66,15 +65,15 @@ module _ {A : Type 0} (w : Weight) (f : Spelled → Option A) (good : A → Type
 
   weighed_breaks : (h : Bool) (a : A) (k : ℕ) (t : Spelled) (ts : List Spelled) (c : Cause) (rest : List Spelled) → w.heavy k ≡ h
       → good a → t ≡ token_of a → (if h then failed A Deep (t ∷ ts) else Got a (w.step k) ts) ≡ Fails c rest
-      → Broken good (one_marks k) c (t ∷ ts) rest
+      → Broken good one_mark k c (t ∷ ts) rest
   weighed_breaks true a k t ts Deep rest heavy g at e = record {
     before = [];
     tree = a;
-    reached = one_marks k a;
+    reached = one_mark a;
     more = [];
     fits = g;
     clear = tt;
-    reach = record { mark = record { token = token_of a; heavy = w.heavy k }; is_heavy = heavy; alone = refl; behind = ts; at = cc };
+    reach = record { mark = record { token = token_of a; weight = w }; is_heavy = heavy; alone = refl; behind = ts; at = cc };
     splits = cc;
     goes_on = refl;
   }
@@ -82,13 +81,13 @@ module _ {A : Type 0} (w : Weight) (f : Spelled → Option A) (good : A → Type
   weighed_breaks false a k t ts c rest heavy g at e = absurd (cc)
 
   taken_breaks : (o : Option A) (k : ℕ) (t : Spelled) (ts : List Spelled) (c : Cause) (rest : List Spelled) → f t ≡ o
-      → taken w o k t ts ≡ Fails c rest → Broken good (one_marks k) c (t ∷ ts) rest
+      → taken w o k t ts ≡ Fails c rest → Broken good one_mark k c (t ∷ ts) rest
   taken_breaks (Some a) k t ts c rest is e =
       let told = tells t a is in weighed_breaks (w.heavy k) a k t ts c rest refl told.0 told.1 e
-  taken_breaks None k t ts c rest is e = refused_here example sample (t ∷ ts) c rest e
+  taken_breaks None k t ts c rest is e = refused_here example sample k (t ∷ ts) c rest e
 
-  one_breaks : (k : ℕ) (ts : List Spelled) (c : Cause) (rest : List Spelled) → one_of w f k ts ≡ Fails c rest → Broken good (one_marks k) c ts rest
-  one_breaks k [] c rest e = refused_here example sample [] c rest e
+  one_breaks : (k : ℕ) (ts : List Spelled) (c : Cause) (rest : List Spelled) → one_of w f k ts ≡ Fails c rest → Broken good one_mark k c ts rest
+  one_breaks k [] c rest e = refused_here example sample k [] c rest e
   one_breaks k (t ∷ ts) c rest e = taken_breaks (f t) k t ts c rest refl e
 
   weighed_local : (h : Bool) (a : A) (i : ℕ) (t : Spelled) (u : List Spelled) (x : Spelled) (r q : List Spelled)
@@ -119,11 +118,11 @@ module _ {A : Type 0} (w : Weight) (f : Spelled → Option A) (good : A → Type
   one_local k [] x r q e = taken_first (f x) k x r q e
   one_local k (t ∷ u) x r q e = taken_local (f t) k t u x r q e
 
-  pub law_one : Law (one_of w f) good one_marks one_count first [] false
+  pub law_one : Law (one_of w f) good (λ a. record { token = token_of a; weight = w } ∷ []) first [] false
   law_one = record {
     example = example;
     sample = sample;
-    leads = λ k a g. begins a;
+    leads = λ a g. begins a;
     sound = one_sound;
     accepts = λ k a rest g e. one_accepts k a rest g;
     breaks = one_breaks;
@@ -156,21 +155,19 @@ word_tells v (Delimiter s pos) p e = absurd (cc)
 word_tells v EndOfFile p e = absurd (cc)
 
 -- A word of any weight.
-abbrev pub weighed_word : Reserved → Weight → Marking Pos
-weighed_word v w k p = record { token = Word v p; heavy = w.heavy k } ∷ []
-
-pub law_weighed_word : (v : Reserved) (w : Weight) → Law (one_of w (word_place v)) Any (weighed_word v w) (λ k p. w.step k) (of_word v ∷ []) [] false
+pub law_weighed_word : (v : Reserved) (w : Weight)
+    → Law (one_of w (word_place v)) Any (λ p. record { token = Word v p; weight = w } ∷ []) (of_word v ∷ []) [] false
 law_weighed_word v w = law_one w (word_place v) Any (λ p. Word v p) (of_word v ∷ []) (word_tells v)
     (λ p g. some_if (sameb reserved.the_type v v) p (true_same reserved.the_type v v refl)) (λ p. is_in-own (of_word v)) (λ p e. cc) some_place tt
 
-pub law_word : (v : Reserved) → Law (word v) Any (λ k p. plain (Word v p) ∷ []) (λ k p. k) (of_word v ∷ []) [] false
-law_word v = law_weighed_word v weightless
+pub law_word : (side : Side) (v : Reserved) → Law (word side v) Any (λ p. plain side (Word v p) ∷ []) (of_word v ∷ []) [] false
+law_word side v = law_weighed_word v (resting side)
 
-pub law_opens_word : (v : Reserved) (full : Bool) → Law (opens_word v full) Any (weighed_word v (opener full)) (λ k p. k) (of_word v ∷ []) [] false
-law_opens_word v full = law_weighed_word v (opener full)
+pub law_opens_word : (v : Reserved) (d : ℕ) → Law (opens_word v d) Any (λ p. opens Apart d (Word v p) ∷ []) (of_word v ∷ []) [] false
+law_opens_word v d = law_weighed_word v (opening Apart d)
 
-pub law_operator_word : (v : Reserved) → Law (operator_word v) Any (weighed_word v operator) (λ k p. suc k) (of_word v ∷ []) [] false
-law_operator_word v = law_weighed_word v operator
+pub law_operator_word : (v : Reserved) → Law (operator_word v) Any (λ p. operates (Word v p) ∷ []) (of_word v ∷ []) [] false
+law_operator_word v = law_weighed_word v operating
 
 symbol_tells : (v : Symbol) (t : Spelled) (p : Pos) → symbol_place v t ≡ Some p → Any p × (t ≡ Delimiter v p)
 symbol_tells v (Delimiter it pos) p e =
@@ -185,21 +182,20 @@ symbol_tells v (Word s pos) p e = absurd (cc)
 symbol_tells v EndOfFile p e = absurd (cc)
 
 -- A delimiter of any weight.
-abbrev pub weighed_symbol : Symbol → Weight → Marking Pos
-weighed_symbol v w k p = record { token = Delimiter v p; heavy = w.heavy k } ∷ []
-
-pub law_weighed_symbol : (v : Symbol) (w : Weight) → Law (one_of w (symbol_place v)) Any (weighed_symbol v w) (λ k p. w.step k) (of_symbol v ∷ []) [] false
+pub law_weighed_symbol : (v : Symbol) (w : Weight)
+    → Law (one_of w (symbol_place v)) Any (λ p. record { token = Delimiter v p; weight = w } ∷ []) (of_symbol v ∷ []) [] false
 law_weighed_symbol v w = law_one w (symbol_place v) Any (λ p. Delimiter v p) (of_symbol v ∷ []) (symbol_tells v)
     (λ p g. some_if (sameb symbols.the_type v v) p (true_same symbols.the_type v v refl)) (λ p. is_in-own (of_symbol v)) (λ p e. cc) some_place tt
 
-pub law_symbol : (v : Symbol) → Law (symbol v) Any (λ k p. plain (Delimiter v p) ∷ []) (λ k p. k) (of_symbol v ∷ []) [] false
-law_symbol v = law_weighed_symbol v weightless
+pub law_symbol : (side : Side) (v : Symbol) → Law (symbol side v) Any (λ p. plain side (Delimiter v p) ∷ []) (of_symbol v ∷ []) [] false
+law_symbol side v = law_weighed_symbol v (resting side)
 
-pub law_opens_symbol : (v : Symbol) (full : Bool) → Law (opens_symbol v full) Any (weighed_symbol v (opener full)) (λ k p. k) (of_symbol v ∷ []) [] false
-law_opens_symbol v full = law_weighed_symbol v (opener full)
+pub law_opens_symbol : (side : Side) (v : Symbol) (d : ℕ)
+    → Law (opens_symbol side v d) Any (λ p. opens side d (Delimiter v p) ∷ []) (of_symbol v ∷ []) [] false
+law_opens_symbol side v d = law_weighed_symbol v (opening side d)
 
-pub law_operator_symbol : (v : Symbol) → Law (operator_symbol v) Any (weighed_symbol v operator) (λ k p. suc k) (of_symbol v ∷ []) [] false
-law_operator_symbol v = law_weighed_symbol v operator
+pub law_operator_symbol : (v : Symbol) → Law (operator_symbol v) Any (λ p. operates (Delimiter v p) ∷ []) (of_symbol v ∷ []) [] false
+law_operator_symbol v = law_weighed_symbol v operating
 
 abbrev pub id_token : PlacedText → Spelled
 id_token x = Ident x.0 x.1
@@ -212,8 +208,8 @@ ident_tells (Str pos text) x e = absurd (cc)
 ident_tells (Delimiter s pos) x e = absurd (cc)
 ident_tells EndOfFile x e = absurd (cc)
 
-pub law_ident : Law ident Any (λ k x. plain (id_token x) ∷ []) (λ k x. k) (of_ident ∷ []) [] false
-law_ident = law_one weightless identifier_of Any id_token (of_ident ∷ []) ident_tells (λ x g. refl) (λ x. refl) (λ x e. cc)
+pub law_ident : (side : Side) → Law (ident side) Any (λ x. plain side (id_token x) ∷ []) (of_ident ∷ []) [] false
+law_ident side = law_one (resting side) identifier_of Any id_token (of_ident ∷ []) ident_tells (λ x g. refl) (λ x. refl) (λ x e. cc)
     (some_place, codes "a") tt
 
 -- The identifier has this spelling, which is in lower case.
@@ -231,8 +227,8 @@ called_tells name (Delimiter s pos) x e = absurd (cc)
 called_tells name EndOfFile x e = absurd (cc)
 
 pub law_called : (name : List ℕ) → map to_ascii_lowercase name ≡ name
-    → Law (ident_called name) (IsCalled name) (λ k x. plain (id_token x) ∷ []) (λ k x. k) (of_ident ∷ []) [] false
-law_called name lower = law_one weightless (called_of name) (IsCalled name) id_token (of_ident ∷ []) (called_tells name)
+    → Law (ident_called name) (IsCalled name) (λ x. plain Apart (id_token x) ∷ []) (of_ident ∷ []) [] false
+law_called name lower = law_one (resting Apart) (called_of name) (IsCalled name) id_token (of_ident ∷ []) (called_tells name)
     (λ x g. some_if (bytes_eq (map to_ascii_lowercase x.1) name) x ((bytes_decides (map to_ascii_lowercase x.1) name).1 g)) (λ x. refl) (λ x e. cc)
     (some_place, name) lower
 
@@ -247,8 +243,8 @@ string_tells (Ident pos text) x e = absurd (cc)
 string_tells (Delimiter s pos) x e = absurd (cc)
 string_tells EndOfFile x e = absurd (cc)
 
-pub law_string : Law string Any (λ k x. plain (string_token x) ∷ []) (λ k x. k) (of_string ∷ []) [] false
-law_string = law_one weightless string_of Any string_token (of_string ∷ []) string_tells (λ x g. refl) (λ x. refl) (λ x e. cc)
+pub law_string : Law string Any (λ x. plain Within (string_token x) ∷ []) (of_string ∷ []) [] false
+law_string = law_one (resting Within) string_of Any string_token (of_string ∷ []) string_tells (λ x g. refl) (λ x. refl) (λ x e. cc)
     (some_place, 34 ∷ 34 ∷ []) tt
 
 abbrev pub number_token : Pos × ℕ → Spelled
@@ -262,6 +258,6 @@ number_tells (Str pos text) x e = absurd (cc)
 number_tells (Delimiter s pos) x e = absurd (cc)
 number_tells EndOfFile x e = absurd (cc)
 
-pub law_number : Law number Any (λ k x. plain (number_token x) ∷ []) (λ k x. k) (of_number ∷ []) [] false
-law_number = law_one weightless number_of Any number_token (of_number ∷ []) number_tells (λ x g. refl) (λ x. refl) (λ x e. cc)
+pub law_number : Law number Any (λ x. plain Within (number_token x) ∷ []) (of_number ∷ []) [] false
+law_number = law_one (resting Within) number_of Any number_token (of_number ∷ []) number_tells (λ x g. refl) (λ x. refl) (λ x e. cc)
     (some_place, 0) tt

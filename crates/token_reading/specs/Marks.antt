@@ -1,48 +1,70 @@
--- Spellings whose tokens carry whether they are one too many: an opener of a construct where no level is left, or an
--- operator past the limit (docs/TOOL.md, "Limits").
-use Rattle.std.specs.Prelude.{◌≡◌, ℕ, Bool, false, List, [], ◌∷◌, ◌++◌}
+-- Spellings whose tokens carry how they count for the limits of depth and of operators (docs/TOOL.md, "Limits").
+--
+-- The operators of one outermost expression are counted along the tokens. A token apart from all expressions ends the
+-- count. Two outermost expressions never stand side by side: a token that is part of neither stands between them.
+use Rattle.std.specs.Prelude.{◌≡◌, ℕ, suc, Bool, false, List, [], ◌∷◌, ◌++◌}
+use lib.Dec.{leb}
+use Rattle.spark_base.specs.declared.limits.TheConstants.{NESTING, OPERATORS}
+use Rattle.token_reading.specs.declared.side.Side.{Side}
+use Rattle.token_reading.specs.declared.side.Side.TheVariants.{Apart, Within}
 use Rattle.token_reading.specs.Spelled.{Spelled, EndOfFile}
+
+-- How a token counts, by the operators of its outermost expression that stand before it.
+pub record Weight : Type 0 where
+  -- whether the token is one too many
+  pub heavy : ℕ → Bool
+  -- the operators behind the token
+  pub step : ℕ → ℕ
+
+abbrev pub rests : Side → ℕ → ℕ
+rests Apart k = 0
+rests Within k = k
+
+-- The token opens no construct and is no operator.
+abbrev pub resting : Side → Weight
+resting side = record { heavy = λ k. false; step = rests side }
+
+-- The token opens a construct, and so many are open around it.
+abbrev pub opening : Side → ℕ → Weight
+opening side depth = record { heavy = λ k. leb NESTING depth; step = rests side }
+
+-- The token is an operator, or the first word of one.
+abbrev pub operating : Weight
+operating = record { heavy = λ k. leb OPERATORS k; step = λ k. suc k }
 
 pub record Mark : Type 0 where
   pub token : Spelled
-  -- the token is one too many
-  pub heavy : Bool
+  pub weight : Weight
 
--- A token that is none too many.
-abbrev pub plain : Spelled → Mark
-plain t = record { token = t; heavy = false }
+abbrev pub plain : Side → Spelled → Mark
+plain side t = record { token = t; weight = resting side }
+
+abbrev pub opens : Side → ℕ → Spelled → Mark
+opens side depth t = record { token = t; weight = opening side depth }
+
+abbrev pub operates : Spelled → Mark
+operates t = record { token = t; weight = operating }
 
 -- The tokens alone.
 abbrev pub bare : List Mark → List Spelled
 bare [] = []
 bare (m ∷ ms) = m.token ∷ bare ms
 
--- A token within a source that is none too many.
-pub record IsLight (m : Mark) : Type 0 where
-  pub allowed : m.heavy ≡ false
+-- The operators of one outermost expression behind these tokens, where so many stand before them.
+abbrev pub after : ℕ → List Mark → ℕ
+after k [] = k
+after k (m ∷ ms) = after (m.weight.step k) ms
+
+-- A token within a source that is none too many, where so many operators stand before it.
+pub record IsLight (k : ℕ) (m : Mark) : Type 0 where
+  pub allowed : m.weight.heavy k ≡ false
   pub within_file : m.token ≡ EndOfFile → ⊥
 
-abbrev pub Light : List Mark → Type 0
-Light [] = Unit {0}
-Light (m ∷ ms) = IsLight m × Light ms
+abbrev pub Light : ℕ → List Mark → Type 0
+Light k [] = Unit {0}
+Light k (m ∷ ms) = IsLight k m × Light (m.weight.step k) ms
 
--- A part's spelling, and how many operators of its outermost expression there are behind it, both by how many there are before it.
-abbrev pub Marking : Type 0 → Type 0
-Marking A = ℕ → A → List Mark
-
-abbrev pub Count : Type 0 → Type 0
-Count A = ℕ → A → ℕ
-
--- The parts have no operator of the expression that they stand in.
-abbrev pub keeps : {A : Type 0} → Count A
-keeps k a = k
-
--- ---- parts in a row
-
-abbrev pub counted : {A : Type 0} → Count A → Count (List A)
-counted next k [] = k
-counted next k (x ∷ xs) = counted next (next k x) xs
-
-abbrev pub marked : {A : Type 0} → Marking A → Count A → Marking (List A)
-marked s next k [] = []
-marked s next k (x ∷ xs) = s k x ++ marked s next (next k x) xs
+-- Parts in a row.
+abbrev pub marked : {A : Type 0} → (A → List Mark) → List A → List Mark
+marked s [] = []
+marked s (x ∷ xs) = s x ++ marked s xs

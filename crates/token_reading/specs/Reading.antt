@@ -7,11 +7,9 @@ use Rattle.std.specs.Coded.{Coded, code_by, coded×, coded_ℕ, coded_list}
 use Rattle.std.specs.Str.{bytes_eq}
 use Rattle.std.specs.Char.{to_ascii_lowercase}
 use Rattle.std.proofs.Common.{inl, inr}
-use lib.Dec.{leb}
 use denote.Enum.Bare.{sameb}
 use denote.Enum.Declared.{tag_of}
 use Rattle.spark_base.specs.declared.position.Pos.{Pos}
-use Rattle.spark_base.specs.declared.limits.TheConstants.{OPERATORS}
 use Rattle.ada_lexer.specs.declared.token.Reserved.{Reserved}
 use Rattle.ada_lexer.specs.declared.token.Symbol.{Symbol}
 use Rattle.ada_lexer.specs.declared.token.Token.{Token}
@@ -19,6 +17,9 @@ use Rattle.ada_lexer.specs.contracts.token.Reserved as reserved
 use Rattle.ada_lexer.specs.contracts.token.Symbol as symbols
 use Rattle.token_reading.specs.declared.fault.ReadFault.{ReadFault}
 use Rattle.token_reading.specs.declared.fault.ReadFault.TheVariants as fault
+use Rattle.token_reading.specs.declared.side.Side.{Side}
+use Rattle.token_reading.specs.declared.side.Side.TheVariants.{Apart, Within}
+use Rattle.token_reading.specs.Marks.{Weight, resting, opening, operating}
 use Rattle.token_reading.specs.Spelled.{Spelled, Word, Ident, Number, Str, Delimiter, EndOfFile, told, spelled_code}
 
 pub data Cause : Type 0 where
@@ -102,22 +103,6 @@ starts ms (t ∷ ts) = is_in ms (code t)
 
 -- ---- one token
 
--- Whether a token is one too many, and the operators behind it, both by the operators before it.
-pub record Weight : Type 0 where
-  pub heavy : ℕ → Bool
-  pub step : ℕ → ℕ
-
-abbrev pub weightless : Weight
-weightless = record { heavy = λ k. false; step = λ k. k }
-
--- an opener of a construct, where there is no level left or there is one
-abbrev pub opener : Bool → Weight
-opener full = record { heavy = λ k. full; step = λ k. k }
-
--- an operator
-abbrev pub operator : Weight
-operator = record { heavy = λ k. leb OPERATORS k; step = λ k. suc k }
-
 abbrev pub weighed : {A : Type 0} → Weight → A → ℕ → Spelled → List Spelled → Outcome A
 weighed w a k t ts = if w.heavy k then Fails Deep (t ∷ ts) else Got a (w.step k) ts
 
@@ -134,32 +119,32 @@ word_place word (Word it pos) = if sameb reserved.the_type it word then Some pos
 word_place word _ = None
 
 -- the reserved word, as its place
-abbrev pub word : Reserved → Reader Pos
-word v = one_of weightless (word_place v)
+abbrev pub word : Side → Reserved → Reader Pos
+word side v = one_of (resting side) (word_place v)
 
--- the reserved word, which opens a construct
-abbrev pub opens_word : Reserved → Bool → Reader Pos
-opens_word v full = one_of (opener full) (word_place v)
+-- the reserved word apart from all expressions, which opens a construct, with so many open around it
+abbrev pub opens_word : Reserved → ℕ → Reader Pos
+opens_word v depth = one_of (opening Apart depth) (word_place v)
 
 -- the reserved word, which is an operator
 abbrev pub operator_word : Reserved → Reader Pos
-operator_word v = one_of operator (word_place v)
+operator_word v = one_of operating (word_place v)
 
 abbrev pub symbol_place : Symbol → Spelled → Option Pos
 symbol_place symbol (Delimiter it pos) = if sameb symbols.the_type it symbol then Some pos else None
 symbol_place symbol _ = None
 
 -- the delimiter, as its place
-abbrev pub symbol : Symbol → Reader Pos
-symbol v = one_of weightless (symbol_place v)
+abbrev pub symbol : Side → Symbol → Reader Pos
+symbol side v = one_of (resting side) (symbol_place v)
 
--- the delimiter, which opens a construct
-abbrev pub opens_symbol : Symbol → Bool → Reader Pos
-opens_symbol v full = one_of (opener full) (symbol_place v)
+-- the delimiter, which opens a construct, with so many open around it
+abbrev pub opens_symbol : Side → Symbol → ℕ → Reader Pos
+opens_symbol side v depth = one_of (opening side depth) (symbol_place v)
 
 -- the delimiter, which is an operator
 abbrev pub operator_symbol : Symbol → Reader Pos
-operator_symbol v = one_of operator (symbol_place v)
+operator_symbol v = one_of operating (symbol_place v)
 
 -- A place, and the text that stands there.
 abbrev pub PlacedText : Type 0
@@ -169,23 +154,23 @@ abbrev pub identifier_of : Spelled → Option PlacedText
 identifier_of (Ident pos text) = Some (pos, text)
 identifier_of _ = None
 
-abbrev pub ident : Reader PlacedText
-ident = one_of weightless identifier_of
+abbrev pub ident : Side → Reader PlacedText
+ident side = one_of (resting side) identifier_of
 
 abbrev pub called_of : List ℕ → Spelled → Option PlacedText
 called_of name (Ident pos text) = if bytes_eq (map to_ascii_lowercase text) name then Some (pos, text) else None
 called_of name _ = None
 
--- the identifier with this spelling in lower case
+-- the identifier with this spelling in lower case, apart from all expressions
 abbrev pub ident_called : List ℕ → Reader PlacedText
-ident_called name = one_of weightless (called_of name)
+ident_called name = one_of (resting Apart) (called_of name)
 
 abbrev pub string_of : Spelled → Option PlacedText
 string_of (Str pos text) = Some (pos, text)
 string_of _ = None
 
 abbrev pub string : Reader PlacedText
-string = one_of weightless string_of
+string = one_of (resting Within) string_of
 
 abbrev pub number_of : Spelled → Option (Pos × ℕ)
 number_of (Number value pos) = Some (pos, value)
@@ -193,14 +178,14 @@ number_of _ = None
 
 -- the number, as its place and its value
 abbrev pub number : Reader (Pos × ℕ)
-number = one_of weightless number_of
+number = one_of (resting Within) number_of
 
 abbrev pub end_of : Spelled → Option (Unit {0})
 end_of EndOfFile = Some tt
 end_of _ = None
 
 abbrev pub file_end : Reader (Unit {0})
-file_end = one_of weightless end_of
+file_end = one_of (resting Apart) end_of
 
 -- ---- larger readers
 
@@ -255,10 +240,6 @@ in_front x = x.0 ∷ x.1
 -- at least one, and then one after the other while the next token is of one of these kinds
 abbrev pub some : {A : Type 0} → List ℕ → Reader A → Reader (List A)
 some ms p = to in_front (seq p (many ms p))
-
--- an outermost expression, whose operators are counted by themselves
-abbrev pub outermost : {A : Type 0} → Reader A → Reader A
-outermost p k ts = and_then (p 0 ts) (λ a j rest. Got a k rest)
 
 -- a whole file: what this reader reads, and then the end of the file
 abbrev pub whole_file : {A : Type 0} → Reader A → Reader A

@@ -2,22 +2,42 @@
 ghost use Rattle.std.specs.Prelude.{◌≡◌, [], ◌∷◌, map};
 ghost use Rattle.std.specs.Option.{is_some};
 ghost use lib.Dec.{leb};
-ghost use Rattle.spark_base.specs.declared.limits.TheConstants.{OPERATORS};
+ghost use Rattle.spark_base.specs.declared.limits.TheConstants.{NESTING, OPERATORS};
 ghost use Rattle.std.specs.Char.{to_ascii_lowercase};
 ghost use Rattle.token_reading.specs.Spelled.{told};
+ghost use Rattle.token_reading.specs.declared.side.Side.TheVariants.{Apart};
+ghost use Rattle.token_reading.specs.Marks.{rests};
 ghost use Rattle.token_reading.specs.Kinds.{of_kind};
 ghost use Rattle.token_reading.specs.Reading as reading;
 ghost use Rattle.token_reading.specs.Reading.{Reads, StandsAt, starts, of_word, of_symbol, of_ident, of_number, of_string};
 
 use crate::fault::ReadFault;
 use crate::kind::{Kind, is_of_kinds};
+use crate::side::Side;
 use crate::token::{
     is_called, is_file_end, is_identifier, is_string, number_of, symbol_place, word_place,
 };
 use ada_lexer::{Reserved, Symbol, Token};
-use spark_base::{Listed, OPERATORS, Pos};
+use spark_base::{Listed, NESTING, OPERATORS, Pos};
 use std::alloc::Global;
 use std::marker::Model;
+
+/// The operators of the outermost expression behind a token on this side that is none, where so many stand before it.
+fn counted(side: Side, count: u32) -> u32
+    ensures { result ≡ rests side count }
+{
+    match side {
+        Side::Apart => 0,
+        Side::Within => count,
+    }
+}
+
+/// Whether so many open constructs are all that may be.
+fn has_all_levels(depth: u32) -> bool
+    ensures { result ≡ leb NESTING depth }
+{
+    depth >= NESTING
+}
 
 /// The tokens that haven't been read, and how many operators the outermost expression has so far.
 /// Where a method gives a fault, the tokens stay as they are.
@@ -137,8 +157,8 @@ impl<'t, 's> Cursor<'t, 's> {
     }
 
     /// Reads this reserved word.
-    pub fn word(&mut self, word: Reserved) -> Result<Pos, ReadFault>
-        ensures { Reads (reading.word word) self.old result self.new }
+    pub fn word(&mut self, side: Side, word: Reserved) -> Result<Pos, ReadFault>
+        ensures { Reads (reading.word side word) self.old result self.new }
     {
         let Some(token) = self.rest.first() else {
             return Err(ReadFault::Refused);
@@ -146,13 +166,15 @@ impl<'t, 's> Cursor<'t, 's> {
         let Some(pos) = word_place(token, word) else {
             return Err(ReadFault::Refused);
         };
+        self.count = counted(side, self.count);
         self.rest = &self.rest[1..];
         Ok(pos)
     }
 
-    /// Reads this reserved word, which opens a construct; it is too deep where no level is left for one.
-    pub fn opens_word(&mut self, word: Reserved, full: bool) -> Result<Pos, ReadFault>
-        ensures { Reads (reading.opens_word word full) self.old result self.new }
+    /// Reads this reserved word apart from all expressions, which opens a construct where so many are open; it is too deep
+    /// where these are all that may be.
+    pub fn opens_word(&mut self, word: Reserved, depth: u32) -> Result<Pos, ReadFault>
+        ensures { Reads (reading.opens_word word depth) self.old result self.new }
     {
         let Some(token) = self.rest.first() else {
             return Err(ReadFault::Refused);
@@ -160,9 +182,10 @@ impl<'t, 's> Cursor<'t, 's> {
         let Some(pos) = word_place(token, word) else {
             return Err(ReadFault::Refused);
         };
-        if full {
+        if has_all_levels(depth) {
             return Err(ReadFault::Deep);
         }
+        self.count = 0;
         self.rest = &self.rest[1..];
         Ok(pos)
     }
@@ -186,8 +209,8 @@ impl<'t, 's> Cursor<'t, 's> {
     }
 
     /// Reads this delimiter.
-    pub fn symbol(&mut self, symbol: Symbol) -> Result<Pos, ReadFault>
-        ensures { Reads (reading.symbol symbol) self.old result self.new }
+    pub fn symbol(&mut self, side: Side, symbol: Symbol) -> Result<Pos, ReadFault>
+        ensures { Reads (reading.symbol side symbol) self.old result self.new }
     {
         let Some(token) = self.rest.first() else {
             return Err(ReadFault::Refused);
@@ -195,13 +218,14 @@ impl<'t, 's> Cursor<'t, 's> {
         let Some(pos) = symbol_place(token, symbol) else {
             return Err(ReadFault::Refused);
         };
+        self.count = counted(side, self.count);
         self.rest = &self.rest[1..];
         Ok(pos)
     }
 
-    /// Reads this delimiter, which opens a construct; it is too deep where no level is left for one.
-    pub fn opens_symbol(&mut self, symbol: Symbol, full: bool) -> Result<Pos, ReadFault>
-        ensures { Reads (reading.opens_symbol symbol full) self.old result self.new }
+    /// Reads this delimiter, which opens a construct where so many are open; it is too deep where these are all that may be.
+    pub fn opens_symbol(&mut self, side: Side, symbol: Symbol, depth: u32) -> Result<Pos, ReadFault>
+        ensures { Reads (reading.opens_symbol side symbol depth) self.old result self.new }
     {
         let Some(token) = self.rest.first() else {
             return Err(ReadFault::Refused);
@@ -209,9 +233,10 @@ impl<'t, 's> Cursor<'t, 's> {
         let Some(pos) = symbol_place(token, symbol) else {
             return Err(ReadFault::Refused);
         };
-        if full {
+        if has_all_levels(depth) {
             return Err(ReadFault::Deep);
         }
+        self.count = counted(side, self.count);
         self.rest = &self.rest[1..];
         Ok(pos)
     }
@@ -249,8 +274,8 @@ impl<'t, 's> Cursor<'t, 's> {
     }
 
     /// Reads an identifier, as its place and a copy of its bytes.
-    pub fn identifier(&mut self, alloc: Global) -> Result<(Pos, Listed<u8>), ReadFault>
-        ensures { Reads reading.ident self.old result self.new }
+    pub fn identifier(&mut self, alloc: Global, side: Side) -> Result<(Pos, Listed<u8>), ReadFault>
+        ensures { Reads (reading.ident side) self.old result self.new }
     {
         let Some(token) = self.rest.first() else {
             return Err(ReadFault::Refused);
@@ -260,11 +285,12 @@ impl<'t, 's> Cursor<'t, 's> {
         }
         let text = Listed::from_vec(Vec::from_slice(alloc, token.text)?);
         let pos = token.pos;
+        self.count = counted(side, self.count);
         self.rest = &self.rest[1..];
         Ok((pos, text))
     }
 
-    /// Reads an identifier that has this spelling in lower case.
+    /// Reads an identifier apart from all expressions that has this spelling in lower case.
     pub fn identifier_called(
         &mut self,
         alloc: Global,
@@ -281,6 +307,7 @@ impl<'t, 's> Cursor<'t, 's> {
         }
         let text = Listed::from_vec(Vec::from_slice(alloc, token.text)?);
         let pos = token.pos;
+        self.count = 0;
         self.rest = &self.rest[1..];
         Ok((pos, text))
     }
@@ -301,22 +328,12 @@ impl<'t, 's> Cursor<'t, 's> {
         Ok((pos, text))
     }
 
-    /// Reads this reserved word where it is the next token.
+    /// Reads this reserved word, apart from all expressions, where it is the next token.
     pub fn optional_word(&mut self, word: Reserved) -> Result<Option<Pos>, ReadFault>
-        ensures { Reads (reading.optional (of_word word ∷ []) (reading.word word)) self.old result self.new }
+        ensures { Reads (reading.optional (of_word word ∷ []) (reading.word Apart word)) self.old result self.new }
     {
         if self.sees_word(word) {
-            return Ok(Some(self.word(word)?));
-        }
-        Ok(None)
-    }
-
-    /// Reads this delimiter where it is the next token.
-    pub fn optional_symbol(&mut self, symbol: Symbol) -> Result<Option<Pos>, ReadFault>
-        ensures { Reads (reading.optional (of_symbol symbol ∷ []) (reading.symbol symbol)) self.old result self.new }
-    {
-        if self.sees_symbol(symbol) {
-            return Ok(Some(self.symbol(symbol)?));
+            return Ok(Some(self.word(Side::Apart, word)?));
         }
         Ok(None)
     }
@@ -331,27 +348,9 @@ impl<'t, 's> Cursor<'t, 's> {
         if !is_file_end(token) {
             return Err(ReadFault::Refused);
         }
+        self.count = 0;
         self.rest = &self.rest[1..];
         Ok(())
-    }
-
-    /// Begins an outermost expression, which has no operator yet, and gives how many there were so far around it.
-    pub fn begin_outermost(&mut self) -> u32
-        ensures around { result ≡ self.old.operators }
-        ensures none { self.new.operators ≡ 0 }
-        ensures tokens { self.new.tokens ≡ self.old.tokens }
-    {
-        let around = self.count;
-        self.count = 0;
-        around
-    }
-
-    /// Ends an outermost expression, which had so many operators around it.
-    pub fn end_outermost(&mut self, around: u32)
-        ensures around { self.new.operators ≡ around }
-        ensures tokens { self.new.tokens ≡ self.old.tokens }
-    {
-        self.count = around;
     }
 
     /// The token at which the cursor stands, if one is left.

@@ -1,11 +1,13 @@
 //! A reader of sums in parentheses, made of the readers of one token, on lists of tokens just right and just wrong.
 ghost use Rattle.std.specs.Prelude.{[], ◌∷◌};
 ghost use Rattle.ada_lexer.specs.declared.token.Symbol.TheVariants.{LeftParenthesis, Plus, RightParenthesis};
+ghost use Rattle.token_reading.specs.declared.side.Side.TheVariants.{Apart};
 ghost use Rattle.token_reading.specs.Reading as reading;
-ghost use Rattle.token_reading.specs.Reading.{Reads, of_symbol, seq, many, outermost};
+ghost use Rattle.token_reading.specs.Reading.{Reads, of_symbol, seq, many};
 
 use crate::cursor::Cursor;
 use crate::fault::ReadFault;
+use crate::side::Side;
 use ada_lexer::{Symbol, Token, TokenKind};
 use spark_base::{Listed, Pos};
 use std::alloc::{AllocError, Global};
@@ -48,15 +50,13 @@ fn sum(alloc: Global, tokens: &mut Cursor<'_, '_>) -> Result<(Number, Listed<Ter
 fn group(
     alloc: Global,
     tokens: &mut Cursor<'_, '_>,
-    full: bool,
+    depth: u32,
 ) -> Result<(Pos, ((Number, Listed<Term>), Pos)), ReadFault>
-    ensures { Reads (seq (reading.opens_symbol LeftParenthesis full) (seq (outermost (seq reading.number (many (of_symbol Plus ∷ []) (seq (reading.operator_symbol Plus) reading.number)))) (reading.symbol RightParenthesis))) tokens.old result tokens.new }
+    ensures { Reads (seq (reading.opens_symbol Apart LeftParenthesis depth) (seq (seq reading.number (many (of_symbol Plus ∷ []) (seq (reading.operator_symbol Plus) reading.number))) (reading.symbol Apart RightParenthesis))) tokens.old result tokens.new }
 {
-    let left = tokens.opens_symbol(Symbol::LeftParenthesis, full)?;
-    let around = tokens.begin_outermost();
+    let left = tokens.opens_symbol(Side::Apart, Symbol::LeftParenthesis, depth)?;
     let sum = sum(alloc, tokens)?;
-    tokens.end_outermost(around);
-    let right = tokens.symbol(Symbol::RightParenthesis)?;
+    let right = tokens.symbol(Side::Apart, Symbol::RightParenthesis)?;
     Ok((left, (sum, right)))
 }
 
@@ -92,11 +92,11 @@ fn tokens_of(alloc: Global, kinds: &[TokenKind]) -> Result<Vec<Token<'static>>, 
 fn read(
     alloc: Global,
     kinds: &[TokenKind],
-    full: bool,
+    depth: u32,
 ) -> Result<(Option<ReadFault>, u32), AllocError> {
     let made = tokens_of(alloc, kinds)?;
     let mut tokens = Cursor::new(made.as_slice());
-    let fault = group(alloc, &mut tokens, full).err();
+    let fault = group(alloc, &mut tokens, depth).err();
     let column = match tokens.next() {
         Some(token) => token.pos.column,
         None => 0,
@@ -107,42 +107,42 @@ fn read(
 #[test]
 fn groups(rt: HostRuntime) -> Result<(), Fail> {
     let end = TokenKind::EndOfFile;
-    for (kinds, full, fault, column) in [
-        ([LEFT, ONE, PLUS, ONE, RIGHT, end], false, None, 6),
-        ([LEFT, ONE, RIGHT, ONE, ONE, ONE], false, None, 4),
+    for (kinds, depth, fault, column) in [
+        ([LEFT, ONE, PLUS, ONE, RIGHT, end], 63, None, 6),
+        ([LEFT, ONE, RIGHT, ONE, ONE, ONE], 63, None, 4),
         (
             [LEFT, ONE, PLUS, ONE, RIGHT, end],
-            true,
+            64,
             Some(ReadFault::Deep),
             1,
         ),
         (
             [ONE, ONE, PLUS, ONE, RIGHT, end],
-            true,
+            64,
             Some(ReadFault::Refused),
             1,
         ),
         (
             [LEFT, ONE, PLUS, PLUS, RIGHT, end],
-            false,
+            63,
             Some(ReadFault::Refused),
             4,
         ),
         (
             [LEFT, ONE, PLUS, ONE, end, end],
-            false,
+            63,
             Some(ReadFault::Refused),
             5,
         ),
         (
             [LEFT, ONE, PLUS, ONE, PLUS, ONE],
-            false,
+            63,
             Some(ReadFault::Refused),
             0,
         ),
     ] {
         assert!(rt;
-            read(rt.alloc(), &kinds, full)? == (fault, column),
+            read(rt.alloc(), &kinds, depth)? == (fault, column),
             "{column}"
         );
     }
@@ -158,9 +158,37 @@ fn operators(rt: HostRuntime) -> Result<(), Fail> {
             kinds.push(ONE)?;
         }
         kinds.push(RIGHT)?;
-        let (found, column) = read(rt.alloc(), kinds.as_slice(), false)?;
+        let (found, column) = read(rt.alloc(), kinds.as_slice(), 0)?;
         assert!(rt; found == fault, "{count}");
         assert!(rt; column == 0 || column == 2_051, "{column}");
+    }
+    Ok(())
+}
+
+/// Reads so many `+`, each with a `(` behind it that stands on this side.
+fn signs(tokens: &mut Cursor<'_, '_>, side: Side, count: u32) -> Result<(), ReadFault> {
+    for _ in 0..count {
+        tokens.operator_symbol(Symbol::Plus)?;
+        tokens.opens_symbol(side, Symbol::LeftParenthesis, 63)?;
+    }
+    Ok(())
+}
+
+#[test]
+fn sides(rt: HostRuntime) -> Result<(), Fail> {
+    let mut kinds = Vec::new(rt.alloc());
+    for _ in 0..1_025 {
+        kinds.push(PLUS)?;
+        kinds.push(LEFT)?;
+    }
+    let made = tokens_of(rt.alloc(), kinds.as_slice())?;
+    for (side, count, fault) in [
+        (Side::Apart, 1_025, None),
+        (Side::Within, 1_024, None),
+        (Side::Within, 1_025, Some(ReadFault::Deep)),
+    ] {
+        let mut tokens = Cursor::new(made.as_slice());
+        assert!(rt; signs(&mut tokens, side, count).err() == fault, "{count}");
     }
     Ok(())
 }
