@@ -43,7 +43,9 @@ use Rattle.ada_tree.specs.declared.expression.Name.TheVariants as name
 use Rattle.ada_tree.specs.declared.expression.Suffix.{Suffix}
 use Rattle.ada_tree.specs.declared.expression.Suffix.TheVariants as suffix
 use Rattle.token_reading.specs.Spelled.{Word, Number, Str, Delimiter}
-use Rattle.ada_tree.specs.Marks.{Side, Within, plain, opens, operates}
+use Rattle.token_reading.specs.declared.side.Side.{Side}
+use Rattle.token_reading.specs.declared.side.Side.TheVariants.{Within}
+use Rattle.token_reading.specs.Marks.{plain, opens, operates}
 use Rattle.ada_tree.specs.Spelling.{word, symbol, id_mark, dotted_marks, relational_symbol, sign_symbol, adding_symbol, multiplying_token, aggregate_box, aggregate_marks, arg_box, arg_marks, expr_box, expr_marks, factor_box, factor_marks, name_box, name_marks, next_arg_marks, next_args_marks, next_factor_marks, next_factors_marks, next_term_marks, next_terms_marks, operand_marks, operands_marks, primary_box, primary_marks, rel_box, rel_marks, short_operand_marks, short_operands_marks, suffix_marks, suffixes_marks, sum_box, sum_marks, term_box, term_marks}
 use Rattle.ada_tree.specs.declared.expression.Aggregate.TheBlock.{shape-the_row-Arg-0, hidden-the_row-Arg-0, shape-the_row-Expr-2, hidden-the_row-Expr-2, shape-the_row-Rel-3, hidden-the_row-Rel-3, shape-the_row-Primary-6, hidden-the_row-Primary-6, shape-the_row-Factor-8, hidden-the_row-Factor-8, shape-the_row-Term-9, hidden-the_row-Term-9, shape-the_row-Name-10, hidden-the_row-Name-10, shape-the_row-Aggregate-11, hidden-the_row-Aggregate-11, shape-the_row-Sum-12, hidden-the_row-Sum-12, hidden-the_row-NextArg-1, hidden-the_row-Operand-4, hidden-the_row-ShortOperand-5, hidden-the_row-Suffix-7, hidden-the_row-NextTerm-13, hidden-the_row-NextFactor-14}
 
@@ -183,7 +185,7 @@ arg-Positional side d pos value = refl
 -- arg = id "=>" expr
 pub arg-Association : (side : Side) (d : ℕ) (pos : Pos) (id : Identifier) (arrow : Pos) (value : Expr)
     → arg_marks side d (arg.Association pos id arrow value)
-    ≡ id_mark side id ∷ symbol side s.Arrow arrow ∷ expr_marks d value
+    ≡ id_mark Within id ∷ symbol side s.Arrow arrow ∷ expr_marks d value
 unfolding arg_marks expr_box hidden-the_row-Expr-2 shape-the_row-Expr-2 hidden
 arg-Association side d pos id arrow value = refl
 

@@ -23,7 +23,8 @@ use Rattle.ada_tree.specs.declared.statement.When.{When}
 use Rattle.ada_tree.specs.declared.statement.When.TheVariants as alternative
 use Rattle.ada_tree.specs.declared.statement.Elsif.TheBlock.{shape-the_row-Stmts-0, hidden-the_row-Stmts-0, hidden-the_row-Elsif-1, shape-the_row-When-2, hidden-the_row-When-2, hidden-the_row-When-3, shape-the_row-Stmt-4, hidden-the_row-Stmt-4, hidden-the_row-Stmt-5}
 use Rattle.token_reading.specs.Spelled.{Word}
-use Rattle.ada_tree.specs.Marks.{Apart, opens}
+use Rattle.token_reading.specs.declared.side.Side.TheVariants.{Apart}
+use Rattle.token_reading.specs.Marks.{opens}
 use Rattle.ada_tree.specs.Spelling.{word, symbol, id_mark, optional_word, end_marks, name_marks, expr_marks, range_marks, choice_marks, next_choice_marks, item_marks, stmts_box, stmts_marks, stmt_box, next_stmts_marks, stmt_marks, elsifs_marks, elsif_marks, when_box, next_whens_marks, when_marks}
 
 -- ---- lists

@@ -29,7 +29,8 @@ use Rattle.ada_tree.specs.declared.unit.PackageBody.{PackageBody}
 use Rattle.ada_tree.specs.declared.unit.BodyPart.{BodyPart}
 use Rattle.ada_tree.specs.declared.unit.BodyPart.TheVariants as part
 use Rattle.ada_tree.specs.declared.unit.SubprogramBody.{SubprogramBody}
-use Rattle.ada_tree.specs.WellPlaced.{Each, EachSome}
+use Rattle.token_reading.specs.Reading.{Each}
+use Rattle.ada_tree.specs.WellPlaced.{EachSome}
 
 -- The identifier has this spelling, which is in lower case.
 abbrev pub IsCalled : List ℕ → Identifier → Type 0

@@ -1,14 +1,13 @@
 -- The refused token of a file, with its code (docs/LANGUAGE.md, "Grammar").
-use Rattle.std.specs.Prelude.{◌≡◌, Bool, true, false, List, [], ◌∷◌, ◌++◌}
+use Rattle.std.specs.Prelude.{◌≡◌, Bool, true, false, List, ◌∷◌}
 use Rattle.ada_lexer.specs.declared.token.Reserved.{Reserved}
 use Rattle.ada_lexer.specs.declared.token.Reserved.TheVariants.{KwAbort, KwAbstract, KwAccept, KwAliased, KwAll, KwAt, KwDelay, KwDelta, KwDigits, KwDo, KwEntry, KwException, KwGeneric, KwGoto, KwInterface, KwLimited, KwNew, KwOverriding, KwProtected, KwRaise, KwRenames, KwRequeue, KwSelect, KwSeparate, KwSome, KwSynchronized, KwTagged, KwTask, KwTerminate, KwUntil}
 use Rattle.ada_tree.specs.declared.unit.SourceUnit.{SourceUnit}
 use Rattle.token_reading.specs.Spelled.{Spelled, Word, Ident, Number, Str, Delimiter, EndOfFile}
-use Rattle.ada_tree.specs.Marks.{Mark, bare}
-use Rattle.ada_tree.specs.Spelling.{source_marks, Spelling}
+use Rattle.token_reading.specs.Sources as sources
+use Rattle.ada_tree.specs.Spelling.{source_marks}
 use Rattle.ada_tree.specs.WellPlaced.{WellPlaced}
 use Rattle.ada_tree.specs.FixedNames.{FixedNames}
-use Rattle.ada_tree.specs.Limits.{operators_after, IsTooMany, Light}
 
 -- The units are those of a source: there is one at least, each part has its place, and the fixed names stand where the
 -- grammar has them.
@@ -18,44 +17,12 @@ pub record IsSource (units : List SourceUnit) : Type 0 where
   pub named : FixedNames units
 
 -- The units are those of a source that is spelled by the tokens.
-pub record IsSpelledBy (units : List SourceUnit) (tokens : List Spelled) : Type 0 where
-  pub source : IsSource units
-  pub spelling : Spelling units ≡ tokens
+abbrev pub IsSpelledBy : List Spelled → List SourceUnit → Type 0
+IsSpelledBy = sources.IsSpelledBy IsSource source_marks
 
--- Some list of tokens continues the list to the spelling of a source.
-pub record Begins (tokens : List Spelled) : Type 0 where
-  pub units : List SourceUnit
-  pub rest : List Spelled
-  pub source : IsSource units
-  pub spelling : Spelling units ≡ tokens ++ rest
-
--- The same, and no token of the list is one too many there.
-pub record BeginsLight (tokens : List Spelled) : Type 0 where
-  pub units : List SourceUnit
-  pub front : List Mark
-  pub rest : List Mark
-  pub source : IsSource units
-  pub spelling : source_marks units ≡ front ++ rest
-  pub tokens_are : bare front ≡ tokens
-  pub light : Light 0 front
-
--- Some source goes on from the list with the token, which is the first that is one too many there.
-pub record BeginsHeavy (tokens : List Spelled) (token : Spelled) : Type 0 where
-  pub units : List SourceUnit
-  pub front : List Mark
-  pub mark : Mark
-  pub rest : List Mark
-  pub source : IsSource units
-  pub spelling : source_marks units ≡ front ++ mark ∷ rest
-  pub tokens_are : bare front ≡ tokens
-  pub token_is : mark.token ≡ token
-  pub light : Light 0 front
-  pub too_many : IsTooMany (operators_after 0 front) mark
-
--- The token is the first through which no source goes on from the list, and no token before it is one too many.
-pub record IsFaulty (tokens : List Spelled) (token : Spelled) : Type 0 where
-  pub before : BeginsLight tokens
-  pub through : ¬ Begins (tokens ++ token ∷ [])
+-- The units are the one source that is spelled by the tokens, none of which is one too many.
+abbrev pub IsTreeOf : List Spelled → List SourceUnit → Type 0
+IsTreeOf = sources.IsTreeOf IsSource source_marks
 
 -- Words of Ada 2012 that begin or go on with what is left out of the language. At the refused token they are P3.
 abbrev pub is_left_out_word : Reserved → Bool
@@ -109,6 +76,6 @@ pub data Code : Type 0 where
 
 -- The token behind the list is refused with the code. P1 and P3 go before P2 at one token: with P2 a source goes on through it.
 abbrev pub IsRefused : Code → List Spelled → Spelled → Type 0
-IsRefused Syntax tokens token = IsFaulty tokens token × (is_left_out token ≡ false)
-IsRefused LeftOut tokens token = IsFaulty tokens token × (is_left_out token ≡ true)
-IsRefused TooDeep tokens token = BeginsHeavy tokens token
+IsRefused Syntax before token = sources.IsFaulty IsSource source_marks before token × (is_left_out token ≡ false)
+IsRefused LeftOut before token = sources.IsFaulty IsSource source_marks before token × (is_left_out token ≡ true)
+IsRefused TooDeep before token = sources.IsTooMany IsSource source_marks before token

@@ -79,32 +79,20 @@ use Rattle.ada_tree.specs.declared.unit.PackageBody.{PackageBody}
 use Rattle.ada_tree.specs.declared.unit.BodyPart.{BodyPart}
 use Rattle.ada_tree.specs.declared.unit.BodyPart.TheVariants as part
 use Rattle.ada_tree.specs.declared.unit.SubprogramBody.{SubprogramBody}
-use Rattle.token_reading.specs.Spelled.{Spelled, Word, Ident, Number, Str, Delimiter, EndOfFile}
-use Rattle.ada_tree.specs.Marks.{Apart, Within, Mark}
+use Rattle.token_reading.specs.declared.side.Side.TheVariants.{Apart, Within}
+use Rattle.token_reading.specs.Marks.{Mark, bare}
+use Rattle.token_reading.specs.Reading as reading
+use Rattle.token_reading.specs.Reading.{Each}
 use Rattle.ada_tree.specs.Spelling.{dotted_marks, name_box, name_marks, expr_box, expr_marks, rel_box, sum_box, term_box, factor_box, primary_box, aggregate_box, item_marks, stmt_box, subspec_marks, decl_marks, subprogram_marks, context_marks, package_marks, package_body_marks}
-
--- The fact holds of each element.
-unfoldable pub Each : {A : Type 0} → (A → Type 0) → List A → Type 0
-Each P [] = Unit {0}
-Each P (x ∷ xs) = P x × Each P xs
 
 -- The fact holds of the part, where there is one.
 abbrev pub EachSome : {A : Type 0} → (A → Type 0) → Option A → Type 0
 EachSome P None = Unit {0}
 EachSome P (Some x) = P x
 
-abbrev pub place : Spelled → Option Pos
-place (Word word pos) = Some pos
-place (Ident pos text) = Some pos
-place (Number number pos) = Some pos
-place (Str pos text) = Some pos
-place (Delimiter symbol pos) = Some pos
-place EndOfFile = None
-
 -- The first of the tokens stands there.
-unfoldable pub StartsAt : Pos → List Mark → Type 0
-StartsAt pos [] = ⊥
-StartsAt pos (mark ∷ marks) = place mark.token ≡ Some pos
+abbrev pub StartsAt : Pos → List Mark → Type 0
+StartsAt pos marks = reading.StartsAt pos (bare marks)
 
 unfoldable pub DottedPlaced : Dotted → Type 0
 DottedPlaced dotted = dotted.first.pos ≡ dotted.pos

@@ -11,6 +11,7 @@ mod declaration;
 mod expression;
 mod identifier;
 mod kind;
+mod lone;
 mod operator;
 mod place;
 mod range;
@@ -32,3 +33,6 @@ pub use statement::{Elsif, Stmt, Stmts, When};
 pub use subprogram::{Decl, Formal, Formals, ModeOn, NextFormal, SparkMode, Subspec};
 pub use unit::{BodyPart, Context, Package, PackageBody, PrivatePart, SourceUnit, SubprogramBody};
 pub use word::Word;
+
+#[cfg(test)]
+mod tests;
