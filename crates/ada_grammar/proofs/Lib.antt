@@ -1,0 +1,31 @@
+pub mod ExpressionNames
+pub mod ExpressionOperators
+pub mod ExpressionArgs
+pub mod ExpressionSuffixes
+pub mod ExpressionParentheses
+pub mod ExpressionPrimaries
+pub mod ExpressionTerms
+pub mod ExpressionChains
+pub mod ExpressionLaws
+pub mod ExpressionLengths
+pub mod ExpressionEnds
+pub mod ExpressionLevels
+pub mod ItemParts
+pub mod Range
+pub mod ItemTypes
+pub mod Item
+-- laws of statements
+pub mod StatementParts
+pub mod SmallTrees
+pub mod SimpleStatements
+pub mod BranchStatements
+pub mod BlockStatements
+pub mod Statements
+pub mod StatementLoops
+-- laws of subprograms and units
+pub mod UnitFronts
+pub mod UnitParts
+pub mod UnitDecls
+pub mod UnitBodies
+pub mod UnitPackages
+pub mod UnitLaws
