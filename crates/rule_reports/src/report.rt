@@ -4,10 +4,10 @@ ghost use Rattle.straight_line.specs.Within.{IsObject, root_of};
 ghost use Rattle.straight_line.specs.Reported.{printed_name, report_of};
 ghost use Rattle.rule_reports.specs.Lines as spec;
 
-use ada_parser::Word;
 use place_names::State;
 use spark_base::position_text;
 use std::alloc::{AllocError, Global};
+use straight_form::Word;
 use straight_line::{PathReport, place_text};
 
 /// The line of a report, `POS: RULE NAME: WORD`. The files are the names as they were given, by number, and the objects

@@ -3,11 +3,11 @@ ghost use Rattle.std.specs.Prelude.{◌<◌, ◌↔◌, All, IsTrue, length};
 ghost use Rattle.straight_line.specs.Within.{IsObject, root_of};
 
 use super::*;
-use ada_parser::Word;
 use place_names::Rule;
 use spark_base::Pos;
 use std::alloc::{AllocError, Global};
 use std::test::Fail;
+use straight_form::Word;
 use straight_line::{PathReport, Place};
 
 fn names(alloc: Global) -> Result<Vec<String>, AllocError> {

@@ -1,6 +1,6 @@
 -- Where a loop over declarations has come to.
 use Rattle.std.proofs.Common.{◌≡◌, ℕ, List, ◌++◌, map, drop}
-use Rattle.ada_parser.specs.declared.tree.NextIdentifier.{NextIdentifier}
+use Rattle.straight_form.specs.declared.tree.NextIdentifier.{NextIdentifier}
 use Rattle.straight_line.specs.declared.kind.Mark.{Mark}
 use Rattle.straight_line.specs.Declarations.{Declarations, next_name, numbered, object_count, texts}
 use Rattle.straight_line.specs.Steps.{all_follow, GoWith}

@@ -12,14 +12,14 @@
 use Rattle.std.proofs.Common.{◌≡◌, ℕ, List, [], ◌∷◌, false, refl, lit≤}
 use Rattle.std.specs.Prelude.{codes}
 use Rattle.spark_base.specs.declared.position.Pos.{Pos}
-use Rattle.ada_parser.specs.declared.tree.Identifier.{Identifier}
-use Rattle.ada_parser.specs.declared.tree.NextIdentifier.TheVariants.{After}
-use Rattle.ada_parser.specs.declared.tree.Item.TheVariants as item
-use Rattle.ada_parser.specs.declared.tree.Name.{Name}
-use Rattle.ada_parser.specs.declared.tree.Name.TheVariants as name
-use Rattle.ada_parser.specs.declared.tree.Value.TheVariants.{Named, Allocator}
-use Rattle.ada_parser.specs.declared.tree.Stmt.TheVariants.{Assign, Call}
-use Rattle.ada_parser.specs.declared.tree.SourceUnit.{SourceUnit}
+use Rattle.straight_form.specs.declared.tree.Identifier.{Identifier}
+use Rattle.straight_form.specs.declared.tree.NextIdentifier.TheVariants.{After}
+use Rattle.straight_form.specs.declared.tree.Item.TheVariants as item
+use Rattle.straight_form.specs.declared.tree.Name.{Name}
+use Rattle.straight_form.specs.declared.tree.Name.TheVariants as name
+use Rattle.straight_form.specs.declared.tree.Value.TheVariants.{Named, Allocator}
+use Rattle.straight_form.specs.declared.tree.Stmt.TheVariants.{Assign, Call}
+use Rattle.straight_form.specs.declared.tree.SourceUnit.{SourceUnit}
 use Rattle.place_names.specs.declared.selector.Sel.TheVariants.{Deref}
 use Rattle.place_names.specs.Acts.{Read, Write, Move, Free, EndScope, Return}
 use Rattle.straight_line.specs.Declarations.{declarations, object_texts}

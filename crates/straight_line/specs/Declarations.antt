@@ -3,12 +3,12 @@ use Rattle.std.specs.Prelude.{ℕ, ◌+◌, Bool, true, false, List, [], ◌∷�
 use Rattle.std.specs.Char.{to_ascii_lowercase}
 use Rattle.std.specs.Cmp.Lexicographic.{pointwise}
 use Rattle.std.specs.Map.{lookup}
-use Rattle.ada_parser.specs.declared.tree.Identifier.{Identifier}
-use Rattle.ada_parser.specs.declared.tree.NextIdentifier.{NextIdentifier}
-use Rattle.ada_parser.specs.declared.tree.NextIdentifier.TheVariants.{After}
-use Rattle.ada_parser.specs.declared.tree.Item.{Item}
-use Rattle.ada_parser.specs.declared.tree.Item.TheVariants as item
-use Rattle.ada_parser.specs.declared.tree.SourceUnit.{SourceUnit}
+use Rattle.straight_form.specs.declared.tree.Identifier.{Identifier}
+use Rattle.straight_form.specs.declared.tree.NextIdentifier.{NextIdentifier}
+use Rattle.straight_form.specs.declared.tree.NextIdentifier.TheVariants.{After}
+use Rattle.straight_form.specs.declared.tree.Item.{Item}
+use Rattle.straight_form.specs.declared.tree.Item.TheVariants as item
+use Rattle.straight_form.specs.declared.tree.SourceUnit.{SourceUnit}
 use Rattle.straight_line.specs.declared.kind.Mark.{Mark}
 use Rattle.straight_line.specs.declared.kind.Mark.TheVariants.{Integer, Access}
 use Rattle.straight_line.specs.declared.kind.Declared.{Declared}

@@ -2,13 +2,13 @@
 use Rattle.std.specs.Prelude.{ℕ, ◌≤◌, Bool, true, false, not, ◌&&◌, ◌||◌, List, [], ◌∷◌, ◌++◌, length, nat_eq, nat_le, Option, Some, None, is_none, IsTrue, codes}
 use Rattle.std.specs.List.{list_all}
 use Rattle.std.specs.Map.{lookup}
-use Rattle.ada_parser.specs.declared.tree.Name.{Name}
-use Rattle.ada_parser.specs.declared.tree.Name.TheVariants as name
-use Rattle.ada_parser.specs.declared.tree.Value.{Value}
-use Rattle.ada_parser.specs.declared.tree.Value.TheVariants.{Number, NullAccess, Named, Allocator}
-use Rattle.ada_parser.specs.declared.tree.Stmt.{Stmt}
-use Rattle.ada_parser.specs.declared.tree.Stmt.TheVariants.{Null, Assign, Call}
-use Rattle.ada_parser.specs.declared.tree.SourceUnit.{SourceUnit}
+use Rattle.straight_form.specs.declared.tree.Name.{Name}
+use Rattle.straight_form.specs.declared.tree.Name.TheVariants as name
+use Rattle.straight_form.specs.declared.tree.Value.{Value}
+use Rattle.straight_form.specs.declared.tree.Value.TheVariants.{Number, NullAccess, Named, Allocator}
+use Rattle.straight_form.specs.declared.tree.Stmt.{Stmt}
+use Rattle.straight_form.specs.declared.tree.Stmt.TheVariants.{Null, Assign, Call}
+use Rattle.straight_form.specs.declared.tree.SourceUnit.{SourceUnit}
 use Rattle.straight_line.specs.declared.kind.Mark.{Mark}
 use Rattle.straight_line.specs.declared.kind.Mark.TheVariants.{Integer, Access}
 use Rattle.straight_line.specs.declared.kind.Declared.{Declared}

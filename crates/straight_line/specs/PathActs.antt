@@ -1,14 +1,14 @@
 -- The acts of the one control path of a source in the straight-line form (docs/LANGUAGE.md, "The straight-line form"; docs/RULES.md, "Acts").
 use Rattle.std.specs.Prelude.{ℕ, false, List, [], ◌∷◌, ◌++◌, reverse, flat_map, Option, Some, None}
 use Rattle.spark_base.specs.declared.position.Pos.{Pos}
-use Rattle.ada_parser.specs.declared.tree.Identifier.{Identifier}
-use Rattle.ada_parser.specs.declared.tree.Name.{Name}
-use Rattle.ada_parser.specs.declared.tree.Name.TheVariants as name
-use Rattle.ada_parser.specs.declared.tree.Value.{Value}
-use Rattle.ada_parser.specs.declared.tree.Value.TheVariants.{Number, NullAccess, Named, Allocator}
-use Rattle.ada_parser.specs.declared.tree.Stmt.{Stmt}
-use Rattle.ada_parser.specs.declared.tree.Stmt.TheVariants.{Null, Assign, Call}
-use Rattle.ada_parser.specs.declared.tree.SourceUnit.{SourceUnit}
+use Rattle.straight_form.specs.declared.tree.Identifier.{Identifier}
+use Rattle.straight_form.specs.declared.tree.Name.{Name}
+use Rattle.straight_form.specs.declared.tree.Name.TheVariants as name
+use Rattle.straight_form.specs.declared.tree.Value.{Value}
+use Rattle.straight_form.specs.declared.tree.Value.TheVariants.{Number, NullAccess, Named, Allocator}
+use Rattle.straight_form.specs.declared.tree.Stmt.{Stmt}
+use Rattle.straight_form.specs.declared.tree.Stmt.TheVariants.{Null, Assign, Call}
+use Rattle.straight_form.specs.declared.tree.SourceUnit.{SourceUnit}
 use Rattle.place_names.specs.Acts.{Act, Read, Write, Move, Free, EndScope, Return, Placed}
 use Rattle.straight_line.specs.declared.kind.Mark.TheVariants.{Integer, Access}
 use Rattle.straight_line.specs.declared.kind.Declared.{Declared}

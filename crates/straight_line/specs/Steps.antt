@@ -3,9 +3,9 @@ use Rattle.std.specs.Prelude.{◌≡◌, ℕ, Bool, true, ◌&&◌, ◌≤◌, L
 use Rattle.std.specs.List.{list_all}
 use Rattle.std.specs.Map.{lookup}
 use Rattle.spark_base.specs.declared.position.Pos.{Pos}
-use Rattle.ada_parser.specs.declared.tree.Item.{Item}
-use Rattle.ada_parser.specs.declared.tree.Stmt.{Stmt}
-use Rattle.ada_parser.specs.declared.tree.SourceUnit.{SourceUnit}
+use Rattle.straight_form.specs.declared.tree.Item.{Item}
+use Rattle.straight_form.specs.declared.tree.Stmt.{Stmt}
+use Rattle.straight_form.specs.declared.tree.SourceUnit.{SourceUnit}
 use Rattle.place_names.specs.Acts.{Act, Read, Move, Placed}
 use Rattle.straight_line.specs.declared.kind.Mark.{Mark}
 use Rattle.straight_line.specs.declared.kind.Mark.TheVariants.{Integer, Access}

@@ -6,9 +6,9 @@ ghost use Rattle.straight_line.specs.Steps.{may_enter, may_follow, all_follow, i
 use crate::fault::Fault;
 use crate::kind::{Declared, Mark};
 use crate::scope::Scope;
-use ada_parser::Word;
-use ada_parser::tree::{Identifier, Item, NextIdentifier};
 use std::alloc::Global;
+use straight_form::Word;
+use straight_form::tree::{Identifier, Item, NextIdentifier};
 
 /// At most so many objects stand in a source.
 const MAX_OBJECTS: usize = 512;

@@ -16,9 +16,9 @@ use crate::kind::Declared;
 use crate::path::{PlacedDeed, StraightPath};
 use crate::scope::{Scope, may_name_procedure};
 use crate::statement::{walk, walk_all};
-use ada_parser::Word;
-use ada_parser::tree::{Identifier, SourceUnit};
 use std::alloc::{AllocError, Global};
+use straight_form::Word;
+use straight_form::tree::{Identifier, SourceUnit};
 
 /// At most so many statements stand in a source.
 const MAX_STATEMENTS: usize = 15_000;

@@ -1,7 +1,7 @@
 //! The one control path of a source in the straight-line form, as its acts in order.
 
-use ada_parser::Word;
 use spark_base::Pos;
+use straight_form::Word;
 
 /// A place that the straight-line form can name, by the number of its object. Objects count from 1, in the
 /// order of their declarations.

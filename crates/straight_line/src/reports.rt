@@ -9,12 +9,12 @@ ghost use Rattle.straight_line.specs.Reported.{printed_name, report_of};
 ghost use Rattle.straight_line.specs.Marks as walk;
 
 use crate::path::{Deed, Place, PlacedDeed, StraightPath};
-use ada_parser::Word;
 use place_names::Rule;
 use spark_base::Pos;
 use std::alloc::{AllocError, Global};
 use std::cmp::Reverse;
 use std::collections::BTreeSet;
+use straight_form::Word;
 
 /// A rule that a deed breaks because its object was moved, and the place that the deed names (`docs/RULES.md`,
 /// "Reports").

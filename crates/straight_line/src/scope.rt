@@ -7,11 +7,11 @@ ghost use Rattle.straight_line.specs.Steps.{may_enter};
 
 use crate::fault::Fault;
 use crate::kind::{Declared, Mark};
-use ada_parser::Word;
-use ada_parser::tree::Identifier;
 use indexmap::IndexMap;
 use std::alloc::{AllocError, Global};
 use std::marker::Model;
+use straight_form::Word;
+use straight_form::tree::Identifier;
 
 /// The declarations up to a place of the source, in order. Contracts see them as a list.
 #[derive(Drop)]

@@ -13,9 +13,9 @@ use crate::fault::{Fault, demand};
 use crate::kind::{Declared, Mark};
 use crate::path::{Deed, Place, PlacedDeed};
 use crate::scope::Scope;
-use ada_parser::tree::{Identifier, Name, Stmt, Value};
 use spark_base::Pos;
 use std::alloc::Global;
+use straight_form::tree::{Identifier, Name, Stmt, Value};
 
 /// A number is at most so large.
 const MAX_NUMBER: u32 = 2_147_483_647;

@@ -2,10 +2,10 @@
 
 use crate::{Deed, Place, PlacedDeed, StraightPath, straight_path};
 use ada_lexer::lex;
-use ada_parser::parse;
 use spark_base::Pos;
 use std::alloc::Global;
 use std::test::Fail;
+use straight_form::parse;
 
 /// The path of a source that the grammar spells.
 fn path(alloc: Global, text: &[u8]) -> Result<Option<StraightPath>, Fail> {
