@@ -1,0 +1,2 @@
+pub mod UnitTurns
+pub mod Refusing

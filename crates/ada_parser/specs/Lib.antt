@@ -1,0 +1,6 @@
+-- what the public contract rests on
+pub mod Refused
+-- what the functions inside promise each other
+pub mod InnerStatements
+pub mod Refusing
+pub mod Nests
