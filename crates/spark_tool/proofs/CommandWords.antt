@@ -1,11 +1,11 @@
 -- What the words of a command give to the store, and what a check answers.
-use Rattle.std.proofs.Common.{◌≡◌, ◌≢◌, ℕ, Bool, true, false, refl, sym, ap, ◌∙◌, subst, arith, rules, List, [], ◌∷◌, map, filter, not, ◌&&◌, if◌then◌else◌, All, Contains, Option, None, Some, IfSome, IsSomeAnd, codes, ◌⊎◌, inl, inr}
+use Rattle.std.proofs.Common.{◌≡◌, ℕ, Bool, true, false, refl, sym, ap, ◌∙◌, subst, List, [], ◌∷◌, filter, not, ◌&&◌, if◌then◌else◌, All, Contains, Option, None, Some, IfSome, IsSomeAnd, codes}
 use Rattle.std.specs.List.{list_all}
 use Rattle.std.specs.Str.{bytes_eq}
 use Rattle.std.proofs.lemmas.List.Elements.{All-contains_itself}
 use Rattle.spark_base.specs.declared.limits.TheConstants.{SOURCE_BYTES}
 use Rattle.spark_base.specs.Words.{is_option, operands}
-use Rattle.spark_tool.specs.Commands.{Command, Check, command_of, is_file_name, are_file_names}
+use Rattle.spark_tool.specs.Commands.{Check, command_of, is_file_name, are_file_names}
 use Rattle.spark_tool.specs.Product.{Answer, Product, usage, check, Checks, missing, misused, unread}
 use Rattle.spark_tool.specs.Reading.{Sources, Missing, sources}
 

@@ -1,23 +1,21 @@
 -- The acts of a path stand in the file of the tokens that spell its tree.
-use Rattle.std.proofs.Common.{◌≡◌, ◌<◌, ℕ, suc, sym, subst, arith, List, [], ◌∷◌, ◌++◌, map, flat_map, reverse, length, All}
+use Rattle.std.proofs.Common.{◌≡◌, ◌<◌, ℕ, suc, sym, subst, arith, List, [], ◌∷◌, ◌++◌, map, flat_map, reverse, All}
 use Rattle.std.proofs.lemmas.List.Elements.{All-cons, All-nil}
 use Rattle.spark_base.specs.declared.position.Pos.{Pos}
 use Rattle.ada_lexer.specs.declared.token.Token.{Token}
 use Rattle.ada_lexer.specs.declared.token.TokenKind.{TokenKind}
 use Rattle.ada_lexer.specs.declared.token.TokenKind.TheVariants as kind
-use Rattle.ada_parser.specs.declared.tree.Identifier.{Identifier}
-use Rattle.ada_parser.specs.declared.tree.Name.{Name}
-use Rattle.ada_parser.specs.declared.tree.Name.TheVariants as name
-use Rattle.ada_parser.specs.declared.tree.Value.{Value}
-use Rattle.ada_parser.specs.declared.tree.Value.TheVariants as value
-use Rattle.ada_parser.specs.declared.tree.Stmt.{Stmt}
-use Rattle.ada_parser.specs.declared.tree.Stmt.TheVariants as stmt
-use Rattle.ada_parser.specs.declared.tree.SourceUnit.{SourceUnit}
-use Rattle.ada_parser.specs.Spelled.{Spelled, Word, Ident, Number, Str, Delimiter, EndOfFile, told, told_as}
-use Rattle.ada_parser.specs.Spelling.{name_tokens, value_tokens, stmt_tokens, item_tokens, unit_tokens, Spelling}
-use Rattle.ada_parser.specs.Spells.{Spells}
-use Rattle.place_names.specs.Acts.{Act, Return, Placed}
-use Rattle.straight_line.specs.declared.kind.Mark.{Mark}
+use Rattle.straight_form.specs.declared.tree.Name.{Name}
+use Rattle.straight_form.specs.declared.tree.Name.TheVariants as name
+use Rattle.straight_form.specs.declared.tree.Value.{Value}
+use Rattle.straight_form.specs.declared.tree.Value.TheVariants as value
+use Rattle.straight_form.specs.declared.tree.Stmt.{Stmt}
+use Rattle.straight_form.specs.declared.tree.Stmt.TheVariants as stmt
+use Rattle.straight_form.specs.declared.tree.SourceUnit.{SourceUnit}
+use Rattle.straight_form.specs.Spelled.{Spelled, Word, Ident, Number, Str, Delimiter, EndOfFile, told, told_as}
+use Rattle.straight_form.specs.Spelling.{name_tokens, value_tokens, stmt_tokens, item_tokens, unit_tokens, Spelling}
+use Rattle.straight_form.specs.Spells.{Spells}
+use Rattle.place_names.specs.Acts.{Placed}
 use Rattle.straight_line.specs.declared.kind.Mark.TheVariants.{Integer, Access}
 use Rattle.straight_line.specs.declared.kind.Declared.{Declared}
 use Rattle.straight_line.specs.declared.kind.Declared.TheVariants.{Procedure, AccessType, Instance, Object}
@@ -25,7 +23,7 @@ use Rattle.straight_line.specs.declared.path.PlacedDeed.{PlacedDeed}
 use Rattle.straight_line.specs.Declarations.{Declarations, declarations}
 use Rattle.straight_line.specs.Deeds.{placed_of}
 use Rattle.straight_line.specs.Form.{statements}
-use Rattle.straight_line.specs.PathActs.{source_acts, target_act, name_source, statement_acts, end_of, scope_end, path_acts, placed}
+use Rattle.straight_line.specs.PathActs.{source_acts, target_act, name_source, statement_acts, end_of, scope_end, path_acts}
 
 -- a token stands in file 0
 abbrev InFile : Spelled → Type 0

@@ -1,5 +1,5 @@
 -- What was read of the files so far.
-use Rattle.std.proofs.Common.{◌≡◌, ℕ, List, [], ◌∷◌, ◌++◌, refl}
+use Rattle.std.proofs.Common.{ℕ, List, ◌++◌}
 use Rattle.spark_tool.specs.Reading.{Sources, Texts, TooLarge, Missing}
 
 -- the texts of the files before

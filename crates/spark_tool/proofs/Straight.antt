@@ -8,6 +8,7 @@ use Rattle.place_names.specs.Reports.{Gives, IsReportList}
 use Rattle.straight_line.specs.Reported.{printed_name}
 use Rattle.spark_tool.specs.Lexing.{all_tokens, cuts_of}
 use Rattle.spark_tool.specs.Product.{Answer, Checks, checked, judged, lexical_code}
+use Rattle.spark_tool.specs.Parsing.{IsParsed}
 use Rattle.spark_tool.specs.Reading.{Texts}
 use Rattle.std.proofs.lemmas.List.Folds.{list_all-map}
 use Rattle.spark_base.specs.declared.position.Pos.{Pos}
@@ -16,9 +17,9 @@ use Rattle.ada_lexer.specs.declared.refusal.LexRefusal.{LexRefusal}
 use Rattle.ada_lexer.specs.declared.refusal.LexRefusal.TheVariants.{Memory}
 use Rattle.ada_lexer.specs.declared.token.Token.{Token}
 use Rattle.ada_lexer.specs.Tokens.{Cut, cut_of}
-use Rattle.ada_parser.specs.declared.tree.SourceUnit.{SourceUnit}
-use Rattle.ada_parser.specs.Spelled.{Spelled, told}
-use Rattle.ada_parser.specs.Spells.{Spells, IsSpelledBy}
+use Rattle.straight_form.specs.declared.tree.SourceUnit.{SourceUnit}
+use Rattle.straight_form.specs.Spelled.{told}
+use Rattle.straight_form.specs.Spells.{Spells, IsSpelledBy}
 use Rattle.straight_line.specs.declared.path.StraightPath.{StraightPath}
 use Rattle.straight_line.specs.Declarations.{object_texts}
 use Rattle.straight_line.specs.Deeds.{placed_of}
@@ -124,34 +125,28 @@ prints_among n path some can = record {
 
 -- the reports of the path of a source answer the check
 pub checked_path : (names : List (List ℕ)) (texts : List (List ℕ)) (all : List (List Cut)) (path : StraightPath) (answer : Answer)
-    → all_tokens 0 TOKENS texts ≡ Ok all → IsPathOf (λ unit. IsStraightSource unit all) path → Judges names path answer
+    → all_tokens 0 TOKENS texts ≡ Ok all → All IsParsed all → IsPathOf (λ unit. IsStraightSource unit all) path → Judges names path answer
     → Checks names (Texts texts) answer
-checked_path names texts all path answer cut of judges =
+checked_path names texts all path answer cut parsed of judges =
     let exact : IsReportList (printed_name (object_texts of.unit)) (Gives (path_acts of.unit)) judges.reports =
     subst (λ (o : List (List ℕ)). IsReportList (printed_name o) (Gives (path_acts of.unit)) judges.reports) of.objects
     (subst (λ (acts : List Placed). IsReportList (printed_name path.objects.items) (Gives acts) judges.reports) of.acts judges.exact) in
     let same : answer ≡ judged names (object_texts of.unit) judges.reports =
     judges.judged ∙ ap (λ (o : List (List ℕ)). judged names o judges.reports) of.objects in
-    subst (Checks names (Texts texts)) (sym same) (checked texts all of.unit judges.reports cut of.in_form exact)
+    subst (Checks names (Texts texts)) (sym same) (checked texts all of.unit judges.reports cut parsed of.in_form exact)
 
 -- the tree that was found
 pub known_unit : (tokens : List Token) (unit : SourceUnit) (found : Option SourceUnit) → found ≡ Some unit
     → IfSome found (λ u. Spells u tokens) → Spells unit tokens
 known_unit tokens unit found is spelled = subst (λ (f : Option SourceUnit). IfSome f (λ u. Spells u tokens)) is spelled
 
--- the path that was found, of the files as they are held
-pub known_path : (all held : List (Vec Token Global)) (found : Option StraightPath) (path : StraightPath) → held ≡ all → found ≡ Some path
-    → IfSome found (IsPathOf (λ unit. IsStraightSource unit (cuts_of held))) → IsPathOf (λ unit. IsStraightSource unit (cuts_of all)) path
-known_path all held found path same is of =
-    subst (λ (files : List (Vec Token Global)). IsPathOf (λ unit. IsStraightSource unit (cuts_of files)) path) same
-    (subst (λ (f : Option StraightPath). IfSome f (IsPathOf (λ unit. IsStraightSource unit (cuts_of held)))) is of)
+-- the path that was found
+pub known_path : {form : SourceUnit → Type 0} (found : Option StraightPath) (path : StraightPath) → found ≡ Some path
+    → IfSome found (IsPathOf form) → IsPathOf form path
+known_path {form} found path is of = subst (λ (f : Option StraightPath). IfSome f (IsPathOf form)) is of
 
-pub known_no_path : (all held : List (Vec Token Global)) (found : Option StraightPath) → held ≡ all → found ≡ None
-    → IfNone found ((unit : SourceUnit) → ¬ IsStraightSource unit (cuts_of held)) → (unit : SourceUnit) → ¬ IsStraightSource unit (cuts_of all)
-known_no_path all held found same is out =
-    let none : (unit : SourceUnit) → ¬ IsStraightSource unit (cuts_of held) =
-    subst (λ (f : Option StraightPath). IfNone f ((unit : SourceUnit) → ¬ IsStraightSource unit (cuts_of held))) is out in
-    subst (λ (files : List (Vec Token Global)). (unit : SourceUnit) → ¬ IsStraightSource unit (cuts_of files)) same none
+pub known_no_path : {none : Type 0} (found : Option StraightPath) → found ≡ None → IfNone found none → none
+known_no_path {none} found is out = subst (λ (f : Option StraightPath). IfNone f none) is out
 
 -- want of memory has no code
 pub no_code : (fault : LexRefusal) (pos : Pos) (code : Code) → fault ≡ Memory → lexical_code fault ≡ Some (pos, code) → ⊥

@@ -2,6 +2,7 @@
 pub mod Commands
 pub mod Reading
 pub mod Lexing
+pub mod Parsing
 pub mod StraightSource
 pub mod Product
 pub mod Promises

@@ -1,22 +1,24 @@
 -- What a command writes and answers (docs/TOOL.md, "Order of work").
-use Rattle.std.specs.Prelude.{◌≡◌, ℕ, List, [], ◌∷◌, Option, None, Some, Ok, Err}
+use Rattle.std.specs.Prelude.{◌≡◌, ℕ, List, [], ◌∷◌, Option, None, Some, Ok, Err, All}
 use Rattle.spark_base.specs.declared.position.Pos.{Pos}
 use Rattle.spark_base.specs.declared.limits.TheConstants.{SOURCE_BYTES, TOKENS}
 use Rattle.ada_lexer.specs.declared.refusal.LexRefusal.{LexRefusal}
 use Rattle.ada_lexer.specs.declared.refusal.LexRefusal.TheVariants.{BadByte, BadIdentifier, BadNumber, OpenString, TooMany, Memory}
 use Rattle.ada_lexer.specs.Places.{first_place}
 use Rattle.ada_lexer.specs.Tokens.{Cut}
-use Rattle.ada_parser.specs.declared.tree.SourceUnit.{SourceUnit}
+use Rattle.ada_tree.specs.Refusals as grammar
+use Rattle.straight_form.specs.declared.tree.SourceUnit.{SourceUnit}
 use Rattle.place_names.specs.Reports.{Report, Gives, IsReportList}
 use Rattle.straight_line.specs.Declarations.{object_texts}
 use Rattle.straight_line.specs.PathActs.{path_acts}
 use Rattle.straight_line.specs.Reported.{printed_name}
 use Rattle.rule_reports.specs.declared.code.Code.{Code}
-use Rattle.rule_reports.specs.declared.code.Code.TheVariants.{S1, L1, L2, L3, L4, L5, U1}
+use Rattle.rule_reports.specs.declared.code.Code.TheVariants.{S1, L1, L2, L3, L4, L5, P1, P2, P3, U1}
 use Rattle.rule_reports.specs.Lines.{refusal_line, report_lines, accepted_line, usage_line}
-use Rattle.spark_tool.specs.Commands.{Command, Check, command_of}
+use Rattle.spark_tool.specs.Commands.{Check, command_of}
 use Rattle.spark_tool.specs.Reading.{Sources, Texts, TooLarge, Missing, sources}
 use Rattle.spark_tool.specs.Lexing.{all_tokens}
+use Rattle.spark_tool.specs.Parsing.{IsParsed, FirstRefused}
 use Rattle.spark_tool.specs.StraightSource.{IsStraightSource}
 
 -- The bytes for both outputs, and the status.
@@ -54,6 +56,12 @@ lexical_code (OpenString pos) = Some (pos, L4)
 lexical_code (TooMany pos) = Some (pos, L5)
 lexical_code Memory = None
 
+-- The code of a token that the grammar refuses.
+abbrev pub syntactic_code : grammar.Code → Code
+syntactic_code grammar.Syntax = P1
+syntactic_code grammar.TooDeep = P2
+syntactic_code grammar.LeftOut = P3
+
 -- The reports, or that there are none.
 abbrev pub judged : List (List ℕ) → List (List ℕ) → List Report → Answer
 judged names objects [] = accepted
@@ -68,12 +76,15 @@ pub data Checks (names : List (List ℕ)) : Sources → Answer → Type 0 where
   -- the first lexical fault over all files in order
   lexical : (texts : List (List ℕ)) (fault : LexRefusal) (pos : Pos) (code : Code) → all_tokens 0 TOKENS texts ≡ Err fault
       → lexical_code fault ≡ Some (pos, code) → Checks names (Texts texts) (refused names pos code)
-  -- the sources aren't one file of the straight-line form
-  not_built : (texts : List (List ℕ)) (cuts : List (List Cut)) → all_tokens 0 TOKENS texts ≡ Ok cuts
+  -- the first file in order that the grammar refuses
+  syntactic : (texts : List (List ℕ)) (cuts : List (List Cut)) (code : grammar.Code) (pos : Pos) → all_tokens 0 TOKENS texts ≡ Ok cuts
+      → FirstRefused code pos cuts → Checks names (Texts texts) (refused names pos (syntactic_code code))
+  -- each file is that of a source, but they aren't one file of the straight-line form
+  not_built : (texts : List (List ℕ)) (cuts : List (List Cut)) → all_tokens 0 TOKENS texts ≡ Ok cuts → All IsParsed cuts
       → ((unit : SourceUnit) → ¬ IsStraightSource unit cuts) → Checks names (Texts texts) (refused names (first_place 0) U1)
   -- the reports of the one control path
   checked : (texts : List (List ℕ)) (cuts : List (List Cut)) (unit : SourceUnit) (reports : List Report)
-      → all_tokens 0 TOKENS texts ≡ Ok cuts → IsStraightSource unit cuts
+      → all_tokens 0 TOKENS texts ≡ Ok cuts → All IsParsed cuts → IsStraightSource unit cuts
       → IsReportList (printed_name (object_texts unit)) (Gives (path_acts unit)) reports
       → Checks names (Texts texts) (judged names (object_texts unit) reports)
 

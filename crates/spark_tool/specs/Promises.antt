@@ -1,5 +1,5 @@
 -- What the call of the program promises (docs/TOOL.md, "Statuses").
-use Rattle.std.specs.Prelude.{◌≡◌, ◌⊎◌, ℕ, List, Option, [], ◌∷◌}
+use Rattle.std.specs.Prelude.{◌≡◌, ℕ, List, Option, [], ◌∷◌}
 use Rattle.std.specs.Io.KnownBytes.{Appends}
 use Rattle.place_names.specs.Lists.{Has}
 use Rattle.spark_base.specs.Outside.{AppendsPrefix}

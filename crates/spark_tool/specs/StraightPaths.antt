@@ -1,6 +1,6 @@
 -- The path of a straight-line source, as a program holds it.
 use Rattle.std.specs.Prelude.{◌≡◌, ◌<◌, ℕ, List, All, length, map}
-use Rattle.ada_parser.specs.declared.tree.SourceUnit.{SourceUnit}
+use Rattle.straight_form.specs.declared.tree.SourceUnit.{SourceUnit}
 use Rattle.place_names.specs.Reports.{Report, Gives, IsReportList}
 use Rattle.straight_line.specs.declared.path.StraightPath.{StraightPath}
 use Rattle.straight_line.specs.Declarations.{object_texts}

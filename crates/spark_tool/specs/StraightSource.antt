@@ -4,9 +4,9 @@ use Rattle.std.specs.List.{list_all}
 use Rattle.ada_lexer.specs.declared.token.TokenKind.{TokenKind}
 use Rattle.ada_lexer.specs.declared.token.TokenKind.TheVariants.{Word, Ident, Number, Str, Symbol, EndOfFile}
 use Rattle.ada_lexer.specs.Tokens.{Cut}
-use Rattle.ada_parser.specs.declared.tree.SourceUnit.{SourceUnit}
-use Rattle.ada_parser.specs.Spelled.{Spelled, told_as}
-use Rattle.ada_parser.specs.Spells.{IsSpelledBy}
+use Rattle.straight_form.specs.declared.tree.SourceUnit.{SourceUnit}
+use Rattle.straight_form.specs.Spelled.{Spelled, told_as}
+use Rattle.straight_form.specs.Spells.{IsSpelledBy}
 use Rattle.straight_line.specs.Form.{IsStraightLine}
 
 -- What a token is to the grammar.

@@ -1,27 +1,29 @@
 //! Checks the sources of a command.
-ghost use Rattle.std.specs.Prelude.{◌≡◌, ◌<◌, ◌≤◌, Err, Some, IfOk, IfSome, IfNone, OnErr, All, length, map, slice_get, string_bytes};
+ghost use Rattle.std.specs.Prelude.{◌≡◌, ◌<◌, ◌≤◌, ℕ, List, Ok, Err, Some, IfOk, IfSome, IfNone, OnErr, All, length, map, slice_get, string_bytes};
 ghost use Rattle.std.specs.List.{list_all};
 ghost use Rattle.ada_lexer.specs.Tokens.{EndsOnce, kinds_of, cut_of};
-ghost use Rattle.ada_parser.specs.Spells.{Spells};
+ghost use Rattle.straight_form.specs.Spells.{Spells};
 ghost use Rattle.spark_tool.specs.Answers.{answer_of};
-ghost use Rattle.spark_tool.specs.Lexing.{IsAmong, cuts_of, texts_of};
+ghost use Rattle.spark_base.specs.declared.limits.TheConstants.{TOKENS};
+ghost use Rattle.spark_tool.specs.Lexing.{IsAmong, all_tokens, cuts_of, texts_of};
 ghost use Rattle.spark_tool.specs.Product as spec;
 ghost use Rattle.spark_tool.specs.Product.{Checks};
-ghost use Rattle.spark_tool.specs.Refusals.{RefusesLexically, IsChecked};
+ghost use Rattle.spark_tool.specs.Refusals.{RefusesLexically, RefusesSyntactically, NamesOneOf, IsChecked};
 ghost use Rattle.spark_tool.specs.Reading.{sources_of, IsWhole, Texts};
 ghost use Rattle.spark_tool.specs.StraightSource.{is_plain, no_underscore, IsStraightFile, IsStraightSource};
 ghost use Rattle.spark_tool.specs.StraightPaths.{IsPathOf, Judges, CanPrint};
 
 use crate::answer::{Answer, accepted, refused, refused_file, rejected};
 use crate::lexing::lex_all;
+use crate::parsing::parse_all;
 use crate::reading::Gathered;
 use crate::stop::Stop;
 use ada_lexer::{LexRefusal, Token, TokenKind};
-use ada_parser::tree::SourceUnit;
-use ada_parser::{ParseRefusal, parse};
+use ada_parser::ParseRefusal;
 use rule_reports::{Code, report_lines};
 use spark_base::{FILES, Pos, SOURCE_BYTES};
 use std::alloc::{AllocError, Global};
+use straight_form::tree::SourceUnit;
 use straight_line::{StraightPath, path_reports, straight_path};
 
 /// Whether a text has no underscore.
@@ -48,16 +50,16 @@ fn has_plain_numbers(tokens: &[Token<'_>]) -> bool
     tokens.iter().all(|token| has_plain_number(token))
 }
 
-/// The tree that the tokens of a file spell, or nothing where none does.
+/// The tree of the straight-line form that the tokens of a file spell, or nothing where none does.
 fn unit_of(alloc: Global, tokens: &[Token<'_>]) -> Result<Option<SourceUnit>, AllocError>
     requires { EndsOnce (kinds_of tokens.now) }
     ensures found { IfOk result (λ found. IfSome found (λ unit. Spells unit tokens.now)) }
     ensures only { IfOk result (λ found. (unit : _) → Spells unit tokens.now → found ≡ Some unit) }
 {
-    match parse(alloc, tokens) {
+    match straight_form::parse(alloc, tokens) {
         Ok(mut units) => Ok(units.pop()),
-        Err(ParseRefusal::NotBuilt) => Ok(None),
-        Err(ParseRefusal::Memory) => Err(AllocError),
+        Err(straight_form::ParseRefusal::NotBuilt) => Ok(None),
+        Err(straight_form::ParseRefusal::Memory) => Err(AllocError),
     }
 }
 
@@ -135,6 +137,43 @@ fn refused_lexically(alloc: Global, names: &[String], fault: LexRefusal) -> Resu
     }
 }
 
+/// The line of a refusal of the grammar.
+fn refused_syntactically(
+    alloc: Global,
+    names: &[String],
+    refusal: ParseRefusal,
+) -> Result<Answer, Stop>
+    requires { NamesOneOf (length names.now) refusal }
+    ensures line { IfOk result (λ answer. RefusesSyntactically (map string_bytes names.now) refusal (answer_of answer)) }
+    ensures memory { OnErr result (result ≡ Err Stop.Memory) }
+{
+    match refusal {
+        ParseRefusal::Syntax(pos) => Ok(refused(alloc, names, pos, Code::P1)?),
+        ParseRefusal::TooDeep(pos) => Ok(refused(alloc, names, pos, Code::P2)?),
+        ParseRefusal::LeftOut(pos) => Ok(refused(alloc, names, pos, Code::P3)?),
+        ParseRefusal::Memory => Err(Stop::Memory),
+    }
+}
+
+/// The answer on the tokens of the named files.
+fn check_tokens(alloc: Global, names: &[String], files: &[Vec<Token<'_>>]) -> Result<Answer, Stop>
+    requires ends { All (λ file. EndsOnce (kinds_of file.items)) files.now }
+    requires first { IfSome (slice_get files.now 0) (λ tokens. All (λ token. token.pos.file ≡ 0) tokens.items) }
+    requires among { All (λ file. All (λ token. token.pos.file < length names.now) file.items) files.now }
+    requires some { 0 < length names.now }
+    ensures answer { IfOk result (λ answer. (texts : List (List ℕ)) → all_tokens 0 TOKENS texts ≡ Ok (cuts_of files.now)
+        → Checks (map string_bytes names.now) (Texts texts) (answer_of answer)) }
+    ensures memory { OnErr result (result ≡ Err Stop.Memory) }
+{
+    match parse_all(alloc, files) {
+        Ok(()) => match path_of_source(alloc, files)? {
+            Some(path) => Ok(judge(alloc, names, &path)?),
+            None => Ok(refused_file(alloc, names, 0, Code::U1)?),
+        },
+        Err(refusal) => Ok(refused_syntactically(alloc, names, refusal)?),
+    }
+}
+
 /// The answer on the texts of the named files.
 fn check_texts(alloc: Global, names: &[String], texts: &[Vec<u8>]) -> Result<Answer, Stop>
     requires small { All (λ text. length text.items ≤ SOURCE_BYTES) texts.now }
@@ -144,13 +183,9 @@ fn check_texts(alloc: Global, names: &[String], texts: &[Vec<u8>]) -> Result<Ans
     ensures answer { IfOk result (λ answer. Checks (map string_bytes names.now) (Texts (texts_of texts.now)) (answer_of answer)) }
     ensures memory { OnErr result (result ≡ Err Stop.Memory) }
 {
-    let files = match lex_all(alloc, texts) {
-        Ok(files) => files,
-        Err(fault) => return Ok(refused_lexically(alloc, names, fault)?),
-    };
-    match path_of_source(alloc, &files)? {
-        Some(path) => Ok(judge(alloc, names, &path)?),
-        None => Ok(refused_file(alloc, names, 0, Code::U1)?),
+    match lex_all(alloc, texts) {
+        Ok(files) => Ok(check_tokens(alloc, names, &files)?),
+        Err(fault) => Ok(refused_lexically(alloc, names, fault)?),
     }
 }
 

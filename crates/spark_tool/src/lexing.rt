@@ -1,5 +1,5 @@
 //! Cuts all files into tokens.
-ghost use Rattle.std.specs.Prelude.{◌≡◌, ◌≢◌, ◌≤◌, Ok, Err, IfOk, IfErr, IfSome, All, length, slice_get};
+ghost use Rattle.std.specs.Prelude.{◌≡◌, ◌≢◌, ◌<◌, ◌≤◌, Ok, Err, IfOk, IfErr, IfSome, All, length, slice_get};
 ghost use Rattle.ada_lexer.specs.Tokens.{EndsOnce, kinds_of};
 ghost use Rattle.spark_tool.specs.Lexing.{all_tokens, texts_of, cuts_of, IsAmong};
 
@@ -19,6 +19,7 @@ pub(crate) fn lex_all<'s>(
     ensures among { IfErr result (λ fault. IsAmong (length texts.now) fault) }
     ensures files { IfOk result (λ found. length found.items ≡ length texts.now) }
     ensures first { IfOk result (λ found. IfSome (slice_get found.items 0) (λ tokens. All (λ token. token.pos.file ≡ 0) tokens.items)) }
+    ensures within { IfOk result (λ found. All (λ file. All (λ token. token.pos.file < length texts.now) file.items) found.items) }
     ensures ends { IfOk result (λ found. All (λ file. EndsOnce (kinds_of file.items)) found.items) }
 {
     let mut found = Vec::new(alloc);

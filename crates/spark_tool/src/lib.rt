@@ -2,8 +2,10 @@
 //!
 //! `run_tool` takes the words after the program's name, the outside (files, input, two outputs) and gives a status.
 //! What it writes and answers, `specs/Product.antt` defines; `docs/TOOL.md` says it in words.
-//! Refused are words that give no command, files that can't be read, and sources that a stage refuses.
-//! Time is linear in the sources, but for the sorting of reports.
+//! Refused are words that give no command, files that can't be read, and sources that a stage refuses: each looks at all files
+//! before the next one begins, the lexer first, then the grammar, then the form that is built so far.
+//! Time is linear in the sources, but for the sorting of reports. Memory is linear too; the trees of the grammar are those of one
+//! file at a time.
 #![tactic(auto)]
 
 mod answer;
@@ -11,6 +13,7 @@ mod check;
 mod command;
 mod deliver;
 mod lexing;
+mod parsing;
 mod reading;
 mod stop;
 mod tool;

@@ -9,6 +9,51 @@ use std::test::Fail;
 const HEAD: &str =
     "with Ada.Unchecked_Deallocation;\nprocedure Main is\ntype Int_Ptr is access Integer;\nprocedure Free is new Ada.Unchecked_Deallocation (Integer, Int_Ptr);\nX, Y : Int_Ptr;\nN : Integer;\nbegin\n";
 
+/// One unit, with a semicolon as its last byte.
+const LARGER: &str = "with Ada.Text_IO, Ada.Unchecked_Deallocation;
+use Ada.Text_IO;
+package body Lists with SPARK_Mode => On is
+   type Cell;
+   type List is access Cell;
+   type Cell is record
+      Value : Integer;
+      Next  : List;
+   end record;
+   type Kind is (Red, Green);
+   type Row is array (1 .. 3) of Kind;
+   subtype Small is Integer range 0 .. 9;
+   procedure Free is new Ada.Unchecked_Deallocation (Cell, List);
+   Head : List := new Cell'(1, null);
+   Zero : constant := 0;
+   procedure Reset (L : in out List);
+   function Sum (L : access constant Cell; N : in Small) return Integer with SPARK_Mode is
+      Total : Integer := Zero;
+   begin
+      while N > 0 and then not (Total = -1) loop
+         Total := Total + L.all.Value * 2 mod 7;
+         exit when N = 1;
+      end loop;
+      for I in reverse Row'Range loop
+         case I is
+            when 1 | 2 .. 3 => null;
+            when others => Put_Line (\"a\" & \"b\");
+         end case;
+      end loop;
+      if Total >= 1 then
+         return Total;
+      elsif Total /= 0 or else N = 2 then
+         null;
+      else
+         declare
+            R : Row := (others => Red);
+         begin
+            R (1) := Green;
+         end;
+      end if;
+      return abs Total;
+   end Sum;
+end Lists;";
+
 const USAGE: &str =
     "usage: spark check FILE... | run [--steps=N] [--stats] FILE... | leaks FILE... | make N | selftest N\n";
 
@@ -94,6 +139,41 @@ fn check_faulty(
     err: u64,
 ) -> Result<Seen, AllocError> {
     check(alloc, text, None, Faults { files, out, err })
+}
+
+/// The answer of `check` on one file with this name.
+fn check_named(alloc: Global, name: &str, text: Vec<u8>) -> Result<Seen, AllocError> {
+    let mut words = words_of(alloc, "check")?;
+    words.push(String::from_str(alloc, name)?)?;
+    let mut stored = Vec::new(alloc);
+    stored.push((String::from_str(alloc, name)?, text))?;
+    run(alloc, &words, stored, NO_FAULTS)
+}
+
+/// A text and then so many copies of a piece.
+fn add_copies(text: &mut Vec<u8>, piece: &str, count: u32) -> Result<(), AllocError> {
+    for _copy in 0..count {
+        text.extend_from_slice(piece.as_bytes())?;
+    }
+    Ok(())
+}
+
+/// A procedure with so many blocks in each other.
+fn nested(alloc: Global, count: u32) -> Result<Vec<u8>, AllocError> {
+    let mut text = Vec::from_slice(alloc, b"procedure Main is begin ")?;
+    add_copies(&mut text, "begin ", count)?;
+    text.extend_from_slice(b"null; ")?;
+    add_copies(&mut text, "end; ", count)?;
+    text.extend_from_slice(b"end Main;")?;
+    Ok(text)
+}
+
+/// A procedure with a sum of so many operators.
+fn summed(alloc: Global, count: u32) -> Result<Vec<u8>, AllocError> {
+    let mut text = Vec::from_slice(alloc, b"procedure Main is N : Integer; begin N := 0")?;
+    add_copies(&mut text, " + 0", count)?;
+    text.extend_from_slice(b"; end Main;")?;
+    Ok(text)
 }
 
 /// A text of so many bytes.
@@ -195,6 +275,14 @@ fn words_out_of_form(rt: HostRuntime) -> Result<(), Fail> {
     let seen = run(alloc, &[], Vec::new(alloc), NO_FAULTS)?;
     assert_eq!(rt; seen.status, 6);
     assert_eq!(rt; seen.err.bytes(), USAGE.as_bytes());
+    let faults = Faults {
+        err: 0,
+        ..NO_FAULTS
+    };
+    let seen = run(alloc, &[], Vec::new(alloc), faults)?;
+    assert_eq!(rt; seen.status, 8);
+    assert_eq!(rt; seen.out.bytes(), b"".as_slice());
+    assert_eq!(rt; seen.err.bytes(), b"".as_slice());
     Ok(())
 }
 
@@ -223,23 +311,23 @@ fn limits(rt: HostRuntime) -> Result<(), Fail> {
     let alloc = rt.alloc();
     let tokens = TOKENS as usize;
     for (byte, first, second, err) in [
-        (b' ', 4_194_304, None, "f.adb:1:1: U1 form not built\n"),
+        (b' ', 4_194_304, None, "f.adb:1:4194305: P1 syntax\n"),
         (b' ', 4_194_305, None, "f.adb:1:1: S1 sources too large\n"),
-        (b' ', 4_194_303, Some(1), "f.adb:1:1: U1 form not built\n"),
+        (b' ', 4_194_303, Some(1), "f.adb:1:4194304: P1 syntax\n"),
         (
             b' ',
             4_194_304,
             Some(1),
             "g.adb:1:1: S1 sources too large\n",
         ),
-        (b';', tokens, None, "f.adb:1:1: U1 form not built\n"),
+        (b';', tokens, None, "f.adb:1:1: P1 syntax\n"),
         (
             b';',
             tokens + 1,
             None,
             "f.adb:1:1000001: L5 too many tokens\n",
         ),
-        (b';', tokens - 5, Some(5), "f.adb:1:1: U1 form not built\n"),
+        (b';', tokens - 5, Some(5), "f.adb:1:1: P1 syntax\n"),
         (b';', tokens - 5, Some(7), "g.adb:1:6: L5 too many tokens\n"),
     ] {
         let second = match second {
@@ -290,5 +378,113 @@ fn a_missing_file(rt: HostRuntime) -> Result<(), Fail> {
     assert_eq!(rt; seen.status, 7);
     assert_eq!(rt; seen.out.bytes(), b"".as_slice());
     assert_eq!(rt; seen.err.bytes(), b"".as_slice());
+    Ok(())
+}
+
+#[test]
+fn refused_by_the_grammar(rt: HostRuntime) -> Result<(), Fail> {
+    let alloc = rt.alloc();
+    for (name, text, err) in [
+        ("e.adb", "", "e.adb:1:1: P1 syntax\n"),
+        ("e.adb", "-- none\n", "e.adb:2:1: P1 syntax\n"),
+        (
+            "r.adb",
+            "procedure Main is begin raise Program_Error; end Main;",
+            "r.adb:1:25: P3 construct left out\n",
+        ),
+        (
+            "b.adb",
+            "procedure Main is begin end Main;",
+            "b.adb:1:25: P1 syntax\n",
+        ),
+        (
+            "b.adb",
+            "procedure Main is begin null; end Main;",
+            "b.adb:1:1: U1 form not built\n",
+        ),
+    ] {
+        let seen = check_named(alloc, name, Vec::from_slice(alloc, text.as_bytes())?)?;
+        assert_eq!(rt; seen.status, 2, "{text}");
+        assert_eq!(rt; seen.out.bytes(), b"".as_slice(), "{text}");
+        assert_eq!(rt; seen.err.bytes(), err.as_bytes(), "{text}");
+    }
+    Ok(())
+}
+
+#[test]
+fn limits_of_the_grammar(rt: HostRuntime) -> Result<(), Fail> {
+    let alloc = rt.alloc();
+    for (blocks, err) in [
+        (63, "d.adb:1:1: U1 form not built\n"),
+        (64, "d.adb:1:403: P2 nesting too deep\n"),
+    ] {
+        let seen = check_named(alloc, "d.adb", nested(alloc, blocks)?)?;
+        assert_eq!(rt; seen.status, 2);
+        assert_eq!(rt; seen.err.bytes(), err.as_bytes());
+    }
+    for (operators, err) in [
+        (1_024, "o.adb:1:1: U1 form not built\n"),
+        (1_025, "o.adb:1:4141: P2 nesting too deep\n"),
+    ] {
+        let seen = check_named(alloc, "o.adb", summed(alloc, operators)?)?;
+        assert_eq!(rt; seen.status, 2);
+        assert_eq!(rt; seen.err.bytes(), err.as_bytes());
+    }
+    Ok(())
+}
+
+#[test]
+fn refused_among_two_files(rt: HostRuntime) -> Result<(), Fail> {
+    let alloc = rt.alloc();
+    for (first, second, err) in [
+        (
+            "procedure A is begin null; end A;",
+            "procedure B is begin end B;",
+            "g.adb:1:22: P1 syntax\n",
+        ),
+        (
+            "procedure A is begin raise; end A;",
+            "procedure B is begin end B;",
+            "f.adb:1:22: P3 construct left out\n",
+        ),
+        (
+            "procedure A is begin end A;",
+            "procedure B is begin N := 1__0; end B;",
+            "g.adb:1:27: L3 bad number\n",
+        ),
+        (
+            "procedure A is begin null; end A;",
+            "procedure B is begin null; end B;",
+            "f.adb:1:1: U1 form not built\n",
+        ),
+    ] {
+        let first = Vec::from_slice(alloc, first.as_bytes())?;
+        let second = Vec::from_slice(alloc, second.as_bytes())?;
+        let seen = check(alloc, first, Some(second), NO_FAULTS)?;
+        assert_eq!(rt; seen.status, 2);
+        assert_eq!(rt; seen.out.bytes(), b"".as_slice());
+        assert_eq!(rt; seen.err.bytes(), err.as_bytes());
+    }
+    Ok(())
+}
+
+#[test]
+fn prefixes_of_a_larger_program(rt: HostRuntime) -> Result<(), Fail> {
+    let alloc = rt.alloc();
+    let text = LARGER.as_bytes();
+    let seen = check_named(alloc, "p.adb", Vec::from_slice(alloc, text)?)?;
+    assert_eq!(rt; seen.status, 2);
+    assert_eq!(rt;
+        seen.err.bytes(),
+        b"p.adb:1:1: U1 form not built\n".as_slice()
+    );
+    for end in 0..text.len() {
+        let seen = check_named(alloc, "p.adb", Vec::from_slice(alloc, &text[..end])?)?;
+        assert_eq!(rt; seen.status, 2, "{end}");
+        assert!(rt;
+            !seen.err.bytes().ends_with(b"U1 form not built\n"),
+            "{end}"
+        );
+    }
     Ok(())
 }

@@ -66,6 +66,8 @@ fn carry_out<F: FileStore, K: Sink>(
     ensures front { result ≡ Err Stop.Write → IfSome (F.stored files.old)
         (λ stored. DeliversFront stored (map string_bytes words.now)
         (K.written out.old) (K.written out.new) (K.written err.old) (K.written err.new)) }
+    ensures misused_front { result ≡ Err Stop.Write → command_of (map string_bytes words.now) ≡ None
+        → Keeps (K.written out.old) (K.written out.new) × AppendsPrefix (K.written err.old) (K.written err.new) usage_line }
     ensures nothing { result ≢ Err Stop.Write → OnErr result
         (Keeps (K.written out.old) (K.written out.new) × Keeps (K.written err.old) (K.written err.new)) }
     ensures no_read_fault { result ≢ Err Stop.Read → F.faults files.new ≡ F.faults files.old }
@@ -115,11 +117,14 @@ pub fn run_tool<F: FileStore, S: Source, K: Sink>(
         ⊎ IsSomeAnd (F.stored files.old) (λ stored. Product stored (map string_bytes words.now) unread) }
     ensures read_with_command { result ≡ 7 → command_of (map string_bytes words.now) ≢ None }
 
-    // 8: only where the count of an output rose. A front of the defined bytes was written.
+    // 8: only where the count of an output rose. A front of the defined bytes was written; where the words give no command, of
+    // the usage line, whatever the store tells.
     ensures write_fault { result ≡ 8 → Rose (K.faults out.old) (K.faults out.new) ⊎ Rose (K.faults err.old) (K.faults err.new) }
     ensures front { result ≡ 8 → IfSome (F.stored files.old)
         (λ stored. DeliversFront stored (map string_bytes words.now)
         (K.written out.old) (K.written out.new) (K.written err.old) (K.written err.new)) }
+    ensures misused_front { result ≡ 8 → command_of (map string_bytes words.now) ≡ None
+        → Keeps (K.written out.old) (K.written out.new) × AppendsPrefix (K.written err.old) (K.written err.new) usage_line }
 
     // 7 and 9: nothing is written.
     ensures nothing { (result ≡ 7) ⊎ (result ≡ 9)

@@ -1,4 +1,4 @@
-use Rattle.std.proofs.Common.{◌≡◌, ◌≤◌, true, false, nat_le, length, arith, sym, ◌∙◌, ap, rules}
+use Rattle.std.proofs.Common.{arith}
 use Rattle.std.proofs.lemmas.Grind.{common_steps}
 use Rattle.spark_tool.proofs.Names.{are_file_names-map}
 use Rattle.spark_tool.proofs.command.are_file_names.Goals as goal

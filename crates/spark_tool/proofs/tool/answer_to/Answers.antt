@@ -1,7 +1,6 @@
 use Rattle.std.proofs.Common.{◌≡◌, ap, Err, map, string_bytes, inl, inr}
 use Rattle.spark_tool.specs.declared.stop.Stop.{Stop}
 use Rattle.spark_tool.specs.declared.stop.Stop.TheVariants.{Read}
-use Rattle.spark_tool.specs.Answers.{answer_of}
 use Rattle.spark_tool.specs.Reading.{sources_of}
 use Rattle.spark_tool.proofs.CommandWords.{may_be_opened, unread_product, check_product, usage_product}
 use Rattle.spark_tool.proofs.tool.answer_to.Goals as goal

@@ -1,0 +1,109 @@
+-- What the grammar says of the files so far.
+use Rattle.std.proofs.Common.{◌≡◌, ◌<◌, ℕ, suc, ◌+◌, Ok, List, [], ◌∷◌, ◌++◌, Vec, map, length, All, get_or, take, drop, refl, sym, ap, ◌∙◌, subst, arith, drop-cons}
+use Rattle.std.proofs.lemmas.List.{map-append, take-append-drop, take_more}
+use Rattle.std.proofs.lemmas.List.Elements.{All-map, All-push}
+use Rattle.std.specs.declared.alloc.Global.{Global}
+use Rattle.spark_base.specs.declared.position.Pos.{Pos}
+use Rattle.spark_base.specs.declared.limits.TheConstants.{TOKENS}
+use Rattle.ada_lexer.specs.declared.token.Token.{Token}
+use Rattle.ada_lexer.specs.Tokens.{Cut, cut_of}
+use Rattle.token_reading.specs.Spelled.{Spelled, told}
+use Rattle.ada_tree.specs.declared.unit.SourceUnit.{SourceUnit}
+use Rattle.ada_tree.specs.Refusals as grammar
+use Rattle.ada_parser.specs.declared.refusal.ParseRefusal.{ParseRefusal}
+use Rattle.ada_parser.specs.declared.refusal.ParseRefusal.TheVariants.{Syntax, TooDeep, LeftOut, Memory}
+use Rattle.ada_parser.specs.Refused.{RefusedAt, IsRefusal}
+use Rattle.spark_tool.specs.Lexing.{all_tokens, cuts_of}
+use Rattle.spark_tool.specs.Parsing.{told_cut, IsParsed, IsRefusedAt, FirstRefused}
+use Rattle.spark_tool.specs.Product.{Answer, Checks, syntactic}
+use Rattle.spark_tool.specs.Reading.{Texts}
+use Rattle.spark_tool.specs.Refusals.{IsFirstRefusal, NamesOneOf, RefusesSyntactically}
+
+-- tokens are told alike as they are and as they were cut
+pub told_cuts : (tokens : List Token) → map told_cut (map cut_of tokens) ≡ map told tokens
+told_cuts [] = refl
+told_cuts (t ∷ tokens) = ap (λ (rest : List Spelled). told t ∷ rest) (told_cuts tokens)
+
+-- units of the tokens are those of the cuts
+pub parsed_cuts : (tokens : List Token) (units : List SourceUnit) → grammar.IsTreeOf (map told tokens) units → IsParsed (map cut_of tokens)
+parsed_cuts tokens units tree = (units, subst (λ (ts : List Spelled). grammar.IsTreeOf ts units) (sym (told_cuts tokens)) tree)
+
+-- so is a refused token
+pub refused_cuts : (code : grammar.Code) (at : Pos) (tokens : List Token) → RefusedAt code tokens at → IsRefusedAt code at (map cut_of tokens)
+refused_cuts code at tokens found = record {
+  before = map cut_of found.before;
+  token = cut_of found.token;
+  behind = map cut_of found.behind;
+  splits = ap (map cut_of) found.splits ∙ map-append cut_of found.before (found.token ∷ found.behind);
+  place = found.place;
+  refused = subst (λ (ts : List Spelled). grammar.IsRefused code ts (told found.token)) (sym (told_cuts found.before)) found.refused;
+}
+
+-- one more file is that of a source
+pub parsed_more : (files : List (Vec Token Global)) (i : ℕ) (file : Vec Token Global) (units : List SourceUnit) → i < length files
+    → file ≡ get_or files i file → All IsParsed (cuts_of (take i files)) → grammar.IsTreeOf (map told file.items) units
+    → All IsParsed (cuts_of (take (i + 1) files))
+parsed_more files i file units within is before tree =
+    let more : take (i + 1) files ≡ take i files ++ file ∷ [] =
+    take_more files i file within ∙ ap (λ (f : Vec Token Global). take i files ++ f ∷ []) (sym is) in
+    let cuts : cuts_of (take (i + 1) files) ≡ cuts_of (take i files) ++ map cut_of file.items ∷ [] =
+    ap cuts_of more ∙ map-append (λ (f : Vec Token Global). map cut_of f.items) (take i files) (file ∷ []) in
+    subst (λ (fs : List (List Cut)). All IsParsed fs) (sym cuts)
+    (All-push IsParsed (cuts_of (take i files)) (map cut_of file.items) before (parsed_cuts file.items units tree))
+
+-- the files before are those of sources, and this one is refused
+pub first_refused : (code : grammar.Code) (at : Pos) (files : List (Vec Token Global)) (i : ℕ) (file : Vec Token Global) → i < length files
+    → file ≡ get_or files i file → All IsParsed (cuts_of (take i files)) → RefusedAt code file.items at → FirstRefused code at (cuts_of files)
+first_refused code at files i file within is before found =
+    let rest : drop i files ≡ file ∷ drop (suc i) files =
+    drop-cons files i file within ∙ ap (λ (f : Vec Token Global). f ∷ drop (suc i) files) (sym is) in
+    let split : files ≡ take i files ++ file ∷ drop (suc i) files =
+    sym (take-append-drop i files) ∙ ap (λ (fs : List (Vec Token Global)). take i files ++ fs) rest in
+    record {
+      before = cuts_of (take i files);
+      file = map cut_of file.items;
+      behind = cuts_of (drop (suc i) files);
+      splits = ap cuts_of split ∙ map-append (λ (f : Vec Token Global). map cut_of f.items) (take i files) (file ∷ drop (suc i) files);
+      parsed = before;
+      refused = refused_cuts code at file.items found;
+    }
+
+pub first_refusal : (refusal : ParseRefusal) (files : List (Vec Token Global)) (i : ℕ) (file : Vec Token Global) → i < length files
+    → file ≡ get_or files i file → All IsParsed (cuts_of (take i files)) → IsRefusal file.items refusal → IsFirstRefusal (cuts_of files) refusal
+first_refusal (Syntax at) files i file within is before found = first_refused grammar.Syntax at files i file within is before found
+first_refusal (TooDeep at) files i file within is before found = first_refused grammar.TooDeep at files i file within is before found
+first_refusal (LeftOut at) files i file within is before found = first_refused grammar.LeftOut at files i file within is before found
+first_refusal Memory files i file within is before found = tt
+
+-- a fact of all elements holds of one in the middle
+at_middle : {X : Type 0} (P : X → Type 0) (before : List X) (x : X) (behind : List X) → All P (before ++ x ∷ behind) → P x
+at_middle P [] x behind all = all 0 x (omega arith)
+at_middle P (b ∷ before) x behind all = at_middle P before x behind (λ k d within. all (suc k) d (omega (arith, within)))
+
+-- a refused token stands in one of the first n files, as all tokens do
+pub refused_among : (n : ℕ) (code : grammar.Code) (at : Pos) (files : List (Vec Token Global)) → FirstRefused code at (cuts_of files)
+    → All (λ file. All (λ token. token.pos.file < n) file.items) files → at.file < n
+refused_among n code at files first all =
+    let InFiles : List Cut → Type 0 = λ cuts. All (λ cut. cut.pos.file < n) cuts in
+    let each : All InFiles (cuts_of files) = All-map InFiles (λ (f : Vec Token Global). map cut_of f.items) files
+    (λ k d within. All-map (λ (cut : Cut). cut.pos.file < n) cut_of (get_or files k d).items (all k d within)) in
+    let file : InFiles first.file = at_middle InFiles first.before first.file first.behind (subst (λ (fs : List (List Cut)). All InFiles fs) first.splits each) in
+    let found = first.refused in
+    let token : found.token.pos.file < n = at_middle (λ (cut : Cut). cut.pos.file < n) found.before found.token found.behind
+    (subst (λ (cuts : List Cut). InFiles cuts) found.splits file) in
+    subst (λ (pos : Pos). pos.file < n) found.place token
+
+pub refusal_among : (n : ℕ) (refusal : ParseRefusal) (files : List (Vec Token Global)) → IsFirstRefusal (cuts_of files) refusal
+    → All (λ file. All (λ token. token.pos.file < n) file.items) files → NamesOneOf n refusal
+refusal_among n (Syntax at) files first all = refused_among n grammar.Syntax at files first all
+refusal_among n (TooDeep at) files first all = refused_among n grammar.TooDeep at files first all
+refusal_among n (LeftOut at) files first all = refused_among n grammar.LeftOut at files first all
+refusal_among n Memory files first all = tt
+
+-- the line of the first refusal answers the check
+pub refusal_answers : (names texts : List (List ℕ)) (cuts : List (List Cut)) (refusal : ParseRefusal) (answer : Answer)
+    → all_tokens 0 TOKENS texts ≡ Ok cuts → IsFirstRefusal cuts refusal → RefusesSyntactically names refusal answer → Checks names (Texts texts) answer
+refusal_answers names texts cuts (Syntax pos) answer cut first line = subst (Checks names (Texts texts)) (sym line) (syntactic texts cuts grammar.Syntax pos cut first)
+refusal_answers names texts cuts (TooDeep pos) answer cut first line = subst (Checks names (Texts texts)) (sym line) (syntactic texts cuts grammar.TooDeep pos cut first)
+refusal_answers names texts cuts (LeftOut pos) answer cut first line = subst (Checks names (Texts texts)) (sym line) (syntactic texts cuts grammar.LeftOut pos cut first)
+refusal_answers names texts cuts Memory answer cut first line = absurd line

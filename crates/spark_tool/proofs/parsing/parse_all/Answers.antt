@@ -1,0 +1,28 @@
+use Rattle.std.proofs.Common.{List, Vec, All, take_all, subst, rules}
+use Rattle.std.specs.declared.alloc.Global.{Global}
+use Rattle.ada_lexer.specs.declared.token.Token.{Token}
+use Rattle.ada_tree.specs.Refusals.{IsTreeOf}
+use Rattle.token_reading.specs.Spelled.{told}
+use Rattle.std.proofs.Common.{map}
+use Rattle.ada_parser.specs.Refused.{IsRefusal}
+use Rattle.spark_tool.specs.Lexing.{cuts_of}
+use Rattle.spark_tool.specs.Parsing.{IsParsed}
+use Rattle.spark_tool.specs.Refusals.{IsFirstRefusal}
+use Rattle.spark_tool.proofs.Parsed.{parsed_more, first_refusal}
+use Rattle.spark_tool.proofs.parsing.parse_all.Goals as goal
+
+pub returns-in_err-parse-clause-refused : goal.returns-in_err-parse-clause-refused
+returns-in_err-parse-clause-refused c =
+    let first : IsFirstRefusal (cuts_of c.args.files.now) c.in_err-parse.field-0.0 =
+    first_refusal c.in_err-parse.field-0.0 c.args.files.now c.files.file-index c.file-item.result c.files-test.true c.file-item.is c.files.invariant
+    (subst (λ (tokens : List Token). IsRefusal tokens c.in_err-parse.field-0.0) c.as_slice.ensures.value c.in_err-parse.ensures.refused) in
+    search rules
+
+pub files-preserved : goal.files-preserved
+files-preserved c =
+    parsed_more c.args.files.now c.files.file-index c.file-item.result c.in_ok-parse.field-0.items c.files-test.true c.file-item.is c.files.invariant
+    (subst (λ (tokens : List Token). IsTreeOf (map told tokens) c.in_ok-parse.field-0.items) c.as_slice.ensures.value c.in_ok-parse.ensures.found)
+
+pub returns-clause-parsed : goal.returns-clause-parsed
+returns-clause-parsed c done =
+    subst (λ (files : List (Vec Token Global)). All IsParsed (cuts_of files)) (take_all c.files.file-index c.args.files.now c.files-test.false) c.files.invariant
