@@ -62,11 +62,49 @@ def token_kinds():
     return filled(line * min(TOKENS // per_line, SOURCE_BYTES // len(line) - 1))
 
 
+def procedure(statements):
+    """A procedure with these statements, which isn't of the straight-line form: it has no context clause."""
+    lines = ["procedure Main is", "   N : Integer := 0;", "begin"] + ["   " + text for text in statements] + ["end Main;"]
+    return filled("\n".join(lines) + "\n")
+
+
+def assignments(count):
+    """Assignments with one operator each."""
+    return procedure(["N := N + 1;"] * count)
+
+
+def deep_parentheses():
+    """Assignments of a number in 62 parentheses, as many as may stand there."""
+    return procedure(["N := " + "(" * 62 + "1" + ")" * 62 + ";"] * (TOKENS // 130))
+
+
+def long_chains():
+    """Assignments with 1,024 operators each, as many as may stand in one expression."""
+    return procedure(["N := 0" + " + N" * 1_024 + ";"] * (TOKENS // 2_060))
+
+
+def deep_blocks():
+    """A statement in 63 blocks, again and again."""
+    return procedure(["begin " * 63 + "null; " + "end; " * 63] * (TOKENS // 200))
+
+
+def open_parentheses():
+    """As many open parentheses as there may be tokens, none of which is closed."""
+    head = "procedure Main is\n   N : Integer;\nbegin\n   N := "
+    return (head + "(   \n" * SOURCE_BYTES)[:SOURCE_BYTES]
+
+
 def cases():
     """Each source with its name, and how `check` has to end: the status, and the lines on both outputs together."""
     yield "form_accepted", form(moved_on), 0, 1
     yield "form_reports", form(moved_again), 1, STATEMENTS - 1
     yield "token_kinds", token_kinds(), 2, 1
+    yield "assignments_16000", assignments(16_000), 2, 1
+    yield "assignments_160000", assignments(160_000), 2, 1
+    yield "deep_parentheses", deep_parentheses(), 2, 1
+    yield "long_chains", long_chains(), 2, 1
+    yield "deep_blocks", deep_blocks(), 2, 1
+    yield "open_parentheses", open_parentheses(), 2, 1
 
 
 def measured(path, status, lines):
