@@ -1,26 +1,25 @@
 -- What a fault in reading a whole file tells of its tokens.
-use Rattle.std.proofs.Common.{◌≡◌, refl, sym, ap, ◌∙◌, subst, ℕ, zero, suc, ◌-◌, Bool, true, false, List, [], ◌∷◌, ◌++◌, length, Option, Some, None, arith}
-use Rattle.std.specs.Prelude.{map, Ok, Err}
+use Rattle.std.proofs.Common.{◌≡◌, refl, sym, ap, ◌∙◌, subst, ℕ, suc, ◌+◌, ◌-◌, ◌≤◌, Bool, true, false, List, [], ◌∷◌, ◌++◌, length, Option, Some, arith}
+use Rattle.std.specs.Prelude.{map, Ok, Err, IfSome, if◌then◌else◌}
 use Rattle.std.specs.List.{slice_get}
-use Rattle.spark_base.specs.declared.position.Pos.{Pos}
+use Rattle.std.proofs.lemmas.List.{length-map, length-append}
 use Rattle.ada_lexer.specs.declared.token.Token.{Token}
-use Rattle.ada_lexer.specs.declared.token.TokenKind.{TokenKind}
-use Rattle.ada_lexer.specs.declared.token.TokenKind.TheVariants as kind
 use Rattle.ada_lexer.specs.Tokens.{EndsOnce, kinds_of}
 use Rattle.token_reading.specs.declared.fault.ReadFault.{ReadFault}
 use Rattle.token_reading.specs.declared.fault.ReadFault.TheVariants as fault
-use Rattle.token_reading.specs.Spelled.{Spelled, Word, Ident, Number, Str, Delimiter, EndOfFile, told, told_as}
-use Rattle.token_reading.specs.Reading.{Ahead, Gives, StandsAt, place, whole_file}
-use Rattle.token_reading.specs.Sources.{AtFirst, IsFaulty, IsTooMany, IsFile}
-use Rattle.token_reading.proofs.Tokens.{some_same}
-use Rattle.token_reading.proofs.Theorem.{is_file, ends_there, read_file, refused_file, deep_file}
+use Rattle.token_reading.specs.Spelled.{Spelled, told}
+use Rattle.token_reading.specs.Reading.{Ahead, Refused, Deep, Fails, Gives, whole_file}
+use Rattle.token_reading.specs.Sources.{AtFirst, IsFaulty, IsTooMany}
+use Rattle.token_reading.proofs.Theorem.{is_file, read_file, refused_file, deep_file}
 use Rattle.ada_tree.specs.declared.unit.SourceUnit.{SourceUnit}
 use Rattle.ada_tree.specs.Refusals.{IsSource, IsTreeOf, is_left_out}
 use Rattle.ada_tree.specs.Spelling.{source_marks}
 use Rattle.ada_grammar.specs.Units.{source}
 use Rattle.ada_grammar.proofs.UnitLaws.{law_source}
+use Rattle.ada_parser.specs.declared.refusal.ParseRefusal.{ParseRefusal}
+use Rattle.ada_parser.specs.declared.refusal.ParseRefusal.TheVariants as refusal
 use Rattle.ada_parser.specs.Refused.{IsRefusal}
-use Rattle.ada_parser.specs.Refusing.{refusal_by, last_token, place_by, place_in, refusal_at}
+use Rattle.ada_parser.specs.Refusing.{StandsAtToken, TellsOf, first_left, refusal_at}
 
 -- ---- a split of what tokens are to the grammar is one of the tokens
 
@@ -57,152 +56,108 @@ split (t ∷ ts) (u ∷ front) x back e =
       back_is = rest.back_is;
     }
 
--- ---- places
+-- ---- the token of the file at which a fault stands
 
-at_last : (before : List Token) (t : Token) → slice_get (before ++ (t ∷ [])) (length before) ≡ Some t
-at_last [] t = refl
-at_last (u ∷ before) t = at_last before t
+behind_front : (before : List Token) (t : Token) (behind : List Token) → slice_get (before ++ (t ∷ behind)) (length before) ≡ Some t
+behind_front [] t behind = refl
+behind_front (u ∷ before) t behind = behind_front before t behind
 
-longer : (before : List Token) (t : Token) → length (before ++ (t ∷ [])) ≡ suc (length before)
-longer [] t = refl
-longer (u ∷ before) t = ap suc (longer before t)
+counts : (before : List Token) (t : Token) (behind : List Token)
+    → length (before ++ (t ∷ behind)) ≡ length before + suc (length behind)
+counts before t behind = length-append before (t ∷ behind)
 
-one_longer : (before : List Token) (t : Token) → length (before ++ (t ∷ [])) - 1 ≡ length before
-one_longer before t = let more : length (before ++ (t ∷ [])) ≡ suc (length before) = longer before t in omega arith
-
-last_is : (before : List Token) (t : Token) → last_token (before ++ (t ∷ [])) ≡ Some t
-last_is before t = ap (slice_get (before ++ (t ∷ []))) (one_longer before t) ∙ at_last before t
-
-none_told : (ts : List Token) → map told ts ≡ [] → ts ≡ []
-none_told [] e = refl
-none_told (t ∷ ts) e = absurd (cc)
-
--- nothing stands behind the end of a file
-end_is_last : (tokens before : List Token) (t : Token) (behind : List Token) (back : List Spelled) → IsFile (map told tokens)
-    → map told tokens ≡ map told before ++ (EndOfFile ∷ back) → map told behind ≡ back → behind ≡ []
-end_is_last tokens before t behind back file e same =
-    none_told behind (same ∙ ends_there (map told before) back (subst IsFile e file))
-
-stands_there : (k : TokenKind) (here : Pos) (text : List ℕ) (there : Pos) → place (told_as k here text) ≡ Some there → here ≡ there
-stands_there (kind.Word word) here text there e = some_same here there e
-stands_there kind.Ident here text there e = some_same here there e
-stands_there (kind.Number number) here text there e = some_same here there e
-stands_there kind.Str here text there e = some_same here there e
-stands_there (kind.Symbol symbol) here text there e = some_same here there e
-stands_there kind.EndOfFile here text there e = absurd (cc)
-
--- a token has the place of one that is the same to the grammar, and the end of the file that of the last token
-same_place : (k : TokenKind) (here : Pos) (text : List ℕ) (l : TokenKind) (there : Pos) (other : List ℕ) (end : Option Token)
-    → told_as k here text ≡ told_as l there other
-    → (told_as k here text ≡ EndOfFile → (t : Token) × (end ≡ Some t) × (here ≡ t.pos)) → here ≡ place_by l there end
-same_place k here text (kind.Word word) there other end e ends = stands_there k here text there (ap place e)
-same_place k here text kind.Ident there other end e ends = stands_there k here text there (ap place e)
-same_place k here text (kind.Number number) there other end e ends = stands_there k here text there (ap place e)
-same_place k here text kind.Str there other end e ends = stands_there k here text there (ap place e)
-same_place k here text (kind.Symbol symbol) there other end e ends = stands_there k here text there (ap place e)
-same_place k here text kind.EndOfFile there other end e ends =
-    let last = ends e in last.2 ∙ sym (ap (place_by kind.EndOfFile there) last.1)
-
--- ---- the token of the file at which a fault is told
-
-record Located (fact : List Spelled → Spelled → Type 0) (tokens : List Token) (found : Option Token) : Type 0 where
-  it : Token
-  is_found : found ≡ Some it
+record Located (fact : List Spelled → Spelled → Type 0) (tokens : List Token) (left : ℕ) : Type 0 where
   before : List Token
   token : Token
   behind : List Token
   splits : tokens ≡ before ++ (token ∷ behind)
-  place : token.pos ≡ place_in tokens it
-  same : told token ≡ told it
+  is_first : first_left tokens left ≡ Some token
+  some : 1 ≤ left
+  within : left ≤ length tokens
   holds : fact (map told before) (told token)
 
-head_is : (t u : Spelled) (ts us : List Spelled) → t ∷ ts ≡ u ∷ us → t ≡ u
-head_is t u ts us e = cc
-
-located : (fact : List Spelled → Spelled → Type 0) (tokens : List Token) → EndsOnce (kinds_of tokens) → (rest : List Spelled)
-    → AtFirst fact (map told tokens) rest → (found : Option Token) → StandsAt found rest → Located fact tokens found
-located fact tokens once rest first None none =
-    absurd (let at : rest ≡ first.token ∷ first.behind = first.at in let empty : rest ≡ [] = none in cc)
-located fact tokens once rest first (Some it) stands =
+located : (fact : List Spelled → Spelled → Type 0) (tokens : List Token) (rest : List Spelled)
+    → AtFirst fact (map told tokens) rest → Located fact tokens (length rest)
+located fact tokens rest first =
     let whole : map told tokens ≡ first.before ++ (first.token ∷ first.behind) = first.splits ∙ ap (λ r. first.before ++ r) first.at in
     let s = split tokens first.before first.token first.behind whole in
-    let same : told s.token ≡ told it = s.token_is ∙ head_is first.token (told it) first.behind stands.0 (sym first.at ∙ stands.1) in
+    let left : length rest ≡ suc (length s.behind) =
+    ap length first.at ∙ ap suc (sym (ap length s.back_is) ∙ length-map s.behind told) in
+    let all : length tokens ≡ length s.before + suc (length s.behind) = ap length s.splits ∙ counts s.before s.token s.behind in
+    let front : length tokens - length rest ≡ length s.before = omega arith in
     record {
-      it = it;
-      is_found = refl;
       before = s.before;
       token = s.token;
       behind = s.behind;
       splits = s.splits;
-      place = same_place s.token.kind s.token.pos s.token.text.now it.kind it.pos it.text.now (last_token tokens) same
-          (λ is_end. (s.token, last_of tokens s.before s.token s.behind first.behind once (whole_of tokens s.before s.token first.before first.token first.behind whole s.front_is (sym s.token_is ∙ is_end)) s.back_is s.splits, refl));
-      same = same;
+      is_first = ap (slice_get tokens) front ∙ ap (λ ts. slice_get ts (length s.before)) s.splits
+          ∙ behind_front s.before s.token s.behind;
+      some = omega arith;
+      within = omega arith;
       holds = subst (λ x. fact (map told s.before) x) (sym s.token_is) (subst (λ us. fact us first.token) (sym s.front_is) first.holds);
     }
-  where
-    whole_of : (tokens before : List Token) (t : Token) (front : List Spelled) (x : Spelled) (back : List Spelled)
-        → map told tokens ≡ front ++ (x ∷ back) → map told before ≡ front → x ≡ EndOfFile → map told tokens ≡ map told before ++ (EndOfFile ∷ back)
-    whole_of tokens before t front x back e same_front is_end =
-        e ∙ ap (λ y. front ++ (y ∷ back)) is_end ∙ ap (λ us. us ++ (EndOfFile ∷ back)) (sym same_front)
 
-    last_of : (tokens before : List Token) (t : Token) (behind : List Token) (back : List Spelled) → EndsOnce (kinds_of tokens)
-        → map told tokens ≡ map told before ++ (EndOfFile ∷ back) → map told behind ≡ back → tokens ≡ before ++ (t ∷ behind)
-        → last_token tokens ≡ Some t
-    last_of tokens before t behind back once e same splits =
-        let none = end_is_last tokens before t behind back (is_file tokens once) e same in
-        ap last_token (splits ∙ ap (λ us. before ++ (t ∷ us)) none) ∙ last_is before t
+-- ---- what each fault of reading the tokens as a whole file tells
 
-refused_by : (tokens : List Token) (found : Option Token) → Located (IsFaulty IsSource source_marks) tokens found
-    → IsRefusal tokens (refusal_at tokens fault.Refused found)
-refused_by tokens found at =
-    subst (λ o. IsRefusal tokens (refusal_at tokens fault.Refused o)) (sym at.is_found) (by_code (is_left_out (told at.it)) refl)
-  where
-    by_code : (out : Bool) → is_left_out (told at.it) ≡ out → IsRefusal tokens (refusal_by fault.Refused out (place_in tokens at.it))
-    by_code true e = record {
-      before = at.before;
-      token = at.token;
-      behind = at.behind;
-      splits = at.splits;
-      place = at.place;
-      refused = (at.holds, ap is_left_out at.same ∙ e);
-    }
-    by_code false e = record {
-      before = at.before;
-      token = at.token;
-      behind = at.behind;
-      splits = at.splits;
-      place = at.place;
-      refused = (at.holds, ap is_left_out at.same ∙ e);
-    }
+faulty : (tokens : List Token) → EndsOnce (kinds_of tokens) → (rest : List Spelled)
+    → whole_file source 0 (map told tokens) ≡ Fails Refused rest → Located (IsFaulty IsSource source_marks) tokens (length rest)
+faulty tokens once rest e =
+    located (IsFaulty IsSource source_marks) tokens rest (refused_file law_source refl (map told tokens) rest (is_file tokens once) e)
 
-deep_by : (tokens : List Token) (found : Option Token) → Located (IsTooMany IsSource source_marks) tokens found
-    → IsRefusal tokens (refusal_at tokens fault.Deep found)
-deep_by tokens found at =
-    subst (λ o. IsRefusal tokens (refusal_at tokens fault.Deep o)) (sym at.is_found) (record {
-      before = at.before;
-      token = at.token;
-      behind = at.behind;
-      splits = at.splits;
-      place = at.place;
-      refused = at.holds;
-    })
+too_many : (tokens : List Token) (rest : List Spelled) → whole_file source 0 (map told tokens) ≡ Fails Deep rest
+    → Located (IsTooMany IsSource source_marks) tokens (length rest)
+too_many tokens rest e =
+    located (IsTooMany IsSource source_marks) tokens rest (deep_file law_source refl (map told tokens) rest e)
 
-memory_by : (tokens : List Token) (found : Option Token) → IsRefusal tokens (refusal_at tokens fault.Memory found)
-memory_by tokens None = tt
-memory_by tokens (Some token) = tt
+pub stands : (tokens : List Token) → EndsOnce (kinds_of tokens) → (cause : ReadFault) (new : Ahead)
+    → Gives (whole_file source 0 (map told tokens)) (Err cause) new → StandsAtToken tokens (length new.tokens) cause
+stands tokens once fault.Refused new e = let at = faulty tokens once new.tokens e in (at.some, at.within)
+stands tokens once fault.Deep new e = let at = too_many tokens new.tokens e in (at.some, at.within)
+stands tokens once fault.Memory new e = tt
+
+by_code : (tokens : List Token) {left : ℕ} (at : Located (IsFaulty IsSource source_marks) tokens left) (out : Bool)
+    → is_left_out (told at.token) ≡ out → IsRefusal tokens (if out then refusal.LeftOut at.token.pos else refusal.Syntax at.token.pos)
+by_code tokens at true e = record {
+  before = at.before;
+  token = at.token;
+  behind = at.behind;
+  splits = at.splits;
+  place = refl;
+  refused = (at.holds, e);
+}
+by_code tokens at false e = record {
+  before = at.before;
+  token = at.token;
+  behind = at.behind;
+  splits = at.splits;
+  place = refl;
+  refused = (at.holds, e);
+}
+
+told_of : (tokens : List Token) (left : ℕ) (token : Token) (P : Token → Type 0) → first_left tokens left ≡ Some token
+    → IfSome (first_left tokens left) P → P token
+told_of tokens left token P e is = subst (λ o. IfSome o P) e is
 
 -- a fault in reading the tokens as a whole file is told as their refusal
 pub refused : (tokens : List Token) → EndsOnce (kinds_of tokens) → (cause : ReadFault) (new : Ahead)
-    → Gives (whole_file source 0 (map told tokens)) (Err cause) new → (found : Option Token) → StandsAt found new.tokens
-    → IsRefusal tokens (refusal_at tokens cause found)
-refused tokens once fault.Refused new e found stands =
-    refused_by tokens found
-    (located (IsFaulty IsSource source_marks) tokens once new.tokens
-    (refused_file law_source refl (map told tokens) new.tokens (is_file tokens once) e) found stands)
-refused tokens once fault.Deep new e found stands =
-    deep_by tokens found
-    (located (IsTooMany IsSource source_marks) tokens once new.tokens (deep_file law_source refl (map told tokens) new.tokens e) found stands)
-refused tokens once fault.Memory new e found stands = memory_by tokens found
+    → Gives (whole_file source 0 (map told tokens)) (Err cause) new → (found : ParseRefusal)
+    → TellsOf tokens (length new.tokens) cause found → IsRefusal tokens found
+refused tokens once fault.Refused new e found tells =
+    let at = faulty tokens once new.tokens e in
+    let is = told_of tokens (length new.tokens) at.token (λ t. found ≡ refusal_at t) at.is_first tells in
+    subst (IsRefusal tokens) (sym is) (by_code tokens at (is_left_out (told at.token)) refl)
+refused tokens once fault.Deep new e found tells =
+    let at = too_many tokens new.tokens e in
+    let is = told_of tokens (length new.tokens) at.token (λ t. found ≡ refusal.TooDeep t.pos) at.is_first tells in
+    subst (IsRefusal tokens) (sym is) (record {
+      before = at.before;
+      token = at.token;
+      behind = at.behind;
+      splits = at.splits;
+      place = refl;
+      refused = at.holds;
+    })
+refused tokens once fault.Memory new e found tells = subst (IsRefusal tokens) (sym tells) tt
 
 -- what is read of the whole file is its tree
 pub found : (tokens : List Token) → EndsOnce (kinds_of tokens) → (units : List SourceUnit) (new : Ahead)

@@ -1,6 +1,4 @@
 -- what the public contract rests on
 pub mod Refused
 -- what the functions inside promise each other
-pub mod InnerStatements
 pub mod Refusing
-pub mod Nests

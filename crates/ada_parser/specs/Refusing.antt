@@ -1,10 +1,7 @@
--- How a fault at a token becomes a refusal of the tokens of a file.
-use Rattle.std.specs.Prelude.{Bool, true, false, List, length, ◌-◌, Option, Some, None}
+-- How a fault of reading becomes a refusal of the tokens of a file.
+use Rattle.std.specs.Prelude.{◌≡◌, ◌≤◌, ℕ, ◌-◌, if◌then◌else◌, List, length, Option, IfSome}
 use Rattle.std.specs.List.{slice_get}
-use Rattle.spark_base.specs.declared.position.Pos.{Pos}
 use Rattle.ada_lexer.specs.declared.token.Token.{Token}
-use Rattle.ada_lexer.specs.declared.token.TokenKind.{TokenKind}
-use Rattle.ada_lexer.specs.declared.token.TokenKind.TheVariants as kind
 use Rattle.token_reading.specs.declared.fault.ReadFault.{ReadFault}
 use Rattle.token_reading.specs.declared.fault.ReadFault.TheVariants as fault
 use Rattle.token_reading.specs.Spelled.{told}
@@ -12,25 +9,22 @@ use Rattle.ada_tree.specs.Refusals.{is_left_out}
 use Rattle.ada_parser.specs.declared.refusal.ParseRefusal.{ParseRefusal}
 use Rattle.ada_parser.specs.declared.refusal.ParseRefusal.TheVariants as refusal
 
--- A fault at a token that stands there, and may belong to what the language leaves out.
-abbrev pub refusal_by : ReadFault → Bool → Pos → ParseRefusal
-refusal_by fault.Refused true pos = refusal.LeftOut pos
-refusal_by fault.Refused false pos = refusal.Syntax pos
-refusal_by fault.Deep out pos = refusal.TooDeep pos
-refusal_by fault.Memory out pos = refusal.Memory
+-- The first of so many tokens left of a file.
+abbrev pub first_left : List Token → ℕ → Option Token
+first_left tokens left = slice_get tokens (length tokens - left)
 
-abbrev pub last_token : List Token → Option Token
-last_token tokens = slice_get tokens (length tokens - 1)
+-- A fault but want of memory stands at a token.
+abbrev pub StandsAtToken : List Token → ℕ → ReadFault → Type 0
+StandsAtToken tokens left fault.Refused = (1 ≤ left) × (left ≤ length tokens)
+StandsAtToken tokens left fault.Deep = (1 ≤ left) × (left ≤ length tokens)
+StandsAtToken tokens left fault.Memory = Unit {0}
 
--- The place of a token of a file, of which the last token is the end.
-abbrev pub place_by : TokenKind → Pos → Option Token → Pos
-place_by kind.EndOfFile pos (Some end) = end.pos
-place_by _ pos _ = pos
+-- The refusal at a token through which no source goes on.
+abbrev pub refusal_at : Token → ParseRefusal
+refusal_at token = if is_left_out (told token) then refusal.LeftOut token.pos else refusal.Syntax token.pos
 
-abbrev pub place_in : List Token → Token → Pos
-place_in tokens token = place_by token.kind token.pos (last_token tokens)
-
--- A fault with the cursor at this token.
-abbrev pub refusal_at : List Token → ReadFault → Option Token → ParseRefusal
-refusal_at tokens cause None = refusal.Memory
-refusal_at tokens cause (Some token) = refusal_by cause (is_left_out (told token)) (place_in tokens token)
+-- The refusal tells of this fault, at the first of so many tokens left.
+abbrev pub TellsOf : List Token → ℕ → ReadFault → ParseRefusal → Type 0
+TellsOf tokens left fault.Refused found = IfSome (first_left tokens left) (λ token. found ≡ refusal_at token)
+TellsOf tokens left fault.Deep found = IfSome (first_left tokens left) (λ token. found ≡ refusal.TooDeep token.pos)
+TellsOf tokens left fault.Memory found = found ≡ refusal.Memory

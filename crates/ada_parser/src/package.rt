@@ -3,15 +3,15 @@ ghost use Rattle.std.specs.Prelude.{◌≡◌};
 ghost use Rattle.token_reading.specs.Reading.{Reads, starts};
 ghost use Rattle.ada_grammar.specs.Units as readers;
 
-use crate::item::{instance_of, plain_item};
-use crate::name::identifier;
 use crate::subprogram::{
     body_behind, closing_name, formals, function_spec, mode, optional_formals, procedure,
     spark_mode,
 };
 use ada_lexer::{Reserved, Symbol};
 use ada_tree::{BodyPart, Decl, Identifier, Package, PackageBody, PrivatePart, SparkMode, Subspec};
+use expression_parser::identifier;
 use spark_base::{Boxed, Listed, Pos};
+use statement_parser::{instance_of, plain_item};
 use std::alloc::Global;
 use token_reading::{Cursor, Kind, ReadFault, Side};
 

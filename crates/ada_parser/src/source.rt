@@ -13,7 +13,7 @@ use crate::refusal::ParseRefusal;
 use crate::unit::units;
 use ada_lexer::{Token, TokenKind};
 use ada_tree::{SourceUnit, is_left_out};
-use spark_base::{Listed, Pos};
+use spark_base::Listed;
 use std::alloc::Global;
 use token_reading::{Cursor, ReadFault};
 
@@ -36,28 +36,25 @@ fn is_left_out_token(token: &Token<'_>) -> bool
     }
 }
 
-/// The place of a token of a file. A cursor tells no place of the end of the file, which is the last token.
-fn place_in(tokens: &[Token<'_>], token: &Token<'_>) -> Pos
-    ensures { result ≡ refusing.place_in tokens.now token.now }
+/// The refusal at a token through which no source goes on.
+fn refusal_at(token: &Token<'_>) -> ParseRefusal
+    ensures { result ≡ refusing.refusal_at token.now }
 {
-    match (token.kind, tokens.last()) {
-        (TokenKind::EndOfFile, Some(end)) => end.pos,
-        _ => token.pos,
+    if is_left_out_token(token) {
+        ParseRefusal::LeftOut(token.pos)
+    } else {
+        ParseRefusal::Syntax(token.pos)
     }
 }
 
-/// The refusal of the tokens of a file for a fault, with the cursor at this token. No fault leaves it behind the last one.
-fn refusal_at(tokens: &[Token<'_>], fault: ReadFault, next: Option<Token<'_>>) -> ParseRefusal
-    ensures { result ≡ refusing.refusal_at tokens.now fault next.entry }
+/// The refusal of the tokens of a file for a fault of reading with so many of them left.
+fn refusal_of(tokens: &[Token<'_>], left: usize, fault: ReadFault) -> ParseRefusal
+    requires { refusing.StandsAtToken tokens.now left fault }
+    ensures { refusing.TellsOf tokens.now left fault result }
 {
-    let Some(token) = next else {
-        return ParseRefusal::Memory;
-    };
-    let place = place_in(tokens, &token);
     match fault {
-        ReadFault::Refused if is_left_out_token(&token) => ParseRefusal::LeftOut(place),
-        ReadFault::Refused => ParseRefusal::Syntax(place),
-        ReadFault::Deep => ParseRefusal::TooDeep(place),
+        ReadFault::Refused => refusal_at(&tokens[tokens.len() - left]),
+        ReadFault::Deep => ParseRefusal::TooDeep(tokens[tokens.len() - left].pos),
         ReadFault::Memory => ParseRefusal::Memory,
     }
 }
@@ -74,6 +71,6 @@ pub fn parse(alloc: Global, tokens: &[Token<'_>]) -> Result<Vec<SourceUnit>, Par
     let mut cursor = Cursor::new(tokens);
     match source(alloc, &mut cursor) {
         Ok(units) => Ok(units.into_vec()),
-        Err(fault) => Err(refusal_at(tokens, fault, cursor.next())),
+        Err(fault) => Err(refusal_of(tokens, cursor.left(), fault)),
     }
 }

@@ -4,15 +4,13 @@ ghost use Rattle.spark_base.specs.declared.limits.TheConstants.{NESTING};
 ghost use Rattle.token_reading.specs.Reading.{Reads};
 ghost use Rattle.ada_grammar.specs.Units as readers;
 
-use crate::clause::{called, indication, next_identifiers};
-use crate::item::items;
-use crate::name::{dotted, identifier};
-use crate::statement::stmts;
 use ada_lexer::{Reserved, Symbol};
 use ada_tree::{
     Formal, Formals, Identifier, ModeOn, NextFormal, SparkMode, SubprogramBody, Subspec,
 };
+use expression_parser::{dotted, identifier};
 use spark_base::{Boxed, Listed, Pos};
+use statement_parser::{called, indication, items, next_identifiers, stmts};
 use std::alloc::{AllocError, Global};
 use token_reading::{Cursor, ReadFault, Side};
 

@@ -3,13 +3,13 @@ ghost use Rattle.std.specs.Prelude.{◌≡◌};
 ghost use Rattle.token_reading.specs.Reading.{Reads, starts};
 ghost use Rattle.ada_grammar.specs.Units as readers;
 
-use crate::clause::{pragma, use_clause};
-use crate::name::{dotted, next_dotteds};
 use crate::package::{package_behind, package_body_behind};
 use crate::subprogram::subprogram_body;
 use ada_lexer::{Reserved, Symbol};
 use ada_tree::{Context, SourceUnit};
+use expression_parser::{dotted, next_dotteds};
 use spark_base::{Listed, Pos};
+use statement_parser::{pragma, use_clause};
 use std::alloc::Global;
 use token_reading::{Cursor, Kind, ReadFault, Side};
 

@@ -1,14 +1,15 @@
--- Kinds of tokens (docs/LANGUAGE.md, "Grammar").
-use Rattle.std.specs.Prelude.{Bool, true, false}
+-- What a token may be to the limits, by its kind alone (docs/LANGUAGE.md, "Grammar").
+use Rattle.std.specs.Prelude.{◌≡◌, ℕ, Bool, true, false}
 use Rattle.ada_lexer.specs.declared.token.Reserved.{Reserved}
 use Rattle.ada_lexer.specs.declared.token.Reserved.TheVariants as w
 use Rattle.ada_lexer.specs.declared.token.Symbol.{Symbol}
 use Rattle.ada_lexer.specs.declared.token.Symbol.TheVariants as s
-use Rattle.ada_lexer.specs.declared.token.TokenKind.{TokenKind}
-use Rattle.ada_lexer.specs.declared.token.TokenKind.TheVariants as kind
+use Rattle.token_reading.specs.declared.side.Side.{Side}
+use Rattle.token_reading.specs.Spelled.{Spelled, Word, Delimiter}
+use Rattle.token_reading.specs.Marks.{Mark, plain, opens, operates}
 
--- A token of this kind opens a construct, unless it stands behind "end", is the "loop" of a "while" or a "for", the "begin"
--- of a subprogram or of a block with "declare", or the "procedure" of an instance. No other token opens one.
+-- The word opens a construct, unless it stands behind "end", is the "loop" of a "while" or a "for", the "begin"
+-- of a subprogram or of a block with "declare", or the "procedure" of an instance. No other word opens one.
 abbrev pub opens_word : Reserved → Bool
 opens_word w.KwBegin = true
 opens_word w.KwCase = true
@@ -23,12 +24,13 @@ opens_word w.KwRecord = true
 opens_word w.KwWhile = true
 opens_word _ = false
 
-abbrev pub opens_kind : TokenKind → Bool
-opens_kind (kind.Word word) = opens_word word
-opens_kind (kind.Symbol s.LeftParenthesis) = true
-opens_kind _ = false
+-- A "(" opens a construct, and no other delimiter does.
+abbrev pub may_open : Spelled → Bool
+may_open (Word word pos) = opens_word word
+may_open (Delimiter s.LeftParenthesis pos) = true
+may_open _ = false
 
--- A token of this kind is an operator, or the first word of one. No other token is.
+-- The word is an operator, or the first word of one. No other word is.
 abbrev pub operator_word : Reserved → Bool
 operator_word w.KwAbs = true
 operator_word w.KwAnd = true
@@ -53,7 +55,14 @@ operator_symbol s.GreaterEqual = true
 operator_symbol s.LessEqual = true
 operator_symbol _ = false
 
-abbrev pub operator_kind : TokenKind → Bool
-operator_kind (kind.Word word) = operator_word word
-operator_kind (kind.Symbol symbol) = operator_symbol symbol
-operator_kind _ = false
+abbrev pub is_operator : Spelled → Bool
+is_operator (Word word pos) = operator_word word
+is_operator (Delimiter symbol pos) = operator_symbol symbol
+is_operator _ = false
+
+-- How a token counts for the limits agrees with its kind: it operates exactly where it is an operator, and only a token that may open a
+-- construct is ever one too many for the depth. proofs/Weights.antt has it of each token in the spelling of a source.
+pub data Agrees : Mark → Type 0 where
+  rests : (side : Side) (t : Spelled) → is_operator t ≡ false → Agrees (plain side t)
+  opens_one : (side : Side) (depth : ℕ) (t : Spelled) → is_operator t ≡ false → may_open t ≡ true → Agrees (opens side depth t)
+  operates_one : (t : Spelled) → is_operator t ≡ true → Agrees (operates t)

@@ -4,6 +4,7 @@ pub mod Spelling
 pub mod WellPlaced
 pub mod FixedNames
 pub mod Refusals
-pub mod Kinds
 pub mod Places
 pub mod Lone
+-- what a law of the spelling speaks of
+pub mod Kinds

@@ -26,7 +26,7 @@ pub use expression::{
     ShortOperand, Suffix, Sum, Term,
 };
 pub use identifier::{Dotted, Identifier, NextDotted, NextIdentifier, NextPart};
-pub use kind::{is_left_out, is_opener, is_operator};
+pub use kind::is_left_out;
 pub use operator::{AddingOperator, MultiplyingOperator, RelationalOperator, Sign};
 pub use range::{Choice, NextChoice, Range};
 pub use statement::{Elsif, Stmt, Stmts, When};

@@ -7,6 +7,7 @@ ghost use Rattle.std.specs.Cmp.Rules.{hashing};
 ghost use Rattle.std.specs.Cmp.Lexicographic.{pointwise, nat_list_eq_equiv};
 ghost use Rattle.std.proofs.Common.{rules};
 
+use spark_base::Listed;
 use std::alloc::{AllocError, Global};
 use std::hash::{Hash, Hasher};
 use std::marker::Model;
@@ -33,6 +34,15 @@ impl Word {
         Ok(Word {
             bytes: Vec::from_slice(alloc, bytes)?,
         })
+    }
+
+    /// The word with these bytes, without a copy of them.
+    pub fn from_listed(bytes: Listed<u8>) -> Word
+        ensures { result ≡ bytes }
+    {
+        Word {
+            bytes: bytes.into_vec(),
+        }
     }
 
     /// The word in lower case, by which identifiers are compared (Ada 2012, 2.3(5)).

@@ -12,7 +12,6 @@ use denote.Enum.Declared.{tag_of}
 use Rattle.spark_base.specs.declared.position.Pos.{Pos}
 use Rattle.ada_lexer.specs.declared.token.Reserved.{Reserved}
 use Rattle.ada_lexer.specs.declared.token.Symbol.{Symbol}
-use Rattle.ada_lexer.specs.declared.token.Token.{Token}
 use Rattle.ada_lexer.specs.contracts.token.Reserved as reserved
 use Rattle.ada_lexer.specs.contracts.token.Symbol as symbols
 use Rattle.token_reading.specs.declared.fault.ReadFault.{ReadFault}
@@ -20,7 +19,7 @@ use Rattle.token_reading.specs.declared.fault.ReadFault.TheVariants as fault
 use Rattle.token_reading.specs.declared.side.Side.{Side}
 use Rattle.token_reading.specs.declared.side.Side.TheVariants.{Apart, Within}
 use Rattle.token_reading.specs.Marks.{Weight, resting, opening, operating}
-use Rattle.token_reading.specs.Spelled.{Spelled, Word, Ident, Number, Str, Delimiter, EndOfFile, told, spelled_code}
+use Rattle.token_reading.specs.Spelled.{Spelled, Word, Ident, Number, Str, Delimiter, EndOfFile, spelled_code}
 
 pub data Cause : Type 0 where
   -- the token can't stand there
@@ -272,11 +271,6 @@ placed f p = to (λ x. f x.0 x.1) (seq here p)
 abbrev pub StartsAt : Pos → List Spelled → Type 0
 StartsAt pos [] = ⊥
 StartsAt pos (t ∷ ts) = place t ≡ Some pos
-
--- The token is the next one, or none is left.
-abbrev pub StandsAt : Option Token → List Spelled → Type 0
-StandsAt None ts = ts ≡ []
-StandsAt (Some token) ts = (rest : List Spelled) × (ts ≡ told token ∷ rest)
 
 -- The fact holds of each element.
 abbrev pub Each : {A : Type 0} → (A → Type 0) → List A → Type 0

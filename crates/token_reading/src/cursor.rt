@@ -1,5 +1,5 @@
 //! A cursor over the tokens of a file, and the readers of one token.
-ghost use Rattle.std.specs.Prelude.{◌≡◌, [], ◌∷◌, map};
+ghost use Rattle.std.specs.Prelude.{◌≡◌, [], ◌∷◌, length, map};
 ghost use Rattle.std.specs.Option.{is_some};
 ghost use lib.Dec.{leb};
 ghost use Rattle.spark_base.specs.declared.limits.TheConstants.{NESTING, OPERATORS};
@@ -9,7 +9,7 @@ ghost use Rattle.token_reading.specs.declared.side.Side.TheVariants.{Apart};
 ghost use Rattle.token_reading.specs.Marks.{rests};
 ghost use Rattle.token_reading.specs.Kinds.{of_kind};
 ghost use Rattle.token_reading.specs.Reading as reading;
-ghost use Rattle.token_reading.specs.Reading.{Reads, StandsAt, starts, of_word, of_symbol, of_ident, of_number, of_string};
+ghost use Rattle.token_reading.specs.Reading.{Reads, starts, of_word, of_symbol, of_ident, of_number, of_string};
 
 use crate::fault::ReadFault;
 use crate::kind::{Kind, is_of_kinds};
@@ -353,10 +353,10 @@ impl<'t, 's> Cursor<'t, 's> {
         Ok(())
     }
 
-    /// The token at which the cursor stands, if one is left.
-    pub fn next(&self) -> Option<Token<'s>>
-        ensures { StandsAt result self.now.tokens }
+    /// How many tokens haven't been read, with the end of the file.
+    pub fn left(&self) -> usize
+        ensures { result ≡ length self.now.tokens }
     {
-        self.rest.first().copied()
+        self.rest.len()
     }
 }

@@ -88,51 +88,47 @@ fn tokens_of(alloc: Global, kinds: &[TokenKind]) -> Result<Vec<Token<'static>>, 
     Ok(made)
 }
 
-/// The fault in reading a group, and the column of the token at which the cursor stands; 0 where none is left.
+/// The fault in reading a group, and how many tokens are left.
 fn read(
     alloc: Global,
     kinds: &[TokenKind],
     depth: u32,
-) -> Result<(Option<ReadFault>, u32), AllocError> {
+) -> Result<(Option<ReadFault>, usize), AllocError> {
     let made = tokens_of(alloc, kinds)?;
     let mut tokens = Cursor::new(made.as_slice());
     let fault = group(alloc, &mut tokens, depth).err();
-    let column = match tokens.next() {
-        Some(token) => token.pos.column,
-        None => 0,
-    };
-    Ok((fault, column))
+    Ok((fault, tokens.left()))
 }
 
 #[test]
 fn groups(rt: HostRuntime) -> Result<(), Fail> {
     let end = TokenKind::EndOfFile;
-    for (kinds, depth, fault, column) in [
-        ([LEFT, ONE, PLUS, ONE, RIGHT, end], 63, None, 6),
-        ([LEFT, ONE, RIGHT, ONE, ONE, ONE], 63, None, 4),
+    for (kinds, depth, fault, left) in [
+        ([LEFT, ONE, PLUS, ONE, RIGHT, end], 63, None, 1),
+        ([LEFT, ONE, RIGHT, ONE, ONE, ONE], 63, None, 3),
         (
             [LEFT, ONE, PLUS, ONE, RIGHT, end],
             64,
             Some(ReadFault::Deep),
-            1,
+            6,
         ),
         (
             [ONE, ONE, PLUS, ONE, RIGHT, end],
             64,
             Some(ReadFault::Refused),
-            1,
+            6,
         ),
         (
             [LEFT, ONE, PLUS, PLUS, RIGHT, end],
             63,
             Some(ReadFault::Refused),
-            4,
+            3,
         ),
         (
             [LEFT, ONE, PLUS, ONE, end, end],
             63,
             Some(ReadFault::Refused),
-            5,
+            2,
         ),
         (
             [LEFT, ONE, PLUS, ONE, PLUS, ONE],
@@ -141,26 +137,24 @@ fn groups(rt: HostRuntime) -> Result<(), Fail> {
             0,
         ),
     ] {
-        assert!(rt;
-            read(rt.alloc(), &kinds, depth)? == (fault, column),
-            "{column}"
-        );
+        assert!(rt; read(rt.alloc(), &kinds, depth)? == (fault, left), "{left}");
     }
     Ok(())
 }
 
 #[test]
 fn operators(rt: HostRuntime) -> Result<(), Fail> {
-    for (count, fault) in [(1_024, None), (1_025, Some(ReadFault::Deep))] {
+    for (count, fault, left) in [(1_024, None, 0), (1_025, Some(ReadFault::Deep), 3)] {
         let mut kinds = vec![in rt.alloc(); LEFT, ONE]?;
         for _ in 0..count {
             kinds.push(PLUS)?;
             kinds.push(ONE)?;
         }
         kinds.push(RIGHT)?;
-        let (found, column) = read(rt.alloc(), kinds.as_slice(), 0)?;
-        assert!(rt; found == fault, "{count}");
-        assert!(rt; column == 0 || column == 2_051, "{column}");
+        assert!(rt;
+            read(rt.alloc(), kinds.as_slice(), 0)? == (fault, left),
+            "{count}"
+        );
     }
     Ok(())
 }

@@ -1,5 +1,0 @@
-use Rattle.ada_grammar.proofs.StatementLoops.{stmts_are}
-use Rattle.ada_parser.proofs.statement.+stmts.Goals as goal
-
-pub returns : goal.returns
-returns t c = rw (stmts_are c.args.depth) c.stmts.ensures

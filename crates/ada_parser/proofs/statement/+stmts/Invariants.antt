@@ -1,6 +1,0 @@
-use Rattle.std.proofs.Common.{◌-◌}
-use Rattle.spark_base.specs.declared.limits.TheConstants.{NESTING}
-use Rattle.ada_parser.proofs.statement.+stmts.Given as goal
-
-abbrev pub decreases-stmts : goal.decreases-stmts
-decreases-stmts l = NESTING - l.depth
