@@ -20,5 +20,5 @@ pub mod SmallRefused
 pub mod LoneLevels
 pub mod LoneExpressions
 pub mod LoneNames
-mod ExpressionWeights
-pub mod Weights
+mod ExpressionNesting
+pub mod Nesting

@@ -7,4 +7,4 @@ pub mod Refusals
 pub mod Places
 pub mod Lone
 -- what a law of the spelling speaks of
-pub mod Kinds
+pub mod Nesting

@@ -3,7 +3,7 @@
 -- Where a part begins with a token of its own, its place is the place of that token by the spelling. What is left
 -- to say is the place of each part that begins with another part. `d` is how many constructs are open around the part, as in
 -- the spelling.
-use Rattle.std.specs.Prelude.{◌≡◌, ℕ, suc, List, [], ◌∷◌, ◌++◌, Option, Some, None}
+use Rattle.std.specs.Prelude.{◌≡◌, ℕ, suc, List, ◌++◌, Option, Some, None}
 use Rattle.std.specs.List.{flat_map}
 use Rattle.spark_base.specs.declared.position.Pos.{Pos}
 use Rattle.ada_tree.specs.declared.identifier.Dotted.{Dotted}
