@@ -1,5 +1,5 @@
 #!/usr/bin/env python3
-"""Times `./spark check` on sources of 4 MiB, and prints a row for each; docs/COSTS.md has the rows.
+"""Times `./spark check` on sources of 4 MiB in all, and prints a row for each; docs/COSTS.md has the rows.
 
     python3 tools/bench.py [FOLDER]
 
@@ -94,6 +94,39 @@ def open_parentheses():
     return (head + "(   \n" * SOURCE_BYTES)[:SOURCE_BYTES]
 
 
+def one_region():
+    """200,000 declarations in one region."""
+    lines = ["X%d:Integer;" % i for i in range(1, 200_000)]
+    return filled("procedure Main is\nX0:Integer:=0;\n" + "\n".join(lines) + "\nbegin null; end Main;\n")
+
+
+def hiding_blocks():
+    """60 nested blocks that each declare the same name, with 100,000 occurrences of it in the innermost one."""
+    head = "procedure Main is X : Integer := 0; begin\n" + "declare X : Integer := 0; begin\n" * 60
+    return filled(head + "X := X;\n" * 50_000 + "end;\n" * 60 + "end Main;\n")
+
+
+def packages():
+    """1,000 packages, each with a `with` and a `use` of the one before and the names that it declares."""
+    lines = ["package P0 is X0 : Integer := 0; end P0;"]
+    for i in range(1, 1_000):
+        lines.append("with P%d; use P%d; package P%d is X%d : Integer := X%d; end P%d;" % (i - 1, i - 1, i, i, i - 1, i))
+    lines.append("procedure Main is begin null; end Main;")
+    return filled("\n".join(lines) + "\n")
+
+
+def files():
+    """64 files: packages that each use the one before in 1,000 declarations, and the main procedure."""
+    texts = ["package P0 is X0 : Integer := 0; end P0;\n"]
+    for i in range(1, 63):
+        lines = ["with P%d; use P%d; package P%d is" % (i - 1, i - 1, i)]
+        lines += ["Y%d : Integer := X%d;" % (j, i - 1) for j in range(1_000)]
+        texts.append("\n".join(lines + ["X%d : Integer := X%d; end P%d;" % (i, i - 1, i)]) + "\n")
+    texts.append("procedure Main is begin null; end Main;\n")
+    texts[-1] += "--" + "=" * (SOURCE_BYTES - sum(len(text) for text in texts) - 3) + "\n"
+    return texts
+
+
 def cases():
     """Each source with its name, and how `check` has to end: the status, and the lines on both outputs together."""
     yield "form_accepted", form(moved_on), 0, 1
@@ -105,12 +138,18 @@ def cases():
     yield "long_chains", long_chains(), 2, 1
     yield "deep_blocks", deep_blocks(), 2, 1
     yield "open_parentheses", open_parentheses(), 2, 1
+    yield "one_region", one_region(), 2, 1
+    yield "hiding_blocks", hiding_blocks(), 2, 1
+    yield "packages", packages(), 2, 1
+    yield "files", files(), 2, 1
 
 
-def measured(path, status, lines):
-    """Seconds and MiB of one run, which has to end as it should."""
+def measured(paths, status, lines):
+    """Seconds and MiB of one run on these files, which has to end as it should."""
+    path = paths[0]
     times = path.with_suffix(".time")
-    command = ["/usr/bin/time", "-v", "-o", str(times), str(TOP / "spark"), "check", path.name]
+    command = ["/usr/bin/time", "-v", "-o", str(times), str(TOP / "spark"), "check"]
+    command += [path.name for path in paths]
     run = subprocess.run(command, cwd=path.parent, stdin=subprocess.DEVNULL, capture_output=True)
     written = (run.stdout + run.stderr).count(b"\n")
     if (run.returncode, written) != (status, lines):
@@ -127,10 +166,12 @@ def bench(folder):
     print("| source | bytes | status | lines | seconds | MiB |")
     print("|---|---|---|---|---|---|")
     for name, text, status, lines in cases():
-        path = folder / (name + ".adb")
-        path.write_bytes(text.encode("latin-1"))
-        assert path.stat().st_size == SOURCE_BYTES
-        seconds, mib = measured(path, status, lines)
+        texts = [text] if isinstance(text, str) else text
+        assert sum(len(text) for text in texts) == SOURCE_BYTES
+        paths = [folder / ("%s_%d.adb" % (name, i)) for i in range(len(texts))]
+        for path, text in zip(paths, texts):
+            path.write_bytes(text.encode("latin-1"))
+        seconds, mib = measured(paths, status, lines)
         print("| %s | %d | %d | %d | %.2f | %.0f |" % (name, SOURCE_BYTES, status, lines, seconds, mib))
 
 

@@ -3,11 +3,11 @@
 
     python3 tools/grammar_fuzz.py [--count N] [--seed N] [--program PATH]
 
-The grammar is read from the page itself, and a recognizer for it is made here (Earley's, which tells after each token whether some
-source still goes on). Texts are random sources of the grammar, and such sources with tokens left out, doubled, exchanged, put in or
-cut off. For each text the first token with which no source goes on is compared, with its code and place, with what `spark` answers. A text
-that is a source may get any answer but P1 and P3. Limits of nesting and of operators aren't met. The program ends with 1 at a
-difference, and shows the text.
+The grammar is read from the page itself, and a recognizer for it is made here (Earley's, which tells after each token
+whether the tokens so far are a viable prefix). Texts are random sources of the grammar, and such sources with tokens left
+out, doubled, exchanged, put in or cut off. For each text the refused token is compared, with its code and position, with
+what `spark` answers. A text that is a source may get any answer but P1 and P3. Limits of nesting and of operators aren't
+met. The program ends with 1 at a difference, and shows the text.
 """
 import argparse
 import pathlib
@@ -36,7 +36,7 @@ def page_parts():
     block = block[: block.index("```")]
     lines = [re.sub(r"\s+\([\d., ]+\)\s*$", "", line) for line in block.splitlines()]
     reserved = text[text.index("\n## Reserved words\n") :].split("\n\n")[1].split()
-    left_out = section[section.index("It is P3 where it is one of the words") :].split("\n\n")[1].split()
+    left_out = section[section.index("\nabort abstract accept aliased") :].split("\n\n")[0].split()
     return "\n".join(lines), reserved, left_out
 
 
@@ -140,7 +140,7 @@ def closure(grammar, sets, items):
 
 
 def refused(grammar, tokens):
-    """The number of the first token with which no source goes on, or None."""
+    """The number of the first token that makes no viable prefix, or None."""
     sets = [closure(grammar, [], [("source", r, 0, 0) for r in range(len(grammar.rules["source"]))])]
     for number, token in enumerate(tokens):
         moved = []
@@ -219,17 +219,17 @@ def changed(rng, tokens, all_tokens):
 
 
 def written(rng, tokens):
-    """The bytes of the tokens, over lines, with the place of each and of the end of the file."""
-    text, line, column, places = "", 1, 1, []
+    """The bytes of the tokens, over lines, with the position of each and of the end of the file."""
+    text, line, column, positions = "", 1, 1, []
     for kind, word in tokens:
         if kind == "word" and word.isalpha():
             word = rng.choice((word, word, word.upper(), word.capitalize()))
-        places.append((line, column))
+        positions.append((line, column))
         gap = rng.choice((" ", " ", " ", "\n", "  ", " -- ; x\n"))
         text += word + gap
         line, column = (line + 1, 1) if gap.endswith("\n") else (line, column + len(word + gap))
-    places.append((line, column))
-    return text, places
+    positions.append((line, column))
+    return text, positions
 
 
 # ---- the comparison
@@ -260,7 +260,7 @@ def main():
             tokens = []
             random_source(grammar, rng, "source", rng.randrange(8, 40), tokens)
             tokens = changed(rng, tokens, all_tokens)
-            source, places = written(rng, tokens)
+            source, positions = written(rng, tokens)
             at = refused(grammar, tokens + [("EndOfFile", "")])
             status, said = answer(given.program, pathlib.Path(folder), source)
             if at is None:
@@ -270,7 +270,7 @@ def main():
                 word = tokens[at][1].lower() if at < len(tokens) and tokens[at][0] == "word" else ""
                 code = "P3 construct left out" if word in left_out else "P1 syntax"
                 counts[code[:2]] += 1
-                well = (status, said) == (2, "t.adb:%d:%d: %s\n" % (*places[at], code))
+                well = (status, said) == (2, "t.adb:%d:%d: %s\n" % (*positions[at], code))
             if not well:
                 print("a difference: token %s, and the program says %d %r, of\n%s" % (at, status, said, source))
                 return 1

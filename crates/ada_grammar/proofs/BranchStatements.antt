@@ -1,4 +1,5 @@
--- The laws of `if` and `case`, over the law of the statements within them, which is there where a level is left.
+-- The laws of `if` and `case`, over the law of the statements within them, which is there where a
+-- level is left.
 use Rattle.std.proofs.Common.{◌≡◌, refl, ℕ, suc, ◌≤◌, true, false, List, [], ◌∷◌, Some, None}
 use Rattle.std.proofs.Math.Path.{transport, transport⁻¹}
 use Rattle.std.specs.List.{flat_map}
@@ -10,13 +11,13 @@ use Rattle.ada_lexer.specs.declared.token.Reserved.TheVariants as w
 use Rattle.ada_lexer.specs.declared.token.Symbol.TheVariants as s
 use Rattle.token_reading.specs.declared.side.Side.TheVariants.{Apart}
 use Rattle.token_reading.specs.Spelled.{Word}
-use Rattle.token_reading.specs.Marks.{Mark, opens}
+use Rattle.token_reading.specs.Weights.{WeighedToken, opens}
 use Rattle.token_reading.specs.Reading.{Reader, of_word, of_symbol, Each}
 use Rattle.token_reading.proofs.Law.{Law}
-use Rattle.token_reading.proofs.Tokens.{Any, some_place, law_word, law_symbol}
+use Rattle.token_reading.proofs.Tokens.{Any, some_position, law_word, law_symbol}
 use Rattle.token_reading.proofs.Seq.{Both, joined, law_seq}
 use Rattle.token_reading.proofs.Made.{law_to, law_wider}
-use Rattle.token_reading.proofs.Choice.{Maybe, maybe_marked, law_optional}
+use Rattle.token_reading.proofs.Choice.{Maybe, maybe_spelled, law_optional}
 use Rattle.token_reading.proofs.Many.{law_each}
 use Rattle.token_reading.proofs.Nesting.{law_opened_word}
 use Rattle.ada_tree.specs.declared.expression.Expr.{Expr}
@@ -25,22 +26,22 @@ use Rattle.ada_tree.specs.declared.range.NextChoice.{NextChoice}
 use Rattle.ada_tree.specs.declared.statement.Stmts.{Stmts}
 use Rattle.ada_tree.specs.declared.statement.Elsif.{Elsif}
 use Rattle.ada_tree.specs.declared.statement.When.{When}
-use Rattle.ada_tree.specs.Spelling.{expr_marks, stmts_marks, stmt_marks, elsif_marks, when_marks}
+use Rattle.ada_tree.specs.Spelling.{expr_spelling, stmts_spelling, stmt_spelling, elsif_spelling, when_spelling}
 use Rattle.ada_tree.specs.WellPlaced.{ExprPlaced, ChoicePlaced, NextChoicePlaced, StmtsPlaced, ElsifPlaced, WhenPlaced}
 use Rattle.ada_tree.specs.FixedNames.{StmtsNamed, ElsifNamed, WhenNamed}
-use Rattle.ada_tree.proofs.StatementForms.{elsif_form, when_form}
-use Rattle.ada_tree.proofs.StatementLevels.{stmt-If, stmt-IfElse, stmt-Case, branch-Branch, alternative-Alternative}
-use Rattle.ada_tree.proofs.StatementPlacedLevels.{branch-Branch-placed, alternative-Alternative-placed}
-use Rattle.ada_tree.proofs.StatementNamedLevels.{branch-Branch-named, alternative-Alternative-named}
+use Rattle.ada_grammar.proofs.StatementForms.{elsif_form, when_form}
+use Rattle.ada_grammar.proofs.StatementLevels.{stmt-If, stmt-IfElse, stmt-Case, branch-Branch, alternative-Alternative}
+use Rattle.ada_grammar.proofs.StatementPlacedLevels.{branch-Branch-placed, alternative-Alternative-placed}
+use Rattle.ada_grammar.proofs.StatementNamedLevels.{branch-Branch-named, alternative-Alternative-named}
 use Rattle.ada_grammar.specs.Statements.{Ending, Otherwise, make_elsif, elsif_in, elsifs_in, otherwise_in, make_if, if_in, make_when, when_in, next_whens_in, make_case, case_in, stmt_first, stmts_last}
 use Rattle.ada_grammar.proofs.ExpressionLaws.{law_expr}
 use Rattle.ada_grammar.proofs.Range.{law_choice, law_next_choice}
 use Rattle.ada_grammar.proofs.StatementParts.{MadeOf, law_made_of, opened_within}
 use Rattle.ada_grammar.proofs.SmallTrees.{some_expr, some_expr_placed, some_stmts, some_stmts_good, some_when, some_when_good}
-use Rattle.ada_grammar.proofs.SimpleStatements.{word_marks, ending_marks, AnyEnding, law_ending}
+use Rattle.ada_grammar.proofs.SimpleStatements.{word_spelling, ending_spelling, AnyEnding, law_ending}
 
-abbrev pub opens_marks : Reserved → ℕ → Pos → List Mark
-opens_marks v d pos = opens Apart d (Word v pos) ∷ []
+abbrev pub opens_spelling : Reserved → ℕ → Pos → List WeighedToken
+opens_spelling v d pos = opens Apart d (Word v pos) ∷ []
 
 abbrev pub GoodStmts : ℕ → Stmts → Type 0
 GoodStmts d x = StmtsPlaced d x × StmtsNamed x
@@ -53,7 +54,7 @@ GoodWhen d x = WhenPlaced d x × WhenNamed x
 
 -- The law of a reader of statements where so many constructs are open.
 abbrev pub InnerLaw : ℕ → Reader Stmts → Type 0
-InnerLaw d inner = Law inner (GoodStmts d) (stmts_marks d) stmt_first stmts_last false
+InnerLaw d inner = Law inner (GoodStmts d) (stmts_spelling d) stmt_first stmts_last false
 
 -- ---- "elsif" expr "then" stmts
 
@@ -75,10 +76,10 @@ onto_elsif d =
     ((pos, (condition, (then, body))), ((tt, (placed.0, (tt, (placed.1, named)))), refl)))
 
 pub law_elsif_in : (d : ℕ) → d ≤ NESTING → (inner : Reader Stmts) → InnerLaw d inner
-    → Law (elsif_in d inner) (GoodElsif d) (elsif_marks d) (of_word w.KwElsif ∷ []) stmts_last false
+    → Law (elsif_in d inner) (GoodElsif d) (elsif_spelling d) (of_word w.KwElsif ∷ []) stmts_last false
 unfolding elsif_in
 law_elsif_in d h inner L =
-    law_to make_elsif (GoodElsif d) (elsif_marks d)
+    law_to make_elsif (GoodElsif d) (elsif_spelling d)
     (law_seq (law_word Apart w.KwElsif) (law_seq (law_expr d h) (law_seq (law_word Apart w.KwThen) L refl) refl) refl)
     (good_elsif d) (λ x good. branch-Branch d x.0 x.1.0 x.1.1.0 x.1.1.1) (onto_elsif d)
 
@@ -87,8 +88,8 @@ law_elsif_in d h inner L =
 abbrev IfParts : Type 0
 IfParts = Pos × (Expr × (Pos × (Stmts × (List Elsif × (Otherwise × Ending)))))
 
-abbrev otherwise_marks : ℕ → Otherwise → List Mark
-otherwise_marks d = maybe_marked (joined (word_marks w.KwElse) (stmts_marks d))
+abbrev otherwise_spelling : ℕ → Otherwise → List WeighedToken
+otherwise_spelling d = maybe_spelled (joined (word_spelling w.KwElse) (stmts_spelling d))
 
 abbrev GoodOtherwise : ℕ → Otherwise → Type 0
 GoodOtherwise d = Maybe (Both Any (GoodStmts d))
@@ -100,34 +101,34 @@ GoodRestOfIf d =
 abbrev pub GoodIf : ℕ → IfParts → Type 0
 GoodIf d = Both Any (GoodRestOfIf (suc d))
 
-abbrev if_marks : ℕ → IfParts → List Mark
-if_marks d =
-    joined (opens_marks w.KwIf d) (joined (expr_marks (suc d)) (joined (word_marks w.KwThen) (joined (stmts_marks (suc d))
-    (joined (flat_map (elsif_marks (suc d))) (joined (otherwise_marks (suc d)) (ending_marks w.KwIf))))))
+abbrev if_spelling : ℕ → IfParts → List WeighedToken
+if_spelling d =
+    joined (opens_spelling w.KwIf d) (joined (expr_spelling (suc d)) (joined (word_spelling w.KwThen) (joined (stmts_spelling (suc d))
+    (joined (flat_map (elsif_spelling (suc d))) (joined (otherwise_spelling (suc d)) (ending_spelling w.KwIf))))))
 
-spelled_if : (d : ℕ) (x : IfParts) → stmt_marks d (make_if x) ≡ if_marks d x
+spelled_if : (d : ℕ) (x : IfParts) → stmt_spelling d (make_if x) ≡ if_spelling d x
 spelled_if d (pos, (condition, (then, (body, (elsifs, (None, end)))))) =
     stmt-If d pos condition then body elsifs end.0 end.1.0 end.1.1
 spelled_if d (pos, (condition, (then, (body, (elsifs, (Some x, end)))))) =
     stmt-IfElse d pos condition then body elsifs x.0 x.1 end.0 end.1.0 end.1.1
 
 law_elsifs_in : (d : ℕ) → d ≤ NESTING → (inner : Reader Stmts) → InnerLaw d inner
-    → Law (elsifs_in d inner) (Each (GoodElsif d)) (flat_map (elsif_marks d)) (of_word w.KwElsif ∷ []) (of_word w.KwElsif ∷ stmts_last) true
+    → Law (elsifs_in d inner) (Each (GoodElsif d)) (flat_map (elsif_spelling d)) (of_word w.KwElsif ∷ []) (of_word w.KwElsif ∷ stmts_last) true
 unfolding elsifs_in
 law_elsifs_in d h inner L = law_each (of_word w.KwElsif ∷ []) (law_elsif_in d h inner L) refl refl
 
 law_otherwise_in : (d : ℕ) (inner : Reader Stmts) → InnerLaw d inner
-    → Law (otherwise_in inner) (GoodOtherwise d) (otherwise_marks d) (of_word w.KwElse ∷ []) (of_word w.KwElse ∷ stmts_last) true
+    → Law (otherwise_in inner) (GoodOtherwise d) (otherwise_spelling d) (of_word w.KwElse ∷ []) (of_word w.KwElse ∷ stmts_last) true
 unfolding otherwise_in
 law_otherwise_in d inner L = law_wider (of_word w.KwElse ∷ []) (of_word w.KwElse ∷ stmts_last)
     (law_optional (of_word w.KwElse ∷ []) (law_seq (law_word Apart w.KwElse) L refl) refl) refl refl
 
 pub law_if_in : (d : ℕ) (inner : Reader Stmts) → (leb NESTING d ≡ false → InnerLaw (suc d) inner)
-    → Law (if_in d inner) (MadeOf make_if (GoodIf d)) (stmt_marks d) (of_word w.KwIf ∷ []) [] false
+    → Law (if_in d inner) (MadeOf make_if (GoodIf d)) (stmt_spelling d) (of_word w.KwIf ∷ []) [] false
 unfolding if_in
 law_if_in d inner L =
-    law_made_of make_if (stmt_marks d)
-    (law_opened_word (some_expr, (some_place, (some_stmts, ([], (None, (some_place, (some_place, some_place)))))))
+    law_made_of make_if (stmt_spelling d)
+    (law_opened_word (some_expr, (some_position, (some_stmts, ([], (None, (some_position, (some_position, some_position)))))))
     (some_expr_placed (suc d), (tt, (some_stmts_good (suc d), (tt, (tt, (tt, (tt, tt)))))))
     w.KwIf d
     (λ left. law_seq (law_expr (suc d) (opened_within d left)) (law_seq (law_word Apart w.KwThen) (law_seq (L left)
@@ -158,10 +159,10 @@ onto_when d =
     ((pos, (first, (rest, (arrow, body)))), ((tt, (placed.0, (placed.1, (tt, (placed.2, named))))), refl)))
 
 pub law_when_in : (d : ℕ) → d ≤ NESTING → (inner : Reader Stmts) → InnerLaw d inner
-    → Law (when_in d inner) (GoodWhen d) (when_marks d) (of_word w.KwWhen ∷ []) stmts_last false
+    → Law (when_in d inner) (GoodWhen d) (when_spelling d) (of_word w.KwWhen ∷ []) stmts_last false
 unfolding when_in
 law_when_in d h inner L =
-    law_to make_when (GoodWhen d) (when_marks d)
+    law_to make_when (GoodWhen d) (when_spelling d)
     (law_seq (law_word Apart w.KwWhen) (law_seq (law_choice d h)
     (law_seq (law_each (of_symbol s.Bar ∷ []) (law_next_choice d h) refl refl) (law_seq (law_symbol Apart s.Arrow) L refl) refl) refl) refl)
     (good_when d) (λ x good. alternative-Alternative d x.0 x.1.0 x.1.1.0 x.1.1.1.0 x.1.1.1.1) (onto_when d)
@@ -176,16 +177,16 @@ GoodCase d =
     Both Any (Both (ExprPlaced (suc d)) (Both Any (Both (GoodWhen (suc d)) (Both (Each (GoodWhen (suc d))) AnyEnding))))
 
 law_next_whens_in : (d : ℕ) → d ≤ NESTING → (inner : Reader Stmts) → InnerLaw d inner
-    → Law (next_whens_in d inner) (Each (GoodWhen d)) (flat_map (when_marks d)) (of_word w.KwWhen ∷ []) (of_word w.KwWhen ∷ stmts_last) true
+    → Law (next_whens_in d inner) (Each (GoodWhen d)) (flat_map (when_spelling d)) (of_word w.KwWhen ∷ []) (of_word w.KwWhen ∷ stmts_last) true
 unfolding next_whens_in
 law_next_whens_in d h inner L = law_each (of_word w.KwWhen ∷ []) (law_when_in d h inner L) refl refl
 
 pub law_case_in : (d : ℕ) (inner : Reader Stmts) → (leb NESTING d ≡ false → InnerLaw (suc d) inner)
-    → Law (case_in d inner) (MadeOf make_case (GoodCase d)) (stmt_marks d) (of_word w.KwCase ∷ []) [] false
+    → Law (case_in d inner) (MadeOf make_case (GoodCase d)) (stmt_spelling d) (of_word w.KwCase ∷ []) [] false
 unfolding case_in
 law_case_in d inner L =
-    law_made_of make_case (stmt_marks d)
-    (law_opened_word (some_expr, (some_place, (some_when, ([], (some_place, (some_place, some_place))))))
+    law_made_of make_case (stmt_spelling d)
+    (law_opened_word (some_expr, (some_position, (some_when, ([], (some_position, (some_position, some_position))))))
     (some_expr_placed (suc d), (tt, (some_when_good (suc d), (tt, (tt, (tt, tt))))))
     w.KwCase d
     (λ left. law_seq (law_expr (suc d) (opened_within d left)) (law_seq (law_word Apart w.KwIs)

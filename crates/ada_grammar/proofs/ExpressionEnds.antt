@@ -8,10 +8,10 @@ use Rattle.ada_tree.specs.declared.identifier.Identifier.{Identifier}
 use Rattle.ada_tree.specs.declared.expression.Expr.{Expr}
 use Rattle.token_reading.specs.declared.side.Side.{Side}
 use Rattle.token_reading.specs.declared.side.Side.TheVariants.{Apart, Within}
-use Rattle.token_reading.specs.Reading.{Deep, Refused, Reader, of_word, of_symbol, of_number, of_string, seq, optional, many}
+use Rattle.token_reading.specs.Reading.{OverLimit, Refused, Reader, of_word, of_symbol, of_number, of_string, seq, optional, many}
 use Rattle.token_reading.proofs.Law.{got_fails}
 use Rattle.token_reading.proofs.Loop.{Shortens}
-use Rattle.ada_grammar.specs.Expressions.{make_adding, make_allocator, make_arg, make_dotted, make_expr, make_factor, make_identifier, make_multiplying, make_name, make_next_arg, make_next_dotted, make_next_factor, make_next_part, make_next_term, make_operand, make_parenthesized, make_primary, make_rel, make_relational, make_short_operand, make_sign, make_suffix, make_sum, make_term, identifier, next_part, dotted, next_dotted, given_in, lone_identifier, arg_in, next_arg_in, suffix_first, suffix_in, name_in, parenthesized_in, allocator_in, primary_in, multiplying_operator, multiplying_first, adding_operator, adding_first, sign_operator, sign_first, relational_operator, relational_first, factor_in, next_factor_in, term_in, next_term_in, sum_in, rel_in, operand_in, short_operand_in, chain_in, expr_in, expr_of, expr}
+use Rattle.ada_grammar.specs.Expressions.{make_adding, make_allocator, make_arg, make_dotted, make_expr, make_factor, make_identifier, make_multiplying, make_name, make_next_arg, make_next_dotted, make_next_factor, make_next_part, make_next_term, make_next_operand, make_parenthesized, make_primary, make_rel, make_relational, make_next_short_operand, make_sign, make_suffix, make_sum, make_term, identifier, next_part, dotted, next_dotted, given_in, lone_identifier, arg_in, next_arg_in, suffix_first, suffix_in, name_in, parenthesized_in, allocator_in, primary_in, multiplying_operator, multiplying_first, adding_operator, adding_first, sign_operator, sign_first, relational_operator, relational_first, factor_in, next_factor_in, term_in, next_term_in, sum_in, rel_in, next_operand_in, next_short_operand_in, chain_in, expr_in, expr_of, expr}
 use Rattle.ada_grammar.proofs.ExpressionLengths.{Takes, Passes, passes, takes_made, takes_first, takes_on, passes_both, takes_placed, takes_either, passes_either, passes_some, passes_all, passes_nothing, takes_word, takes_operator_word, takes_symbol, takes_operator, takes_opener, takes_ident, takes_string, takes_number}
 
 -- ---- names
@@ -147,23 +147,23 @@ module _ (d : ℕ) (inner : Reader Expr) (I : Takes inner) where
       takes_made make_rel (takes_first (takes_placed takes_sum)
       (passes_some relational_first (passes_both (passes takes_relational) (passes takes_sum))))
 
-  pub takes_operand : (v : Reserved) → Takes (operand_in d inner v)
-  unfolding operand_in
-  takes_operand v = takes_made make_operand (takes_first (takes_operator_word v) (passes takes_rel))
+  pub takes_next_operand : (v : Reserved) → Takes (next_operand_in d inner v)
+  unfolding next_operand_in
+  takes_next_operand v = takes_made make_next_operand (takes_first (takes_operator_word v) (passes takes_rel))
 
-  pub takes_short_operand : (v u : Reserved) → Takes (short_operand_in d inner v u)
-  unfolding short_operand_in
-  takes_short_operand v u =
-      takes_made make_short_operand (takes_first (takes_operator_word v) (passes_both (passes (takes_word Within u)) (passes takes_rel)))
+  pub takes_next_short_operand : (v u : Reserved) → Takes (next_short_operand_in d inner v u)
+  unfolding next_short_operand_in
+  takes_next_short_operand v u =
+      takes_made make_next_short_operand (takes_first (takes_operator_word v) (passes_both (passes (takes_word Within u)) (passes takes_rel)))
 
-  passes_long : (v : Reserved) → Passes (seq (rel_in d inner) (many (of_word v ∷ []) (operand_in d inner v)))
-  passes_long v = passes_both (passes takes_rel) (passes_all (of_word v ∷ []) (takes_operand v))
+  passes_long : (v : Reserved) → Passes (seq (rel_in d inner) (many (of_word v ∷ []) (next_operand_in d inner v)))
+  passes_long v = passes_both (passes takes_rel) (passes_all (of_word v ∷ []) (takes_next_operand v))
 
   passes_chain : (v u : Reserved) → Passes (chain_in d inner v u)
   unfolding chain_in
   passes_chain v u =
       passes_either (of_word u ∷ [])
-      (passes_both (passes (takes_word Within u)) (passes_both (passes takes_rel) (passes_all (of_word v ∷ []) (takes_short_operand v u))))
+      (passes_both (passes (takes_word Within u)) (passes_both (passes takes_rel) (passes_all (of_word v ∷ []) (takes_next_short_operand v u))))
       (passes_long v)
 
   takes_expr_in : Takes (expr_in d inner)
@@ -178,14 +178,14 @@ module _ (d : ℕ) (inner : Reader Expr) (I : Takes inner) where
 
 takes_expr_of : (left d : ℕ) → Takes (expr_of left d)
 unfolding expr_of
-takes_expr_of zero d = record { shortens = λ k ts a j rest e. absurd (got_fails a j Deep rest ts (sym e)) }
+takes_expr_of zero d = record { shortens = λ k ts a j rest e. absurd (got_fails a j OverLimit rest ts (sym e)) }
 takes_expr_of (suc left) d = takes_expr_in d (expr_of left (suc d)) (takes_expr_of left (suc d))
 
 pub takes_expr : (d : ℕ) → Takes (expr d)
 unfolding expr
 takes_expr d = takes_expr_of (suc NESTING - d) d
 
--- ---- what loops go on with
+-- ---- what is read in loops
 
 pub next_part_shortens : (side : Side) → Shortens (next_part side)
 next_part_shortens side = (takes_next_part side).shortens
@@ -205,8 +205,8 @@ next_factor_shortens d e = (takes_next_factor d (expr e) (takes_expr e)).shorten
 pub next_term_shortens : (d e : ℕ) → Shortens (next_term_in d (expr e))
 next_term_shortens d e = (takes_next_term d (expr e) (takes_expr e)).shortens
 
-pub operand_shortens : (d e : ℕ) (v : Reserved) → Shortens (operand_in d (expr e) v)
-operand_shortens d e v = (takes_operand d (expr e) (takes_expr e) v).shortens
+pub next_operand_shortens : (d e : ℕ) (v : Reserved) → Shortens (next_operand_in d (expr e) v)
+next_operand_shortens d e v = (takes_next_operand d (expr e) (takes_expr e) v).shortens
 
-pub short_operand_shortens : (d e : ℕ) (v u : Reserved) → Shortens (short_operand_in d (expr e) v u)
-short_operand_shortens d e v u = (takes_short_operand d (expr e) (takes_expr e) v u).shortens
+pub next_short_operand_shortens : (d e : ℕ) (v u : Reserved) → Shortens (next_short_operand_in d (expr e) v u)
+next_short_operand_shortens d e v u = (takes_next_short_operand d (expr e) (takes_expr e) v u).shortens

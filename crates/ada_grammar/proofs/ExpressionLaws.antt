@@ -2,7 +2,7 @@
 use Rattle.std.proofs.Common.{◌≡◌, sym, subst, ℕ, zero, suc, ◌+◌, ◌-◌, ◌≤◌, ◌<◌, false, [], ◌∷◌, leb-false, arith}
 use Rattle.spark_base.specs.declared.limits.TheConstants.{NESTING}
 use Rattle.ada_lexer.specs.declared.token.Symbol.TheVariants as s
-use Rattle.ada_tree.specs.Spelling.{name_marks, arg_marks, next_arg_marks}
+use Rattle.ada_tree.specs.Spelling.{name_spelling, arg_spelling, next_arg_spelling}
 use Rattle.ada_tree.specs.WellPlaced.{NamePlaced, ArgPlaced, NextArgPlaced}
 use Rattle.token_reading.specs.declared.side.Side.{Side}
 use Rattle.token_reading.specs.Reading.{of_symbol}
@@ -29,15 +29,15 @@ law_expr d allowed =
 pub law_inner : (d : ℕ) → InnerLaw d (expr (suc d))
 law_inner d some_left = let more : d < NESTING = leb-false NESTING d some_left in law_expr (suc d) (omega (arith, more))
 
-pub law_name : (side : Side) (d : ℕ) → d ≤ NESTING → Law (name_at side d) (NamePlaced d) (name_marks side d) name_first name_last false
+pub law_name : (side : Side) (d : ℕ) → d ≤ NESTING → Law (name_at side d) (NamePlaced d) (name_spelling side d) name_first name_last false
 unfolding name_at
 law_name side d allowed = law_name_in side d (expr (suc d)) (law_inner d)
 
-pub law_arg : (side : Side) (d : ℕ) → d ≤ NESTING → Law (arg_at side d) (ArgPlaced d) (arg_marks side d) expr_first arg_last false
+pub law_arg : (side : Side) (d : ℕ) → d ≤ NESTING → Law (arg_at side d) (ArgPlaced d) (arg_spelling side d) expr_first arg_last false
 unfolding arg_at
 law_arg side d allowed = law_arg_in side d (expr d) (law_expr d allowed)
 
 pub law_next_arg : (side : Side) (d : ℕ) → d ≤ NESTING
-    → Law (next_arg_at side d) (NextArgPlaced d) (next_arg_marks side d) (of_symbol s.Comma ∷ []) arg_last false
+    → Law (next_arg_at side d) (NextArgPlaced d) (next_arg_spelling side d) (of_symbol s.Comma ∷ []) arg_last false
 unfolding next_arg_at
 law_next_arg side d allowed = law_next_arg_in side d (expr d) (law_expr d allowed)

@@ -7,8 +7,8 @@ use Rattle.ada_lexer.specs.declared.token.Reserved.{Reserved}
 use Rattle.token_reading.specs.declared.side.Side.{Side}
 use Rattle.token_reading.specs.declared.side.Side.TheVariants.{Within}
 use Rattle.token_reading.specs.Spelled.{Spelled}
-use Rattle.token_reading.specs.Marks.{Weight, resting, opening, operating}
-use Rattle.token_reading.specs.Reading.{Deep, Refused, Got, Reader, starts, word_place, symbol_place, identifier_of, string_of, number_of, word, operator_word, symbol, opens_symbol, operator_symbol, ident, string, number, place, stays, here, one_of, taken, and_then, to, seq_on, seq, nothing, choose, optional, many, many_up_to}
+use Rattle.token_reading.specs.Weights.{Weight, resting, opening, operating}
+use Rattle.token_reading.specs.Reading.{OverLimit, Refused, Got, Reader, starts, word_position, symbol_position, identifier_of, string_of, number_of, word, operator_word, symbol, opens_symbol, operator_symbol, ident, string, number, position, stays, here, one_of, taken, and_then, to, seq_on, seq, nothing, choose, optional, many, many_up_to}
 use Rattle.token_reading.proofs.Law.{failed, got_same, got_fails, and_then_got}
 use Rattle.token_reading.proofs.Loop.{Shortens}
 
@@ -24,15 +24,15 @@ shortened short k ts a j rest e = let less : length rest < length ts = short k t
 left_length : {A : Type 0} (a b : A) (j i : ℕ) (ts rest : List Spelled) → Got a j ts ≡ Got b i rest → length rest ≡ length ts
 left_length a b j i ts rest e = ap length (sym (got_same a b j i ts rest e).2)
 
-weighed_length : {A : Type 0} (heavy : Bool) (a b : A) (i j : ℕ) (t : Spelled) (ts rest : List Spelled)
-    → (if heavy then failed A Deep (t ∷ ts) else Got a i ts) ≡ Got b j rest → length rest < suc (length ts)
-weighed_length true a b i j t ts rest e = absurd (got_fails b j Deep rest (t ∷ ts) (sym e))
+weighed_length : {A : Type 0} (exceeds : Bool) (a b : A) (i j : ℕ) (t : Spelled) (ts rest : List Spelled)
+    → (if exceeds then failed A OverLimit (t ∷ ts) else Got a i ts) ≡ Got b j rest → length rest < suc (length ts)
+weighed_length true a b i j t ts rest e = absurd (got_fails b j OverLimit rest (t ∷ ts) (sym e))
 weighed_length false a b i j t ts rest e = let same : length rest ≡ length ts = left_length a b i j ts rest e in omega (arith, same)
 
 taken_length : {A : Type 0} (w : Weight) (found : Option A) (k : ℕ) (t : Spelled) (ts : List Spelled) (b : A) (j : ℕ) (rest : List Spelled)
     → taken w found k t ts ≡ Got b j rest → length rest < suc (length ts)
 taken_length w None k t ts b j rest e = absurd (got_fails b j Refused rest (t ∷ ts) (sym e))
-taken_length w (Some a) k t ts b j rest e = weighed_length (w.heavy k) a b (w.step k) j t ts rest e
+taken_length w (Some a) k t ts b j rest e = weighed_length (w.exceeds k) a b (w.step k) j t ts rest e
 
 pub one_short : {A : Type 0} (w : Weight) (f : Spelled → Option A) → Shortens (one_of w f)
 one_short w f k [] a j rest e = absurd (got_fails a j Refused rest [] (sym e))
@@ -45,7 +45,7 @@ stays_length (Some pos) k ts a j rest e = let same : length rest ≡ length ts =
 
 pub here_keeps : Keeps here
 here_keeps k [] a j rest e = absurd (got_fails a j Refused rest [] (sym e))
-here_keeps k (t ∷ ts) a j rest e = stays_length (place t) k (t ∷ ts) a j rest e
+here_keeps k (t ∷ ts) a j rest e = stays_length (position t) k (t ∷ ts) a j rest e
 
 pub nothing_keeps : Keeps nothing
 nothing_keeps k ts a j rest e = let same : length rest ≡ length ts = left_length tt a k j ts rest e in omega (arith, same)
@@ -183,19 +183,19 @@ pub passes_nothing : Passes nothing
 passes_nothing = record { keeps = nothing_keeps }
 
 pub takes_word : (side : Side) (v : Reserved) → Takes (word side v)
-takes_word side v = record { shortens = one_short (resting side) (word_place v) }
+takes_word side v = record { shortens = one_short (resting side) (word_position v) }
 
 pub takes_operator_word : (v : Reserved) → Takes (operator_word v)
-takes_operator_word v = record { shortens = one_short operating (word_place v) }
+takes_operator_word v = record { shortens = one_short operating (word_position v) }
 
 pub takes_symbol : (side : Side) (v : Symbol) → Takes (symbol side v)
-takes_symbol side v = record { shortens = one_short (resting side) (symbol_place v) }
+takes_symbol side v = record { shortens = one_short (resting side) (symbol_position v) }
 
 pub takes_operator : (v : Symbol) → Takes (operator_symbol v)
-takes_operator v = record { shortens = one_short operating (symbol_place v) }
+takes_operator v = record { shortens = one_short operating (symbol_position v) }
 
 pub takes_opener : (side : Side) (v : Symbol) (d : ℕ) → Takes (opens_symbol side v d)
-takes_opener side v d = record { shortens = one_short (opening side d) (symbol_place v) }
+takes_opener side v d = record { shortens = one_short (opening side d) (symbol_position v) }
 
 pub takes_ident : (side : Side) → Takes (ident side)
 takes_ident side = record { shortens = one_short (resting side) identifier_of }

@@ -12,17 +12,17 @@ use Rattle.ada_tree.specs.declared.expression.Expr.{Expr}
 use Rattle.ada_tree.specs.declared.expression.Name.{Name}
 use Rattle.ada_tree.specs.declared.expression.Name.TheVariants as of_name
 use Rattle.ada_tree.specs.declared.expression.Suffix.{Suffix}
-use Rattle.ada_tree.specs.Spelling.{id_mark, name_marks, suffix_marks, arg_marks, next_arg_marks}
+use Rattle.ada_tree.specs.Spelling.{id_mark, name_spelling, suffix_spelling, arg_spelling, next_arg_spelling}
 use Rattle.ada_tree.specs.WellPlaced.{NamePlaced, SuffixPlaced, ArgPlaced, NextArgPlaced}
-use Rattle.ada_tree.proofs.Levels.{name-Prefixed, suffix-Selected, suffix-Dereferenced, suffix-Applied, suffix-Attribute, suffix-RangeAttribute}
-use Rattle.ada_tree.proofs.PlacedLevels.{name-Prefixed-placed, suffix-Selected-placed, suffix-Dereferenced-placed, suffix-Applied-placed, suffix-Attribute-placed, suffix-RangeAttribute-placed}
+use Rattle.ada_grammar.proofs.Levels.{name-Prefixed, suffix-Selected, suffix-Dereferenced, suffix-Applied, suffix-Attribute, suffix-RangeAttribute}
+use Rattle.ada_grammar.proofs.PlacedLevels.{name-Prefixed-placed, suffix-Selected-placed, suffix-Dereferenced-placed, suffix-Applied-placed, suffix-Attribute-placed, suffix-RangeAttribute-placed}
 use Rattle.ada_tree.proofs.Forms.{name_form, suffix_form}
 use Rattle.token_reading.specs.declared.side.Side.{Side}
 use Rattle.token_reading.specs.Spelled.{Word, Delimiter}
-use Rattle.token_reading.specs.Marks.{Mark, plain, opens}
+use Rattle.token_reading.specs.Weights.{WeighedToken, plain, opens}
 use Rattle.token_reading.specs.Reading.{Reader, of_word, of_symbol, Each}
 use Rattle.token_reading.proofs.Law.{Law}
-use Rattle.token_reading.proofs.Tokens.{Any, some_place, law_word, law_symbol}
+use Rattle.token_reading.proofs.Tokens.{Any, some_position, law_word, law_symbol}
 use Rattle.token_reading.proofs.Seq.{Both, joined, law_seq}
 use Rattle.token_reading.proofs.Made.{law_to, law_wider}
 use Rattle.token_reading.proofs.Choice.{Either, of_either, law_choose}
@@ -38,28 +38,28 @@ InnerLaw d inner = leb NESTING d ≡ false → ExprLaw (suc d) inner
 
 -- ---- names
 
-abbrev dot_marks : Side → Pos × (Pos ⊎ Identifier) → List Mark
-dot_marks side = joined (λ p. plain side (Delimiter s.Dot p) ∷ []) (of_either (λ p. plain side (Word w.KwAll p) ∷ []) (λ id. id_mark side id ∷ []))
+abbrev dot_spelling : Side → Pos × (Pos ⊎ Identifier) → List WeighedToken
+dot_spelling side = joined (λ p. plain side (Delimiter s.Dot p) ∷ []) (of_either (λ p. plain side (Word w.KwAll p) ∷ []) (λ id. id_mark side id ∷ []))
 
-abbrev tick_marks : Side → Pos × (Pos ⊎ Identifier) → List Mark
-tick_marks side =
+abbrev tick_spelling : Side → Pos × (Pos ⊎ Identifier) → List WeighedToken
+tick_spelling side =
     joined (λ p. plain side (Delimiter s.Apostrophe p) ∷ []) (of_either (λ p. plain side (Word w.KwRange p) ∷ []) (λ id. id_mark side id ∷ []))
 
 -- args and ")", behind "("
 abbrev pub GoodArgs : ℕ → Arg × (List NextArg × Pos) → Type 0
 GoodArgs d = Both (ArgPlaced d) (Both (Each (NextArgPlaced d)) Any)
 
-abbrev pub args_marks : Side → ℕ → Arg × (List NextArg × Pos) → List Mark
-args_marks side d =
-    joined (arg_marks side d) (joined (flat_map (next_arg_marks side d)) (λ p. plain side (Delimiter s.RightParenthesis p) ∷ []))
+abbrev pub args_spelling : Side → ℕ → Arg × (List NextArg × Pos) → List WeighedToken
+args_spelling side d =
+    joined (arg_spelling side d) (joined (flat_map (next_arg_spelling side d)) (λ p. plain side (Delimiter s.RightParenthesis p) ∷ []))
 
 abbrev GoodSuffix : ℕ → SuffixParts → Type 0
 GoodSuffix d = Either (Both Any (Either Any Any)) (Either (Both Any (Either Any Any)) (Both Any (GoodArgs (suc d))))
 
-abbrev suffix_parts_marks : Side → ℕ → SuffixParts → List Mark
-suffix_parts_marks side d =
-    of_either (dot_marks side) (of_either (tick_marks side)
-    (joined (λ p. opens side d (Delimiter s.LeftParenthesis p) ∷ []) (args_marks side (suc d))))
+abbrev suffix_parts_spelling : Side → ℕ → SuffixParts → List WeighedToken
+suffix_parts_spelling side d =
+    of_either (dot_spelling side) (of_either (tick_spelling side)
+    (joined (λ p. opens side d (Delimiter s.LeftParenthesis p) ∷ []) (args_spelling side (suc d))))
 
 good_suffix : (d : ℕ) (x : SuffixParts) → GoodSuffix d x → SuffixPlaced d (make_suffix x)
 good_suffix d (inl (dot, inl all)) good = holds (suffix-Dereferenced-placed d dot all) tt
@@ -69,7 +69,7 @@ good_suffix d (inr (inl (tick, inr id))) good = holds (suffix-Attribute-placed d
 good_suffix d (inr (inr (left, (first, (rest, right))))) good =
     holds (suffix-Applied-placed d left first rest right) (good.1.0, good.1.1.0)
 
-spelled_suffix : (side : Side) (d : ℕ) (x : SuffixParts) → suffix_marks side d (make_suffix x) ≡ suffix_parts_marks side d x
+spelled_suffix : (side : Side) (d : ℕ) (x : SuffixParts) → suffix_spelling side d (make_suffix x) ≡ suffix_parts_spelling side d x
 spelled_suffix side d (inl (dot, inl all)) = suffix-Dereferenced side d dot all
 spelled_suffix side d (inl (dot, inr id)) = suffix-Selected side d dot id
 spelled_suffix side d (inr (inl (tick, inl range))) = suffix-RangeAttribute side d tick range
@@ -86,16 +86,16 @@ onto_suffix d =
     (λ pos id placed. (inr (inl (pos, inr id)), ((tt, tt), refl))) (λ pos range placed. (inr (inl (pos, inl range)), ((tt, tt), refl)))
 
 pub law_suffix_in : (side : Side) (d : ℕ) (inner : Reader Expr) → InnerLaw d inner
-    → Law (suffix_in side d inner) (SuffixPlaced d) (suffix_marks side d) suffix_first [] false
+    → Law (suffix_in side d inner) (SuffixPlaced d) (suffix_spelling side d) suffix_first [] false
 unfolding suffix_in
 law_suffix_in side d inner L =
     law_wider suffix_first []
-    (law_to make_suffix (SuffixPlaced d) (suffix_marks side d)
+    (law_to make_suffix (SuffixPlaced d) (suffix_spelling side d)
     (law_choose (of_symbol s.Dot ∷ [])
     (law_seq (law_symbol side s.Dot) (law_choose (of_word w.KwAll ∷ []) (law_word side w.KwAll) (law_identifier side) refl refl) refl)
     (law_choose (of_symbol s.Apostrophe ∷ [])
     (law_seq (law_symbol side s.Apostrophe) (law_choose (of_word w.KwRange ∷ []) (law_word side w.KwRange) (law_identifier side) refl refl) refl)
-    (law_opened_symbol (some_arg, ([], some_place)) (some_arg_placed (suc d), (tt, tt)) side s.LeftParenthesis d
+    (law_opened_symbol (some_arg, ([], some_position)) (some_arg_placed (suc d), (tt, tt)) side s.LeftParenthesis d
     (λ e. law_seq (law_arg_in side (suc d) inner (L e))
     (law_seq (law_next_args_in side (suc d) inner (L e)) (law_symbol side s.RightParenthesis) refl) refl)) refl refl) refl refl)
     (good_suffix d) (λ x good. spelled_suffix side d x) (onto_suffix d)) refl refl
@@ -108,10 +108,10 @@ onto_name d =
     ((first, rest), ((tt, parts.1), ap (λ p. of_name.Prefixed p first rest) parts.0)))
 
 pub law_name_in : (side : Side) (d : ℕ) (inner : Reader Expr) → InnerLaw d inner
-    → Law (name_in side d inner) (NamePlaced d) (name_marks side d) name_first name_last false
+    → Law (name_in side d inner) (NamePlaced d) (name_spelling side d) name_first name_last false
 unfolding name_in
 law_name_in side d inner L =
     law_wider name_first name_last
-    (law_to make_name (NamePlaced d) (name_marks side d)
+    (law_to make_name (NamePlaced d) (name_spelling side d)
     (law_seq (law_identifier side) (law_each suffix_first (law_suffix_in side d inner L) refl refl) refl)
     (λ x good. holds (name-Prefixed-placed d x.0.pos x.0 x.1) (refl, good.1)) (λ x good. name-Prefixed side d x.0.pos x.0 x.1) (onto_name d)) refl refl

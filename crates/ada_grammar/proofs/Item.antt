@@ -7,13 +7,13 @@ use Rattle.spark_base.specs.declared.limits.TheConstants.{NESTING}
 use Rattle.ada_lexer.specs.declared.token.Reserved.TheVariants as w
 use Rattle.ada_lexer.specs.declared.token.Symbol.TheVariants as s
 use Rattle.token_reading.specs.declared.side.Side.TheVariants.{Apart}
-use Rattle.token_reading.specs.Marks.{Mark}
+use Rattle.token_reading.specs.Weights.{WeighedToken}
 use Rattle.token_reading.specs.Reading.{Outcome, Got, Fails, Reader, of_word, of_symbol, word, symbol, and_then, to, seq, chain, either, choose, optional, Each}
 use Rattle.token_reading.proofs.Law.{Law}
-use Rattle.token_reading.proofs.Tokens.{Any, some_place, law_word, law_symbol}
+use Rattle.token_reading.proofs.Tokens.{Any, some_position, law_word, law_symbol}
 use Rattle.token_reading.proofs.Seq.{Both, joined, law_seq}
 use Rattle.token_reading.proofs.Made.{law_to, law_same, law_wider}
-use Rattle.token_reading.proofs.Choice.{Either, cases, of_either, Maybe, maybe_marked, law_choose, law_optional}
+use Rattle.token_reading.proofs.Choice.{Either, cases, of_either, Maybe, maybe_spelled, law_choose, law_optional}
 use Rattle.token_reading.proofs.Many.{law_each}
 use Rattle.token_reading.proofs.Nesting.{law_opened_symbol}
 use Rattle.token_reading.proofs.Fronts.{Same, of_pair, either_choice, chain_seq}
@@ -24,7 +24,7 @@ use Rattle.ada_tree.specs.declared.declaration.Item.{Item}
 use Rattle.ada_tree.specs.declared.declaration.Item.TheVariants as item_tree
 use Rattle.ada_tree.specs.declared.declaration.UseClause.{UseClause}
 use Rattle.ada_tree.specs.declared.declaration.PragmaClause.{PragmaClause}
-use Rattle.ada_tree.specs.Spelling.{dotted_marks, next_identifier_marks, expr_marks, arg_marks, next_arg_marks, constraint_marks, indication_marks, use_marks, pragma_marks, item_marks}
+use Rattle.ada_tree.specs.Spelling.{dotted_spelling, next_identifier_spelling, expr_spelling, arg_spelling, next_arg_spelling, constraint_spelling, indication_spelling, use_spelling, pragma_spelling, item_spelling}
 use Rattle.ada_tree.specs.WellPlaced.{DottedPlaced, ExprPlaced, ArgPlaced, NextArgPlaced, IndicationPlaced, UsePlaced, ItemPlaced}
 use Rattle.ada_tree.specs.FixedNames.{PragmaNamed, ItemNamed}
 use Rattle.ada_grammar.specs.Expressions.{identifier, identifier_first, dotted, expr_first, arg_last}
@@ -34,7 +34,7 @@ use Rattle.ada_grammar.proofs.ExpressionArgs.{some_arg, some_arg_placed}
 use Rattle.ada_grammar.proofs.ExpressionLaws.{law_expr, law_arg, law_next_arg}
 use Rattle.ada_grammar.proofs.ItemParts.{law_next_identifiers, law_indication, law_use, law_pragma}
 use Rattle.ada_grammar.proofs.Range.{GoodConstraint, law_constraint}
-use Rattle.ada_grammar.proofs.ItemTypes.{word_marks, symbol_marks, left_marks, id_marks, deeper, TypeParts, make_type, type_parts, GoodType, type_marks, law_type_parts, same_type, GoodPlain, good_type, spelled_type}
+use Rattle.ada_grammar.proofs.ItemTypes.{word_spelling, symbol_spelling, left_spelling, id_spelling, deeper, TypeParts, make_type, type_parts, GoodType, type_spelling, law_type_parts, same_type, GoodPlain, good_type, spelled_type}
 
 -- ---- subtypes
 
@@ -46,12 +46,12 @@ subtype_parts d =
 abbrev GoodSubtype : ℕ → SubtypeParts → Type 0
 GoodSubtype d = Both Any (Both Any (Both Any (Both DottedPlaced (Both (Maybe (GoodConstraint d)) Any))))
 
-abbrev subtype_marks : ℕ → SubtypeParts → List Mark
-subtype_marks d =
-    joined (word_marks w.KwSubtype) (joined id_marks (joined (word_marks w.KwIs) (joined (dotted_marks Apart)
-    (joined (maybe_marked (λ x. constraint_marks d x.0 x.1.0 x.1.1.0 x.1.1.1)) (symbol_marks s.Semicolon)))))
+abbrev subtype_spelling : ℕ → SubtypeParts → List WeighedToken
+subtype_spelling d =
+    joined (word_spelling w.KwSubtype) (joined id_spelling (joined (word_spelling w.KwIs) (joined (dotted_spelling Apart)
+    (joined (maybe_spelled (λ x. constraint_spelling d x.0 x.1.0 x.1.1.0 x.1.1.1)) (symbol_spelling s.Semicolon)))))
 
-law_subtype : (d : ℕ) → d ≤ NESTING → Law (subtype_parts d) (GoodSubtype d) (subtype_marks d) (of_word w.KwSubtype ∷ []) [] false
+law_subtype : (d : ℕ) → d ≤ NESTING → Law (subtype_parts d) (GoodSubtype d) (subtype_spelling d) (of_word w.KwSubtype ∷ []) [] false
 law_subtype d h =
     law_wider (of_word w.KwSubtype ∷ []) []
     (law_seq (law_word Apart w.KwSubtype) (law_seq (law_identifier Apart) (law_seq (law_word Apart w.KwIs) (law_seq (law_dotted Apart)
@@ -64,8 +64,8 @@ good_subtype d (pos, (id, (is, (mark, (None, semicolon))))) good = (tt, (good.1.
 good_subtype d (pos, (id, (is, (mark, (Some x, semicolon))))) good =
     let bounds = good.1.1.1.1.0 in (tt, ((good.1.1.1.0, bounds.1.0, bounds.1.1.1), tt))
 
-spelled_subtype : (d : ℕ) (x : SubtypeParts) → item_marks d (make_subtype x) ≡ subtype_marks d x
-unfolding item_marks
+spelled_subtype : (d : ℕ) (x : SubtypeParts) → item_spelling d (make_subtype x) ≡ subtype_spelling d x
+unfolding item_spelling
 spelled_subtype d (pos, (id, (is, (mark, (None, semicolon))))) = refl
 spelled_subtype d (pos, (id, (is, (mark, (Some x, semicolon))))) = refl
 
@@ -74,9 +74,9 @@ spelled_subtype d (pos, (id, (is, (mark, (Some x, semicolon))))) = refl
 abbrev GoodObjects : ℕ → ObjectParts → Type 0
 GoodObjects d = Both IndicationPlaced (Both (Maybe (Both Any (ExprPlaced d))) Any)
 
-abbrev objects_marks : ℕ → ObjectParts → List Mark
-objects_marks d =
-    joined indication_marks (joined (maybe_marked (joined (symbol_marks s.Becomes) (expr_marks d))) (symbol_marks s.Semicolon))
+abbrev objects_spelling : ℕ → ObjectParts → List WeighedToken
+objects_spelling d =
+    joined indication_spelling (joined (maybe_spelled (joined (symbol_spelling s.Becomes) (expr_spelling d))) (symbol_spelling s.Semicolon))
 
 abbrev NumberParts : Type 0
 NumberParts = Pos × (Expr × Pos)
@@ -84,8 +84,8 @@ NumberParts = Pos × (Expr × Pos)
 abbrev GoodNumbers : ℕ → NumberParts → Type 0
 GoodNumbers d = Both Any (Both (ExprPlaced d) Any)
 
-abbrev numbers_marks : ℕ → NumberParts → List Mark
-numbers_marks d = joined (symbol_marks s.Becomes) (joined (expr_marks d) (symbol_marks s.Semicolon))
+abbrev numbers_spelling : ℕ → NumberParts → List WeighedToken
+numbers_spelling d = joined (symbol_spelling s.Becomes) (joined (expr_spelling d) (symbol_spelling s.Semicolon))
 
 -- behind ":"
 abbrev Declared : Type 0
@@ -114,18 +114,18 @@ whole_object d = seq (identifier Apart) (seq next_identifiers (seq (symbol Apart
 abbrev GoodObject : ℕ → Objects → Type 0
 GoodObject d = Both Any (Both Any (Both Any (Either (Both Any (Either (GoodNumbers d) (GoodObjects d))) (GoodObjects d))))
 
-abbrev object_marks : ℕ → Objects → List Mark
-object_marks d =
-    joined id_marks (joined (flat_map next_identifier_marks) (joined (symbol_marks s.Colon)
-    (of_either (joined (word_marks w.KwConstant) (of_either (numbers_marks d) (objects_marks d))) (objects_marks d))))
+abbrev object_spelling : ℕ → Objects → List WeighedToken
+object_spelling d =
+    joined id_spelling (joined (flat_map next_identifier_spelling) (joined (symbol_spelling s.Colon)
+    (of_either (joined (word_spelling w.KwConstant) (of_either (numbers_spelling d) (objects_spelling d))) (objects_spelling d))))
 
-law_objects : (d : ℕ) → d ≤ NESTING → Law (object_parts d) (GoodObjects d) (objects_marks d) indication_first [] false
+law_objects : (d : ℕ) → d ≤ NESTING → Law (object_parts d) (GoodObjects d) (objects_spelling d) indication_first [] false
 law_objects d h =
     law_wider indication_first []
     (law_seq law_indication (law_seq (law_optional (of_symbol s.Becomes ∷ []) (law_seq (law_symbol Apart s.Becomes) (law_expr d h) refl) refl)
     (law_symbol Apart s.Semicolon) refl) refl) refl refl
 
-law_object : (d : ℕ) → d ≤ NESTING → Law (whole_object d) (GoodObject d) (object_marks d) identifier_first [] false
+law_object : (d : ℕ) → d ≤ NESTING → Law (whole_object d) (GoodObject d) (object_spelling d) identifier_first [] false
 law_object d h =
     law_wider identifier_first []
     (law_seq (law_identifier Apart) (law_seq law_next_identifiers (law_seq (law_symbol Apart s.Colon)
@@ -145,8 +145,8 @@ good_object d (first, (rest, (colon, inr (indicated, (None, semicolon))))) good 
 good_object d (first, (rest, (colon, inr (indicated, (Some x, semicolon))))) good =
     let parts = good.1.1.1 in (tt, ((refl, parts.0, parts.1.0.1), tt))
 
-spelled_object : (d : ℕ) (x : Objects) → item_marks d (make_object x) ≡ object_marks d x
-unfolding item_marks
+spelled_object : (d : ℕ) (x : Objects) → item_spelling d (make_object x) ≡ object_spelling d x
+unfolding item_spelling
 spelled_object d (first, (rest, (colon, inl (constant, inl x)))) = refl
 spelled_object d (first, (rest, (colon, inl (constant, inr (indicated, (None, semicolon)))))) = refl
 spelled_object d (first, (rest, (colon, inl (constant, inr (indicated, (Some x, semicolon)))))) = refl
@@ -197,8 +197,8 @@ make_plain = cases make_type (cases make_subtype (cases of_use (cases of_pragma 
 abbrev GoodPlainParts : ℕ → PlainParts → Type 0
 GoodPlainParts d = Either (GoodType d) (Either (GoodSubtype d) (Either UsePlaced (Either PragmaNamed (GoodObject d))))
 
-abbrev plain_marks : ℕ → PlainParts → List Mark
-plain_marks d = of_either (type_marks d) (of_either (subtype_marks d) (of_either use_marks (of_either (pragma_marks d) (object_marks d))))
+abbrev plain_spelling : ℕ → PlainParts → List WeighedToken
+plain_spelling d = of_either (type_spelling d) (of_either (subtype_spelling d) (of_either use_spelling (of_either (pragma_spelling d) (object_spelling d))))
 
 abbrev plain_parts : ℕ → Reader PlainParts
 plain_parts d =
@@ -213,8 +213,8 @@ good_plain d (inr (inr (inl clause))) good = (tt, ((refl, good), tt))
 good_plain d (inr (inr (inr (inl clause)))) good = (tt, (refl, good))
 good_plain d (inr (inr (inr (inr x)))) good = good_object d x good
 
-spelled_plain : (d : ℕ) (x : PlainParts) → item_marks d (make_plain x) ≡ plain_marks d x
-unfolding item_marks
+spelled_plain : (d : ℕ) (x : PlainParts) → item_spelling d (make_plain x) ≡ plain_spelling d x
+unfolding item_spelling
 spelled_plain d (inl x) = spelled_type d x
 spelled_plain d (inr (inl x)) = spelled_subtype d x
 spelled_plain d (inr (inr (inl clause))) = refl
@@ -316,11 +316,11 @@ same_plain d =
         either (of_word w.KwUse ∷ []) (to of_use use_clause) (either (of_word w.KwPragma ∷ []) (to of_pragma (pragma d)) (object_item d))
 
 -- item = type | subtype | object | usecl | pragma
-pub law_plain_item : (d : ℕ) → d ≤ NESTING → Law (plain_item d) (GoodPlain d) (item_marks d) plain_item_first [] false
+pub law_plain_item : (d : ℕ) → d ≤ NESTING → Law (plain_item d) (GoodPlain d) (item_spelling d) plain_item_first [] false
 law_plain_item d h =
     law_wider plain_item_first []
     (law_same (plain_item d)
-    (law_to make_plain (GoodPlain d) (item_marks d)
+    (law_to make_plain (GoodPlain d) (item_spelling d)
     (law_choose (of_word w.KwType ∷ []) (law_type_parts d)
     (law_choose (of_word w.KwSubtype ∷ []) (law_subtype d h)
     (law_choose (of_word w.KwUse ∷ []) law_use
@@ -333,27 +333,27 @@ abbrev pub GoodInstance : ℕ → InstanceParts → Type 0
 GoodInstance d =
     Both Any (Both DottedPlaced (Both Any (Both (ArgPlaced (suc d)) (Both (Each (NextArgPlaced (suc d))) (Both Any Any)))))
 
--- The marks behind "is".
-abbrev pub instance_marks : ℕ → InstanceParts → List Mark
-instance_marks d =
-    joined (word_marks w.KwNew) (joined (dotted_marks Apart) (joined (left_marks d) (joined (arg_marks Apart (suc d))
-    (joined (flat_map (next_arg_marks Apart (suc d))) (joined (symbol_marks s.RightParenthesis) (symbol_marks s.Semicolon))))))
+-- The spelling behind "is".
+abbrev pub instance_spelling : ℕ → InstanceParts → List WeighedToken
+instance_spelling d =
+    joined (word_spelling w.KwNew) (joined (dotted_spelling Apart) (joined (left_spelling d) (joined (arg_spelling Apart (suc d))
+    (joined (flat_map (next_arg_spelling Apart (suc d))) (joined (symbol_spelling s.RightParenthesis) (symbol_spelling s.Semicolon))))))
 
 law_first_actual : (d : ℕ) → leb NESTING d ≡ false
-    → Law (first_actual d) (ArgPlaced (suc d)) (arg_marks Apart (suc d)) expr_first arg_last false
+    → Law (first_actual d) (ArgPlaced (suc d)) (arg_spelling Apart (suc d)) expr_first arg_last false
 unfolding first_actual
 law_first_actual d e = law_arg Apart (suc d) (deeper d e)
 
 law_next_actuals : (d : ℕ) → leb NESTING d ≡ false
-    → Law (next_actuals d) (Each (NextArgPlaced (suc d))) (flat_map (next_arg_marks Apart (suc d))) (of_symbol s.Comma ∷ []) (of_symbol s.Comma ∷ arg_last) true
+    → Law (next_actuals d) (Each (NextArgPlaced (suc d))) (flat_map (next_arg_spelling Apart (suc d))) (of_symbol s.Comma ∷ []) (of_symbol s.Comma ∷ arg_last) true
 unfolding next_actuals
 law_next_actuals d e = law_each (of_symbol s.Comma ∷ []) (law_next_arg Apart (suc d) (deeper d e)) refl refl
 
 -- "new" dotted "(" arg {"," arg} ")" ";"
-pub law_instance_parts : (d : ℕ) → Law (instance_parts d) (GoodInstance d) (instance_marks d) (of_word w.KwNew ∷ []) [] false
+pub law_instance_parts : (d : ℕ) → Law (instance_parts d) (GoodInstance d) (instance_spelling d) (of_word w.KwNew ∷ []) [] false
 law_instance_parts d =
     law_seq (law_word Apart w.KwNew) (law_seq (law_dotted Apart)
-    (law_opened_symbol (some_arg, ([], (some_place, some_place))) (some_arg_placed (suc d), (tt, (tt, tt))) Apart s.LeftParenthesis d
+    (law_opened_symbol (some_arg, ([], (some_position, some_position))) (some_arg_placed (suc d), (tt, (tt, tt))) Apart s.LeftParenthesis d
     (λ e. law_seq (law_first_actual d e) (law_seq (law_next_actuals d e)
     (law_seq (law_symbol Apart s.RightParenthesis) (law_symbol Apart s.Semicolon) refl) refl) refl)) refl) refl
 
@@ -369,11 +369,11 @@ whole_instance d = seq (word Apart w.KwProcedure) (seq (identifier Apart) (seq (
 abbrev pub GoodWholeInstance : ℕ → WholeInstance → Type 0
 GoodWholeInstance d = Both Any (Both Any (Both Any (GoodInstance d)))
 
-abbrev pub whole_instance_marks : ℕ → WholeInstance → List Mark
-whole_instance_marks d = joined (word_marks w.KwProcedure) (joined id_marks (joined (word_marks w.KwIs) (instance_marks d)))
+abbrev pub whole_instance_spelling : ℕ → WholeInstance → List WeighedToken
+whole_instance_spelling d = joined (word_spelling w.KwProcedure) (joined id_spelling (joined (word_spelling w.KwIs) (instance_spelling d)))
 
 pub law_whole_instance : (d : ℕ)
-    → Law (whole_instance d) (GoodWholeInstance d) (whole_instance_marks d) (of_word w.KwProcedure ∷ []) [] false
+    → Law (whole_instance d) (GoodWholeInstance d) (whole_instance_spelling d) (of_word w.KwProcedure ∷ []) [] false
 law_whole_instance d =
     law_wider (of_word w.KwProcedure ∷ []) []
     (law_seq (law_word Apart w.KwProcedure) (law_seq (law_identifier Apart) (law_seq (law_word Apart w.KwIs) (law_instance_parts d) refl) refl) refl)
@@ -407,15 +407,15 @@ pub good_instance : (d : ℕ) (x : WholeInstance) → GoodWholeInstance d x → 
 unfolding ItemPlaced ItemNamed
 good_instance d x good = let parts = good.1.1.1 in ((parts.1.0, parts.1.1.1.0, parts.1.1.1.1.0), tt)
 
-pub spelled_instance : (d : ℕ) (x : WholeInstance) → item_marks d (make_whole_instance x) ≡ whole_instance_marks d x
-unfolding item_marks
+pub spelled_instance : (d : ℕ) (x : WholeInstance) → item_spelling d (make_whole_instance x) ≡ whole_instance_spelling d x
+unfolding item_spelling
 spelled_instance d x = refl
 
 good_item : (d : ℕ) (x : ItemParts) → GoodItemParts d x → GoodItem d (make_item x)
 good_item d (inl x) good = good_instance d x good
 good_item d (inr a) good = good.1
 
-spelled_item : (d : ℕ) (x : ItemParts) → item_marks d (make_item x) ≡ of_either (whole_instance_marks d) (item_marks d) x
+spelled_item : (d : ℕ) (x : ItemParts) → item_spelling d (make_item x) ≡ of_either (whole_instance_spelling d) (item_spelling d) x
 spelled_item d (inl x) = spelled_instance d x
 spelled_item d (inr a) = refl
 
@@ -441,14 +441,14 @@ same_item d =
     itself k ts = of_outcome (plain_item d k ts)
 
 -- item = type | subtype | object | instance | usecl | pragma
-pub law_item : (d : ℕ) → d ≤ NESTING → Law (item d) (GoodItem d) (item_marks d) item_first [] false
+pub law_item : (d : ℕ) → d ≤ NESTING → Law (item d) (GoodItem d) (item_spelling d) item_first [] false
 law_item d h =
     law_wider item_first []
     (law_same (item d)
-    (law_to make_item (GoodItem d) (item_marks d)
+    (law_to make_item (GoodItem d) (item_spelling d)
     (law_choose (of_word w.KwProcedure ∷ []) (law_whole_instance d) (law_plain_item d h) refl refl)
     (good_item d) (λ x good. spelled_item d x) (onto_item d)) (same_item d)) refl refl
 
 -- {item}
-pub law_items : (d : ℕ) → d ≤ NESTING → Law (items d) (Each (GoodItem d)) (flat_map (item_marks d)) item_first item_first true
+pub law_items : (d : ℕ) → d ≤ NESTING → Law (items d) (Each (GoodItem d)) (flat_map (item_spelling d)) item_first item_first true
 law_items d h = law_each item_first (law_item d h) refl refl

@@ -1,4 +1,5 @@
--- The laws of what items are made of: defining identifiers, fixed names, indications, components, use clauses and pragmas.
+-- The laws of what items are made of: defining identifiers, fixed names, indications, components,
+-- use clauses and pragmas.
 use Rattle.std.proofs.Common.{◌≡◌, refl, ap, ℕ, true, false, List, [], ◌∷◌, ◌++◌, Option, Some, None, ◌⊎◌, inl, inr}
 use Rattle.std.specs.Prelude.{◌&&◌, map}
 use Rattle.std.specs.List.{flat_map}
@@ -9,18 +10,18 @@ use Rattle.ada_lexer.specs.declared.token.Reserved.TheVariants as w
 use Rattle.ada_lexer.specs.declared.token.Symbol.TheVariants as s
 use Rattle.token_reading.specs.declared.side.Side.TheVariants.{Apart}
 use Rattle.token_reading.specs.Spelled.{Delimiter}
-use Rattle.token_reading.specs.Marks.{Mark, opens}
+use Rattle.token_reading.specs.Weights.{WeighedToken, opens}
 use Rattle.token_reading.specs.Reading.{Reader, of_word, of_symbol, of_ident, word, optional, Each}
 use Rattle.token_reading.proofs.Sets.{within, is_in-own}
 use Rattle.token_reading.proofs.Law.{Law}
 use Rattle.token_reading.proofs.Tokens as tokens
-use Rattle.token_reading.proofs.Tokens.{Any, some_place, law_word, law_symbol}
+use Rattle.token_reading.proofs.Tokens.{Any, some_position, law_word, law_symbol}
 use Rattle.token_reading.proofs.Seq.{Both, joined, law_seq}
 use Rattle.token_reading.proofs.Made.{law_to, law_wider, law_reworded}
-use Rattle.token_reading.proofs.Choice.{Either, of_either, Maybe, maybe_marked, law_choose, law_optional}
+use Rattle.token_reading.proofs.Choice.{Either, of_either, Maybe, maybe_spelled, law_choose, law_optional}
 use Rattle.token_reading.proofs.Many.{law_each}
 use Rattle.token_reading.proofs.Nesting.{law_opened_symbol}
-use Rattle.token_reading.proofs.Places.{law_placed}
+use Rattle.token_reading.proofs.Positions.{law_placed}
 use Rattle.ada_tree.specs.declared.identifier.Identifier.{Identifier}
 use Rattle.ada_tree.specs.declared.identifier.NextIdentifier.{NextIdentifier}
 use Rattle.ada_tree.specs.declared.identifier.NextIdentifier.TheVariants as next_identifier_tree
@@ -34,17 +35,17 @@ use Rattle.ada_tree.specs.declared.declaration.UseClause.{UseClause}
 use Rattle.ada_tree.specs.declared.declaration.PragmaOn.{PragmaOn}
 use Rattle.ada_tree.specs.declared.declaration.PragmaClause.{PragmaClause}
 use Rattle.ada_tree.specs.Spelling as spelling
-use Rattle.ada_tree.specs.Spelling.{id_mark, optional_word, dotted_marks, next_identifier_marks, next_dotted_marks, indication_marks, component_marks, use_marks, pragma_on_marks, pragma_marks}
+use Rattle.ada_tree.specs.Spelling.{id_mark, optional_word, dotted_spelling, next_identifier_spelling, next_dotted_spelling, indication_spelling, component_spelling, use_spelling, pragma_on_spelling, pragma_spelling}
 use Rattle.ada_tree.specs.WellPlaced.{EachSome, StartsAt, DottedPlaced, NextDottedPlaced, IndicationPlaced, ComponentPlaced, UsePlaced}
 use Rattle.ada_tree.specs.FixedNames.{IsCalled, mode_name, on_name, PragmaOnNamed, PragmaNamed}
 use Rattle.ada_grammar.specs.Expressions.{make_identifier, dotted_last, next_dotteds}
-use Rattle.ada_grammar.specs.Items.{next_identifier, next_identifiers, called, make_indication, indication, indication_first, make_component, component, components, make_use, use_clause, make_pragma_on, pragma_on, make_pragma, pragma}
+use Rattle.ada_grammar.specs.Items.{next_identifier, next_identifiers, called, make_indication, indication, indication_first, make_component, component, next_components, make_use, use_clause, make_pragma_on, pragma_on, make_pragma, pragma}
 use Rattle.ada_grammar.proofs.ExpressionNames.{law_identifier, law_dotted, law_next_dotted}
 
 -- ---- optional parts
 
 -- A part that may be left out, in the words of the spelling.
-pub law_optional_part : {A : Type 0} {p : Reader A} {g : A → Type 0} {s : A → List Mark} {fp lp : List ℕ} (ms : List ℕ)
+pub law_optional_part : {A : Type 0} {p : Reader A} {g : A → Type 0} {s : A → List WeighedToken} {fp lp : List ℕ} (ms : List ℕ)
     → Law p g s fp lp false → within fp ms ≡ true → Law (optional ms p) (EachSome g) (spelling.optional s) (fp ++ []) (ms ++ (lp ++ [])) true
 law_optional_part {A} {p} {g} {s} ms P e =
     law_reworded (EachSome g) (spelling.optional s) (law_optional ms P e) there back same
@@ -57,7 +58,7 @@ law_optional_part {A} {p} {g} {s} ms P e =
     back None good = tt
     back (Some a) good = good
 
-    same : (x : Option A) → Maybe g x → spelling.optional s x ≡ maybe_marked s x
+    same : (x : Option A) → Maybe g x → spelling.optional s x ≡ maybe_spelled s x
     same None good = refl
     same (Some a) good = refl
 
@@ -74,23 +75,23 @@ law_optional_word v =
 -- ---- identifiers
 
 -- "," id
-pub law_next_identifier : Law next_identifier Any next_identifier_marks (of_symbol s.Comma ∷ []) [] false
-unfolding next_identifier next_identifier_marks
+pub law_next_identifier : Law next_identifier Any next_identifier_spelling (of_symbol s.Comma ∷ []) [] false
+unfolding next_identifier next_identifier_spelling
 law_next_identifier =
-    law_to (λ x. next_identifier_tree.After x.0 x.1) Any next_identifier_marks (law_seq (law_symbol Apart s.Comma) (law_identifier Apart) refl)
+    law_to (λ x. next_identifier_tree.FurtherIdentifier x.0 x.1) Any next_identifier_spelling (law_seq (law_symbol Apart s.Comma) (law_identifier Apart) refl)
     (λ x good. tt) (λ x good. spelled x) onto
   where
-    spelled : (x : Pos × Identifier) → next_identifier_marks (next_identifier_tree.After x.0 x.1)
+    spelled : (x : Pos × Identifier) → next_identifier_spelling (next_identifier_tree.FurtherIdentifier x.0 x.1)
         ≡ spelling.symbol Apart s.Comma x.0 ∷ id_mark Apart x.1 ∷ []
     spelled x = refl
 
-    onto : (a : NextIdentifier) → Any a → (x : Pos × Identifier) × (Both Any Any x × (next_identifier_tree.After x.0 x.1 ≡ a))
-    onto (next_identifier_tree.After pos id) good = ((pos, id), ((tt, tt), refl))
+    onto : (a : NextIdentifier) → Any a → (x : Pos × Identifier) × (Both Any Any x × (next_identifier_tree.FurtherIdentifier x.0 x.1 ≡ a))
+    onto (next_identifier_tree.FurtherIdentifier pos id) good = ((pos, id), ((tt, tt), refl))
 
 -- {"," id}
-pub law_next_identifiers : Law next_identifiers Any (flat_map next_identifier_marks) (of_symbol s.Comma ∷ []) (of_symbol s.Comma ∷ []) true
+pub law_next_identifiers : Law next_identifiers Any (flat_map next_identifier_spelling) (of_symbol s.Comma ∷ []) (of_symbol s.Comma ∷ []) true
 law_next_identifiers =
-    law_reworded Any (flat_map next_identifier_marks) (law_each (of_symbol s.Comma ∷ []) law_next_identifier refl refl)
+    law_reworded Any (flat_map next_identifier_spelling) (law_each (of_symbol s.Comma ∷ []) law_next_identifier refl refl)
     (λ xs good. tt) each_any (λ xs good. refl)
   where
     each_any : (xs : List NextIdentifier) → Any xs → Each Any xs
@@ -98,7 +99,7 @@ law_next_identifiers =
     each_any (x ∷ xs) good = (tt, each_any xs tt)
 
 -- {"," dotted}
-pub law_next_dotteds : Law next_dotteds (Each NextDottedPlaced) (flat_map next_dotted_marks) (of_symbol s.Comma ∷ []) (of_symbol s.Comma ∷ dotted_last) true
+pub law_next_dotteds : Law next_dotteds (Each NextDottedPlaced) (flat_map next_dotted_spelling) (of_symbol s.Comma ∷ []) (of_symbol s.Comma ∷ dotted_last) true
 law_next_dotteds = law_each (of_symbol s.Comma ∷ []) law_next_dotted refl refl
 
 -- the identifier with a fixed name
@@ -112,17 +113,17 @@ law_called name lower =
 -- ---- indications
 
 abbrev GoodIndication : (Pos × (Option Pos × Dotted)) ⊎ (Pos × Dotted) → Type 0
-GoodIndication = Either (Both Any (Both Any DottedPlaced)) (λ x. DottedPlaced x.1 × StartsAt x.0 (dotted_marks Apart x.1))
+GoodIndication = Either (Both Any (Both Any DottedPlaced)) (λ x. DottedPlaced x.1 × StartsAt x.0 (dotted_spelling Apart x.1))
 
 good_indication : (x : (Pos × (Option Pos × Dotted)) ⊎ (Pos × Dotted)) → GoodIndication x → IndicationPlaced (make_indication x)
 unfolding IndicationPlaced
 good_indication (inl x) good = good.1.1
 good_indication (inr x) good = (good.1, good.0)
 
-spelled_indication : (x : (Pos × (Option Pos × Dotted)) ⊎ (Pos × Dotted)) → indication_marks (make_indication x)
-    ≡ of_either (joined (λ p. spelling.word Apart w.KwAccess p ∷ []) (joined (optional_word w.KwConstant) (dotted_marks Apart)))
-    (λ y. dotted_marks Apart y.1) x
-unfolding indication_marks
+spelled_indication : (x : (Pos × (Option Pos × Dotted)) ⊎ (Pos × Dotted)) → indication_spelling (make_indication x)
+    ≡ of_either (joined (λ p. spelling.word Apart w.KwAccess p ∷ []) (joined (optional_word w.KwConstant) (dotted_spelling Apart)))
+    (λ y. dotted_spelling Apart y.1) x
+unfolding indication_spelling
 spelled_indication (inl x) = refl
 spelled_indication (inr x) = refl
 
@@ -133,11 +134,11 @@ onto_indication (indication_tree.Mark pos mark) good = (inr (pos, mark), ((good.
 onto_indication (indication_tree.Anonymous pos constant designated) good = (inl (pos, (constant, designated)), ((tt, (tt, good)), refl))
 
 -- mark | anon
-pub law_indication : Law indication IndicationPlaced indication_marks indication_first dotted_last false
+pub law_indication : Law indication IndicationPlaced indication_spelling indication_first dotted_last false
 unfolding indication
 law_indication =
     law_wider indication_first dotted_last
-    (law_to make_indication IndicationPlaced indication_marks
+    (law_to make_indication IndicationPlaced indication_spelling
     (law_choose (of_word w.KwAccess ∷ [])
     (law_seq (law_word Apart w.KwAccess) (law_seq (law_optional_word w.KwConstant) (law_dotted Apart) refl) refl)
     (law_placed (law_dotted Apart) refl) refl refl)
@@ -155,10 +156,10 @@ good_component : (x : ComponentParts) → GoodComponent x → ComponentPlaced (m
 unfolding ComponentPlaced
 good_component x good = (refl, good.1.1.1.0)
 
-spelled_component : (x : ComponentParts) → component_marks (make_component x)
-    ≡ joined (λ id. id_mark Apart id ∷ []) (joined (flat_map next_identifier_marks) (joined (λ p. spelling.symbol Apart s.Colon p ∷ [])
-    (joined (dotted_marks Apart) (λ p. spelling.symbol Apart s.Semicolon p ∷ [])))) x
-unfolding component_marks
+spelled_component : (x : ComponentParts) → component_spelling (make_component x)
+    ≡ joined (λ id. id_mark Apart id ∷ []) (joined (flat_map next_identifier_spelling) (joined (λ p. spelling.symbol Apart s.Colon p ∷ [])
+    (joined (dotted_spelling Apart) (λ p. spelling.symbol Apart s.Semicolon p ∷ [])))) x
+unfolding component_spelling
 spelled_component x = refl
 
 onto_component : (a : Component) → ComponentPlaced a → (x : ComponentParts) × (GoodComponent x × (make_component x ≡ a))
@@ -172,18 +173,18 @@ onto_component (component_tree.Fields pos first rest colon mark semicolon) good 
 )
 
 -- comp = id {"," id} ":" mark ";"
-pub law_component : Law component ComponentPlaced component_marks (of_ident ∷ []) [] false
+pub law_component : Law component ComponentPlaced component_spelling (of_ident ∷ []) [] false
 unfolding component
 law_component =
     law_wider (of_ident ∷ []) []
-    (law_to make_component ComponentPlaced component_marks
+    (law_to make_component ComponentPlaced component_spelling
     (law_seq (law_identifier Apart) (law_seq law_next_identifiers (law_seq (law_symbol Apart s.Colon)
     (law_seq (law_dotted Apart) (law_symbol Apart s.Semicolon) refl) refl) refl) refl)
     good_component (λ x good. spelled_component x) onto_component) refl refl
 
 -- {comp}
-pub law_components : Law components (Each ComponentPlaced) (flat_map component_marks) (of_ident ∷ []) (of_ident ∷ []) true
-law_components = law_each (of_ident ∷ []) law_component refl refl
+pub law_next_components : Law next_components (Each ComponentPlaced) (flat_map component_spelling) (of_ident ∷ []) (of_ident ∷ []) true
+law_next_components = law_each (of_ident ∷ []) law_component refl refl
 
 -- ---- use clauses
 
@@ -197,10 +198,10 @@ good_use : (x : UseParts) → GoodUse x → UsePlaced (make_use x)
 unfolding UsePlaced
 good_use x good = (good.1.1.0, good.1.1.1.0)
 
-spelled_use : (x : UseParts) → use_marks (make_use x)
-    ≡ joined (λ p. spelling.word Apart w.KwUse p ∷ []) (joined (optional_word w.KwType) (joined (dotted_marks Apart)
-    (joined (flat_map next_dotted_marks) (λ p. spelling.symbol Apart s.Semicolon p ∷ [])))) x
-unfolding use_marks
+spelled_use : (x : UseParts) → use_spelling (make_use x)
+    ≡ joined (λ p. spelling.word Apart w.KwUse p ∷ []) (joined (optional_word w.KwType) (joined (dotted_spelling Apart)
+    (joined (flat_map next_dotted_spelling) (λ p. spelling.symbol Apart s.Semicolon p ∷ [])))) x
+unfolding use_spelling
 spelled_use x = refl
 
 onto_use : (a : UseClause) → UsePlaced a → (x : UseParts) × (GoodUse x × (make_use x ≡ a))
@@ -209,11 +210,11 @@ onto_use a good =
     ((a.pos, (a.type_word, (a.first, (a.rest, a.semicolon)))), ((tt, (tt, (good.0, (good.1, tt)))), refl))
 
 -- usecl = "use" ["type"] dotted {"," dotted} ";"
-pub law_use : Law use_clause UsePlaced use_marks (of_word w.KwUse ∷ []) [] false
+pub law_use : Law use_clause UsePlaced use_spelling (of_word w.KwUse ∷ []) [] false
 unfolding use_clause
 law_use =
     law_wider (of_word w.KwUse ∷ []) []
-    (law_to make_use UsePlaced use_marks
+    (law_to make_use UsePlaced use_spelling
     (law_seq (law_word Apart w.KwUse) (law_seq (law_optional_word w.KwType) (law_seq (law_dotted Apart)
     (law_seq law_next_dotteds (law_symbol Apart s.Semicolon) refl) refl) refl) refl)
     good_use (λ x good. spelled_use x) onto_use) refl refl
@@ -230,10 +231,10 @@ good_on : (x : OnParts) → GoodOn x → PragmaOnNamed (make_pragma_on x)
 unfolding PragmaOnNamed
 good_on x good = good.1.0
 
-spelled_on : (d : ℕ) (x : OnParts) → pragma_on_marks d (make_pragma_on x)
+spelled_on : (d : ℕ) (x : OnParts) → pragma_on_spelling d (make_pragma_on x)
     ≡ joined (λ p. opens Apart d (Delimiter s.LeftParenthesis p) ∷ []) (joined (λ id. id_mark Apart id ∷ [])
     (λ p. spelling.symbol Apart s.RightParenthesis p ∷ [])) x
-unfolding pragma_on_marks
+unfolding pragma_on_spelling
 spelled_on d x = refl
 
 onto_on : (a : PragmaOn) → PragmaOnNamed a → (x : OnParts) × (GoodOn x × (make_pragma_on x ≡ a))
@@ -241,14 +242,14 @@ unfolding PragmaOnNamed
 onto_on a good = ((a.pos, (a.on, a.right_paren)), ((tt, (good, tt)), refl))
 
 abbrev some_on : Identifier
-some_on = record { pos = some_place; text = on_name }
+some_on = record { pos = some_position; text = on_name }
 
 -- "(" On ")"
-pub law_pragma_on : (d : ℕ) → Law (pragma_on d) PragmaOnNamed (pragma_on_marks d) (of_symbol s.LeftParenthesis ∷ []) [] false
+pub law_pragma_on : (d : ℕ) → Law (pragma_on d) PragmaOnNamed (pragma_on_spelling d) (of_symbol s.LeftParenthesis ∷ []) [] false
 unfolding pragma_on
 law_pragma_on d =
-    law_to make_pragma_on PragmaOnNamed (pragma_on_marks d)
-    (law_opened_symbol (some_on, some_place) (refl, tt) Apart s.LeftParenthesis d
+    law_to make_pragma_on PragmaOnNamed (pragma_on_spelling d)
+    (law_opened_symbol (some_on, some_position) (refl, tt) Apart s.LeftParenthesis d
     (λ e. law_seq (law_called on_name refl) (law_symbol Apart s.RightParenthesis) refl))
     good_on (λ x good. spelled_on d x) onto_on
 
@@ -262,10 +263,10 @@ good_pragma : (x : PragmaParts) → GoodPragma x → PragmaNamed (make_pragma x)
 unfolding PragmaNamed
 good_pragma x good = (good.1.0, good.1.1.0)
 
-spelled_pragma : (d : ℕ) (x : PragmaParts) → pragma_marks d (make_pragma x)
+spelled_pragma : (d : ℕ) (x : PragmaParts) → pragma_spelling d (make_pragma x)
     ≡ joined (λ p. spelling.word Apart w.KwPragma p ∷ []) (joined (λ id. id_mark Apart id ∷ [])
-    (joined (spelling.optional (pragma_on_marks d)) (λ p. spelling.symbol Apart s.Semicolon p ∷ []))) x
-unfolding pragma_marks
+    (joined (spelling.optional (pragma_on_spelling d)) (λ p. spelling.symbol Apart s.Semicolon p ∷ []))) x
+unfolding pragma_spelling
 spelled_pragma d x = refl
 
 onto_pragma : (a : PragmaClause) → PragmaNamed a → (x : PragmaParts) × (GoodPragma x × (make_pragma x ≡ a))
@@ -273,11 +274,11 @@ unfolding PragmaNamed
 onto_pragma a good = ((a.pos, (a.name, (a.argument, a.semicolon))), ((tt, (good.0, (good.1, tt))), refl))
 
 -- pragma = "pragma" SPARK_Mode ["(" On ")"] ";"
-pub law_pragma : (d : ℕ) → Law (pragma d) PragmaNamed (pragma_marks d) (of_word w.KwPragma ∷ []) [] false
+pub law_pragma : (d : ℕ) → Law (pragma d) PragmaNamed (pragma_spelling d) (of_word w.KwPragma ∷ []) [] false
 unfolding pragma
 law_pragma d =
     law_wider (of_word w.KwPragma ∷ []) []
-    (law_to make_pragma PragmaNamed (pragma_marks d)
+    (law_to make_pragma PragmaNamed (pragma_spelling d)
     (law_seq (law_word Apart w.KwPragma) (law_seq (law_called mode_name refl)
     (law_seq (law_optional_part (of_symbol s.LeftParenthesis ∷ []) (law_pragma_on d) refl) (law_symbol Apart s.Semicolon) refl) refl) refl)
     good_pragma (λ x good. spelled_pragma d x) onto_pragma) refl refl

@@ -11,10 +11,10 @@ use Rattle.ada_lexer.specs.declared.token.Symbol.{Symbol}
 use Rattle.ada_lexer.specs.declared.token.Symbol.TheVariants as s
 use Rattle.token_reading.specs.declared.side.Side.TheVariants.{Apart}
 use Rattle.token_reading.specs.Spelled.{Word, Delimiter}
-use Rattle.token_reading.specs.Marks.{Mark, opens}
+use Rattle.token_reading.specs.Weights.{WeighedToken, opens}
 use Rattle.token_reading.specs.Reading.{Reader, of_word, of_symbol, word, symbol, to, seq, chain, either, choose, Each}
 use Rattle.token_reading.proofs.Law.{Law}
-use Rattle.token_reading.proofs.Tokens.{Any, some_place, law_word, law_symbol}
+use Rattle.token_reading.proofs.Tokens.{Any, some_position, law_word, law_symbol}
 use Rattle.token_reading.proofs.Seq.{Both, joined, law_seq}
 use Rattle.token_reading.proofs.Made.{law_wider}
 use Rattle.token_reading.proofs.Choice.{Either, cases, of_either, law_choose}
@@ -29,44 +29,44 @@ use Rattle.ada_tree.specs.declared.declaration.Component.TheVariants as componen
 use Rattle.ada_tree.specs.declared.declaration.Item.{Item}
 use Rattle.ada_tree.specs.declared.declaration.Item.TheVariants as item_tree
 use Rattle.ada_tree.specs.Spelling as spelling
-use Rattle.ada_tree.specs.Spelling.{id_mark, dotted_marks, next_identifier_marks, range_marks, component_marks, item_marks}
+use Rattle.ada_tree.specs.Spelling.{id_mark, dotted_spelling, next_identifier_spelling, range_spelling, component_spelling, item_spelling}
 use Rattle.ada_tree.specs.WellPlaced.{DottedPlaced, RangePlaced, ComponentPlaced, ItemPlaced}
 use Rattle.ada_tree.specs.FixedNames.{ItemNamed}
 use Rattle.ada_grammar.specs.Expressions.{identifier, expr_first}
 use Rattle.ada_grammar.specs.Items.{private_parts, make_private, access_parts, make_access, index_range, ArrayParts, array_parts, make_array, array_type, RecordParts, record_parts, make_record, record_type, EnumerationParts, enumeration_parts, make_enumeration, enumeration_type, defined_type, type_item}
 use Rattle.ada_grammar.proofs.ExpressionNames.{law_identifier, law_dotted}
-use Rattle.ada_grammar.proofs.ItemParts.{law_next_identifiers, law_component, law_components}
+use Rattle.ada_grammar.proofs.ItemParts.{law_next_identifiers, law_component, law_next_components}
 use Rattle.ada_grammar.proofs.Range.{range_last, law_range}
 
 -- ---- tokens and trees
 
-abbrev pub word_marks : Reserved → Pos → List Mark
-word_marks v pos = spelling.word Apart v pos ∷ []
+abbrev pub word_spelling : Reserved → Pos → List WeighedToken
+word_spelling v pos = spelling.word Apart v pos ∷ []
 
-abbrev pub symbol_marks : Symbol → Pos → List Mark
-symbol_marks v pos = spelling.symbol Apart v pos ∷ []
+abbrev pub symbol_spelling : Symbol → Pos → List WeighedToken
+symbol_spelling v pos = spelling.symbol Apart v pos ∷ []
 
-abbrev pub left_marks : ℕ → Pos → List Mark
-left_marks d pos = opens Apart d (Delimiter s.LeftParenthesis pos) ∷ []
+abbrev pub left_spelling : ℕ → Pos → List WeighedToken
+left_spelling d pos = opens Apart d (Delimiter s.LeftParenthesis pos) ∷ []
 
-abbrev pub id_marks : Identifier → List Mark
-id_marks id = id_mark Apart id ∷ []
+abbrev pub id_spelling : Identifier → List WeighedToken
+id_spelling id = id_mark Apart id ∷ []
 
 abbrev some_identifier : Identifier
-some_identifier = record { pos = some_place; text = [] }
+some_identifier = record { pos = some_position; text = [] }
 
 abbrev some_mark : Dotted
-some_mark = record { pos = some_place; first = some_identifier; rest = [] }
+some_mark = record { pos = some_position; first = some_identifier; rest = [] }
 
 some_range : Range
-some_range = range_tree.Marked some_place some_mark
+some_range = range_tree.Marked some_position some_mark
 
 some_range_placed : (d : ℕ) → RangePlaced d some_range
-unfolding some_range RangePlaced DottedPlaced dotted_marks
+unfolding some_range RangePlaced DottedPlaced dotted_spelling
 some_range_placed d = (refl, refl)
 
 some_component : Component
-some_component = component_tree.Fields some_place some_identifier [] some_place some_mark some_place
+some_component = component_tree.Fields some_position some_identifier [] some_position some_mark some_position
 
 some_component_placed : ComponentPlaced some_component
 unfolding some_component ComponentPlaced DottedPlaced
@@ -89,8 +89,8 @@ deeper d e = of_test (leb_tells NESTING d)
 abbrev GoodPrivate : Pos × Pos → Type 0
 GoodPrivate = Both Any Any
 
-abbrev private_marks : Pos × Pos → List Mark
-private_marks = joined (word_marks w.KwPrivate) (symbol_marks s.Semicolon)
+abbrev private_spelling : Pos × Pos → List WeighedToken
+private_spelling = joined (word_spelling w.KwPrivate) (symbol_spelling s.Semicolon)
 
 abbrev AccessParts : Type 0
 AccessParts = Pos × (Dotted × Pos)
@@ -98,26 +98,26 @@ AccessParts = Pos × (Dotted × Pos)
 abbrev GoodAccess : AccessParts → Type 0
 GoodAccess = Both Any (Both DottedPlaced Any)
 
-abbrev access_marks : AccessParts → List Mark
-access_marks = joined (word_marks w.KwAccess) (joined (dotted_marks Apart) (symbol_marks s.Semicolon))
+abbrev access_spelling : AccessParts → List WeighedToken
+access_spelling = joined (word_spelling w.KwAccess) (joined (dotted_spelling Apart) (symbol_spelling s.Semicolon))
 
 abbrev GoodArray : ℕ → ArrayParts → Type 0
 GoodArray d = Both Any (Both Any (Both (RangePlaced (suc d)) (Both Any (Both Any (Both DottedPlaced Any)))))
 
-abbrev array_marks : ℕ → ArrayParts → List Mark
-array_marks d =
-    joined (word_marks w.KwArray) (joined (left_marks d) (joined (range_marks (suc d)) (joined (symbol_marks s.RightParenthesis)
-    (joined (word_marks w.KwOf) (joined (dotted_marks Apart) (symbol_marks s.Semicolon))))))
+abbrev array_spelling : ℕ → ArrayParts → List WeighedToken
+array_spelling d =
+    joined (word_spelling w.KwArray) (joined (left_spelling d) (joined (range_spelling (suc d)) (joined (symbol_spelling s.RightParenthesis)
+    (joined (word_spelling w.KwOf) (joined (dotted_spelling Apart) (symbol_spelling s.Semicolon))))))
 
-law_index_range : (d : ℕ) → leb NESTING d ≡ false → Law (index_range d) (RangePlaced (suc d)) (range_marks (suc d)) expr_first range_last false
+law_index_range : (d : ℕ) → leb NESTING d ≡ false → Law (index_range d) (RangePlaced (suc d)) (range_spelling (suc d)) expr_first range_last false
 unfolding index_range
 law_index_range d e = law_range (suc d) (deeper d e)
 
 -- "array" "(" range ")" "of" mark ";"
-law_array : (d : ℕ) → Law (array_parts d) (GoodArray d) (array_marks d) (of_word w.KwArray ∷ []) [] false
+law_array : (d : ℕ) → Law (array_parts d) (GoodArray d) (array_spelling d) (of_word w.KwArray ∷ []) [] false
 law_array d =
     law_seq (law_word Apart w.KwArray)
-    (law_opened_symbol (some_range, (some_place, (some_place, (some_mark, some_place)))) (some_range_placed (suc d), (tt, (tt, (some_mark_placed, tt))))
+    (law_opened_symbol (some_range, (some_position, (some_position, (some_mark, some_position)))) (some_range_placed (suc d), (tt, (tt, (some_mark_placed, tt))))
     Apart s.LeftParenthesis d
     (λ e. law_seq (law_index_range d e) (law_seq (law_symbol Apart s.RightParenthesis) (law_seq (law_word Apart w.KwOf)
     (law_seq (law_dotted Apart) (law_symbol Apart s.Semicolon) refl) refl) refl) refl)) refl
@@ -125,30 +125,30 @@ law_array d =
 abbrev GoodRecord : RecordParts → Type 0
 GoodRecord = Both Any (Both ComponentPlaced (Both (Each ComponentPlaced) (Both Any (Both Any Any))))
 
-abbrev record_marks : ℕ → RecordParts → List Mark
-record_marks d =
-    joined (λ p. opens Apart d (Word w.KwRecord p) ∷ []) (joined component_marks (joined (flat_map component_marks)
-    (joined (word_marks w.KwEnd) (joined (word_marks w.KwRecord) (symbol_marks s.Semicolon)))))
+abbrev record_spelling : ℕ → RecordParts → List WeighedToken
+record_spelling d =
+    joined (λ p. opens Apart d (Word w.KwRecord p) ∷ []) (joined component_spelling (joined (flat_map component_spelling)
+    (joined (word_spelling w.KwEnd) (joined (word_spelling w.KwRecord) (symbol_spelling s.Semicolon)))))
 
 -- "record" comp {comp} "end" "record" ";"
-law_record : (d : ℕ) → Law (record_parts d) GoodRecord (record_marks d) (of_word w.KwRecord ∷ []) [] false
+law_record : (d : ℕ) → Law (record_parts d) GoodRecord (record_spelling d) (of_word w.KwRecord ∷ []) [] false
 law_record d =
-    law_opened_word (some_component, ([], (some_place, (some_place, some_place)))) (some_component_placed, (tt, (tt, (tt, tt)))) w.KwRecord d
-    (λ e. law_seq law_component (law_seq law_components (law_seq (law_word Apart w.KwEnd) (law_seq (law_word Apart w.KwRecord)
+    law_opened_word (some_component, ([], (some_position, (some_position, some_position)))) (some_component_placed, (tt, (tt, (tt, tt)))) w.KwRecord d
+    (λ e. law_seq law_component (law_seq law_next_components (law_seq (law_word Apart w.KwEnd) (law_seq (law_word Apart w.KwRecord)
     (law_symbol Apart s.Semicolon) refl) refl) refl) refl)
 
 abbrev GoodEnumeration : EnumerationParts → Type 0
 GoodEnumeration = Both Any (Both Any (Both Any (Both Any Any)))
 
-abbrev enumeration_marks : ℕ → EnumerationParts → List Mark
-enumeration_marks d =
-    joined (left_marks d) (joined id_marks (joined (flat_map next_identifier_marks)
-    (joined (symbol_marks s.RightParenthesis) (symbol_marks s.Semicolon))))
+abbrev enumeration_spelling : ℕ → EnumerationParts → List WeighedToken
+enumeration_spelling d =
+    joined (left_spelling d) (joined id_spelling (joined (flat_map next_identifier_spelling)
+    (joined (symbol_spelling s.RightParenthesis) (symbol_spelling s.Semicolon))))
 
 -- "(" id {"," id} ")" ";"
-law_enumeration : (d : ℕ) → Law (enumeration_parts d) GoodEnumeration (enumeration_marks d) (of_symbol s.LeftParenthesis ∷ []) [] false
+law_enumeration : (d : ℕ) → Law (enumeration_parts d) GoodEnumeration (enumeration_spelling d) (of_symbol s.LeftParenthesis ∷ []) [] false
 law_enumeration d =
-    law_opened_symbol (some_identifier, ([], (some_place, some_place))) (tt, (tt, (tt, tt))) Apart s.LeftParenthesis d
+    law_opened_symbol (some_identifier, ([], (some_position, some_position))) (tt, (tt, (tt, tt))) Apart s.LeftParenthesis d
     (λ e. law_seq (law_identifier Apart) (law_seq law_next_identifiers (law_seq (law_symbol Apart s.RightParenthesis)
     (law_symbol Apart s.Semicolon) refl) refl) refl)
 
@@ -170,15 +170,15 @@ defined_parts d =
 abbrev GoodDefined : ℕ → Defined → Type 0
 GoodDefined d = Either GoodPrivate (Either GoodAccess (Either (GoodArray d) (Either GoodRecord GoodEnumeration)))
 
-abbrev defined_marks : ℕ → Defined → List Mark
-defined_marks d =
-    of_either private_marks (of_either access_marks (of_either (array_marks d) (of_either (record_marks d) (enumeration_marks d))))
+abbrev defined_spelling : ℕ → Defined → List WeighedToken
+defined_spelling d =
+    of_either private_spelling (of_either access_spelling (of_either (array_spelling d) (of_either (record_spelling d) (enumeration_spelling d))))
 
 abbrev defined_first : List ℕ
 defined_first =
     of_word w.KwPrivate ∷ of_word w.KwAccess ∷ of_word w.KwArray ∷ of_word w.KwRecord ∷ of_symbol s.LeftParenthesis ∷ []
 
-law_defined : (d : ℕ) → Law (defined_parts d) (GoodDefined d) (defined_marks d) defined_first [] false
+law_defined : (d : ℕ) → Law (defined_parts d) (GoodDefined d) (defined_spelling d) defined_first [] false
 law_defined d =
     law_wider defined_first []
     (law_choose (of_word w.KwPrivate ∷ []) (law_seq (law_word Apart w.KwPrivate) (law_symbol Apart s.Semicolon) refl)
@@ -238,11 +238,11 @@ type_parts d = seq (word Apart w.KwType) (seq (identifier Apart) (named_parts d)
 abbrev pub GoodType : ℕ → TypeParts → Type 0
 GoodType d = Both Any (Both Any (Either Any (Both Any (GoodDefined d))))
 
-abbrev pub type_marks : ℕ → TypeParts → List Mark
-type_marks d =
-    joined (word_marks w.KwType) (joined id_marks (of_either (symbol_marks s.Semicolon) (joined (word_marks w.KwIs) (defined_marks d))))
+abbrev pub type_spelling : ℕ → TypeParts → List WeighedToken
+type_spelling d =
+    joined (word_spelling w.KwType) (joined id_spelling (of_either (symbol_spelling s.Semicolon) (joined (word_spelling w.KwIs) (defined_spelling d))))
 
-pub law_type_parts : (d : ℕ) → Law (type_parts d) (GoodType d) (type_marks d) (of_word w.KwType ∷ []) [] false
+pub law_type_parts : (d : ℕ) → Law (type_parts d) (GoodType d) (type_spelling d) (of_word w.KwType ∷ []) [] false
 law_type_parts d =
     law_wider (of_word w.KwType ∷ []) []
     (law_seq (law_word Apart w.KwType) (law_seq (law_identifier Apart) (law_choose (of_symbol s.Semicolon ∷ []) (law_symbol Apart s.Semicolon)
@@ -283,8 +283,8 @@ good_type d (pos, (id, inr (is, inr (inr (inl x))))) good = (tt, ((good.1.1.1.1.
 good_type d (pos, (id, inr (is, inr (inr (inr (inl x)))))) good = (tt, ((good.1.1.1.1.0, good.1.1.1.1.1.0), tt))
 good_type d (pos, (id, inr (is, inr (inr (inr (inr x)))))) good = (tt, (tt, tt))
 
-pub spelled_type : (d : ℕ) (x : TypeParts) → item_marks d (make_type x) ≡ type_marks d x
-unfolding item_marks
+pub spelled_type : (d : ℕ) (x : TypeParts) → item_spelling d (make_type x) ≡ type_spelling d x
+unfolding item_spelling
 spelled_type d (pos, (id, inl semicolon)) = refl
 spelled_type d (pos, (id, inr (is, inl x))) = refl
 spelled_type d (pos, (id, inr (is, inr (inl x)))) = refl

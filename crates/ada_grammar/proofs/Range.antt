@@ -1,5 +1,5 @@
--- The laws of ranges and choices. A range is read as an expression first; behind it ".." stands, or the expression is a mark
--- or a name with "'" "range" at its end.
+-- The laws of ranges and choices. A range is read as an expression first; behind it ".." stands, or
+-- the expression is a mark or a name with "'" "range" at its end.
 use Rattle.std.proofs.Common.{◌≡◌, ◌≤◌, refl, sym, ap, ◌∙◌, subst, ℕ, Bool, true, false, List, [], ◌∷◌, ◌++◌, Option, Some, None, Result, Ok, Err, ◌⊎◌, inl, inr}
 use Rattle.std.specs.Prelude.{ok_or, if◌then◌else◌}
 use Rattle.std.specs.Option.{is_some}
@@ -12,16 +12,16 @@ use Rattle.ada_lexer.specs.declared.token.Symbol.TheVariants as s
 use Rattle.token_reading.specs.declared.side.Side.{Side}
 use Rattle.token_reading.specs.declared.side.Side.TheVariants.{Apart, Within}
 use Rattle.token_reading.specs.Spelled.{Spelled}
-use Rattle.token_reading.specs.Marks.{Mark, bare, resting}
-use Rattle.token_reading.specs.Reading.{Outcome, Refused, Got, Fails, Reader, of_word, of_symbol, symbol, symbol_place, taken, starts, and_then, to, seq, seq_on, chain, nothing, either, choose, here}
+use Rattle.token_reading.specs.Weights.{WeighedToken, bare, resting}
+use Rattle.token_reading.specs.Reading.{Outcome, Refused, Got, Fails, Reader, of_word, of_symbol, symbol, symbol_position, taken, starts, and_then, to, seq, seq_on, chain, nothing, either, choose, here}
 use Rattle.token_reading.proofs.FirstKinds.{is_symbol}
 use Rattle.token_reading.proofs.Sets.{Leads}
 use Rattle.token_reading.proofs.Law.{Law}
 use Rattle.token_reading.proofs.Tokens.{Any, law_word, law_symbol}
 use Rattle.token_reading.proofs.Seq.{Both, joined, law_seq_on, law_seq}
 use Rattle.token_reading.proofs.Made.{law_to, law_nothing, law_same, law_wider, law_may}
-use Rattle.token_reading.proofs.Choice.{Either, cases, of_either, Maybe, maybe_marked, law_choose, law_optional}
-use Rattle.token_reading.proofs.Places.{law_placed}
+use Rattle.token_reading.proofs.Choice.{Either, cases, of_either, Maybe, maybe_spelled, law_choose, law_optional}
+use Rattle.token_reading.proofs.Positions.{law_placed}
 use Rattle.token_reading.proofs.Fronts.{Same, of_pair, either_choice, chain_seq_on, chain_seq}
 use Rattle.ada_tree.specs.declared.identifier.Dotted.{Dotted}
 use Rattle.ada_tree.specs.declared.expression.Expr.{Expr}
@@ -34,27 +34,27 @@ use Rattle.ada_tree.specs.declared.range.Choice.TheVariants as choice_tree
 use Rattle.ada_tree.specs.declared.range.NextChoice.{NextChoice}
 use Rattle.ada_tree.specs.declared.range.NextChoice.TheVariants as next_choice_tree
 use Rattle.ada_tree.specs.Spelling as spelling
-use Rattle.ada_tree.specs.Spelling.{dotted_marks, expr_marks, name_marks, constraint_marks, range_marks, choice_marks, next_choice_marks}
+use Rattle.ada_tree.specs.Spelling.{dotted_spelling, expr_spelling, name_spelling, constraint_spelling, range_spelling, choice_spelling, next_choice_spelling}
 use Rattle.ada_tree.specs.WellPlaced.{StartsAt, DottedPlaced, ExprPlaced, NamePlaced, RangePlaced, ChoicePlaced, NextChoicePlaced}
 use Rattle.ada_tree.specs.Lone.{lone_name, expr_of_name, dotted_name, dotted_or_name, name_of_dotted, range_prefix, name_with_range}
 use Rattle.ada_grammar.specs.Expressions.{refused, expr, expr_first, expr_last, name_first}
 use Rattle.ada_grammar.specs.Items.{to_high, constraint, make_constrained, marked_range, attribute_range, mark_or_attribute, named_range, make_bounds, range, make_choice, choice, choice_first, next_choice}
-use Rattle.ada_tree.proofs.LoneExpressions.{lone_name-expr_of_name, expr_of_name-marks, expr_of_name-placed, lone_name_is}
-use Rattle.ada_tree.proofs.LoneNames.{dotted_name-name_of_dotted, name_of_dotted-marks, name_of_dotted-placed, dotted_name_placed, range_prefix-name_with_range, name_with_range-marks, name_with_range-placed, range_prefix_placed, dotted_name-name_with_range}
+use Rattle.ada_grammar.proofs.LoneExpressions.{lone_name-expr_of_name, expr_of_name-spelling, expr_of_name-placed, lone_name_is}
+use Rattle.ada_grammar.proofs.LoneNames.{dotted_name-name_of_dotted, name_of_dotted-spelling, name_of_dotted-placed, dotted_name_placed, range_prefix-name_with_range, name_with_range-spelling, name_with_range-placed, range_prefix_placed, dotted_name-name_with_range}
 use Rattle.ada_grammar.proofs.ExpressionLaws.{law_expr}
 
 -- ---- the first token of a part
 
-pub starts_front : (first : List ℕ) (pos : Pos) (ms ns : List Mark) → Leads false first (bare ms) → StartsAt pos (ms ++ ns) → StartsAt pos ms
+pub starts_front : (first : List ℕ) (pos : Pos) (ms ns : List WeighedToken) → Leads false first (bare ms) → StartsAt pos (ms ++ ns) → StartsAt pos ms
 starts_front first pos [] ns leads at = absurd (cc)
 starts_front first pos (m ∷ ms) ns leads at = at
 
-pub starts_whole : (pos : Pos) (ms ns : List Mark) → StartsAt pos ms → StartsAt pos (ms ++ ns)
+pub starts_whole : (pos : Pos) (ms ns : List WeighedToken) → StartsAt pos ms → StartsAt pos (ms ++ ns)
 starts_whole pos [] ns at = absurd at
 starts_whole pos (m ∷ ms) ns at = at
 
-name_leads : (side : Side) (d : ℕ) (n : Name) → Leads false name_first (bare (name_marks side d n))
-unfolding name_marks
+name_leads : (side : Side) (d : ℕ) (n : Name) → Leads false name_first (bare (name_spelling side d n))
+unfolding name_spelling
 name_leads side d (name_tree.Prefixed' pos first _ rest) = refl
 
 -- ---- what is read, made twice
@@ -83,7 +83,7 @@ none_there (Some a) e = absurd (cc)
 refused_symbol : (side : Side) (v : Symbol) (k : ℕ) (ts : List Spelled) → starts (of_symbol v ∷ []) ts ≡ false → symbol side v k ts ≡ Fails Refused ts
 refused_symbol side v k [] e = refl
 refused_symbol side v k (t ∷ ts) e =
-    ap (λ o. taken (resting side) o k t ts) (none_there (symbol_place v t) (sym (is_symbol v t) ∙ e))
+    ap (λ o. taken (resting side) o k t ts) (none_there (symbol_position v t) (sym (is_symbol v t) ∙ e))
 
 -- ---- what the first expression of a range is
 
@@ -141,16 +141,16 @@ shape_of_attribute n apostrophe range =
     ∙ ap (λ o. shape_of_name (ok_or o whole)) (dotted_name-name_with_range n apostrophe range)
     ∙ ap shape_of_prefix (range_prefix-name_with_range n apostrophe range)
 
-marks_of_mark : (d : ℕ) (x : Expr) (mark : Dotted) → x ≡ expr_of_name (name_of_dotted mark) → expr_marks d x ≡ dotted_marks Within mark
-marks_of_mark d x mark e = ap (expr_marks d) e ∙ expr_of_name-marks d (name_of_dotted mark) ∙ name_of_dotted-marks Within d mark
+spelling_of_mark : (d : ℕ) (x : Expr) (mark : Dotted) → x ≡ expr_of_name (name_of_dotted mark) → expr_spelling d x ≡ dotted_spelling Within mark
+spelling_of_mark d x mark e = ap (expr_spelling d) e ∙ expr_of_name-spelling d (name_of_dotted mark) ∙ name_of_dotted-spelling Within d mark
 
-abbrev attribute_marks : Pos → Pos → List Mark
-attribute_marks apostrophe range = spelling.symbol Within s.Apostrophe apostrophe ∷ spelling.word Within w.KwRange range ∷ []
+abbrev attribute_spelling : Pos → Pos → List WeighedToken
+attribute_spelling apostrophe range = spelling.symbol Within s.Apostrophe apostrophe ∷ spelling.word Within w.KwRange range ∷ []
 
-marks_of_attribute : (d : ℕ) (x : Expr) (n : Name) (apostrophe range : Pos) → x ≡ expr_of_name (name_with_range n apostrophe range)
-    → expr_marks d x ≡ name_marks Within d n ++ attribute_marks apostrophe range
-marks_of_attribute d x n apostrophe range e =
-    ap (expr_marks d) e ∙ expr_of_name-marks d (name_with_range n apostrophe range) ∙ name_with_range-marks Within d n apostrophe range
+spelling_of_attribute : (d : ℕ) (x : Expr) (n : Name) (apostrophe range : Pos) → x ≡ expr_of_name (name_with_range n apostrophe range)
+    → expr_spelling d x ≡ name_spelling Within d n ++ attribute_spelling apostrophe range
+spelling_of_attribute d x n apostrophe range e =
+    ap (expr_spelling d) e ∙ expr_of_name-spelling d (name_with_range n apostrophe range) ∙ name_with_range-spelling Within d n apostrophe range
 
 -- ---- what stands behind the first expression
 
@@ -190,12 +190,12 @@ GoodEnd d OfOther = λ x. ⊥
 abbrev GoodBehind : ℕ → Shape → Behind → Type 0
 GoodBehind d shape = Either (GoodHigh d) (GoodEnd d shape)
 
-abbrev high_marks : ℕ → High → List Mark
-high_marks d = joined (λ p. spelling.symbol Apart s.DoubleDot p ∷ []) (expr_marks d)
+abbrev high_spelling : ℕ → High → List WeighedToken
+high_spelling d = joined (λ p. spelling.symbol Apart s.DoubleDot p ∷ []) (expr_spelling d)
 
-abbrev behind_marks : ℕ → Behind → List Mark
-behind_marks d =
-    of_either (high_marks d) (of_either (joined (λ p. spelling.word Apart w.KwRange p ∷ []) (joined (expr_marks d) (high_marks d))) (λ u. []))
+abbrev behind_spelling : ℕ → Behind → List WeighedToken
+behind_spelling d =
+    of_either (high_spelling d) (of_either (joined (λ p. spelling.word Apart w.KwRange p ∷ []) (joined (expr_spelling d) (high_spelling d))) (λ u. []))
 
 abbrev behind_first : List ℕ
 behind_first = of_symbol s.DoubleDot ∷ of_word w.KwRange ∷ []
@@ -204,33 +204,33 @@ abbrev pub range_last : List ℕ
 range_last = of_symbol s.DoubleDot ∷ of_word w.KwRange ∷ expr_last
 
 abbrev ExprLaw : ℕ → Type 0
-ExprLaw d = Law (expr d) (ExprPlaced d) (expr_marks d) expr_first expr_last false
+ExprLaw d = Law (expr d) (ExprPlaced d) (expr_spelling d) expr_first expr_last false
 
 -- ".." expr
-law_high : (d : ℕ) → ExprLaw d → Law (to_high d) (GoodHigh d) (high_marks d) (of_symbol s.DoubleDot ∷ []) expr_last false
+law_high : (d : ℕ) → ExprLaw d → Law (to_high d) (GoodHigh d) (high_spelling d) (of_symbol s.DoubleDot ∷ []) expr_last false
 law_high d L = law_seq (law_symbol Apart s.DoubleDot) L refl
 
 -- "range" expr ".." expr
 pub law_constraint : (d : ℕ) → d ≤ NESTING
-    → Law (constraint d) (Both Any (Both (ExprPlaced d) (Both Any (ExprPlaced d)))) (λ x. constraint_marks d x.0 x.1.0 x.1.1.0 x.1.1.1)
+    → Law (constraint d) (Both Any (Both (ExprPlaced d) (Both Any (ExprPlaced d)))) (λ x. constraint_spelling d x.0 x.1.0 x.1.1.0 x.1.1.1)
     (of_word w.KwRange ∷ []) expr_last false
 law_constraint d h = let L = law_expr d h in law_seq (law_word Apart w.KwRange) (law_seq L (law_high d L) refl) refl
 
-law_behind : (d : ℕ) → d ≤ NESTING → (shape : Shape) → Law (behind d shape) (GoodBehind d shape) (behind_marks d) behind_first range_last true
+law_behind : (d : ℕ) → d ≤ NESTING → (shape : Shape) → Law (behind d shape) (GoodBehind d shape) (behind_spelling d) behind_first range_last true
 law_behind d h (OfMark mark) =
     law_wider behind_first range_last
     (law_choose (of_symbol s.DoubleDot ∷ []) (law_high d (law_expr d h)) (law_choose (of_word w.KwRange ∷ []) (law_constraint d h) law_nothing refl refl) refl refl)
     refl refl
 law_behind d h (OfAttribute y) =
     law_wider behind_first range_last
-    (law_to no_constraint (GoodBehind d (OfAttribute y)) (behind_marks d)
+    (law_to no_constraint (GoodBehind d (OfAttribute y)) (behind_spelling d)
     (law_choose (of_symbol s.DoubleDot ∷ []) (law_high d (law_expr d h)) law_nothing refl refl) makes spells onto) refl refl
   where
     makes : (x : High ⊎ Unit {0}) → Either (GoodHigh d) Any x → GoodBehind d (OfAttribute y) (no_constraint x)
     makes (inl x) good = good
     makes (inr u) good = tt
 
-    spells : (x : High ⊎ Unit {0}) → Either (GoodHigh d) Any x → behind_marks d (no_constraint x) ≡ of_either (high_marks d) (λ u. []) x
+    spells : (x : High ⊎ Unit {0}) → Either (GoodHigh d) Any x → behind_spelling d (no_constraint x) ≡ of_either (high_spelling d) (λ u. []) x
     spells (inl x) good = refl
     spells (inr u) good = refl
 
@@ -240,7 +240,7 @@ law_behind d h (OfAttribute y) =
     onto (inr (inr u)) good = (inr u, (tt, refl))
 law_behind d h OfOther =
     law_wider behind_first range_last
-    (law_may (law_to inl (GoodBehind d OfOther) (behind_marks d) (law_high d (law_expr d h)) (λ x good. good) (λ x good. refl) onto)) refl refl
+    (law_may (law_to inl (GoodBehind d OfOther) (behind_spelling d) (law_high d (law_expr d h)) (λ x good. good) (λ x good. refl) onto)) refl refl
   where
     onto : (b : Behind) → GoodBehind d OfOther b → (x : High) × (GoodHigh d x × (inl x ≡ b))
     onto (inl x) good = (x, (good, refl))
@@ -263,19 +263,19 @@ abbrev make_range : RangeParts → Range
 make_range = of_pair (λ pos. of_pair (λ low. make_behind pos low (shape low)))
 
 abbrev GoodRange : ℕ → RangeParts → Type 0
-GoodRange d x = (ExprPlaced d x.1.0 × GoodBehind d (shape x.1.0) x.1.1) × StartsAt x.0 (expr_marks d x.1.0 ++ behind_marks d x.1.1)
+GoodRange d x = (ExprPlaced d x.1.0 × GoodBehind d (shape x.1.0) x.1.1) × StartsAt x.0 (expr_spelling d x.1.0 ++ behind_spelling d x.1.1)
 
-good_behind : (d : ℕ) (pos : Pos) (low : Expr) (shape : Shape) → Tells d low shape → ExprPlaced d low → StartsAt pos (expr_marks d low)
+good_behind : (d : ℕ) (pos : Pos) (low : Expr) (shape : Shape) → Tells d low shape → ExprPlaced d low → StartsAt pos (expr_spelling d low)
     → (x : Behind) → GoodBehind d shape x → RangePlaced d (make_behind pos low shape x)
 unfolding RangePlaced
 good_behind d pos low shape is placed at (inl x) good = (at, placed, good.1)
 good_behind d pos low (OfMark mark) is placed at (inr (inl x)) good =
-    (subst (StartsAt pos) (marks_of_mark d low mark is.1) at, is.0, good.1.0, good.1.1.1)
-good_behind d pos low (OfMark mark) is placed at (inr (inr u)) good = (subst (StartsAt pos) (marks_of_mark d low mark is.1) at, is.0)
+    (subst (StartsAt pos) (spelling_of_mark d low mark is.1) at, is.0, good.1.0, good.1.1.1)
+good_behind d pos low (OfMark mark) is placed at (inr (inr u)) good = (subst (StartsAt pos) (spelling_of_mark d low mark is.1) at, is.0)
 good_behind d pos low (OfAttribute y) is placed at (inr (inl x)) good = absurd good
 good_behind d pos low (OfAttribute y) is placed at (inr (inr u)) good = (
-  starts_front name_first pos (name_marks Within d y.0) (attribute_marks y.1 y.2) (name_leads Within d y.0)
-      (subst (StartsAt pos) (marks_of_attribute d low y.0 y.1 y.2 is.1) at),
+  starts_front name_first pos (name_spelling Within d y.0) (attribute_spelling y.1 y.2) (name_leads Within d y.0)
+      (subst (StartsAt pos) (spelling_of_attribute d low y.0 y.1 y.2 is.1) at),
   is.0,
 )
 good_behind d pos low OfOther is placed at (inr x) good = absurd good
@@ -283,24 +283,21 @@ good_behind d pos low OfOther is placed at (inr x) good = absurd good
 good_range : (d : ℕ) → ExprLaw d → (x : RangeParts) → GoodRange d x → RangePlaced d (make_range x)
 good_range d L x good =
     good_behind d x.0 x.1.0 (shape x.1.0) (tells d x.1.0 good.0.0) good.0.0
-    (starts_front expr_first x.0 (expr_marks d x.1.0) (behind_marks d x.1.1) (L.leads x.1.0 good.0.0) good.1) x.1.1 good.0.1
+    (starts_front expr_first x.0 (expr_spelling d x.1.0) (behind_spelling d x.1.1) (L.leads x.1.0 good.0.0) good.1) x.1.1 good.0.1
 
 spelled_behind : (d : ℕ) (pos : Pos) (low : Expr) (shape : Shape) → Tells d low shape → (x : Behind) → GoodBehind d shape x
-    → range_marks d (make_behind pos low shape x) ≡ expr_marks d low ++ behind_marks d x
-unfolding range_marks
+    → range_spelling d (make_behind pos low shape x) ≡ expr_spelling d low ++ behind_spelling d x
+unfolding range_spelling
 spelled_behind d pos low shape is (inl x) good = refl
 spelled_behind d pos low (OfMark mark) is (inr (inl x)) good =
-    sym (ap (λ ms. ms ++ constraint_marks d x.0 x.1.0 x.1.1.0 x.1.1.1) (marks_of_mark d low mark is.1))
-spelled_behind d pos low (OfMark mark) is (inr (inr u)) good = sym (append-nil (expr_marks d low) ∙ marks_of_mark d low mark is.1)
+    sym (ap (λ ms. ms ++ constraint_spelling d x.0 x.1.0 x.1.1.0 x.1.1.1) (spelling_of_mark d low mark is.1))
+spelled_behind d pos low (OfMark mark) is (inr (inr u)) good = sym (append-nil (expr_spelling d low) ∙ spelling_of_mark d low mark is.1)
 spelled_behind d pos low (OfAttribute y) is (inr (inl x)) good = absurd good
 spelled_behind d pos low (OfAttribute y) is (inr (inr u)) good =
-    sym (append-nil (expr_marks d low) ∙ marks_of_attribute d low y.0 y.1 y.2 is.1)
+    sym (append-nil (expr_spelling d low) ∙ spelling_of_attribute d low y.0 y.1 y.2 is.1)
 spelled_behind d pos low OfOther is (inr x) good = absurd good
 
-abbrev whole_marks : ℕ → RangeParts → List Mark
-whole_marks d x = expr_marks d x.1.0 ++ behind_marks d x.1.1
-
-onto_mark : (d : ℕ) (pos : Pos) (mark : Dotted) (end : Constraint ⊎ Unit {0}) → StartsAt pos (dotted_marks Within mark) → DottedPlaced mark
+onto_mark : (d : ℕ) (pos : Pos) (mark : Dotted) (end : Constraint ⊎ Unit {0}) → StartsAt pos (dotted_spelling Within mark) → DottedPlaced mark
     → GoodEnd d (OfMark mark) end → (x : RangeParts) × (GoodRange d x × (make_range x ≡ make_end pos (expr_of_name (name_of_dotted mark)) (OfMark mark) end))
 onto_mark d pos mark end at placed good =
     let low = expr_of_name (name_of_dotted mark) in (
@@ -311,7 +308,7 @@ onto_mark d pos mark end at placed good =
             expr_of_name-placed d (name_of_dotted mark) (name_of_dotted-placed d mark placed),
             subst (λ q. GoodEnd d q end) (sym (shape_of_mark mark)) good,
           ),
-          starts_whole pos (expr_marks d low) (behind_marks d (inr end)) (subst (StartsAt pos) (sym (marks_of_mark d low mark refl)) at),
+          starts_whole pos (expr_spelling d low) (behind_spelling d (inr end)) (subst (StartsAt pos) (sym (spelling_of_mark d low mark refl)) at),
         ),
         ap (λ q. make_end pos low q end) (shape_of_mark mark),
       ),
@@ -324,7 +321,7 @@ onto_range d (range_tree.Bounds pos low dots high) good = (
   (
     (
       (good.1, (tt, good.2)),
-      starts_whole pos (expr_marks d low) (behind_marks d (inl (dots, high))) good.0,
+      starts_whole pos (expr_spelling d low) (behind_spelling d (inl (dots, high))) good.0,
     ),
     refl,
   ),
@@ -343,8 +340,8 @@ onto_range d (range_tree.RangeOf pos prefix apostrophe of_range) good =
             expr_of_name-placed d whole (name_with_range-placed d prefix apostrophe of_range good.1),
             subst (λ q. GoodEnd d q (inr tt)) (sym same) tt,
           ),
-          starts_whole pos (expr_marks d low) [] (subst (StartsAt pos) (sym (marks_of_attribute d low prefix apostrophe of_range refl))
-              (starts_whole pos (name_marks Within d prefix) (attribute_marks apostrophe of_range) good.0)),
+          starts_whole pos (expr_spelling d low) [] (subst (StartsAt pos) (sym (spelling_of_attribute d low prefix apostrophe of_range refl))
+              (starts_whole pos (name_spelling Within d prefix) (attribute_spelling apostrophe of_range) good.0)),
         ),
         ap (λ q. make_end pos low q (inr tt)) same,
       ),
@@ -416,12 +413,12 @@ same_range d =
     (λ low. high_or d pos low (named_range d pos (lone_name low))) (λ low. same_behind d pos low))
 
 -- range = expr ".." expr | mark ["range" expr ".." expr] | name "'" "range"
-pub law_range : (d : ℕ) → d ≤ NESTING → Law (range d) (RangePlaced d) (range_marks d) expr_first range_last false
+pub law_range : (d : ℕ) → d ≤ NESTING → Law (range d) (RangePlaced d) (range_spelling d) expr_first range_last false
 law_range d h =
     let L = law_expr d h in
     law_wider expr_first range_last
     (law_same (range d)
-    (law_to make_range (RangePlaced d) (range_marks d)
+    (law_to make_range (RangePlaced d) (range_spelling d)
     (law_placed (law_seq_on L (λ low placed. law_behind d h (shape low)) refl) refl)
     (good_range d L) (λ x good. spelled_behind d x.0 x.1.0 (shape x.1.0) (tells d x.1.0 good.0.0) x.1.1 good.0.1) (onto_range d))
     (same_range d)) refl refl
@@ -432,7 +429,7 @@ abbrev ChoiceParts : Type 0
 ChoiceParts = Pos ⊎ ((Pos × Expr) × Option High)
 
 abbrev GoodChoice : ℕ → ChoiceParts → Type 0
-GoodChoice d = Either Any (Both (λ x. ExprPlaced d x.1 × StartsAt x.0 (expr_marks d x.1)) (Maybe (GoodHigh d)))
+GoodChoice d = Either Any (Both (λ x. ExprPlaced d x.1 × StartsAt x.0 (expr_spelling d x.1)) (Maybe (GoodHigh d)))
 
 good_choice : (d : ℕ) (x : ChoiceParts) → GoodChoice d x → ChoicePlaced d (make_choice x)
 unfolding ChoicePlaced
@@ -440,11 +437,11 @@ good_choice d (inl pos) good = tt
 good_choice d (inr (x, None)) good = (good.0.1, good.0.0)
 good_choice d (inr (x, Some high)) good = (good.0.1, good.0.0, good.1.1)
 
-spelled_choice : (d : ℕ) (x : ChoiceParts) → choice_marks d (make_choice x)
-    ≡ of_either (λ p. spelling.word Apart w.KwOthers p ∷ []) (joined (λ y. expr_marks d y.1) (maybe_marked (high_marks d))) x
-unfolding choice_marks
+spelled_choice : (d : ℕ) (x : ChoiceParts) → choice_spelling d (make_choice x)
+    ≡ of_either (λ p. spelling.word Apart w.KwOthers p ∷ []) (joined (λ y. expr_spelling d y.1) (maybe_spelled (high_spelling d))) x
+unfolding choice_spelling
 spelled_choice d (inl pos) = refl
-spelled_choice d (inr (x, None)) = sym (append-nil (expr_marks d x.1))
+spelled_choice d (inr (x, None)) = sym (append-nil (expr_spelling d x.1))
 spelled_choice d (inr (x, Some high)) = refl
 
 onto_choice : (d : ℕ) (a : Choice) → ChoicePlaced d a → (x : ChoiceParts) × (GoodChoice d x × (make_choice x ≡ a))
@@ -458,22 +455,22 @@ abbrev pub choice_last : List ℕ
 choice_last = of_symbol s.DoubleDot ∷ expr_last
 
 -- choice = expr [".." expr] | "others"
-pub law_choice : (d : ℕ) → d ≤ NESTING → Law (choice d) (ChoicePlaced d) (choice_marks d) choice_first choice_last false
+pub law_choice : (d : ℕ) → d ≤ NESTING → Law (choice d) (ChoicePlaced d) (choice_spelling d) choice_first choice_last false
 unfolding choice
 law_choice d h =
     let L = law_expr d h in
     law_wider choice_first choice_last
-    (law_to make_choice (ChoicePlaced d) (choice_marks d)
+    (law_to make_choice (ChoicePlaced d) (choice_spelling d)
     (law_choose (of_word w.KwOthers ∷ []) (law_word Apart w.KwOthers)
     (law_seq (law_placed L refl) (law_optional (of_symbol s.DoubleDot ∷ []) (law_high d L) refl) refl) refl refl)
     (good_choice d) (λ x good. spelled_choice d x) (onto_choice d)) refl refl
 
 -- "|" choice
 pub law_next_choice : (d : ℕ) → d ≤ NESTING
-    → Law (next_choice d) (NextChoicePlaced d) (next_choice_marks d) (of_symbol s.Bar ∷ []) choice_last false
-unfolding next_choice next_choice_marks NextChoicePlaced
+    → Law (next_choice d) (NextChoicePlaced d) (next_choice_spelling d) (of_symbol s.Bar ∷ []) choice_last false
+unfolding next_choice next_choice_spelling NextChoicePlaced
 law_next_choice d h =
-    law_to (λ x. next_choice_tree.Bar x.0 x.1) (NextChoicePlaced d) (next_choice_marks d)
+    law_to (λ x. next_choice_tree.Bar x.0 x.1) (NextChoicePlaced d) (next_choice_spelling d)
     (law_seq (law_symbol Apart s.Bar) (law_choice d h) refl) (λ x good. good.1) (λ x good. refl) onto
   where
     onto : (a : NextChoice) → NextChoicePlaced d a → (x : Pos × Choice) × (Both Any (ChoicePlaced d) x × (next_choice_tree.Bar x.0 x.1 ≡ a))

@@ -1,5 +1,5 @@
--- What the loops and the recursion of a parser of statements rest on: each part takes a token, and the statements within a
--- statement are those with one more construct open.
+-- What the loops and the recursion of a parser of statements rest on: each part takes a token, and
+-- the statements within a statement are those with one more construct open.
 use Rattle.std.proofs.Common.{◌≡◌, refl, ℕ, zero, suc, ◌-◌, ◌<◌, ◌≤◌, [], ◌∷◌, arith}
 use Rattle.std.proofs.lemmas.Bool.{lt-leb}
 use Rattle.spark_base.specs.declared.limits.TheConstants.{NESTING}

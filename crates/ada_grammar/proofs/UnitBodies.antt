@@ -5,7 +5,7 @@ use Rattle.spark_base.specs.declared.position.Pos.{Pos}
 use Rattle.ada_lexer.specs.declared.token.Reserved.TheVariants as w
 use Rattle.ada_lexer.specs.declared.token.Symbol.TheVariants as s
 use Rattle.token_reading.specs.declared.side.Side.TheVariants.{Apart}
-use Rattle.token_reading.specs.Marks.{Mark}
+use Rattle.token_reading.specs.Weights.{WeighedToken}
 use Rattle.token_reading.specs.Reading.{Reader, of_word, of_symbol, word, chain, to, seq, either, choose, here, Each}
 use Rattle.token_reading.proofs.Law.{Law}
 use Rattle.token_reading.proofs.Tokens.{Any, law_word, law_symbol, some_same}
@@ -13,7 +13,7 @@ use Rattle.token_reading.proofs.Seq.{Both, joined, law_seq}
 use Rattle.token_reading.proofs.Made.{law_to, law_wider, law_same}
 use Rattle.token_reading.proofs.Choice.{Either, of_either, cases, law_choose}
 use Rattle.token_reading.proofs.Many.{law_each}
-use Rattle.token_reading.proofs.Places.{law_placed}
+use Rattle.token_reading.proofs.Positions.{law_placed}
 use Rattle.token_reading.proofs.Fronts.{Same, of_pair, chain_seq, either_choice}
 use Rattle.ada_tree.specs.declared.identifier.Identifier.{Identifier}
 use Rattle.ada_tree.specs.declared.declaration.Item.{Item}
@@ -26,7 +26,7 @@ use Rattle.ada_tree.specs.declared.subprogram.Decl.TheVariants as decl_tree
 use Rattle.ada_tree.specs.declared.unit.BodyPart.{BodyPart}
 use Rattle.ada_tree.specs.declared.unit.BodyPart.TheVariants as part_tree
 use Rattle.ada_tree.specs.Spelling as spelling
-use Rattle.ada_tree.specs.Spelling.{item_marks, mode_marks, formals_marks, subspec_marks, decl_marks, subprogram_marks, body_part_marks}
+use Rattle.ada_tree.specs.Spelling.{item_spelling, mode_spelling, formals_spelling, subspec_spelling, decl_spelling, subprogram_spelling, body_part_spelling}
 use Rattle.ada_tree.specs.WellPlaced.{EachSome, StartsAt, ItemPlaced, FormalsPlaced, SubspecPlaced, DeclPlaced, BodyPartPlaced}
 use Rattle.ada_tree.specs.FixedNames.{ModeNamed, ItemNamed, DeclNamed, BodyPartNamed}
 use Rattle.ada_grammar.specs.Expressions.{identifier}
@@ -35,12 +35,12 @@ use Rattle.ada_grammar.specs.Statements as statements
 use Rattle.ada_grammar.specs.Units as units
 use Rattle.ada_grammar.specs.Units.{spark_mode, FunctionParts, function_parts, make_function, function_spec, SubprogramParts, subprogram_parts, make_body, body_behind, decl_first, instance_decl, plain_part, completed_part, part_ending, part_behind, instance_or_body, procedure_part, named_part, body_part, body_parts}
 use Rattle.ada_grammar.proofs.ExpressionNames.{law_identifier}
-use Rattle.ada_grammar.proofs.StatementParts.{place_of_whole}
+use Rattle.ada_grammar.proofs.StatementParts.{position_of_whole}
 use Rattle.ada_grammar.proofs.ItemTypes.{GoodPlain}
-use Rattle.ada_grammar.proofs.Item.{GoodInstance, instance_marks, law_instance_parts, law_plain_item}
+use Rattle.ada_grammar.proofs.Item.{GoodInstance, instance_spelling, law_instance_parts, law_plain_item}
 use Rattle.ada_grammar.proofs.UnitFronts.{made_twice, made_of, chain_made}
-use Rattle.ada_grammar.proofs.UnitParts.{law_spark_mode, law_mode, law_formals, GoodFunction, function_parts_marks, law_function_parts, GoodSubprogram, subprogram_parts_marks, law_subprogram_parts, parts_of_body, good_body, body_parts_good, body_front_good, one_place}
-use Rattle.ada_grammar.proofs.UnitDecls.{procedure_marks, function_marks, is_marks, semicolon_marks, id_marks, same_instance}
+use Rattle.ada_grammar.proofs.UnitParts.{law_spark_mode, law_mode, law_formals, GoodFunction, function_parts_spelling, law_function_parts, GoodSubprogram, subprogram_parts_spelling, law_subprogram_parts, parts_of_body, good_body, body_parts_good, body_front_good, one_position}
+use Rattle.ada_grammar.proofs.UnitDecls.{procedure_spelling, function_spelling, is_spelling, semicolon_spelling, id_spelling, same_instance}
 
 abbrev declared : Pos → Subspec → Option SparkMode → Pos → BodyPart
 declared pos spec mode semicolon = part_tree.Declared pos (decl_tree.Subprogram pos spec mode semicolon)
@@ -62,13 +62,13 @@ ending = choose (of_word w.KwIs ∷ []) (seq (word Apart w.KwIs) (subprogram_par
 abbrev GoodEnding : Ending → Type 0
 GoodEnding = Either (Both Any (GoodSubprogram 2)) Any
 
-abbrev ending_marks : Ending → List Mark
-ending_marks = of_either (joined is_marks (subprogram_parts_marks 2)) semicolon_marks
+abbrev ending_spelling : Ending → List WeighedToken
+ending_spelling = of_either (joined is_spelling (subprogram_parts_spelling 2)) semicolon_spelling
 
 abbrev ending_first : List ℕ
 ending_first = of_word w.KwIs ∷ of_symbol s.Semicolon ∷ []
 
-law_ending : Law ending GoodEnding ending_marks ending_first [] false
+law_ending : Law ending GoodEnding ending_spelling ending_first [] false
 law_ending =
     law_wider ending_first []
     (law_choose (of_word w.KwIs ∷ []) (law_seq (law_word Apart w.KwIs) (law_subprogram_parts 2 (omega arith)) refl)
@@ -103,13 +103,13 @@ behind = seq units.mode ending
 abbrev GoodBehind : Behind → Type 0
 GoodBehind = Both (EachSome ModeNamed) GoodEnding
 
-abbrev behind_marks : Behind → List Mark
-behind_marks = joined (spelling.optional mode_marks) ending_marks
+abbrev behind_spelling : Behind → List WeighedToken
+behind_spelling = joined (spelling.optional mode_spelling) ending_spelling
 
 abbrev behind_first : List ℕ
 behind_first = of_word w.KwWith ∷ ending_first
 
-law_behind : Law behind GoodBehind behind_marks behind_first [] false
+law_behind : Law behind GoodBehind behind_spelling behind_first [] false
 law_behind = law_wider behind_first [] (law_seq law_mode law_ending refl) refl refl
 
 same_behind : (pos : Pos) (spec : Subspec) → Same (part_behind pos spec) (to (make_behind pos spec) behind)
@@ -141,13 +141,13 @@ fronted =
 abbrev GoodFronted : Fronted → Type 0
 GoodFronted = Either (Both FormalsPlaced GoodBehind) (Either (Both ModeNamed GoodEnding) Any)
 
-abbrev fronted_marks : Fronted → List Mark
-fronted_marks = of_either (joined (formals_marks 2) behind_marks) (of_either (joined mode_marks ending_marks) semicolon_marks)
+abbrev fronted_spelling : Fronted → List WeighedToken
+fronted_spelling = of_either (joined (formals_spelling 2) behind_spelling) (of_either (joined mode_spelling ending_spelling) semicolon_spelling)
 
 abbrev fronted_first : List ℕ
 fronted_first = of_symbol s.LeftParenthesis ∷ of_word w.KwWith ∷ of_symbol s.Semicolon ∷ []
 
-law_fronted : Law fronted GoodFronted fronted_marks fronted_first [] false
+law_fronted : Law fronted GoodFronted fronted_spelling fronted_first [] false
 law_fronted =
     law_wider fronted_first []
     (law_choose (of_symbol s.LeftParenthesis ∷ []) (law_seq (law_formals 2) law_behind refl)
@@ -180,7 +180,7 @@ abbrev Named : Type 0
 Named = (Pos × Begun) ⊎ Fronted
 
 abbrev declared_instance : Pos → Identifier → Pos → InstanceParts → BodyPart
-declared_instance pos id is x = part_tree.Declared pos (decl_tree.Plain pos (make_instance pos id is x))
+declared_instance pos id is x = part_tree.Declared pos (decl_tree.OfItem pos (make_instance pos id is x))
 
 abbrev make_begun : Pos → Identifier → Pos → Begun → BodyPart
 make_begun pos id is = cases (declared_instance pos id is) (completed pos (subspec_tree.Procedure pos id None) None is)
@@ -197,13 +197,13 @@ named = choose (of_word w.KwIs ∷ []) (seq (word Apart w.KwIs) begun) fronted
 abbrev GoodNamed : Named → Type 0
 GoodNamed = Either (Both Any (Either (GoodInstance 1) (GoodSubprogram 2))) GoodFronted
 
-abbrev named_marks : Named → List Mark
-named_marks = of_either (joined is_marks (of_either (instance_marks 1) (subprogram_parts_marks 2))) fronted_marks
+abbrev named_spelling : Named → List WeighedToken
+named_spelling = of_either (joined is_spelling (of_either (instance_spelling 1) (subprogram_parts_spelling 2))) fronted_spelling
 
 abbrev named_first : List ℕ
 named_first = of_word w.KwIs ∷ fronted_first
 
-law_named : Law named GoodNamed named_marks named_first [] false
+law_named : Law named GoodNamed named_spelling named_first [] false
 law_named =
     law_wider named_first []
     (law_choose (of_word w.KwIs ∷ [])
@@ -221,7 +221,7 @@ same_begun pos id is =
   where
     same_declared : Same (to (part_tree.Declared pos) (instance_decl pos id is)) (to (declared_instance pos id is) (instance_parts 1))
     same_declared =
-        made_of (λ x. decl_tree.Plain pos (make_instance pos id is x)) (part_tree.Declared pos) (instance_parts 1) (instance_decl pos id is)
+        made_of (λ x. decl_tree.OfItem pos (make_instance pos id is x)) (part_tree.Declared pos) (instance_parts 1) (instance_decl pos id is)
         (same_instance pos id is)
 
 same_named : (pos : Pos) (id : Identifier) → Same (named_part pos id) (to (make_named pos id) named)
@@ -253,7 +253,7 @@ abbrev of_function : OfFunction → BodyPart
 of_function = of_pair (λ pos. of_pair (function_part pos))
 
 abbrev declared_item : Pos → Item → BodyPart
-declared_item pos x = part_tree.Declared pos (decl_tree.Plain pos x)
+declared_item pos x = part_tree.Declared pos (decl_tree.OfItem pos x)
 
 abbrev of_item : Pos × Item → BodyPart
 of_item = of_pair declared_item
@@ -275,14 +275,14 @@ parts =
 abbrev GoodParts : Parts → Type 0
 GoodParts =
     Either (Both Any (Both Any GoodNamed)) (Either (Both Any (Both GoodFunction GoodBehind))
-    (λ x. GoodPlain 1 x.1 × StartsAt x.0 (item_marks 1 x.1)))
+    (λ x. GoodPlain 1 x.1 × StartsAt x.0 (item_spelling 1 x.1)))
 
-abbrev parts_marks : Parts → List Mark
-parts_marks =
-    of_either (joined procedure_marks (joined id_marks named_marks))
-    (of_either (joined function_marks (joined (function_parts_marks 2) behind_marks)) (λ x. item_marks 1 x.1))
+abbrev parts_spelling : Parts → List WeighedToken
+parts_spelling =
+    of_either (joined procedure_spelling (joined id_spelling named_spelling))
+    (of_either (joined function_spelling (joined (function_parts_spelling 2) behind_spelling)) (λ x. item_spelling 1 x.1))
 
-law_parts : Law parts GoodParts parts_marks decl_first [] false
+law_parts : Law parts GoodParts parts_spelling decl_first [] false
 law_parts =
     law_wider decl_first []
     (law_choose (of_word w.KwProcedure ∷ [])
@@ -294,17 +294,17 @@ law_parts =
 abbrev pub GoodPart : BodyPart → Type 0
 GoodPart x = BodyPartPlaced 1 x × BodyPartNamed x
 
-good_ending : (pos : Pos) (spec : Subspec) (mode : Option SparkMode) (x : Ending) → StartsAt pos (subspec_marks 1 spec) → SubspecPlaced spec
+good_ending : (pos : Pos) (spec : Subspec) (mode : Option SparkMode) (x : Ending) → StartsAt pos (subspec_spelling 1 spec) → SubspecPlaced spec
     → EachSome ModeNamed mode → GoodEnding x → GoodPart (make_ending pos spec mode x)
-unfolding BodyPartPlaced BodyPartNamed DeclPlaced DeclNamed subprogram_marks decl_marks
+unfolding BodyPartPlaced BodyPartNamed DeclPlaced DeclNamed subprogram_spelling decl_spelling
 good_ending pos spec mode (inl (is, x)) starts placed mode_named good =
     let body = good_body 1 pos spec mode is x starts placed mode_named good.1 in
-    ((place_of_whole (subspec_marks 1 spec) _ pos starts, body.0), body.1)
+    ((position_of_whole (subspec_spelling 1 spec) _ pos starts, body.0), body.1)
 good_ending pos spec mode (inr semicolon) starts placed mode_named good =
-    ((place_of_whole (subspec_marks 1 spec) _ pos starts, (starts, placed)), mode_named)
+    ((position_of_whole (subspec_spelling 1 spec) _ pos starts, (starts, placed)), mode_named)
 
 good_part : (x : Parts) → GoodParts x → GoodPart (make_part x)
-unfolding BodyPartPlaced BodyPartNamed DeclPlaced DeclNamed SubspecPlaced decl_marks item_marks subspec_marks ItemPlaced ItemNamed
+unfolding BodyPartPlaced BodyPartNamed DeclPlaced DeclNamed SubspecPlaced decl_spelling item_spelling subspec_spelling ItemPlaced ItemNamed
 good_part (inl (pos, (id, inl (is, inl x)))) good =
     let actuals = good.1.1.1 in ((refl, (refl, (actuals.1.0, actuals.1.1.1.0, actuals.1.1.1.1.0))), tt)
 good_part (inl (pos, (id, inl (is, inr x)))) good =
@@ -319,14 +319,14 @@ good_part (inr (inl (pos, (f, (mode, x))))) good =
     let front = good.1.0.1 in good_ending pos (make_function pos f) mode x refl (front.0, front.1.1) good.1.1.0 good.1.1.1
 good_part (inr (inr x)) good = ((good.1, (good.1, good.0.1.0)), good.0.1.1)
 
-spelled_ending : (pos : Pos) (spec : Subspec) (mode : Option SparkMode) (x : Ending) → body_part_marks 1 (make_ending pos spec mode x)
-    ≡ subspec_marks 1 spec ++ (spelling.optional mode_marks mode ++ ending_marks x)
-unfolding body_part_marks decl_marks subprogram_marks
+spelled_ending : (pos : Pos) (spec : Subspec) (mode : Option SparkMode) (x : Ending) → body_part_spelling 1 (make_ending pos spec mode x)
+    ≡ subspec_spelling 1 spec ++ (spelling.optional mode_spelling mode ++ ending_spelling x)
+unfolding body_part_spelling decl_spelling subprogram_spelling
 spelled_ending pos spec mode (inl x) = refl
 spelled_ending pos spec mode (inr semicolon) = refl
 
-spelled_part : (x : Parts) → body_part_marks 1 (make_part x) ≡ parts_marks x
-unfolding body_part_marks decl_marks item_marks subspec_marks
+spelled_part : (x : Parts) → body_part_spelling 1 (make_part x) ≡ parts_spelling x
+unfolding body_part_spelling decl_spelling item_spelling subspec_spelling
 spelled_part (inl (pos, (id, inl (is, inl x)))) = refl
 spelled_part (inl (pos, (id, inl (is, inr x)))) = spelled_ending pos (subspec_tree.Procedure pos id None) None (inl (is, x))
 spelled_part (inl (pos, (id, inr (inl (formals, (mode, x)))))) = spelled_ending pos (subspec_tree.Procedure pos id (Some formals)) mode x
@@ -347,7 +347,7 @@ same_declared at whole pos spec mode semicolon e there =
 onto_declared : (pos whole : Pos) (spec : Subspec) (mode : Option SparkMode) (semicolon : Pos)
     → GoodPart (part_tree.Declared pos (decl_tree.Subprogram whole spec mode semicolon))
     → Found (part_tree.Declared pos (decl_tree.Subprogram whole spec mode semicolon))
-unfolding BodyPartPlaced BodyPartNamed DeclPlaced DeclNamed SubspecPlaced decl_marks subspec_marks
+unfolding BodyPartPlaced BodyPartNamed DeclPlaced DeclNamed SubspecPlaced decl_spelling subspec_spelling
 onto_declared pos whole (subspec_tree.Procedure at id None) None semicolon good = (
   inl (at, (id, inr (inr (inr semicolon)))),
   (
@@ -384,9 +384,9 @@ same_body at whole pos spec mode is x e there =
     ap (λ p. part_tree.Completed at (make_body p spec mode is x)) e ∙ ap (λ p. part_tree.Completed p (make_body whole spec mode is x)) there
 
 onto_completed : (pos whole : Pos) (spec : Subspec) (mode : Option SparkMode) (is : Pos) (x : SubprogramParts)
-    → StartsAt pos (subprogram_marks 1 (make_body whole spec mode is x)) → StartsAt whole (subspec_marks 1 spec)
+    → StartsAt pos (subprogram_spelling 1 (make_body whole spec mode is x)) → StartsAt whole (subspec_spelling 1 spec)
     → SubspecPlaced spec → EachSome ModeNamed mode → GoodSubprogram 2 x → Found (part_tree.Completed pos (make_body whole spec mode is x))
-unfolding subprogram_marks subspec_marks SubspecPlaced
+unfolding subprogram_spelling subspec_spelling SubspecPlaced
 onto_completed pos whole (subspec_tree.Procedure at id None) None is x starts front placed mode_named good = (
   inl (at, (id, inl (is, inr x))),
   (
@@ -417,22 +417,22 @@ onto_completed pos whole (subspec_tree.Function at id formals return_word result
 )
 
 onto_part : (a : BodyPart) → GoodPart a → Found a
-unfolding BodyPartPlaced BodyPartNamed DeclPlaced DeclNamed decl_marks item_marks ItemPlaced ItemNamed
-onto_part (part_tree.Declared pos (decl_tree.Plain whole (item_tree.Instance at id is new generic left_paren first rest right_paren semicolon))) good =
+unfolding BodyPartPlaced BodyPartNamed DeclPlaced DeclNamed decl_spelling item_spelling ItemPlaced ItemNamed
+onto_part (part_tree.Declared pos (decl_tree.OfItem whole (item_tree.Instance at id is new generic left_paren first rest right_paren semicolon))) good =
     let x : InstanceParts = (new, (generic, (left_paren, (first, (rest, (right_paren, semicolon)))))) in
     let actuals = good.0.1.1 in (
       inl (at, (id, inl (is, inl x))),
       (
         (tt, (tt, (tt, (tt, (actuals.0, (tt, (actuals.1, (actuals.2, (tt, tt))))))))),
-        ap (λ p. part_tree.Declared at (decl_tree.Plain p (make_instance at id is x))) (some_same at whole good.0.1.0)
-            ∙ ap (λ p. part_tree.Declared p (decl_tree.Plain whole (make_instance at id is x))) (some_same at pos good.0.0),
+        ap (λ p. part_tree.Declared at (decl_tree.OfItem p (make_instance at id is x))) (some_same at whole good.0.1.0)
+            ∙ ap (λ p. part_tree.Declared p (decl_tree.OfItem whole (make_instance at id is x))) (some_same at pos good.0.0),
       ),
     )
-onto_part (part_tree.Declared pos (decl_tree.Plain whole a)) good = (
+onto_part (part_tree.Declared pos (decl_tree.OfItem whole a)) good = (
   inr (inr (pos, a)),
   (
     ((tt, (good.0.1.1, good.1)), good.0.0),
-    ap (λ p. part_tree.Declared pos (decl_tree.Plain p a)) (one_place pos whole (item_marks 1 a) good.0.0 good.0.1.0),
+    ap (λ p. part_tree.Declared pos (decl_tree.OfItem p a)) (one_position pos whole (item_spelling 1 a) good.0.0 good.0.1.0),
   ),
 )
 onto_part (part_tree.Declared pos (decl_tree.Subprogram whole spec mode semicolon)) good = onto_declared pos whole spec mode semicolon good
@@ -465,10 +465,10 @@ same_part =
     read_function = chain (word Apart w.KwFunction) (λ pos. chain (function_spec 2 pos) (λ spec. part_behind pos spec))
 
 -- decl | subbody
-pub law_body_part : Law body_part GoodPart (body_part_marks 1) decl_first [] false
+pub law_body_part : Law body_part GoodPart (body_part_spelling 1) decl_first [] false
 law_body_part =
-    law_same body_part (law_to make_part GoodPart (body_part_marks 1) law_parts good_part (λ x good. spelled_part x) onto_part) same_part
+    law_same body_part (law_to make_part GoodPart (body_part_spelling 1) law_parts good_part (λ x good. spelled_part x) onto_part) same_part
 
 -- {decl | subbody}
-pub law_body_parts : Law body_parts (Each GoodPart) (flat_map (body_part_marks 1)) decl_first decl_first true
+pub law_body_parts : Law body_parts (Each GoodPart) (flat_map (body_part_spelling 1)) decl_first decl_first true
 law_body_parts = law_each decl_first law_body_part refl refl

@@ -1,4 +1,5 @@
--- A part that is made in two steps, or made before what stands behind it is read, reads as its parts do.
+-- A part that is made in two steps, or made before what stands behind it is read, reads as its
+-- parts do.
 use Rattle.std.proofs.Common.{◌≡◌, refl, ap, ◌∙◌}
 use Rattle.token_reading.specs.Reading.{Outcome, Got, Fails, Reader, and_then, to, seq, chain}
 use Rattle.token_reading.proofs.Fronts.{Same, of_pair, chain_seq}

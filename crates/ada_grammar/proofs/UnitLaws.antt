@@ -5,7 +5,7 @@ use Rattle.spark_base.specs.declared.position.Pos.{Pos}
 use Rattle.ada_lexer.specs.declared.token.Reserved.TheVariants as w
 use Rattle.ada_lexer.specs.declared.token.Symbol.TheVariants as s
 use Rattle.token_reading.specs.declared.side.Side.TheVariants.{Apart}
-use Rattle.token_reading.specs.Marks.{Mark}
+use Rattle.token_reading.specs.Weights.{WeighedToken}
 use Rattle.token_reading.specs.Reading.{Reader, of_word, word, chain, to, seq, either, choose, here, Each}
 use Rattle.token_reading.proofs.Law.{Law}
 use Rattle.token_reading.proofs.Tokens.{Any, law_word, law_symbol, some_same}
@@ -13,7 +13,7 @@ use Rattle.token_reading.proofs.Seq.{Both, joined, law_seq}
 use Rattle.token_reading.proofs.Made.{law_to, law_wider, law_same, law_reworded}
 use Rattle.token_reading.proofs.Choice.{Either, of_either, cases, law_choose}
 use Rattle.token_reading.proofs.Many.{SomeEach, law_each, law_some_each}
-use Rattle.token_reading.proofs.Places.{law_placed}
+use Rattle.token_reading.proofs.Positions.{law_placed}
 use Rattle.token_reading.proofs.Fronts.{Same, of_pair, chain_seq, either_choice}
 use Rattle.ada_tree.specs.declared.identifier.Identifier.{Identifier}
 use Rattle.ada_tree.specs.declared.identifier.Dotted.{Dotted}
@@ -30,7 +30,7 @@ use Rattle.ada_tree.specs.declared.unit.Context.TheVariants as context_tree
 use Rattle.ada_tree.specs.declared.unit.SourceUnit.{SourceUnit}
 use Rattle.ada_tree.specs.declared.unit.SourceUnit.TheVariants as unit_tree
 use Rattle.ada_tree.specs.Spelling as spelling
-use Rattle.ada_tree.specs.Spelling.{dotted_marks, next_dotted_marks, use_marks, pragma_marks, mode_marks, formals_marks, subspec_marks, subprogram_marks, package_marks, package_body_marks, context_marks, unit_marks, source_marks}
+use Rattle.ada_tree.specs.Spelling.{dotted_spelling, next_dotted_spelling, use_spelling, pragma_spelling, mode_spelling, formals_spelling, subspec_spelling, subprogram_spelling, package_spelling, package_body_spelling, context_spelling, unit_spelling, source_spelling}
 use Rattle.ada_tree.specs.WellPlaced.{EachSome, StartsAt, DottedPlaced, NextDottedPlaced, UsePlaced, FormalsPlaced, SubspecPlaced, ContextPlaced, UnitPlaced}
 use Rattle.ada_tree.specs.FixedNames.{ModeNamed, PragmaNamed, ContextNamed, UnitNamed}
 use Rattle.ada_tree.specs.Refusals.{IsSource}
@@ -42,9 +42,9 @@ use Rattle.ada_grammar.proofs.ExpressionNames.{law_identifier, law_dotted}
 use Rattle.ada_grammar.proofs.ItemParts.{law_next_dotteds, law_use, law_pragma}
 use Rattle.ada_grammar.proofs.StatementParts.{each_both, both_each}
 use Rattle.ada_grammar.proofs.UnitFronts.{made_twice, chain_made}
-use Rattle.ada_grammar.proofs.UnitParts.{law_mode, law_optional_formals, GoodFunction, function_parts_marks, law_function_parts, GoodSubprogram, subprogram_parts_marks, law_subprogram_parts, parts_of_body, GoodBody, good_body, body_parts_good, body_front_good}
-use Rattle.ada_grammar.proofs.UnitDecls.{procedure_marks, function_marks, is_marks, semicolon_marks, id_marks}
-use Rattle.ada_grammar.proofs.UnitPackages.{GoodPackageParts, package_parts_marks, law_package_parts, good_package, parts_of_package, package_parts_good, GoodPackageBodyParts, package_body_parts_marks, law_package_body_parts, good_package_body, parts_of_package_body, package_body_parts_good}
+use Rattle.ada_grammar.proofs.UnitParts.{law_mode, law_optional_formals, GoodFunction, function_parts_spelling, law_function_parts, GoodSubprogram, subprogram_parts_spelling, law_subprogram_parts, parts_of_body, GoodBody, good_body, body_parts_good, body_front_good}
+use Rattle.ada_grammar.proofs.UnitDecls.{procedure_spelling, function_spelling, is_spelling, semicolon_spelling, id_spelling}
+use Rattle.ada_grammar.proofs.UnitPackages.{GoodPackageParts, package_parts_spelling, law_package_parts, good_package, parts_of_package, package_parts_good, GoodPackageBodyParts, package_body_parts_spelling, law_package_body_parts, good_package_body, parts_of_package_body, package_body_parts_good}
 
 -- ---- contexts
 
@@ -72,10 +72,10 @@ context_parts = choose (of_word w.KwWith ∷ []) with_parts (choose (of_word w.K
 abbrev GoodContextParts : ContextParts → Type 0
 GoodContextParts = Either (Both Any (Both DottedPlaced (Both (Each NextDottedPlaced) Any))) (Either UsePlaced PragmaNamed)
 
-abbrev context_parts_marks : ContextParts → List Mark
-context_parts_marks =
-    of_either (joined (λ p. spelling.word Apart w.KwWith p ∷ []) (joined (dotted_marks Apart) (joined (flat_map next_dotted_marks) semicolon_marks)))
-    (of_either use_marks (pragma_marks 0))
+abbrev context_parts_spelling : ContextParts → List WeighedToken
+context_parts_spelling =
+    of_either (joined (λ p. spelling.word Apart w.KwWith p ∷ []) (joined (dotted_spelling Apart) (joined (flat_map next_dotted_spelling) semicolon_spelling)))
+    (of_either use_spelling (pragma_spelling 0))
 
 abbrev GoodContext : Context → Type 0
 GoodContext x = ContextPlaced x × ContextNamed x
@@ -86,8 +86,8 @@ good_context (inl x) good = ((good.1.0, good.1.1.0), tt)
 good_context (inr (inl clause)) good = ((refl, good), tt)
 good_context (inr (inr clause)) good = (refl, good)
 
-spelled_context : (x : ContextParts) → context_marks (make_context x) ≡ context_parts_marks x
-unfolding context_marks
+spelled_context : (x : ContextParts) → context_spelling (make_context x) ≡ context_parts_spelling x
+unfolding context_spelling
 spelled_context (inl x) = refl
 spelled_context (inr (inl clause)) = refl
 spelled_context (inr (inr clause)) = refl
@@ -108,18 +108,18 @@ same_context =
     (λ k ts. refl) (λ k ts. refl))
 
 -- context = "with" dotted {"," dotted} ";" | usecl | pragma
-pub law_context : Law context GoodContext context_marks context_first [] false
+pub law_context : Law context GoodContext context_spelling context_first [] false
 law_context =
     law_wider context_first []
     (law_same context
-    (law_to make_context GoodContext context_marks
+    (law_to make_context GoodContext context_spelling
     (law_choose (of_word w.KwWith ∷ [])
     (law_seq (law_word Apart w.KwWith) (law_seq (law_dotted Apart) (law_seq law_next_dotteds (law_symbol Apart s.Semicolon) refl) refl) refl)
     (law_choose (of_word w.KwUse ∷ []) law_use (law_pragma 0) refl refl) refl refl)
     good_context (λ x good. spelled_context x) onto_context) same_context) refl refl
 
 -- {context}
-law_contexts : Law contexts (Each GoodContext) (flat_map context_marks) context_first context_first true
+law_contexts : Law contexts (Each GoodContext) (flat_map context_spelling) context_first context_first true
 law_contexts = law_each context_first law_context refl refl
 
 -- ---- subprograms that are units
@@ -163,35 +163,35 @@ abbrev GoodBodyParts : BodyParts → Type 0
 GoodBodyParts =
     Either (Both Any (Both (Both Any (EachSome FormalsPlaced)) GoodRest)) (Both Any (Both GoodFunction GoodRest))
 
-abbrev rest_marks : Rest → List Mark
-rest_marks = joined (spelling.optional mode_marks) (joined is_marks (subprogram_parts_marks 1))
+abbrev rest_spelling : Rest → List WeighedToken
+rest_spelling = joined (spelling.optional mode_spelling) (joined is_spelling (subprogram_parts_spelling 1))
 
-abbrev body_parts_marks : BodyParts → List Mark
-body_parts_marks =
-    of_either (joined procedure_marks (joined (joined id_marks (spelling.optional (formals_marks 1))) rest_marks))
-    (joined function_marks (joined (function_parts_marks 1) rest_marks))
+abbrev body_parts_spelling : BodyParts → List WeighedToken
+body_parts_spelling =
+    of_either (joined procedure_spelling (joined (joined id_spelling (spelling.optional (formals_spelling 1))) rest_spelling))
+    (joined function_spelling (joined (function_parts_spelling 1) rest_spelling))
 
-law_rest : Law rest GoodRest rest_marks (of_word w.KwWith ∷ of_word w.KwIs ∷ []) [] false
+law_rest : Law rest GoodRest rest_spelling (of_word w.KwWith ∷ of_word w.KwIs ∷ []) [] false
 law_rest =
     law_wider (of_word w.KwWith ∷ of_word w.KwIs ∷ []) []
     (law_seq law_mode (law_seq (law_word Apart w.KwIs) (law_subprogram_parts 1 (omega arith)) refl) refl) refl refl
 
 good_whole : (x : BodyParts) → GoodBodyParts x → GoodBody 0 (make_whole x)
-unfolding subspec_marks SubspecPlaced
+unfolding subspec_spelling SubspecPlaced
 good_whole (inl (pos, (f, (mode, (is, x))))) good =
     good_body 0 pos (make_procedure pos f) mode is x refl good.1.0.1 good.1.1.0 good.1.1.1.1
 good_whole (inr (pos, (f, (mode, (is, x))))) good =
     let front = good.1.0.1 in good_body 0 pos (make_function pos f) mode is x refl (front.0, front.1.1) good.1.1.0 good.1.1.1.1
 
-spelled_whole : (x : BodyParts) → subprogram_marks 0 (make_whole x) ≡ body_parts_marks x
-unfolding subprogram_marks subspec_marks
+spelled_whole : (x : BodyParts) → subprogram_spelling 0 (make_whole x) ≡ body_parts_spelling x
+unfolding subprogram_spelling subspec_spelling
 spelled_whole (inl x) = refl
 spelled_whole (inr x) = refl
 
-onto_fields : (pos : Pos) (spec : Subspec) (mode : Option SparkMode) (is : Pos) (x : SubprogramParts) → StartsAt pos (subspec_marks 0 spec)
+onto_fields : (pos : Pos) (spec : Subspec) (mode : Option SparkMode) (is : Pos) (x : SubprogramParts) → StartsAt pos (subspec_spelling 0 spec)
     → SubspecPlaced spec → EachSome ModeNamed mode → GoodSubprogram 1 x
     → (y : BodyParts) × (GoodBodyParts y × (make_whole y ≡ make_body pos spec mode is x))
-unfolding subspec_marks SubspecPlaced
+unfolding subspec_spelling SubspecPlaced
 onto_fields pos (subspec_tree.Procedure at id formals) mode is x starts placed named good = (
   inl (at, ((id, formals), (mode, (is, x)))),
   (
@@ -238,11 +238,11 @@ abbrev subprogram_first : List ℕ
 subprogram_first = of_word w.KwProcedure ∷ of_word w.KwFunction ∷ []
 
 -- subbody = subspec mode "is" {item} "begin" stmts "end" [id] ";", with no construct open around it
-pub law_subprogram_body : Law subprogram_body (GoodBody 0) (subprogram_marks 0) subprogram_first [] false
+pub law_subprogram_body : Law subprogram_body (GoodBody 0) (subprogram_spelling 0) subprogram_first [] false
 law_subprogram_body =
     law_wider subprogram_first []
     (law_same subprogram_body
-    (law_to make_whole (GoodBody 0) (subprogram_marks 0)
+    (law_to make_whole (GoodBody 0) (subprogram_spelling 0)
     (law_choose (of_word w.KwProcedure ∷ [])
     (law_seq (law_word Apart w.KwProcedure) (law_seq (law_seq (law_identifier Apart) (law_optional_formals 1) refl) law_rest refl) refl)
     (law_seq (law_word Apart w.KwFunction) (law_seq (law_function_parts 1) law_rest refl) refl) refl refl)
@@ -280,14 +280,14 @@ library = choose (of_word w.KwPackage ∷ []) (seq (word Apart w.KwPackage) pack
 abbrev GoodLibrary : Library → Type 0
 GoodLibrary = Either (Both Any (Either GoodPackageBodyParts GoodPackageParts)) (GoodBody 0)
 
-abbrev library_marks : Library → List Mark
-library_marks =
-    of_either (joined (λ p. spelling.word Apart w.KwPackage p ∷ []) (of_either package_body_parts_marks package_parts_marks)) (subprogram_marks 0)
+abbrev library_spelling : Library → List WeighedToken
+library_spelling =
+    of_either (joined (λ p. spelling.word Apart w.KwPackage p ∷ []) (of_either package_body_parts_spelling package_parts_spelling)) (subprogram_spelling 0)
 
 abbrev library_first : List ℕ
 library_first = of_word w.KwPackage ∷ subprogram_first
 
-law_library : Law library GoodLibrary library_marks library_first [] false
+law_library : Law library GoodLibrary library_spelling library_first [] false
 law_library =
     law_wider library_first []
     (law_choose (of_word w.KwPackage ∷ [])
@@ -297,17 +297,17 @@ law_library =
 abbrev Whole : Type 0
 Whole = Pos × (List Context × Library)
 
-abbrev whole_marks : Whole → List Mark
-whole_marks x = joined (flat_map context_marks) library_marks x.1
+abbrev whole_spelling : Whole → List WeighedToken
+whole_spelling x = joined (flat_map context_spelling) library_spelling x.1
 
 abbrev GoodWhole : Whole → Type 0
-GoodWhole x = Both (Each GoodContext) GoodLibrary x.1 × StartsAt x.0 (whole_marks x)
+GoodWhole x = Both (Each GoodContext) GoodLibrary x.1 × StartsAt x.0 (whole_spelling x)
 
 abbrev pub GoodUnit : SourceUnit → Type 0
 GoodUnit x = UnitPlaced x × UnitNamed x
 
 good_unit : (x : Whole) → GoodWhole x → GoodUnit (make_unit x)
-unfolding UnitPlaced UnitNamed package_marks package_body_marks
+unfolding UnitPlaced UnitNamed package_spelling package_body_spelling
 good_unit (pos, (clauses, inl (at, inl x))) good =
     let context = each_both ContextPlaced ContextNamed clauses good.0.0 in
     let body = good_package_body at x good.0.1.1 in ((good.1, context.0, body.0), (context.1, body.1))
@@ -317,14 +317,14 @@ good_unit (pos, (clauses, inl (at, inr x))) good =
 good_unit (pos, (clauses, inr body)) good =
     let context = each_both ContextPlaced ContextNamed clauses good.0.0 in ((good.1, context.0, good.0.1.0), (context.1, good.0.1.1))
 
-spelled_unit : (x : Whole) → unit_marks (make_unit x) ≡ whole_marks x
-unfolding unit_marks package_marks package_body_marks
+spelled_unit : (x : Whole) → unit_spelling (make_unit x) ≡ whole_spelling x
+unfolding unit_spelling package_spelling package_body_spelling
 spelled_unit (pos, (clauses, inl (at, inl x))) = refl
 spelled_unit (pos, (clauses, inl (at, inr x))) = refl
 spelled_unit (pos, (clauses, inr body)) = refl
 
 onto_unit : (a : SourceUnit) → GoodUnit a → (x : Whole) × (GoodWhole x × (make_unit x ≡ a))
-unfolding UnitPlaced UnitNamed package_marks package_body_marks
+unfolding UnitPlaced UnitNamed package_spelling package_body_spelling
 onto_unit (unit_tree.OfPackage pos clauses whole) good = (
   (pos, (clauses, inl (whole.pos, inr (parts_of_package whole)))),
   (((both_each ContextPlaced ContextNamed clauses (good.0.1, good.1.0), (tt, package_parts_good whole (good.0.2, good.1.1))), good.0.0), refl),
@@ -362,11 +362,11 @@ same_unit =
     (λ pos. chain_seq (make_library pos) contexts library (λ clauses. unit_behind pos clauses) (λ clauses. same_library pos clauses))
 
 -- unit = {context} (package | packbody | subbody)
-pub law_unit : Law unit GoodUnit unit_marks unit_first [] false
+pub law_unit : Law unit GoodUnit unit_spelling unit_first [] false
 law_unit =
     law_wider unit_first []
     (law_same unit
-    (law_to make_unit GoodUnit unit_marks (law_placed (law_seq law_contexts law_library refl) refl)
+    (law_to make_unit GoodUnit unit_spelling (law_placed (law_seq law_contexts law_library refl) refl)
     good_unit (λ x good. spelled_unit x) onto_unit) same_unit) refl refl
 
 -- ---- the units of a file
@@ -382,8 +382,8 @@ units_good [] good = absurd (let never : [] ≡ good.some.0 ∷ good.some.1 = go
 units_good (x ∷ xs) good = ((good.placed.0, good.named.0), both_each UnitPlaced UnitNamed xs (good.placed.1, good.named.1))
 
 -- unit {unit}
-pub law_source : Law source IsSource source_marks unit_first unit_first false
+pub law_source : Law source IsSource source_spelling unit_first unit_first false
 unfolding source
 law_source =
     law_wider unit_first unit_first
-    (law_reworded IsSource source_marks (law_some_each unit_first law_unit refl refl) source_good units_good (λ units good. refl)) refl refl
+    (law_reworded IsSource source_spelling (law_some_each unit_first law_unit refl refl) source_good units_good (λ units good. refl)) refl refl

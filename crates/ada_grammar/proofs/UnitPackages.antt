@@ -4,7 +4,7 @@ use Rattle.std.specs.List.{flat_map}
 use Rattle.spark_base.specs.declared.position.Pos.{Pos}
 use Rattle.ada_lexer.specs.declared.token.Reserved.TheVariants as w
 use Rattle.token_reading.specs.declared.side.Side.TheVariants.{Apart}
-use Rattle.token_reading.specs.Marks.{Mark}
+use Rattle.token_reading.specs.Weights.{WeighedToken}
 use Rattle.token_reading.specs.Reading.{of_word, of_ident, Each}
 use Rattle.token_reading.proofs.Law.{Law}
 use Rattle.token_reading.proofs.Tokens.{Any, law_word}
@@ -15,15 +15,15 @@ use Rattle.ada_tree.specs.declared.unit.PrivatePart.{PrivatePart}
 use Rattle.ada_tree.specs.declared.unit.Package.{Package}
 use Rattle.ada_tree.specs.declared.unit.PackageBody.{PackageBody}
 use Rattle.ada_tree.specs.Spelling as spelling
-use Rattle.ada_tree.specs.Spelling.{mode_marks, decl_marks, body_part_marks, private_marks, package_marks, package_body_marks}
+use Rattle.ada_tree.specs.Spelling.{mode_spelling, decl_spelling, body_part_spelling, private_spelling, package_spelling, package_body_spelling}
 use Rattle.ada_tree.specs.WellPlaced.{EachSome, DeclPlaced, BodyPartPlaced, PrivatePlaced, PackagePlaced, PackageBodyPlaced}
 use Rattle.ada_tree.specs.FixedNames.{ModeNamed, DeclNamed, BodyPartNamed, PrivateNamed, PackageNamed, PackageBodyNamed}
 use Rattle.ada_grammar.specs.Units.{make_private, private_part, decl_first, PackageParts, package_parts, make_package, PackageBodyParts, package_body_parts, make_package_body}
 use Rattle.ada_grammar.proofs.ExpressionNames.{law_identifier}
 use Rattle.ada_grammar.proofs.ItemParts.{law_optional_part}
 use Rattle.ada_grammar.proofs.StatementParts.{each_both, both_each}
-use Rattle.ada_grammar.proofs.UnitParts.{law_mode, GoodClosing, closing_marks, law_closing}
-use Rattle.ada_grammar.proofs.UnitDecls.{is_marks, id_marks, GoodDecl, law_decls}
+use Rattle.ada_grammar.proofs.UnitParts.{law_mode, GoodClosing, closing_spelling, law_closing}
+use Rattle.ada_grammar.proofs.UnitDecls.{is_spelling, id_spelling, GoodDecl, law_decls}
 use Rattle.ada_grammar.proofs.UnitBodies.{GoodPart, law_body_parts}
 
 some_both : {A : Type 0} (P Q : A → Type 0) (a : Option A) → EachSome (λ x. P x × Q x) a → EachSome P a × EachSome Q a
@@ -43,9 +43,9 @@ good_private : (x : Pos × List Decl) → Both Any (Each GoodDecl) x → GoodPri
 unfolding PrivatePlaced PrivateNamed
 good_private x good = each_both (DeclPlaced 1) DeclNamed x.1 good.1
 
-spelled_private : (x : Pos × List Decl) → private_marks 1 (make_private x)
-    ≡ joined (λ p. spelling.word Apart w.KwPrivate p ∷ []) (flat_map (decl_marks 1)) x
-unfolding private_marks
+spelled_private : (x : Pos × List Decl) → private_spelling 1 (make_private x)
+    ≡ joined (λ p. spelling.word Apart w.KwPrivate p ∷ []) (flat_map (decl_spelling 1)) x
+unfolding private_spelling
 spelled_private x = refl
 
 onto_private : (a : PrivatePart) → GoodPrivate a → (x : Pos × List Decl) × (Both Any (Each GoodDecl) x × (make_private x ≡ a))
@@ -53,11 +53,11 @@ unfolding PrivatePlaced PrivateNamed
 onto_private a good = ((a.pos, a.decls), ((tt, both_each (DeclPlaced 1) DeclNamed a.decls good), refl))
 
 -- "private" {decl}
-law_private_part : Law private_part GoodPrivate (private_marks 1) (of_word w.KwPrivate ∷ []) decl_first false
+law_private_part : Law private_part GoodPrivate (private_spelling 1) (of_word w.KwPrivate ∷ []) decl_first false
 unfolding private_part
 law_private_part =
     law_wider (of_word w.KwPrivate ∷ []) decl_first
-    (law_to make_private GoodPrivate (private_marks 1) (law_seq (law_word Apart w.KwPrivate) law_decls refl)
+    (law_to make_private GoodPrivate (private_spelling 1) (law_seq (law_word Apart w.KwPrivate) law_decls refl)
     good_private (λ x good. spelled_private x) onto_private) refl refl
 
 -- ---- packages, behind "package"
@@ -66,13 +66,13 @@ abbrev pub GoodPackageParts : PackageParts → Type 0
 GoodPackageParts =
     Both Any (Both (EachSome ModeNamed) (Both Any (Both (Each GoodDecl) (Both (EachSome GoodPrivate) GoodClosing))))
 
-abbrev pub package_parts_marks : PackageParts → List Mark
-package_parts_marks =
-    joined id_marks (joined (spelling.optional mode_marks) (joined is_marks (joined (flat_map (decl_marks 1))
-    (joined (spelling.optional (private_marks 1)) closing_marks))))
+abbrev pub package_parts_spelling : PackageParts → List WeighedToken
+package_parts_spelling =
+    joined id_spelling (joined (spelling.optional mode_spelling) (joined is_spelling (joined (flat_map (decl_spelling 1))
+    (joined (spelling.optional (private_spelling 1)) closing_spelling))))
 
 -- id mode "is" {decl} ["private" {decl}] "end" [id] ";"
-pub law_package_parts : Law package_parts GoodPackageParts package_parts_marks (of_ident ∷ []) [] false
+pub law_package_parts : Law package_parts GoodPackageParts package_parts_spelling (of_ident ∷ []) [] false
 law_package_parts =
     law_wider (of_ident ∷ []) []
     (law_seq (law_identifier Apart) (law_seq law_mode (law_seq (law_word Apart w.KwIs) (law_seq law_decls
@@ -112,13 +112,13 @@ package_parts_good a good = (
 abbrev pub GoodPackageBodyParts : PackageBodyParts → Type 0
 GoodPackageBodyParts = Both Any (Both Any (Both (EachSome ModeNamed) (Both Any (Both (Each GoodPart) GoodClosing))))
 
-abbrev pub package_body_parts_marks : PackageBodyParts → List Mark
-package_body_parts_marks =
-    joined (λ p. spelling.word Apart w.KwBody p ∷ []) (joined id_marks (joined (spelling.optional mode_marks) (joined is_marks
-    (joined (flat_map (body_part_marks 1)) closing_marks))))
+abbrev pub package_body_parts_spelling : PackageBodyParts → List WeighedToken
+package_body_parts_spelling =
+    joined (λ p. spelling.word Apart w.KwBody p ∷ []) (joined id_spelling (joined (spelling.optional mode_spelling) (joined is_spelling
+    (joined (flat_map (body_part_spelling 1)) closing_spelling))))
 
 -- "body" id mode "is" {decl | subbody} "end" [id] ";"
-pub law_package_body_parts : Law package_body_parts GoodPackageBodyParts package_body_parts_marks (of_word w.KwBody ∷ []) [] false
+pub law_package_body_parts : Law package_body_parts GoodPackageBodyParts package_body_parts_spelling (of_word w.KwBody ∷ []) [] false
 law_package_body_parts =
     law_wider (of_word w.KwBody ∷ []) []
     (law_seq (law_word Apart w.KwBody) (law_seq (law_identifier Apart) (law_seq law_mode (law_seq (law_word Apart w.KwIs)

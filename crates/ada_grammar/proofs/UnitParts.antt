@@ -1,4 +1,5 @@
--- The laws of what subprograms and packages are made of: modes, formals, fronts of subprograms, and what stands behind "is" and "end".
+-- The laws of what subprograms and packages are made of: modes, formals, fronts of subprograms, and
+-- what stands behind "is" and "end".
 use Rattle.std.proofs.Common.{◌≡◌, refl, sym, ap, ◌∙◌, ℕ, suc, ◌≤◌, true, false, List, [], ◌∷◌, Option, Some, None, ◌⊎◌, inl, inr}
 use Rattle.std.specs.List.{flat_map}
 use Rattle.spark_base.specs.declared.position.Pos.{Pos}
@@ -7,10 +8,10 @@ use Rattle.ada_lexer.specs.declared.token.Reserved.TheVariants as w
 use Rattle.ada_lexer.specs.declared.token.Symbol.TheVariants as s
 use Rattle.token_reading.specs.declared.side.Side.TheVariants.{Apart}
 use Rattle.token_reading.specs.Spelled.{Delimiter}
-use Rattle.token_reading.specs.Marks.{Mark, opens}
+use Rattle.token_reading.specs.Weights.{WeighedToken, opens}
 use Rattle.token_reading.specs.Reading.{of_word, of_symbol, of_ident, Each}
 use Rattle.token_reading.proofs.Law.{Law}
-use Rattle.token_reading.proofs.Tokens.{Any, some_place, some_same, law_word, law_symbol}
+use Rattle.token_reading.proofs.Tokens.{Any, some_position, some_same, law_word, law_symbol}
 use Rattle.token_reading.proofs.Seq.{Both, joined, law_seq}
 use Rattle.token_reading.proofs.Made.{law_to, law_wider, law_reworded}
 use Rattle.token_reading.proofs.Choice.{Either, of_either, law_choose}
@@ -28,7 +29,7 @@ use Rattle.ada_tree.specs.declared.subprogram.Formals.{Formals}
 use Rattle.ada_tree.specs.declared.subprogram.Subspec.{Subspec}
 use Rattle.ada_tree.specs.declared.unit.SubprogramBody.{SubprogramBody}
 use Rattle.ada_tree.specs.Spelling as spelling
-use Rattle.ada_tree.specs.Spelling.{id_mark, optional_word, optional_id, dotted_marks, next_identifier_marks, indication_marks, item_marks, stmts_marks, mode_on_marks, mode_marks, formal_marks, next_formal_marks, formals_marks, subspec_marks}
+use Rattle.ada_tree.specs.Spelling.{id_mark, optional_word, optional_id, dotted_spelling, next_identifier_spelling, indication_spelling, item_spelling, stmts_spelling, mode_on_spelling, mode_spelling, formal_spelling, next_formal_spelling, formals_spelling, subspec_spelling}
 use Rattle.ada_tree.specs.WellPlaced.{EachSome, StartsAt, DottedPlaced, IndicationPlaced, ItemPlaced, FormalPlaced, NextFormalPlaced, FormalsPlaced, SubspecPlaced, SubprogramPlaced}
 use Rattle.ada_tree.specs.FixedNames.{IsCalled, mode_name, on_name, ModeOnNamed, ModeNamed, ItemNamed, SubprogramNamed}
 use Rattle.ada_grammar.specs.Expressions.{dotted_last}
@@ -48,10 +49,10 @@ unfolding ModeOnNamed
 onto_mode_on a good = ((a.pos, a.on), ((tt, good), refl))
 
 -- "=>" On
-pub law_mode_on : Law mode_on ModeOnNamed mode_on_marks (of_symbol s.Arrow ∷ []) [] false
-unfolding mode_on mode_on_marks ModeOnNamed
+pub law_mode_on : Law mode_on ModeOnNamed mode_on_spelling (of_symbol s.Arrow ∷ []) [] false
+unfolding mode_on mode_on_spelling ModeOnNamed
 law_mode_on =
-    law_to make_mode_on ModeOnNamed mode_on_marks (law_seq (law_symbol Apart s.Arrow) (law_called on_name refl) refl)
+    law_to make_mode_on ModeOnNamed mode_on_spelling (law_seq (law_symbol Apart s.Arrow) (law_called on_name refl) refl)
     (λ x good. good.1) (λ x good. refl) onto_mode_on
 
 onto_mode : (a : SparkMode) → ModeNamed a
@@ -60,10 +61,10 @@ unfolding ModeNamed
 onto_mode a good = ((a.pos, (a.name, a.value)), ((tt, good), refl))
 
 -- "with" SPARK_Mode ["=>" On]
-pub law_spark_mode : Law spark_mode ModeNamed mode_marks (of_word w.KwWith ∷ []) (of_symbol s.Arrow ∷ []) false
-unfolding spark_mode mode_marks ModeNamed
+pub law_spark_mode : Law spark_mode ModeNamed mode_spelling (of_word w.KwWith ∷ []) (of_symbol s.Arrow ∷ []) false
+unfolding spark_mode mode_spelling ModeNamed
 law_spark_mode =
-    law_to make_mode ModeNamed mode_marks (law_seq (law_word Apart w.KwWith) (law_seq (law_called mode_name refl)
+    law_to make_mode ModeNamed mode_spelling (law_seq (law_word Apart w.KwWith) (law_seq (law_called mode_name refl)
     (law_optional_part (of_symbol s.Arrow ∷ []) law_mode_on refl) refl) refl)
     (λ x good. good.1) (λ x good. refl) onto_mode
 
@@ -71,7 +72,7 @@ abbrev pub mode_last : List ℕ
 mode_last = of_word w.KwWith ∷ of_symbol s.Arrow ∷ []
 
 -- mode = ["with" SPARK_Mode ["=>" On]]
-pub law_mode : Law mode (EachSome ModeNamed) (spelling.optional mode_marks) (of_word w.KwWith ∷ []) mode_last true
+pub law_mode : Law mode (EachSome ModeNamed) (spelling.optional mode_spelling) (of_word w.KwWith ∷ []) mode_last true
 unfolding mode
 law_mode = law_optional_part (of_word w.KwWith ∷ []) law_spark_mode refl
 
@@ -88,14 +89,14 @@ unfolding FormalPlaced
 good_formal (first, (rest, (colon, inl x))) good = (refl, good.1.1.1.1.1)
 good_formal (first, (rest, (colon, inr x))) good = (refl, good.1.1.1.1.1)
 
-abbrev formal_parts_marks : FormalParts → List Mark
-formal_parts_marks =
-    joined (λ id. id_mark Apart id ∷ []) (joined (flat_map next_identifier_marks) (joined (λ p. spelling.symbol Apart s.Colon p ∷ [])
-    (of_either (joined (λ p. spelling.word Apart w.KwAccess p ∷ []) (joined (optional_word w.KwConstant) (dotted_marks Apart)))
-    (joined (optional_word w.KwIn) (joined (optional_word w.KwOut) (dotted_marks Apart))))))
+abbrev formal_parts_spelling : FormalParts → List WeighedToken
+formal_parts_spelling =
+    joined (λ id. id_mark Apart id ∷ []) (joined (flat_map next_identifier_spelling) (joined (λ p. spelling.symbol Apart s.Colon p ∷ [])
+    (of_either (joined (λ p. spelling.word Apart w.KwAccess p ∷ []) (joined (optional_word w.KwConstant) (dotted_spelling Apart)))
+    (joined (optional_word w.KwIn) (joined (optional_word w.KwOut) (dotted_spelling Apart))))))
 
-spelled_formal : (x : FormalParts) → formal_marks (make_formal x) ≡ formal_parts_marks x
-unfolding formal_marks
+spelled_formal : (x : FormalParts) → formal_spelling (make_formal x) ≡ formal_parts_spelling x
+unfolding formal_spelling
 spelled_formal (first, (rest, (colon, inl x))) = refl
 spelled_formal (first, (rest, (colon, inr x))) = refl
 
@@ -117,11 +118,11 @@ onto_formal (formal_tree.Anonymous pos first rest colon access constant designat
 )
 
 -- formal = id {"," id} ":" (["in"] ["out"] mark | anon)
-pub law_formal : Law formal FormalPlaced formal_marks (of_ident ∷ []) dotted_last false
+pub law_formal : Law formal FormalPlaced formal_spelling (of_ident ∷ []) dotted_last false
 unfolding formal
 law_formal =
     law_wider (of_ident ∷ []) dotted_last
-    (law_to make_formal FormalPlaced formal_marks
+    (law_to make_formal FormalPlaced formal_spelling
     (law_seq (law_identifier Apart) (law_seq law_next_identifiers (law_seq (law_symbol Apart s.Colon)
     (law_choose (of_word w.KwAccess ∷ [])
     (law_seq (law_word Apart w.KwAccess) (law_seq (law_optional_word w.KwConstant) (law_dotted Apart) refl) refl)
@@ -133,10 +134,10 @@ unfolding NextFormalPlaced
 onto_next_formal (next_formal_tree.Semicolon pos declared) good = ((pos, declared), ((tt, good), refl))
 
 -- ";" formal
-pub law_next_formal : Law next_formal NextFormalPlaced next_formal_marks (of_symbol s.Semicolon ∷ []) dotted_last false
-unfolding next_formal next_formal_marks NextFormalPlaced
+pub law_next_formal : Law next_formal NextFormalPlaced next_formal_spelling (of_symbol s.Semicolon ∷ []) dotted_last false
+unfolding next_formal next_formal_spelling NextFormalPlaced
 law_next_formal =
-    law_to make_next_formal NextFormalPlaced next_formal_marks (law_seq (law_symbol Apart s.Semicolon) law_formal refl)
+    law_to make_next_formal NextFormalPlaced next_formal_spelling (law_seq (law_symbol Apart s.Semicolon) law_formal refl)
     (λ x good. good.1) (λ x good. refl) onto_next_formal
 
 abbrev FormalsParts : Type 0
@@ -149,10 +150,10 @@ good_formals : (x : FormalsParts) → GoodFormals x → FormalsPlaced (make_form
 unfolding FormalsPlaced
 good_formals x good = (good.1.0, good.1.1.0)
 
-spelled_formals : (d : ℕ) (x : FormalsParts) → formals_marks d (make_formals x)
-    ≡ joined (λ p. opens Apart d (Delimiter s.LeftParenthesis p) ∷ []) (joined formal_marks (joined (flat_map next_formal_marks)
+spelled_formals : (d : ℕ) (x : FormalsParts) → formals_spelling d (make_formals x)
+    ≡ joined (λ p. opens Apart d (Delimiter s.LeftParenthesis p) ∷ []) (joined formal_spelling (joined (flat_map next_formal_spelling)
     (λ p. spelling.symbol Apart s.RightParenthesis p ∷ []))) x
-unfolding formals_marks
+unfolding formals_spelling
 spelled_formals d x = refl
 
 onto_formals : (a : Formals) → FormalsPlaced a → (x : FormalsParts) × (GoodFormals x × (make_formals x ≡ a))
@@ -160,17 +161,17 @@ unfolding FormalsPlaced
 onto_formals a good = ((a.pos, (a.first, (a.rest, a.right_paren))), ((tt, (good.0, (good.1, tt))), refl))
 
 -- formals = "(" formal {";" formal} ")"
-pub law_formals : (d : ℕ) → Law (formals d) FormalsPlaced (formals_marks d) (of_symbol s.LeftParenthesis ∷ []) [] false
+pub law_formals : (d : ℕ) → Law (formals d) FormalsPlaced (formals_spelling d) (of_symbol s.LeftParenthesis ∷ []) [] false
 unfolding formals
 law_formals d =
-    law_to make_formals FormalsPlaced (formals_marks d)
-    (law_opened_symbol (law_formal.example, ([], some_place)) (law_formal.sample, (tt, tt)) Apart s.LeftParenthesis d
+    law_to make_formals FormalsPlaced (formals_spelling d)
+    (law_opened_symbol (law_formal.example, ([], some_position)) (law_formal.sample, (tt, tt)) Apart s.LeftParenthesis d
     (λ e. law_seq law_formal (law_seq (law_each (of_symbol s.Semicolon ∷ []) law_next_formal refl refl)
     (law_symbol Apart s.RightParenthesis) refl) refl))
     good_formals (λ x good. spelled_formals d x) onto_formals
 
 -- [formals]
-pub law_optional_formals : (d : ℕ) → Law (optional_formals d) (EachSome FormalsPlaced) (spelling.optional (formals_marks d))
+pub law_optional_formals : (d : ℕ) → Law (optional_formals d) (EachSome FormalsPlaced) (spelling.optional (formals_spelling d))
     (of_symbol s.LeftParenthesis ∷ []) (of_symbol s.LeftParenthesis ∷ []) true
 law_optional_formals d = law_optional_part (of_symbol s.LeftParenthesis ∷ []) (law_formals d) refl
 
@@ -179,13 +180,13 @@ law_optional_formals d = law_optional_part (of_symbol s.LeftParenthesis ∷ []) 
 abbrev pub GoodFunction : FunctionParts → Type 0
 GoodFunction = Both Any (Both (EachSome FormalsPlaced) (Both Any IndicationPlaced))
 
-abbrev pub function_parts_marks : ℕ → FunctionParts → List Mark
-function_parts_marks d =
-    joined (λ id. id_mark Apart id ∷ []) (joined (spelling.optional (formals_marks d)) (joined (λ p. spelling.word Apart w.KwReturn p ∷ [])
-    indication_marks))
+abbrev pub function_parts_spelling : ℕ → FunctionParts → List WeighedToken
+function_parts_spelling d =
+    joined (λ id. id_mark Apart id ∷ []) (joined (spelling.optional (formals_spelling d)) (joined (λ p. spelling.word Apart w.KwReturn p ∷ [])
+    indication_spelling))
 
 -- id [formals] "return" (mark | anon)
-pub law_function_parts : (d : ℕ) → Law (function_parts d) GoodFunction (function_parts_marks d) (of_ident ∷ []) dotted_last false
+pub law_function_parts : (d : ℕ) → Law (function_parts d) GoodFunction (function_parts_spelling d) (of_ident ∷ []) dotted_last false
 law_function_parts d =
     law_seq (law_identifier Apart) (law_seq (law_optional_formals d) (law_seq (law_word Apart w.KwReturn) law_indication refl) refl) refl
 
@@ -194,8 +195,8 @@ law_function_parts d =
 abbrev pub GoodClosing : Pos × (Option Identifier × Pos) → Type 0
 GoodClosing = Both Any (Both Any Any)
 
-abbrev pub closing_marks : Pos × (Option Identifier × Pos) → List Mark
-closing_marks = joined (λ p. spelling.word Apart w.KwEnd p ∷ []) (joined optional_id (λ p. spelling.symbol Apart s.Semicolon p ∷ []))
+abbrev pub closing_spelling : Pos × (Option Identifier × Pos) → List WeighedToken
+closing_spelling = joined (λ p. spelling.word Apart w.KwEnd p ∷ []) (joined optional_id (λ p. spelling.symbol Apart s.Semicolon p ∷ []))
 
 some_any : (a : Option Identifier) → EachSome Any a
 some_any None = tt
@@ -208,22 +209,22 @@ law_closing_name =
     (λ x good. tt) (λ x good. some_any x) (λ x good. refl)
 
 -- "end" [id] ";"
-pub law_closing : Law closing GoodClosing closing_marks (of_word w.KwEnd ∷ []) [] false
+pub law_closing : Law closing GoodClosing closing_spelling (of_word w.KwEnd ∷ []) [] false
 law_closing = law_seq (law_word Apart w.KwEnd) (law_seq law_closing_name (law_symbol Apart s.Semicolon) refl) refl
 
 abbrev pub GoodSubprogram : ℕ → SubprogramParts → Type 0
 GoodSubprogram d = Both (Each (GoodItem d)) (Both Any (Both (GoodStmts d) GoodClosing))
 
-abbrev pub subprogram_parts_marks : ℕ → SubprogramParts → List Mark
-subprogram_parts_marks d =
-    joined (flat_map (item_marks d)) (joined (λ p. spelling.word Apart w.KwBegin p ∷ []) (joined (stmts_marks d) closing_marks))
+abbrev pub subprogram_parts_spelling : ℕ → SubprogramParts → List WeighedToken
+subprogram_parts_spelling d =
+    joined (flat_map (item_spelling d)) (joined (λ p. spelling.word Apart w.KwBegin p ∷ []) (joined (stmts_spelling d) closing_spelling))
 
 abbrev pub subprogram_parts_first : List ℕ
 subprogram_parts_first = of_word w.KwBegin ∷ item_first
 
 -- {item} "begin" stmts "end" [id] ";"
 pub law_subprogram_parts : (d : ℕ) → d ≤ NESTING
-    → Law (subprogram_parts d) (GoodSubprogram d) (subprogram_parts_marks d) subprogram_parts_first [] false
+    → Law (subprogram_parts d) (GoodSubprogram d) (subprogram_parts_spelling d) subprogram_parts_first [] false
 law_subprogram_parts d within =
     law_wider subprogram_parts_first []
     (law_seq (law_items d within)
@@ -238,7 +239,7 @@ abbrev pub GoodBody : ℕ → SubprogramBody → Type 0
 GoodBody d body = SubprogramPlaced d body × SubprogramNamed body
 
 pub good_body : (d : ℕ) (pos : Pos) (spec : Subspec) (mode : Option SparkMode) (is : Pos) (x : SubprogramParts)
-    → StartsAt pos (subspec_marks d spec) → SubspecPlaced spec → EachSome ModeNamed mode → GoodSubprogram (suc d) x
+    → StartsAt pos (subspec_spelling d spec) → SubspecPlaced spec → EachSome ModeNamed mode → GoodSubprogram (suc d) x
     → GoodBody d (make_body pos spec mode is x)
 unfolding SubprogramPlaced SubprogramNamed
 good_body d pos spec given is x starts placed named good =
@@ -251,11 +252,11 @@ body_parts_good d body good =
     (both_each (ItemPlaced (suc d)) ItemNamed body.items (good.0.2, good.1.1), (tt, ((good.0.3, good.1.2), (tt, (tt, tt)))))
 
 pub body_front_good : (d : ℕ) (body : SubprogramBody) → GoodBody d body
-    → StartsAt body.pos (subspec_marks d body.spec) × (SubspecPlaced body.spec × EachSome ModeNamed body.mode)
+    → StartsAt body.pos (subspec_spelling d body.spec) × (SubspecPlaced body.spec × EachSome ModeNamed body.mode)
 unfolding SubprogramPlaced SubprogramNamed
 body_front_good d body good = (good.0.0, (good.0.1, good.1.0))
 
--- the first of the tokens stands at one place
-pub one_place : (p q : Pos) (ms : List Mark) → StartsAt p ms → StartsAt q ms → p ≡ q
-one_place p q [] at there = absurd at
-one_place p q (m ∷ ms) at there = some_same p q (sym at ∙ there)
+-- the first of the tokens stands at one position
+pub one_position : (p q : Pos) (ms : List WeighedToken) → StartsAt p ms → StartsAt q ms → p ≡ q
+one_position p q [] at there = absurd at
+one_position p q (m ∷ ms) at there = some_same p q (sym at ∙ there)

@@ -1,7 +1,7 @@
 -- The readers of names and expressions, in the order of the grammar (docs/LANGUAGE.md, "Grammar").
 --
--- `d` is how many constructs are open around the part, as in its spelling. A reader that ends in `_in` is over a reader of
--- the expressions that stand one construct further in.
+-- `d` is how many constructs are open around the part, as in its spelling. A reader that ends in
+-- `_in` is over a reader of the expressions that stand one construct further in.
 use Rattle.std.specs.Prelude.{ℕ, zero, suc, ◌-◌, List, [], ◌∷◌, Option, Some, None, ◌⊎◌, option_and_then}
 use Rattle.std.proofs.Common.{inl, inr}
 use Rattle.spark_base.specs.declared.position.Pos.{Pos}
@@ -55,11 +55,11 @@ use Rattle.ada_tree.specs.declared.expression.Suffix.TheVariants as of_suffix
 use Rattle.ada_tree.specs.Lone.{lone_name, sole_identifier}
 use Rattle.token_reading.specs.declared.side.Side.{Side}
 use Rattle.token_reading.specs.declared.side.Side.TheVariants.{Apart, Within}
-use Rattle.token_reading.specs.Reading.{Refused, Deep, Fails, Reader, PlacedText, of_word, of_symbol, of_ident, of_number, of_string, word, operator_word, symbol, opens_symbol, operator_symbol, ident, string, number, to, seq_on, seq, nothing, choose, optional, many, here}
+use Rattle.token_reading.specs.Reading.{Refused, OverLimit, Fails, Reader, PositionedText, of_word, of_symbol, of_ident, of_number, of_string, word, operator_word, symbol, opens_symbol, operator_symbol, ident, string, number, to, seq_on, seq, nothing, choose, optional, many, here}
 
 -- ---- identifiers, and names that are made of identifiers alone
 
-abbrev pub make_identifier : PlacedText → Identifier
+abbrev pub make_identifier : PositionedText → Identifier
 make_identifier x = record { pos = x.0; text = x.1 }
 
 -- id
@@ -70,7 +70,7 @@ abbrev pub identifier_first : List ℕ
 identifier_first = of_ident ∷ []
 
 abbrev pub make_next_part : Pos × Identifier → NextPart
-make_next_part x = next_part_of.Dot x.0 x.1
+make_next_part x = next_part_of.FurtherPart x.0 x.1
 
 -- "." id
 unfoldable pub next_part : Side → Reader NextPart
@@ -93,7 +93,7 @@ abbrev pub dotted_last : List ℕ
 dotted_last = of_symbol s.Dot ∷ []
 
 abbrev pub make_next_dotted : Pos × Dotted → NextDotted
-make_next_dotted x = next_dotted_of.Comma x.0 x.1
+make_next_dotted x = next_dotted_of.FurtherDotted x.0 x.1
 
 -- "," dotted
 unfoldable pub next_dotted : Reader NextDotted
@@ -131,7 +131,7 @@ arg_in side inner =
     to make_arg (seq_on (seq here inner) (λ x. optional (of_symbol s.Arrow ∷ []) (given_in side inner (lone_identifier x.1))))
 
 abbrev pub make_next_arg : Pos × Arg → NextArg
-make_next_arg x = of_next_arg.NextArgument x.0 x.1
+make_next_arg x = of_next_arg.FurtherArg x.0 x.1
 
 -- "," arg
 unfoldable pub next_arg_in : Side → Reader Expr → Reader NextArg
@@ -140,9 +140,14 @@ next_arg_in side inner = to make_next_arg (seq (symbol side s.Comma) (arg_in sid
 abbrev pub next_args_in : Side → Reader Expr → Reader (List NextArg)
 next_args_in side inner = many (of_symbol s.Comma ∷ []) (next_arg_in side inner)
 
+-- args ")", behind "("
+abbrev pub args_in : Side → Reader Expr → Reader (Arg × (List NextArg × Pos))
+args_in side inner = seq (arg_in side inner) (seq (next_args_in side inner) (symbol side s.RightParenthesis))
+
 -- ---- names
 
--- What a name goes on with: behind "." an identifier or "all", behind "'" an identifier or "range", or args.
+-- What may stand behind a name as its suffix: behind "." an identifier or "all", behind "'" an
+-- identifier or "range", or args.
 abbrev pub SuffixParts : Type 0
 SuffixParts = (Pos × (Pos ⊎ Identifier)) ⊎ ((Pos × (Pos ⊎ Identifier)) ⊎ (Pos × (Arg × (List NextArg × Pos))))
 
@@ -160,8 +165,7 @@ suffix_in side d inner =
     (choose (of_symbol s.Dot ∷ []) (seq (symbol side s.Dot) (choose (of_word w.KwAll ∷ []) (word side w.KwAll) (identifier side)))
     (choose (of_symbol s.Apostrophe ∷ [])
     (seq (symbol side s.Apostrophe) (choose (of_word w.KwRange ∷ []) (word side w.KwRange) (identifier side)))
-    (seq (opens_symbol side s.LeftParenthesis d)
-    (seq (arg_in side inner) (seq (next_args_in side inner) (symbol side s.RightParenthesis))))))
+    (seq (opens_symbol side s.LeftParenthesis d) (args_in side inner))))
 
 abbrev pub suffix_first : List ℕ
 suffix_first = of_symbol s.Dot ∷ of_symbol s.Apostrophe ∷ of_symbol s.LeftParenthesis ∷ []
@@ -199,14 +203,16 @@ make_parenthesized (left, inr (first, inl (comma, (second, (rest, right))))) =
     of_primary.Aggregated left (of_aggregate.Several left first comma second rest right)
 make_parenthesized (left, inr (first, inr right)) = make_single left right first
 
+-- "others" "=>" expr ")", behind "("
+abbrev pub others_in : Reader Expr → Reader (Pos × (Pos × (Expr × Pos)))
+others_in inner = seq (word Within w.KwOthers) (seq (symbol Within s.Arrow) (seq inner (symbol Within s.RightParenthesis)))
+
 -- "(" expr ")" | aggregate
 unfoldable pub parenthesized_in : ℕ → Reader Expr → Reader Primary
 parenthesized_in d inner =
     to make_parenthesized (seq (opens_symbol Within s.LeftParenthesis d)
-    (choose (of_word w.KwOthers ∷ [])
-    (seq (word Within w.KwOthers) (seq (symbol Within s.Arrow) (seq inner (symbol Within s.RightParenthesis))))
-    (seq (arg_in Within inner) (choose (of_symbol s.Comma ∷ [])
-    (seq (symbol Within s.Comma) (seq (arg_in Within inner) (seq (next_args_in Within inner) (symbol Within s.RightParenthesis))))
+    (choose (of_word w.KwOthers ∷ []) (others_in inner)
+    (seq (arg_in Within inner) (choose (of_symbol s.Comma ∷ []) (seq (symbol Within s.Comma) (args_in Within inner))
     (symbol Within s.RightParenthesis)))))
 
 abbrev pub AllocatorParts : Type 0
@@ -230,7 +236,7 @@ allocator_in d inner =
     (optional (of_symbol s.Apostrophe ∷ []) (seq (symbol Within s.Apostrophe) (parenthesized_in d inner)))))
 
 abbrev pub PrimaryParts : Type 0
-PrimaryParts = (Pos × ℕ) ⊎ (PlacedText ⊎ (Pos ⊎ (Primary ⊎ (Primary ⊎ (Pos × Name)))))
+PrimaryParts = (Pos × ℕ) ⊎ (PositionedText ⊎ (Pos ⊎ (Primary ⊎ (Primary ⊎ (Pos × Name)))))
 
 abbrev pub make_primary : PrimaryParts → Primary
 make_primary (inl x) = of_primary.Number x.0 x.1
@@ -240,7 +246,8 @@ make_primary (inr (inr (inr (inl part)))) = part
 make_primary (inr (inr (inr (inr (inl part))))) = part
 make_primary (inr (inr (inr (inr (inr x))))) = of_primary.Named x.0 x.1
 
--- primary = number | string | "null" | "new" mark ["'" (aggregate | "(" expr ")")] | "(" expr ")" | aggregate | name
+-- primary = number | string | "null" | "new" mark ["'" (aggregate | "(" expr ")")]
+--     | "(" expr ")" | aggregate | name
 unfoldable pub primary_in : ℕ → Reader Expr → Reader Primary
 primary_in d inner =
     to make_primary (choose (of_number ∷ []) number (choose (of_string ∷ []) string
@@ -318,7 +325,7 @@ relational_first =
 abbrev pub make_factor : (Pos × Primary) ⊎ ((Pos × Primary) ⊎ (Pos × Primary)) → Factor
 make_factor (inl x) = of_factor.Abs x.0 x.1
 make_factor (inr (inl x)) = of_factor.Not x.0 x.1
-make_factor (inr (inr x)) = of_factor.Plain x.0 x.1
+make_factor (inr (inr x)) = of_factor.LonePrimary x.0 x.1
 
 -- factor = "abs" primary | "not" primary | primary
 unfoldable pub factor_in : ℕ → Reader Expr → Reader Factor
@@ -330,7 +337,7 @@ abbrev pub factor_first : List ℕ
 factor_first = of_word w.KwAbs ∷ of_word w.KwNot ∷ primary_first
 
 abbrev pub make_next_factor : (MultiplyingOperator × Pos) × Factor → NextFactor
-make_next_factor ((operator, pos), x) = of_next_factor.Multiplied pos operator x
+make_next_factor ((operator, pos), x) = of_next_factor.FurtherFactor pos operator x
 
 -- ("*" | "/" | "mod" | "rem") factor
 unfoldable pub next_factor_in : ℕ → Reader Expr → Reader NextFactor
@@ -351,7 +358,7 @@ term_last =
     of_symbol s.Star ∷ of_symbol s.Slash ∷ of_word w.KwMod ∷ of_word w.KwRem ∷ name_last
 
 abbrev pub make_next_term : (AddingOperator × Pos) × Term → NextTerm
-make_next_term ((operator, pos), x) = of_next_term.Added pos operator x
+make_next_term ((operator, pos), x) = of_next_term.FurtherTerm pos operator x
 
 -- ("+" | "-" | "&") term
 unfoldable pub next_term_in : ℕ → Reader Expr → Reader NextTerm
@@ -380,7 +387,7 @@ abbrev pub sum_last : List ℕ
 sum_last = of_symbol s.Plus ∷ of_symbol s.Minus ∷ of_symbol s.Ampersand ∷ term_last
 
 abbrev pub make_rel : (Pos × Sum) × Option ((RelationalOperator × Pos) × Sum) → Rel
-make_rel ((pos, left), None) = of_rel.Sole pos left
+make_rel ((pos, left), None) = of_rel.LoneSum pos left
 make_rel ((pos, left), Some ((operator, at), right)) = of_rel.Compared pos left operator at right
 
 -- rel = sum [("=" | "/=" | "<" | "<=" | ">" | ">=") sum]
@@ -392,34 +399,35 @@ rel_last =
     of_symbol s.Equal ∷ of_symbol s.NotEqual ∷ of_symbol s.Less ∷ of_symbol s.LessEqual ∷ of_symbol s.Greater ∷ of_symbol s.GreaterEqual
     ∷ sum_last
 
-abbrev pub make_operand : Pos × Rel → Operand
-make_operand x = of_operand.Next x.0 x.1
+abbrev pub make_next_operand : Pos × Rel → Operand
+make_next_operand x = of_operand.FurtherOperand x.0 x.1
 
 -- ("and" | "or" | "xor") rel
-unfoldable pub operand_in : ℕ → Reader Expr → Reserved → Reader Operand
-operand_in d inner v = to make_operand (seq (operator_word v) (rel_in d inner))
+unfoldable pub next_operand_in : ℕ → Reader Expr → Reserved → Reader Operand
+next_operand_in d inner v = to make_next_operand (seq (operator_word v) (rel_in d inner))
 
-abbrev pub operands_in : ℕ → Reader Expr → Reserved → Reader (List Operand)
-operands_in d inner v = many (of_word v ∷ []) (operand_in d inner v)
+abbrev pub next_operands_in : ℕ → Reader Expr → Reserved → Reader (List Operand)
+next_operands_in d inner v = many (of_word v ∷ []) (next_operand_in d inner v)
 
-abbrev pub make_short_operand : Pos × (Pos × Rel) → ShortOperand
-make_short_operand (pos, (second_word, x)) = of_short_operand.NextShort pos second_word x
+abbrev pub make_next_short_operand : Pos × (Pos × Rel) → ShortOperand
+make_next_short_operand (pos, (second_word, x)) = of_short_operand.FurtherShortOperand pos second_word x
 
 -- ("and" "then" | "or" "else") rel
-unfoldable pub short_operand_in : ℕ → Reader Expr → Reserved → Reserved → Reader ShortOperand
-short_operand_in d inner v u = to make_short_operand (seq (operator_word v) (seq (word Within u) (rel_in d inner)))
+unfoldable pub next_short_operand_in : ℕ → Reader Expr → Reserved → Reserved → Reader ShortOperand
+next_short_operand_in d inner v u = to make_next_short_operand (seq (operator_word v) (seq (word Within u) (rel_in d inner)))
 
-abbrev pub short_operands_in : ℕ → Reader Expr → Reserved → Reserved → Reader (List ShortOperand)
-short_operands_in d inner v u = many (of_word v ∷ []) (short_operand_in d inner v u)
+abbrev pub next_short_operands_in : ℕ → Reader Expr → Reserved → Reserved → Reader (List ShortOperand)
+next_short_operands_in d inner v u = many (of_word v ∷ []) (next_short_operand_in d inner v u)
 
--- Behind a first "and" or "or": its second word and the operands of the short form, or the operands of the long one.
+-- Behind a first "and" or "or": its second word and the operands of the short form, or the operands
+-- of the long one.
 abbrev pub Chain : Type 0
 Chain = (Pos × (Rel × List ShortOperand)) ⊎ (Rel × List Operand)
 
 unfoldable pub chain_in : ℕ → Reader Expr → Reserved → Reserved → Reader Chain
 chain_in d inner v u =
-    choose (of_word u ∷ []) (seq (word Within u) (seq (rel_in d inner) (short_operands_in d inner v u)))
-    (seq (rel_in d inner) (operands_in d inner v))
+    choose (of_word u ∷ []) (seq (word Within u) (seq (rel_in d inner) (next_short_operands_in d inner v u)))
+    (seq (rel_in d inner) (next_operands_in d inner v))
 
 abbrev pub Behind : Type 0
 Behind = (Pos × Chain) ⊎ ((Pos × Chain) ⊎ ((Pos × (Rel × List Operand)) ⊎ Unit {0}))
@@ -430,15 +438,16 @@ make_expr ((pos, first), inl (and, inr (second, rest))) = of_expr.And pos first 
 make_expr ((pos, first), inr (inl (or, inl (other, (second, rest))))) = of_expr.OrElse pos first or other second rest
 make_expr ((pos, first), inr (inl (or, inr (second, rest)))) = of_expr.Or pos first or second rest
 make_expr ((pos, first), inr (inr (inl (xor, (second, rest))))) = of_expr.Xor pos first xor second rest
-make_expr ((pos, first), inr (inr (inr u))) = of_expr.Lone pos first
+make_expr ((pos, first), inr (inr (inr u))) = of_expr.LoneRelation pos first
 
--- expr = rel {"and" rel} | rel {"or" rel} | rel {"xor" rel} | rel {"and" "then" rel} | rel {"or" "else" rel}
+-- expr = rel {"and" rel} | rel {"or" rel} | rel {"xor" rel}
+--     | rel {"and" "then" rel} | rel {"or" "else" rel}
 unfoldable pub expr_in : ℕ → Reader Expr → Reader Expr
 expr_in d inner =
     to make_expr (seq (seq here (rel_in d inner))
     (choose (of_word w.KwAnd ∷ []) (seq (operator_word w.KwAnd) (chain_in d inner w.KwAnd w.KwThen))
     (choose (of_word w.KwOr ∷ []) (seq (operator_word w.KwOr) (chain_in d inner w.KwOr w.KwElse))
-    (choose (of_word w.KwXor ∷ []) (seq (operator_word w.KwXor) (seq (rel_in d inner) (operands_in d inner w.KwXor))) nothing))))
+    (choose (of_word w.KwXor ∷ []) (seq (operator_word w.KwXor) (seq (rel_in d inner) (next_operands_in d inner w.KwXor))) nothing))))
 
 -- The kinds of tokens that an expression begins with.
 abbrev pub expr_first : List ℕ
@@ -446,7 +455,7 @@ expr_first =
     of_symbol s.Plus ∷ of_symbol s.Minus ∷ of_word w.KwAbs ∷ of_word w.KwNot ∷ of_number ∷ of_string ∷ of_word w.KwNull ∷ of_word w.KwNew
     ∷ of_symbol s.LeftParenthesis ∷ of_ident ∷ []
 
--- The kinds of tokens that an expression may go on with.
+-- The kinds of tokens with which an expression may be continued.
 abbrev pub expr_last : List ℕ
 expr_last =
     of_word w.KwAnd ∷ of_word w.KwOr ∷ of_word w.KwXor ∷ of_symbol s.Equal ∷ of_symbol s.NotEqual ∷ of_symbol s.Less ∷ of_symbol s.LessEqual
@@ -462,10 +471,10 @@ arg_last = of_symbol s.Arrow ∷ expr_last
 abbrev pub levels : ℕ → ℕ
 levels d = NESTING - d
 
--- An expression around which `d` constructs are open, where it and what stands further in have so many levels. One that has no
--- level is not reached: what would open it is one construct too many.
+-- An expression around which `d` constructs are open, where it and what stands further in have so
+-- many levels. One that has no level is not reached: what would open it exceeds the limit.
 unfoldable pub expr_of : ℕ → ℕ → Reader Expr
-expr_of zero d = λ k ts. Fails Deep ts
+expr_of zero d = λ k ts. Fails OverLimit ts
 expr_of (suc left) d = expr_in d (expr_of left (suc d))
 
 -- An expression around which so many constructs are open.

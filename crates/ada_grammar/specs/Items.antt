@@ -1,7 +1,7 @@
 -- Readers of ranges, choices and items, and of what they are made of (docs/LANGUAGE.md, "Grammar").
 --
--- `d` is how many constructs are open around the part, as in the spelling. A reader that takes an identifier or a place
--- goes on behind what is read already, as the function does that has these.
+-- `d` is how many constructs are open around the part, as in the spelling. A reader that takes an
+-- identifier or a position continues what is read already, as the function does that has these.
 use Rattle.std.specs.Prelude.{ℕ, suc, List, [], ◌∷◌, Option, Some, None, Result, Ok, Err, ◌⊎◌}
 use Rattle.std.proofs.Common.{inl, inr}
 use Rattle.spark_base.specs.declared.position.Pos.{Pos}
@@ -41,7 +41,7 @@ use Rattle.ada_grammar.specs.Expressions.{refused, make_identifier, identifier, 
 
 -- "," id
 unfoldable pub next_identifier : Reader NextIdentifier
-next_identifier = to (λ x. next_identifier_tree.After x.0 x.1) (seq (symbol Apart s.Comma) (identifier Apart))
+next_identifier = to (λ x. next_identifier_tree.FurtherIdentifier x.0 x.1) (seq (symbol Apart s.Comma) (identifier Apart))
 
 -- {"," id}
 abbrev pub next_identifiers : Reader (List NextIdentifier)
@@ -143,8 +143,8 @@ component =
     (seq (dotted Apart) (symbol Apart s.Semicolon)))))
 
 -- {comp}
-abbrev pub components : Reader (List Component)
-components = many (of_ident ∷ []) component
+abbrev pub next_components : Reader (List Component)
+next_components = many (of_ident ∷ []) component
 
 abbrev pub make_use : Pos × (Option Pos × (Dotted × (List NextDotted × Pos))) → UseClause
 make_use x = record { pos = x.0; type_word = x.1.0; first = x.1.1.0; rest = x.1.1.1.0; semicolon = x.1.1.1.1 }
@@ -192,18 +192,31 @@ access_parts = seq (word Apart w.KwAccess) (seq (dotted Apart) (symbol Apart s.S
 abbrev pub make_access : Pos → Identifier → Pos → Pos × (Dotted × Pos) → Item
 make_access pos id is x = item_tree.AccessType pos id is x.0 x.1.0 x.1.1
 
+-- type = "type" id "is" "private" ";" | "type" id "is" "access" mark ";", behind "is"
+abbrev pub private_type : Pos → Identifier → Pos → Reader Item
+private_type pos id is = to (make_private pos id is) private_parts
+
+abbrev pub access_type : Pos → Identifier → Pos → Reader Item
+access_type pos id is = to (make_access pos id is) access_parts
+
 -- the range of an array type's index, one construct further in
 unfoldable pub index_range : ℕ → Reader Range
 index_range d = range (suc d)
 
+-- ")" "of" mark ";", behind the range of an array type's index
+abbrev pub ElementParts : Type 0
+ElementParts = Pos × (Pos × (Dotted × Pos))
+
+abbrev pub element_parts : Reader ElementParts
+element_parts = seq (symbol Apart s.RightParenthesis) (seq (word Apart w.KwOf) (seq (dotted Apart) (symbol Apart s.Semicolon)))
+
 abbrev pub ArrayParts : Type 0
-ArrayParts = Pos × (Pos × (Range × (Pos × (Pos × (Dotted × Pos)))))
+ArrayParts = Pos × (Pos × (Range × ElementParts))
 
 -- "array" "(" range ")" "of" mark ";"
 abbrev pub array_parts : ℕ → Reader ArrayParts
 array_parts d =
-    seq (word Apart w.KwArray) (seq (opens_symbol Apart s.LeftParenthesis d) (seq (index_range d)
-    (seq (symbol Apart s.RightParenthesis) (seq (word Apart w.KwOf) (seq (dotted Apart) (symbol Apart s.Semicolon))))))
+    seq (word Apart w.KwArray) (seq (opens_symbol Apart s.LeftParenthesis d) (seq (index_range d) element_parts))
 
 abbrev pub make_array : Pos → Identifier → Pos → ArrayParts → Item
 make_array pos id is x = item_tree.ArrayType pos id is x.0 x.1.0 x.1.1.0 x.1.1.1.0 x.1.1.1.1.0 x.1.1.1.1.1.0 x.1.1.1.1.1.1
@@ -218,7 +231,7 @@ RecordParts = Pos × (Component × (List Component × (Pos × (Pos × Pos))))
 -- "record" comp {comp} "end" "record" ";"
 abbrev pub record_parts : ℕ → Reader RecordParts
 record_parts d =
-    seq (opens_word w.KwRecord d) (seq component (seq components
+    seq (opens_word w.KwRecord d) (seq component (seq next_components
     (seq (word Apart w.KwEnd) (seq (word Apart w.KwRecord) (symbol Apart s.Semicolon)))))
 
 abbrev pub make_record : Pos → Identifier → Pos → RecordParts → Item
@@ -228,14 +241,20 @@ make_record pos id is x = item_tree.RecordType pos id is x.0 x.1.0 x.1.1.0 x.1.1
 unfoldable pub record_type : ℕ → Pos → Identifier → Pos → Reader Item
 record_type d pos id is = to (make_record pos id is) (record_parts d)
 
+-- id {"," id} ")" ";"
+abbrev pub LiteralParts : Type 0
+LiteralParts = Identifier × (List NextIdentifier × (Pos × Pos))
+
+abbrev pub literal_parts : Reader LiteralParts
+literal_parts =
+    seq (identifier Apart) (seq next_identifiers (seq (symbol Apart s.RightParenthesis) (symbol Apart s.Semicolon)))
+
 abbrev pub EnumerationParts : Type 0
-EnumerationParts = Pos × (Identifier × (List NextIdentifier × (Pos × Pos)))
+EnumerationParts = Pos × LiteralParts
 
 -- "(" id {"," id} ")" ";"
 abbrev pub enumeration_parts : ℕ → Reader EnumerationParts
-enumeration_parts d =
-    seq (opens_symbol Apart s.LeftParenthesis d) (seq (identifier Apart) (seq next_identifiers
-    (seq (symbol Apart s.RightParenthesis) (symbol Apart s.Semicolon))))
+enumeration_parts d = seq (opens_symbol Apart s.LeftParenthesis d) literal_parts
 
 abbrev pub make_enumeration : Pos → Identifier → Pos → EnumerationParts → Item
 make_enumeration pos id is x = item_tree.EnumerationType pos id is x.0 x.1.0 x.1.1.0 x.1.1.1.0 x.1.1.1.1
@@ -247,8 +266,8 @@ enumeration_type d pos id is = to (make_enumeration pos id is) (enumeration_part
 -- type = "type" id "is" .., behind "is"
 unfoldable pub defined_type : ℕ → Pos → Identifier → Pos → Reader Item
 defined_type d pos id is =
-    either (of_word w.KwPrivate ∷ []) (to (make_private pos id is) private_parts)
-    (either (of_word w.KwAccess ∷ []) (to (make_access pos id is) access_parts)
+    either (of_word w.KwPrivate ∷ []) (private_type pos id is)
+    (either (of_word w.KwAccess ∷ []) (access_type pos id is)
     (either (of_word w.KwArray ∷ []) (array_type d pos id is)
     (either (of_word w.KwRecord ∷ []) (record_type d pos id is) (enumeration_type d pos id is))))
 
@@ -261,8 +280,15 @@ type_item d =
 
 -- ---- subtypes, objects, instances
 
+-- ["range" expr ".." expr] ";"
+abbrev pub SubtypeEnd : Type 0
+SubtypeEnd = Option (Pos × (Expr × (Pos × Expr))) × Pos
+
+abbrev pub subtype_end : ℕ → Reader SubtypeEnd
+subtype_end d = seq (optional (of_word w.KwRange ∷ []) (constraint d)) (symbol Apart s.Semicolon)
+
 abbrev pub SubtypeParts : Type 0
-SubtypeParts = Pos × (Identifier × (Pos × (Dotted × (Option (Pos × (Expr × (Pos × Expr))) × Pos))))
+SubtypeParts = Pos × (Identifier × (Pos × (Dotted × SubtypeEnd)))
 
 abbrev pub make_subtype : SubtypeParts → Item
 make_subtype (pos, (id, (is, (mark, (None, semicolon))))) = item_tree.Subtype pos id is mark semicolon
@@ -272,19 +298,25 @@ make_subtype (pos, (id, (is, (mark, (Some x, semicolon))))) =
 -- subtype = "subtype" id "is" mark ["range" expr ".." expr] ";"
 unfoldable pub subtype_item : ℕ → Reader Item
 subtype_item d =
-    to make_subtype (seq (word Apart w.KwSubtype) (seq (identifier Apart) (seq (word Apart w.KwIs) (seq (dotted Apart)
-    (seq (optional (of_word w.KwRange ∷ []) (constraint d)) (symbol Apart s.Semicolon))))))
+    to make_subtype (seq (word Apart w.KwSubtype) (seq (identifier Apart) (seq (word Apart w.KwIs) (seq (dotted Apart) (subtype_end d)))))
 
 -- ":=" expr
 abbrev pub initial_value : ℕ → Reader (Pos × Expr)
 initial_value d = seq (symbol Apart s.Becomes) (expr d)
 
+-- [":=" expr] ";"
+abbrev pub ObjectEnd : Type 0
+ObjectEnd = Option (Pos × Expr) × Pos
+
+abbrev pub object_end : ℕ → Reader ObjectEnd
+object_end d = seq (optional (of_symbol s.Becomes ∷ []) (initial_value d)) (symbol Apart s.Semicolon)
+
 abbrev pub ObjectParts : Type 0
-ObjectParts = Indication × (Option (Pos × Expr) × Pos)
+ObjectParts = Indication × ObjectEnd
 
 -- (mark | anon) [":=" expr] ";"
 abbrev pub object_parts : ℕ → Reader ObjectParts
-object_parts d = seq indication (seq (optional (of_symbol s.Becomes ∷ []) (initial_value d)) (symbol Apart s.Semicolon))
+object_parts d = seq indication (object_end d)
 
 abbrev pub make_objects : Identifier → List NextIdentifier → Pos → Option Pos → ObjectParts → Item
 make_objects first rest colon constant (indicated, (None, semicolon)) =
@@ -303,7 +335,8 @@ number_parts d = seq (symbol Apart s.Becomes) (seq (expr d) (symbol Apart s.Semi
 abbrev pub make_numbers : Identifier → List NextIdentifier → Pos → Pos → Pos × (Expr × Pos) → Item
 make_numbers first rest colon constant x = item_tree.Numbers first.pos first rest colon constant x.0 x.1.0 x.1.1
 
--- object = id {"," id} ":" ["constant"] (mark | anon) [":=" expr] ";" | id {"," id} ":" "constant" ":=" expr ";"
+-- object = id {"," id} ":" ["constant"] (mark | anon) [":=" expr] ";"
+--     | id {"," id} ":" "constant" ":=" expr ";"
 unfoldable pub object_item : ℕ → Reader Item
 object_item d =
     chain (identifier Apart) (λ first. chain next_identifiers (λ rest. chain (symbol Apart s.Colon) (λ colon.
@@ -320,14 +353,21 @@ first_actual d = arg_at Apart (suc d)
 unfoldable pub next_actuals : ℕ → Reader (List NextArg)
 next_actuals d = next_args_at Apart (suc d)
 
+-- arg {"," arg} ")" ";"
+abbrev pub ActualParts : Type 0
+ActualParts = Arg × (List NextArg × (Pos × Pos))
+
+abbrev pub actual_parts : ℕ → Reader ActualParts
+actual_parts d =
+    seq (first_actual d) (seq (next_actuals d) (seq (symbol Apart s.RightParenthesis) (symbol Apart s.Semicolon)))
+
 abbrev pub InstanceParts : Type 0
-InstanceParts = Pos × (Dotted × (Pos × (Arg × (List NextArg × (Pos × Pos)))))
+InstanceParts = Pos × (Dotted × (Pos × ActualParts))
 
 -- "new" dotted "(" arg {"," arg} ")" ";"
 abbrev pub instance_parts : ℕ → Reader InstanceParts
 instance_parts d =
-    seq (word Apart w.KwNew) (seq (dotted Apart) (seq (opens_symbol Apart s.LeftParenthesis d) (seq (first_actual d)
-    (seq (next_actuals d) (seq (symbol Apart s.RightParenthesis) (symbol Apart s.Semicolon))))))
+    seq (word Apart w.KwNew) (seq (dotted Apart) (seq (opens_symbol Apart s.LeftParenthesis d) (actual_parts d)))
 
 abbrev pub make_instance : Pos → Identifier → Pos → InstanceParts → Item
 make_instance pos id is x =

@@ -3,3 +3,6 @@ pub mod Expressions
 pub mod Items
 pub mod Statements
 pub mod Units
+-- what laws of the spelling speak of
+pub mod Nesting
+pub mod Outermost

@@ -1,7 +1,8 @@
--- Readers of statements, in the order of the grammar (docs/LANGUAGE.md, "Grammar"). `d` is how many constructs are open around the part.
+-- Readers of statements, in the order of the grammar (docs/LANGUAGE.md, "Grammar"). `d` is how many
+-- constructs are open around the part.
 --
--- Statements contain statements. A form that does takes the reader of those one level further in, `inner`, which are read at suc d:
--- so only `stmts_of` is recursive, by the levels that are left.
+-- Statements contain statements. A form that does takes the reader of those one level further in,
+-- `inner`, which are read at suc d: so only `stmts_of` is recursive, by the levels that are left.
 use Rattle.std.specs.Prelude.{ℕ, zero, suc, List, [], ◌∷◌, Option, Some, None, ◌⊎◌}
 use Rattle.std.proofs.Common.{inl, inr}
 use Rattle.spark_base.specs.declared.position.Pos.{Pos}
@@ -24,7 +25,7 @@ use Rattle.ada_tree.specs.declared.statement.Elsif.TheVariants as of_elsif
 use Rattle.ada_tree.specs.declared.statement.When.{When}
 use Rattle.ada_tree.specs.declared.statement.When.TheVariants as of_when
 use Rattle.token_reading.specs.declared.side.Side.TheVariants.{Apart}
-use Rattle.token_reading.specs.Reading.{Reader, Fails, Deep, of_word, of_symbol, of_ident, word, symbol, opens_word, to, seq, choose, either, optional, many, placed}
+use Rattle.token_reading.specs.Reading.{Reader, Fails, OverLimit, of_word, of_symbol, of_ident, word, symbol, opens_word, to, seq, choose, either, optional, many, placed}
 use Rattle.ada_grammar.specs.Expressions.{levels, expr, name_at, identifier}
 use Rattle.ada_grammar.specs.Items.{range, choice, next_choices, items}
 
@@ -215,7 +216,7 @@ stmt_first =
     of_word w.KwNull ∷ of_word w.KwExit ∷ of_word w.KwReturn ∷ of_word w.KwIf ∷ of_word w.KwCase ∷ of_word w.KwLoop ∷ of_word w.KwWhile
     ∷ of_word w.KwFor ∷ of_word w.KwBegin ∷ of_word w.KwDeclare ∷ of_ident ∷ []
 
--- with what statements in a row go on
+-- the kinds of tokens with which statements in a row may be continued
 abbrev pub stmts_last : List ℕ
 stmts_last = stmt_first
 
@@ -248,7 +249,7 @@ stmts_in d inner = placed make_stmts (seq (stmt_in d inner) (next_stmts_in d inn
 
 -- where no level is left, nothing can be read within a statement
 abbrev pub no_stmts : Reader Stmts
-no_stmts k ts = Fails Deep ts
+no_stmts k ts = Fails OverLimit ts
 
 -- with so many levels left
 unfoldable pub stmts_of : ℕ → ℕ → Reader Stmts

@@ -1,8 +1,10 @@
--- Readers of subprograms, of the declarations of packages and of units (docs/LANGUAGE.md, "Grammar").
+-- Readers of subprograms, of the declarations of packages and of units (docs/LANGUAGE.md,
+-- "Grammar").
 --
--- Subprograms and packages stand with none or one construct open around them, so each depth is given here, and "procedure", "function" and
--- "package" never open one too many. A reader that takes a place, an identifier or a tree goes on behind what is read already,
--- as the function does that has these.
+-- Subprograms and packages stand with none or one construct open around them, so each depth is
+-- given here, and "procedure", "function" and "package" never exceed the limit. A reader that takes
+-- a position, an identifier or a tree continues what is read already, as the function does that has
+-- these.
 use Rattle.std.specs.Prelude.{ℕ, List, [], ◌∷◌, Option, Some, None, ◌⊎◌}
 use Rattle.std.proofs.Common.{inl, inr}
 use Rattle.spark_base.specs.declared.position.Pos.{Pos}
@@ -142,11 +144,14 @@ abbrev pub closing_name : Reader (Option Identifier)
 closing_name = optional (of_ident ∷ []) (identifier Apart)
 
 -- "end" [id] ";"
-abbrev pub closing : Reader (Pos × (Option Identifier × Pos))
+abbrev pub ClosingParts : Type 0
+ClosingParts = Pos × (Option Identifier × Pos)
+
+abbrev pub closing : Reader ClosingParts
 closing = seq (word Apart w.KwEnd) (seq closing_name semicolon)
 
 abbrev pub SubprogramParts : Type 0
-SubprogramParts = List Item × (Pos × (Stmts × (Pos × (Option Identifier × Pos))))
+SubprogramParts = List Item × (Pos × (Stmts × ClosingParts))
 
 -- {item} "begin" stmts "end" [id] ";"
 abbrev pub subprogram_parts : ℕ → Reader SubprogramParts
@@ -174,7 +179,7 @@ body_behind d pos spec mode is = to (make_body pos spec mode is) (subprogram_par
 
 -- decl = item, which is no instance
 unfoldable pub plain_decl : Reader Decl
-plain_decl = placed decl_tree.Plain (plain_item 1)
+plain_decl = placed decl_tree.OfItem (plain_item 1)
 
 abbrev pub make_declared : Pos → Subspec → Option SparkMode × Pos → Decl
 make_declared pos spec x = decl_tree.Subprogram pos spec x.0 x.1
@@ -185,7 +190,7 @@ decl_behind pos spec = to (make_declared pos spec) (seq mode semicolon)
 
 -- decl = instance, behind "is"
 unfoldable pub instance_decl : Pos → Identifier → Pos → Reader Decl
-instance_decl pos id is = to (decl_tree.Plain pos) (instance_of 1 pos id is)
+instance_decl pos id is = to (decl_tree.OfItem pos) (instance_of 1 pos id is)
 
 -- a decl that begins with "procedure", behind the identifier
 unfoldable pub named_decl : Pos → Identifier → Reader Decl
@@ -211,7 +216,7 @@ decls = many decl_first decl
 
 -- a part that is an item and no instance
 unfoldable pub plain_part : Reader BodyPart
-plain_part = placed (λ pos declared. part_tree.Declared pos (decl_tree.Plain pos declared)) (plain_item 1)
+plain_part = placed (λ pos declared. part_tree.Declared pos (decl_tree.OfItem pos declared)) (plain_item 1)
 
 -- a part that is a body, behind "is"
 unfoldable pub completed_part : Pos → Subspec → Option SparkMode → Pos → Reader BodyPart
@@ -269,14 +274,19 @@ private_part = to make_private (seq (word Apart w.KwPrivate) decls)
 abbrev pub optional_private : Reader (Option PrivatePart)
 optional_private = optional (of_word w.KwPrivate ∷ []) private_part
 
+-- {decl} ["private" {decl}] "end" [id] ";"
+abbrev pub DeclParts : Type 0
+DeclParts = List Decl × (Option PrivatePart × ClosingParts)
+
+abbrev pub decl_parts : Reader DeclParts
+decl_parts = seq decls (seq optional_private closing)
+
 abbrev pub PackageParts : Type 0
-PackageParts =
-    Identifier × (Option SparkMode × (Pos × (List Decl × (Option PrivatePart × (Pos × (Option Identifier × Pos))))))
+PackageParts = Identifier × (Option SparkMode × (Pos × DeclParts))
 
 -- id mode "is" {decl} ["private" {decl}] "end" [id] ";"
 abbrev pub package_parts : Reader PackageParts
-package_parts =
-    seq (identifier Apart) (seq mode (seq (word Apart w.KwIs) (seq decls (seq optional_private closing))))
+package_parts = seq (identifier Apart) (seq mode (seq (word Apart w.KwIs) decl_parts))
 
 abbrev pub make_package : Pos → PackageParts → Package
 make_package pos x = record {
@@ -295,14 +305,20 @@ make_package pos x = record {
 unfoldable pub package_behind : Pos → Reader Package
 package_behind pos = to (make_package pos) package_parts
 
+-- {decl | subbody} "end" [id] ";"
+abbrev pub PackageBodyEnd : Type 0
+PackageBodyEnd = List BodyPart × ClosingParts
+
+abbrev pub package_body_end : Reader PackageBodyEnd
+package_body_end = seq body_parts closing
+
 abbrev pub PackageBodyParts : Type 0
-PackageBodyParts =
-    Pos × (Identifier × (Option SparkMode × (Pos × (List BodyPart × (Pos × (Option Identifier × Pos))))))
+PackageBodyParts = Pos × (Identifier × (Option SparkMode × (Pos × PackageBodyEnd)))
 
 -- "body" id mode "is" {decl | subbody} "end" [id] ";"
 abbrev pub package_body_parts : Reader PackageBodyParts
 package_body_parts =
-    seq (word Apart w.KwBody) (seq (identifier Apart) (seq mode (seq (word Apart w.KwIs) (seq body_parts closing))))
+    seq (word Apart w.KwBody) (seq (identifier Apart) (seq mode (seq (word Apart w.KwIs) package_body_end)))
 
 abbrev pub make_package_body : Pos → PackageBodyParts → PackageBody
 make_package_body pos x = record {
@@ -344,7 +360,8 @@ context_first = of_word w.KwWith ∷ of_word w.KwUse ∷ of_word w.KwPragma ∷ 
 abbrev pub contexts : Reader (List Context)
 contexts = many context_first context
 
--- subbody = subspec mode "is" {item} "begin" stmts "end" [id] ";", behind the subspec, with no construct open around it
+-- subbody = subspec mode "is" {item} "begin" stmts "end" [id] ";", behind the subspec, with no
+-- construct open around it
 unfoldable pub subprogram_behind : Pos → Subspec → Reader SubprogramBody
 subprogram_behind pos spec = chain mode (λ mode. chain (word Apart w.KwIs) (λ is. body_behind 1 pos spec mode is))
 

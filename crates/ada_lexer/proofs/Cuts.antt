@@ -9,8 +9,8 @@ use Rattle.ada_lexer.specs.declared.piece.Fault.{Fault}
 use Rattle.ada_lexer.specs.declared.piece.Piece.TheVariants.{Gap, Lexeme, Broken}
 use Rattle.ada_lexer.specs.Characters.{Text}
 use Rattle.ada_lexer.specs.Pieces.{first_piece}
-use Rattle.ada_lexer.specs.Places.{behind, next_place}
-use Rattle.ada_lexer.specs.Tokens.{Cut, Outcome, cut_from, then_cut, refusal_at}
+use Rattle.ada_lexer.specs.Positions.{behind, next_position}
+use Rattle.ada_lexer.specs.Tokens.{Cut, CutResult, cut_from, then_cut, refusal_at}
 
 -- The bytes that are still to be passed may be passed at once.
 pub cut_from-passed : (left : ℕ) (pos : Pos) (room : ℕ) (text : Text)
@@ -18,16 +18,16 @@ pub cut_from-passed : (left : ℕ) (pos : Pos) (room : ℕ) (text : Text)
 unfolding behind
 cut_from-passed zero pos room text = refl
 cut_from-passed (suc left) pos room [] = refl
-cut_from-passed (suc left) pos room (b ∷ rest) = cut_from-passed left (next_place pos b) room rest
+cut_from-passed (suc left) pos room (b ∷ rest) = cut_from-passed left (next_position pos b) room rest
 
 -- The outcome behind a first piece of so many bytes.
 rest_from : (len : ℕ) (pos : Pos) (room : ℕ) (b : ℕ) (rest : Text) → 1 ≤ len
-    → cut_from (len - 1) (next_place pos b) room rest
+    → cut_from (len - 1) (next_position pos b) room rest
     ≡ cut_from 0 (behind pos (take len (b ∷ rest))) room (drop len (b ∷ rest))
 unfolding behind
 rest_from zero pos room b rest some = absurd (omega arith)
 rest_from (suc len) pos room b rest some =
-    let e : suc len - 1 ≡ len = omega arith in rw e (cut_from-passed len (next_place pos b) room rest)
+    let e : suc len - 1 ≡ len = omega arith in rw e (cut_from-passed len (next_position pos b) room rest)
 
 pub cut_from-gap : (len : ℕ) (pos : Pos) (room : ℕ) (text : Text) → first_piece text ≡ Gap len → 0 < length text → 1 ≤ len
     → cut_from 0 pos room text ≡ cut_from 0 (behind pos (take len text)) room (drop len text)
@@ -56,26 +56,26 @@ cut_from-broken fault before pos room [] is some = absurd (omega arith)
 cut_from-broken fault before pos room (b ∷ rest) is some = rw is refl
 
 -- The tokens found, and then those of an outcome; its fault stays.
-abbrev pub continued : List Cut → Outcome → Outcome
+abbrev pub continued : List Cut → CutResult → CutResult
 continued found (Ok tokens) = Ok (found ++ tokens)
 continued found (Err fault) = Err fault
 
-pub continued_push : (found : List Cut) (token : Cut) (outcome : Outcome)
+pub continued_push : (found : List Cut) (token : Cut) (outcome : CutResult)
     → continued (found ++ token ∷ []) outcome ≡ continued found (then_cut token outcome)
 continued_push found token (Ok tokens) = simp append_assoc
 continued_push found token (Err fault) = refl
 
-pub continued_none : (outcome : Outcome) → continued [] outcome ≡ outcome
+pub continued_none : (outcome : CutResult) → continued [] outcome ≡ outcome
 continued_none (Ok tokens) = refl
 continued_none (Err fault) = refl
 
 -- A fault of what comes behind the tokens found is the fault of the whole.
-pub continued_fault : (found : List Cut) (outcome whole : Outcome) (fault : LexRefusal)
+pub continued_fault : (found : List Cut) (outcome whole : CutResult) (fault : LexRefusal)
     → continued found outcome ≡ whole → outcome ≡ Err fault → whole ≡ Err fault
 continued_fault found outcome whole fault joins is = sym joins ∙ ap (continued found) is
 
 -- One turn over a separator or a comment.
-pub passes_gap : (found : List Cut) (len : ℕ) (pos : Pos) (room : ℕ) (text : Text) (whole : Outcome)
+pub passes_gap : (found : List Cut) (len : ℕ) (pos : Pos) (room : ℕ) (text : Text) (whole : CutResult)
     → first_piece text ≡ Gap len → 0 < length text → 1 ≤ len
     → continued found (cut_from 0 pos room text) ≡ whole
     → continued found (cut_from 0 (behind pos (take len text)) room (drop len text)) ≡ whole
@@ -83,7 +83,7 @@ passes_gap found len pos room text whole is some moves joins =
     ap (continued found) (sym (cut_from-gap len pos room text is some moves)) ∙ joins
 
 -- One turn over a token.
-pub passes_lexeme : (found : List Cut) (kind : TokenKind) (len : ℕ) (pos : Pos) (room : ℕ) (text : Text) (whole : Outcome)
+pub passes_lexeme : (found : List Cut) (kind : TokenKind) (len : ℕ) (pos : Pos) (room : ℕ) (text : Text) (whole : CutResult)
     → first_piece text ≡ Lexeme kind len → 0 < length text → 1 ≤ len → 0 < room
     → continued found (cut_from 0 pos room text) ≡ whole
     → continued (found ++ (record { kind = kind; text = take len text; pos = pos } ∷ []))

@@ -49,6 +49,7 @@ abbrev pub delimiter_by : Option Symbol → Option Symbol → Piece
 delimiter_by (Some symbol) alone = Lexeme (kind.Symbol symbol) 2
 delimiter_by None alone = single_piece alone
 
--- What stands at the front of a text whose first two bytes these are, where nothing else begins there.
+-- What stands at the front of a text whose first two bytes these are, where nothing else begins
+-- there.
 unfoldable pub delimiter : ℕ → ℕ → Piece
 delimiter b next = delimiter_by (compound b next) (single b)

@@ -1,4 +1,5 @@
--- what the public contract rests on: characters, what stands at the front of a text, places, the cut of a whole text
+-- what the public contract rests on: characters, what stands at the front of a text, positions, the
+-- cut of a whole text
 pub mod Characters
 pub mod ReservedWords
 pub mod Identifiers
@@ -6,7 +7,7 @@ pub mod Numbers
 pub mod Strings
 pub mod Delimiters
 pub mod Pieces
-pub mod Places
+pub mod Positions
 pub mod Tokens
 -- what the functions inside promise each other
 pub mod Promises

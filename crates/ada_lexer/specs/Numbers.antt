@@ -1,4 +1,5 @@
--- Decimal literals without a point and an exponent (docs/LANGUAGE.md, "Lexical elements"; Ada 2012, 2.4.1).
+-- Decimal literals without a point and an exponent (docs/LANGUAGE.md, "Lexical elements"; Ada 2012,
+-- 2.4.1).
 use Rattle.std.specs.Prelude.{ℕ, ◌+◌, ◌*◌, ◌-◌, Bool, ◌||◌, ◌&&◌, ◌==◌, nat_lt, if◌then◌else◌, take, drop, slice_index}
 use Rattle.std.specs.List.{prefix_len, fold}
 use Rattle.ada_lexer.specs.declared.token.TokenKind.TheVariants.{Number}

@@ -1,5 +1,5 @@
--- What stands at the front of a text that isn't empty: a separator or a comment, the longest token, or a fault
--- (docs/LANGUAGE.md, "Lexical elements"; Ada 2012, 2.2 and 2.7).
+-- What stands at the front of a text that isn't empty: a separator or a comment, the longest token,
+-- or a fault (docs/LANGUAGE.md, "Lexical elements"; Ada 2012, 2.2 and 2.7).
 use Rattle.std.specs.Prelude.{ℕ, ◌&&◌, ◌==◌, not, if◌then◌else◌, slice_index}
 use Rattle.std.specs.List.{prefix_len}
 use Rattle.ada_lexer.specs.declared.piece.Piece.{Piece}
@@ -10,7 +10,8 @@ use Rattle.ada_lexer.specs.Numbers.{number}
 use Rattle.ada_lexer.specs.Strings.{string}
 use Rattle.ada_lexer.specs.Delimiters.{delimiter}
 
--- A comment begins with two hyphens and goes up to the next line feed or the end; any byte may stand in it.
+-- A comment begins with two hyphens and goes up to the next line feed or the end; any byte may
+-- stand in it.
 abbrev pub comment_length : Text → ℕ
 comment_length text = prefix_len (λ b. not (b == line_feed)) text
 

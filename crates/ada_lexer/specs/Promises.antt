@@ -6,7 +6,8 @@ use Rattle.ada_lexer.specs.declared.piece.Piece.TheVariants.{Gap, Lexeme, Broken
 use Rattle.ada_lexer.specs.Characters.{Text}
 use Rattle.ada_lexer.specs.Numbers.{largest_number}
 
--- A piece takes a byte at least and lies within the text, as the byte that a fault names does. No piece is the end of the file.
+-- A piece takes a byte at least and lies within the text, as the byte that a fault names does. No
+-- piece is the end of the file.
 abbrev pub IsWithin : Text → Piece → Type 0
 IsWithin text (Gap len) = (1 ≤ len) × (len ≤ length text)
 IsWithin text (Lexeme kind len) = (1 ≤ len) × (len ≤ length text) × (kind ≢ EndOfFile)

@@ -6,7 +6,8 @@ use Rattle.ada_lexer.specs.declared.piece.Piece.{Piece}
 use Rattle.ada_lexer.specs.declared.piece.Piece.TheVariants.{Lexeme, Broken}
 use Rattle.ada_lexer.specs.Characters.{Text, is_graphic, quote, line_feed}
 
--- A string element begins with a graphic character but the quote, or with two quotes, which stand for one.
+-- A string element begins with a graphic character but the quote, or with two quotes, which stand
+-- for one.
 abbrev pub begins_element : ℕ → ℕ → Bool
 begins_element b next = if b == quote then next == quote else is_graphic b
 
@@ -18,7 +19,8 @@ elements_length true (b ∷ rest) = suc (elements_length false rest)
 elements_length false (b ∷ rest) =
     if begins_element b (slice_index rest 0) then suc (elements_length (b == quote) rest) else 0
 
--- What stands at the front of a text that begins with a quote, by the byte where the string elements stop.
+-- What stands at the front of a text that begins with a quote, by the byte where the string
+-- elements stop.
 unfoldable pub string : Text → Piece
 string text =
     let stop = 1 + elements_length false (drop 1 text) in

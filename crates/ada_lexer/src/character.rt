@@ -10,7 +10,8 @@ pub fn byte(text: &[u8], at: usize) -> u8
     if at < text.len() { text[at] } else { 0 }
 }
 
-/// Whether the byte is a blank, a tab, a line feed, a vertical tab, a form feed or a carriage return.
+/// Whether the byte is a blank, a tab, a line feed, a vertical tab, a form feed or a carriage
+/// return.
 pub fn is_separator(b: u8) -> bool
     ensures { result ≡ spec.is_separator b }
 {

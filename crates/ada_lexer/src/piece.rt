@@ -13,7 +13,7 @@ use crate::token::TokenKind;
 use crate::word::identifier;
 
 /// What is wrong with a piece of a text.
-#[derive(Clone, Copy, Debug, PartialEq, Eq)]
+#[derive(Clone, Copy)]
 pub enum Fault {
     /// A byte begins no token, or may not stand in a string.
     BadByte,
@@ -26,7 +26,7 @@ pub enum Fault {
 }
 
 /// The piece at the front of a text that isn't empty.
-#[derive(Clone, Copy, Debug, PartialEq, Eq)]
+#[derive(Clone, Copy)]
 pub enum Piece {
     /// A separator or a comment, and its length in bytes.
     Gap(usize),

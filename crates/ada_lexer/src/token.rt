@@ -3,7 +3,7 @@
 use spark_base::Pos;
 
 /// A reserved word (Ada 2012, 2.9). Letter case makes no difference.
-#[derive(Clone, Copy, Debug, PartialEq, Eq)]
+#[derive(Clone, Copy, PartialEq, Eq)]
 pub enum Reserved {
     /// `abort`
     KwAbort,
@@ -154,7 +154,7 @@ pub enum Reserved {
 }
 
 /// A delimiter, of one byte or of two (Ada 2012, 2.2).
-#[derive(Clone, Copy, Debug, PartialEq, Eq)]
+#[derive(Clone, Copy, PartialEq, Eq)]
 pub enum Symbol {
     /// `&`
     Ampersand,
@@ -202,17 +202,18 @@ pub enum Symbol {
     LessEqual,
 }
 
-/// What kind of token stands at a place.
-#[derive(Clone, Copy, Debug, PartialEq, Eq)]
+/// What kind of token stands at a position.
+#[derive(Clone, Copy, PartialEq, Eq)]
 pub enum TokenKind {
     /// A reserved word.
     Word(Reserved),
     /// An identifier (Ada 2012, 2.3). Letter case makes no difference; the token's text keeps it.
     Ident,
-    /// A decimal literal without a point and an exponent (Ada 2012, 2.4.1), with its value, at most 2147483648.
-    /// Underscores between digits don't change it.
+    /// A decimal literal without a point and an exponent (Ada 2012, 2.4.1), with its value, at most
+    /// 2147483648. Underscores between digits don't change it.
     Number(u32),
-    /// A string literal (Ada 2012, 2.6). The token's text has its quotes, and doubled ones as they stand.
+    /// A string literal (Ada 2012, 2.6). The token's text has its quotes, and doubled ones as they
+    /// stand.
     Str,
     /// A delimiter.
     Symbol(Symbol),
@@ -221,12 +222,12 @@ pub enum TokenKind {
 }
 
 /// A token, the slice of the source that it was cut from, and where its first byte stands.
-#[derive(Clone, Copy, Debug, PartialEq, Eq)]
+#[derive(Clone, Copy)]
 pub struct Token<'s> {
     /// What stands there.
     pub kind: TokenKind,
     /// The bytes of the token as they stand in the source; empty at the end of the file.
     pub text: &'s [u8],
-    /// The place of the first byte.
+    /// The position of the first byte.
     pub pos: Pos,
 }

@@ -3,22 +3,24 @@ use Rattle.std.proofs.Common.{◌≡◌, refl, sym, ap, ◌∙◌, subst, ℕ, s
 use Rattle.std.specs.Prelude.{map, Ok, Err, IfSome, if◌then◌else◌}
 use Rattle.std.specs.List.{slice_get}
 use Rattle.std.proofs.lemmas.List.{length-map, length-append}
+use Rattle.spark_base.specs.declared.position.Pos.{Pos}
 use Rattle.ada_lexer.specs.declared.token.Token.{Token}
 use Rattle.ada_lexer.specs.Tokens.{EndsOnce, kinds_of}
 use Rattle.token_reading.specs.declared.fault.ReadFault.{ReadFault}
 use Rattle.token_reading.specs.declared.fault.ReadFault.TheVariants as fault
 use Rattle.token_reading.specs.Spelled.{Spelled, told}
-use Rattle.token_reading.specs.Reading.{Ahead, Refused, Deep, Fails, Gives, whole_file}
-use Rattle.token_reading.specs.Sources.{AtFirst, IsFaulty, IsTooMany}
-use Rattle.token_reading.proofs.Theorem.{is_file, read_file, refused_file, deep_file}
+use Rattle.token_reading.specs.Reading.{Ahead, Refused, OverLimit, Fails, Gives, whole_file}
+use Rattle.token_reading.specs.Sources.{AtFirst, IsFaulty, IsOverLimit}
+use Rattle.token_reading.proofs.Theorem.{is_file, read_file, refused_file, over_limit_file}
 use Rattle.ada_tree.specs.declared.unit.SourceUnit.{SourceUnit}
-use Rattle.ada_tree.specs.Refusals.{IsSource, IsTreeOf, is_left_out}
-use Rattle.ada_tree.specs.Spelling.{source_marks}
+use Rattle.ada_tree.specs.Refusals.{IsSource, IsTreeOf, Code, Syntax, TooDeep, LeftOut, is_left_out}
+use Rattle.ada_tree.specs.Spelling.{source_spelling}
 use Rattle.ada_grammar.specs.Units.{source}
 use Rattle.ada_grammar.proofs.UnitLaws.{law_source}
+use Rattle.ada_grammar.proofs.OneRefused.{one_refused_of, tree_not_refused_of}
 use Rattle.ada_parser.specs.declared.refusal.ParseRefusal.{ParseRefusal}
 use Rattle.ada_parser.specs.declared.refusal.ParseRefusal.TheVariants as refusal
-use Rattle.ada_parser.specs.Refused.{IsRefusal}
+use Rattle.ada_parser.specs.Refused.{IsRefusal, RefusedAt, refusal_as}
 use Rattle.ada_parser.specs.Refusing.{StandsAtToken, TellsOf, first_left, refusal_at}
 
 -- ---- a split of what tokens are to the grammar is one of the tokens
@@ -100,29 +102,29 @@ located fact tokens rest first =
 -- ---- what each fault of reading the tokens as a whole file tells
 
 faulty : (tokens : List Token) → EndsOnce (kinds_of tokens) → (rest : List Spelled)
-    → whole_file source 0 (map told tokens) ≡ Fails Refused rest → Located (IsFaulty IsSource source_marks) tokens (length rest)
+    → whole_file source 0 (map told tokens) ≡ Fails Refused rest → Located (IsFaulty IsSource source_spelling) tokens (length rest)
 faulty tokens once rest e =
-    located (IsFaulty IsSource source_marks) tokens rest (refused_file law_source refl (map told tokens) rest (is_file tokens once) e)
+    located (IsFaulty IsSource source_spelling) tokens rest (refused_file law_source refl (map told tokens) rest (is_file tokens once) e)
 
-too_many : (tokens : List Token) (rest : List Spelled) → whole_file source 0 (map told tokens) ≡ Fails Deep rest
-    → Located (IsTooMany IsSource source_marks) tokens (length rest)
+too_many : (tokens : List Token) (rest : List Spelled) → whole_file source 0 (map told tokens) ≡ Fails OverLimit rest
+    → Located (IsOverLimit IsSource source_spelling) tokens (length rest)
 too_many tokens rest e =
-    located (IsTooMany IsSource source_marks) tokens rest (deep_file law_source refl (map told tokens) rest e)
+    located (IsOverLimit IsSource source_spelling) tokens rest (over_limit_file law_source refl (map told tokens) rest e)
 
 pub stands : (tokens : List Token) → EndsOnce (kinds_of tokens) → (cause : ReadFault) (new : Ahead)
     → Gives (whole_file source 0 (map told tokens)) (Err cause) new → StandsAtToken tokens (length new.tokens) cause
 stands tokens once fault.Refused new e = let at = faulty tokens once new.tokens e in (at.some, at.within)
-stands tokens once fault.Deep new e = let at = too_many tokens new.tokens e in (at.some, at.within)
+stands tokens once fault.OverLimit new e = let at = too_many tokens new.tokens e in (at.some, at.within)
 stands tokens once fault.Memory new e = tt
 
-by_code : (tokens : List Token) {left : ℕ} (at : Located (IsFaulty IsSource source_marks) tokens left) (out : Bool)
+by_code : (tokens : List Token) {left : ℕ} (at : Located (IsFaulty IsSource source_spelling) tokens left) (out : Bool)
     → is_left_out (told at.token) ≡ out → IsRefusal tokens (if out then refusal.LeftOut at.token.pos else refusal.Syntax at.token.pos)
 by_code tokens at true e = record {
   before = at.before;
   token = at.token;
   behind = at.behind;
   splits = at.splits;
-  place = refl;
+  position = refl;
   refused = (at.holds, e);
 }
 by_code tokens at false e = record {
@@ -130,7 +132,7 @@ by_code tokens at false e = record {
   token = at.token;
   behind = at.behind;
   splits = at.splits;
-  place = refl;
+  position = refl;
   refused = (at.holds, e);
 }
 
@@ -146,7 +148,7 @@ refused tokens once fault.Refused new e found tells =
     let at = faulty tokens once new.tokens e in
     let is = told_of tokens (length new.tokens) at.token (λ t. found ≡ refusal_at t) at.is_first tells in
     subst (IsRefusal tokens) (sym is) (by_code tokens at (is_left_out (told at.token)) refl)
-refused tokens once fault.Deep new e found tells =
+refused tokens once fault.OverLimit new e found tells =
     let at = too_many tokens new.tokens e in
     let is = told_of tokens (length new.tokens) at.token (λ t. found ≡ refusal.TooDeep t.pos) at.is_first tells in
     subst (IsRefusal tokens) (sym is) (record {
@@ -154,7 +156,7 @@ refused tokens once fault.Deep new e found tells =
       token = at.token;
       behind = at.behind;
       splits = at.splits;
-      place = refl;
+      position = refl;
       refused = at.holds;
     })
 refused tokens once fault.Memory new e found tells = subst (IsRefusal tokens) (sym tells) tt
@@ -164,3 +166,24 @@ pub found : (tokens : List Token) → EndsOnce (kinds_of tokens) → (units : Li
     → Gives (whole_file source 0 (map told tokens)) (Ok units) new → IsTreeOf (map told tokens) units
 found tokens once units new e =
     (read_file law_source refl (map told tokens) units new.operators new.tokens (is_file tokens once) e).0
+
+-- ---- what is refused is refused at one token, with one code
+
+pub none_refused : (tokens : List Token) (units : List SourceUnit) → IsTreeOf (map told tokens) units → (code : Code) (at : Pos)
+    → RefusedAt code tokens at → ⊥
+none_refused tokens units is code at r = tree_not_refused_of told tokens units code r.before r.token r.behind is r.splits r.refused
+
+refused_once : (tokens : List Token) (code : Code) (at : Pos) (code2 : Code) (at2 : Pos) → RefusedAt code tokens at → RefusedAt code2 tokens at2
+    → refusal_as code at ≡ refusal_as code2 at2
+refused_once tokens code at code2 at2 one two =
+    let is = one_refused_of told code one.before one.token one.behind code2 two.before two.token two.behind (sym one.splits ∙ two.splits)
+    one.refused two.refused in
+    ap (λ c. refusal_as c at) is.0
+    ∙ ap (refusal_as code2) (sym one.position ∙ ap (λ (t : Token). t.pos) is.1 ∙ two.position)
+
+pub only_refusal : (tokens : List Token) (found : ParseRefusal) → IsRefusal tokens found → (found ≡ refusal.Memory → ⊥) → (code : Code) (at : Pos)
+    → RefusedAt code tokens at → found ≡ refusal_as code at
+only_refusal tokens (refusal.Syntax pos) is memory code at r = refused_once tokens Syntax pos code at is r
+only_refusal tokens (refusal.TooDeep pos) is memory code at r = refused_once tokens TooDeep pos code at is r
+only_refusal tokens (refusal.LeftOut pos) is memory code at r = refused_once tokens LeftOut pos code at is r
+only_refusal tokens refusal.Memory is memory code at r = absurd (memory refl)

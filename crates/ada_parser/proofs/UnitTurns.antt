@@ -30,7 +30,7 @@ module _ {A : Type 0} (ms : List ℕ) (p : Reader A) where
 
   pub some_breaks : (cause : ReadFault) (old new : Ahead) → Gives (at p old) (Err cause) new → Gives (at (some ms p) old) (Err cause) new
   some_breaks fault.Refused old new e = ap made e
-  some_breaks fault.Deep old new e = ap made e
+  some_breaks fault.OverLimit old new e = ap made e
   some_breaks fault.Memory old new e = tt
 
 -- ---- each element of a list takes a token, so that a loop over them ends

@@ -2,3 +2,4 @@
 pub mod Refused
 -- what the functions inside promise each other
 pub mod Refusing
+pub mod Parts

@@ -2,14 +2,16 @@
 ghost use Rattle.std.specs.Prelude.{◌≡◌};
 ghost use Rattle.token_reading.specs.Reading.{Reads, starts};
 ghost use Rattle.ada_grammar.specs.Units as readers;
+ghost use Rattle.expression_parser.specs.Parts.{ReadsAs};
+ghost use Rattle.ada_parser.specs.Parts.{body_end_parts, decl_parts};
 
+use crate::parts::{BodyParts, Decls};
 use crate::subprogram::{
-    body_behind, closing_name, formals, function_spec, mode, optional_formals, procedure,
-    spark_mode,
+    body_behind, closing, formals, function_spec, mode, optional_formals, procedure, spark_mode,
 };
 use ada_lexer::{Reserved, Symbol};
 use ada_tree::{BodyPart, Decl, Identifier, Package, PackageBody, PrivatePart, SparkMode, Subspec};
-use expression_parser::identifier;
+use expression_parser::{boxed, identifier};
 use spark_base::{Boxed, Listed, Pos};
 use statement_parser::{instance_of, plain_item};
 use std::alloc::Global;
@@ -20,9 +22,9 @@ use token_reading::{Cursor, Kind, ReadFault, Side};
 fn plain_decl(alloc: Global, tokens: &mut Cursor<'_, '_>) -> Result<Decl, ReadFault>
     ensures { Reads readers.plain_decl tokens.old result tokens.new }
 {
-    let pos = tokens.place()?;
-    let item = Boxed::new(alloc, plain_item(alloc, tokens, 1)?)?;
-    Ok(Decl::Plain { pos, item })
+    let pos = tokens.position()?;
+    let item = boxed(alloc, plain_item(alloc, tokens, 1))?;
+    Ok(Decl::OfItem { pos, item })
 }
 
 /// decl = subspec mode `;`, behind the subspec (Ada 2012, 6.1).
@@ -56,8 +58,8 @@ fn instance_decl(
 ) -> Result<Decl, ReadFault>
     ensures { Reads (readers.instance_decl pos name is) tokens.old result tokens.new }
 {
-    let item = Boxed::new(alloc, instance_of(alloc, tokens, 1, pos, name, is)?)?;
-    Ok(Decl::Plain { pos, item })
+    let item = boxed(alloc, instance_of(alloc, tokens, 1, pos, name, is))?;
+    Ok(Decl::OfItem { pos, item })
 }
 
 /// A decl that begins with `procedure`, behind the identifier.
@@ -72,11 +74,11 @@ fn named_decl(
 {
     if tokens.sees_word(Reserved::KwIs) {
         let is = tokens.word(Side::Apart, Reserved::KwIs)?;
-        return Ok(instance_decl(alloc, tokens, pos, name, is)?);
+        return instance_decl(alloc, tokens, pos, name, is);
     }
     let formals = optional_formals(alloc, tokens, 2)?;
     let spec = procedure(alloc, pos, name, formals)?;
-    Ok(decl_behind(alloc, tokens, pos, spec)?)
+    decl_behind(alloc, tokens, pos, spec)
 }
 
 /// decl = item | subspec mode `;` (Ada 2012, 3.1).
@@ -87,14 +89,14 @@ fn decl(alloc: Global, tokens: &mut Cursor<'_, '_>) -> Result<Decl, ReadFault>
     if tokens.sees_word(Reserved::KwProcedure) {
         let pos = tokens.word(Side::Apart, Reserved::KwProcedure)?;
         let name = identifier(alloc, tokens, Side::Apart)?;
-        return Ok(named_decl(alloc, tokens, pos, name)?);
+        return named_decl(alloc, tokens, pos, name);
     }
     if tokens.sees_word(Reserved::KwFunction) {
         let pos = tokens.word(Side::Apart, Reserved::KwFunction)?;
         let spec = function_spec(alloc, tokens, 2, pos)?;
-        return Ok(decl_behind(alloc, tokens, pos, spec)?);
+        return decl_behind(alloc, tokens, pos, spec);
     }
-    Ok(plain_decl(alloc, tokens)?)
+    plain_decl(alloc, tokens)
 }
 
 /// Whether a declaration begins here, or the body of a subprogram.
@@ -128,9 +130,9 @@ fn decls(alloc: Global, tokens: &mut Cursor<'_, '_>) -> Result<Listed<Decl>, Rea
 fn plain_part(alloc: Global, tokens: &mut Cursor<'_, '_>) -> Result<BodyPart, ReadFault>
     ensures { Reads readers.plain_part tokens.old result tokens.new }
 {
-    let pos = tokens.place()?;
-    let item = Boxed::new(alloc, plain_item(alloc, tokens, 1)?)?;
-    let decl = Boxed::new(alloc, Decl::Plain { pos, item })?;
+    let pos = tokens.position()?;
+    let item = boxed(alloc, plain_item(alloc, tokens, 1))?;
+    let decl = Boxed::new(alloc, Decl::OfItem { pos, item })?;
     Ok(BodyPart::Declared { pos, decl })
 }
 
@@ -163,7 +165,7 @@ fn part_ending(
 {
     if tokens.sees_word(Reserved::KwIs) {
         let is = tokens.word(Side::Apart, Reserved::KwIs)?;
-        return Ok(completed_part(alloc, tokens, pos, spec, mode, is)?);
+        return completed_part(alloc, tokens, pos, spec, mode, is);
     }
     let semicolon = tokens.symbol(Side::Apart, Symbol::Semicolon)?;
     let decl = Boxed::new(
@@ -189,10 +191,11 @@ fn part_behind(
     ensures { Reads (readers.part_behind pos spec) tokens.old result tokens.new }
 {
     let mode = mode(alloc, tokens)?;
-    Ok(part_ending(alloc, tokens, pos, spec, mode)?)
+    part_ending(alloc, tokens, pos, spec, mode)
 }
 
-/// A part of a package body that begins with `procedure` id `is`: an instance or a body, behind `is` (Ada 2012, 6.3 and 12.3).
+/// A part of a package body that begins with `procedure` id `is`: an instance or a body, behind
+/// `is` (Ada 2012, 6.3 and 12.3).
 #[tactic(auto, unfolding(ada_grammar::specs::Units::instance_or_body))]
 fn instance_or_body(
     alloc: Global,
@@ -204,14 +207,15 @@ fn instance_or_body(
     ensures { Reads (readers.instance_or_body pos name is) tokens.old result tokens.new }
 {
     if tokens.sees_word(Reserved::KwNew) {
-        let decl = Boxed::new(alloc, instance_decl(alloc, tokens, pos, name, is)?)?;
+        let decl = boxed(alloc, instance_decl(alloc, tokens, pos, name, is))?;
         return Ok(BodyPart::Declared { pos, decl });
     }
     let spec = procedure(alloc, pos, name, None)?;
-    Ok(completed_part(alloc, tokens, pos, spec, None, is)?)
+    completed_part(alloc, tokens, pos, spec, None, is)
 }
 
-/// decl = subspec mode `;` | subbody, behind `procedure` id, where no `is` follows (Ada 2012, 6.1 and 6.3).
+/// decl = subspec mode `;` | subbody, behind `procedure` id, where no `is` follows (Ada 2012, 6.1
+/// and 6.3).
 #[tactic(auto, unfolding(ada_grammar::specs::Units::procedure_part))]
 fn procedure_part(
     alloc: Global,
@@ -222,14 +226,14 @@ fn procedure_part(
     ensures { Reads (readers.procedure_part pos name) tokens.old result tokens.new }
 {
     if tokens.sees_symbol(Symbol::LeftParenthesis) {
-        let formals = Boxed::new(alloc, formals(alloc, tokens, 2)?)?;
+        let formals = boxed(alloc, formals(alloc, tokens, 2))?;
         let spec = procedure(alloc, pos, name, Some(formals))?;
-        return Ok(part_behind(alloc, tokens, pos, spec)?);
+        return part_behind(alloc, tokens, pos, spec);
     }
     if tokens.sees_word(Reserved::KwWith) {
         let mode = spark_mode(alloc, tokens)?;
         let spec = procedure(alloc, pos, name, None)?;
-        return Ok(part_ending(alloc, tokens, pos, spec, Some(mode))?);
+        return part_ending(alloc, tokens, pos, spec, Some(mode));
     }
     let semicolon = tokens.symbol(Side::Apart, Symbol::Semicolon)?;
     let spec = procedure(alloc, pos, name, None)?;
@@ -257,9 +261,9 @@ fn named_part(
 {
     if tokens.sees_word(Reserved::KwIs) {
         let is = tokens.word(Side::Apart, Reserved::KwIs)?;
-        return Ok(instance_or_body(alloc, tokens, pos, name, is)?);
+        return instance_or_body(alloc, tokens, pos, name, is);
     }
-    Ok(procedure_part(alloc, tokens, pos, name)?)
+    procedure_part(alloc, tokens, pos, name)
 }
 
 /// decl | subbody (Ada 2012, 3.11 and 7.2)
@@ -270,14 +274,14 @@ fn body_part(alloc: Global, tokens: &mut Cursor<'_, '_>) -> Result<BodyPart, Rea
     if tokens.sees_word(Reserved::KwProcedure) {
         let pos = tokens.word(Side::Apart, Reserved::KwProcedure)?;
         let name = identifier(alloc, tokens, Side::Apart)?;
-        return Ok(named_part(alloc, tokens, pos, name)?);
+        return named_part(alloc, tokens, pos, name);
     }
     if tokens.sees_word(Reserved::KwFunction) {
         let pos = tokens.word(Side::Apart, Reserved::KwFunction)?;
         let spec = function_spec(alloc, tokens, 2, pos)?;
-        return Ok(part_behind(alloc, tokens, pos, spec)?);
+        return part_behind(alloc, tokens, pos, spec);
     }
-    Ok(plain_part(alloc, tokens)?)
+    plain_part(alloc, tokens)
 }
 
 /// {decl | subbody} (Ada 2012, 7.2)
@@ -314,7 +318,22 @@ fn optional_private(
     Ok(None)
 }
 
-/// package = `package` id mode `is` {decl} [`private` {decl}] `end` [id] `;`, behind `package` (Ada 2012, 7.1).
+/// {decl} [`private` {decl}] `end` [id] `;` (Ada 2012, 7.1)
+fn package_decls(alloc: Global, tokens: &mut Cursor<'_, '_>) -> Result<Decls, ReadFault>
+    ensures { ReadsAs decl_parts readers.decl_parts tokens.old result tokens.new }
+{
+    let visible = decls(alloc, tokens)?;
+    let private = optional_private(alloc, tokens)?;
+    let closing = closing(alloc, tokens)?;
+    Ok(Decls {
+        visible,
+        private,
+        closing,
+    })
+}
+
+/// package = `package` id mode `is` {decl} [`private` {decl}] `end` [id] `;`, behind `package` (Ada
+/// 2012, 7.1).
 #[tactic(auto, unfolding(ada_grammar::specs::Units::package_behind))]
 pub fn package_behind(
     alloc: Global,
@@ -326,28 +345,32 @@ pub fn package_behind(
     let name = identifier(alloc, tokens, Side::Apart)?;
     let mode = mode(alloc, tokens)?;
     let is = tokens.word(Side::Apart, Reserved::KwIs)?;
-    let visible = decls(alloc, tokens)?;
-    let private = optional_private(alloc, tokens)?;
-    let end = tokens.word(Side::Apart, Reserved::KwEnd)?;
-    let closing = closing_name(alloc, tokens)?;
-    let semicolon = tokens.symbol(Side::Apart, Symbol::Semicolon)?;
-    Ok(Boxed::new(
-        alloc,
-        Package {
-            pos,
-            name,
-            mode,
-            is,
-            visible,
-            private,
-            end,
-            closing,
-            semicolon,
-        },
-    )?)
+    let decls = package_decls(alloc, tokens)?;
+    let tree = Package {
+        pos,
+        name,
+        mode,
+        is,
+        visible: decls.visible,
+        private: decls.private,
+        end: decls.closing.end,
+        closing: decls.closing.name,
+        semicolon: decls.closing.semicolon,
+    };
+    boxed(alloc, Ok(tree))
 }
 
-/// packbody = `package` `body` id mode `is` {decl | subbody} `end` [id] `;`, behind `package` (Ada 2012, 7.2).
+/// {decl | subbody} `end` [id] `;` (Ada 2012, 7.2)
+fn package_body_end(alloc: Global, tokens: &mut Cursor<'_, '_>) -> Result<BodyParts, ReadFault>
+    ensures { ReadsAs body_end_parts readers.package_body_end tokens.old result tokens.new }
+{
+    let parts = body_parts(alloc, tokens)?;
+    let closing = closing(alloc, tokens)?;
+    Ok(BodyParts { parts, closing })
+}
+
+/// packbody = `package` `body` id mode `is` {decl | subbody} `end` [id] `;`, behind `package` (Ada
+/// 2012, 7.2).
 #[tactic(auto, unfolding(ada_grammar::specs::Units::package_body_behind))]
 pub fn package_body_behind(
     alloc: Global,
@@ -360,22 +383,17 @@ pub fn package_body_behind(
     let name = identifier(alloc, tokens, Side::Apart)?;
     let mode = mode(alloc, tokens)?;
     let is = tokens.word(Side::Apart, Reserved::KwIs)?;
-    let parts = body_parts(alloc, tokens)?;
-    let end = tokens.word(Side::Apart, Reserved::KwEnd)?;
-    let closing = closing_name(alloc, tokens)?;
-    let semicolon = tokens.symbol(Side::Apart, Symbol::Semicolon)?;
-    Ok(Boxed::new(
-        alloc,
-        PackageBody {
-            pos,
-            body,
-            name,
-            mode,
-            is,
-            parts,
-            end,
-            closing,
-            semicolon,
-        },
-    )?)
+    let end = package_body_end(alloc, tokens)?;
+    let tree = PackageBody {
+        pos,
+        body,
+        name,
+        mode,
+        is,
+        parts: end.parts,
+        end: end.closing.end,
+        closing: end.closing.name,
+        semicolon: end.closing.semicolon,
+    };
+    boxed(alloc, Ok(tree))
 }

@@ -9,14 +9,15 @@ use thiserror::Error;
 /// Why no units come of the tokens of a file.
 #[derive(Clone, Copy, Debug, PartialEq, Eq, Error)]
 pub enum ParseRefusal {
-    /// P1: no source goes on through the token there, as the end of an empty file.
+    /// P1: the tokens through that one are no viable prefix, as the end of an empty file.
     #[error("syntax")]
     Syntax(Pos),
-    /// P2: the token there opens the 65th construct around it, as the last of 65 parentheses, or is the 1,025th operator of its
-    /// outermost expression.
+    /// P2: the token there opens the 65th construct around it, as the last of 65 parentheses, or is
+    /// the 1,025th operator of its outermost expression.
     #[error("nesting too deep")]
     TooDeep(Pos),
-    /// P3: no source goes on through the word there, which belongs to what the language leaves out, as `raise` for a statement.
+    /// P3: the same of a word that belongs to what the language leaves out, as `raise` for a
+    /// statement.
     #[error("construct left out")]
     LeftOut(Pos),
     /// There is too little memory for the trees.

@@ -1,17 +1,20 @@
 //! Modes, fronts of subprograms and their bodies.
-ghost use Rattle.std.specs.Prelude.{◌≡◌, ◌≤◌, IfOk};
+ghost use Rattle.std.specs.Prelude.{◌≤◌, Ok};
 ghost use Rattle.spark_base.specs.declared.limits.TheConstants.{NESTING};
 ghost use Rattle.token_reading.specs.Reading.{Reads};
 ghost use Rattle.ada_grammar.specs.Units as readers;
+ghost use Rattle.expression_parser.specs.Parts.{Passes, ReadsAs};
+ghost use Rattle.ada_parser.specs.Parts.{closing_parts, subprogram_parts};
 
+use crate::parts::{Body, Closing};
 use ada_lexer::{Reserved, Symbol};
 use ada_tree::{
     Formal, Formals, Identifier, ModeOn, NextFormal, SparkMode, SubprogramBody, Subspec,
 };
-use expression_parser::{dotted, identifier};
+use expression_parser::{boxed, dotted, identifier};
 use spark_base::{Boxed, Listed, Pos};
 use statement_parser::{called, indication, items, next_identifiers, stmts};
-use std::alloc::{AllocError, Global};
+use std::alloc::Global;
 use token_reading::{Cursor, ReadFault, Side};
 
 /// `=>` On (Ada 2012, 13.1.1)
@@ -98,7 +101,7 @@ fn next_formal(alloc: Global, tokens: &mut Cursor<'_, '_>) -> Result<NextFormal,
     ensures { Reads readers.next_formal tokens.old result tokens.new }
 {
     let pos = tokens.symbol(Side::Apart, Symbol::Semicolon)?;
-    let formal = Boxed::new(alloc, formal(alloc, tokens)?)?;
+    let formal = boxed(alloc, formal(alloc, tokens))?;
     Ok(NextFormal::Semicolon { pos, formal })
 }
 
@@ -119,7 +122,7 @@ pub fn formals(alloc: Global, tokens: &mut Cursor<'_, '_>, depth: u32) -> Result
     ensures { Reads (readers.formals depth) tokens.old result tokens.new }
 {
     let pos = tokens.opens_symbol(Side::Apart, Symbol::LeftParenthesis, depth)?;
-    let first = Boxed::new(alloc, formal(alloc, tokens)?)?;
+    let first = boxed(alloc, formal(alloc, tokens))?;
     let rest = next_formals(alloc, tokens)?;
     let right_paren = tokens.symbol(Side::Apart, Symbol::RightParenthesis)?;
     Ok(Formals {
@@ -139,7 +142,7 @@ pub fn optional_formals(
     ensures { Reads (readers.optional_formals depth) tokens.old result tokens.new }
 {
     if tokens.sees_symbol(Symbol::LeftParenthesis) {
-        let formals = Boxed::new(alloc, formals(alloc, tokens, depth)?)?;
+        let formals = boxed(alloc, formals(alloc, tokens, depth))?;
         return Ok(Some(formals));
     }
     Ok(None)
@@ -151,13 +154,14 @@ pub fn procedure(
     pos: Pos,
     name: Identifier,
     formals: Option<Boxed<Formals>>,
-) -> Result<Boxed<Subspec>, AllocError>
-    ensures { IfOk result (λ spec. spec ≡ Subspec.Procedure pos name formals) }
+) -> Result<Boxed<Subspec>, ReadFault>
+    ensures { Passes (Ok (Subspec.Procedure pos name formals)) result }
 {
-    Boxed::new(alloc, Subspec::Procedure { pos, name, formals })
+    boxed(alloc, Ok(Subspec::Procedure { pos, name, formals }))
 }
 
-/// subspec = `procedure` id [formals], behind `procedure` (Ada 2012, 6.1); `depth` counts the procedure.
+/// subspec = `procedure` id [formals], behind `procedure` (Ada 2012, 6.1); `depth` counts the
+/// procedure.
 #[tactic(auto, unfolding(ada_grammar::specs::Units::procedure_spec))]
 pub fn procedure_spec(
     alloc: Global,
@@ -169,10 +173,11 @@ pub fn procedure_spec(
 {
     let name = identifier(alloc, tokens, Side::Apart)?;
     let formals = optional_formals(alloc, tokens, depth)?;
-    Ok(procedure(alloc, pos, name, formals)?)
+    procedure(alloc, pos, name, formals)
 }
 
-/// subspec = `function` id [formals] `return` (mark | anon), behind `function` (Ada 2012, 6.1); `depth` counts the function.
+/// subspec = `function` id [formals] `return` (mark | anon), behind `function` (Ada 2012, 6.1);
+/// `depth` counts the function.
 #[tactic(auto, unfolding(ada_grammar::specs::Units::function_spec))]
 pub fn function_spec(
     alloc: Global,
@@ -186,16 +191,14 @@ pub fn function_spec(
     let formals = optional_formals(alloc, tokens, depth)?;
     let return_word = tokens.word(Side::Apart, Reserved::KwReturn)?;
     let result = indication(alloc, tokens)?;
-    Ok(Boxed::new(
-        alloc,
-        Subspec::Function {
-            pos,
-            name,
-            formals,
-            return_word,
-            result,
-        },
-    )?)
+    let spec = Subspec::Function {
+        pos,
+        name,
+        formals,
+        return_word,
+        result,
+    };
+    boxed(alloc, Ok(spec))
 }
 
 /// [id], behind `end`
@@ -211,7 +214,39 @@ pub fn closing_name(
     Ok(None)
 }
 
-/// subbody = subspec mode `is` {item} `begin` stmts `end` [id] `;`, behind `is` (Ada 2012, 6.3); `depth` counts the subprogram.
+/// `end` [id] `;`
+pub fn closing(alloc: Global, tokens: &mut Cursor<'_, '_>) -> Result<Closing, ReadFault>
+    ensures { ReadsAs closing_parts readers.closing tokens.old result tokens.new }
+{
+    let end = tokens.word(Side::Apart, Reserved::KwEnd)?;
+    let name = closing_name(alloc, tokens)?;
+    let semicolon = tokens.symbol(Side::Apart, Symbol::Semicolon)?;
+    Ok(Closing {
+        end,
+        name,
+        semicolon,
+    })
+}
+
+/// {item} `begin` stmts `end` [id] `;` (Ada 2012, 6.3); `depth` counts the subprogram.
+fn body(alloc: Global, tokens: &mut Cursor<'_, '_>, depth: u32) -> Result<Body, ReadFault>
+    requires { depth ≤ NESTING }
+    ensures { ReadsAs subprogram_parts (readers.subprogram_parts depth) tokens.old result tokens.new }
+{
+    let items = items(alloc, tokens, depth)?;
+    let begin = tokens.word(Side::Apart, Reserved::KwBegin)?;
+    let stmts = boxed(alloc, stmts(alloc, tokens, depth))?;
+    let closing = closing(alloc, tokens)?;
+    Ok(Body {
+        items,
+        begin,
+        stmts,
+        closing,
+    })
+}
+
+/// subbody = subspec mode `is` {item} `begin` stmts `end` [id] `;`, behind `is` (Ada 2012, 6.3);
+/// `depth` counts the subprogram.
 #[tactic(auto, unfolding(ada_grammar::specs::Units::body_behind))]
 pub fn body_behind(
     alloc: Global,
@@ -225,27 +260,20 @@ pub fn body_behind(
     requires { depth ≤ NESTING }
     ensures { Reads (readers.body_behind depth pos spec mode is) tokens.old result tokens.new }
 {
-    let items = items(alloc, tokens, depth)?;
-    let begin = tokens.word(Side::Apart, Reserved::KwBegin)?;
-    let stmts = Boxed::new(alloc, stmts(alloc, tokens, depth)?)?;
-    let end = tokens.word(Side::Apart, Reserved::KwEnd)?;
-    let closing = closing_name(alloc, tokens)?;
-    let semicolon = tokens.symbol(Side::Apart, Symbol::Semicolon)?;
-    Ok(Boxed::new(
-        alloc,
-        SubprogramBody {
-            pos,
-            spec,
-            mode,
-            is,
-            items,
-            begin,
-            stmts,
-            end,
-            closing,
-            semicolon,
-        },
-    )?)
+    let body = body(alloc, tokens, depth)?;
+    let tree = SubprogramBody {
+        pos,
+        spec,
+        mode,
+        is,
+        items: body.items,
+        begin: body.begin,
+        stmts: body.stmts,
+        end: body.closing.end,
+        closing: body.closing.name,
+        semicolon: body.closing.semicolon,
+    };
+    boxed(alloc, Ok(tree))
 }
 
 /// The same, behind the subspec, with no construct open around the subprogram.
@@ -260,10 +288,11 @@ fn subprogram_behind(
 {
     let mode = mode(alloc, tokens)?;
     let is = tokens.word(Side::Apart, Reserved::KwIs)?;
-    Ok(body_behind(alloc, tokens, 1, pos, spec, mode, is)?)
+    body_behind(alloc, tokens, 1, pos, spec, mode, is)
 }
 
-/// subbody = subspec mode `is` {item} `begin` stmts `end` [id] `;` (Ada 2012, 6.3), with no construct open around it.
+/// subbody = subspec mode `is` {item} `begin` stmts `end` [id] `;` (Ada 2012, 6.3), with no
+/// construct open around it.
 #[tactic(auto, unfolding(ada_grammar::specs::Units::subprogram_body))]
 pub fn subprogram_body(
     alloc: Global,
@@ -274,9 +303,9 @@ pub fn subprogram_body(
     if tokens.sees_word(Reserved::KwProcedure) {
         let pos = tokens.word(Side::Apart, Reserved::KwProcedure)?;
         let spec = procedure_spec(alloc, tokens, 1, pos)?;
-        return Ok(subprogram_behind(alloc, tokens, pos, spec)?);
+        return subprogram_behind(alloc, tokens, pos, spec);
     }
     let pos = tokens.word(Side::Apart, Reserved::KwFunction)?;
     let spec = function_spec(alloc, tokens, 1, pos)?;
-    Ok(subprogram_behind(alloc, tokens, pos, spec)?)
+    subprogram_behind(alloc, tokens, pos, spec)
 }

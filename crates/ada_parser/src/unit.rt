@@ -36,7 +36,7 @@ fn context(alloc: Global, tokens: &mut Cursor<'_, '_>) -> Result<Context, ReadFa
     ensures { Reads readers.context tokens.old result tokens.new }
 {
     if tokens.sees_word(Reserved::KwWith) {
-        return Ok(with_clause(alloc, tokens)?);
+        return with_clause(alloc, tokens);
     }
     if tokens.sees_word(Reserved::KwUse) {
         let clause = use_clause(alloc, tokens)?;
@@ -109,7 +109,7 @@ fn unit_behind(
 {
     if tokens.sees_word(Reserved::KwPackage) {
         let at = tokens.word(Side::Apart, Reserved::KwPackage)?;
-        return Ok(package_unit(alloc, tokens, pos, context, at)?);
+        return package_unit(alloc, tokens, pos, context, at);
     }
     let body = subprogram_body(alloc, tokens)?;
     Ok(SourceUnit::OfSubprogram { pos, context, body })
@@ -120,9 +120,9 @@ fn unit_behind(
 fn unit(alloc: Global, tokens: &mut Cursor<'_, '_>) -> Result<SourceUnit, ReadFault>
     ensures { Reads readers.unit tokens.old result tokens.new }
 {
-    let pos = tokens.place()?;
+    let pos = tokens.position()?;
     let context = contexts(alloc, tokens)?;
-    Ok(unit_behind(alloc, tokens, pos, context)?)
+    unit_behind(alloc, tokens, pos, context)
 }
 
 /// Whether a unit begins here.

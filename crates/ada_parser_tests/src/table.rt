@@ -3,35 +3,31 @@
 //! `~` stands in front of the token that is refused; it is no part of the source.
 use ada_lexer::lex;
 use ada_parser::{ParseRefusal, parse};
-use ada_tree::SourceUnit;
 use spark_base::{SOURCE_BYTES, TOKENS};
 use std::alloc::{AllocError, Global};
 use std::test::Fail;
 
 /// What is said of a source, and the column of which.
-pub(crate) type Answer = (&'static str, u32);
+type Answer = (&'static str, u32);
 
-fn answer_of(found: Result<Vec<SourceUnit>, ParseRefusal>) -> Answer {
-    match found {
+/// What the parser answers to a text of one line.
+fn read(alloc: Global, text: &[u8]) -> Result<Answer, Fail> {
+    if text.len() > SOURCE_BYTES {
+        return Err(Fail::new("too long"));
+    }
+    let tokens = lex(alloc, 0, text, TOKENS)?;
+    Ok(match parse(alloc, tokens.as_slice()) {
         Ok(_) => ("accepted", 0),
         Err(ParseRefusal::Syntax(at)) => ("P1", at.column),
         Err(ParseRefusal::TooDeep(at)) => ("P2", at.column),
         Err(ParseRefusal::LeftOut(at)) => ("P3", at.column),
         Err(ParseRefusal::Memory) => ("memory", 0),
-    }
+    })
 }
 
-/// What the parser answers to a text of one line.
-pub(crate) fn read(alloc: Global, text: &[u8]) -> Result<Answer, Fail> {
-    if text.len() > SOURCE_BYTES {
-        return Ok(("too long", 0));
-    }
-    let tokens = lex(alloc, 0, text, TOKENS)?;
-    Ok(answer_of(parse(alloc, tokens.as_slice())))
-}
-
-/// The text without its mark, and the column of the first byte behind the mark that is no space; 0 where there is no mark.
-pub(crate) fn unmarked(alloc: Global, marked: &[u8]) -> Result<(Vec<u8>, u32), AllocError> {
+/// The text without its mark, and the column of the first byte behind the mark that is no space; 0
+/// where there is no mark.
+fn unmarked(alloc: Global, marked: &[u8]) -> Result<(Vec<u8>, u32), AllocError> {
     let mut text = Vec::new(alloc);
     let mut column: u32 = 1;
     let mut found: u32 = 0;
@@ -54,39 +50,50 @@ pub(crate) fn unmarked(alloc: Global, marked: &[u8]) -> Result<(Vec<u8>, u32), A
     Ok((text, found))
 }
 
-/// Whether the parser refuses the marked text with this code at its mark; a text without a mark it is to accept.
-pub(crate) fn answers(alloc: Global, marked: &[u8], code: &'static str) -> Result<bool, Fail> {
-    let (text, column) = unmarked(alloc, marked)?;
+/// The parts, each as often as it says, one behind the other.
+fn joined(alloc: Global, parts: &[(&str, u32)]) -> Result<Vec<u8>, AllocError> {
+    let mut text = Vec::new(alloc);
+    for part in parts {
+        for _copy in 0..part.1 {
+            text.extend_from_slice(part.0.as_bytes())?;
+        }
+    }
+    Ok(text)
+}
+
+/// Whether the parser refuses the marked text of these parts with this code at its mark; a text
+/// without a mark it is to accept.
+fn answers(alloc: Global, parts: &[(&str, u32)], code: &'static str) -> Result<bool, Fail> {
+    let marked = joined(alloc, parts)?;
+    let (text, column) = unmarked(alloc, marked.as_slice())?;
     let expected = if column == 0 { "accepted" } else { code };
     Ok(read(alloc, text.as_slice())? == (expected, column))
 }
 
-/// The same of a marked text between a front and a back.
-pub(crate) fn answers_within(
+/// Fails with the row unless the parser answers so to the marked text of these parts.
+pub(crate) fn demand(
     alloc: Global,
-    front: &str,
-    marked: &str,
-    back: &str,
+    row: &str,
+    parts: &[(&str, u32)],
     code: &'static str,
-) -> Result<bool, Fail> {
-    let mut whole = Vec::from_slice(alloc, front.as_bytes())?;
-    whole.extend_from_slice(marked.as_bytes())?;
-    whole.extend_from_slice(back.as_bytes())?;
-    answers(alloc, whole.as_slice(), code)
+) -> Result<(), Fail> {
+    if answers(alloc, parts, code)? {
+        Ok(())
+    } else {
+        Err(Fail::new(row))
+    }
 }
 
-/// The front, so many times the middle, and the back.
-pub(crate) fn repeated(
+/// The same of each marked text between a front and a back.
+pub(crate) fn demand_all(
     alloc: Global,
     front: &str,
-    middle: &str,
-    count: u32,
+    texts: &[&str],
     back: &str,
-) -> Result<Vec<u8>, AllocError> {
-    let mut text = Vec::from_slice(alloc, front.as_bytes())?;
-    for _ in 0..count {
-        text.extend_from_slice(middle.as_bytes())?;
+    code: &'static str,
+) -> Result<(), Fail> {
+    for text in texts {
+        demand(alloc, text, &[(front, 1), (text, 1), (back, 1)], code)?;
     }
-    text.extend_from_slice(back.as_bytes())?;
-    Ok(text)
+    Ok(())
 }

@@ -92,7 +92,7 @@ arg_form P on_positional on_association tree = subst P (roll-out-Arg tree) (arg_
 -- ---- Expr
 
 expr_layer : (P : Expr → Type 0)
-    → ((pos : Pos) (relation : Rel) → P (of_expr.Lone pos relation))
+    → ((pos : Pos) (relation : Rel) → P (of_expr.LoneRelation pos relation))
     → ((pos : Pos) (first : Rel) (and : Pos) (second : Rel) (rest : List Operand) → P (of_expr.And pos first and second rest))
     → ((pos : Pos) (first : Rel) (or : Pos) (second : Rel) (rest : List Operand) → P (of_expr.Or pos first or second rest))
     → ((pos : Pos) (first : Rel) (xor : Pos) (second : Rel) (rest : List Operand) → P (of_expr.Xor pos first xor second rest))
@@ -102,22 +102,22 @@ expr_layer : (P : Expr → Type 0)
     → P (of_expr.OrElse pos first or otherwise second rest))
     → (l : layer.Expr-F Aggregate Arg Expr Factor Name NextArg NextFactor NextTerm Operand Primary Rel ShortOperand Suffix Sum
     Term) → P (roll-Expr l)
-expr_layer P on_lone on_and on_or on_xor on_and_then on_or_else (layer.Lone pos relation) = subst P (sym
-    (of_expr.rolls-Lone pos relation)) (on_lone pos relation)
-expr_layer P on_lone on_and on_or on_xor on_and_then on_or_else (layer.And pos first and second rest) = subst P (sym
+expr_layer P on_lone_relation on_and on_or on_xor on_and_then on_or_else (layer.LoneRelation pos relation) = subst P (sym
+    (of_expr.rolls-LoneRelation pos relation)) (on_lone_relation pos relation)
+expr_layer P on_lone_relation on_and on_or on_xor on_and_then on_or_else (layer.And pos first and second rest) = subst P (sym
     (of_expr.rolls-And pos first and second rest)) (on_and pos first and second rest)
-expr_layer P on_lone on_and on_or on_xor on_and_then on_or_else (layer.Or pos first or second rest) = subst P (sym
+expr_layer P on_lone_relation on_and on_or on_xor on_and_then on_or_else (layer.Or pos first or second rest) = subst P (sym
     (of_expr.rolls-Or pos first or second rest)) (on_or pos first or second rest)
-expr_layer P on_lone on_and on_or on_xor on_and_then on_or_else (layer.Xor pos first xor second rest) = subst P (sym
+expr_layer P on_lone_relation on_and on_or on_xor on_and_then on_or_else (layer.Xor pos first xor second rest) = subst P (sym
     (of_expr.rolls-Xor pos first xor second rest)) (on_xor pos first xor second rest)
-expr_layer P on_lone on_and on_or on_xor on_and_then on_or_else (layer.AndThen pos first and then second rest) = subst P (sym
+expr_layer P on_lone_relation on_and on_or on_xor on_and_then on_or_else (layer.AndThen pos first and then second rest) = subst P (sym
     (of_expr.rolls-AndThen pos first and then second rest)) (on_and_then pos first and then second rest)
-expr_layer P on_lone on_and on_or on_xor on_and_then on_or_else (layer.OrElse pos first or otherwise second rest) = subst P (sym
+expr_layer P on_lone_relation on_and on_or on_xor on_and_then on_or_else (layer.OrElse pos first or otherwise second rest) = subst P (sym
     (of_expr.rolls-OrElse pos first or otherwise second rest)) (on_or_else pos first or otherwise second rest)
 
 -- What holds of each form holds of each tree.
 pub expr_form : (P : Expr → Type 0)
-    → ((pos : Pos) (relation : Rel) → P (of_expr.Lone pos relation))
+    → ((pos : Pos) (relation : Rel) → P (of_expr.LoneRelation pos relation))
     → ((pos : Pos) (first : Rel) (and : Pos) (second : Rel) (rest : List Operand) → P (of_expr.And pos first and second rest))
     → ((pos : Pos) (first : Rel) (or : Pos) (second : Rel) (rest : List Operand) → P (of_expr.Or pos first or second rest))
     → ((pos : Pos) (first : Rel) (xor : Pos) (second : Rel) (rest : List Operand) → P (of_expr.Xor pos first xor second rest))
@@ -126,31 +126,31 @@ pub expr_form : (P : Expr → Type 0)
     → ((pos : Pos) (first : Rel) (or : Pos) (otherwise : Pos) (second : Rel) (rest : List ShortOperand)
     → P (of_expr.OrElse pos first or otherwise second rest))
     → (tree : Expr) → P tree
-expr_form P on_lone on_and on_or on_xor on_and_then on_or_else tree = subst P (roll-out-Expr tree)
-    (expr_layer P on_lone on_and on_or on_xor on_and_then on_or_else (out-Expr tree))
+expr_form P on_lone_relation on_and on_or on_xor on_and_then on_or_else tree = subst P (roll-out-Expr tree)
+    (expr_layer P on_lone_relation on_and on_or on_xor on_and_then on_or_else (out-Expr tree))
 
 -- ---- Factor
 
 factor_layer : (P : Factor → Type 0)
-    → ((pos : Pos) (primary : Primary) → P (of_factor.Plain pos primary))
+    → ((pos : Pos) (primary : Primary) → P (of_factor.LonePrimary pos primary))
     → ((pos : Pos) (primary : Primary) → P (of_factor.Abs pos primary))
     → ((pos : Pos) (primary : Primary) → P (of_factor.Not pos primary))
     → (l : layer.Factor-F Aggregate Arg Expr Factor Name NextArg NextFactor NextTerm Operand Primary Rel ShortOperand Suffix Sum
     Term) → P (roll-Factor l)
-factor_layer P on_plain on_abs on_not (layer.Plain pos primary) = subst P (sym (of_factor.rolls-Plain pos primary))
-    (on_plain pos primary)
-factor_layer P on_plain on_abs on_not (layer.Abs pos primary) = subst P (sym (of_factor.rolls-Abs pos primary))
+factor_layer P on_lone_primary on_abs on_not (layer.LonePrimary pos primary) = subst P (sym (of_factor.rolls-LonePrimary pos primary))
+    (on_lone_primary pos primary)
+factor_layer P on_lone_primary on_abs on_not (layer.Abs pos primary) = subst P (sym (of_factor.rolls-Abs pos primary))
     (on_abs pos primary)
-factor_layer P on_plain on_abs on_not (layer.Not pos primary) = subst P (sym (of_factor.rolls-Not pos primary))
+factor_layer P on_lone_primary on_abs on_not (layer.Not pos primary) = subst P (sym (of_factor.rolls-Not pos primary))
     (on_not pos primary)
 
 -- What holds of each form holds of each tree.
 pub factor_form : (P : Factor → Type 0)
-    → ((pos : Pos) (primary : Primary) → P (of_factor.Plain pos primary))
+    → ((pos : Pos) (primary : Primary) → P (of_factor.LonePrimary pos primary))
     → ((pos : Pos) (primary : Primary) → P (of_factor.Abs pos primary))
     → ((pos : Pos) (primary : Primary) → P (of_factor.Not pos primary))
     → (tree : Factor) → P tree
-factor_form P on_plain on_abs on_not tree = subst P (roll-out-Factor tree) (factor_layer P on_plain on_abs on_not
+factor_form P on_lone_primary on_abs on_not tree = subst P (roll-out-Factor tree) (factor_layer P on_lone_primary on_abs on_not
     (out-Factor tree))
 
 -- ---- Name
@@ -171,62 +171,62 @@ name_form P on_prefixed tree = subst P (roll-out-Name tree) (name_layer P on_pre
 -- ---- NextArg
 
 next_arg_layer : (P : NextArg → Type 0)
-    → ((pos : Pos) (arg : Arg) → P (of_next_arg.NextArgument pos arg))
+    → ((pos : Pos) (arg : Arg) → P (of_next_arg.FurtherArg pos arg))
     → (l : layer.NextArg-F Aggregate Arg Expr Factor Name NextArg NextFactor NextTerm Operand Primary Rel ShortOperand Suffix Sum
     Term) → P (roll-NextArg l)
-next_arg_layer P on_next_argument (layer.NextArgument pos arg) = subst P (sym (of_next_arg.rolls-NextArgument pos arg))
-    (on_next_argument pos arg)
+next_arg_layer P on_further_arg (layer.FurtherArg pos arg) = subst P (sym (of_next_arg.rolls-FurtherArg pos arg))
+    (on_further_arg pos arg)
 
 -- What holds of each form holds of each tree.
 pub next_arg_form : (P : NextArg → Type 0)
-    → ((pos : Pos) (arg : Arg) → P (of_next_arg.NextArgument pos arg))
+    → ((pos : Pos) (arg : Arg) → P (of_next_arg.FurtherArg pos arg))
     → (tree : NextArg) → P tree
-next_arg_form P on_next_argument tree = subst P (roll-out-NextArg tree) (next_arg_layer P on_next_argument (out-NextArg tree))
+next_arg_form P on_further_arg tree = subst P (roll-out-NextArg tree) (next_arg_layer P on_further_arg (out-NextArg tree))
 
 -- ---- NextFactor
 
 next_factor_layer : (P : NextFactor → Type 0)
-    → ((pos : Pos) (operator : MultiplyingOperator) (factor : Factor) → P (of_next_factor.Multiplied pos operator factor))
+    → ((pos : Pos) (operator : MultiplyingOperator) (factor : Factor) → P (of_next_factor.FurtherFactor pos operator factor))
     → (l : layer.NextFactor-F Aggregate Arg Expr Factor Name NextArg NextFactor NextTerm Operand Primary Rel ShortOperand Suffix
     Sum Term) → P (roll-NextFactor l)
-next_factor_layer P on_multiplied (layer.Multiplied pos operator factor) = subst P (sym
-    (of_next_factor.rolls-Multiplied pos operator factor)) (on_multiplied pos operator factor)
+next_factor_layer P on_further_factor (layer.FurtherFactor pos operator factor) = subst P (sym
+    (of_next_factor.rolls-FurtherFactor pos operator factor)) (on_further_factor pos operator factor)
 
 -- What holds of each form holds of each tree.
 pub next_factor_form : (P : NextFactor → Type 0)
-    → ((pos : Pos) (operator : MultiplyingOperator) (factor : Factor) → P (of_next_factor.Multiplied pos operator factor))
+    → ((pos : Pos) (operator : MultiplyingOperator) (factor : Factor) → P (of_next_factor.FurtherFactor pos operator factor))
     → (tree : NextFactor) → P tree
-next_factor_form P on_multiplied tree = subst P (roll-out-NextFactor tree) (next_factor_layer P on_multiplied
+next_factor_form P on_further_factor tree = subst P (roll-out-NextFactor tree) (next_factor_layer P on_further_factor
     (out-NextFactor tree))
 
 -- ---- NextTerm
 
 next_term_layer : (P : NextTerm → Type 0)
-    → ((pos : Pos) (operator : AddingOperator) (term : Term) → P (of_next_term.Added pos operator term))
+    → ((pos : Pos) (operator : AddingOperator) (term : Term) → P (of_next_term.FurtherTerm pos operator term))
     → (l : layer.NextTerm-F Aggregate Arg Expr Factor Name NextArg NextFactor NextTerm Operand Primary Rel ShortOperand Suffix
     Sum Term) → P (roll-NextTerm l)
-next_term_layer P on_added (layer.Added pos operator term) = subst P (sym (of_next_term.rolls-Added pos operator term))
-    (on_added pos operator term)
+next_term_layer P on_further_term (layer.FurtherTerm pos operator term) = subst P (sym (of_next_term.rolls-FurtherTerm pos operator term))
+    (on_further_term pos operator term)
 
 -- What holds of each form holds of each tree.
 pub next_term_form : (P : NextTerm → Type 0)
-    → ((pos : Pos) (operator : AddingOperator) (term : Term) → P (of_next_term.Added pos operator term))
+    → ((pos : Pos) (operator : AddingOperator) (term : Term) → P (of_next_term.FurtherTerm pos operator term))
     → (tree : NextTerm) → P tree
-next_term_form P on_added tree = subst P (roll-out-NextTerm tree) (next_term_layer P on_added (out-NextTerm tree))
+next_term_form P on_further_term tree = subst P (roll-out-NextTerm tree) (next_term_layer P on_further_term (out-NextTerm tree))
 
 -- ---- Operand
 
 operand_layer : (P : Operand → Type 0)
-    → ((pos : Pos) (operand : Rel) → P (of_operand.Next pos operand))
+    → ((pos : Pos) (operand : Rel) → P (of_operand.FurtherOperand pos operand))
     → (l : layer.Operand-F Aggregate Arg Expr Factor Name NextArg NextFactor NextTerm Operand Primary Rel ShortOperand Suffix Sum
     Term) → P (roll-Operand l)
-operand_layer P on_next (layer.Next pos operand) = subst P (sym (of_operand.rolls-Next pos operand)) (on_next pos operand)
+operand_layer P on_further_operand (layer.FurtherOperand pos operand) = subst P (sym (of_operand.rolls-FurtherOperand pos operand)) (on_further_operand pos operand)
 
 -- What holds of each form holds of each tree.
 pub operand_form : (P : Operand → Type 0)
-    → ((pos : Pos) (operand : Rel) → P (of_operand.Next pos operand))
+    → ((pos : Pos) (operand : Rel) → P (of_operand.FurtherOperand pos operand))
     → (tree : Operand) → P tree
-operand_form P on_next tree = subst P (roll-out-Operand tree) (operand_layer P on_next (out-Operand tree))
+operand_form P on_further_operand tree = subst P (roll-out-Operand tree) (operand_layer P on_further_operand (out-Operand tree))
 
 -- ---- Primary
 
@@ -290,37 +290,37 @@ primary_form P on_number on_text on_null on_named on_parenthesized on_aggregated
 -- ---- Rel
 
 rel_layer : (P : Rel → Type 0)
-    → ((pos : Pos) (sum : Sum) → P (of_rel.Sole pos sum))
+    → ((pos : Pos) (sum : Sum) → P (of_rel.LoneSum pos sum))
     → ((pos : Pos) (left : Sum) (operator : RelationalOperator) (operator_pos : Pos) (right : Sum)
     → P (of_rel.Compared pos left operator operator_pos right))
     → (l : layer.Rel-F Aggregate Arg Expr Factor Name NextArg NextFactor NextTerm Operand Primary Rel ShortOperand Suffix Sum
     Term) → P (roll-Rel l)
-rel_layer P on_sole on_compared (layer.Sole pos sum) = subst P (sym (of_rel.rolls-Sole pos sum)) (on_sole pos sum)
-rel_layer P on_sole on_compared (layer.Compared pos left operator operator_pos right) = subst P (sym
+rel_layer P on_lone_sum on_compared (layer.LoneSum pos sum) = subst P (sym (of_rel.rolls-LoneSum pos sum)) (on_lone_sum pos sum)
+rel_layer P on_lone_sum on_compared (layer.Compared pos left operator operator_pos right) = subst P (sym
     (of_rel.rolls-Compared pos left operator operator_pos right)) (on_compared pos left operator operator_pos right)
 
 -- What holds of each form holds of each tree.
 pub rel_form : (P : Rel → Type 0)
-    → ((pos : Pos) (sum : Sum) → P (of_rel.Sole pos sum))
+    → ((pos : Pos) (sum : Sum) → P (of_rel.LoneSum pos sum))
     → ((pos : Pos) (left : Sum) (operator : RelationalOperator) (operator_pos : Pos) (right : Sum)
     → P (of_rel.Compared pos left operator operator_pos right))
     → (tree : Rel) → P tree
-rel_form P on_sole on_compared tree = subst P (roll-out-Rel tree) (rel_layer P on_sole on_compared (out-Rel tree))
+rel_form P on_lone_sum on_compared tree = subst P (roll-out-Rel tree) (rel_layer P on_lone_sum on_compared (out-Rel tree))
 
 -- ---- ShortOperand
 
 short_operand_layer : (P : ShortOperand → Type 0)
-    → ((pos : Pos) (second_word : Pos) (operand : Rel) → P (of_short_operand.NextShort pos second_word operand))
+    → ((pos : Pos) (second_word : Pos) (operand : Rel) → P (of_short_operand.FurtherShortOperand pos second_word operand))
     → (l : layer.ShortOperand-F Aggregate Arg Expr Factor Name NextArg NextFactor NextTerm Operand Primary Rel ShortOperand
     Suffix Sum Term) → P (roll-ShortOperand l)
-short_operand_layer P on_next_short (layer.NextShort pos second_word operand) = subst P (sym
-    (of_short_operand.rolls-NextShort pos second_word operand)) (on_next_short pos second_word operand)
+short_operand_layer P on_further_short_operand (layer.FurtherShortOperand pos second_word operand) = subst P (sym
+    (of_short_operand.rolls-FurtherShortOperand pos second_word operand)) (on_further_short_operand pos second_word operand)
 
 -- What holds of each form holds of each tree.
 pub short_operand_form : (P : ShortOperand → Type 0)
-    → ((pos : Pos) (second_word : Pos) (operand : Rel) → P (of_short_operand.NextShort pos second_word operand))
+    → ((pos : Pos) (second_word : Pos) (operand : Rel) → P (of_short_operand.FurtherShortOperand pos second_word operand))
     → (tree : ShortOperand) → P tree
-short_operand_form P on_next_short tree = subst P (roll-out-ShortOperand tree) (short_operand_layer P on_next_short
+short_operand_form P on_further_short_operand tree = subst P (roll-out-ShortOperand tree) (short_operand_layer P on_further_short_operand
     (out-ShortOperand tree))
 
 -- ---- Suffix

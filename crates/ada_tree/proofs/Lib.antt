@@ -1,24 +1,4 @@
-pub mod Levels
-pub mod StatementLevels
-pub mod ItemLevels
-pub mod UnitLevels
-pub mod Placed
-pub mod PlacedLevels
-pub mod StatementPlacedLevels
-pub mod StatementNamedLevels
+-- each tree is of one of the forms of the grammar
 pub mod Forms
-pub mod StatementForms
-pub mod ItemForms
-pub mod UnitForms
-pub mod SmallSources
-pub mod SmallUnits
-pub mod SmallDeclarations
-pub mod SmallStatements
-pub mod SmallNames
-pub mod SmallExpressions
-pub mod SmallRefused
+-- what is taken out of an expression or a name, by its form
 pub mod LoneLevels
-pub mod LoneExpressions
-pub mod LoneNames
-mod ExpressionNesting
-pub mod Nesting

@@ -1,4 +1,5 @@
--- What a lone expression and a short name are, of each form, with boxes as what they hold and lists as lists.
+-- What a lone expression and a short name are, of each form, with boxes as what they hold and lists
+-- as lists.
 use Rattle.std.proofs.Common.{◌≡◌, refl, sym, ap, ◌∙◌, true, false, List, [], ◌∷◌, ◌++◌}
 use Rattle.std.proofs.lemmas.Bool.{false≢true}
 use Rattle.std.specs.Prelude.{Option, Some, None, Ok, Err, is_some, option_map, ok_or, filter_map}
@@ -29,16 +30,16 @@ use Rattle.ada_tree.specs.declared.expression.Name.{Name, items_hidden-the_row-S
 use Rattle.ada_tree.specs.declared.expression.Name.TheVariants as name
 use Rattle.ada_tree.specs.declared.expression.Suffix.{Suffix}
 use Rattle.ada_tree.specs.declared.expression.Suffix.TheVariants as suffix
-use Rattle.ada_tree.specs.Lone.{unfollowed, name_of_box, primary_name, primary_box_name, factor_name, factor_box_name, term_name, term_box_name, sum_name, sum_box_name, rel_name, rel_box_name, lone_name, selected_part, part_before, selected_parts, dotted_name, dotted_or_name, sole_identifier, range_places, cut_range, range_prefix, name_with_range}
+use Rattle.ada_tree.specs.Lone.{unfollowed, name_of_box, primary_name, primary_box_name, factor_name, factor_box_name, term_name, term_box_name, sum_name, sum_box_name, rel_name, rel_box_name, lone_name, selected_part, part_before, selected_parts, dotted_name, dotted_or_name, sole_identifier, range_positions, cut_range, range_prefix, name_with_range}
 use Rattle.ada_tree.proofs.Forms.{expr_form, primary_form, suffix_form}
 
 pub primary_name-Named : (pos : Pos) (n : Name) → primary_name (primary.Named pos n) ≡ Some n
 unfolding primary_name name_of_box hidden-the_row-Name-10 shape-the_row-Name-10 hidden
 primary_name-Named pos n = refl
 
-pub factor_name-Plain : (pos : Pos) (operand : Primary) → factor_name (factor.Plain pos operand) ≡ primary_name operand
+pub factor_name-LonePrimary : (pos : Pos) (operand : Primary) → factor_name (factor.LonePrimary pos operand) ≡ primary_name operand
 unfolding factor_name primary_box_name hidden-the_row-Primary-6 shape-the_row-Primary-6 hidden
-factor_name-Plain pos operand = refl
+factor_name-LonePrimary pos operand = refl
 
 pub factor_name-Abs : (pos : Pos) (operand : Primary) → factor_name (factor.Abs pos operand) ≡ None
 unfolding factor_name
@@ -63,18 +64,18 @@ pub sum_name-Signed : (pos : Pos) (sign : Sign) (first : Term) (rest : List Next
 unfolding sum_name
 sum_name-Signed pos sign first rest = refl
 
-pub rel_name-Sole : (pos : Pos) (operand : Sum) → rel_name (rel.Sole pos operand) ≡ sum_name operand
+pub rel_name-LoneSum : (pos : Pos) (operand : Sum) → rel_name (rel.LoneSum pos operand) ≡ sum_name operand
 unfolding rel_name sum_box_name hidden-the_row-Sum-12 shape-the_row-Sum-12 hidden
-rel_name-Sole pos operand = refl
+rel_name-LoneSum pos operand = refl
 
 pub rel_name-Compared : (pos : Pos) (left : Sum) (operator : RelationalOperator) (operator_pos : Pos) (right : Sum)
     → rel_name (rel.Compared pos left operator operator_pos right) ≡ None
 unfolding rel_name
 rel_name-Compared pos left operator operator_pos right = refl
 
-pub lone_name-Lone : (pos : Pos) (relation : Rel) → lone_name (expr.Lone pos relation) ≡ rel_name relation
+pub lone_name-LoneRelation : (pos : Pos) (relation : Rel) → lone_name (expr.LoneRelation pos relation) ≡ rel_name relation
 unfolding lone_name rel_box_name hidden-the_row-Rel-3 shape-the_row-Rel-3 hidden
-lone_name-Lone pos relation = refl
+lone_name-LoneRelation pos relation = refl
 
 pub dotted_name-Prefixed : (pos : Pos) (first : Identifier) (rest : List Suffix)
     → dotted_name (name.Prefixed pos first rest)
@@ -102,21 +103,21 @@ unfolding name_with_range
 name_with_range-Prefixed pos first rest apostrophe range = ap (λ parts. name.Prefixed pos first
     (parts ++ (suffix.RangeAttribute apostrophe range ∷ []))) (items_hidden-the_row-Suffix-7 rest)
 
-pub range_places-RangeAttribute : (apostrophe range : Pos)
-    → range_places (suffix.RangeAttribute apostrophe range) ≡ Some (apostrophe, range)
-unfolding range_places
-range_places-RangeAttribute apostrophe range = refl
+pub range_positions-RangeAttribute : (apostrophe range : Pos)
+    → range_positions (suffix.RangeAttribute apostrophe range) ≡ Some (apostrophe, range)
+unfolding range_positions
+range_positions-RangeAttribute apostrophe range = refl
 
 pub selected_part-Selected : (pos : Pos) (selector : Identifier)
-    → selected_part (suffix.Selected pos selector) ≡ Some (next_part.Dot pos selector)
+    → selected_part (suffix.Selected pos selector) ≡ Some (next_part.FurtherPart pos selector)
 unfolding selected_part
 selected_part-Selected pos selector = refl
 
 -- ---- where it is of no such form
 
-pub lone_name-other : (tree : Expr) → ((pos : Pos) (relation : Rel) → tree ≡ expr.Lone pos relation → ⊥) → lone_name tree ≡ None
+pub lone_name-other : (tree : Expr) → ((pos : Pos) (relation : Rel) → tree ≡ expr.LoneRelation pos relation → ⊥) → lone_name tree ≡ None
 unfolding lone_name
-lone_name-other = expr_form (λ t. ((pos : Pos) (relation : Rel) → t ≡ expr.Lone pos relation → ⊥) → lone_name t ≡ None)
+lone_name-other = expr_form (λ t. ((pos : Pos) (relation : Rel) → t ≡ expr.LoneRelation pos relation → ⊥) → lone_name t ≡ None)
     (λ pos relation not. absurd (not pos relation refl)) (λ _ _ _ _ _ _. refl) (λ _ _ _ _ _ _. refl) (λ _ _ _ _ _ _. refl)
     (λ _ _ _ _ _ _ _. refl) (λ _ _ _ _ _ _ _. refl)
 
@@ -133,11 +134,11 @@ selected_part-other = suffix_form
     (λ t. ((pos : Pos) (selector : Identifier) → t ≡ suffix.Selected pos selector → ⊥) → selected_part t ≡ None)
     (λ pos selector not. absurd (not pos selector refl)) (λ _ _ _. refl) (λ _ _ _ _ _. refl) (λ _ _ _. refl) (λ _ _ _. refl)
 
-pub range_places-other : (part : Suffix) → ((apostrophe range : Pos) → part ≡ suffix.RangeAttribute apostrophe range → ⊥)
-    → range_places part ≡ None
-unfolding range_places
-range_places-other = suffix_form
-    (λ t. ((apostrophe range : Pos) → t ≡ suffix.RangeAttribute apostrophe range → ⊥) → range_places t ≡ None)
+pub range_positions-other : (part : Suffix) → ((apostrophe range : Pos) → part ≡ suffix.RangeAttribute apostrophe range → ⊥)
+    → range_positions part ≡ None
+unfolding range_positions
+range_positions-other = suffix_form
+    (λ t. ((apostrophe range : Pos) → t ≡ suffix.RangeAttribute apostrophe range → ⊥) → range_positions t ≡ None)
     (λ _ _ _. refl) (λ _ _ _. refl) (λ _ _ _ _ _. refl) (λ _ _ _. refl) (λ apostrophe range not. absurd (not apostrophe range refl))
 
 -- ---- by the last suffix
@@ -147,21 +148,21 @@ option_map-twice g f None = refl
 option_map-twice g f (Some x) = refl
 
 pub cut_range-last : (front : List Suffix) (last : Suffix) → cut_range (front ++ (last ∷ []))
-    ≡ option_map (λ places. (front, places.0, places.1)) (range_places last)
+    ≡ option_map (λ positions. (front, positions.0, positions.1)) (range_positions last)
 cut_range-last [] last = refl
-cut_range-last (part ∷ []) last = option_map-twice (λ cut. (part ∷ cut.0, cut.1, cut.2)) (λ places. ([], places.0, places.1))
-    (range_places last)
+cut_range-last (part ∷ []) last = option_map-twice (λ cut. (part ∷ cut.0, cut.1, cut.2)) (λ positions. ([], positions.0, positions.1))
+    (range_positions last)
 cut_range-last (part ∷ (next ∷ rest)) last = ap (option_map (λ cut. (part ∷ cut.0, cut.1, cut.2)))
     (cut_range-last (next ∷ rest) last)
-    ∙ option_map-twice (λ cut. (part ∷ cut.0, cut.1, cut.2)) (λ places. (next ∷ rest, places.0, places.1)) (range_places last)
+    ∙ option_map-twice (λ cut. (part ∷ cut.0, cut.1, cut.2)) (λ positions. (next ∷ rest, positions.0, positions.1)) (range_positions last)
 
 pub range_prefix-last : (pos : Pos) (first : Identifier) (front : List Suffix) (last : Suffix)
     → range_prefix (name.Prefixed pos first (front ++ (last ∷ [])))
-    ≡ option_map (λ places. (name.Prefixed pos first front, places.0, places.1)) (range_places last)
+    ≡ option_map (λ positions. (name.Prefixed pos first front, positions.0, positions.1)) (range_positions last)
 range_prefix-last pos first front last = range_prefix-Prefixed pos first (front ++ (last ∷ []))
     ∙ ap (option_map (λ cut. (name.Prefixed pos first cut.0, cut.1, cut.2))) (cut_range-last front last)
-    ∙ option_map-twice (λ cut. (name.Prefixed pos first cut.0, cut.1, cut.2)) (λ places. (front, places.0, places.1))
-    (range_places last)
+    ∙ option_map-twice (λ cut. (name.Prefixed pos first cut.0, cut.1, cut.2)) (λ positions. (front, positions.0, positions.1))
+    (range_positions last)
 
 -- ---- for the code
 
@@ -203,15 +204,29 @@ dotted_or_name-other n pos first rest back is unselected same =
 
 -- What is taken off at the end of a name, by what its last suffix is.
 pub range_prefix_at : (n : Name) (pos : Pos) (first : Identifier) (rest front : List Suffix) (last : Suffix)
-    (found : Option (Pos × Pos)) → n ≡ name.Prefixed pos first rest → rest ≡ front ++ (last ∷ []) → found ≡ range_places last
-    → option_map (λ places. (name.Prefixed pos first front, places.0, places.1)) found ≡ range_prefix n
+    (found : Option (Pos × Pos)) → n ≡ name.Prefixed pos first rest → rest ≡ front ++ (last ∷ []) → found ≡ range_positions last
+    → option_map (λ positions. (name.Prefixed pos first front, positions.0, positions.1)) found ≡ range_prefix n
 range_prefix_at n pos first rest front last found is ends same = sym (ap range_prefix is
     ∙ ap (λ parts. range_prefix (name.Prefixed pos first parts)) ends ∙ range_prefix-last pos first front last
-    ∙ ap (option_map (λ places. (name.Prefixed pos first front, places.0, places.1))) (sym same))
+    ∙ ap (option_map (λ positions. (name.Prefixed pos first front, positions.0, positions.1))) (sym same))
 
 pub range_prefix_nowhere : (n : Name) (pos : Pos) (first : Identifier) (rest : List Suffix) → n ≡ name.Prefixed pos first rest
     → rest ≡ [] → None ≡ range_prefix n
 range_prefix_nowhere n pos first rest is empty = sym (ap range_prefix is
     ∙ ap (λ parts. range_prefix (name.Prefixed pos first parts)) empty ∙ range_prefix-Prefixed pos first [])
 
-pub ruleset lone_levels = (primary_name-Named, factor_name-Plain, factor_name-Abs, factor_name-Not, term_name-Product, sum_name-Unsigned, sum_name-Signed, rel_name-Sole, rel_name-Compared, lone_name-Lone, sole_identifier-Prefixed, selected_part-Selected, range_places-RangeAttribute)
+pub ruleset lone_levels = (
+  primary_name-Named,
+  factor_name-LonePrimary,
+  factor_name-Abs,
+  factor_name-Not,
+  term_name-Product,
+  sum_name-Unsigned,
+  sum_name-Signed,
+  rel_name-LoneSum,
+  rel_name-Compared,
+  lone_name-LoneRelation,
+  sole_identifier-Prefixed,
+  selected_part-Selected,
+  range_positions-RangeAttribute,
+)

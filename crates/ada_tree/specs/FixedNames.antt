@@ -105,7 +105,7 @@ unfoldable mutual
   WhenNamed (alternative.Alternative' pos first rest arrow _ body) = StmtsBoxNamed body
 
 unfoldable pub DeclNamed : Decl → Type 0
-DeclNamed (decl.Plain pos declared) = ItemNamed declared
+DeclNamed (decl.OfItem pos declared) = ItemNamed declared
 DeclNamed (decl.Subprogram pos spec mode semicolon) = EachSome ModeNamed mode
 
 unfoldable pub SubprogramNamed : SubprogramBody → Type 0

@@ -4,7 +4,5 @@ pub mod Spelling
 pub mod WellPlaced
 pub mod FixedNames
 pub mod Refusals
-pub mod Places
+pub mod Positions
 pub mod Lone
--- what a law of the spelling speaks of
-pub mod Nesting

@@ -1,5 +1,6 @@
--- What an expression or a name is where it is shorter than its type allows: a name alone, a dotted name, an identifier, or a
--- name with "'" "range" at its end. And, the other way, the trees that these are.
+-- What an expression or a name is where it is shorter than its type allows: a name alone, a dotted
+-- name, an identifier, or a name with "'" "range" at its end. And, the other way, the trees that
+-- these are.
 use Rattle.std.specs.Prelude.{List, [], ◌∷◌, ◌++◌, map, Option, Some, None, Result, option_map, ok_or}
 use Rattle.spark_base.specs.declared.position.Pos.{Pos}
 use Rattle.ada_tree.specs.declared.identifier.Identifier.{Identifier}
@@ -22,7 +23,7 @@ use Rattle.ada_tree.specs.declared.expression.Name.{Name, items-the_row-Suffix}
 use Rattle.ada_tree.specs.declared.expression.Name.TheVariants as name
 use Rattle.ada_tree.specs.declared.expression.Suffix.{Suffix}
 use Rattle.ada_tree.specs.declared.expression.Suffix.TheVariants as suffix
-use Rattle.ada_tree.specs.Places.{name_place}
+use Rattle.ada_tree.specs.Positions.{name_position}
 
 -- What was found, where nothing stands behind it.
 abbrev pub unfollowed : {A B : Type 0} → Option A → List B → Option A
@@ -44,7 +45,7 @@ primary_box_name end_of-Primary = None
 primary_box_name (more_of-Primary part rest) = primary_name part
 
 unfoldable pub factor_name : Factor → Option Name
-factor_name (factor.Plain' pos _ operand) = primary_box_name operand
+factor_name (factor.LonePrimary' pos _ operand) = primary_box_name operand
 factor_name _ = None
 
 unfoldable pub factor_box_name : {n : _} → Row_of-Factor n → Option Name
@@ -67,28 +68,29 @@ sum_box_name end_of-Sum = None
 sum_box_name (more_of-Sum part rest) = sum_name part
 
 unfoldable pub rel_name : Rel → Option Name
-rel_name (rel.Sole' pos _ operand) = sum_box_name operand
+rel_name (rel.LoneSum' pos _ operand) = sum_box_name operand
 rel_name _ = None
 
 unfoldable pub rel_box_name : {n : _} → Row_of-Rel n → Option Name
 rel_box_name end_of-Rel = None
 rel_box_name (more_of-Rel part rest) = rel_name part
 
--- The name that an expression is, where it is a name alone: it has no operator and no parenthesis around it.
+-- The name that an expression is, where it is a name alone: it has no operator and no parenthesis
+-- around it.
 unfoldable pub lone_name : Expr → Option Name
-lone_name (expr.Lone' pos _ relation) = rel_box_name relation
+lone_name (expr.LoneRelation' pos _ relation) = rel_box_name relation
 lone_name _ = None
 
 -- The expression that a name is by itself.
 unfoldable pub expr_of_name : Name → Expr
 expr_of_name n =
-    expr.Lone (name_place n) (rel.Sole (name_place n) (sum.Unsigned (name_place n) (term.Product (name_place n)
-    (factor.Plain (name_place n) (primary.Named (name_place n) n)) []) []))
+    expr.LoneRelation (name_position n) (rel.LoneSum (name_position n) (sum.Unsigned (name_position n) (term.Product (name_position n)
+    (factor.LonePrimary (name_position n) (primary.Named (name_position n) n)) []) []))
 
 -- ---- a name that is dotted
 
 unfoldable pub selected_part : Suffix → Option NextPart
-selected_part (suffix.Selected pos selector) = Some (next_part.Dot pos selector)
+selected_part (suffix.Selected pos selector) = Some (next_part.FurtherPart pos selector)
 selected_part _ = None
 
 abbrev pub part_before : Option NextPart → Option (List NextPart) → Option (List NextPart)
@@ -109,7 +111,7 @@ abbrev pub dotted_or_name : Name → Result Dotted Name
 dotted_or_name n = ok_or (dotted_name n) n
 
 unfoldable pub suffix_of_part : NextPart → Suffix
-suffix_of_part (next_part.Dot pos id) = suffix.Selected pos id
+suffix_of_part (next_part.FurtherPart pos id) = suffix.Selected pos id
 
 -- The name that a dotted name is.
 unfoldable pub name_of_dotted : Dotted → Name
@@ -127,18 +129,18 @@ name_of_identifier id = name.Prefixed id.pos id []
 
 -- ---- a name with "'" "range" at its end
 
--- The places of "'" and "range".
-unfoldable pub range_places : Suffix → Option (Pos × Pos)
-range_places (suffix.RangeAttribute pos range) = Some (pos, range)
-range_places _ = None
+-- The positions of "'" and "range".
+unfoldable pub range_positions : Suffix → Option (Pos × Pos)
+range_positions (suffix.RangeAttribute pos range) = Some (pos, range)
+range_positions _ = None
 
--- The suffixes in front of the last one, and the places of that one, where it is "'" "range".
+-- The suffixes in front of the last one, and the positions of that one, where it is "'" "range".
 abbrev pub cut_range : List Suffix → Option (List Suffix × Pos × Pos)
 cut_range [] = None
-cut_range (part ∷ []) = option_map (λ places. ([], places.0, places.1)) (range_places part)
+cut_range (part ∷ []) = option_map (λ positions. ([], positions.0, positions.1)) (range_positions part)
 cut_range (part ∷ (next ∷ rest)) = option_map (λ cut. (part ∷ cut.0, cut.1, cut.2)) (cut_range (next ∷ rest))
 
--- The name in front of its last suffix, and the places of that one, where it is "'" "range".
+-- The name in front of its last suffix, and the positions of that one, where it is "'" "range".
 unfoldable pub range_prefix : Name → Option (Name × Pos × Pos)
 range_prefix (name.Prefixed' pos first _ rest) =
     option_map (λ cut. (name.Prefixed pos first cut.0, cut.1, cut.2)) (cut_range (items-the_row-Suffix _ rest))

@@ -5,12 +5,12 @@ use Rattle.ada_lexer.specs.declared.token.Reserved.TheVariants.{KwAbort, KwAbstr
 use Rattle.ada_tree.specs.declared.unit.SourceUnit.{SourceUnit}
 use Rattle.token_reading.specs.Spelled.{Spelled, Word, Ident, Number, Str, Delimiter, EndOfFile}
 use Rattle.token_reading.specs.Sources as sources
-use Rattle.ada_tree.specs.Spelling.{source_marks}
+use Rattle.ada_tree.specs.Spelling.{source_spelling}
 use Rattle.ada_tree.specs.WellPlaced.{WellPlaced}
 use Rattle.ada_tree.specs.FixedNames.{FixedNames}
 
--- The units are those of a source: there is one at least, each part has its place, and the fixed names stand where the
--- grammar has them.
+-- The units are those of a source: there is one at least, each part has its position, and the fixed
+-- names stand where the grammar has them.
 pub record IsSource (units : List SourceUnit) : Type 0 where
   pub some : (first : SourceUnit) × (rest : List SourceUnit) × (units ≡ first ∷ rest)
   pub placed : WellPlaced units
@@ -18,13 +18,14 @@ pub record IsSource (units : List SourceUnit) : Type 0 where
 
 -- The units are those of a source that is spelled by the tokens.
 abbrev pub IsSpelledBy : List Spelled → List SourceUnit → Type 0
-IsSpelledBy = sources.IsSpelledBy IsSource source_marks
+IsSpelledBy = sources.IsSpelledBy IsSource source_spelling
 
--- The units are the one source that is spelled by the tokens, none of which is one too many.
+-- The units are the one source that is spelled by the tokens, none of which exceeds the limit.
 abbrev pub IsTreeOf : List Spelled → List SourceUnit → Type 0
-IsTreeOf = sources.IsTreeOf IsSource source_marks
+IsTreeOf = sources.IsTreeOf IsSource source_spelling
 
--- Words of Ada 2012 that begin or go on with what is left out of the language. At the refused token they are P3.
+-- Words of Ada 2012 that begin or continue what is left out of the language. Where the refused
+-- token is one of them, the code is P3.
 abbrev pub is_left_out_word : Reserved → Bool
 is_left_out_word KwAbort = true
 is_left_out_word KwAbstract = true
@@ -74,8 +75,9 @@ pub data Code : Type 0 where
   -- P3
   LeftOut : Code
 
--- The token behind the list is refused with the code. P1 and P3 go before P2 at one token: with P2 a source goes on through it.
+-- The token behind the list is refused with the code. Where it is P2, the token is the last of a
+-- viable prefix; where it is P1 or P3, it isn't.
 abbrev pub IsRefused : Code → List Spelled → Spelled → Type 0
-IsRefused Syntax before token = sources.IsFaulty IsSource source_marks before token × (is_left_out token ≡ false)
-IsRefused LeftOut before token = sources.IsFaulty IsSource source_marks before token × (is_left_out token ≡ true)
-IsRefused TooDeep before token = sources.IsTooMany IsSource source_marks before token
+IsRefused Syntax before token = sources.IsFaulty IsSource source_spelling before token × (is_left_out token ≡ false)
+IsRefused LeftOut before token = sources.IsFaulty IsSource source_spelling before token × (is_left_out token ≡ true)
+IsRefused TooDeep before token = sources.IsOverLimit IsSource source_spelling before token

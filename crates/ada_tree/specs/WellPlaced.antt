@@ -1,8 +1,8 @@
--- The place of each part of a tree is that of its first token (docs/LANGUAGE.md, "Grammar").
+-- The position of each part of a tree is that of its first token (docs/LANGUAGE.md, "Grammar").
 --
--- Where a part begins with a token of its own, its place is the place of that token by the spelling. What is left
--- to say is the place of each part that begins with another part. `d` is how many constructs are open around the part, as in
--- the spelling.
+-- Where a part begins with a token of its own, its position is the position of that token by the
+-- spelling. What is left to say is the position of each part that begins with another part. `d` is
+-- how many constructs are open around the part, as in the spelling.
 use Rattle.std.specs.Prelude.{◌≡◌, ℕ, suc, List, ◌++◌, Option, Some, None}
 use Rattle.std.specs.List.{flat_map}
 use Rattle.spark_base.specs.declared.position.Pos.{Pos}
@@ -80,10 +80,10 @@ use Rattle.ada_tree.specs.declared.unit.BodyPart.{BodyPart}
 use Rattle.ada_tree.specs.declared.unit.BodyPart.TheVariants as part
 use Rattle.ada_tree.specs.declared.unit.SubprogramBody.{SubprogramBody}
 use Rattle.token_reading.specs.declared.side.Side.TheVariants.{Apart, Within}
-use Rattle.token_reading.specs.Marks.{Mark, bare}
+use Rattle.token_reading.specs.Weights.{WeighedToken, bare}
 use Rattle.token_reading.specs.Reading as reading
 use Rattle.token_reading.specs.Reading.{Each}
-use Rattle.ada_tree.specs.Spelling.{dotted_marks, name_box, name_marks, expr_box, expr_marks, rel_box, sum_box, term_box, factor_box, primary_box, aggregate_box, item_marks, stmt_box, subspec_marks, decl_marks, subprogram_marks, context_marks, package_marks, package_body_marks}
+use Rattle.ada_tree.specs.Spelling.{dotted_spelling, name_box, name_spelling, expr_box, expr_spelling, rel_box, sum_box, term_box, factor_box, primary_box, aggregate_box, item_spelling, stmt_box, subspec_spelling, decl_spelling, subprogram_spelling, context_spelling, package_spelling, package_body_spelling}
 
 -- The fact holds of the part, where there is one.
 abbrev pub EachSome : {A : Type 0} → (A → Type 0) → Option A → Type 0
@@ -91,14 +91,14 @@ EachSome P None = Unit {0}
 EachSome P (Some x) = P x
 
 -- The first of the tokens stands there.
-abbrev pub StartsAt : Pos → List Mark → Type 0
-StartsAt pos marks = reading.StartsAt pos (bare marks)
+abbrev pub StartsAt : Pos → List WeighedToken → Type 0
+StartsAt pos spelling = reading.StartsAt pos (bare spelling)
 
 unfoldable pub DottedPlaced : Dotted → Type 0
 DottedPlaced dotted = dotted.first.pos ≡ dotted.pos
 
 unfoldable pub NextDottedPlaced : NextDotted → Type 0
-NextDottedPlaced (next_dotted.Comma pos dotted) = DottedPlaced dotted
+NextDottedPlaced (next_dotted.FurtherDotted pos dotted) = DottedPlaced dotted
 
 -- ---- expressions and names
 
@@ -123,7 +123,7 @@ unfoldable mutual
   NextArgsPlaced d (more_of-NextArg part rest) = NextArgPlaced d part × NextArgsPlaced d rest
 
   pub NextArgPlaced : ℕ → NextArg → Type 0
-  NextArgPlaced d (next_arg.NextArgument' pos _ part) = ArgBoxPlaced d part
+  NextArgPlaced d (next_arg.FurtherArg' pos _ part) = ArgBoxPlaced d part
 
   pub ArgPlaced : ℕ → Arg → Type 0
   ArgPlaced d (arg.Positional' pos _ value) = StartsAt pos (expr_box d value) × ExprBoxPlaced d value
@@ -134,7 +134,7 @@ unfoldable mutual
   ExprBoxPlaced d (more_of-Expr part rest) = ExprPlaced d part
 
   pub ExprPlaced : ℕ → Expr → Type 0
-  ExprPlaced d (expr.Lone' pos _ relation) = StartsAt pos (rel_box d relation) × RelBoxPlaced d relation
+  ExprPlaced d (expr.LoneRelation' pos _ relation) = StartsAt pos (rel_box d relation) × RelBoxPlaced d relation
   ExprPlaced d (expr.And' pos _ first and _ second _ rest) =
       StartsAt pos (rel_box d first) × RelBoxPlaced d first × RelBoxPlaced d second × OperandsPlaced d rest
   ExprPlaced d (expr.Or' pos _ first or _ second _ rest) =
@@ -151,21 +151,21 @@ unfoldable mutual
   OperandsPlaced d (more_of-Operand part rest) = OperandPlaced d part × OperandsPlaced d rest
 
   pub OperandPlaced : ℕ → Operand → Type 0
-  OperandPlaced d (operand.Next' pos _ relation) = RelBoxPlaced d relation
+  OperandPlaced d (operand.FurtherOperand' pos _ relation) = RelBoxPlaced d relation
 
   pub ShortOperandsPlaced : {n : _} → ℕ → Row_of-ShortOperand n → Type 0
   ShortOperandsPlaced d end_of-ShortOperand = Unit {0}
   ShortOperandsPlaced d (more_of-ShortOperand part rest) = ShortOperandPlaced d part × ShortOperandsPlaced d rest
 
   pub ShortOperandPlaced : ℕ → ShortOperand → Type 0
-  ShortOperandPlaced d (short_operand.NextShort' pos second_word _ relation) = RelBoxPlaced d relation
+  ShortOperandPlaced d (short_operand.FurtherShortOperand' pos second_word _ relation) = RelBoxPlaced d relation
 
   pub RelBoxPlaced : {n : _} → ℕ → Row_of-Rel n → Type 0
   RelBoxPlaced d end_of-Rel = Unit {0}
   RelBoxPlaced d (more_of-Rel part rest) = RelPlaced d part
 
   pub RelPlaced : ℕ → Rel → Type 0
-  RelPlaced d (rel.Sole' pos _ operand) = StartsAt pos (sum_box d operand) × SumBoxPlaced d operand
+  RelPlaced d (rel.LoneSum' pos _ operand) = StartsAt pos (sum_box d operand) × SumBoxPlaced d operand
   RelPlaced d (rel.Compared' pos _ left operator operator_pos _ right) =
       StartsAt pos (sum_box d left) × SumBoxPlaced d left × SumBoxPlaced d right
 
@@ -182,7 +182,7 @@ unfoldable mutual
   NextTermsPlaced d (more_of-NextTerm part rest) = NextTermPlaced d part × NextTermsPlaced d rest
 
   pub NextTermPlaced : ℕ → NextTerm → Type 0
-  NextTermPlaced d (next_term.Added' pos operator _ part) = TermBoxPlaced d part
+  NextTermPlaced d (next_term.FurtherTerm' pos operator _ part) = TermBoxPlaced d part
 
   pub TermBoxPlaced : {n : _} → ℕ → Row_of-Term n → Type 0
   TermBoxPlaced d end_of-Term = Unit {0}
@@ -197,14 +197,14 @@ unfoldable mutual
   NextFactorsPlaced d (more_of-NextFactor part rest) = NextFactorPlaced d part × NextFactorsPlaced d rest
 
   pub NextFactorPlaced : ℕ → NextFactor → Type 0
-  NextFactorPlaced d (next_factor.Multiplied' pos operator _ part) = FactorBoxPlaced d part
+  NextFactorPlaced d (next_factor.FurtherFactor' pos operator _ part) = FactorBoxPlaced d part
 
   pub FactorBoxPlaced : {n : _} → ℕ → Row_of-Factor n → Type 0
   FactorBoxPlaced d end_of-Factor = Unit {0}
   FactorBoxPlaced d (more_of-Factor part rest) = FactorPlaced d part
 
   pub FactorPlaced : ℕ → Factor → Type 0
-  FactorPlaced d (factor.Plain' pos _ operand) = StartsAt pos (primary_box d operand) × PrimaryBoxPlaced d operand
+  FactorPlaced d (factor.LonePrimary' pos _ operand) = StartsAt pos (primary_box d operand) × PrimaryBoxPlaced d operand
   FactorPlaced d (factor.Abs' pos _ operand) = PrimaryBoxPlaced d operand
   FactorPlaced d (factor.Not' pos _ operand) = PrimaryBoxPlaced d operand
 
@@ -239,15 +239,15 @@ unfoldable mutual
 -- ---- ranges and choices
 
 unfoldable pub RangePlaced : ℕ → Range → Type 0
-RangePlaced d (range.Bounds pos low dots high) = StartsAt pos (expr_marks d low) × ExprPlaced d low × ExprPlaced d high
-RangePlaced d (range.Marked pos mark) = StartsAt pos (dotted_marks Within mark) × DottedPlaced mark
+RangePlaced d (range.Bounds pos low dots high) = StartsAt pos (expr_spelling d low) × ExprPlaced d low × ExprPlaced d high
+RangePlaced d (range.Marked pos mark) = StartsAt pos (dotted_spelling Within mark) × DottedPlaced mark
 RangePlaced d (range.Constrained pos mark of_range low dots high) =
-    StartsAt pos (dotted_marks Within mark) × DottedPlaced mark × ExprPlaced d low × ExprPlaced d high
-RangePlaced d (range.RangeOf pos prefix apostrophe of_range) = StartsAt pos (name_marks Within d prefix) × NamePlaced d prefix
+    StartsAt pos (dotted_spelling Within mark) × DottedPlaced mark × ExprPlaced d low × ExprPlaced d high
+RangePlaced d (range.RangeOf pos prefix apostrophe of_range) = StartsAt pos (name_spelling Within d prefix) × NamePlaced d prefix
 
 unfoldable pub ChoicePlaced : ℕ → Choice → Type 0
-ChoicePlaced d (choice.Value pos value) = StartsAt pos (expr_marks d value) × ExprPlaced d value
-ChoicePlaced d (choice.Interval pos low dots high) = StartsAt pos (expr_marks d low) × ExprPlaced d low × ExprPlaced d high
+ChoicePlaced d (choice.Value pos value) = StartsAt pos (expr_spelling d value) × ExprPlaced d value
+ChoicePlaced d (choice.Interval pos low dots high) = StartsAt pos (expr_spelling d low) × ExprPlaced d low × ExprPlaced d high
 ChoicePlaced d (choice.Others pos) = Unit {0}
 
 unfoldable pub NextChoicePlaced : ℕ → NextChoice → Type 0
@@ -256,7 +256,7 @@ NextChoicePlaced d (next_choice.Bar pos part) = ChoicePlaced d part
 -- ---- items
 
 unfoldable pub IndicationPlaced : Indication → Type 0
-IndicationPlaced (indication.Mark pos mark) = StartsAt pos (dotted_marks Apart mark) × DottedPlaced mark
+IndicationPlaced (indication.Mark pos mark) = StartsAt pos (dotted_spelling Apart mark) × DottedPlaced mark
 IndicationPlaced (indication.Anonymous pos constant designated) = DottedPlaced designated
 
 unfoldable pub ComponentPlaced : Component → Type 0
@@ -305,8 +305,8 @@ unfoldable mutual
 
   pub StmtPlaced : ℕ → Stmt → Type 0
   StmtPlaced d (stmt.Assign pos target becomes value semicolon) =
-      StartsAt pos (name_marks Apart d target) × NamePlaced d target × ExprPlaced d value
-  StmtPlaced d (stmt.Call pos called semicolon) = StartsAt pos (name_marks Apart d called) × NamePlaced d called
+      StartsAt pos (name_spelling Apart d target) × NamePlaced d target × ExprPlaced d value
+  StmtPlaced d (stmt.Call pos called semicolon) = StartsAt pos (name_spelling Apart d called) × NamePlaced d called
   StmtPlaced d (stmt.ExitWhen pos when condition semicolon) = ExprPlaced d condition
   StmtPlaced d (stmt.ReturnValue pos value semicolon) = ExprPlaced d value
   StmtPlaced d (stmt.If' pos condition then _ body _ elsifs end end_if semicolon) =
@@ -362,17 +362,17 @@ SubspecPlaced (subspec.Procedure pos id formals) = EachSome FormalsPlaced formal
 SubspecPlaced (subspec.Function pos id formals return_word result) = EachSome FormalsPlaced formals × IndicationPlaced result
 
 unfoldable pub DeclPlaced : ℕ → Decl → Type 0
-DeclPlaced d (decl.Plain pos declared) = StartsAt pos (item_marks d declared) × ItemPlaced d declared
-DeclPlaced d (decl.Subprogram pos spec mode semicolon) = StartsAt pos (subspec_marks d spec) × SubspecPlaced spec
+DeclPlaced d (decl.OfItem pos declared) = StartsAt pos (item_spelling d declared) × ItemPlaced d declared
+DeclPlaced d (decl.Subprogram pos spec mode semicolon) = StartsAt pos (subspec_spelling d spec) × SubspecPlaced spec
 
 unfoldable pub SubprogramPlaced : ℕ → SubprogramBody → Type 0
 SubprogramPlaced d body =
-    StartsAt body.pos (subspec_marks d body.spec) × SubspecPlaced body.spec × Each (ItemPlaced (suc d)) body.items
+    StartsAt body.pos (subspec_spelling d body.spec) × SubspecPlaced body.spec × Each (ItemPlaced (suc d)) body.items
     × StmtsPlaced (suc d) body.stmts
 
 unfoldable pub BodyPartPlaced : ℕ → BodyPart → Type 0
-BodyPartPlaced d (part.Declared pos declared) = StartsAt pos (decl_marks d declared) × DeclPlaced d declared
-BodyPartPlaced d (part.Completed pos body) = StartsAt pos (subprogram_marks d body) × SubprogramPlaced d body
+BodyPartPlaced d (part.Declared pos declared) = StartsAt pos (decl_spelling d declared) × DeclPlaced d declared
+BodyPartPlaced d (part.Completed pos body) = StartsAt pos (subprogram_spelling d body) × SubprogramPlaced d body
 
 unfoldable pub PrivatePlaced : ℕ → PrivatePart → Type 0
 PrivatePlaced d part = Each (DeclPlaced d) part.decls
@@ -390,13 +390,13 @@ ContextPlaced (context.Pragma pos clause) = clause.pos ≡ pos
 
 unfoldable pub UnitPlaced : SourceUnit → Type 0
 UnitPlaced (unit.OfPackage pos clauses whole) =
-    StartsAt pos (flat_map context_marks clauses ++ package_marks 0 whole) × Each ContextPlaced clauses × PackagePlaced 0 whole
+    StartsAt pos (flat_map context_spelling clauses ++ package_spelling 0 whole) × Each ContextPlaced clauses × PackagePlaced 0 whole
 UnitPlaced (unit.OfBody pos clauses body) =
-    StartsAt pos (flat_map context_marks clauses
-    ++ package_body_marks 0 body) × Each ContextPlaced clauses × PackageBodyPlaced 0 body
+    StartsAt pos (flat_map context_spelling clauses
+    ++ package_body_spelling 0 body) × Each ContextPlaced clauses × PackageBodyPlaced 0 body
 UnitPlaced (unit.OfSubprogram pos clauses body) =
-    StartsAt pos (flat_map context_marks clauses
-    ++ subprogram_marks 0 body) × Each ContextPlaced clauses × SubprogramPlaced 0 body
+    StartsAt pos (flat_map context_spelling clauses
+    ++ subprogram_spelling 0 body) × Each ContextPlaced clauses × SubprogramPlaced 0 body
 
 abbrev pub WellPlaced : List SourceUnit → Type 0
 WellPlaced = Each UnitPlaced

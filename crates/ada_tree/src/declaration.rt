@@ -6,7 +6,7 @@ use crate::range::Range;
 use spark_base::{Boxed, Listed, Pos};
 
 /// item, a declaration (Ada 2012, 3.11).
-#[derive(Debug, Drop)]
+#[derive(Drop)]
 pub enum Item {
     /// `type` id `;` (Ada 2012, 3.10.1)
     IncompleteType {
@@ -144,7 +144,7 @@ pub enum Item {
     },
     /// id {`,` id} `:` [`constant`] (mark | anon) `;` (Ada 2012, 3.3.1)
     Objects {
-        /// The place of the first identifier.
+        /// The position of the first identifier.
         pos: Pos,
         /// The first identifier.
         first: Identifier,
@@ -161,7 +161,7 @@ pub enum Item {
     },
     /// id {`,` id} `:` [`constant`] (mark | anon) `:=` expr `;` (Ada 2012, 3.3.1)
     InitializedObjects {
-        /// The place of the first identifier.
+        /// The position of the first identifier.
         pos: Pos,
         /// The first identifier.
         first: Identifier,
@@ -182,7 +182,7 @@ pub enum Item {
     },
     /// id {`,` id} `:` `constant` `:=` expr `;` (Ada 2012, 3.3.2)
     Numbers {
-        /// The place of the first identifier.
+        /// The position of the first identifier.
         pos: Pos,
         /// The first identifier.
         first: Identifier,
@@ -224,14 +224,14 @@ pub enum Item {
     },
     /// usecl (Ada 2012, 8.4)
     Use {
-        /// The place of the clause.
+        /// The position of the clause.
         pos: Pos,
         /// The clause.
         clause: UseClause,
     },
     /// pragma (Ada 2012, 2.8)
     Pragma {
-        /// The place of the pragma.
+        /// The position of the pragma.
         pos: Pos,
         /// The pragma.
         clause: PragmaClause,
@@ -239,11 +239,11 @@ pub enum Item {
 }
 
 /// comp, a declaration of components (Ada 2012, 3.8).
-#[derive(Debug, Drop)]
+#[derive(Drop)]
 pub enum Component {
     /// id {`,` id} `:` mark `;`
     Fields {
-        /// The place of the first identifier.
+        /// The position of the first identifier.
         pos: Pos,
         /// The first identifier.
         first: Identifier,
@@ -258,13 +258,13 @@ pub enum Component {
     },
 }
 
-/// mark | anon, where anon = `access` [`constant`] mark: what an object or a function's result is of
-/// (Ada 2012, 3.2.2 and 3.10).
-#[derive(Debug, Drop)]
+/// mark | anon, where anon = `access` [`constant`] mark: what an object or a function's result is
+/// of (Ada 2012, 3.2.2 and 3.10).
+#[derive(Drop)]
 pub enum Indication {
     /// mark
     Mark {
-        /// The place of the mark.
+        /// The position of the mark.
         pos: Pos,
         /// The mark.
         mark: Dotted,
@@ -281,7 +281,7 @@ pub enum Indication {
 }
 
 /// usecl = `use` [`type`] dotted {`,` dotted} `;` (Ada 2012, 8.4)
-#[derive(Debug, Drop)]
+#[derive(Drop)]
 pub struct UseClause {
     /// `use`
     pub pos: Pos,
@@ -296,7 +296,7 @@ pub struct UseClause {
 }
 
 /// `(` On `)`
-#[derive(Debug, Drop)]
+#[derive(Drop)]
 pub struct PragmaOn {
     /// `(`
     pub pos: Pos,
@@ -307,7 +307,7 @@ pub struct PragmaOn {
 }
 
 /// pragma = `pragma` SPARK_Mode [`(` On `)`] `;` (Ada 2012, 2.8)
-#[derive(Debug, Drop)]
+#[derive(Drop)]
 pub struct PragmaClause {
     /// `pragma`
     pub pos: Pos,

@@ -7,18 +7,18 @@ use spark_base::{Boxed, Listed, Pos};
 
 /// expr, an expression (Ada 2012, 4.4). A chain of one operator groups to the left.
 #[cycle(expression)]
-#[derive(Debug, Drop)]
+#[derive(Drop)]
 pub enum Expr {
     /// rel
-    Lone {
-        /// The place of the relation.
+    LoneRelation {
+        /// The position of the relation.
         pos: Pos,
         /// The relation.
         relation: Boxed<Rel>,
     },
     /// rel `and` rel {`and` rel} (Ada 2012, 4.4 and 4.5.1)
     And {
-        /// The place of the first operand.
+        /// The position of the first operand.
         pos: Pos,
         /// The first operand.
         first: Boxed<Rel>,
@@ -31,7 +31,7 @@ pub enum Expr {
     },
     /// rel `or` rel {`or` rel} (Ada 2012, 4.4 and 4.5.1)
     Or {
-        /// The place of the first operand.
+        /// The position of the first operand.
         pos: Pos,
         /// The first operand.
         first: Boxed<Rel>,
@@ -44,7 +44,7 @@ pub enum Expr {
     },
     /// rel `xor` rel {`xor` rel} (Ada 2012, 4.4 and 4.5.1)
     Xor {
-        /// The place of the first operand.
+        /// The position of the first operand.
         pos: Pos,
         /// The first operand.
         first: Boxed<Rel>,
@@ -57,7 +57,7 @@ pub enum Expr {
     },
     /// rel `and` `then` rel {`and` `then` rel} (Ada 2012, 4.4 and 4.5.1)
     AndThen {
-        /// The place of the first operand.
+        /// The position of the first operand.
         pos: Pos,
         /// The first operand.
         first: Boxed<Rel>,
@@ -72,7 +72,7 @@ pub enum Expr {
     },
     /// rel `or` `else` rel {`or` `else` rel} (Ada 2012, 4.4 and 4.5.1)
     OrElse {
-        /// The place of the first operand.
+        /// The position of the first operand.
         pos: Pos,
         /// The first operand.
         first: Boxed<Rel>,
@@ -89,10 +89,10 @@ pub enum Expr {
 
 /// A further operand of a chain of `and`, `or` or `xor`.
 #[cycle(expression)]
-#[derive(Debug, Drop)]
+#[derive(Drop)]
 pub enum Operand {
     /// (`and` | `or` | `xor`) rel (Ada 2012, 4.4)
-    Next {
+    FurtherOperand {
         /// The operator.
         pos: Pos,
         /// The operand.
@@ -102,10 +102,10 @@ pub enum Operand {
 
 /// A further operand of a chain of `and` `then` or `or` `else`.
 #[cycle(expression)]
-#[derive(Debug, Drop)]
+#[derive(Drop)]
 pub enum ShortOperand {
     /// (`and` `then` | `or` `else`) rel (Ada 2012, 4.4)
-    NextShort {
+    FurtherShortOperand {
         /// The first word of the operator.
         pos: Pos,
         /// Its second word.
@@ -117,18 +117,18 @@ pub enum ShortOperand {
 
 /// rel, a relation (Ada 2012, 4.4).
 #[cycle(expression)]
-#[derive(Debug, Drop)]
+#[derive(Drop)]
 pub enum Rel {
     /// sum
-    Sole {
-        /// The place of the sum.
+    LoneSum {
+        /// The position of the sum.
         pos: Pos,
         /// The sum.
         sum: Boxed<Sum>,
     },
     /// sum (`=` | `/=` | `<` | `<=` | `>` | `>=`) sum (Ada 2012, 4.4 and 4.5.2)
     Compared {
-        /// The place of the left operand.
+        /// The position of the left operand.
         pos: Pos,
         /// The left operand.
         left: Boxed<Sum>,
@@ -143,11 +143,11 @@ pub enum Rel {
 
 /// sum, a simple expression (Ada 2012, 4.4).
 #[cycle(expression)]
-#[derive(Debug, Drop)]
+#[derive(Drop)]
 pub enum Sum {
     /// term {(`+` | `-` | `&`) term}
     Unsigned {
-        /// The place of the first term.
+        /// The position of the first term.
         pos: Pos,
         /// The first term.
         first: Boxed<Term>,
@@ -169,10 +169,10 @@ pub enum Sum {
 
 /// A further term of a sum.
 #[cycle(expression)]
-#[derive(Debug, Drop)]
+#[derive(Drop)]
 pub enum NextTerm {
     /// (`+` | `-` | `&`) term (Ada 2012, 4.4 and 4.5.3)
-    Added {
+    FurtherTerm {
         /// The operator.
         pos: Pos,
         /// Which operator stands there.
@@ -184,11 +184,11 @@ pub enum NextTerm {
 
 /// term (Ada 2012, 4.4).
 #[cycle(expression)]
-#[derive(Debug, Drop)]
+#[derive(Drop)]
 pub enum Term {
     /// factor {(`*` | `/` | `mod` | `rem`) factor}
     Product {
-        /// The place of the first factor.
+        /// The position of the first factor.
         pos: Pos,
         /// The first factor.
         first: Boxed<Factor>,
@@ -199,10 +199,10 @@ pub enum Term {
 
 /// A further factor of a term.
 #[cycle(expression)]
-#[derive(Debug, Drop)]
+#[derive(Drop)]
 pub enum NextFactor {
     /// (`*` | `/` | `mod` | `rem`) factor (Ada 2012, 4.4 and 4.5.5)
-    Multiplied {
+    FurtherFactor {
         /// The operator.
         pos: Pos,
         /// Which operator stands there.
@@ -214,11 +214,11 @@ pub enum NextFactor {
 
 /// factor (Ada 2012, 4.4).
 #[cycle(expression)]
-#[derive(Debug, Drop)]
+#[derive(Drop)]
 pub enum Factor {
     /// primary
-    Plain {
-        /// The place of the primary.
+    LonePrimary {
+        /// The position of the primary.
         pos: Pos,
         /// The primary.
         primary: Boxed<Primary>,
@@ -241,7 +241,7 @@ pub enum Factor {
 
 /// primary (Ada 2012, 4.4).
 #[cycle(expression)]
-#[derive(Debug, Drop)]
+#[derive(Drop)]
 pub enum Primary {
     /// number (Ada 2012, 2.4)
     Number {
@@ -264,7 +264,7 @@ pub enum Primary {
     },
     /// name (Ada 2012, 4.1)
     Named {
-        /// The place of the name.
+        /// The position of the name.
         pos: Pos,
         /// The name.
         name: Boxed<Name>,
@@ -280,7 +280,7 @@ pub enum Primary {
     },
     /// aggregate (Ada 2012, 4.3)
     Aggregated {
-        /// The place of the aggregate.
+        /// The position of the aggregate.
         pos: Pos,
         /// The aggregate.
         aggregate: Boxed<Aggregate>,
@@ -322,7 +322,7 @@ pub enum Primary {
 
 /// aggregate (Ada 2012, 4.3).
 #[cycle(expression)]
-#[derive(Debug, Drop)]
+#[derive(Drop)]
 pub enum Aggregate {
     /// `(` arg `,` arg {`,` arg} `)` (Ada 2012, 4.3.1 and 4.3.3)
     Several {
@@ -369,18 +369,18 @@ pub enum Aggregate {
 
 /// arg, an actual, an index, a component or an element (Ada 2012, 4.1.1, 4.3.1 and 6.4).
 #[cycle(expression)]
-#[derive(Debug, Drop)]
+#[derive(Drop)]
 pub enum Arg {
     /// expr
     Positional {
-        /// The place of the expression.
+        /// The position of the expression.
         pos: Pos,
         /// The expression.
         value: Boxed<Expr>,
     },
     /// id `=>` expr (Ada 2012, 4.3.1 and 6.4)
     Association {
-        /// The place of the identifier.
+        /// The position of the identifier.
         pos: Pos,
         /// The name of the formal or component.
         name: Identifier,
@@ -393,10 +393,10 @@ pub enum Arg {
 
 /// A further arg.
 #[cycle(expression)]
-#[derive(Debug, Drop)]
+#[derive(Drop)]
 pub enum NextArg {
     /// `,` arg
-    NextArgument {
+    FurtherArg {
         /// `,`
         pos: Pos,
         /// The arg.
@@ -406,11 +406,11 @@ pub enum NextArg {
 
 /// name (Ada 2012, 4.1).
 #[cycle(expression)]
-#[derive(Debug, Drop)]
+#[derive(Drop)]
 pub enum Name {
     /// id {`.` id | `.` `all` | `(` args `)` | `'` (id | `range`)}
     Prefixed {
-        /// The place of the identifier.
+        /// The position of the identifier.
         pos: Pos,
         /// The identifier.
         first: Identifier,
@@ -419,9 +419,9 @@ pub enum Name {
     },
 }
 
-/// What a name goes on with.
+/// What stands behind the first identifier of a name, or behind another suffix.
 #[cycle(expression)]
-#[derive(Debug, Drop)]
+#[derive(Drop)]
 pub enum Suffix {
     /// `.` id (Ada 2012, 4.1.3)
     Selected {

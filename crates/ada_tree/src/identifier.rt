@@ -4,7 +4,7 @@ use crate::word::Word;
 use spark_base::{Listed, Pos};
 
 /// An identifier, as it is written (Ada 2012, 2.3).
-#[derive(Debug, Drop)]
+#[derive(Drop)]
 pub struct Identifier {
     /// Its first byte.
     pub pos: Pos,
@@ -13,10 +13,10 @@ pub struct Identifier {
 }
 
 /// `,` id
-#[derive(Debug, Drop)]
+#[derive(Drop)]
 pub enum NextIdentifier {
     /// `,` id (Ada 2012, 3.3.1)
-    After {
+    FurtherIdentifier {
         /// `,`
         pos: Pos,
         /// The identifier.
@@ -25,9 +25,9 @@ pub enum NextIdentifier {
 }
 
 /// dotted = id {`.` id} (Ada 2012, 4.1.3). A mark is one: mark = dotted (Ada 2012, 3.2.2).
-#[derive(Debug, Drop)]
+#[derive(Drop)]
 pub struct Dotted {
-    /// The place of the first identifier.
+    /// The position of the first identifier.
     pub pos: Pos,
     /// The first identifier.
     pub first: Identifier,
@@ -36,10 +36,10 @@ pub struct Dotted {
 }
 
 /// `.` id
-#[derive(Debug, Drop)]
+#[derive(Drop)]
 pub enum NextPart {
     /// `.` id (Ada 2012, 4.1.3)
-    Dot {
+    FurtherPart {
         /// `.`
         pos: Pos,
         /// The identifier.
@@ -48,10 +48,10 @@ pub enum NextPart {
 }
 
 /// `,` dotted
-#[derive(Debug, Drop)]
+#[derive(Drop)]
 pub enum NextDotted {
     /// `,` dotted (Ada 2012, 8.4 and 10.1.2)
-    Comma {
+    FurtherDotted {
         /// `,`
         pos: Pos,
         /// The dotted name.

@@ -4,7 +4,8 @@ ghost use Rattle.ada_tree.specs.Refusals.{is_left_out_word};
 
 use ada_lexer::Reserved;
 
-/// Whether a word begins or goes on with what is left out of the language (`docs/LANGUAGE.md`, "Grammar").
+/// Whether a word begins or continues what is left out of the language (`docs/LANGUAGE.md`,
+/// "Grammar").
 /// Where the refused token is such a word, the code is P3, else P1.
 pub fn is_left_out(word: Reserved) -> bool
     ensures { result ≡ is_left_out_word word }

@@ -1,9 +1,11 @@
 //! The trees of the whole grammar, and what a tree is spelled by.
 //!
-//! A `SourceUnit` is the tree of one unit. Its parts are `Decl`, `Item`, `Stmt`, `Expr`, `Name` and theirs: one type for each
-//! production, one variant for each of its alternatives. Each keeps its parts in order, behind the place of its first token: which
-//! optional words stood, the place of each token, and the text of each identifier and string.
-//! What a tree is spelled by, `specs/Spelling.antt` states; `docs/LANGUAGE.md`, "Grammar", has the productions.
+//! A `SourceUnit` is the tree of one unit. Its parts are `Decl`, `Item`, `Stmt`, `Expr`, `Name` and
+//! theirs: one type for each production, one variant for each of its alternatives. Each keeps its
+//! parts in order, behind the position of its first token: which optional words stood, the position
+//! of each token, and the text of each identifier and string. `Trees` owns those of a file.
+//! What a tree is spelled by, `specs/Spelling.antt` states; `docs/LANGUAGE.md`, "Grammar", has the
+//! productions. Laws of the spelling stand in `ada_grammar`.
 //! Nothing is refused here. A tree takes memory in proportion to its tokens.
 #![tactic(auto)]
 
@@ -13,10 +15,11 @@ mod identifier;
 mod kind;
 mod lone;
 mod operator;
-mod place;
+mod position;
 mod range;
 mod statement;
 mod subprogram;
+mod trees;
 mod unit;
 mod word;
 
@@ -31,8 +34,6 @@ pub use operator::{AddingOperator, MultiplyingOperator, RelationalOperator, Sign
 pub use range::{Choice, NextChoice, Range};
 pub use statement::{Elsif, Stmt, Stmts, When};
 pub use subprogram::{Decl, Formal, Formals, ModeOn, NextFormal, SparkMode, Subspec};
+pub use trees::Trees;
 pub use unit::{BodyPart, Context, Package, PackageBody, PrivatePart, SourceUnit, SubprogramBody};
 pub use word::Word;
-
-#[cfg(test)]
-mod tests;

@@ -1,10 +1,11 @@
 //! A name taken out of an expression, and what a name is where it is shorter than its type allows.
 //!
-//! A reader that meets an expression sees only behind it that a name or an identifier had to stand there.
+//! A reader that meets an expression sees only behind it that a name or an identifier had to stand
+//! there.
 #![tactic(auto, using(crate::proofs::LoneLevels::lone_levels))]
 
 ghost use Rattle.std.specs.Prelude.{◌≡◌, IfOk, is_some};
-ghost use Rattle.ada_tree.specs.Lone.{lone_name, rel_name, sum_name, term_name, factor_name, primary_name, selected_part, selected_parts, dotted_or_name, sole_identifier, range_places, range_prefix};
+ghost use Rattle.ada_tree.specs.Lone.{lone_name, rel_name, sum_name, term_name, factor_name, primary_name, selected_part, selected_parts, dotted_or_name, sole_identifier, range_positions, range_prefix};
 
 use crate::expression::{Expr, Factor, Name, Primary, Rel, Suffix, Sum, Term};
 use crate::identifier::{Dotted, Identifier, NextPart};
@@ -12,12 +13,13 @@ use spark_base::{Listed, Pos};
 use std::alloc::{AllocError, Global};
 
 impl Expr {
-    /// The name that an expression is, where it is a name alone: no operator and no parenthesis around it.
+    /// The name that an expression is, where it is a name alone: no operator and no parenthesis
+    /// around it.
     pub fn into_name(self) -> Option<Name>
         ensures { result ≡ lone_name self }
     {
         match self {
-            Expr::Lone { relation, .. } => Box::into_inner(relation.into_box()).into_name(),
+            Expr::LoneRelation { relation, .. } => Box::into_inner(relation.into_box()).into_name(),
             _ => None,
         }
     }
@@ -28,7 +30,7 @@ impl Rel {
         ensures { result ≡ rel_name self }
     {
         match self {
-            Rel::Sole { sum, .. } => Box::into_inner(sum.into_box()).into_name(),
+            Rel::LoneSum { sum, .. } => Box::into_inner(sum.into_box()).into_name(),
             Rel::Compared { .. } => None,
         }
     }
@@ -69,7 +71,7 @@ impl Factor {
         ensures { result ≡ factor_name self }
     {
         match self {
-            Factor::Plain { primary, .. } => Box::into_inner(primary.into_box()).into_name(),
+            Factor::LonePrimary { primary, .. } => Box::into_inner(primary.into_box()).into_name(),
             Factor::Abs { .. } | Factor::Not { .. } => None,
         }
     }
@@ -94,9 +96,9 @@ impl Suffix {
         matches!(self, Suffix::Selected { .. })
     }
 
-    /// The places of `'` and `range`.
-    fn range_places(&self) -> Option<(Pos, Pos)>
-        ensures { result ≡ range_places self.now }
+    /// The positions of `'` and `range`.
+    fn range_positions(&self) -> Option<(Pos, Pos)>
+        ensures { result ≡ range_positions self.now }
     {
         match self {
             Suffix::RangeAttribute { pos, range } => Some((*pos, *range)),
@@ -108,7 +110,7 @@ impl Suffix {
         ensures { result ≡ selected_part self }
     {
         match self {
-            Suffix::Selected { pos, selector } => Some(NextPart::Dot {
+            Suffix::Selected { pos, selector } => Some(NextPart::FurtherPart {
                 pos,
                 name: selector,
             }),
@@ -137,8 +139,8 @@ impl Name {
         (pos, first, rest.into_vec())
     }
 
-    /// The dotted name that a name is, where each of its suffixes is `.` id, and else the name as it was.
-    /// The list of its parts is a new one, so memory may be wanting.
+    /// The dotted name that a name is, where each of its suffixes is `.` id, and else the name as
+    /// it was. The list of its parts is a new one, so memory may run out.
     pub fn into_dotted(self, alloc: Global) -> Result<Result<Dotted, Name>, AllocError>
         ensures { IfOk result (λ found. found ≡ dotted_or_name self) }
     {
@@ -168,7 +170,7 @@ impl Name {
         if rest.is_empty() { Some(first) } else { None }
     }
 
-    /// The name in front of its last suffix, where that is `'` `range`, and the places of both.
+    /// The name in front of its last suffix, where that is `'` `range`, and the positions of both.
     pub fn split_range(self) -> Option<(Name, Pos, Pos)>
         ensures { result ≡ range_prefix self }
     {
@@ -176,7 +178,7 @@ impl Name {
         let Some(last) = suffixes.pop() else {
             return None;
         };
-        let Some((apostrophe, range)) = last.range_places() else {
+        let Some((apostrophe, range)) = last.range_positions() else {
             return None;
         };
         let rest = Listed::from_vec(suffixes);

@@ -5,11 +5,11 @@ use crate::identifier::Dotted;
 use spark_base::{Boxed, Pos};
 
 /// range (Ada 2012, 3.5 and 3.6.1).
-#[derive(Debug, Drop)]
+#[derive(Drop)]
 pub enum Range {
     /// expr `..` expr (Ada 2012, 3.5)
     Bounds {
-        /// The place of the low bound.
+        /// The position of the low bound.
         pos: Pos,
         /// The low bound.
         low: Boxed<Expr>,
@@ -20,14 +20,14 @@ pub enum Range {
     },
     /// mark (Ada 2012, 3.2.2 and 3.6.1)
     Marked {
-        /// The place of the mark.
+        /// The position of the mark.
         pos: Pos,
         /// The mark, or a name in its form.
         mark: Dotted,
     },
     /// mark `range` expr `..` expr (Ada 2012, 3.2.2 and 3.6.1)
     Constrained {
-        /// The place of the mark.
+        /// The position of the mark.
         pos: Pos,
         /// The mark.
         mark: Dotted,
@@ -42,7 +42,7 @@ pub enum Range {
     },
     /// name `'` `range` (Ada 2012, 4.1.4)
     RangeOf {
-        /// The place of the name.
+        /// The position of the name.
         pos: Pos,
         /// The prefix.
         name: Boxed<Name>,
@@ -54,18 +54,18 @@ pub enum Range {
 }
 
 /// choice (Ada 2012, 3.8.1 and 5.4).
-#[derive(Debug, Drop)]
+#[derive(Drop)]
 pub enum Choice {
     /// expr
     Value {
-        /// The place of the expression.
+        /// The position of the expression.
         pos: Pos,
         /// The expression.
         value: Boxed<Expr>,
     },
     /// expr `..` expr
     Interval {
-        /// The place of the low bound.
+        /// The position of the low bound.
         pos: Pos,
         /// The low bound.
         low: Boxed<Expr>,
@@ -82,7 +82,7 @@ pub enum Choice {
 }
 
 /// A further choice.
-#[derive(Debug, Drop)]
+#[derive(Drop)]
 pub enum NextChoice {
     /// `|` choice
     Bar {

@@ -8,11 +8,11 @@ use spark_base::{Boxed, Listed, Pos};
 
 /// stmts (Ada 2012, 5.1).
 #[cycle(statement)]
-#[derive(Debug, Drop)]
+#[derive(Drop)]
 pub enum Stmts {
     /// stmt {stmt}
     Sequence {
-        /// The place of the first statement.
+        /// The position of the first statement.
         pos: Pos,
         /// The first statement.
         first: Boxed<Stmt>,
@@ -23,7 +23,7 @@ pub enum Stmts {
 
 /// stmt, a statement (Ada 2012, 5.1).
 #[cycle(statement)]
-#[derive(Debug, Drop)]
+#[derive(Drop)]
 pub enum Stmt {
     /// `null` `;` (Ada 2012, 5.1)
     Null {
@@ -34,7 +34,7 @@ pub enum Stmt {
     },
     /// name `:=` expr `;` (Ada 2012, 5.2)
     Assign {
-        /// The place of the target.
+        /// The position of the target.
         pos: Pos,
         /// The target.
         target: Boxed<Name>,
@@ -47,7 +47,7 @@ pub enum Stmt {
     },
     /// name `;` (Ada 2012, 6.4)
     Call {
-        /// The place of the name.
+        /// The position of the name.
         pos: Pos,
         /// The procedure with its actuals.
         name: Boxed<Name>,
@@ -107,7 +107,8 @@ pub enum Stmt {
         /// `;`
         semicolon: Pos,
     },
-    /// `if` expr `then` stmts {`elsif` expr `then` stmts} `else` stmts `end` `if` `;` (Ada 2012, 5.3)
+    /// `if` expr `then` stmts {`elsif` expr `then` stmts} `else` stmts `end` `if` `;`
+    /// (Ada 2012, 5.3)
     IfElse {
         /// `if`
         pos: Pos,
@@ -232,7 +233,7 @@ pub enum Stmt {
 
 /// A further condition of an `if`.
 #[cycle(statement)]
-#[derive(Debug, Drop)]
+#[derive(Drop)]
 pub enum Elsif {
     /// `elsif` expr `then` stmts (Ada 2012, 5.3)
     Branch {
@@ -249,7 +250,7 @@ pub enum Elsif {
 
 /// when, an alternative of a `case` (Ada 2012, 5.4).
 #[cycle(statement)]
-#[derive(Debug, Drop)]
+#[derive(Drop)]
 pub enum When {
     /// `when` choice {`|` choice} `=>` stmts
     Alternative {

@@ -5,7 +5,7 @@ use crate::identifier::{Dotted, Identifier, NextIdentifier};
 use spark_base::{Boxed, Listed, Pos};
 
 /// `=>` On
-#[derive(Debug, Drop)]
+#[derive(Drop)]
 pub struct ModeOn {
     /// `=>`
     pub pos: Pos,
@@ -13,8 +13,9 @@ pub struct ModeOn {
     pub on: Identifier,
 }
 
-/// `with` SPARK_Mode [`=>` On]: what mode = [`with` SPARK_Mode [`=>` On]] is where it isn't empty (Ada 2012, 13.1.1)
-#[derive(Debug, Drop)]
+/// `with` SPARK_Mode [`=>` On]: what mode = [`with` SPARK_Mode [`=>` On]] is where it isn't empty
+/// (Ada 2012, 13.1.1)
+#[derive(Drop)]
 pub struct SparkMode {
     /// `with`
     pub pos: Pos,
@@ -25,7 +26,7 @@ pub struct SparkMode {
 }
 
 /// subspec (Ada 2012, 6.1).
-#[derive(Debug, Drop)]
+#[derive(Drop)]
 pub enum Subspec {
     /// `procedure` id [formals]
     Procedure {
@@ -52,7 +53,7 @@ pub enum Subspec {
 }
 
 /// formals = `(` formal {`;` formal} `)` (Ada 2012, 6.1)
-#[derive(Debug, Drop)]
+#[derive(Drop)]
 pub struct Formals {
     /// `(`
     pub pos: Pos,
@@ -65,7 +66,7 @@ pub struct Formals {
 }
 
 /// A further declaration of formals.
-#[derive(Debug, Drop)]
+#[derive(Drop)]
 pub enum NextFormal {
     /// `;` formal
     Semicolon {
@@ -77,11 +78,11 @@ pub enum NextFormal {
 }
 
 /// formal (Ada 2012, 6.1).
-#[derive(Debug, Drop)]
+#[derive(Drop)]
 pub enum Formal {
     /// id {`,` id} `:` [`in`] [`out`] mark
     Moded {
-        /// The place of the first identifier.
+        /// The position of the first identifier.
         pos: Pos,
         /// The first identifier.
         first: Identifier,
@@ -98,7 +99,7 @@ pub enum Formal {
     },
     /// id {`,` id} `:` `access` [`constant`] mark (Ada 2012, 3.10 and 6.1)
     Anonymous {
-        /// The place of the first identifier.
+        /// The position of the first identifier.
         pos: Pos,
         /// The first identifier.
         first: Identifier,
@@ -116,18 +117,18 @@ pub enum Formal {
 }
 
 /// decl (Ada 2012, 3.1).
-#[derive(Debug, Drop)]
+#[derive(Drop)]
 pub enum Decl {
     /// item
-    Plain {
-        /// The place of the item.
+    OfItem {
+        /// The position of the item.
         pos: Pos,
         /// The item.
         item: Boxed<Item>,
     },
     /// subspec mode `;` (Ada 2012, 6.1)
     Subprogram {
-        /// The place of the specification.
+        /// The position of the specification.
         pos: Pos,
         /// The specification.
         spec: Boxed<Subspec>,

@@ -7,11 +7,11 @@ use crate::subprogram::{Decl, SparkMode, Subspec};
 use spark_base::{Boxed, Listed, Pos};
 
 /// unit (Ada 2012, 10.1.1).
-#[derive(Debug, Drop)]
+#[derive(Drop)]
 pub enum SourceUnit {
     /// {context} package
     OfPackage {
-        /// The place of the first clause, and of the package where there is none.
+        /// The position of the first clause, and of the package where there is none.
         pos: Pos,
         /// The context.
         context: Listed<Context>,
@@ -20,7 +20,7 @@ pub enum SourceUnit {
     },
     /// {context} packbody
     OfBody {
-        /// The place of the first clause, and of the body where there is none.
+        /// The position of the first clause, and of the body where there is none.
         pos: Pos,
         /// The context.
         context: Listed<Context>,
@@ -29,7 +29,7 @@ pub enum SourceUnit {
     },
     /// {context} subbody
     OfSubprogram {
-        /// The place of the first clause, and of the subprogram where there is none.
+        /// The position of the first clause, and of the subprogram where there is none.
         pos: Pos,
         /// The context.
         context: Listed<Context>,
@@ -39,7 +39,7 @@ pub enum SourceUnit {
 }
 
 /// context (Ada 2012, 10.1.2).
-#[derive(Debug, Drop)]
+#[derive(Drop)]
 pub enum Context {
     /// `with` dotted {`,` dotted} `;`
     With {
@@ -54,14 +54,14 @@ pub enum Context {
     },
     /// usecl (Ada 2012, 8.4)
     Use {
-        /// The place of the clause.
+        /// The position of the clause.
         pos: Pos,
         /// The clause.
         clause: UseClause,
     },
     /// pragma (Ada 2012, 2.8)
     Pragma {
-        /// The place of the pragma.
+        /// The position of the pragma.
         pos: Pos,
         /// The pragma.
         clause: PragmaClause,
@@ -69,7 +69,7 @@ pub enum Context {
 }
 
 /// package = `package` id mode `is` {decl} [`private` {decl}] `end` [id] `;` (Ada 2012, 7.1)
-#[derive(Debug, Drop)]
+#[derive(Drop)]
 pub struct Package {
     /// `package`
     pub pos: Pos,
@@ -92,7 +92,7 @@ pub struct Package {
 }
 
 /// `private` {decl} (Ada 2012, 7.1)
-#[derive(Debug, Drop)]
+#[derive(Drop)]
 pub struct PrivatePart {
     /// `private`
     pub pos: Pos,
@@ -101,7 +101,7 @@ pub struct PrivatePart {
 }
 
 /// packbody = `package` `body` id mode `is` {decl | subbody} `end` [id] `;` (Ada 2012, 7.2)
-#[derive(Debug, Drop)]
+#[derive(Drop)]
 pub struct PackageBody {
     /// `package`
     pub pos: Pos,
@@ -124,18 +124,18 @@ pub struct PackageBody {
 }
 
 /// decl | subbody (Ada 2012, 3.11)
-#[derive(Debug, Drop)]
+#[derive(Drop)]
 pub enum BodyPart {
     /// decl
     Declared {
-        /// The place of the declaration.
+        /// The position of the declaration.
         pos: Pos,
         /// The declaration.
         decl: Boxed<Decl>,
     },
     /// subbody (Ada 2012, 6.3)
     Completed {
-        /// The place of the body.
+        /// The position of the body.
         pos: Pos,
         /// The body.
         body: Boxed<SubprogramBody>,
@@ -143,9 +143,9 @@ pub enum BodyPart {
 }
 
 /// subbody = subspec mode `is` {item} `begin` stmts `end` [id] `;` (Ada 2012, 6.3)
-#[derive(Debug, Drop)]
+#[derive(Drop)]
 pub struct SubprogramBody {
-    /// The place of the specification.
+    /// The position of the specification.
     pub pos: Pos,
     /// The specification.
     pub spec: Boxed<Subspec>,

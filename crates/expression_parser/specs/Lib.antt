@@ -1,2 +1,3 @@
 -- what the functions inside promise each other
-pub mod Nests
+pub mod InnerExpressions
+pub mod Parts

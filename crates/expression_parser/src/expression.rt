@@ -1,17 +1,20 @@
 //! Expressions.
-ghost use Rattle.std.specs.Prelude.{◌≤◌};
+ghost use Rattle.std.specs.Prelude.{◌≡◌, ◌≤◌, suc};
+ghost use Rattle.std.proofs.Common.{inl, inr};
 ghost use Rattle.spark_base.specs.declared.limits.TheConstants.{NESTING};
 ghost use Rattle.token_reading.specs.Reading.{Reads};
 ghost use Rattle.ada_grammar.specs.Expressions as readers;
-ghost use Rattle.expression_parser.specs.Nests.{Nests};
+ghost use Rattle.expression_parser.specs.InnerExpressions.{ReadsInner};
+ghost use Rattle.expression_parser.specs.Parts.{ReadsAs, chain_parts};
 
-use crate::grammar::Grammar;
 use crate::operator::{adding_operator, multiplying_operator, relational_operator, sign_operator};
+use crate::parser::ExpressionParser;
+use crate::parts::{Chain, boxed};
 use ada_lexer::{Reserved, Symbol};
 use ada_tree::{
     Arg, Expr, Factor, Name, NextArg, NextFactor, NextTerm, Operand, Rel, ShortOperand, Sum, Term,
 };
-use spark_base::{Boxed, Listed, NESTING};
+use spark_base::{Boxed, Listed, NESTING, Pos};
 use std::alloc::Global;
 use token_reading::{Cursor, Kind, ReadFault, Side};
 
@@ -42,37 +45,37 @@ const RELATIONAL_KINDS: [Kind; 6] = [
     Kind::Delimiter(Symbol::GreaterEqual),
 ];
 
-impl<F: Fn(Global, &mut Cursor<'_, '_>, u32) -> Result<Expr, ReadFault>> Grammar<F> {
+impl<F: Fn(Global, &mut Cursor<'_, '_>, u32) -> Result<Expr, ReadFault>> ExpressionParser<F> {
     /// factor = primary | `abs` primary | `not` primary (Ada 2012, 4.4).
     #[tactic(auto, unfolding(ada_grammar::specs::Expressions::factor_in))]
     fn factor(&self, tokens: &mut Cursor<'_, '_>) -> Result<Factor, ReadFault>
-        requires { Nests self.now.inner (F.pre self.now.expr) (F.post self.now.expr) }
-        ensures { Reads (readers.factor_in self.now.depth (readers.expr self.now.inner)) tokens.old result tokens.new }
+        requires { ReadsInner self.now.depth (F.pre self.now.inner) (F.post self.now.inner) }
+        ensures { Reads (readers.factor_in self.now.depth (readers.expr (suc self.now.depth))) tokens.old result tokens.new }
     {
         if tokens.sees_word(Reserved::KwAbs) {
             let pos = tokens.operator_word(Reserved::KwAbs)?;
-            let primary = Boxed::new(self.alloc, self.primary(tokens)?)?;
+            let primary = boxed(self.alloc, self.primary(tokens))?;
             return Ok(Factor::Abs { pos, primary });
         }
         if tokens.sees_word(Reserved::KwNot) {
             let pos = tokens.operator_word(Reserved::KwNot)?;
-            let primary = Boxed::new(self.alloc, self.primary(tokens)?)?;
+            let primary = boxed(self.alloc, self.primary(tokens))?;
             return Ok(Factor::Not { pos, primary });
         }
-        let pos = tokens.place()?;
-        let primary = Boxed::new(self.alloc, self.primary(tokens)?)?;
-        Ok(Factor::Plain { pos, primary })
+        let pos = tokens.position()?;
+        let primary = boxed(self.alloc, self.primary(tokens))?;
+        Ok(Factor::LonePrimary { pos, primary })
     }
 
     /// (`*` | `/` | `mod` | `rem`) factor
     #[tactic(auto, unfolding(ada_grammar::specs::Expressions::next_factor_in))]
     fn next_factor(&self, tokens: &mut Cursor<'_, '_>) -> Result<NextFactor, ReadFault>
-        requires { Nests self.now.inner (F.pre self.now.expr) (F.post self.now.expr) }
-        ensures { Reads (readers.next_factor_in self.now.depth (readers.expr self.now.inner)) tokens.old result tokens.new }
+        requires { ReadsInner self.now.depth (F.pre self.now.inner) (F.post self.now.inner) }
+        ensures { Reads (readers.next_factor_in self.now.depth (readers.expr (suc self.now.depth))) tokens.old result tokens.new }
     {
         let (operator, pos) = multiplying_operator(tokens)?;
-        let factor = Boxed::new(self.alloc, self.factor(tokens)?)?;
-        Ok(NextFactor::Multiplied {
+        let factor = boxed(self.alloc, self.factor(tokens))?;
+        Ok(NextFactor::FurtherFactor {
             pos,
             operator,
             factor,
@@ -81,8 +84,8 @@ impl<F: Fn(Global, &mut Cursor<'_, '_>, u32) -> Result<Expr, ReadFault>> Grammar
 
     /// {(`*` | `/` | `mod` | `rem`) factor}
     fn next_factors(&self, tokens: &mut Cursor<'_, '_>) -> Result<Listed<NextFactor>, ReadFault>
-        requires { Nests self.now.inner (F.pre self.now.expr) (F.post self.now.expr) }
-        ensures { Reads (readers.next_factors_in self.now.depth (readers.expr self.now.inner)) tokens.old result tokens.new }
+        requires { ReadsInner self.now.depth (F.pre self.now.inner) (F.post self.now.inner) }
+        ensures { Reads (readers.next_factors_in self.now.depth (readers.expr (suc self.now.depth))) tokens.old result tokens.new }
     {
         let mut all = Listed::new(self.alloc);
         'turns: while tokens.sees_any(&MULTIPLYING_KINDS) {
@@ -94,11 +97,11 @@ impl<F: Fn(Global, &mut Cursor<'_, '_>, u32) -> Result<Expr, ReadFault>> Grammar
     /// term = factor {(`*` | `/` | `mod` | `rem`) factor} (Ada 2012, 4.4).
     #[tactic(auto, unfolding(ada_grammar::specs::Expressions::term_in))]
     fn term(&self, tokens: &mut Cursor<'_, '_>) -> Result<Term, ReadFault>
-        requires { Nests self.now.inner (F.pre self.now.expr) (F.post self.now.expr) }
-        ensures { Reads (readers.term_in self.now.depth (readers.expr self.now.inner)) tokens.old result tokens.new }
+        requires { ReadsInner self.now.depth (F.pre self.now.inner) (F.post self.now.inner) }
+        ensures { Reads (readers.term_in self.now.depth (readers.expr (suc self.now.depth))) tokens.old result tokens.new }
     {
-        let pos = tokens.place()?;
-        let first = Boxed::new(self.alloc, self.factor(tokens)?)?;
+        let pos = tokens.position()?;
+        let first = boxed(self.alloc, self.factor(tokens))?;
         let rest = self.next_factors(tokens)?;
         Ok(Term::Product { pos, first, rest })
     }
@@ -106,12 +109,12 @@ impl<F: Fn(Global, &mut Cursor<'_, '_>, u32) -> Result<Expr, ReadFault>> Grammar
     /// (`+` | `-` | `&`) term
     #[tactic(auto, unfolding(ada_grammar::specs::Expressions::next_term_in))]
     fn next_term(&self, tokens: &mut Cursor<'_, '_>) -> Result<NextTerm, ReadFault>
-        requires { Nests self.now.inner (F.pre self.now.expr) (F.post self.now.expr) }
-        ensures { Reads (readers.next_term_in self.now.depth (readers.expr self.now.inner)) tokens.old result tokens.new }
+        requires { ReadsInner self.now.depth (F.pre self.now.inner) (F.post self.now.inner) }
+        ensures { Reads (readers.next_term_in self.now.depth (readers.expr (suc self.now.depth))) tokens.old result tokens.new }
     {
         let (operator, pos) = adding_operator(tokens)?;
-        let term = Boxed::new(self.alloc, self.term(tokens)?)?;
-        Ok(NextTerm::Added {
+        let term = boxed(self.alloc, self.term(tokens))?;
+        Ok(NextTerm::FurtherTerm {
             pos,
             operator,
             term,
@@ -120,8 +123,8 @@ impl<F: Fn(Global, &mut Cursor<'_, '_>, u32) -> Result<Expr, ReadFault>> Grammar
 
     /// {(`+` | `-` | `&`) term}
     fn next_terms(&self, tokens: &mut Cursor<'_, '_>) -> Result<Listed<NextTerm>, ReadFault>
-        requires { Nests self.now.inner (F.pre self.now.expr) (F.post self.now.expr) }
-        ensures { Reads (readers.next_terms_in self.now.depth (readers.expr self.now.inner)) tokens.old result tokens.new }
+        requires { ReadsInner self.now.depth (F.pre self.now.inner) (F.post self.now.inner) }
+        ensures { Reads (readers.next_terms_in self.now.depth (readers.expr (suc self.now.depth))) tokens.old result tokens.new }
     {
         let mut all = Listed::new(self.alloc);
         'turns: while tokens.sees_any(&ADDING_KINDS) {
@@ -133,12 +136,12 @@ impl<F: Fn(Global, &mut Cursor<'_, '_>, u32) -> Result<Expr, ReadFault>> Grammar
     /// sum = [`+` | `-`] term {(`+` | `-` | `&`) term} (Ada 2012, 4.4).
     #[tactic(auto, unfolding(ada_grammar::specs::Expressions::sum_in))]
     fn sum(&self, tokens: &mut Cursor<'_, '_>) -> Result<Sum, ReadFault>
-        requires { Nests self.now.inner (F.pre self.now.expr) (F.post self.now.expr) }
-        ensures { Reads (readers.sum_in self.now.depth (readers.expr self.now.inner)) tokens.old result tokens.new }
+        requires { ReadsInner self.now.depth (F.pre self.now.inner) (F.post self.now.inner) }
+        ensures { Reads (readers.sum_in self.now.depth (readers.expr (suc self.now.depth))) tokens.old result tokens.new }
     {
         if tokens.sees_any(&SIGN_KINDS) {
             let (sign, pos) = sign_operator(tokens)?;
-            let first = Boxed::new(self.alloc, self.term(tokens)?)?;
+            let first = boxed(self.alloc, self.term(tokens))?;
             let rest = self.next_terms(tokens)?;
             return Ok(Sum::Signed {
                 pos,
@@ -147,8 +150,8 @@ impl<F: Fn(Global, &mut Cursor<'_, '_>, u32) -> Result<Expr, ReadFault>> Grammar
                 rest,
             });
         }
-        let pos = tokens.place()?;
-        let first = Boxed::new(self.alloc, self.term(tokens)?)?;
+        let pos = tokens.position()?;
+        let first = boxed(self.alloc, self.term(tokens))?;
         let rest = self.next_terms(tokens)?;
         Ok(Sum::Unsigned { pos, first, rest })
     }
@@ -156,14 +159,14 @@ impl<F: Fn(Global, &mut Cursor<'_, '_>, u32) -> Result<Expr, ReadFault>> Grammar
     /// rel = sum [(`=` | `/=` | `<` | `<=` | `>` | `>=`) sum] (Ada 2012, 4.4).
     #[tactic(auto, unfolding(ada_grammar::specs::Expressions::rel_in))]
     fn rel(&self, tokens: &mut Cursor<'_, '_>) -> Result<Rel, ReadFault>
-        requires { Nests self.now.inner (F.pre self.now.expr) (F.post self.now.expr) }
-        ensures { Reads (readers.rel_in self.now.depth (readers.expr self.now.inner)) tokens.old result tokens.new }
+        requires { ReadsInner self.now.depth (F.pre self.now.inner) (F.post self.now.inner) }
+        ensures { Reads (readers.rel_in self.now.depth (readers.expr (suc self.now.depth))) tokens.old result tokens.new }
     {
-        let pos = tokens.place()?;
-        let left = Boxed::new(self.alloc, self.sum(tokens)?)?;
+        let pos = tokens.position()?;
+        let left = boxed(self.alloc, self.sum(tokens))?;
         if tokens.sees_any(&RELATIONAL_KINDS) {
             let (operator, operator_pos) = relational_operator(tokens)?;
-            let right = Boxed::new(self.alloc, self.sum(tokens)?)?;
+            let right = boxed(self.alloc, self.sum(tokens))?;
             return Ok(Rel::Compared {
                 pos,
                 left,
@@ -172,51 +175,55 @@ impl<F: Fn(Global, &mut Cursor<'_, '_>, u32) -> Result<Expr, ReadFault>> Grammar
                 right,
             });
         }
-        Ok(Rel::Sole { pos, sum: left })
+        Ok(Rel::LoneSum { pos, sum: left })
     }
 
     /// (`and` | `or` | `xor`) rel
-    #[tactic(auto, unfolding(ada_grammar::specs::Expressions::operand_in))]
-    fn operand(&self, tokens: &mut Cursor<'_, '_>, word: Reserved) -> Result<Operand, ReadFault>
-        requires { Nests self.now.inner (F.pre self.now.expr) (F.post self.now.expr) }
-        ensures { Reads (readers.operand_in self.now.depth (readers.expr self.now.inner) word) tokens.old result tokens.new }
+    #[tactic(auto, unfolding(ada_grammar::specs::Expressions::next_operand_in))]
+    fn next_operand(
+        &self,
+        tokens: &mut Cursor<'_, '_>,
+        word: Reserved,
+    ) -> Result<Operand, ReadFault>
+        requires { ReadsInner self.now.depth (F.pre self.now.inner) (F.post self.now.inner) }
+        ensures { Reads (readers.next_operand_in self.now.depth (readers.expr (suc self.now.depth)) word) tokens.old result tokens.new }
     {
         let pos = tokens.operator_word(word)?;
-        let operand = Boxed::new(self.alloc, self.rel(tokens)?)?;
-        Ok(Operand::Next { pos, operand })
+        let operand = boxed(self.alloc, self.rel(tokens))?;
+        Ok(Operand::FurtherOperand { pos, operand })
     }
 
     /// {`and` rel} | {`or` rel} | {`xor` rel}
-    fn operands(
+    fn next_operands(
         &self,
         tokens: &mut Cursor<'_, '_>,
         word: Reserved,
     ) -> Result<Listed<Operand>, ReadFault>
-        requires { Nests self.now.inner (F.pre self.now.expr) (F.post self.now.expr) }
-        ensures { Reads (readers.operands_in self.now.depth (readers.expr self.now.inner) word) tokens.old result tokens.new }
+        requires { ReadsInner self.now.depth (F.pre self.now.inner) (F.post self.now.inner) }
+        ensures { Reads (readers.next_operands_in self.now.depth (readers.expr (suc self.now.depth)) word) tokens.old result tokens.new }
     {
         let mut all = Listed::new(self.alloc);
         'turns: while tokens.sees_word(word) {
-            all.push(self.operand(tokens, word)?)?;
+            all.push(self.next_operand(tokens, word)?)?;
         }
         Ok(all)
     }
 
     /// (`and` `then` | `or` `else`) rel
-    #[tactic(auto, unfolding(ada_grammar::specs::Expressions::short_operand_in))]
-    fn short_operand(
+    #[tactic(auto, unfolding(ada_grammar::specs::Expressions::next_short_operand_in))]
+    fn next_short_operand(
         &self,
         tokens: &mut Cursor<'_, '_>,
         word: Reserved,
         second: Reserved,
     ) -> Result<ShortOperand, ReadFault>
-        requires { Nests self.now.inner (F.pre self.now.expr) (F.post self.now.expr) }
-        ensures { Reads (readers.short_operand_in self.now.depth (readers.expr self.now.inner) word second) tokens.old result tokens.new }
+        requires { ReadsInner self.now.depth (F.pre self.now.inner) (F.post self.now.inner) }
+        ensures { Reads (readers.next_short_operand_in self.now.depth (readers.expr (suc self.now.depth)) word second) tokens.old result tokens.new }
     {
         let pos = tokens.operator_word(word)?;
         let second_word = tokens.word(Side::Within, second)?;
-        let operand = Boxed::new(self.alloc, self.rel(tokens)?)?;
-        Ok(ShortOperand::NextShort {
+        let operand = boxed(self.alloc, self.rel(tokens))?;
+        Ok(ShortOperand::FurtherShortOperand {
             pos,
             second_word,
             operand,
@@ -224,84 +231,72 @@ impl<F: Fn(Global, &mut Cursor<'_, '_>, u32) -> Result<Expr, ReadFault>> Grammar
     }
 
     /// {`and` `then` rel} | {`or` `else` rel}
-    fn short_operands(
+    fn next_short_operands(
         &self,
         tokens: &mut Cursor<'_, '_>,
         word: Reserved,
         second: Reserved,
     ) -> Result<Listed<ShortOperand>, ReadFault>
-        requires { Nests self.now.inner (F.pre self.now.expr) (F.post self.now.expr) }
-        ensures { Reads (readers.short_operands_in self.now.depth (readers.expr self.now.inner) word second) tokens.old result tokens.new }
+        requires { ReadsInner self.now.depth (F.pre self.now.inner) (F.post self.now.inner) }
+        ensures { Reads (readers.next_short_operands_in self.now.depth (readers.expr (suc self.now.depth)) word second) tokens.old result tokens.new }
     {
         let mut all = Listed::new(self.alloc);
         'turns: while tokens.sees_word(word) {
-            all.push(self.short_operand(tokens, word, second)?)?;
+            all.push(self.next_short_operand(tokens, word, second)?)?;
         }
         Ok(all)
     }
 
-    /// expr = rel {`and` rel} | rel {`or` rel} | rel {`xor` rel} | rel {`and` `then` rel} | rel {`or` `else` rel} (Ada 2012, 4.4).
-    #[tactic(auto, unfolding(ada_grammar::specs::Expressions::expr_in, ada_grammar::specs::Expressions::chain_in))]
-    pub fn level(&self, tokens: &mut Cursor<'_, '_>) -> Result<Expr, ReadFault>
-        requires { Nests self.now.inner (F.pre self.now.expr) (F.post self.now.expr) }
-        ensures { Reads (readers.expr_in self.now.depth (readers.expr self.now.inner)) tokens.old result tokens.new }
+    /// What stands behind the first `and` or `or` of a chain; `second_word` is that of the short
+    /// form.
+    #[tactic(auto, unfolding(ada_grammar::specs::Expressions::chain_in))]
+    fn chain(
+        &self,
+        tokens: &mut Cursor<'_, '_>,
+        word: Reserved,
+        second_word: Reserved,
+    ) -> Result<Chain, ReadFault>
+        requires { ReadsInner self.now.depth (F.pre self.now.inner) (F.post self.now.inner) }
+        ensures { ReadsAs chain_parts (readers.chain_in self.now.depth (readers.expr (suc self.now.depth)) word second_word) tokens.old result tokens.new }
     {
-        let pos = tokens.place()?;
-        let first = Boxed::new(self.alloc, self.rel(tokens)?)?;
-        if tokens.sees_word(Reserved::KwAnd) {
-            let and = tokens.operator_word(Reserved::KwAnd)?;
-            if tokens.sees_word(Reserved::KwThen) {
-                let then = tokens.word(Side::Within, Reserved::KwThen)?;
-                let second = Boxed::new(self.alloc, self.rel(tokens)?)?;
-                let rest = self.short_operands(tokens, Reserved::KwAnd, Reserved::KwThen)?;
-                return Ok(Expr::AndThen {
-                    pos,
-                    first,
-                    and,
-                    then,
-                    second,
-                    rest,
-                });
-            }
-            let second = Boxed::new(self.alloc, self.rel(tokens)?)?;
-            let rest = self.operands(tokens, Reserved::KwAnd)?;
-            return Ok(Expr::And {
-                pos,
-                first,
-                and,
+        if tokens.sees_word(second_word) {
+            let pos = tokens.word(Side::Within, second_word)?;
+            let second = boxed(self.alloc, self.rel(tokens))?;
+            let rest = self.next_short_operands(tokens, word, second_word)?;
+            return Ok(Chain::Short {
+                second_word: pos,
                 second,
                 rest,
             });
+        }
+        let second = boxed(self.alloc, self.rel(tokens))?;
+        let rest = self.next_operands(tokens, word)?;
+        Ok(Chain::Long { second, rest })
+    }
+
+    /// expr = rel {`and` rel} | rel {`or` rel} | rel {`xor` rel} | rel {`and` `then` rel} | rel
+    /// {`or` `else` rel} (Ada 2012, 4.4).
+    #[tactic(auto, unfolding(ada_grammar::specs::Expressions::expr_in))]
+    pub fn expr(&self, tokens: &mut Cursor<'_, '_>) -> Result<Expr, ReadFault>
+        requires { ReadsInner self.now.depth (F.pre self.now.inner) (F.post self.now.inner) }
+        ensures { Reads (readers.expr_in self.now.depth (readers.expr (suc self.now.depth))) tokens.old result tokens.new }
+    {
+        let pos = tokens.position()?;
+        let first = boxed(self.alloc, self.rel(tokens))?;
+        if tokens.sees_word(Reserved::KwAnd) {
+            let and = tokens.operator_word(Reserved::KwAnd)?;
+            let chain = self.chain(tokens, Reserved::KwAnd, Reserved::KwThen)?;
+            return Ok(and_chain(pos, first, and, chain));
         }
         if tokens.sees_word(Reserved::KwOr) {
             let or = tokens.operator_word(Reserved::KwOr)?;
-            if tokens.sees_word(Reserved::KwElse) {
-                let otherwise = tokens.word(Side::Within, Reserved::KwElse)?;
-                let second = Boxed::new(self.alloc, self.rel(tokens)?)?;
-                let rest = self.short_operands(tokens, Reserved::KwOr, Reserved::KwElse)?;
-                return Ok(Expr::OrElse {
-                    pos,
-                    first,
-                    or,
-                    otherwise,
-                    second,
-                    rest,
-                });
-            }
-            let second = Boxed::new(self.alloc, self.rel(tokens)?)?;
-            let rest = self.operands(tokens, Reserved::KwOr)?;
-            return Ok(Expr::Or {
-                pos,
-                first,
-                or,
-                second,
-                rest,
-            });
+            let chain = self.chain(tokens, Reserved::KwOr, Reserved::KwElse)?;
+            return Ok(or_chain(pos, first, or, chain));
         }
         if tokens.sees_word(Reserved::KwXor) {
             let xor = tokens.operator_word(Reserved::KwXor)?;
-            let second = Boxed::new(self.alloc, self.rel(tokens)?)?;
-            let rest = self.operands(tokens, Reserved::KwXor)?;
+            let second = boxed(self.alloc, self.rel(tokens))?;
+            let rest = self.next_operands(tokens, Reserved::KwXor)?;
             return Ok(Expr::Xor {
                 pos,
                 first,
@@ -310,30 +305,85 @@ impl<F: Fn(Global, &mut Cursor<'_, '_>, u32) -> Result<Expr, ReadFault>> Grammar
                 rest,
             });
         }
-        Ok(Expr::Lone {
+        Ok(Expr::LoneRelation {
             pos,
             relation: first,
         })
     }
 }
 
-/// expr, around which so many constructs are open (Ada 2012, 4.4). Where they are more than may be, it is too deep.
+/// rel {`and` rel} | rel {`and` `then` rel}, of its parts.
+fn and_chain(pos: Pos, first: Boxed<Rel>, and: Pos, chain: Chain) -> Expr
+    ensures { result ≡ readers.make_expr ((pos, first), inl (and, chain_parts chain)) }
+{
+    match chain {
+        Chain::Short {
+            second_word: then,
+            second,
+            rest,
+        } => Expr::AndThen {
+            pos,
+            first,
+            and,
+            then,
+            second,
+            rest,
+        },
+        Chain::Long { second, rest } => Expr::And {
+            pos,
+            first,
+            and,
+            second,
+            rest,
+        },
+    }
+}
+
+/// rel {`or` rel} | rel {`or` `else` rel}, of its parts.
+fn or_chain(pos: Pos, first: Boxed<Rel>, or: Pos, chain: Chain) -> Expr
+    ensures { result ≡ readers.make_expr ((pos, first), inr (inl (or, chain_parts chain))) }
+{
+    match chain {
+        Chain::Short {
+            second_word: otherwise,
+            second,
+            rest,
+        } => Expr::OrElse {
+            pos,
+            first,
+            or,
+            otherwise,
+            second,
+            rest,
+        },
+        Chain::Long { second, rest } => Expr::Or {
+            pos,
+            first,
+            or,
+            second,
+            rest,
+        },
+    }
+}
+
+/// expr, around which so many constructs are open (Ada 2012, 4.4). Where they are more than may be,
+/// it exceeds the limit.
 pub fn expr(alloc: Global, tokens: &mut Cursor<'_, '_>, depth: u32) -> Result<Expr, ReadFault>
     ensures { Reads (readers.expr depth) tokens.old result tokens.new }
 {
     if depth > NESTING {
-        return Err(ReadFault::Deep);
+        return Err(ReadFault::OverLimit);
     }
-    Grammar {
+    ExpressionParser {
         alloc,
         depth,
-        inner: depth + 1,
-        expr,
+        inner: expr,
     }
-    .level(tokens)
+    .expr(tokens)
 }
 
-/// name, around which so many constructs are open, on either side of an expression's border (Ada 2012, 4.1).
+/// name, around which so many constructs are open, on either side of an expression's border (Ada
+/// 2012, 4.1).
 #[tactic(auto, unfolding(ada_grammar::specs::Expressions::name_at))]
 pub fn name_at(
     alloc: Global,
@@ -344,16 +394,15 @@ pub fn name_at(
     requires { depth ≤ NESTING }
     ensures { Reads (readers.name_at side depth) tokens.old result tokens.new }
 {
-    Grammar {
+    ExpressionParser {
         alloc,
         depth,
-        inner: depth + 1,
-        expr,
+        inner: expr,
     }
     .name(tokens, side)
 }
 
-/// arg in parentheses, around which so many constructs are open with them (Ada 2012, 6.4).
+/// arg in parentheses, around which so many constructs are open (Ada 2012, 6.4).
 #[tactic(auto, unfolding(ada_grammar::specs::Expressions::arg_at))]
 pub fn arg_at(
     alloc: Global,
@@ -361,18 +410,18 @@ pub fn arg_at(
     side: Side,
     depth: u32,
 ) -> Result<Arg, ReadFault>
-    ensures { Reads (readers.arg_at side depth) tokens.old result tokens.new }
+    requires { depth ≤ NESTING }
+    ensures { Reads (readers.arg_at side (suc depth)) tokens.old result tokens.new }
 {
-    Grammar {
+    ExpressionParser {
         alloc,
         depth,
-        inner: depth,
-        expr,
+        inner: expr,
     }
     .arg(tokens, side)
 }
 
-/// {`,` arg} in parentheses, around which so many constructs are open with them (Ada 2012, 6.4).
+/// {`,` arg} in parentheses, around which so many constructs are open (Ada 2012, 6.4).
 #[tactic(auto, unfolding(ada_grammar::specs::Expressions::next_arg_at))]
 pub fn next_args_at(
     alloc: Global,
@@ -380,13 +429,13 @@ pub fn next_args_at(
     side: Side,
     depth: u32,
 ) -> Result<Listed<NextArg>, ReadFault>
-    ensures { Reads (readers.next_args_at side depth) tokens.old result tokens.new }
+    requires { depth ≤ NESTING }
+    ensures { Reads (readers.next_args_at side (suc depth)) tokens.old result tokens.new }
 {
-    Grammar {
+    ExpressionParser {
         alloc,
         depth,
-        inner: depth,
-        expr,
+        inner: expr,
     }
     .next_args(tokens, side)
 }

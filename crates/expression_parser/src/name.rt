@@ -31,7 +31,7 @@ fn next_part(alloc: Global, tokens: &mut Cursor<'_, '_>, side: Side) -> Result<N
 {
     let pos = tokens.symbol(side, Symbol::Dot)?;
     let name = identifier(alloc, tokens, side)?;
-    Ok(NextPart::Dot { pos, name })
+    Ok(NextPart::FurtherPart { pos, name })
 }
 
 /// {`.` id}
@@ -70,7 +70,7 @@ fn next_dotted(alloc: Global, tokens: &mut Cursor<'_, '_>) -> Result<NextDotted,
 {
     let pos = tokens.symbol(Side::Apart, Symbol::Comma)?;
     let name = dotted(alloc, tokens, Side::Apart)?;
-    Ok(NextDotted::Comma { pos, name })
+    Ok(NextDotted::FurtherDotted { pos, name })
 }
 
 /// {`,` dotted}

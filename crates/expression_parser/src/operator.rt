@@ -7,7 +7,7 @@ use ada_tree::{AddingOperator, MultiplyingOperator, RelationalOperator, Sign};
 use spark_base::Pos;
 use token_reading::{Cursor, ReadFault};
 
-/// `*` | `/` | `mod` | `rem` (Ada 2012, 4.5.5), and its place.
+/// `*` | `/` | `mod` | `rem` (Ada 2012, 4.5.5), and its position.
 #[tactic(auto, unfolding(ada_grammar::specs::Expressions::multiplying_operator))]
 pub fn multiplying_operator(
     tokens: &mut Cursor<'_, '_>,
@@ -30,7 +30,7 @@ pub fn multiplying_operator(
     Ok((MultiplyingOperator::Remainder, pos))
 }
 
-/// `+` | `-` | `&` between terms (Ada 2012, 4.5.3), and its place.
+/// `+` | `-` | `&` between terms (Ada 2012, 4.5.3), and its position.
 #[tactic(auto, unfolding(ada_grammar::specs::Expressions::adding_operator))]
 pub fn adding_operator(tokens: &mut Cursor<'_, '_>) -> Result<(AddingOperator, Pos), ReadFault>
     ensures { Reads readers.adding_operator tokens.old result tokens.new }
@@ -47,7 +47,7 @@ pub fn adding_operator(tokens: &mut Cursor<'_, '_>) -> Result<(AddingOperator, P
     Ok((AddingOperator::Concatenate, pos))
 }
 
-/// `+` | `-` before the first term (Ada 2012, 4.5.4), and its place.
+/// `+` | `-` before the first term (Ada 2012, 4.5.4), and its position.
 #[tactic(auto, unfolding(ada_grammar::specs::Expressions::sign_operator))]
 pub fn sign_operator(tokens: &mut Cursor<'_, '_>) -> Result<(Sign, Pos), ReadFault>
     ensures { Reads readers.sign_operator tokens.old result tokens.new }
@@ -60,7 +60,7 @@ pub fn sign_operator(tokens: &mut Cursor<'_, '_>) -> Result<(Sign, Pos), ReadFau
     Ok((Sign::Minus, pos))
 }
 
-/// `=` | `/=` | `<` | `<=` | `>` | `>=` (Ada 2012, 4.5.2), and its place.
+/// `=` | `/=` | `<` | `<=` | `>` | `>=` (Ada 2012, 4.5.2), and its position.
 #[tactic(auto, unfolding(ada_grammar::specs::Expressions::relational_operator))]
 pub fn relational_operator(
     tokens: &mut Cursor<'_, '_>,

@@ -4,13 +4,47 @@ ghost use Rattle.spark_base.specs.declared.limits.TheConstants.{NESTING};
 ghost use Rattle.token_reading.specs.Reading.{Reads};
 ghost use Rattle.ada_tree.specs.Lone.{dotted_or_name};
 ghost use Rattle.ada_grammar.specs.Items as readers;
+ghost use Rattle.expression_parser.specs.Parts.{ReadsAs, constraint_parts};
 
 use crate::expression::expr;
+use crate::parts::{Constraint, boxed};
 use ada_lexer::{Reserved, Symbol};
-use ada_tree::{Choice, Dotted, Name, NextChoice, Range};
+use ada_tree::{Choice, Dotted, Expr, Name, NextChoice, Range};
 use spark_base::{Boxed, Listed, Pos};
 use std::alloc::Global;
 use token_reading::{Cursor, ReadFault, Side};
+
+/// `..` expr
+fn to_high(
+    alloc: Global,
+    tokens: &mut Cursor<'_, '_>,
+    depth: u32,
+) -> Result<(Pos, Boxed<Expr>), ReadFault>
+    ensures { Reads (readers.to_high depth) tokens.old result tokens.new }
+{
+    let dots = tokens.symbol(Side::Apart, Symbol::DoubleDot)?;
+    let high = boxed(alloc, expr(alloc, tokens, depth))?;
+    Ok((dots, high))
+}
+
+/// `range` expr `..` expr (Ada 2012, 3.5).
+pub fn constraint(
+    alloc: Global,
+    tokens: &mut Cursor<'_, '_>,
+    depth: u32,
+) -> Result<Constraint, ReadFault>
+    ensures { ReadsAs constraint_parts (readers.constraint depth) tokens.old result tokens.new }
+{
+    let range = tokens.word(Side::Apart, Reserved::KwRange)?;
+    let low = boxed(alloc, expr(alloc, tokens, depth))?;
+    let (dots, high) = to_high(alloc, tokens, depth)?;
+    Ok(Constraint {
+        range,
+        low,
+        dots,
+        high,
+    })
+}
 
 /// range = mark [`range` expr `..` expr], behind the mark (Ada 2012, 3.2.2 and 3.6.1).
 #[tactic(auto, unfolding(ada_grammar::specs::Items::marked_range))]
@@ -24,10 +58,12 @@ fn marked_range(
     ensures { Reads (readers.marked_range depth pos mark) tokens.old result tokens.new }
 {
     if tokens.sees_word(Reserved::KwRange) {
-        let range = tokens.word(Side::Apart, Reserved::KwRange)?;
-        let low = Boxed::new(alloc, expr(alloc, tokens, depth)?)?;
-        let dots = tokens.symbol(Side::Apart, Symbol::DoubleDot)?;
-        let high = Boxed::new(alloc, expr(alloc, tokens, depth)?)?;
+        let Constraint {
+            range,
+            low,
+            dots,
+            high,
+        } = constraint(alloc, tokens, depth)?;
         return Ok(Range::Constrained {
             pos,
             mark,
@@ -40,7 +76,8 @@ fn marked_range(
     Ok(Range::Marked { pos, mark })
 }
 
-/// range = mark [`range` expr `..` expr] | name `'` `range`, behind the name that it begins with (Ada 2012, 3.5 and 3.6.1).
+/// range = mark [`range` expr `..` expr] | name `'` `range`, behind the name that it begins with
+/// (Ada 2012, 3.5 and 3.6.1).
 fn named_range(
     alloc: Global,
     tokens: &mut Cursor<'_, '_>,
@@ -51,7 +88,7 @@ fn named_range(
     ensures { Reads (readers.mark_or_attribute depth pos (dotted_or_name name)) tokens.old result tokens.new }
 {
     match name.into_dotted(alloc)? {
-        Ok(mark) => Ok(marked_range(alloc, tokens, depth, pos, mark)?),
+        Ok(mark) => marked_range(alloc, tokens, depth, pos, mark),
         Err(name) => {
             let Some((name, apostrophe, range)) = name.split_range() else {
                 return Err(ReadFault::Refused);
@@ -67,17 +104,17 @@ fn named_range(
     }
 }
 
-/// range = expr `..` expr | mark [`range` expr `..` expr] | name `'` `range` (Ada 2012, 3.5 and 3.6.1).
+/// range = expr `..` expr | mark [`range` expr `..` expr] | name `'` `range` (Ada 2012, 3.5 and
+/// 3.6.1).
 #[tactic(auto, unfolding(ada_grammar::specs::Items::range))]
 pub fn range(alloc: Global, tokens: &mut Cursor<'_, '_>, depth: u32) -> Result<Range, ReadFault>
     ensures { Reads (readers.range depth) tokens.old result tokens.new }
 {
-    let pos = tokens.place()?;
+    let pos = tokens.position()?;
     let low = expr(alloc, tokens, depth)?;
     if tokens.sees_symbol(Symbol::DoubleDot) {
         let low = Boxed::new(alloc, low)?;
-        let dots = tokens.symbol(Side::Apart, Symbol::DoubleDot)?;
-        let high = Boxed::new(alloc, expr(alloc, tokens, depth)?)?;
+        let (dots, high) = to_high(alloc, tokens, depth)?;
         return Ok(Range::Bounds {
             pos,
             low,
@@ -88,7 +125,7 @@ pub fn range(alloc: Global, tokens: &mut Cursor<'_, '_>, depth: u32) -> Result<R
     let Some(name) = low.into_name() else {
         return Err(ReadFault::Refused);
     };
-    Ok(named_range(alloc, tokens, depth, pos, name)?)
+    named_range(alloc, tokens, depth, pos, name)
 }
 
 /// choice = expr [`..` expr] | `others` (Ada 2012, 3.8.1 and 5.4).
@@ -100,11 +137,10 @@ pub fn choice(alloc: Global, tokens: &mut Cursor<'_, '_>, depth: u32) -> Result<
         let pos = tokens.word(Side::Apart, Reserved::KwOthers)?;
         return Ok(Choice::Others { pos });
     }
-    let pos = tokens.place()?;
-    let value = Boxed::new(alloc, expr(alloc, tokens, depth)?)?;
+    let pos = tokens.position()?;
+    let value = boxed(alloc, expr(alloc, tokens, depth))?;
     if tokens.sees_symbol(Symbol::DoubleDot) {
-        let dots = tokens.symbol(Side::Apart, Symbol::DoubleDot)?;
-        let high = Boxed::new(alloc, expr(alloc, tokens, depth)?)?;
+        let (dots, high) = to_high(alloc, tokens, depth)?;
         return Ok(Choice::Interval {
             pos,
             low: value,

@@ -9,8 +9,11 @@ use Rattle.place_names.specs.declared.rule.Loan.TheVariants as loan
 use Rattle.place_names.specs.declared.rule.State.TheVariants as state
 use Rattle.place_names.specs.declared.rule.Rule.TheVariants.{O1, O2, O3, O4, O7, O8, O9, O10, O11, O14}
 use Rattle.place_names.specs.Names.{Name, object}
-use Rattle.place_names.specs.Acts.{Act, Placed, Read, Look, Write, Move, Borrow, Observe, Reborrow, EndScope, Return, Actual, Global, Free}
-use Rattle.place_names.specs.Facts.{Moved, Lent, facts_after}
+use Rattle.place_names.specs.declared.act.Act.{Act}
+use Rattle.place_names.specs.declared.act.Act.TheVariants.{Read, Look, Write, Move, Borrow, Observe, Reborrow, EndScope, Return, Actual, Global, Free}
+use Rattle.place_names.specs.declared.act.Placed.{Placed}
+use Rattle.place_names.specs.declared.fact.Fact.TheVariants.{Moved, Lent}
+use Rattle.place_names.specs.Facts.{facts_after}
 use Rattle.place_names.specs.Rules.{forbids}
 use Rattle.place_names.specs.Reports.{Report, Gives, report_cmp}
 use Rattle.place_names.specs.Printed.{printed}
@@ -140,8 +143,8 @@ formal_moved = refl
 local_moved : forbids (Return (2 ∷ 3 ∷ [])) (Moved x_next) ≡ None
 local_moved = refl
 
--- an observed X as an actual: mode in of an access type in a procedure call borrows, any other owning in observes,
--- in out moves, out writes and then clears
+-- an observed X as an actual: mode in of an access type in a procedure call borrows, any other
+-- owning in observes, in out moves, out writes and then clears
 access_actual : forbids (Actual x In true true) (Lent loan.Observed 6 x) ≡ Some (record { rule = O10; name = x; word = state.Observed })
 access_actual = refl
 
@@ -165,7 +168,8 @@ out_clears = refl
 text_of_name : printed (λ r. codes "X") (λ before i. codes "Next") (record { root = 1; sels = Elem ∷ Deref ∷ Field 1 ∷ [] }) ≡ codes "X(?).all.Next"
 text_of_name = refl
 
--- The reports of one path: X is moved at line 8, column 28, and X.all is read at column 36 of that line.
+-- The reports of one path: X is moved at line 8, column 28, and X.all is read at column 36 of that
+-- line.
 abbrev moved_at : Pos
 moved_at = record { file = 0; line = 8; column = 28 }
 
@@ -191,7 +195,8 @@ path_gives = record {
   reported = refl;
 }
 
--- O2 stands before O10, and a text before a longer one; at equal reports the root that is declared later stands first
+-- O2 stands before O10, and a text before a longer one; at equal reports the root that is declared
+-- later stands first
 abbrev same_text : Name → List ℕ
 same_text m = codes "X"
 
@@ -206,3 +211,10 @@ longer_text = refl
 
 later_root : report_cmp same_text (record read_report { name = object 2 }) (record read_report { name = object 1 }) ≡ Less
 later_root = refl
+
+-- last of all the selectors decide
+fewer_selectors : report_cmp same_text (record read_report { name = x }) read_report ≡ Less
+fewer_selectors = refl
+
+component_first : report_cmp same_text (record read_report { name = record { root = 1; sels = Field 7 ∷ [] } }) read_report ≡ Less
+component_first = refl

@@ -1,25 +1,43 @@
 -- What the tests on names say of their roots and selectors.
 use Rattle.std.proofs.Common.{◌≡◌, refl, sym, ap, ◌∙◌, subst, Bool, true, false, ◌&&◌, ℕ, ◌<◌, ◌==◌, List, [], ◌∷◌, ◌++◌, length, get_or, map, nat_lt, inl, inr, rules, eqb-true, eq-eqb, ltb-true, lt-ltb, zero, suc, not, IsTrue, arith}
 use Rattle.std.specs.Bool.{Decides}
+use Rattle.std.specs.Cmp.Lexicographic.{pointwise, pointwise_decides}
 use Rattle.std.proofs.lemmas.Slice.Eq.{slice_eq-Decides}
 use Rattle.place_names.specs.declared.selector.Sel.{Sel}
 use Rattle.place_names.specs.declared.selector.Sel.TheVariants.{Field, Elem, Deref}
 use Rattle.place_names.specs.contracts.selector.SelPartialEq.TheImpl as selectors
 use Rattle.place_names.specs.contracts.place_name.PlaceNamePartialEq.TheImpl as names
-use Rattle.place_names.specs.Lists.{Has}
-use Rattle.place_names.specs.Names.{Name, extend, is_equal, agrees, begins, is_prefix, is_strict_prefix, agree_along, overlaps, has_elem, covers, agrees_whole, leads_to, strict_fronts, strict_prefixes}
+use Rattle.spark_base.specs.Lists.{Has}
+use Rattle.spark_base.proofs.Lists.{Has-map, Has-map_from}
+use Rattle.place_names.specs.Names.{Name, is_same, extend, is_equal, agrees, begins, is_prefix, is_strict_prefix, agree_along, overlaps, has_elem, covers, agrees_whole, leads_to, strict_fronts, strict_prefixes}
 use Rattle.place_names.proofs.Selectors.{same_selector}
 
 -- `==` on selectors and on names tells whether they are the same
 selector_eq-decides : (s t : Sel) → Decides (selectors.eq-value.it s t) (s ≡ t)
 selector_eq-decides s t = search rules
 
-both_parts : (a b : Bool) → a && b ≡ true → (a ≡ true) × (b ≡ true)
+-- equal selectors are the same one
+pub is_equal-decides : (s t : Sel) → Decides (is_equal s t) (s ≡ t)
+is_equal-decides s t = subst (λ b. Decides b (s ≡ t)) (same_selector s t) (selector_eq-decides s t)
+
+pub both_parts : (a b : Bool) → a && b ≡ true → (a ≡ true) × (b ≡ true)
 both_parts true b e = (refl, e)
 both_parts false b e = cc
 
-both_true : (a b : Bool) → a ≡ true → b ≡ true → a && b ≡ true
+pub both_true : (a b : Bool) → a ≡ true → b ≡ true → a && b ≡ true
 both_true a b e f = ap (λ x. x && b) e ∙ f
+
+-- the test of the definitions tells so, too
+pub is_same-decides : (m n : Name) → Decides (is_same m n) (m ≡ n)
+is_same-decides m n =
+    let sels = pointwise_decides {E = is_equal} is_equal-decides m.sels n.sels in (
+      λ e.
+          let parts = both_parts (m.root == n.root) (pointwise is_equal m.sels n.sels) e in
+          let root = eqb-true _ _ parts.0 in
+          let rest = sels.0 parts.1 in
+          λ i. record { root = root i; sels = rest i },
+      λ e. both_true (m.root == n.root) (pointwise is_equal m.sels n.sels) (eq-eqb _ _ (ap (λ k. k.root) e)) (sels.1 (ap (λ k. k.sels) e)),
+    )
 
 pub same_name : (m n : Name) → Decides (names.eq-value.it m n) (m ≡ n)
 same_name m n =
@@ -31,10 +49,6 @@ same_name m n =
           λ i. record { root = root i; sels = rest i },
       λ e. both_true (m.root == n.root) _ (eq-eqb _ _ (ap (λ k. k.root) e)) (sels.1 (ap (λ k. k.sels) e)),
     )
-
--- equal selectors are the same one
-pub is_equal-decides : (s t : Sel) → Decides (is_equal s t) (s ≡ t)
-is_equal-decides s t = subst (λ b. Decides b (s ≡ t)) (same_selector s t) (selector_eq-decides s t)
 
 -- a list begins another where some selectors behind it give the whole
 pub begins-decides : (k m : List Sel) → Decides (begins k m) ((rest : List Sel) × (m ≡ k ++ rest))
@@ -197,25 +211,13 @@ leads_to-decides n m =
           (whole.1 (p.sels, one.1, long, two.1)),
     )
 
-has_map : {A B : Type 0} (g : A → B) (xs : List A) (x : A) → Has xs x → Has (map g xs) (g x)
-has_map g [] x h = h
-has_map g (y ∷ xs) x h = elim h [ inl e ↦ inl (ap g e) | inr h ↦ inr (has_map g xs x h) ]
-
-from_map : {A B : Type 0} (g : A → B) (xs : List A) (b : B) → Has (map g xs) b → (x : A) × Has xs x × (g x ≡ b)
-from_map g [] b h = absurd h
-from_map g (y ∷ xs) b h =
-    elim h [
-      | inl e ↦ (y, inl refl, e)
-      | inr h ↦ let found = from_map g xs b h in (found.0, inr found.1, found.2)
-    ]
-
 strict_front_is : (k front : List Sel) → Has (strict_fronts k) front → IsTrue (begins front k) × (length front < length k)
 strict_front_is [] front h = absurd h
 strict_front_is (s ∷ k) front h =
     elim h [
       | inl e ↦ (subst (λ f. IsTrue (begins f (s ∷ k))) e refl, subst (λ f. length f < length (s ∷ k)) e (omega arith))
       | inr h ↦
-          let found = from_map (λ rest. s ∷ rest) (strict_fronts k) front h in
+          let found = Has-map_from (λ rest. s ∷ rest) (strict_fronts k) front h in
           let rest = strict_front_is k found.0 found.1 in (
             subst (λ f. IsTrue (begins f (s ∷ k))) found.2 (both_true (is_equal s s) (begins found.0 k) ((is_equal-decides s s).1 refl) rest.0),
             subst (λ f. length f < length (s ∷ k)) found.2 (omega arith),
@@ -228,7 +230,7 @@ is_strict_front (s ∷ k) [] first less = inl refl
 is_strict_front (s ∷ k) (t ∷ front) first less =
     let parts = both_parts (is_equal t s) (begins front k) first in
     let same = (is_equal-decides t s).0 parts.0 in
-    let rest = has_map (λ rest. s ∷ rest) (strict_fronts k) front (is_strict_front k front parts.1 (omega arith)) in
+    let rest = Has-map (λ rest. s ∷ rest) (strict_fronts k) front (is_strict_front k front parts.1 (omega arith)) in
     inr (subst (λ u. Has (map (λ rest. s ∷ rest) (strict_fronts k)) (u ∷ front)) (sym same) rest)
 
 -- the strict prefixes of a name are its prefixes that are shorter
@@ -239,10 +241,10 @@ is_strict_prefix-decides p k =
           let parts = both_parts (is_prefix p k) (nat_lt (length p.sels) (length k.sels)) e in
           let one = both_parts (p.root == k.root) (begins p.sels k.sels) parts.0 in
           let root = eqb-true _ _ one.0 in
-          let has = has_map make (strict_fronts k.sels) p.sels (is_strict_front k.sels p.sels one.1 (ltb-true _ _ parts.1)) in
+          let has = Has-map make (strict_fronts k.sels) p.sels (is_strict_front k.sels p.sels one.1 (ltb-true _ _ parts.1)) in
           subst (λ r. Has (strict_prefixes k) (record { root = r; sels = p.sels })) (sym root) has,
       λ h.
-          let found = from_map make (strict_fronts k.sels) p h in
+          let found = Has-map_from make (strict_fronts k.sels) p h in
           let is = strict_front_is k.sels found.0 found.1 in
           subst (λ n. IsTrue (is_strict_prefix n k)) found.2
           (both_true (is_prefix (make found.0) k) (nat_lt (length found.0) (length k.sels))

@@ -5,7 +5,9 @@ use Rattle.std.proofs.Math.Bool.{and_assoc}
 use Rattle.place_names.specs.declared.selector.Sel.{Sel}
 use Rattle.place_names.specs.declared.rule.Loan.TheVariants.{Borrowed, Observed}
 use Rattle.place_names.specs.Names.{Name, agrees, agrees_whole, leads_to, strict_fronts, strict_prefixes}
-use Rattle.place_names.specs.Facts.{Fact, Moved, Lent, place}
+use Rattle.place_names.specs.declared.fact.Fact.{Fact}
+use Rattle.place_names.specs.declared.fact.Fact.TheVariants.{Moved, Lent}
+use Rattle.place_names.specs.Facts.{place}
 use Rattle.place_names.specs.Rules.{breaks_O2}
 
 any-map : {A B : Type 0} (t : B → Bool) (g : A → B) (xs : List A) → list_any t (map g xs) ≡ list_any (λ x. t (g x)) xs
@@ -51,7 +53,8 @@ any_prefix n k =
     ∙ ap (λ b. same && b) (any_front n.sels k.sels)
     ∙ sym (and_assoc same (agrees_whole n.sels k.sels) (nat_lt (length n.sels) (length k.sels)))
 
--- a strict prefix of k is forbidden as a comparison is, where k is and the fact's name is shorter than k
+-- a strict prefix of k is forbidden as a comparison is, where k is and the fact's name is shorter
+-- than k
 pub any_breaks_O2 : (k : Name) (f : Fact)
     → list_any (λ p. breaks_O2 p f) (strict_prefixes k) ≡ (breaks_O2 k f && nat_lt (length (place f).sels) (length k.sels))
 any_breaks_O2 k (Moved n) =

@@ -1,16 +1,15 @@
--- What holds of places along one path, and how each act changes it (docs/RULES.md, "Facts" and "Acts").
-use Rattle.std.specs.Prelude.{ℕ, Bool, false, not, ◌==◌, List, [], ◌∷◌, ◌++◌, map, filter, fold, if◌then◌else◌}
+-- What holds of places along one path, and how each act changes it (docs/RULES.md, "Facts" and
+-- "Acts").
+use Rattle.std.specs.Prelude.{ℕ, Bool, true, false, not, ◌&&◌, ◌||◌, ◌==◌, List, [], ◌∷◌, ◌++◌, map, filter, fold, if◌then◌else◌}
+use Rattle.std.specs.List.{list_any}
 use Rattle.place_names.specs.declared.act.Mode.TheVariants.{In, Out, InOut}
 use Rattle.place_names.specs.declared.rule.Loan.{Loan}
 use Rattle.place_names.specs.declared.rule.Loan.TheVariants.{Borrowed, Observed}
-use Rattle.place_names.specs.Names.{Name, extend, covers}
-use Rattle.place_names.specs.Acts.{Act, Read, Look, Write, Move, Borrow, Observe, Reborrow, EndScope, Return, Actual, Global, Free, Give}
-
-pub data Fact : Type 0 where
-  -- the place was moved
-  Moved : Name → Fact
-  -- the object with this number, the holder, borrows or observes the place
-  Lent : Loan → ℕ → Name → Fact
+use Rattle.place_names.specs.declared.fact.Fact.{Fact}
+use Rattle.place_names.specs.declared.fact.Fact.TheVariants.{Moved, Lent}
+use Rattle.place_names.specs.Names.{Name, is_same, extend, covers}
+use Rattle.place_names.specs.declared.act.Act.{Act}
+use Rattle.place_names.specs.declared.act.Act.TheVariants.{Read, Look, Write, Move, Borrow, Observe, Reborrow, EndScope, Return, Actual, Global, Free, Give}
 
 -- The place that a fact speaks of.
 abbrev pub place : Fact → Name
@@ -45,8 +44,8 @@ adds (Global g written) = []
 adds (Free k) = []
 adds (Give m borrows) = []
 
--- A fact ends at an act, whatever else holds: a moved place where it gets a value as a whole, and at the end of a scope
--- what belongs to its object.
+-- A fact ends at an act, whatever else holds: a moved place where it gets a value as a whole, and
+-- at the end of a scope what belongs to its object.
 abbrev pub removes : Act → Fact → Bool
 removes (Read m) f = false
 removes (Look m) f = false
@@ -68,6 +67,37 @@ removes (Give m borrows) f = false
 abbrev pub effect : Act → List Fact → List Fact
 effect a facts = filter (λ f. not (removes a f)) facts ++ adds a
 
--- The facts behind some acts in order, from none at the start of a subprogram.
+-- The facts behind some acts in order, from those that are given.
+abbrev pub facts_behind : List Fact → List Act → List Fact
+facts_behind facts acts = fold (λ facts a. effect a facts) facts acts
+
+-- A subprogram begins without facts.
 abbrev pub facts_after : List Act → List Fact
-facts_after acts = fold (λ facts a. effect a facts) [] acts
+facts_after acts = facts_behind [] acts
+
+-- ---- one fact at a time
+
+abbrev pub is_same_loan : Loan → Loan → Bool
+is_same_loan Borrowed Borrowed = true
+is_same_loan Borrowed Observed = false
+is_same_loan Observed Borrowed = false
+is_same_loan Observed Observed = true
+
+abbrev pub is_same_fact : Fact → Fact → Bool
+is_same_fact (Moved n) (Moved m) = is_same n m
+is_same_fact (Moved n) (Lent l h m) = false
+is_same_fact (Lent l h n) (Moved m) = false
+is_same_fact (Lent l h n) (Lent k g m) = is_same_loan l k && ((h == g) && is_same n m)
+
+-- A fact is one of the new facts of an act.
+abbrev pub is_added : Act → Fact → Bool
+is_added a f = list_any (λ g. is_same_fact g f) (adds a)
+
+-- Whether a fact holds behind an act goes by the act, the fact, and whether it held before: it is
+-- added, or it held and isn't removed.
+abbrev pub holds_behind : Act → Fact → Bool → Bool
+holds_behind a f held = is_added a f || (held && not (removes a f))
+
+-- The same along some acts.
+abbrev pub holds_along : List Act → Fact → Bool → Bool
+holds_along acts f held = fold (λ held a. holds_behind a f held) held acts

@@ -1,5 +1,6 @@
 -- Names of places (docs/RULES.md, "Names of places"; Ada 2012, 4.1).
 use Rattle.std.specs.Prelude.{ℕ, Bool, true, false, not, ◌&&◌, ◌==◌, List, [], ◌∷◌, ◌++◌, map, length, nat_lt}
+use Rattle.std.specs.Cmp.Lexicographic.{pointwise}
 use Rattle.place_names.specs.declared.selector.Sel.{Sel}
 use Rattle.place_names.specs.declared.selector.Sel.TheVariants.{Field, Elem, Deref}
 
@@ -27,6 +28,10 @@ is_equal Elem Deref = false
 is_equal Deref (Field j) = false
 is_equal Deref Elem = false
 is_equal Deref Deref = true
+
+-- One name is the other.
+abbrev pub is_same : Name → Name → Bool
+is_same k m = (k.root == m.root) && pointwise is_equal k.sels m.sels
 
 -- Two selectors may lead to one place. As no index is known, only equal ones do.
 abbrev pub agrees : Sel → Sel → Bool
@@ -63,7 +68,8 @@ has_elem (Elem ∷ k) = true
 has_elem (Field i ∷ k) = has_elem k
 has_elem (Deref ∷ k) = has_elem k
 
--- A name covers what it is a prefix of. One with an `Elem` may be that of another element, so it covers nothing.
+-- A name covers what it is a prefix of. One with an `Elem` may be that of another element, so it
+-- covers nothing.
 abbrev pub covers : Name → Name → Bool
 covers k m = is_prefix k m && not (has_elem k.sels)
 

@@ -17,7 +17,7 @@ selectors_text component before [] = []
 selectors_text component before (s ∷ rest) =
     selector_text component before s ++ selectors_text component (extend before (s ∷ [])) rest
 
--- A name is printed as its root's text and that of its selectors. The text of an object, and that of a component by the
--- place that has it and its number, are given.
+-- A name is printed as its root's text and that of its selectors. The text of an object, and that
+-- of a component by the place that has it and its number, are given.
 abbrev pub printed : (ℕ → List ℕ) → (Name → ℕ → List ℕ) → Name → List ℕ
 printed object component m = object m.root ++ selectors_text component (names.object m.root) m.sels

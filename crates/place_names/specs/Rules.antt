@@ -9,8 +9,11 @@ use Rattle.place_names.specs.declared.rule.State.TheVariants as state
 use Rattle.place_names.specs.declared.rule.Rule.{Rule}
 use Rattle.place_names.specs.declared.rule.Rule.TheVariants.{O1, O2, O3, O4, O5, O6, O7, O8, O9, O10, O11, O14}
 use Rattle.place_names.specs.Names.{Name, object, overlaps, leads_to, strict_prefixes}
-use Rattle.place_names.specs.Acts.{Act, Read, Look, Write, Move, Borrow, Observe, Reborrow, EndScope, Return, Actual, Global, Free, Give}
-use Rattle.place_names.specs.Facts.{Fact, Moved, Lent, place}
+use Rattle.place_names.specs.declared.act.Act.{Act}
+use Rattle.place_names.specs.declared.act.Act.TheVariants.{Read, Look, Write, Move, Borrow, Observe, Reborrow, EndScope, Return, Actual, Global, Free, Give}
+use Rattle.place_names.specs.declared.fact.Fact.{Fact}
+use Rattle.place_names.specs.declared.fact.Fact.TheVariants.{Moved, Lent}
+use Rattle.place_names.specs.Facts.{place}
 
 -- The place was moved or is lent to a borrower, and overlaps m.
 abbrev pub moved_or_borrowed : Name → Fact → Bool
@@ -47,12 +50,13 @@ moved_in roots (Lent l h n) = false
 abbrev pub breaks_O1 : Name → Fact → Bool
 breaks_O1 m f = moved_or_borrowed m f
 
--- A comparison with null looks at m alone, not below it: neither m nor a place on the way to it may be moved or borrowed.
+-- A comparison with null looks at m alone, not below it: neither m nor a place on the way to it may
+-- be moved or borrowed.
 abbrev pub breaks_O2 : Name → Fact → Bool
 breaks_O2 m f = moved_above m f || borrowed_above m f
 
--- A write needs the way to k, which has to pass as a comparison does, and nothing that overlaps k may be lent.
--- k itself may be moved.
+-- A write needs the way to k, which has to pass as a comparison does, and nothing that overlaps k
+-- may be lent. k itself may be moved.
 abbrev pub breaks_O3 : Name → Fact → Bool
 breaks_O3 k f = list_any (λ p. breaks_O2 p f) (strict_prefixes k) || lent k f
 
@@ -72,7 +76,8 @@ breaks_O6 m f = moved_or_borrowed m f
 abbrev pub breaks_O7 : ℕ → Fact → Bool
 breaks_O7 b f = moved_or_lent (object b) f
 
--- The end of a borrower: it has to give back all that it borrowed. Other objects may end with moved parts.
+-- The end of a borrower: it has to give back all that it borrowed. Other objects may end with moved
+-- parts.
 abbrev pub breaks_O8 : ℕ → Bool → Fact → Bool
 breaks_O8 x borrower f = borrower && moved_in (x ∷ []) f
 
@@ -82,19 +87,22 @@ breaks_O9 roots f = moved_in roots f
 
 -- An actual, by its mode and its type.
 abbrev pub breaks_O10 : Name → Mode → Bool → Bool → Fact → Bool
--- mode in, a named access type, in a procedure call: as a borrow;
--- mode in and an owning type, in every other case: as an observation; other actuals of mode in are no acts
+-- mode in, a named access type, in a procedure call: as a borrow; mode in and an owning type, in
+-- every other case: as an observation; other actuals of mode in are no acts
 breaks_O10 m In owning access f = if access then breaks_O5 m f else (owning && breaks_O6 m f)
--- mode in out, an owning type: as a move; mode in out, a type that isn't owning: as a read or as a write
+-- mode in out, an owning type: as a move; mode in out, a type that isn't owning: as a read or as a
+-- write
 breaks_O10 m InOut owning access f = if owning then breaks_O4 m f else (breaks_O1 m f || breaks_O3 m f)
 -- mode out: as a write
 breaks_O10 m Out owning access f = breaks_O3 m f
 
--- A call whose callee uses a package object: only read, as an observation of it; written, as a move of it.
+-- A call whose callee uses a package object: only read, as an observation of it; written, as a move
+-- of it.
 abbrev pub breaks_O11 : ℕ → Bool → Fact → Bool
 breaks_O11 g written f = if written then breaks_O4 (object g) f else breaks_O6 (object g) f
 
--- A deallocation: neither k nor a place on the way to it may be moved, and nothing that overlaps k may be lent.
+-- A deallocation: neither k nor a place on the way to it may be moved, and nothing that overlaps k
+-- may be lent.
 abbrev pub breaks_O14 : Name → Fact → Bool
 breaks_O14 k f = moved_above k f || lent k f
 
@@ -114,7 +122,8 @@ pub record Forbidden : Type 0 where
 abbrev pub forbidden_if : Bool → Rule → Name → Fact → Option Forbidden
 forbidden_if test r m f = if test then Some (record { rule = r; name = m; word = word f }) else None
 
--- What a fact forbids at an act. The name is the act's, and for the ends of scopes and of calls the moved one.
+-- What a fact forbids at an act. The name is the act's, and for the ends of scopes and of calls the
+-- moved one.
 abbrev pub forbids : Act → Fact → Option Forbidden
 forbids (Read m) f = forbidden_if (breaks_O1 m f) O1 m f
 forbids (Look m) f = forbidden_if (breaks_O2 m f) O2 m f

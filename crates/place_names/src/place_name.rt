@@ -15,7 +15,7 @@ pub struct TooDeep;
 
 /// The name of a place: an object by its number, and at most 16 steps from it to a part of it
 /// (`docs/RULES.md`, "Names of places"). Contracts see it as a `Name`.
-#[derive(Debug, PartialEq, Eq, Drop)]
+#[derive(PartialEq, Eq, Drop)]
 pub struct PlaceName {
     root: u32,
     sels: ArrayVec<Sel, 16>,
@@ -56,7 +56,8 @@ impl PlaceName {
         }
     }
 
-    /// Goes one step further. `TooDeep` comes exactly where 16 selectors are there, and leaves the name as it was.
+    /// Goes one step further. `TooDeep` comes exactly where 16 selectors are there, and leaves the
+    /// name as it was.
     pub fn push(&mut self, sel: Sel) -> Result<(), TooDeep>
         ensures room { IsOk result ↔ (length self.old.sels < 16) }
         ensures full { IsErr result ↔ (length self.old.sels ≡ 16) }
@@ -98,7 +99,8 @@ impl PlaceName {
         self.root == other.root && agree_along(&self.sels, &other.sels)
     }
 
-    /// Whether this name covers the other: a prefix of it without an `Elem`, which may be that of another element.
+    /// Whether this name covers the other: a prefix of it without an `Elem`, which may be that of
+    /// another element.
     pub fn covers(&self, other: &PlaceName) -> bool
         ensures { result ≡ covers self.now other.now }
     {

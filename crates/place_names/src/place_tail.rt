@@ -9,7 +9,7 @@ use std::marker::Model;
 
 /// At most 16 steps from a place to a part of it, as the access parts of a type are given by
 /// (`docs/RULES.md`, "Names of places"). Contracts see the list of them.
-#[derive(Debug, PartialEq, Eq, Drop)]
+#[derive(PartialEq, Eq, Drop)]
 pub struct PlaceTail {
     sels: ArrayVec<Sel, 16>,
 }
@@ -48,7 +48,8 @@ impl PlaceTail {
         }
     }
 
-    /// Goes one step further. `TooDeep` comes exactly where 16 selectors are there, and leaves them as they were.
+    /// Goes one step further. `TooDeep` comes exactly where 16 selectors are there, and leaves them
+    /// as they were.
     pub fn push(&mut self, sel: Sel) -> Result<(), TooDeep>
         ensures room { IsOk result ↔ (length self.old < 16) }
         ensures full { IsErr result ↔ (length self.old ≡ 16) }

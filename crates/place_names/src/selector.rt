@@ -3,7 +3,7 @@ ghost use Rattle.std.specs.Prelude.{◌≡◌};
 ghost use Rattle.place_names.specs.Names.{agrees, begins, agree_along, has_elem};
 
 /// One step from an object to a part of it (Ada 2012, 4.1, 4.1.1 and 4.1.3).
-#[derive(Clone, Copy, Debug, Default, PartialEq, Eq, PartialOrd, Ord)]
+#[derive(Clone, Copy, Default, PartialEq, Eq, PartialOrd, Ord)]
 pub enum Sel {
     /// The component with this number, from 0, in the order of declaration.
     Field(u32),
@@ -14,7 +14,8 @@ pub enum Sel {
     Deref,
 }
 
-/// Whether two selectors may lead to one place, as only equal ones do (`docs/RULES.md`, "Names of places").
+/// Whether two selectors may lead to one place, as only equal ones do (`docs/RULES.md`, "Names of
+/// places").
 pub fn agrees(a: Sel, b: Sel) -> bool
     ensures { result ≡ agrees a b }
 {

@@ -20,7 +20,8 @@ abbrev pub refusal_line : List (List ℕ) → Pos → Code → List ℕ
 refusal_line files pos code =
     line (position_text files pos ++ codes ": " ++ code_letters code ++ codes " " ++ code_text code)
 
--- What the rules that look at the text without paths say. A report of another rule has a word: the kind of fact that forbids.
+-- What the rules that look at the text without paths say. A report of another rule has a word: the
+-- kind of fact that forbids.
 abbrev pub rule_words : Rule → List ℕ
 rule_words O1 = []
 rule_words O2 = []

@@ -3,7 +3,7 @@ ghost use Rattle.std.specs.Prelude.{◌≡◌};
 ghost use Rattle.rule_reports.specs.Codes.{code_letters, code_text};
 
 /// A refusal, by the code that its line shows (`docs/TOOL.md`, "Refusals").
-#[derive(Clone, Copy, Debug, PartialEq, Eq)]
+#[derive(Clone, Copy, PartialEq, Eq)]
 pub enum Code {
     /// The files have more than 4,194,304 bytes in all.
     S1,
@@ -17,17 +17,19 @@ pub enum Code {
     L4,
     /// A token stands behind 1,000,000 others.
     L5,
-    /// No source goes on as the token does, as at the end of an empty file.
+    /// The tokens through it are no viable prefix, as at the end of an empty file.
     P1,
     /// A construct opens within 64 others, or an expression has more than 1,024 operators.
     P2,
-    /// A word stands where no source of the subset has one, and begins a construct of Ada that is left out, as `raise`.
+    /// A word stands where no source of the subset has one, and begins a construct of Ada that is
+    /// left out, as `raise`.
     P3,
     /// A name has no declaration, as in `X := 1;` without an `X`.
     N1,
     /// A name is declared a second time in one region, as in `X, X : Integer;`.
     N2,
-    /// A declaration can't be seen from where it is named, as one of a package without a `with` clause.
+    /// A declaration can't be seen from where it is named, as one of a package without a `with`
+    /// clause.
     N3,
     /// A name stands before its declaration.
     N4,
@@ -41,7 +43,7 @@ pub enum Code {
     Y2,
     /// An array has a low bound above its high bound, as `array (2 .. 1) of Integer`.
     Y3,
-    /// An expression hasn't the type that its place demands, as in `N : Integer := True;`.
+    /// An expression hasn't the type that is wanted where it stands, as in `N : Integer := True;`.
     K1,
     /// A value is written to what is no variable, as in `for I in 1 .. 2 loop I := 1; end loop;`.
     K2,
@@ -53,7 +55,8 @@ pub enum Code {
     K5,
     /// An anonymous access type, or a traversal call, stands where none may.
     K6,
-    /// An expression isn't static where one has to be, as a variable in the bounds of an array type.
+    /// An expression isn't static where one has to be, as a variable in the bounds of an array
+    /// type.
     K7,
     /// The initial value of a package object calls a function or names an object of an owning type.
     K8,

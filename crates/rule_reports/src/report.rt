@@ -10,8 +10,9 @@ use std::alloc::{AllocError, Global};
 use straight_form::Word;
 use straight_line::{PathReport, place_text};
 
-/// The line of a report, `POS: RULE NAME: WORD`. The files are the names as they were given, by number, and the objects
-/// are the identifiers as they are declared, of which the first has the number 1.
+/// The line of a report, `POS: RULE NAME: WORD`. The files are the names as they were given, by
+/// number, and the objects are the identifiers as they are declared, of which the first has the
+/// number 1.
 pub fn report_line(
     alloc: Global,
     files: &[String],

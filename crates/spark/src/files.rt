@@ -1,5 +1,6 @@
 //! Real files as a store.
-ghost use Rattle.std.specs.Prelude.{◌≡◌, None, Contains, map, string_bytes};
+ghost use Rattle.std.specs.Prelude.{◌≡◌, None, map, string_bytes};
+ghost use Rattle.spark_base.specs.Lists.{Has};
 ghost use Rattle.spark_base.specs.Words.{operands};
 
 use spark_base::{Failed, FileStore, OpenFault};
@@ -7,16 +8,18 @@ use std::fs::Files;
 use std::io::Read;
 use std::{fs, io};
 
-/// Opens a file that the words name. The words stand for this condition alone: no other file is ever opened.
+/// Opens a file that the words name. The words stand for this condition alone: no other file is
+/// ever opened.
 fn open_operand<R: Files>(rt: &R, words: &[String], name: &str) -> io::Result<R::File>
-    requires { Contains (operands (map string_bytes words.now)) name.now }
+    requires { Has (operands (map string_bytes words.now)) name.now }
 {
     fs::open(rt, name)
 }
 
 /// Real files, made for the words of a command. A missing file counts as an error.
 ///
-/// It doesn't tell which files there are. Of the open file it tells the bytes that the reader tells; real files tell none.
+/// It doesn't tell which files there are. Of the open file it tells the bytes that the reader
+/// tells; real files tell none.
 #[derive(Drop)]
 pub struct RealFiles<'a, R: Files> {
     rt: &'a R,

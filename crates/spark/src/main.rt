@@ -1,10 +1,11 @@
 //! The program `spark`: the tool over real files, standard input and the two outputs.
 //!
-//! `main` takes the words after the program's name, makes the real objects, calls `run_tool` and ends with its answer.
-//! `Reading`, `Writing` over an `Output`, and `RealFiles` are those objects. They are the trusted edge: each calls the
-//! operating system and counts its errors. They are proved against the traits of `spark_base` over any reader, writer
-//! and files; what the real ones do with bytes, no clause knows (`docs/TOOL.md`, "The outside").
-//! Words that aren't UTF-8 are a usage fault, as no words are.
+//! `main` takes the words after the program's name, makes the real objects, calls `run_tool` and
+//! ends with its answer. `Reading`, `Writing` over an `Output`, and `RealFiles` are those objects.
+//! They are the trusted edge: each calls the operating system and counts its errors. They are
+//! proved against the traits of `spark_base` over any reader, writer and files; what the real ones
+//! do with bytes, no clause knows (`docs/TOOL.md`, "The outside"). Words that aren't UTF-8 are a
+//! usage fault, as no words are.
 #![tactic(auto)]
 
 ghost use Rattle.spark_tool.specs.Promises.{IsStatus};
@@ -23,7 +24,7 @@ use std::process::ExitCode;
 use std::{env, io};
 use writing::Writing;
 
-/// The status for want of memory (`docs/TOOL.md`, "Statuses").
+/// The status where memory runs out (`docs/TOOL.md`, "Statuses").
 const WANT_OF_MEMORY: u8 = 9;
 
 /// The words after the program's name.

@@ -2,7 +2,8 @@
 use std::io;
 use std::io::Write;
 
-/// Standard output or standard error, or any two writers in their place. It tells what the one that it is tells.
+/// Standard output or standard error, or any two writers in their place. It tells what the one that
+/// it is tells.
 #[derive(Drop)]
 pub enum Output<O, E> {
     /// Standard output.

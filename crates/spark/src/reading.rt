@@ -4,7 +4,8 @@ ghost use Rattle.std.specs.Prelude.{◌≡◌};
 use spark_base::{Failed, Source};
 use std::io::Read;
 
-/// A reader as a source that counts its errors. It tells the bytes that the reader tells; real readers tell none.
+/// A reader as a source that counts its errors. It tells the bytes that the reader tells; real
+/// readers tell none.
 #[derive(Drop)]
 pub struct Reading<R> {
     inner: R,

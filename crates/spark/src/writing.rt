@@ -4,7 +4,8 @@ ghost use Rattle.std.specs.Prelude.{◌≡◌};
 use spark_base::{Sink, SinkFault};
 use std::io::Write;
 
-/// A writer as a sink that counts its errors. It tells the bytes that the writer tells; real writers tell none.
+/// A writer as a sink that counts its errors. It tells the bytes that the writer tells; real
+/// writers tell none.
 #[derive(Drop)]
 pub struct Writing<W> {
     pub(crate) inner: W,

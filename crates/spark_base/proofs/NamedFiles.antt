@@ -1,5 +1,5 @@
 -- How a search finds a file.
-use Rattle.std.proofs.Common.{◌≡◌, ◌<◌, ℕ, suc, true, List, ◌∷◌, Some, length, map, get_or, drop, refl, sym, ap, ◌∙◌, string_bytes}
+use Rattle.std.proofs.Common.{◌≡◌, ◌<◌, ℕ, suc, true, List, ◌∷◌, Some, length, get_or, drop, refl, sym, ap, ◌∙◌, string_bytes}
 use Rattle.std.specs.List.{slice_get}
 use Rattle.std.specs.Str.{bytes_eq}
 use Rattle.std.proofs.Math.Seq.{drop-cons}

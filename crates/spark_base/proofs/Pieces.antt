@@ -1,9 +1,9 @@
 -- What a copy of a piece leaves.
-use Rattle.std.proofs.Common.{◌≡◌, ◌≤◌, ◌+◌, ◌++◌, ℕ, List, length, take, drop, refl, sym, ap, ◌∙◌, arith, subst}
+use Rattle.std.proofs.Common.{◌≡◌, ◌+◌, ◌++◌, ℕ, List, length, take, drop, sym, ap, ◌∙◌, subst}
 use Rattle.std.proofs.lemmas.List.{take-append-drop, drop-drop}
 use Rattle.std.proofs.Math.Seq.{take-append_seam}
 
--- a piece from a place on, and the rest behind it
+-- a piece from an index on, and the rest behind it
 pub copied_piece : (bytes piece back : List ℕ) (at n : ℕ) → piece ≡ take n (drop at bytes) → length piece ≡ n
     → drop at bytes ≡ take n (piece ++ back) ++ drop (at + n) bytes
 copied_piece bytes piece back at n is size =

@@ -1,5 +1,5 @@
 -- The outside in memory (docs/TOOL.md, "The outside").
-use Rattle.std.specs.Prelude.{◌≡◌, ℕ, ◌+◌, ◌-◌, ◌^◌, min, Bool, true, false, if◌then◌else◌, ◌==◌, nat_lt, List, [], ◌∷◌, drop, map, length, Option, None, Some, string_bytes, Contains}
+use Rattle.std.specs.Prelude.{◌≡◌, ℕ, ◌+◌, ◌-◌, ◌^◌, min, Bool, false, if◌then◌else◌, ◌==◌, nat_lt, List, Option, None, Some}
 use Rattle.std.specs.List.{list_any}
 use Rattle.spark_base.specs.declared.memory.FaultPlan.{FaultPlan}
 

@@ -1,12 +1,13 @@
-//! What every layer of `spark` shares: places in the sources, lists and boxes that are plain data to a contract,
-//! the outside world and the limits.
+//! What every layer of `spark` shares: positions in the sources, lists and boxes that are plain
+//! data to a contract, the outside world and the limits.
 //!
-//! `Pos` is a place, and `position_text` prints it. `Listed` and `Boxed` are a `Vec` and a `Box` that contracts see
-//! as what they hold. `Source`, `Sink` and `FileStore` are what the tool asks of the outside; `MemSource`, `MemSink`,
-//! `PlainSink` and `MemFiles` are the outside in memory, whose bytes a contract knows.
-//! What a call on the outside does, `specs/Outside.antt` states; `docs/TOOL.md`, "The outside", says it in words.
-//! A call fails only where the count of faults of its object rose in that call.
-//! No call but `MemSink`'s and `PlainSink`'s `write` takes memory in proportion to what it is given.
+//! `Pos` is a position, and `position_text` prints it. `Listed` and `Boxed` are a `Vec` and a `Box`
+//! that contracts see as what they hold. `Source`, `Sink` and `FileStore` are what the tool asks of
+//! the outside; `MemSource`, `MemSink`, `PlainSink` and `MemFiles` are the outside in memory, whose
+//! bytes a contract knows. What a call on the outside does, `specs/Outside.antt` states;
+//! `docs/TOOL.md`, "The outside", says it in words. A call fails only where the count of faults of
+//! its object rose in that call. No call but `MemSink`'s and `PlainSink`'s `write` takes memory in
+//! proportion to what it is given.
 #![tactic(auto)]
 
 mod boxed;
@@ -27,6 +28,3 @@ pub use memory::{MemSink, MemSource, PlainSink};
 pub use memory_files::MemFiles;
 pub use outside::{Failed, FileStore, OpenFault, Sink, SinkFault, Source};
 pub use position::{Pos, position_text};
-
-#[cfg(test)]
-mod tests;

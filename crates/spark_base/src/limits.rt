@@ -6,7 +6,7 @@ pub const FILES: usize = 64;
 pub const SOURCE_BYTES: usize = 4_194_304;
 /// The tokens of all source files together, without the ends of files.
 pub const TOKENS: u32 = 1_000_000;
-/// Constructs that are open at one place.
+/// Constructs that are open at one position.
 pub const NESTING: u32 = 64;
 /// Operators in one outermost expression.
 pub const OPERATORS: u32 = 1_024;

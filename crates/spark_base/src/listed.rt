@@ -4,9 +4,9 @@ ghost use Rattle.std.specs.Prelude.{◌≡◌, [], ◌∷◌, ◌++◌, length, 
 use std::alloc::{AllocError, Global};
 use std::marker::Model;
 
-/// A `Vec` that contracts see as the list of its elements, so that a tree of such lists is plain data
-/// and two of them are equal where their elements are.
-#[derive(Debug, Drop)]
+/// A `Vec` that contracts see as the list of its elements, so that a tree of such lists is plain
+/// data and two of them are equal where their elements are.
+#[derive(Drop)]
 pub struct Listed<T> {
     elements: Vec<T>,
 }
@@ -70,7 +70,7 @@ impl<T> Listed<T> {
 }
 
 impl<T: Drop> Listed<T> {
-    /// Adds an element at the end. For want of memory the list stays as it was.
+    /// Adds an element at the end. Out of memory, the list stays as it was.
     pub fn push(&mut self, element: T) -> Result<(), AllocError>
         ensures ok { OnOk result (self.new ≡ self.old ++ element ∷ []) }
         ensures err { OnErr result (self.new ≡ self.old) }

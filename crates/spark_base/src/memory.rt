@@ -1,5 +1,5 @@
 //! The outside in memory: sources, sinks and files whose bytes a contract knows.
-ghost use Rattle.std.specs.Prelude.{◌≡◌, ◌≢◌, ◌≤◌, ◌<◌, ◌+◌, ◌^◌, ◌++◌, ◌↔◌, [], Bool, ℕ, List, Option, None, Some, Ok, Err, IsTrue, IsErr, IfOk, OnOk, OnErr, length, take, drop, map, Contains, string_bytes};
+ghost use Rattle.std.specs.Prelude.{◌≡◌, ◌≢◌, ◌≤◌, ◌<◌, ◌+◌, ◌^◌, ◌++◌, ◌↔◌, [], Bool, ℕ, List, Option, None, Some, Ok, Err, IsTrue, IsErr, IfOk, OnOk, OnErr, length, take, drop, map, string_bytes};
 ghost use Rattle.std.specs.Io.KnownBytes.{Appends, Consumes, IsAtEnd, Keeps};
 ghost use Rattle.spark_base.specs.Outside.{Rose, AppendsPrefix, Lacks, Opens, file_bytes};
 ghost use Rattle.spark_base.specs.Words.{operands};
@@ -19,7 +19,7 @@ impl From<AllocError> for SinkFault {
 }
 
 /// Which calls of an object in memory fail, by their numbers from 0, and how many have failed.
-#[derive(Debug, Drop)]
+#[derive(Drop)]
 pub(crate) struct FaultPlan {
     pub(crate) fails: Vec<u64>,
     /// The number of the next call; none where it is past the last number that a list can have.
@@ -59,7 +59,7 @@ impl FaultPlan {
     }
 }
 
-/// Copies the bytes from a place on into a buffer, as many as fit, and says how many.
+/// Copies the bytes from an index on into a buffer, as many as fit, and says how many.
 pub(crate) fn copy_from(bytes: &[u8], at: usize, buf: &mut [u8]) -> usize
     ensures within { result ≤ length buf.new }
     ensures copied { drop at bytes.now ≡ take result buf.new ++ drop (at + result) bytes.now }
@@ -75,7 +75,7 @@ pub(crate) fn copy_from(bytes: &[u8], at: usize, buf: &mut [u8]) -> usize
 }
 
 /// A source over bytes in memory. A call whose number, from 0, is in a list fails.
-#[derive(Debug, Drop)]
+#[derive(Drop)]
 pub struct MemSource {
     bytes: Vec<u8>,
     at: usize,
@@ -129,8 +129,9 @@ impl Source for MemSource {
     }
 }
 
-/// A sink that keeps its bytes in memory. A call whose number, from 0, is in a list fails and appends nothing.
-#[derive(Debug, Drop)]
+/// A sink that keeps its bytes in memory. A call whose number, from 0, is in a list fails and
+/// appends nothing.
+#[derive(Drop)]
 pub struct MemSink {
     bytes: Vec<u8>,
     plan: FaultPlan,
@@ -189,7 +190,7 @@ impl Sink for MemSink {
 }
 
 /// A sink that keeps its bytes in memory and never fails.
-#[derive(Debug, Drop)]
+#[derive(Drop)]
 pub struct PlainSink {
     bytes: Vec<u8>,
 }

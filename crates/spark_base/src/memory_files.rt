@@ -1,6 +1,7 @@
 //! Files in memory, whose bytes a contract knows.
-ghost use Rattle.std.specs.Prelude.{◌≡◌, ◌≤◌, ◌<◌, ◌++◌, ◌↔◌, [], ℕ, List, Option, None, Some, Err, IsTrue, IsErr, IfOk, OnOk, OnErr, length, take, map, Contains, string_bytes, MatchOption};
+ghost use Rattle.std.specs.Prelude.{◌≡◌, ◌≤◌, ◌<◌, ◌++◌, ◌↔◌, [], ℕ, List, Option, None, Some, Err, IsTrue, IsErr, IfOk, OnOk, OnErr, length, take, map, string_bytes, MatchOption};
 ghost use Rattle.std.specs.Io.KnownBytes.{Consumes, IsAtEnd, Keeps};
+ghost use Rattle.spark_base.specs.Lists.{Has};
 ghost use Rattle.spark_base.specs.Outside.{Rose, Lacks, Opens, file_bytes};
 ghost use Rattle.spark_base.specs.Words.{operands};
 ghost use Rattle.spark_base.specs.Memory as spec;
@@ -22,7 +23,7 @@ fn index_of(files: &[(String, Vec<u8>)], name: &str) -> Option<usize>
 }
 
 /// Files in memory. A call whose number, from 0 over all calls, is in a list fails.
-#[derive(Debug, Drop)]
+#[derive(Drop)]
 pub struct MemFiles {
     words: Vec<String>,
     files: Vec<(String, Vec<u8>)>,
@@ -35,8 +36,8 @@ pub struct MemFiles {
 impl MemFiles {
     ghost use Rattle.spark_base.specs.MemStores as mem;
 
-    /// A store with these files, made for these words, whose calls with these numbers fail. Of two files with
-    /// one name the first is opened. It takes no memory.
+    /// A store with these files, made for these words, whose calls with these numbers fail. Of two
+    /// files with one name the first is opened. It takes no memory.
     pub fn new(words: Vec<String>, files: Vec<(String, Vec<u8>)>, fails: Vec<u64>) -> MemFiles
         ensures words { mem.store_words result ≡ map string_bytes words.items }
         ensures files { mem.store_files result ≡ file_pairs files.items }
@@ -69,7 +70,7 @@ impl FileStore for MemFiles {
     ghost faults = { λ store. (mem.store_plan store).faults };
 
     fn open_file(&mut self, name: &str) -> Result<(), OpenFault>
-        requires { Contains (operands (mem.store_words self.old)) name.now }
+        requires { Has (operands (mem.store_words self.old)) name.now }
         ensures ok { OnOk result (IsTrue (mem.store_is_open self.new)) }
         ensures bytes { OnOk result (file_bytes (mem.store_files self.old) name.now ≡ Some (mem.store_left self.new)) }
         ensures closed { OnErr result (¬ (IsTrue (mem.store_is_open self.new))) }

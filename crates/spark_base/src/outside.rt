@@ -1,6 +1,7 @@
 //! What the tool asks of the outside: a source of bytes, a sink for bytes and a store of files.
-ghost use Rattle.std.specs.Prelude.{◌≡◌, ◌≤◌, ◌<◌, Bool, ℕ, List, Option, Err, IsTrue, IfOk, OnOk, OnErr, length, take, Contains};
+ghost use Rattle.std.specs.Prelude.{◌≡◌, ◌≤◌, ◌<◌, Bool, ℕ, List, Option, Err, IsTrue, IfOk, OnOk, OnErr, length, take};
 ghost use Rattle.std.specs.Io.KnownBytes.{Appends, Consumes, IsAtEnd, Keeps};
+ghost use Rattle.spark_base.specs.Lists.{Has};
 ghost use Rattle.spark_base.specs.Outside.{Rose, AppendsPrefix, Lacks, Opens};
 ghost use Rattle.spark_base.specs.Words.{operands};
 
@@ -53,7 +54,7 @@ pub trait Source {
         ensures no_fault { OnOk result (faults self.new ≡ faults self.old) };
 }
 
-/// A place for bytes, as standard output.
+/// What takes bytes, as standard output.
 pub trait Sink {
     /// The bytes that it holds, where the object tells them.
     ghost written: { Self → Option (List ℕ) };
@@ -73,7 +74,8 @@ pub trait Sink {
         ensures no_fault_for_memory { result ≡ Err SinkFault.Memory → faults self.new ≡ faults self.old };
 }
 
-/// Files by name, of which one at a time is open. A store is made for a list of words, and opens their operands alone.
+/// Files by name, of which one at a time is open. A store is made for a list of words, and opens
+/// their operands alone.
 pub trait FileStore {
     /// The words that the store was made for.
     ghost words: { Self → List (List ℕ) };
@@ -92,7 +94,7 @@ pub trait FileStore {
 
     /// Opens the named file at its first byte, in place of the one before.
     fn open_file(&mut self, name: &str) -> Result<(), OpenFault>
-        requires { Contains (operands (words self.old)) name.now }
+        requires { Has (operands (words self.old)) name.now }
         ensures ok { OnOk result (IsTrue (is_open self.new)) }
         ensures bytes { OnOk result (Opens (stored self.old) name.now (left self.new)) }
         ensures closed { OnErr result (¬ (IsTrue (is_open self.new))) }
@@ -104,7 +106,8 @@ pub trait FileStore {
         ensures words { words self.new ≡ words self.old }
         ensures stored { stored self.new ≡ stored self.old };
 
-    /// Takes the next bytes of the open file, as many as it likes up to the size of `buf`; none only at its end.
+    /// Takes the next bytes of the open file, as many as it likes up to the size of `buf`; none
+    /// only at its end.
     fn next(&mut self, buf: &mut [u8]) -> Result<usize, Failed>
         requires open { IsTrue (is_open self.old) }
         requires room { 0 < length buf.old }

@@ -4,7 +4,7 @@ ghost use Rattle.spark_base.specs.Positions as spec;
 
 use std::alloc::{AllocError, Global};
 
-/// A place in a source file. Lines and columns count from 1, and a column is a byte.
+/// A position in a source file. Lines and columns count from 1, and a column is a byte.
 #[derive(Clone, Copy, Debug, PartialEq, Eq, PartialOrd, Ord)]
 pub struct Pos {
     /// The number of the file, from 0, in the order of the command line.
@@ -15,7 +15,8 @@ pub struct Pos {
     pub column: u32,
 }
 
-/// A place as `FILE:LINE:COLUMN`, with the file's name as it was given (`docs/TOOL.md`, "Lines").
+/// A position as `FILE:LINE:COLUMN`, with the file's name as it was given (`docs/TOOL.md`,
+/// "Lines").
 pub fn position_text(alloc: Global, files: &[String], pos: Pos) -> Result<Vec<u8>, AllocError>
     requires { pos.file < length files.now }
     ensures { IfOk result (λ text. text.items ≡ spec.position_text (map string_bytes files.now) pos) }

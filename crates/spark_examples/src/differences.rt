@@ -1,6 +1,6 @@
-//! Says how an answer differs from what a head says.
-use crate::answer::Answer;
+//! Says how a response differs from what a head says.
 use crate::head::Head;
+use crate::response::Response;
 use std::alloc::{AllocError, Global};
 
 /// Both texts of an output, where they differ.
@@ -26,18 +26,18 @@ fn add_output(
 pub(crate) fn differences(
     alloc: Global,
     head: &Head,
-    answer: &Answer,
+    response: &Response,
 ) -> Result<String, AllocError> {
     let mut lines = String::new(alloc);
-    if answer.status != head.status {
+    if response.status != head.status {
         let expected = head.status;
-        let found = answer.status;
+        let found = response.status;
         write!(
             lines,
             "the status is expected as {expected} and is {found}\n"
         )?;
     }
-    add_output(alloc, &mut lines, "out", &head.out, answer.out.bytes())?;
-    add_output(alloc, &mut lines, "err", &head.err, answer.err.bytes())?;
+    add_output(alloc, &mut lines, "out", &head.out, response.out.bytes())?;
+    add_output(alloc, &mut lines, "err", &head.err, response.err.bytes())?;
     Ok(lines)
 }

@@ -5,7 +5,8 @@ ghost use Rattle.spark_examples.specs.Heads.{HasValue};
 use std::alloc::{AllocError, AllocFailed, Global};
 use std::str;
 
-/// What the head of an example says. A line of the head that begins with `--> ` is an entry, as `--> status 1`.
+/// What the head of an example says. A line of the head that begins with `--> ` is an entry, as
+/// `--> status 1`.
 #[derive(Drop)]
 pub(crate) struct Head {
     /// `--> spark WORD WORD ..`: the words after the program's name, with a blank between two.
@@ -21,9 +22,10 @@ pub(crate) struct Head {
 }
 
 /// Why a head tells no example.
-#[derive(Clone, Copy, Debug, PartialEq, Eq)]
+#[derive(Clone, Copy, PartialEq, Eq)]
 pub(crate) enum HeadFault {
-    /// An entry of another form, as `--> outs accepted`, `--> status many`, or a word that isn't UTF-8.
+    /// An entry of another form, as `--> outs accepted`, `--> status many`, or a word that isn't
+    /// UTF-8.
     BadEntry,
     /// No command or no status, as in an empty file.
     Missing,

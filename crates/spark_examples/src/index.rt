@@ -2,7 +2,8 @@
 use std::io::ErrorKind;
 use std::{fs, io};
 
-/// The folders of examples, below the folder where the program runs. One that isn't there has no examples.
+/// The folders of examples, below the folder where the program runs. One that isn't there has no
+/// examples.
 const FOLDERS: [&str; 5] = ["accepted", "leaks", "refusals", "rules", "runs"];
 
 /// Adds the paths of the files of a folder.

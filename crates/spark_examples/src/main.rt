@@ -1,21 +1,22 @@
 //! Runs every example of the folder `data` through the tool, over memory, and compares all bytes.
 //!
-//! An example is an Ada file whose head has its command, its status and each line that is expected; `head.rt` says in
-//! which form. The program lists the folder where it runs, so an added example changes no code. It prints a line for
-//! each example, in the order of the paths, and at one that isn't as its head says the line begins with `FAILED` and
-//! is followed by what differs. The last line counts them. The status is 0 where none failed, else 1.
-//! No clause says that the examples are as expected: this program is a test.
+//! An example is an Ada file whose head has its command, its status and each line that is expected;
+//! `head.rt` says in which form. The program lists the folder where it runs, so an added example
+//! changes no code. It prints a line for each example, in the order of the paths, and at one that
+//! isn't as its head says the line begins with `FAILED` and is followed by what differs. The last
+//! line counts them. The status is 0 where none failed, else 1. No clause says that the examples
+//! are as expected: this program is a test.
 #![tactic(auto)]
 
-mod answer;
 mod differences;
 mod head;
 mod index;
+mod response;
 
-use answer::answer_to;
 use differences::differences;
 use head::{HeadFault, read_head};
 use index::example_paths;
+use response::response_to;
 use std::alloc::AllocError;
 use std::process::ExitCode;
 use std::{fs, io};
@@ -57,11 +58,11 @@ fn judge(rt: &HostRuntime, path: &str) -> io::Result<Verdict> {
             )?));
         }
     };
-    let answer = answer_to(alloc, &head, bare_name(path), text)?;
-    if answer.is_as_expected(&head) {
+    let response = response_to(alloc, &head, bare_name(path), text)?;
+    if response.is_as_expected(&head) {
         Ok(Verdict::Kept)
     } else {
-        Ok(Verdict::Failed(differences(alloc, &head, &answer)?))
+        Ok(Verdict::Failed(differences(alloc, &head, &response)?))
     }
 }
 

@@ -1,9 +1,10 @@
 -- What the words of a command give to the store, and what a check answers.
-use Rattle.std.proofs.Common.{◌≡◌, ℕ, Bool, true, false, refl, sym, ap, ◌∙◌, subst, List, [], ◌∷◌, filter, not, ◌&&◌, if◌then◌else◌, All, Contains, Option, None, Some, IfSome, IsSomeAnd, codes}
+use Rattle.std.proofs.Common.{◌≡◌, ℕ, Bool, true, false, refl, sym, ap, ◌∙◌, subst, List, [], ◌∷◌, filter, not, ◌&&◌, if◌then◌else◌, All, Option, None, Some, IfSome, IsSomeAnd, codes}
 use Rattle.std.specs.List.{list_all}
 use Rattle.std.specs.Str.{bytes_eq}
-use Rattle.std.proofs.lemmas.List.Elements.{All-contains_itself}
 use Rattle.spark_base.specs.declared.limits.TheConstants.{SOURCE_BYTES}
+use Rattle.spark_base.specs.Lists.{Has}
+use Rattle.spark_base.proofs.Lists.{All-has_itself}
 use Rattle.spark_base.specs.Words.{is_option, operands}
 use Rattle.spark_tool.specs.Commands.{Check, command_of, is_file_name, are_file_names}
 use Rattle.spark_tool.specs.Product.{Answer, Product, usage, check, Checks, missing, misused, unread}
@@ -35,9 +36,9 @@ operands_of (word ∷ ns) names e =
     all_kept ns each ∙ picked.1
 
 -- each name of a command may be opened
-pub may_be_opened : (words made names : List (List ℕ)) → made ≡ words → command_of words ≡ Some (Check names) → All (Contains (operands made)) names
+pub may_be_opened : (words made names : List (List ℕ)) → made ≡ words → command_of words ≡ Some (Check names) → All (Has (operands made)) names
 may_be_opened words made names same command =
-    subst (λ (ws : List (List ℕ)). All (Contains ws) names) (sym (ap operands same ∙ operands_of words names command)) (All-contains_itself names)
+    subst (λ (ws : List (List ℕ)). All (Has ws) names) (sym (ap operands same ∙ operands_of words names command)) (All-has_itself names)
 
 -- where a named file isn't there
 pub unread_product : (stored : Option (List (List ℕ × List ℕ))) (words names : List (List ℕ)) → command_of words ≡ Some (Check names)

@@ -1,4 +1,5 @@
--- An answer is the defined one where no count rose, and what was written where a write failed.
+-- An answer is the one that is defined, also where no count rose, and what was written where a
+-- write failed.
 use Rattle.std.proofs.Common.{◌≡◌, ◌≢◌, ◌⊎◌, inl, inr, ℕ, refl, sym, ◌∙◌, subst, List, [], ◌∷◌, ◌++◌, Option, None, Some, IfSome, IsSomeAnd}
 use Rattle.std.specs.Io.KnownBytes.{Appends, Keeps}
 use Rattle.std.proofs.KnownBytes.{Appends-nil, Appends-kept}
@@ -6,10 +7,46 @@ use Rattle.std.proofs.lemmas.List.{append-nil}
 use Rattle.spark_base.specs.Outside.{AppendsPrefix}
 use Rattle.rule_reports.specs.Lines.{usage_line}
 use Rattle.spark_tool.specs.Product.{Answer, Product, unread, misused}
-use Rattle.spark_tool.specs.Promises.{Delivers}
+use Rattle.spark_tool.specs.Promises.{Delivers, DeliversFront}
+use Rattle.spark_tool.specs.Answers.{answer_to}
+use Rattle.spark_tool.specs.declared.answer.Stream.{Stream}
+use Rattle.spark_tool.specs.declared.answer.Stream.TheVariants.{Out, Err}
 use Rattle.spark_tool.specs.Stops.{stop_status}
 use Rattle.spark_tool.specs.declared.stop.Stop.{Stop}
 use Rattle.spark_tool.specs.declared.stop.Stop.TheVariants.{Read, Write, Memory}
+use Rattle.spark_tool.proofs.OneAnswer.{one_answer}
+
+-- the status of an answer that a program holds
+pub status_to : (stream : Stream) (text : List ℕ) (status : ℕ) → (answer_to stream text status).status ≡ status
+status_to Out text status = refl
+status_to Err text status = refl
+
+-- the answer was written
+pub answer_delivers : (stored : Option (List (List ℕ × List ℕ))) (words : List (List ℕ)) (answer : Answer) (out new_out err new_err : Option (List ℕ))
+    → IfSome stored (λ files. Product files words answer) → Appends out new_out answer.out → Appends err new_err answer.err
+    → IfSome stored (λ files. Delivers files words out new_out err new_err answer.status)
+answer_delivers None words answer out new_out err new_err is to_out to_err = tt
+answer_delivers (Some files) words answer out new_out err new_err is to_out to_err = record {
+  answer = answer;
+  defined = is;
+  only = λ other other_is. one_answer files words other answer other_is is;
+  to_out = to_out;
+  to_err = to_err;
+  answered = refl;
+}
+
+-- a front of it was written
+pub answer_delivers_front : (stored : Option (List (List ℕ × List ℕ))) (words : List (List ℕ)) (answer : Answer) (out new_out err new_err : Option (List ℕ))
+    → IfSome stored (λ files. Product files words answer) → AppendsPrefix out new_out answer.out → AppendsPrefix err new_err answer.err
+    → IfSome stored (λ files. DeliversFront files words out new_out err new_err)
+answer_delivers_front None words answer out new_out err new_err is to_out to_err = tt
+answer_delivers_front (Some files) words answer out new_out err new_err is to_out to_err = record {
+  answer = answer;
+  defined = is;
+  only = λ other other_is. one_answer files words other answer other_is is;
+  to_out = to_out;
+  to_err = to_err;
+}
 
 kept : (old new : Option (List ℕ)) → Keeps old new → Appends old new []
 kept old new same = Appends-kept old old new [] (Appends-nil old) same
@@ -20,7 +57,14 @@ pub unread_delivers : (stored : Option (List (List ℕ × List ℕ))) (words : L
     → IfSome stored (λ files. Delivers files words out new_out err new_err 7)
 unread_delivers None words out new_out err new_err same_out same_err gone = tt
 unread_delivers (Some files) words out new_out err new_err same_out same_err gone =
-    record { answer = unread; defined = gone; to_out = kept out new_out same_out; to_err = kept err new_err same_err; answered = refl }
+    record {
+      answer = unread;
+      defined = gone;
+      only = λ other is. one_answer files words other unread is gone;
+      to_out = kept out new_out same_out;
+      to_err = kept err new_err same_err;
+      answered = refl;
+    }
 
 -- each way to stop: one with a count that rose, one with no memory, or a file that isn't there
 pub stop_delivers : (stop : Stop) (status : ℕ) (stored : Option (List (List ℕ × List ℕ))) (words : List (List ℕ)) (out new_out err new_err : Option (List ℕ))

@@ -15,13 +15,13 @@ use Rattle.straight_form.specs.declared.tree.SourceUnit.{SourceUnit}
 use Rattle.straight_form.specs.Spelled.{Spelled, Word, Ident, Number, Str, Delimiter, EndOfFile, told, told_as}
 use Rattle.straight_form.specs.Spelling.{name_tokens, value_tokens, stmt_tokens, item_tokens, unit_tokens, Spelling}
 use Rattle.straight_form.specs.Spells.{Spells}
-use Rattle.place_names.specs.Acts.{Placed}
+use Rattle.place_names.specs.declared.act.Placed.{Placed}
 use Rattle.straight_line.specs.declared.kind.Mark.TheVariants.{Integer, Access}
 use Rattle.straight_line.specs.declared.kind.Declared.{Declared}
 use Rattle.straight_line.specs.declared.kind.Declared.TheVariants.{Procedure, AccessType, Instance, Object}
-use Rattle.straight_line.specs.declared.path.PlacedDeed.{PlacedDeed}
+use Rattle.straight_line.specs.declared.path.PlacedStraightAct.{PlacedStraightAct}
 use Rattle.straight_line.specs.Declarations.{Declarations, declarations}
-use Rattle.straight_line.specs.Deeds.{placed_of}
+use Rattle.straight_line.specs.StraightActs.{placed_of}
 use Rattle.straight_line.specs.Form.{statements}
 use Rattle.straight_line.specs.PathActs.{source_acts, target_act, name_source, statement_acts, end_of, scope_end, path_acts}
 
@@ -86,11 +86,11 @@ statements_in known (s ∷ ss) all =
     both_in (statement_acts known s) _ (statement_in known s (front_in (stmt_tokens s) _ all)) (statements_in known ss (back_in (stmt_tokens s) _ all))
 
 end_in : (pos : Pos) (d : Declared) → pos.file ≡ 0 → EachIn (end_of pos d)
-end_in pos (Object n (Access place)) at = (at, tt)
+end_in pos (Object n (Access position)) at = (at, tt)
 end_in pos (Object n Integer) at = tt
 end_in pos Procedure at = tt
-end_in pos (AccessType place) at = tt
-end_in pos (Instance place) at = tt
+end_in pos (AccessType position) at = tt
+end_in pos (Instance position) at = tt
 
 ends_in : (pos : Pos) (known : Declarations) → pos.file ≡ 0 → EachIn (flat_map (λ e. end_of pos e.1) known)
 ends_in pos [] at = tt
@@ -124,12 +124,12 @@ tokens_in [] all = tt
 tokens_in (t ∷ tokens) all =
     (told_in t.kind t.pos t.text.now (all 0 t (omega arith)), tokens_in tokens (λ k d within. all (suc k) d (omega arith)))
 
-deeds_in : (deeds : List PlacedDeed) → EachIn (map placed_of deeds) → All (λ deed. deed.pos.file < 1) deeds
-deeds_in [] each = All-nil _
-deeds_in (d ∷ deeds) each = All-cons (λ deed. deed.pos.file < 1) d deeds (omega (arith, each.0)) (deeds_in deeds each.1)
+acts_in : (acts : List PlacedStraightAct) → EachIn (map placed_of acts) → All (λ act. act.pos.file < 1) acts
+acts_in [] each = All-nil _
+acts_in (a ∷ acts) each = All-cons (λ act. act.pos.file < 1) a acts (omega (arith, each.0)) (acts_in acts each.1)
 
--- The deeds of the path of a tree stand in file 0, as the tokens that spell it do.
-pub path_in_file : (unit : SourceUnit) (tokens : List Token) (deeds : List PlacedDeed) → Spells unit tokens → All (λ token. token.pos.file ≡ 0) tokens
-    → map placed_of deeds ≡ path_acts unit → All (λ deed. deed.pos.file < 1) deeds
-path_in_file unit tokens deeds spelled all acts =
-    deeds_in deeds (subst EachIn (sym acts) (path_in unit (subst AllIn (sym spelled.spelling) (tokens_in tokens all))))
+-- The acts of the path of a tree stand in file 0, as the tokens that spell it do.
+pub path_in_file : (unit : SourceUnit) (tokens : List Token) (acts : List PlacedStraightAct) → Spells unit tokens → All (λ token. token.pos.file ≡ 0) tokens
+    → map placed_of acts ≡ path_acts unit → All (λ act. act.pos.file < 1) acts
+path_in_file unit tokens acts spelled all same =
+    acts_in acts (subst EachIn (sym same) (path_in unit (subst AllIn (sym spelled.spelling) (tokens_in tokens all))))

@@ -3,6 +3,8 @@ pub mod Sources
 pub mod AllTokens
 pub mod Parsed
 pub mod Straight
+pub mod Resolved
 pub mod InFile
 pub mod CommandWords
+pub mod OneAnswer
 pub mod Complete

@@ -14,6 +14,10 @@ pub are_file_names-map : (words : List (String Global))
     ≡ (not (length words == 0) && nat_le (length words) 64 && list_all (λ word. is_file_name (string_bytes word)) words)
 are_file_names-map words = simp (length-map, list_all-map)
 
+-- texts that are alike are as many
+pub as_many : (words others : List (String Global)) → map string_bytes words ≡ map string_bytes others → length words ≡ length others
+as_many words others same = sym (length-map words string_bytes) ∙ ap length same ∙ length-map others string_bytes
+
 -- a fact of each text of a list, at one of its words
 pub All-map_at : (P : List ℕ → Type 0) (words : List (String Global)) (i : ℕ) (word : String Global) → i < length words
     → word ≡ get_or words i word → All P (map string_bytes words) → P (string_bytes word)

@@ -3,12 +3,14 @@ use Rattle.std.proofs.Common.{◌≡◌, ◌<◌, ℕ, Ok, Vec, get_or, arith, t
 use Rattle.std.specs.List.{list_all}
 use Rattle.std.specs.declared.alloc.Global.{Global}
 use Rattle.spark_base.specs.declared.limits.TheConstants.{TOKENS}
-use Rattle.place_names.specs.Acts.{Placed}
+use Rattle.place_names.specs.declared.act.Placed.{Placed}
 use Rattle.place_names.specs.Reports.{Gives, IsReportList}
 use Rattle.straight_line.specs.Reported.{printed_name}
 use Rattle.spark_tool.specs.Lexing.{all_tokens, cuts_of}
 use Rattle.spark_tool.specs.Product.{Answer, Checks, checked, judged, lexical_code}
-use Rattle.spark_tool.specs.Parsing.{IsParsed}
+use Rattle.spark_tool.specs.Parsing.{AreTreesOf}
+use Rattle.ada_tree.specs.declared.unit.SourceUnit as whole
+use Rattle.name_events.specs.Faults.{name_fault}
 use Rattle.spark_tool.specs.Reading.{Texts}
 use Rattle.std.proofs.lemmas.List.Folds.{list_all-map}
 use Rattle.spark_base.specs.declared.position.Pos.{Pos}
@@ -22,7 +24,7 @@ use Rattle.straight_form.specs.Spelled.{told}
 use Rattle.straight_form.specs.Spells.{Spells, IsSpelledBy}
 use Rattle.straight_line.specs.declared.path.StraightPath.{StraightPath}
 use Rattle.straight_line.specs.Declarations.{object_texts}
-use Rattle.straight_line.specs.Deeds.{placed_of}
+use Rattle.straight_line.specs.StraightActs.{placed_of}
 use Rattle.straight_line.specs.Form.{IsStraightLine}
 use Rattle.straight_line.specs.PathActs.{path_acts}
 use Rattle.straight_line.specs.Within.{AreWithin}
@@ -50,7 +52,7 @@ plain_cuts tokens = list_all-map (λ (cut : Cut). is_plain cut.kind cut.text) cu
 pub path_found : (unit : SourceUnit) (tokens : List Token) (found : Option StraightPath)
     → list_all (λ token. is_plain token.kind token.text.now) tokens ≡ true → Spells unit tokens
     → OnSome found (IsStraightLine unit) → IfSome found (λ path. path.objects.items ≡ object_texts unit)
-    → IfSome found (λ path. map placed_of path.deeds.items ≡ path_acts unit)
+    → IfSome found (λ path. map placed_of path.acts.items ≡ path_acts unit)
     → IfSome found (IsPathOf (λ file. IsStraightFile file (map cut_of tokens)))
 path_found unit tokens None plain spelled form objects acts = tt
 path_found unit tokens (Some path) plain spelled form objects acts = record {
@@ -81,11 +83,11 @@ not_plain tokens out other file = let e : true ≡ false = sym file.digits ∙ p
 
 -- a path that was found can be printed
 pub can_print : (unit : SourceUnit) (tokens : List Token) (found : Option StraightPath) → Spells unit tokens
-    → All (λ token. token.pos.file ≡ 0) tokens → IfSome found (λ path. map placed_of path.deeds.items ≡ path_acts unit)
-    → IfSome found (λ path. AreWithin (length path.objects.items) path.deeds.items) → IfSome found (CanPrint 1)
+    → All (λ token. token.pos.file ≡ 0) tokens → IfSome found (λ path. map placed_of path.acts.items ≡ path_acts unit)
+    → IfSome found (λ path. AreWithin (length path.objects.items) path.acts.items) → IfSome found (CanPrint 1)
 can_print unit tokens None spelled in_file acts within = tt
 can_print unit tokens (Some path) spelled in_file acts within =
-    record { objects = within; files = path_in_file unit tokens path.deeds.items spelled in_file acts }
+    record { objects = within; files = path_in_file unit tokens path.acts.items spelled in_file acts }
 
 -- one file is the source
 pub one_file : (files : List (Vec Token Global)) (file : Vec Token Global) → length files ≡ 1 → file ≡ get_or files 0 file
@@ -125,15 +127,15 @@ prints_among n path some can = record {
 
 -- the reports of the path of a source answer the check
 pub checked_path : (names : List (List ℕ)) (texts : List (List ℕ)) (all : List (List Cut)) (path : StraightPath) (answer : Answer)
-    → all_tokens 0 TOKENS texts ≡ Ok all → All IsParsed all → IsPathOf (λ unit. IsStraightSource unit all) path → Judges names path answer
-    → Checks names (Texts texts) answer
-checked_path names texts all path answer cut parsed of judges =
+    → all_tokens 0 TOKENS texts ≡ Ok all → (trees : List (List whole.SourceUnit)) → AreTreesOf all trees → name_fault trees ≡ None
+    → IsPathOf (λ unit. IsStraightSource unit all) path → Judges names path answer → Checks names (Texts texts) answer
+checked_path names texts all path answer cut trees parsed resolved of judges =
     let exact : IsReportList (printed_name (object_texts of.unit)) (Gives (path_acts of.unit)) judges.reports =
     subst (λ (o : List (List ℕ)). IsReportList (printed_name o) (Gives (path_acts of.unit)) judges.reports) of.objects
     (subst (λ (acts : List Placed). IsReportList (printed_name path.objects.items) (Gives acts) judges.reports) of.acts judges.exact) in
     let same : answer ≡ judged names (object_texts of.unit) judges.reports =
     judges.judged ∙ ap (λ (o : List (List ℕ)). judged names o judges.reports) of.objects in
-    subst (Checks names (Texts texts)) (sym same) (checked texts all of.unit judges.reports cut parsed of.in_form exact)
+    subst (Checks names (Texts texts)) (sym same) (checked texts all trees of.unit judges.reports cut parsed resolved of.in_form exact)
 
 -- the tree that was found
 pub known_unit : (tokens : List Token) (unit : SourceUnit) (found : Option SourceUnit) → found ≡ Some unit
@@ -148,7 +150,7 @@ known_path {form} found path is of = subst (λ (f : Option StraightPath). IfSome
 pub known_no_path : {none : Type 0} (found : Option StraightPath) → found ≡ None → IfNone found none → none
 known_no_path {none} found is out = subst (λ (f : Option StraightPath). IfNone f none) is out
 
--- want of memory has no code
+-- out of memory has no code
 pub no_code : (fault : LexRefusal) (pos : Pos) (code : Code) → fault ≡ Memory → lexical_code fault ≡ Some (pos, code) → ⊥
 no_code fault pos code is coded =
     let none : Option (Pos × Code) = None in

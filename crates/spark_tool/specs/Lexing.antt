@@ -4,7 +4,7 @@ use Rattle.std.specs.declared.alloc.Global.{Global}
 use Rattle.ada_lexer.specs.declared.token.Token.{Token}
 use Rattle.ada_lexer.specs.declared.refusal.LexRefusal.{LexRefusal}
 use Rattle.ada_lexer.specs.declared.refusal.LexRefusal.TheVariants.{BadByte, BadIdentifier, BadNumber, OpenString, TooMany, Memory}
-use Rattle.ada_lexer.specs.Tokens.{Cut, Outcome, tokens, cut_of}
+use Rattle.ada_lexer.specs.Tokens.{Cut, CutResult, tokens, cut_of}
 
 -- The tokens of each file in order, or the first fault.
 abbrev pub AllTokens : Type 0
@@ -15,8 +15,9 @@ abbrev pub with_tokens : List Cut → AllTokens → AllTokens
 with_tokens cuts (Ok others) = Ok (cuts ∷ others)
 with_tokens cuts (Err fault) = Err fault
 
--- A fault ends the cut. Else the files behind have the room that is left; the end of a file takes none.
-abbrev pub then_files : Outcome → ℕ → (ℕ → AllTokens) → AllTokens
+-- A fault ends the cut. Else the files behind have the room that is left; the end of a file takes
+-- none.
+abbrev pub then_files : CutResult → ℕ → (ℕ → AllTokens) → AllTokens
 then_files (Ok cuts) room behind = with_tokens cuts (behind (room - (length cuts - 1)))
 then_files (Err fault) room behind = Err fault
 
@@ -33,7 +34,7 @@ texts_of texts = map (λ text. text.items) texts
 abbrev pub cuts_of : List (Vec Token Global) → List (List Cut)
 cuts_of found = map (λ file. map cut_of file.items) found
 
--- The place that a fault names is one of the first n files.
+-- The position that a fault names is one of the first n files.
 abbrev pub IsAmong : ℕ → LexRefusal → Type 0
 IsAmong n (BadByte pos) = pos.file < n
 IsAmong n (BadIdentifier pos) = pos.file < n

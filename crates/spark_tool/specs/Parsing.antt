@@ -1,5 +1,6 @@
--- Which files the grammar has, and where it refuses the first other one (docs/LANGUAGE.md, "Grammar").
-use Rattle.std.specs.Prelude.{◌≡◌, List, ◌∷◌, ◌++◌, map, All}
+-- Which files the grammar has, and where it refuses the first other one (docs/LANGUAGE.md,
+-- "Grammar").
+use Rattle.std.specs.Prelude.{◌≡◌, List, [], ◌∷◌, ◌++◌, map, All}
 use Rattle.spark_base.specs.declared.position.Pos.{Pos}
 use Rattle.ada_lexer.specs.Tokens.{Cut}
 use Rattle.token_reading.specs.Spelled.{Spelled, told_as}
@@ -10,20 +11,29 @@ use Rattle.ada_tree.specs.Refusals.{Code, IsRefused, IsTreeOf}
 abbrev pub told_cut : Cut → Spelled
 told_cut cut = told_as cut.kind cut.pos cut.text
 
--- The tokens of a file spell a source, and none of them is one too many.
+-- The tokens of a file spell a source, and none of them exceeds a limit.
 abbrev pub IsParsed : List Cut → Type 0
 IsParsed cuts = (units : List SourceUnit) × IsTreeOf (map told_cut cuts) units
 
--- A token of the file is refused with the code, at its place.
+-- For each file the units that its tokens spell, in order. There is one such list of units for each
+-- file, and no token exceeds a limit.
+abbrev pub AreTreesOf : List (List Cut) → List (List SourceUnit) → Type 0
+AreTreesOf [] [] = Unit {0}
+AreTreesOf [] (units ∷ trees) = ⊥
+AreTreesOf (cuts ∷ files) [] = ⊥
+AreTreesOf (cuts ∷ files) (units ∷ trees) = IsTreeOf (map told_cut cuts) units × AreTreesOf files trees
+
+-- A token of the file is refused with the code, at its position.
 pub record IsRefusedAt (code : Code) (at : Pos) (cuts : List Cut) : Type 0 where
   pub before : List Cut
   pub token : Cut
   pub behind : List Cut
   pub splits : cuts ≡ before ++ (token ∷ behind)
-  pub place : token.pos ≡ at
+  pub position : token.pos ≡ at
   pub refused : IsRefused code (map told_cut before) (told_cut token)
 
--- The files before are those of sources, and the next one is refused with the code, at the place.
+-- The files before are those of sources, and the next one is refused with the code, at the
+-- position.
 pub record FirstRefused (code : Code) (at : Pos) (files : List (List Cut)) : Type 0 where
   pub before : List (List Cut)
   pub file : List Cut

@@ -1,24 +1,28 @@
 -- What a command writes and answers (docs/TOOL.md, "Order of work").
-use Rattle.std.specs.Prelude.{◌≡◌, ℕ, List, [], ◌∷◌, Option, None, Some, Ok, Err, All}
+use Rattle.std.specs.Prelude.{◌≡◌, ℕ, List, [], ◌∷◌, Option, None, Some, Ok, Err}
 use Rattle.spark_base.specs.declared.position.Pos.{Pos}
 use Rattle.spark_base.specs.declared.limits.TheConstants.{SOURCE_BYTES, TOKENS}
 use Rattle.ada_lexer.specs.declared.refusal.LexRefusal.{LexRefusal}
 use Rattle.ada_lexer.specs.declared.refusal.LexRefusal.TheVariants.{BadByte, BadIdentifier, BadNumber, OpenString, TooMany, Memory}
-use Rattle.ada_lexer.specs.Places.{first_place}
+use Rattle.ada_lexer.specs.Positions.{first_position}
 use Rattle.ada_lexer.specs.Tokens.{Cut}
+use Rattle.ada_tree.specs.declared.unit.SourceUnit as whole
 use Rattle.ada_tree.specs.Refusals as grammar
+use Rattle.name_events.specs.declared.declaration.NameRule.{NameRule}
+use Rattle.name_events.specs.declared.declaration.NameRule.TheVariants as rule
+use Rattle.name_events.specs.Faults.{name_fault}
 use Rattle.straight_form.specs.declared.tree.SourceUnit.{SourceUnit}
 use Rattle.place_names.specs.Reports.{Report, Gives, IsReportList}
 use Rattle.straight_line.specs.Declarations.{object_texts}
 use Rattle.straight_line.specs.PathActs.{path_acts}
 use Rattle.straight_line.specs.Reported.{printed_name}
 use Rattle.rule_reports.specs.declared.code.Code.{Code}
-use Rattle.rule_reports.specs.declared.code.Code.TheVariants.{S1, L1, L2, L3, L4, L5, P1, P2, P3, U1}
+use Rattle.rule_reports.specs.declared.code.Code.TheVariants.{S1, L1, L2, L3, L4, L5, P1, P2, P3, N1, N2, N3, N4, N5, N6, U1}
 use Rattle.rule_reports.specs.Lines.{refusal_line, report_lines, accepted_line, usage_line}
 use Rattle.spark_tool.specs.Commands.{Check, command_of}
 use Rattle.spark_tool.specs.Reading.{Sources, Texts, TooLarge, Missing, sources}
 use Rattle.spark_tool.specs.Lexing.{all_tokens}
-use Rattle.spark_tool.specs.Parsing.{IsParsed, FirstRefused}
+use Rattle.spark_tool.specs.Parsing.{AreTreesOf, FirstRefused}
 use Rattle.spark_tool.specs.StraightSource.{IsStraightSource}
 
 -- The bytes for both outputs, and the status.
@@ -47,7 +51,7 @@ rejected lines = record { out = []; err = lines; status = 1 }
 abbrev pub unread : Answer
 unread = record { out = []; err = []; status = 7 }
 
--- The place and the code of a lexical fault. Want of memory is none.
+-- The position and the code of a lexical fault. Out of memory is none.
 abbrev pub lexical_code : LexRefusal → Option (Pos × Code)
 lexical_code (BadByte pos) = Some (pos, L1)
 lexical_code (BadIdentifier pos) = Some (pos, L2)
@@ -62,6 +66,15 @@ syntactic_code grammar.Syntax = P1
 syntactic_code grammar.TooDeep = P2
 syntactic_code grammar.LeftOut = P3
 
+-- The code of a broken rule of names.
+abbrev pub name_code : NameRule → Code
+name_code rule.Unknown = N1
+name_code rule.Twice = N2
+name_code rule.NotVisible = N3
+name_code rule.TooEarly = N4
+name_code rule.NoBody = N5
+name_code rule.WrongEnd = N6
+
 -- The reports, or that there are none.
 abbrev pub judged : List (List ℕ) → List (List ℕ) → List Report → Answer
 judged names objects [] = accepted
@@ -72,19 +85,24 @@ pub data Checks (names : List (List ℕ)) : Sources → Answer → Type 0 where
   -- a named file isn't there
   missing : Checks names Missing unread
   -- a file has the first byte past the limit
-  too_large : (file : ℕ) → Checks names (TooLarge file) (refused names (first_place file) S1)
+  too_large : (file : ℕ) → Checks names (TooLarge file) (refused names (first_position file) S1)
   -- the first lexical fault over all files in order
   lexical : (texts : List (List ℕ)) (fault : LexRefusal) (pos : Pos) (code : Code) → all_tokens 0 TOKENS texts ≡ Err fault
       → lexical_code fault ≡ Some (pos, code) → Checks names (Texts texts) (refused names pos code)
   -- the first file in order that the grammar refuses
   syntactic : (texts : List (List ℕ)) (cuts : List (List Cut)) (code : grammar.Code) (pos : Pos) → all_tokens 0 TOKENS texts ≡ Ok cuts
       → FirstRefused code pos cuts → Checks names (Texts texts) (refused names pos (syntactic_code code))
-  -- each file is that of a source, but they aren't one file of the straight-line form
-  not_built : (texts : List (List ℕ)) (cuts : List (List Cut)) → all_tokens 0 TOKENS texts ≡ Ok cuts → All IsParsed cuts
-      → ((unit : SourceUnit) → ¬ IsStraightSource unit cuts) → Checks names (Texts texts) (refused names (first_place 0) U1)
+  -- the first broken rule of names over the trees of all files in order
+  unresolved : (texts : List (List ℕ)) (cuts : List (List Cut)) (trees : List (List whole.SourceUnit)) (broken : NameRule) (pos : Pos)
+      → all_tokens 0 TOKENS texts ≡ Ok cuts → AreTreesOf cuts trees → name_fault trees ≡ Some (broken, pos)
+      → Checks names (Texts texts) (refused names pos (name_code broken))
+  -- no rule of names is broken, but the files aren't one file of the straight-line form
+  not_built : (texts : List (List ℕ)) (cuts : List (List Cut)) (trees : List (List whole.SourceUnit)) → all_tokens 0 TOKENS texts ≡ Ok cuts
+      → AreTreesOf cuts trees → name_fault trees ≡ None → ((unit : SourceUnit) → ¬ IsStraightSource unit cuts)
+      → Checks names (Texts texts) (refused names (first_position 0) U1)
   -- the reports of the one control path
-  checked : (texts : List (List ℕ)) (cuts : List (List Cut)) (unit : SourceUnit) (reports : List Report)
-      → all_tokens 0 TOKENS texts ≡ Ok cuts → All IsParsed cuts → IsStraightSource unit cuts
+  checked : (texts : List (List ℕ)) (cuts : List (List Cut)) (trees : List (List whole.SourceUnit)) (unit : SourceUnit) (reports : List Report)
+      → all_tokens 0 TOKENS texts ≡ Ok cuts → AreTreesOf cuts trees → name_fault trees ≡ None → IsStraightSource unit cuts
       → IsReportList (printed_name (object_texts unit)) (Gives (path_acts unit)) reports
       → Checks names (Texts texts) (judged names (object_texts unit) reports)
 

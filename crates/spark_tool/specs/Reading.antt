@@ -7,7 +7,8 @@ use Rattle.spark_base.specs.Outside.{file_bytes}
 use Rattle.spark_tool.specs.declared.reading.Gathered.{Gathered}
 use Rattle.spark_tool.specs.declared.reading.Gathered.TheVariants as found
 
--- The texts of the files in order; or the number of the first file with a byte past the room that all share; or a file isn't there.
+-- The texts of the files in order; or the number of the first file with a byte past the room that
+-- all share; or a file isn't there.
 pub data Sources : Type 0 where
   Texts : List (List ℕ) → Sources
   TooLarge : ℕ → Sources
@@ -18,7 +19,8 @@ with_text text (Texts texts) = Texts (text ∷ texts)
 with_text text (TooLarge file) = TooLarge file
 with_text text Missing = Missing
 
--- The files are read in order, and the first that ends the reading decides. `file` is the number of the first name, and `room` is for the bytes of all.
+-- The files are read in order, and the first that ends the reading decides. `file` is the number of
+-- the first name, and `room` is for the bytes of all.
 abbrev pub sources : List (List ℕ × List ℕ) → ℕ → ℕ → List (List ℕ) → Sources
 sources stored file room [] = Texts []
 sources stored file room (name ∷ names) =

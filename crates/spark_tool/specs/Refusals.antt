@@ -6,9 +6,12 @@ use Rattle.ada_lexer.specs.Tokens.{Cut}
 use Rattle.ada_tree.specs.Refusals as grammar
 use Rattle.ada_parser.specs.declared.refusal.ParseRefusal.{ParseRefusal}
 use Rattle.ada_parser.specs.declared.refusal.ParseRefusal.TheVariants.{Syntax, TooDeep, LeftOut, Memory}
+use Rattle.name_events.specs.declared.declaration.NameRule.TheVariants as rule
+use Rattle.name_resolve.specs.declared.refusal.NameRefusal.{NameRefusal}
+use Rattle.name_resolve.specs.declared.refusal.NameRefusal.TheVariants as unresolved
 use Rattle.rule_reports.specs.declared.code.Code.{Code}
 use Rattle.spark_tool.specs.Parsing.{FirstRefused}
-use Rattle.spark_tool.specs.Product.{Answer, refused, lexical_code, syntactic_code}
+use Rattle.spark_tool.specs.Product.{Answer, refused, lexical_code, syntactic_code, name_code}
 
 -- The answer is the line of a lexical fault.
 pub record RefusesLexically (names : List (List ℕ)) (fault : LexRefusal) (answer : Answer) : Type 0 where
@@ -17,26 +20,37 @@ pub record RefusesLexically (names : List (List ℕ)) (fault : LexRefusal) (answ
   pub coded : lexical_code fault ≡ Some (pos, code)
   pub line : answer ≡ refused names pos code
 
--- The refusal is that of the first of the files that isn't that of a source; want of memory has no cause in them.
+-- The refusal is that of the first of the files that isn't that of a source; out of memory has no
+-- cause in them.
 abbrev pub IsFirstRefusal : List (List Cut) → ParseRefusal → Type 0
 IsFirstRefusal files (Syntax pos) = FirstRefused grammar.Syntax pos files
 IsFirstRefusal files (TooDeep pos) = FirstRefused grammar.TooDeep pos files
 IsFirstRefusal files (LeftOut pos) = FirstRefused grammar.LeftOut pos files
 IsFirstRefusal files Memory = Unit {0}
 
--- The place that a refusal names is one of the first n files.
+-- The position that a refusal names is one of the first n files.
 abbrev pub NamesOneOf : ℕ → ParseRefusal → Type 0
 NamesOneOf n (Syntax pos) = pos.file < n
 NamesOneOf n (TooDeep pos) = pos.file < n
 NamesOneOf n (LeftOut pos) = pos.file < n
 NamesOneOf n Memory = Unit {0}
 
--- The answer is the line of a refusal of the grammar. Want of memory has none.
+-- The answer is the line of a refusal of the grammar. Out of memory has none.
 abbrev pub RefusesSyntactically : List (List ℕ) → ParseRefusal → Answer → Type 0
 RefusesSyntactically names (Syntax pos) answer = answer ≡ refused names pos (syntactic_code grammar.Syntax)
 RefusesSyntactically names (TooDeep pos) answer = answer ≡ refused names pos (syntactic_code grammar.TooDeep)
 RefusesSyntactically names (LeftOut pos) answer = answer ≡ refused names pos (syntactic_code grammar.LeftOut)
 RefusesSyntactically names Memory answer = ⊥
+
+-- The answer is the line of a refusal by the rules of names. Out of memory has none.
+abbrev pub RefusesByNames : List (List ℕ) → NameRefusal → Answer → Type 0
+RefusesByNames names (unresolved.Unknown pos) answer = answer ≡ refused names pos (name_code rule.Unknown)
+RefusesByNames names (unresolved.Twice pos) answer = answer ≡ refused names pos (name_code rule.Twice)
+RefusesByNames names (unresolved.NotVisible pos) answer = answer ≡ refused names pos (name_code rule.NotVisible)
+RefusesByNames names (unresolved.TooEarly pos) answer = answer ≡ refused names pos (name_code rule.TooEarly)
+RefusesByNames names (unresolved.NoBody pos) answer = answer ≡ refused names pos (name_code rule.NoBody)
+RefusesByNames names (unresolved.WrongEnd pos) answer = answer ≡ refused names pos (name_code rule.WrongEnd)
+RefusesByNames names unresolved.Memory answer = ⊥
 
 -- Accepted; or rejected or refused, and then nothing goes to the first output.
 abbrev pub IsChecked : Answer → Type 0

@@ -1,4 +1,5 @@
--- Which sources are in the straight-line form, from their tokens on (docs/LANGUAGE.md, "The straight-line form").
+-- Which sources are in the straight-line form, from their tokens on (docs/LANGUAGE.md, "The
+-- straight-line form").
 use Rattle.std.specs.Prelude.{◌≡◌, ℕ, Bool, true, not, ◌==◌, List, [], ◌∷◌, map}
 use Rattle.std.specs.List.{list_all}
 use Rattle.ada_lexer.specs.declared.token.TokenKind.{TokenKind}

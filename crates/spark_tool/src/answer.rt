@@ -1,6 +1,6 @@
 //! What a command writes and answers.
-ghost use Rattle.std.specs.Prelude.{◌≡◌, ◌<◌, IfOk, [], length, map, string_bytes};
-ghost use Rattle.ada_lexer.specs.Places.{first_place};
+ghost use Rattle.std.specs.Prelude.{◌≡◌, IfOk, [], map, string_bytes};
+ghost use Rattle.ada_lexer.specs.Positions.{first_position};
 ghost use Rattle.spark_tool.specs.Product as spec;
 ghost use Rattle.spark_tool.specs.Answers.{answer_of};
 
@@ -9,7 +9,7 @@ use spark_base::Pos;
 use std::alloc::{AllocError, Global};
 
 /// One of the two outputs.
-#[derive(Clone, Copy, Debug, PartialEq, Eq)]
+#[derive(Clone, Copy, PartialEq, Eq)]
 pub(crate) enum Stream {
     /// What standard output is for.
     Out,
@@ -18,7 +18,7 @@ pub(crate) enum Stream {
 }
 
 /// The bytes that a command writes, all to one output, and the status.
-#[derive(Debug, Drop)]
+#[derive(Drop)]
 pub(crate) struct Answer {
     /// Where the bytes go.
     pub(crate) stream: Stream,
@@ -29,7 +29,7 @@ pub(crate) struct Answer {
 }
 
 /// The words give no command.
-pub(crate) fn misused(alloc: Global) -> Result<Answer, AllocError>
+pub(crate) fn usage_answer(alloc: Global) -> Result<Answer, AllocError>
     ensures { IfOk result (λ answer. answer_of answer ≡ spec.misused) }
 {
     Ok(Answer {
@@ -40,13 +40,12 @@ pub(crate) fn misused(alloc: Global) -> Result<Answer, AllocError>
 }
 
 /// One refusal line.
-pub(crate) fn refused(
+pub(crate) fn refusal_answer(
     alloc: Global,
     names: &[String],
     pos: Pos,
     code: Code,
 ) -> Result<Answer, AllocError>
-    requires { pos.file < length names.now }
     ensures { IfOk result (λ answer. answer_of answer ≡ spec.refused (map string_bytes names.now) pos code) }
 {
     Ok(Answer {
@@ -56,26 +55,25 @@ pub(crate) fn refused(
     })
 }
 
-/// A refusal at the first place of a file.
-pub(crate) fn refused_file(
+/// A refusal at the first position of a file.
+pub(crate) fn file_refusal_answer(
     alloc: Global,
     names: &[String],
     file: u16,
     code: Code,
 ) -> Result<Answer, AllocError>
-    requires { file < length names.now }
-    ensures { IfOk result (λ answer. answer_of answer ≡ spec.refused (map string_bytes names.now) (first_place file) code) }
+    ensures { IfOk result (λ answer. answer_of answer ≡ spec.refused (map string_bytes names.now) (first_position file) code) }
 {
     let pos = Pos {
         file,
         line: 1,
         column: 1,
     };
-    Ok(refused(alloc, names, pos, code)?)
+    Ok(refusal_answer(alloc, names, pos, code)?)
 }
 
 /// No report.
-pub(crate) fn accepted(alloc: Global) -> Result<Answer, AllocError>
+pub(crate) fn accepted_answer(alloc: Global) -> Result<Answer, AllocError>
     ensures { IfOk result (λ answer. answer_of answer ≡ spec.accepted) }
 {
     Ok(Answer {
@@ -86,7 +84,7 @@ pub(crate) fn accepted(alloc: Global) -> Result<Answer, AllocError>
 }
 
 /// The lines of reports.
-pub(crate) fn rejected(lines: Vec<u8>) -> Answer
+pub(crate) fn rejected_answer(lines: Vec<u8>) -> Answer
     ensures { answer_of result ≡ spec.rejected lines.items }
 {
     Answer {

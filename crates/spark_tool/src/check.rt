@@ -1,25 +1,34 @@
 //! Checks the sources of a command.
-ghost use Rattle.std.specs.Prelude.{◌≡◌, ◌<◌, ◌≤◌, ℕ, List, Ok, Err, Some, IfOk, IfSome, IfNone, OnErr, All, length, map, slice_get, string_bytes};
+ghost use Rattle.std.specs.Prelude.{◌≡◌, ◌<◌, ◌≤◌, ℕ, List, Ok, Err, None, Some, IfOk, IfSome, IfNone, MatchOption, OnErr, All, length, map, slice_get, string_bytes};
 ghost use Rattle.std.specs.List.{list_all};
 ghost use Rattle.ada_lexer.specs.Tokens.{EndsOnce, kinds_of, cut_of};
+ghost use Rattle.ada_tree.specs.declared.unit.SourceUnit as whole;
+ghost use Rattle.name_events.specs.Faults.{name_fault};
+ghost use Rattle.name_resolve.specs.Inputs.{trees_of};
+ghost use Rattle.name_resolve.specs.Judges.{Says};
 ghost use Rattle.straight_form.specs.Spells.{Spells};
 ghost use Rattle.spark_tool.specs.Answers.{answer_of};
 ghost use Rattle.spark_base.specs.declared.limits.TheConstants.{TOKENS};
 ghost use Rattle.spark_tool.specs.Lexing.{IsAmong, all_tokens, cuts_of, texts_of};
+ghost use Rattle.spark_tool.specs.Parsing.{AreTreesOf};
 ghost use Rattle.spark_tool.specs.Product as spec;
 ghost use Rattle.spark_tool.specs.Product.{Checks};
-ghost use Rattle.spark_tool.specs.Refusals.{RefusesLexically, RefusesSyntactically, NamesOneOf, IsChecked};
+ghost use Rattle.spark_tool.specs.Refusals.{RefusesLexically, RefusesSyntactically, RefusesByNames, NamesOneOf, IsChecked};
 ghost use Rattle.spark_tool.specs.Reading.{sources_of, IsWhole, Texts};
 ghost use Rattle.spark_tool.specs.StraightSource.{is_plain, no_underscore, IsStraightFile, IsStraightSource};
 ghost use Rattle.spark_tool.specs.StraightPaths.{IsPathOf, Judges, CanPrint};
 
-use crate::answer::{Answer, accepted, refused, refused_file, rejected};
+use crate::answer::{
+    Answer, accepted_answer, file_refusal_answer, refusal_answer, rejected_answer,
+};
 use crate::lexing::lex_all;
 use crate::parsing::parse_all;
 use crate::reading::Gathered;
 use crate::stop::Stop;
 use ada_lexer::{LexRefusal, Token, TokenKind};
 use ada_parser::ParseRefusal;
+use ada_tree::Trees;
+use name_resolve::{NameRefusal, resolve};
 use rule_reports::{Code, report_lines};
 use spark_base::{FILES, Pos, SOURCE_BYTES};
 use std::alloc::{AllocError, Global};
@@ -80,7 +89,8 @@ fn path_of(alloc: Global, tokens: &[Token<'_>]) -> Result<Option<StraightPath>, 
     Ok(straight_path(alloc, &unit)?)
 }
 
-/// The path of the one file of a source in the straight-line form, or nothing where the files aren't one such file.
+/// The path of the one file of a source in the straight-line form, or nothing where the files
+/// aren't one such file.
 fn path_of_source(
     alloc: Global,
     files: &[Vec<Token<'_>>],
@@ -105,13 +115,13 @@ fn judge(alloc: Global, names: &[String], path: &StraightPath) -> Result<Answer,
 {
     let reports = path_reports(alloc, path)?;
     if reports.is_empty() {
-        return Ok(accepted(alloc)?);
+        return Ok(accepted_answer(alloc)?);
     }
     let lines = report_lines(alloc, names, &path.objects, &reports)?;
-    Ok(rejected(lines))
+    Ok(rejected_answer(lines))
 }
 
-/// The place and the code of a lexical fault, or nothing where memory was wanting.
+/// The position and the code of a lexical fault, or nothing where it is out of memory.
 fn lexical_code(fault: LexRefusal) -> Option<(Pos, Code)>
     ensures { result ≡ spec.lexical_code fault }
 {
@@ -132,7 +142,7 @@ fn refused_lexically(alloc: Global, names: &[String], fault: LexRefusal) -> Resu
     ensures memory { OnErr result (result ≡ Err Stop.Memory) }
 {
     match lexical_code(fault) {
-        Some((pos, code)) => Ok(refused(alloc, names, pos, code)?),
+        Some((pos, code)) => Ok(refusal_answer(alloc, names, pos, code)?),
         None => Err(Stop::Memory),
     }
 }
@@ -148,10 +158,93 @@ fn refused_syntactically(
     ensures memory { OnErr result (result ≡ Err Stop.Memory) }
 {
     match refusal {
-        ParseRefusal::Syntax(pos) => Ok(refused(alloc, names, pos, Code::P1)?),
-        ParseRefusal::TooDeep(pos) => Ok(refused(alloc, names, pos, Code::P2)?),
-        ParseRefusal::LeftOut(pos) => Ok(refused(alloc, names, pos, Code::P3)?),
+        ParseRefusal::Syntax(pos) => Ok(refusal_answer(alloc, names, pos, Code::P1)?),
+        ParseRefusal::TooDeep(pos) => Ok(refusal_answer(alloc, names, pos, Code::P2)?),
+        ParseRefusal::LeftOut(pos) => Ok(refusal_answer(alloc, names, pos, Code::P3)?),
         ParseRefusal::Memory => Err(Stop::Memory),
+    }
+}
+
+/// The line of a refusal by the rules of names.
+fn refused_by_names(alloc: Global, names: &[String], refusal: NameRefusal) -> Result<Answer, Stop>
+    ensures line { IfOk result (λ answer. RefusesByNames (map string_bytes names.now) refusal (answer_of answer)) }
+    ensures memory { OnErr result (result ≡ Err Stop.Memory) }
+{
+    match refusal {
+        NameRefusal::Unknown(pos) => Ok(refusal_answer(alloc, names, pos, Code::N1)?),
+        NameRefusal::Twice(pos) => Ok(refusal_answer(alloc, names, pos, Code::N2)?),
+        NameRefusal::NotVisible(pos) => Ok(refusal_answer(alloc, names, pos, Code::N3)?),
+        NameRefusal::TooEarly(pos) => Ok(refusal_answer(alloc, names, pos, Code::N4)?),
+        NameRefusal::NoBody(pos) => Ok(refusal_answer(alloc, names, pos, Code::N5)?),
+        NameRefusal::WrongEnd(pos) => Ok(refusal_answer(alloc, names, pos, Code::N6)?),
+        NameRefusal::Memory => Err(Stop::Memory),
+    }
+}
+
+/// The names as texts of their own.
+fn copied(alloc: Global, names: &[String]) -> Result<Vec<String>, AllocError>
+    ensures texts { IfOk result (λ copies. map string_bytes copies.items ≡ map string_bytes names.now) }
+{
+    let mut copies = Vec::new(alloc);
+    'names: for name in names {
+        copies.push(name.clone()?)?;
+    }
+    Ok(copies)
+}
+
+/// The refusal by the first broken rule of names, or nothing where none is broken.
+fn name_refusal(
+    alloc: Global,
+    names: &[String],
+    trees: Vec<Trees>,
+) -> Result<Option<NameRefusal>, AllocError>
+    ensures fault { IfOk result (λ found. MatchOption found (name_fault (trees_of trees.items) ≡ None)
+        (λ refusal. Says refusal (name_fault (trees_of trees.items)))) }
+{
+    let copies = copied(alloc, names)?;
+    match resolve(alloc, copies, trees) {
+        Ok(_) => Ok(None),
+        Err(refusal) => Ok(Some(refusal)),
+    }
+}
+
+/// The answer on the tokens of the named files, where no rule of names is broken.
+fn check_form(
+    alloc: Global,
+    names: &[String],
+    files: &[Vec<Token<'_>>],
+) -> Result<Answer, AllocError>
+    requires ends { All (λ file. EndsOnce (kinds_of file.items)) files.now }
+    requires first { IfSome (slice_get files.now 0) (λ tokens. All (λ token. token.pos.file ≡ 0) tokens.items) }
+    requires some { 0 < length names.now }
+    ensures { IfOk result (λ answer. (texts : List (List ℕ)) → all_tokens 0 TOKENS texts ≡ Ok (cuts_of files.now)
+        → (trees : List (List whole.SourceUnit)) → AreTreesOf (cuts_of files.now) trees → name_fault trees ≡ None
+        → Checks (map string_bytes names.now) (Texts texts) (answer_of answer)) }
+{
+    match path_of_source(alloc, files)? {
+        Some(path) => Ok(judge(alloc, names, &path)?),
+        None => Ok(file_refusal_answer(alloc, names, 0, Code::U1)?),
+    }
+}
+
+/// The answer on the tokens of the named files and their trees.
+fn check_trees(
+    alloc: Global,
+    names: &[String],
+    files: &[Vec<Token<'_>>],
+    trees: Vec<Trees>,
+) -> Result<Answer, Stop>
+    requires ends { All (λ file. EndsOnce (kinds_of file.items)) files.now }
+    requires first { IfSome (slice_get files.now 0) (λ tokens. All (λ token. token.pos.file ≡ 0) tokens.items) }
+    requires parsed { AreTreesOf (cuts_of files.now) (trees_of trees.items) }
+    requires some { 0 < length names.now }
+    ensures answer { IfOk result (λ answer. (texts : List (List ℕ)) → all_tokens 0 TOKENS texts ≡ Ok (cuts_of files.now)
+        → Checks (map string_bytes names.now) (Texts texts) (answer_of answer)) }
+    ensures memory { OnErr result (result ≡ Err Stop.Memory) }
+{
+    match name_refusal(alloc, names, trees)? {
+        Some(refusal) => Ok(refused_by_names(alloc, names, refusal)?),
+        None => Ok(check_form(alloc, names, files)?),
     }
 }
 
@@ -166,10 +259,7 @@ fn check_tokens(alloc: Global, names: &[String], files: &[Vec<Token<'_>>]) -> Re
     ensures memory { OnErr result (result ≡ Err Stop.Memory) }
 {
     match parse_all(alloc, files) {
-        Ok(()) => match path_of_source(alloc, files)? {
-            Some(path) => Ok(judge(alloc, names, &path)?),
-            None => Ok(refused_file(alloc, names, 0, Code::U1)?),
-        },
+        Ok(trees) => Ok(check_trees(alloc, names, files, trees)?),
         Err(refusal) => Ok(refused_syntactically(alloc, names, refusal)?),
     }
 }
@@ -204,6 +294,6 @@ pub(crate) fn check_sources(
 {
     match gathered {
         Gathered::All(texts) => Ok(check_texts(alloc, names, &texts)?),
-        Gathered::TooLarge(file) => Ok(refused_file(alloc, names, file, Code::S1)?),
+        Gathered::TooLarge(file) => Ok(file_refusal_answer(alloc, names, file, Code::S1)?),
     }
 }

@@ -7,7 +7,8 @@ use ada_lexer::{LexRefusal, Token, lex};
 use spark_base::{FILES, SOURCE_BYTES, TOKENS};
 use std::alloc::Global;
 
-/// The tokens of each file, or the first lexical fault of all files in order. The files share the room for tokens.
+/// The tokens of each file, or the first lexical fault of all files in order. The files share the
+/// room for tokens.
 pub(crate) fn lex_all<'s>(
     alloc: Global,
     texts: &'s [Vec<u8>],

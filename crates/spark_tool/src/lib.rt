@@ -1,11 +1,11 @@
 //! Runs a command: reads its words and files, checks the sources, and writes the answer.
 //!
-//! `run_tool` takes the words after the program's name, the outside (files, input, two outputs) and gives a status.
-//! What it writes and answers, `specs/Product.antt` defines; `docs/TOOL.md` says it in words.
-//! Refused are words that give no command, files that can't be read, and sources that a stage refuses: each looks at all files
-//! before the next one begins, the lexer first, then the grammar, then the form that is built so far.
-//! Time is linear in the sources, but for the sorting of reports. Memory is linear too; the trees of the grammar are those of one
-//! file at a time.
+//! `run_tool` takes the words after the program's name, the outside (files, input, two outputs) and
+//! gives a status. What it writes and answers, `specs/Product.antt` defines; `docs/TOOL.md` says it
+//! in words. Refused are words that give no command, files that can't be read, and sources that a
+//! stage refuses: each looks at all files before the next one begins, the lexer first, then the
+//! grammar, the rules of names, and the form that is built so far. Time is linear in the sources,
+//! but for the sorting of reports. Memory is linear too; the trees of all files are held at once.
 #![tactic(auto)]
 
 mod answer;
@@ -19,6 +19,3 @@ mod stop;
 mod tool;
 
 pub use tool::run_tool;
-
-#[cfg(test)]
-mod tests;

@@ -1,5 +1,6 @@
 //! Reads the files that the words name.
-ghost use Rattle.std.specs.Prelude.{◌≡◌, ◌≢◌, ◌⊎◌, ◌≤◌, ◌<◌, ◌^◌, Ok, Err, IsTrue, IfOk, IfSome, IsSomeAnd, All, Contains, length, map, string_bytes};
+ghost use Rattle.std.specs.Prelude.{◌≡◌, ◌≢◌, ◌⊎◌, ◌≤◌, ◌<◌, ◌^◌, Ok, Err, IsTrue, IfOk, IfSome, IsSomeAnd, All, length, map, string_bytes};
+ghost use Rattle.spark_base.specs.Lists.{Has};
 ghost use Rattle.spark_base.specs.Outside.{Rose, Lacks};
 ghost use Rattle.spark_base.specs.Words.{operands};
 ghost use Rattle.spark_tool.specs.Reading.{IsWithin, ReadsFile, IsWhole, sources, sources_of, Missing};
@@ -9,7 +10,7 @@ use spark_base::{FILES, FileStore, SOURCE_BYTES};
 use std::alloc::Global;
 
 /// The files of a command.
-#[derive(Debug, Drop)]
+#[derive(Drop)]
 pub(crate) enum Gathered {
     /// The texts of all files, in order.
     All(Vec<Vec<u8>>),
@@ -20,8 +21,8 @@ pub(crate) enum Gathered {
 /// How many bytes are asked for at once.
 const PIECE: usize = 4096;
 
-/// The bytes of the open file, or nothing where it has more than there is room for. At most one byte past the room is
-/// taken.
+/// The bytes of the open file, or nothing where it has more than there is room for. At most one
+/// byte past the room is taken.
 fn read_open_file<F: FileStore>(
     alloc: Global,
     files: &mut F,
@@ -60,7 +61,7 @@ fn read_file<F: FileStore>(
     name: &str,
     room: usize,
 ) -> Result<Option<Vec<u8>>, Stop>
-    requires operand { Contains (operands (F.words files.old)) name.now }
+    requires operand { Has (operands (F.words files.old)) name.now }
     requires room { room < 2 ^ 62 }
     ensures bytes { IfOk result (λ found. IfSome (F.stored files.old) (λ stored. ReadsFile stored name.now room found)) }
     ensures within { IfOk result (λ found. IfSome found (λ text. length text.items ≤ room)) }
@@ -82,7 +83,7 @@ pub(crate) fn read_files<F: FileStore>(
     files: &mut F,
     names: &[String],
 ) -> Result<Gathered, Stop>
-    requires operands { All (Contains (operands (F.words files.old))) (map string_bytes names.now) }
+    requires operands { All (Has (operands (F.words files.old))) (map string_bytes names.now) }
     requires few { length names.now ≤ FILES }
     ensures found { IfOk result (λ found. IfSome (F.stored files.old)
         (λ stored. sources stored 0 SOURCE_BYTES (map string_bytes names.now) ≡ sources_of found)) }

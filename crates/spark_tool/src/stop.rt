@@ -5,7 +5,7 @@ ghost use Rattle.spark_tool.specs.Stops.{stop_status};
 use std::alloc::{AllocError, AllocFailed};
 
 /// What ends a command before its answer is written.
-#[derive(Clone, Copy, Debug, PartialEq, Eq)]
+#[derive(Clone, Copy, PartialEq, Eq)]
 pub(crate) enum Stop {
     /// A file can't be read, or isn't there.
     Read,

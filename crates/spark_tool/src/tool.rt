@@ -8,7 +8,7 @@ ghost use Rattle.spark_tool.specs.Product.{Product, misused, unread};
 ghost use Rattle.rule_reports.specs.Lines.{usage_line};
 ghost use Rattle.spark_tool.specs.Promises.{IsStatus, IsRegular, Delivers, DeliversFront, Grows};
 
-use crate::answer::{Answer, misused};
+use crate::answer::{Answer, usage_answer};
 use crate::check::check_sources;
 use crate::command::check_names;
 use crate::deliver::deliver;
@@ -18,7 +18,11 @@ use spark_base::{FileStore, Sink, Source};
 use std::alloc::Global;
 
 /// What the words ask for, before anything is written.
-fn answer_to<F: FileStore>(alloc: Global, words: &[String], files: &mut F) -> Result<Answer, Stop>
+fn command_answer<F: FileStore>(
+    alloc: Global,
+    words: &[String],
+    files: &mut F,
+) -> Result<Answer, Stop>
     requires { F.words files.old ≡ map string_bytes words.now }
     ensures product { IfOk result (λ answer. IfSome (F.stored files.old)
         (λ stored. Product stored (map string_bytes words.now) (answer_of answer))) }
@@ -37,7 +41,7 @@ fn answer_to<F: FileStore>(alloc: Global, words: &[String], files: &mut F) -> Re
             Ok(gathered) => Ok(check_sources(alloc, names, gathered)?),
             Err(stop) => Err(stop),
         },
-        None => Ok(misused(alloc)?),
+        None => Ok(usage_answer(alloc)?),
     }
 }
 
@@ -73,14 +77,14 @@ fn carry_out<F: FileStore, K: Sink>(
     ensures no_read_fault { result ≢ Err Stop.Read → F.faults files.new ≡ F.faults files.old }
     ensures no_write_fault { result ≢ Err Stop.Write → (K.faults out.new ≡ K.faults out.old) × (K.faults err.new ≡ K.faults err.old) }
 {
-    let answer = answer_to(alloc, words, files)?;
+    let answer = command_answer(alloc, words, files)?;
     deliver(&answer, out, err)?;
     Ok(answer.status)
 }
 
-/// Runs the command that the words give: reads the files that they name, checks the sources, and writes the reports,
-/// a refusal or that there is nothing to report (`docs/TOOL.md`). The words are those after the program's name.
-/// The answer is the status of the program.
+/// Runs the command that the words give: reads the files that they name, checks the sources, and
+/// writes the reports, a refusal or that there is nothing to report (`docs/TOOL.md`). The words are
+/// those after the program's name. The answer is the status of the program.
 ///
 /// Nothing of the input is read.
 pub fn run_tool<F: FileStore, S: Source, K: Sink>(
@@ -100,7 +104,8 @@ pub fn run_tool<F: FileStore, S: Source, K: Sink>(
         (λ stored. Delivers stored (map string_bytes words.now)
         (K.written out.old) (K.written out.new) (K.written err.old) (K.written err.new) result) }
 
-    // Where no count rose in the call, that is so of each status but 9, and 7 too is the defined one.
+    // Where no count rose in the call, that is so of each status but 9, and 7 too is the defined
+    // one.
     ensures complete { ¬ Rose (F.faults files.old) (F.faults files.new)
         → ¬ Rose (K.faults out.old) (K.faults out.new) → ¬ Rose (K.faults err.old) (K.faults err.new)
         → result ≢ 9 → IfSome (F.stored files.old)
@@ -112,13 +117,14 @@ pub fn run_tool<F: FileStore, S: Source, K: Sink>(
         → (result ≡ 6) × Appends (K.written err.old) (K.written err.new) usage_line }
     ensures usage { result ≡ 6 → command_of (map string_bytes words.now) ≡ None }
 
-    // 7: only where the count of the files rose, or where a named file isn't there. Nothing is written.
+    // 7: only where the count of the files rose, or where a named file isn't there. Nothing is
+    // written.
     ensures read_fault { result ≡ 7 → Rose (F.faults files.old) (F.faults files.new)
         ⊎ IsSomeAnd (F.stored files.old) (λ stored. Product stored (map string_bytes words.now) unread) }
     ensures read_with_command { result ≡ 7 → command_of (map string_bytes words.now) ≢ None }
 
-    // 8: only where the count of an output rose. A front of the defined bytes was written; where the words give no command, of
-    // the usage line, whatever the store tells.
+    // 8: only where the count of an output rose. A front of the defined bytes was written; where
+    // the words give no command, of the usage line, whatever the store tells.
     ensures write_fault { result ≡ 8 → Rose (K.faults out.old) (K.faults out.new) ⊎ Rose (K.faults err.old) (K.faults err.new) }
     ensures front { result ≡ 8 → IfSome (F.stored files.old)
         (λ stored. DeliversFront stored (map string_bytes words.now)

@@ -1,2 +1,3 @@
 -- what the functions inside promise each other
 pub mod InnerStatements
+pub mod Parts

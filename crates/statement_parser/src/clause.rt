@@ -18,7 +18,7 @@ fn next_identifier(alloc: Global, tokens: &mut Cursor<'_, '_>) -> Result<NextIde
 {
     let pos = tokens.symbol(Side::Apart, Symbol::Comma)?;
     let name = identifier(alloc, tokens, Side::Apart)?;
-    Ok(NextIdentifier::After { pos, name })
+    Ok(NextIdentifier::FurtherIdentifier { pos, name })
 }
 
 /// {`,` id} (Ada 2012, 3.3.1)
@@ -67,7 +67,7 @@ pub fn indication(alloc: Global, tokens: &mut Cursor<'_, '_>) -> Result<Indicati
             designated,
         });
     }
-    let pos = tokens.place()?;
+    let pos = tokens.position()?;
     let mark = dotted(alloc, tokens, Side::Apart)?;
     Ok(Indication::Mark { pos, mark })
 }

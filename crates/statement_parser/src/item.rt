@@ -3,15 +3,37 @@ ghost use Rattle.std.specs.Prelude.{◌≤◌};
 ghost use Rattle.spark_base.specs.declared.limits.TheConstants.{NESTING};
 ghost use Rattle.token_reading.specs.Reading.{Reads};
 ghost use Rattle.ada_grammar.specs.Items as readers;
+ghost use Rattle.expression_parser.specs.Parts.{ReadsAs};
+ghost use Rattle.statement_parser.specs.Parts as parts;
 
 use crate::clause::{indication, next_identifiers, pragma, use_clause};
+use crate::parts::Actuals;
 use crate::type_item::type_item;
 use ada_lexer::{Reserved, Symbol};
-use ada_tree::{Arg, Identifier, Item, NextArg, NextIdentifier};
-use expression_parser::{arg_at, dotted, expr, identifier, next_args_at};
+use ada_tree::{Expr, Identifier, Item, NextIdentifier};
+use expression_parser::{
+    Constraint, arg_at, boxed, constraint, dotted, expr, identifier, next_args_at,
+};
 use spark_base::{Boxed, Listed, Pos};
 use std::alloc::Global;
 use token_reading::{Cursor, Kind, ReadFault, Side};
+
+/// [`range` expr `..` expr] `;` (Ada 2012, 3.2.2)
+fn subtype_end(
+    alloc: Global,
+    tokens: &mut Cursor<'_, '_>,
+    depth: u32,
+) -> Result<(Option<Constraint>, Pos), ReadFault>
+    ensures { ReadsAs parts.subtype_end (readers.subtype_end depth) tokens.old result tokens.new }
+{
+    if tokens.sees_word(Reserved::KwRange) {
+        let constraint = constraint(alloc, tokens, depth)?;
+        let semicolon = tokens.symbol(Side::Apart, Symbol::Semicolon)?;
+        return Ok((Some(constraint), semicolon));
+    }
+    let semicolon = tokens.symbol(Side::Apart, Symbol::Semicolon)?;
+    Ok((None, semicolon))
+}
 
 /// subtype = `subtype` id `is` mark [`range` expr `..` expr] `;` (Ada 2012, 3.2.2).
 #[tactic(auto, unfolding(ada_grammar::specs::Items::subtype_item))]
@@ -22,35 +44,49 @@ fn subtype_item(alloc: Global, tokens: &mut Cursor<'_, '_>, depth: u32) -> Resul
     let name = identifier(alloc, tokens, Side::Apart)?;
     let is = tokens.word(Side::Apart, Reserved::KwIs)?;
     let mark = dotted(alloc, tokens, Side::Apart)?;
-    if tokens.sees_word(Reserved::KwRange) {
-        let range = tokens.word(Side::Apart, Reserved::KwRange)?;
-        let low = Boxed::new(alloc, expr(alloc, tokens, depth)?)?;
-        let dots = tokens.symbol(Side::Apart, Symbol::DoubleDot)?;
-        let high = Boxed::new(alloc, expr(alloc, tokens, depth)?)?;
-        let semicolon = tokens.symbol(Side::Apart, Symbol::Semicolon)?;
-        return Ok(Item::ConstrainedSubtype {
+    let (constraint, semicolon) = subtype_end(alloc, tokens, depth)?;
+    match constraint {
+        None => Ok(Item::Subtype {
             pos,
             name,
             is,
             mark,
-            range,
-            low,
-            dots,
-            high,
             semicolon,
-        });
+        }),
+        Some(constraint) => Ok(Item::ConstrainedSubtype {
+            pos,
+            name,
+            is,
+            mark,
+            range: constraint.range,
+            low: constraint.low,
+            dots: constraint.dots,
+            high: constraint.high,
+            semicolon,
+        }),
     }
-    let semicolon = tokens.symbol(Side::Apart, Symbol::Semicolon)?;
-    Ok(Item::Subtype {
-        pos,
-        name,
-        is,
-        mark,
-        semicolon,
-    })
 }
 
-/// object = id {`,` id} `:` [`constant`] (mark | anon) [`:=` expr] `;`, behind [`constant`] (Ada 2012, 3.3.1).
+/// [`:=` expr] `;` (Ada 2012, 3.3.1)
+fn object_end(
+    alloc: Global,
+    tokens: &mut Cursor<'_, '_>,
+    depth: u32,
+) -> Result<(Option<(Pos, Boxed<Expr>)>, Pos), ReadFault>
+    ensures { Reads (readers.object_end depth) tokens.old result tokens.new }
+{
+    if tokens.sees_symbol(Symbol::Becomes) {
+        let becomes = tokens.symbol(Side::Apart, Symbol::Becomes)?;
+        let value = boxed(alloc, expr(alloc, tokens, depth))?;
+        let semicolon = tokens.symbol(Side::Apart, Symbol::Semicolon)?;
+        return Ok((Some((becomes, value)), semicolon));
+    }
+    let semicolon = tokens.symbol(Side::Apart, Symbol::Semicolon)?;
+    Ok((None, semicolon))
+}
+
+/// object = id {`,` id} `:` [`constant`] (mark | anon) [`:=` expr] `;`, behind [`constant`] (Ada
+/// 2012, 3.3.1).
 #[tactic(auto, unfolding(ada_grammar::specs::Items::objects))]
 fn objects(
     alloc: Global,
@@ -64,11 +100,18 @@ fn objects(
     ensures { Reads (readers.objects depth first rest colon constant) tokens.old result tokens.new }
 {
     let indication = indication(alloc, tokens)?;
-    if tokens.sees_symbol(Symbol::Becomes) {
-        let becomes = tokens.symbol(Side::Apart, Symbol::Becomes)?;
-        let value = Boxed::new(alloc, expr(alloc, tokens, depth)?)?;
-        let semicolon = tokens.symbol(Side::Apart, Symbol::Semicolon)?;
-        return Ok(Item::InitializedObjects {
+    let (value, semicolon) = object_end(alloc, tokens, depth)?;
+    match value {
+        None => Ok(Item::Objects {
+            pos: first.pos,
+            first,
+            rest,
+            colon,
+            constant,
+            indication,
+            semicolon,
+        }),
+        Some((becomes, value)) => Ok(Item::InitializedObjects {
             pos: first.pos,
             first,
             rest,
@@ -78,22 +121,12 @@ fn objects(
             becomes,
             value,
             semicolon,
-        });
+        }),
     }
-    let semicolon = tokens.symbol(Side::Apart, Symbol::Semicolon)?;
-    Ok(Item::Objects {
-        pos: first.pos,
-        first,
-        rest,
-        colon,
-        constant,
-        indication,
-        semicolon,
-    })
 }
 
-/// object = id {`,` id} `:` [`constant`] (mark | anon) [`:=` expr] `;` | id {`,` id} `:` `constant` `:=` expr `;`
-/// (Ada 2012, 3.3.1 and 3.3.2).
+/// object = id {`,` id} `:` [`constant`] (mark | anon) [`:=` expr] `;` | id {`,` id} `:` `constant`
+/// `:=` expr `;` (Ada 2012, 3.3.1 and 3.3.2).
 #[tactic(auto, unfolding(ada_grammar::specs::Items::object_item))]
 fn object_item(alloc: Global, tokens: &mut Cursor<'_, '_>, depth: u32) -> Result<Item, ReadFault>
     ensures { Reads (readers.object_item depth) tokens.old result tokens.new }
@@ -105,7 +138,7 @@ fn object_item(alloc: Global, tokens: &mut Cursor<'_, '_>, depth: u32) -> Result
         let constant = tokens.word(Side::Apart, Reserved::KwConstant)?;
         if tokens.sees_symbol(Symbol::Becomes) {
             let becomes = tokens.symbol(Side::Apart, Symbol::Becomes)?;
-            let value = Boxed::new(alloc, expr(alloc, tokens, depth)?)?;
+            let value = boxed(alloc, expr(alloc, tokens, depth))?;
             let semicolon = tokens.symbol(Side::Apart, Symbol::Semicolon)?;
             return Ok(Item::Numbers {
                 pos: first.pos,
@@ -118,34 +151,31 @@ fn object_item(alloc: Global, tokens: &mut Cursor<'_, '_>, depth: u32) -> Result
                 semicolon,
             });
         }
-        return Ok(objects(alloc, tokens, depth, first, rest, colon, Some(constant))?);
+        return objects(alloc, tokens, depth, first, rest, colon, Some(constant));
     }
-    Ok(objects(alloc, tokens, depth, first, rest, colon, None)?)
+    objects(alloc, tokens, depth, first, rest, colon, None)
 }
 
-/// The first actual of an instance, one construct further in (Ada 2012, 12.3).
-#[tactic(auto, unfolding(ada_grammar::specs::Items::first_actual))]
-fn first_actual(alloc: Global, tokens: &mut Cursor<'_, '_>, depth: u32) -> Result<Arg, ReadFault>
+/// arg {`,` arg} `)` `;`, behind the `(` of an instance (Ada 2012, 12.3)
+#[tactic(auto, unfolding(ada_grammar::specs::Items::first_actual, ada_grammar::specs::Items::next_actuals))]
+fn actuals(alloc: Global, tokens: &mut Cursor<'_, '_>, depth: u32) -> Result<Actuals, ReadFault>
     requires { depth ≤ NESTING }
-    ensures { Reads (readers.first_actual depth) tokens.old result tokens.new }
+    ensures { ReadsAs parts.actual_parts (readers.actual_parts depth) tokens.old result tokens.new }
 {
-    Ok(arg_at(alloc, tokens, Side::Apart, depth + 1)?)
+    let first = boxed(alloc, arg_at(alloc, tokens, Side::Apart, depth))?;
+    let rest = next_args_at(alloc, tokens, Side::Apart, depth)?;
+    let right_paren = tokens.symbol(Side::Apart, Symbol::RightParenthesis)?;
+    let semicolon = tokens.symbol(Side::Apart, Symbol::Semicolon)?;
+    Ok(Actuals {
+        first,
+        rest,
+        right_paren,
+        semicolon,
+    })
 }
 
-/// The actuals behind it.
-#[tactic(auto, unfolding(ada_grammar::specs::Items::next_actuals))]
-fn next_actuals(
-    alloc: Global,
-    tokens: &mut Cursor<'_, '_>,
-    depth: u32,
-) -> Result<Listed<NextArg>, ReadFault>
-    requires { depth ≤ NESTING }
-    ensures { Reads (readers.next_actuals depth) tokens.old result tokens.new }
-{
-    Ok(next_args_at(alloc, tokens, Side::Apart, depth + 1)?)
-}
-
-/// instance = `procedure` id `is` `new` dotted `(` arg {`,` arg} `)` `;`, behind `is` (Ada 2012, 12.3).
+/// instance = `procedure` id `is` `new` dotted `(` arg {`,` arg} `)` `;`, behind `is` (Ada 2012,
+/// 12.3).
 #[tactic(auto, unfolding(ada_grammar::specs::Items::instance_of))]
 pub fn instance_of(
     alloc: Global,
@@ -161,10 +191,7 @@ pub fn instance_of(
     let new = tokens.word(Side::Apart, Reserved::KwNew)?;
     let generic = dotted(alloc, tokens, Side::Apart)?;
     let left_paren = tokens.opens_symbol(Side::Apart, Symbol::LeftParenthesis, depth)?;
-    let first = Boxed::new(alloc, first_actual(alloc, tokens, depth)?)?;
-    let rest = next_actuals(alloc, tokens, depth)?;
-    let right_paren = tokens.symbol(Side::Apart, Symbol::RightParenthesis)?;
-    let semicolon = tokens.symbol(Side::Apart, Symbol::Semicolon)?;
+    let actuals = actuals(alloc, tokens, depth)?;
     Ok(Item::Instance {
         pos,
         name,
@@ -172,10 +199,10 @@ pub fn instance_of(
         new,
         generic,
         left_paren,
-        first,
-        rest,
-        right_paren,
-        semicolon,
+        first: actuals.first,
+        rest: actuals.rest,
+        right_paren: actuals.right_paren,
+        semicolon: actuals.semicolon,
     })
 }
 
@@ -188,7 +215,7 @@ fn instance(alloc: Global, tokens: &mut Cursor<'_, '_>, depth: u32) -> Result<It
     let pos = tokens.word(Side::Apart, Reserved::KwProcedure)?;
     let name = identifier(alloc, tokens, Side::Apart)?;
     let is = tokens.word(Side::Apart, Reserved::KwIs)?;
-    Ok(instance_of(alloc, tokens, depth, pos, name, is)?)
+    instance_of(alloc, tokens, depth, pos, name, is)
 }
 
 /// item = type | subtype | object | usecl | pragma: each item that is no instance (Ada 2012, 3.11).
@@ -198,10 +225,10 @@ pub fn plain_item(alloc: Global, tokens: &mut Cursor<'_, '_>, depth: u32) -> Res
     ensures { Reads (readers.plain_item depth) tokens.old result tokens.new }
 {
     if tokens.sees_word(Reserved::KwType) {
-        return Ok(type_item(alloc, tokens, depth)?);
+        return type_item(alloc, tokens, depth);
     }
     if tokens.sees_word(Reserved::KwSubtype) {
-        return Ok(subtype_item(alloc, tokens, depth)?);
+        return subtype_item(alloc, tokens, depth);
     }
     if tokens.sees_word(Reserved::KwUse) {
         let clause = use_clause(alloc, tokens)?;
@@ -217,7 +244,7 @@ pub fn plain_item(alloc: Global, tokens: &mut Cursor<'_, '_>, depth: u32) -> Res
             clause,
         });
     }
-    Ok(object_item(alloc, tokens, depth)?)
+    object_item(alloc, tokens, depth)
 }
 
 /// item = type | subtype | object | instance | usecl | pragma (Ada 2012, 3.11).
@@ -227,9 +254,9 @@ pub fn item(alloc: Global, tokens: &mut Cursor<'_, '_>, depth: u32) -> Result<It
     ensures { Reads (readers.item depth) tokens.old result tokens.new }
 {
     if tokens.sees_word(Reserved::KwProcedure) {
-        return Ok(instance(alloc, tokens, depth)?);
+        return instance(alloc, tokens, depth);
     }
-    Ok(plain_item(alloc, tokens, depth)?)
+    plain_item(alloc, tokens, depth)
 }
 
 /// What an item begins with.

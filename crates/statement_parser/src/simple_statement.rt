@@ -1,14 +1,17 @@
 //! Statements that contain none, and the tokens that statements have in common.
-ghost use Rattle.std.specs.Prelude.{◌≡◌, ◌<◌, ◌≤◌, IfOk};
+ghost use Rattle.std.specs.Prelude.{◌<◌, ◌≤◌, IfOk};
 ghost use Rattle.spark_base.specs.declared.limits.TheConstants.{NESTING};
 ghost use Rattle.token_reading.specs.Reading as reading;
-ghost use Rattle.token_reading.specs.Reading.{Reads, starts};
+ghost use Rattle.token_reading.specs.Reading.{Reads};
 ghost use Rattle.ada_grammar.specs.Statements as readers;
+ghost use Rattle.expression_parser.specs.Parts.{ReadsAs};
+ghost use Rattle.statement_parser.specs.Parts.{ending_parts};
 
+use crate::parts::Ending;
 use ada_lexer::{Reserved, Symbol};
 use ada_tree::Stmt;
-use expression_parser::{expr, name_at};
-use spark_base::{Boxed, Pos};
+use expression_parser::{boxed, expr, name_at};
+use spark_base::Pos;
 use std::alloc::Global;
 use token_reading::{Cursor, ReadFault, Side};
 
@@ -30,13 +33,17 @@ pub fn semicolon(tokens: &mut Cursor<'_, '_>) -> Result<Pos, ReadFault>
 
 /// `end`, the word that opened the construct, `;`
 #[tactic(auto, unfolding(ada_grammar::specs::Statements::ending))]
-pub fn ending(tokens: &mut Cursor<'_, '_>, word: Reserved) -> Result<(Pos, (Pos, Pos)), ReadFault>
-    ensures { Reads (readers.ending word) tokens.old result tokens.new }
+pub fn ending(tokens: &mut Cursor<'_, '_>, word: Reserved) -> Result<Ending, ReadFault>
+    ensures { ReadsAs ending_parts (readers.ending word) tokens.old result tokens.new }
 {
     let end = tokens.word(Side::Apart, Reserved::KwEnd)?;
-    let end_word = tokens.word(Side::Apart, word)?;
+    let word = tokens.word(Side::Apart, word)?;
     let semicolon = semicolon(tokens)?;
-    Ok((end, (end_word, semicolon)))
+    Ok(Ending {
+        end,
+        word,
+        semicolon,
+    })
 }
 
 /// `end` `;`
@@ -65,11 +72,11 @@ pub fn named_stmt(alloc: Global, tokens: &mut Cursor<'_, '_>, depth: u32) -> Res
     requires { depth ≤ NESTING }
     ensures { Reads (readers.named_stmt depth) tokens.old result tokens.new }
 {
-    let pos = tokens.place()?;
-    let name = Boxed::new(alloc, name_at(alloc, tokens, Side::Apart, depth)?)?;
+    let pos = tokens.position()?;
+    let name = boxed(alloc, name_at(alloc, tokens, Side::Apart, depth))?;
     if tokens.sees_symbol(Symbol::Becomes) {
         let becomes = tokens.symbol(Side::Apart, Symbol::Becomes)?;
-        let value = Boxed::new(alloc, expr(alloc, tokens, depth)?)?;
+        let value = boxed(alloc, expr(alloc, tokens, depth))?;
         let semicolon = semicolon(tokens)?;
         return Ok(Stmt::Assign {
             pos,
@@ -95,7 +102,7 @@ pub fn exit_stmt(alloc: Global, tokens: &mut Cursor<'_, '_>, depth: u32) -> Resu
     let pos = tokens.word(Side::Apart, Reserved::KwExit)?;
     if tokens.sees_word(Reserved::KwWhen) {
         let when = tokens.word(Side::Apart, Reserved::KwWhen)?;
-        let condition = Boxed::new(alloc, expr(alloc, tokens, depth)?)?;
+        let condition = boxed(alloc, expr(alloc, tokens, depth))?;
         let semicolon = semicolon(tokens)?;
         return Ok(Stmt::ExitWhen {
             pos,
@@ -122,7 +129,7 @@ pub fn return_stmt(
         let semicolon = semicolon(tokens)?;
         return Ok(Stmt::Return { pos, semicolon });
     }
-    let value = Boxed::new(alloc, expr(alloc, tokens, depth)?)?;
+    let value = boxed(alloc, expr(alloc, tokens, depth))?;
     let semicolon = semicolon(tokens)?;
     Ok(Stmt::ReturnValue {
         pos,

@@ -1,27 +1,18 @@
-//! Statements. Those that contain statements take the parser of these as a parameter, so that each function is proved by itself.
-ghost use Rattle.std.specs.Prelude.{◌≡◌, suc, ◌<◌, ◌≤◌};
+//! Statements, each and several in a row.
+ghost use Rattle.std.specs.Prelude.{◌≡◌, ◌≤◌};
 ghost use Rattle.spark_base.specs.declared.limits.TheConstants.{NESTING};
 ghost use Rattle.token_reading.specs.Reading.{Reads, starts};
 ghost use Rattle.ada_grammar.specs.Statements as readers;
 ghost use Rattle.statement_parser.specs.InnerStatements.{ReadsInner};
 
+use crate::parser::StatementParser;
 use crate::simple_statement::{exit_stmt, named_stmt, null_stmt, return_stmt};
 use ada_lexer::Reserved;
 use ada_tree::{Stmt, Stmts};
-use spark_base::{Boxed, Listed};
+use expression_parser::boxed;
+use spark_base::Listed;
 use std::alloc::Global;
 use token_reading::{Cursor, Kind, ReadFault};
-
-/// Reads statements where so many constructs are open, over the parser of the statements within them.
-#[derive(Clone, Copy)]
-pub struct Statements<F> {
-    /// Where memory is taken from.
-    pub alloc: Global,
-    /// How many constructs are open.
-    pub depth: u32,
-    /// The parser of the statements within a statement.
-    pub inner: F,
-}
 
 /// Whether a statement begins here.
 fn begins_stmt(tokens: &Cursor<'_, '_>) -> bool
@@ -42,38 +33,11 @@ fn begins_stmt(tokens: &Cursor<'_, '_>) -> bool
     ])
 }
 
-impl<F: Fn(Global, &mut Cursor<'_, '_>, u32) -> Result<Stmts, ReadFault>> Statements<F> {
-    /// How many constructs are open within a statement that opens one.
-    pub fn inside(&self) -> u32
-        requires { self.now.depth < NESTING }
-        ensures { result ≡ suc self.now.depth }
-    {
-        self.depth + 1
-    }
-
-    /// The statements within a statement that has opened a construct.
-    pub fn inner_stmts(&self, tokens: &mut Cursor<'_, '_>) -> Result<Stmts, ReadFault>
-        requires room { self.now.depth < NESTING }
-        requires inner { ReadsInner self.now.depth (F.pre self.now.inner) (F.post self.now.inner) }
-        ensures { Reads (readers.inner_stmts self.now.depth) tokens.old result tokens.new }
-    {
-        (self.inner)(self.alloc, tokens, self.inside())
-    }
-
-    /// The same in a box.
-    pub fn boxed_inner(&self, tokens: &mut Cursor<'_, '_>) -> Result<Boxed<Stmts>, ReadFault>
-        requires room { self.now.depth < NESTING }
-        requires inner { ReadsInner self.now.depth (F.pre self.now.inner) (F.post self.now.inner) }
-        ensures { Reads (readers.inner_stmts self.now.depth) tokens.old result tokens.new }
-    {
-        Ok(Boxed::new(self.alloc, self.inner_stmts(tokens)?)?)
-    }
-
+impl<F: Fn(Global, &mut Cursor<'_, '_>, u32) -> Result<Stmts, ReadFault>> StatementParser<F> {
     /// A loop or a block, else a statement that begins with a name.
     #[tactic(auto, unfolding(ada_grammar::specs::Statements::block_or_named_in))]
     pub fn block_or_named(&self, tokens: &mut Cursor<'_, '_>) -> Result<Stmt, ReadFault>
-        requires within { self.now.depth ≤ NESTING }
-        requires inner { ReadsInner self.now.depth (F.pre self.now.inner) (F.post self.now.inner) }
+        requires { ReadsInner self.now.depth (F.pre self.now.inner) (F.post self.now.inner) }
         ensures { Reads (readers.block_or_named_in self.now.depth (readers.inner_stmts self.now.depth)) tokens.old result tokens.new }
     {
         if tokens.sees_word(Reserved::KwLoop) {
@@ -97,8 +61,7 @@ impl<F: Fn(Global, &mut Cursor<'_, '_>, u32) -> Result<Stmts, ReadFault>> Statem
     /// stmt (Ada 2012, 5.1)
     #[tactic(auto, unfolding(ada_grammar::specs::Statements::stmt_in))]
     pub fn stmt(&self, tokens: &mut Cursor<'_, '_>) -> Result<Stmt, ReadFault>
-        requires within { self.now.depth ≤ NESTING }
-        requires inner { ReadsInner self.now.depth (F.pre self.now.inner) (F.post self.now.inner) }
+        requires { ReadsInner self.now.depth (F.pre self.now.inner) (F.post self.now.inner) }
         ensures { Reads (readers.stmt_in self.now.depth (readers.inner_stmts self.now.depth)) tokens.old result tokens.new }
     {
         if tokens.sees_word(Reserved::KwNull) {
@@ -122,8 +85,7 @@ impl<F: Fn(Global, &mut Cursor<'_, '_>, u32) -> Result<Stmts, ReadFault>> Statem
     /// {stmt}
     #[tactic(auto, unfolding(ada_grammar::specs::Statements::next_stmts_in))]
     pub fn next_stmts(&self, tokens: &mut Cursor<'_, '_>) -> Result<Listed<Stmt>, ReadFault>
-        requires within { self.now.depth ≤ NESTING }
-        requires inner { ReadsInner self.now.depth (F.pre self.now.inner) (F.post self.now.inner) }
+        requires { ReadsInner self.now.depth (F.pre self.now.inner) (F.post self.now.inner) }
         ensures { Reads (readers.next_stmts_in self.now.depth (readers.inner_stmts self.now.depth)) tokens.old result tokens.new }
     {
         let mut all = Listed::new(self.alloc);
@@ -136,12 +98,11 @@ impl<F: Fn(Global, &mut Cursor<'_, '_>, u32) -> Result<Stmts, ReadFault>> Statem
     /// stmts = stmt {stmt} (Ada 2012, 5.1)
     #[tactic(auto, unfolding(ada_grammar::specs::Statements::stmts_in))]
     pub fn stmts(&self, tokens: &mut Cursor<'_, '_>) -> Result<Stmts, ReadFault>
-        requires within { self.now.depth ≤ NESTING }
-        requires inner { ReadsInner self.now.depth (F.pre self.now.inner) (F.post self.now.inner) }
+        requires { ReadsInner self.now.depth (F.pre self.now.inner) (F.post self.now.inner) }
         ensures { Reads (readers.stmts_in self.now.depth (readers.inner_stmts self.now.depth)) tokens.old result tokens.new }
     {
-        let pos = tokens.place()?;
-        let first = Boxed::new(self.alloc, self.stmt(tokens)?)?;
+        let pos = tokens.position()?;
+        let first = boxed(self.alloc, self.stmt(tokens))?;
         let rest = self.next_stmts(tokens)?;
         Ok(Stmts::Sequence { pos, first, rest })
     }
@@ -152,7 +113,7 @@ pub fn stmts(alloc: Global, tokens: &mut Cursor<'_, '_>, depth: u32) -> Result<S
     requires { depth ≤ NESTING }
     ensures { Reads (readers.stmts depth) tokens.old result tokens.new }
 {
-    Statements {
+    StatementParser {
         alloc,
         depth,
         inner: stmts,

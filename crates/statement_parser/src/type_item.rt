@@ -3,8 +3,12 @@ ghost use Rattle.std.specs.Prelude.{◌≤◌};
 ghost use Rattle.spark_base.specs.declared.limits.TheConstants.{NESTING};
 ghost use Rattle.token_reading.specs.Reading.{Reads};
 ghost use Rattle.ada_grammar.specs.Items as readers;
+ghost use Rattle.expression_parser.specs.Parts.{ReadsAs};
+ghost use Rattle.statement_parser.specs.Parts.{element_parts, literal_parts};
 
 use crate::clause::next_identifiers;
+use crate::parts::{Element, Literals};
+use crate::simple_statement::ending;
 use ada_lexer::{Reserved, Symbol};
 use ada_tree::{Component, Identifier, Item, Range};
 use expression_parser::{dotted, identifier, range};
@@ -33,8 +37,11 @@ fn component(alloc: Global, tokens: &mut Cursor<'_, '_>) -> Result<Component, Re
 }
 
 /// {comp} (Ada 2012, 3.8)
-fn components(alloc: Global, tokens: &mut Cursor<'_, '_>) -> Result<Listed<Component>, ReadFault>
-    ensures { Reads readers.components tokens.old result tokens.new }
+fn next_components(
+    alloc: Global,
+    tokens: &mut Cursor<'_, '_>,
+) -> Result<Listed<Component>, ReadFault>
+    ensures { Reads readers.next_components tokens.old result tokens.new }
 {
     let mut all = Listed::new(alloc);
     'turns: while tokens.sees_identifier() {
@@ -49,7 +56,23 @@ fn index_range(alloc: Global, tokens: &mut Cursor<'_, '_>, depth: u32) -> Result
     requires { depth ≤ NESTING }
     ensures { Reads (readers.index_range depth) tokens.old result tokens.new }
 {
-    Ok(range(alloc, tokens, depth + 1)?)
+    range(alloc, tokens, depth + 1)
+}
+
+/// `)` `of` mark `;`, behind the range of an array type's index (Ada 2012, 3.6).
+fn element(alloc: Global, tokens: &mut Cursor<'_, '_>) -> Result<Element, ReadFault>
+    ensures { ReadsAs element_parts readers.element_parts tokens.old result tokens.new }
+{
+    let right_paren = tokens.symbol(Side::Apart, Symbol::RightParenthesis)?;
+    let of = tokens.word(Side::Apart, Reserved::KwOf)?;
+    let mark = dotted(alloc, tokens, Side::Apart)?;
+    let semicolon = tokens.symbol(Side::Apart, Symbol::Semicolon)?;
+    Ok(Element {
+        right_paren,
+        of,
+        mark,
+        semicolon,
+    })
 }
 
 /// type = `type` id `is` `array` `(` range `)` `of` mark `;`, behind `is` (Ada 2012, 3.6).
@@ -68,10 +91,7 @@ fn array_type(
     let array = tokens.word(Side::Apart, Reserved::KwArray)?;
     let left_paren = tokens.opens_symbol(Side::Apart, Symbol::LeftParenthesis, depth)?;
     let range = index_range(alloc, tokens, depth)?;
-    let right_paren = tokens.symbol(Side::Apart, Symbol::RightParenthesis)?;
-    let of = tokens.word(Side::Apart, Reserved::KwOf)?;
-    let element = dotted(alloc, tokens, Side::Apart)?;
-    let semicolon = tokens.symbol(Side::Apart, Symbol::Semicolon)?;
+    let element = element(alloc, tokens)?;
     Ok(Item::ArrayType {
         pos,
         name,
@@ -79,15 +99,15 @@ fn array_type(
         array,
         left_paren,
         range,
-        right_paren,
-        of,
-        element,
-        semicolon,
+        right_paren: element.right_paren,
+        of: element.of,
+        element: element.mark,
+        semicolon: element.semicolon,
     })
 }
 
 /// type = `type` id `is` `record` comp {comp} `end` `record` `;`, behind `is` (Ada 2012, 3.8).
-#[tactic(auto, unfolding(ada_grammar::specs::Items::record_type))]
+#[tactic(auto, unfolding(ada_grammar::specs::Items::record_type, ada_grammar::specs::Statements::ending))]
 fn record_type(
     alloc: Global,
     tokens: &mut Cursor<'_, '_>,
@@ -100,10 +120,8 @@ fn record_type(
 {
     let record_word = tokens.opens_word(Reserved::KwRecord, depth)?;
     let first = component(alloc, tokens)?;
-    let rest = components(alloc, tokens)?;
-    let end = tokens.word(Side::Apart, Reserved::KwEnd)?;
-    let end_record = tokens.word(Side::Apart, Reserved::KwRecord)?;
-    let semicolon = tokens.symbol(Side::Apart, Symbol::Semicolon)?;
+    let rest = next_components(alloc, tokens)?;
+    let ending = ending(tokens, Reserved::KwRecord)?;
     Ok(Item::RecordType {
         pos,
         name,
@@ -111,8 +129,24 @@ fn record_type(
         record_word,
         first,
         rest,
-        end,
-        end_record,
+        end: ending.end,
+        end_record: ending.word,
+        semicolon: ending.semicolon,
+    })
+}
+
+/// id {`,` id} `)` `;`, behind the `(` of an enumeration type (Ada 2012, 3.5.1).
+fn literals(alloc: Global, tokens: &mut Cursor<'_, '_>) -> Result<Literals, ReadFault>
+    ensures { ReadsAs literal_parts readers.literal_parts tokens.old result tokens.new }
+{
+    let first = identifier(alloc, tokens, Side::Apart)?;
+    let rest = next_identifiers(alloc, tokens)?;
+    let right_paren = tokens.symbol(Side::Apart, Symbol::RightParenthesis)?;
+    let semicolon = tokens.symbol(Side::Apart, Symbol::Semicolon)?;
+    Ok(Literals {
+        first,
+        rest,
+        right_paren,
         semicolon,
     })
 }
@@ -130,18 +164,58 @@ fn enumeration_type(
     ensures { Reads (readers.enumeration_type depth pos name is) tokens.old result tokens.new }
 {
     let left_paren = tokens.opens_symbol(Side::Apart, Symbol::LeftParenthesis, depth)?;
-    let first = identifier(alloc, tokens, Side::Apart)?;
-    let rest = next_identifiers(alloc, tokens)?;
-    let right_paren = tokens.symbol(Side::Apart, Symbol::RightParenthesis)?;
-    let semicolon = tokens.symbol(Side::Apart, Symbol::Semicolon)?;
+    let literals = literals(alloc, tokens)?;
     Ok(Item::EnumerationType {
         pos,
         name,
         is,
         left_paren,
-        first,
-        rest,
-        right_paren,
+        first: literals.first,
+        rest: literals.rest,
+        right_paren: literals.right_paren,
+        semicolon: literals.semicolon,
+    })
+}
+
+/// type = `type` id `is` `private` `;`, behind `is` (Ada 2012, 7.3).
+fn private_type(
+    tokens: &mut Cursor<'_, '_>,
+    pos: Pos,
+    name: Identifier,
+    is: Pos,
+) -> Result<Item, ReadFault>
+    ensures { Reads (readers.private_type pos name is) tokens.old result tokens.new }
+{
+    let private = tokens.word(Side::Apart, Reserved::KwPrivate)?;
+    let semicolon = tokens.symbol(Side::Apart, Symbol::Semicolon)?;
+    Ok(Item::PrivateType {
+        pos,
+        name,
+        is,
+        private,
+        semicolon,
+    })
+}
+
+/// type = `type` id `is` `access` mark `;`, behind `is` (Ada 2012, 3.10).
+fn access_type(
+    alloc: Global,
+    tokens: &mut Cursor<'_, '_>,
+    pos: Pos,
+    name: Identifier,
+    is: Pos,
+) -> Result<Item, ReadFault>
+    ensures { Reads (readers.access_type pos name is) tokens.old result tokens.new }
+{
+    let access = tokens.word(Side::Apart, Reserved::KwAccess)?;
+    let designated = dotted(alloc, tokens, Side::Apart)?;
+    let semicolon = tokens.symbol(Side::Apart, Symbol::Semicolon)?;
+    Ok(Item::AccessType {
+        pos,
+        name,
+        is,
+        access,
+        designated,
         semicolon,
     })
 }
@@ -160,36 +234,18 @@ fn defined_type(
     ensures { Reads (readers.defined_type depth pos name is) tokens.old result tokens.new }
 {
     if tokens.sees_word(Reserved::KwPrivate) {
-        let private = tokens.word(Side::Apart, Reserved::KwPrivate)?;
-        let semicolon = tokens.symbol(Side::Apart, Symbol::Semicolon)?;
-        return Ok(Item::PrivateType {
-            pos,
-            name,
-            is,
-            private,
-            semicolon,
-        });
+        return private_type(tokens, pos, name, is);
     }
     if tokens.sees_word(Reserved::KwAccess) {
-        let access = tokens.word(Side::Apart, Reserved::KwAccess)?;
-        let designated = dotted(alloc, tokens, Side::Apart)?;
-        let semicolon = tokens.symbol(Side::Apart, Symbol::Semicolon)?;
-        return Ok(Item::AccessType {
-            pos,
-            name,
-            is,
-            access,
-            designated,
-            semicolon,
-        });
+        return access_type(alloc, tokens, pos, name, is);
     }
     if tokens.sees_word(Reserved::KwArray) {
-        return Ok(array_type(alloc, tokens, depth, pos, name, is)?);
+        return array_type(alloc, tokens, depth, pos, name, is);
     }
     if tokens.sees_word(Reserved::KwRecord) {
-        return Ok(record_type(alloc, tokens, depth, pos, name, is)?);
+        return record_type(alloc, tokens, depth, pos, name, is);
     }
-    Ok(enumeration_type(alloc, tokens, depth, pos, name, is)?)
+    enumeration_type(alloc, tokens, depth, pos, name, is)
 }
 
 /// type = `type` id `;` | `type` id `is` .. (Ada 2012, 3.2.1 and 3.10.1).
@@ -209,5 +265,5 @@ pub fn type_item(alloc: Global, tokens: &mut Cursor<'_, '_>, depth: u32) -> Resu
         });
     }
     let is = tokens.word(Side::Apart, Reserved::KwIs)?;
-    Ok(defined_type(alloc, tokens, depth, pos, name, is)?)
+    defined_type(alloc, tokens, depth, pos, name, is)
 }

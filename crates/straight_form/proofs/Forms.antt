@@ -98,13 +98,13 @@ law_name = law_same r.name
     (law_to make_name NamePlaced name_tokens law_name_parts (λ x good. (name_placed x.0 x.1, name_spelled x.0 x.1)) name_onto)
     (chain_seq make_behind ident behind r.name_after name_after_same)
 
--- A well placed name begins with its own place.
+-- A well placed name begins with its own position.
 starts_of_placed : (n : Name) → NamePlaced n → StartsAt (r.name_pos n) (name_tokens n)
 starts_of_placed n placed =
     let from = name_onto n placed in
     subst (λ m. StartsAt (r.name_pos m) (name_tokens m)) from.1.1 (name_starts from.0.0 from.0.1)
 
--- There is one place that a well placed name begins with.
+-- There is one position that a well placed name begins with.
 pos_of_starts : (n : Name) (pos : Pos) → StartsAt pos (name_tokens n) → NamePlaced n → r.name_pos n ≡ pos
 unfolding name_tokens StartsAt NamePlaced
 pos_of_starts (Object at object) pos starts placed = some_same at pos (sym placed ∙ starts)
@@ -446,6 +446,7 @@ abbrev UnitPartsGood : r.UnitParts → Type 0
 UnitPartsGood = Both ContextGood (Both Any (Both Any (Both Any (Both (Each GoodItem) (Both Any (Both GoodStmt (Both (Each GoodStmt) (Both Any (Both Any Any)))))))))
 
 law_unit_parts : Law r.unit_parts UnitPartsGood unit_parts_tokens (of_word KwWith ∷ []) [] false
+unfolding r.body
 law_unit_parts = law_seq law_context (law_seq (law_word KwProcedure) (law_seq law_ident (law_seq (law_word KwIs) (law_seq law_items
     (law_seq (law_word KwBegin) (law_seq law_stmt (law_seq law_stmts law_ending refl) refl) refl) refl) refl) refl) refl) refl
 

@@ -1,4 +1,5 @@
--- What a reader owes: it takes the spelling of a tree, and any such spelling. Proved once for each way to make a reader.
+-- What a reader owes: it takes the spelling of a tree, and any such spelling. Proved once for each
+-- way to make a reader.
 use Rattle.std.proofs.Common.{◌≡◌, refl, sym, ap, ◌∙◌, subst, ℕ, Bool, true, false, List, [], ◌∷◌, ◌++◌, Option, Some, None, ◌⊎◌, inl, inr}
 use Rattle.std.specs.Prelude.{◌&&◌, if◌then◌else◌, map}
 use Rattle.std.specs.Char.{to_ascii_lowercase}
@@ -15,11 +16,12 @@ use Rattle.straight_form.specs.declared.tree.Identifier.{Identifier}
 use Rattle.straight_form.specs.Spelled.{Spelled, Word, Ident, Number, Str, Delimiter, EndOfFile}
 use Rattle.straight_form.specs.Spelling.{id_token}
 use Rattle.straight_form.specs.FixedNames.{IsCalled}
-use Rattle.straight_form.specs.Reading.{Outcome, Got, Fails, Reader, of_word, of_symbol, of_ident, of_number, code, is_in, starts, taken, one_of, word_place, word, symbol_place, symbol, identifier_of, ident, called_of, ident_called, number_of, number, end_of, file_end, and_then, to, seq, nothing, choose}
+use Rattle.straight_form.specs.Reading.{Outcome, Got, Fails, Reader, of_word, of_symbol, of_ident, of_number, code, is_in, starts, taken, one_of, word_position, word, symbol_position, symbol, identifier_of, ident, called_of, ident_called, number_of, number, end_of, file_end, and_then, to, seq, nothing, choose}
 use Rattle.straight_form.proofs.Sets.{apart, within, Leads, is_in-own, stops_within, stops_both, stops_last, stops_before, starts_within, leads_within, leads_first, leads_left, leads_right}
 
--- `good` trees are read, and `s` is their spelling: it begins with a kind of `first`, and is empty only if `may`.
--- A list goes on behind a spelling with a token that the reader would not take, which is of no kind of `last`.
+-- `good` trees are read, and `s` is their spelling: it begins with a kind of `first`, and is empty
+-- only if `may`. A list goes on behind a spelling with a token that the reader would not take,
+-- which is of no kind of `last`.
 pub record Law {A : Type 0} (p : Reader A) (good : A → Type 0) (s : A → List Spelled) (first last : List ℕ) (may : Bool) : Type 0 where
   pub leads : (a : A) → good a → Leads may first (s a)
   pub sound : (ts : List Spelled) (a : A) (rest : List Spelled) → p ts ≡ Got a rest → good a × (ts ≡ s a ++ rest)
@@ -73,7 +75,7 @@ pub some_if : {A : Type 0} (r : Bool) (a : A) → r ≡ true → (if r then Some
 some_if true a e = refl
 some_if false a e = absurd (cc)
 
-word_tells : (w : Reserved) (t : Spelled) (p : Pos) → word_place w t ≡ Some p → Any p × (t ≡ Word w p)
+word_tells : (w : Reserved) (t : Spelled) (p : Pos) → word_position w t ≡ Some p → Any p × (t ≡ Word w p)
 word_tells w (Word it pos) p e =
     let got = if_some (sameb reserved.the_type it w) pos p e in
     let same : it ≡ w = same_true reserved.the_type tt it w got.0 in
@@ -86,10 +88,10 @@ word_tells w (Delimiter s pos) p e = absurd (cc)
 word_tells w EndOfFile p e = absurd (cc)
 
 pub law_word : (w : Reserved) → Law (word w) Any (λ p. Word w p ∷ []) (of_word w ∷ []) [] false
-law_word w = law_one (word_place w) Any (λ p. Word w p) (of_word w ∷ []) (word_tells w)
+law_word w = law_one (word_position w) Any (λ p. Word w p) (of_word w ∷ []) (word_tells w)
     (λ p g. some_if (sameb reserved.the_type w w) p (true_same reserved.the_type w w refl)) (λ p. is_in-own (of_word w))
 
-symbol_tells : (w : Symbol) (t : Spelled) (p : Pos) → symbol_place w t ≡ Some p → Any p × (t ≡ Delimiter w p)
+symbol_tells : (w : Symbol) (t : Spelled) (p : Pos) → symbol_position w t ≡ Some p → Any p × (t ≡ Delimiter w p)
 symbol_tells w (Delimiter it pos) p e =
     let got = if_some (sameb symbols.the_type it w) pos p e in
     let same : it ≡ w = same_true symbols.the_type tt it w got.0 in
@@ -102,7 +104,7 @@ symbol_tells w (Word s pos) p e = absurd (cc)
 symbol_tells w EndOfFile p e = absurd (cc)
 
 pub law_symbol : (w : Symbol) → Law (symbol w) Any (λ p. Delimiter w p ∷ []) (of_symbol w ∷ []) [] false
-law_symbol w = law_one (symbol_place w) Any (λ p. Delimiter w p) (of_symbol w ∷ []) (symbol_tells w)
+law_symbol w = law_one (symbol_position w) Any (λ p. Delimiter w p) (of_symbol w ∷ []) (symbol_tells w)
     (λ p g. some_if (sameb symbols.the_type w w) p (true_same symbols.the_type w w refl)) (λ p. is_in-own (of_symbol w))
 
 ident_tells : (t : Spelled) (i : Identifier) → identifier_of t ≡ Some i → Any i × (t ≡ id_token i)

@@ -5,4 +5,3 @@ pub mod Many
 pub mod Fronts
 pub mod Forms
 pub mod Theorem
-pub mod TestTokens

@@ -13,13 +13,14 @@ use Rattle.ada_lexer.specs.Tokens.{EndsOnce, kinds_of}
 use Rattle.straight_form.specs.declared.tree.SourceUnit.{SourceUnit}
 use Rattle.straight_form.specs.Spelled.{Spelled, EndOfFile, told, told_as}
 use Rattle.straight_form.specs.Spelling.{unit_tokens, Spelling}
-use Rattle.straight_form.specs.Spells.{Spells}
+use Rattle.straight_form.specs.Spells.{IsSpelledBy, Spells}
 use Rattle.straight_form.specs.Reading.{Reads, Got, Fails}
 use Rattle.straight_form.specs.Readers.{source}
 use Rattle.straight_form.proofs.Law.{got_same}
 use Rattle.straight_form.proofs.Forms.{law_source}
 
--- The first token is the end of the file and the last one, or it is none and the end stands behind it.
+-- The first token is the end of the file and the last one, or it is none and the end stands behind
+-- it.
 first_ends : (k : TokenKind) (pos : Pos) (text : List Rattle.std.specs.Prelude.ℕ) (ks : List TokenKind) → EndsOnce (k ∷ ks)
     → (ks ≡ []) ⊎ (EndsOnce ks × (told_as k pos text ≡ EndOfFile → ⊥))
 first_ends kind.EndOfFile pos text ks once = inl once
@@ -60,6 +61,13 @@ spells ts u rest once e =
 pub reads : (ts : List Token) (u : SourceUnit) → Spells u ts → source (map told ts) ≡ Got u []
 reads ts u s =
     ap source (sym (append-nil (Spelling u) ∙ s.spelling)) ∙ law_source.accepts u [] (s.placed, s.named) refl
+
+-- Two trees with one spelling are one.
+pub one_unit : (ts : List Spelled) (u v : SourceUnit) → IsSpelledBy u ts → IsSpelledBy v ts → u ≡ v
+one_unit ts u v one two =
+    let read : (w : SourceUnit) → IsSpelledBy w ts → source ts ≡ Got w [] =
+    λ w s. ap source (sym (append-nil (Spelling w) ∙ s.spelling)) ∙ law_source.accepts w [] (s.placed, s.named) refl in
+    (got_same u v [] [] (sym (read u one) ∙ read v two)).0
 
 pub one_tree : (ts : List Token) (u v : SourceUnit) (rest : List Spelled) → source (map told ts) ≡ Got v rest → Spells u ts → v ≡ u
 one_tree ts u v rest e s = (got_same v u rest [] (sym e ∙ reads ts u s)).0

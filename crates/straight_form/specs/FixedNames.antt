@@ -1,5 +1,5 @@
--- Where the grammar has Ada, Unchecked_Deallocation and Integer, the identifiers are spelled so, in any letter case
--- (docs/LANGUAGE.md, "The straight-line form"; Ada 2012, 2.3(5)).
+-- Where the grammar has Ada, Unchecked_Deallocation and Integer, the identifiers are spelled so, in
+-- any letter case (docs/LANGUAGE.md, "The straight-line form"; Ada 2012, 2.3(5)).
 use Rattle.std.specs.Prelude.{◌≡◌, ℕ, List, map, codes}
 use Rattle.std.specs.Char.{to_ascii_lowercase}
 use Rattle.straight_form.specs.declared.tree.Identifier.{Identifier}

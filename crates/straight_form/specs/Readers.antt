@@ -203,8 +203,15 @@ Ending = Pos × (Identifier × Pos)
 unfoldable pub ending : Reader Ending
 ending = seq (word KwEnd) (seq ident (symbol Semicolon))
 
+-- "begin" stmt {stmt} "end" id ";"
+abbrev pub Body : Type 0
+Body = Pos × (Stmt × (List Stmt × Ending))
+
+unfoldable pub body : Reader Body
+body = seq (word KwBegin) (seq stmt (seq stmts ending))
+
 abbrev pub UnitParts : Type 0
-UnitParts = Context × (Pos × (Identifier × (Pos × (List Item × (Pos × (Stmt × (List Stmt × Ending)))))))
+UnitParts = Context × (Pos × (Identifier × (Pos × (List Item × Body))))
 
 abbrev pub make_unit : UnitParts → SourceUnit
 make_unit x = record {
@@ -226,7 +233,7 @@ make_unit x = record {
 }
 
 abbrev pub unit_parts : Reader UnitParts
-unit_parts = seq context (seq (word KwProcedure) (seq ident (seq (word KwIs) (seq items (seq (word KwBegin) (seq stmt (seq stmts ending)))))))
+unit_parts = seq context (seq (word KwProcedure) (seq ident (seq (word KwIs) (seq items body))))
 
 unfoldable pub unit : Reader SourceUnit
 unit = to make_unit unit_parts

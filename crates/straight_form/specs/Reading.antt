@@ -26,7 +26,8 @@ pub data Outcome (A : Type 0) : Type 0 where
 abbrev pub Reader : Type 0 → Type 0
 Reader A = List Spelled → Outcome A
 
--- What a function promises that reads from a cursor: the outcome of this reader, but for want of memory.
+-- What a function promises that reads from a cursor: the outcome of this reader, unless memory runs
+-- out.
 abbrev pub Reads : {A : Type 0} → Outcome A → Result A ParseRefusal → List Spelled → Type 0
 Reads outcome (Ok a) rest = outcome ≡ Got a rest
 Reads outcome (Err NotBuilt) rest = outcome ≡ Fails rest
@@ -73,21 +74,21 @@ abbrev pub one_of : {A : Type 0} → (Spelled → Option A) → Reader A
 one_of f [] = Fails []
 one_of f (t ∷ ts) = taken (f t) t ts
 
-abbrev pub word_place : Reserved → Spelled → Option Pos
-word_place word (Word it pos) = if sameb reserved.the_type it word then Some pos else None
-word_place word _ = None
+abbrev pub word_position : Reserved → Spelled → Option Pos
+word_position word (Word it pos) = if sameb reserved.the_type it word then Some pos else None
+word_position word _ = None
 
--- the reserved word, as its place
+-- the reserved word, as its position
 abbrev pub word : Reserved → Reader Pos
-word w = one_of (word_place w)
+word w = one_of (word_position w)
 
-abbrev pub symbol_place : Symbol → Spelled → Option Pos
-symbol_place symbol (Delimiter it pos) = if sameb symbols.the_type it symbol then Some pos else None
-symbol_place symbol _ = None
+abbrev pub symbol_position : Symbol → Spelled → Option Pos
+symbol_position symbol (Delimiter it pos) = if sameb symbols.the_type it symbol then Some pos else None
+symbol_position symbol _ = None
 
--- the delimiter, as its place
+-- the delimiter, as its position
 abbrev pub symbol : Symbol → Reader Pos
-symbol s = one_of (symbol_place s)
+symbol s = one_of (symbol_position s)
 
 abbrev pub identifier_of : Spelled → Option Identifier
 identifier_of (Ident pos text) = Some (record { pos = pos; text = text })
@@ -109,7 +110,7 @@ abbrev pub number_of : Spelled → Option (Pos × ℕ)
 number_of (Number number pos) = Some (pos, number)
 number_of _ = None
 
--- the number, as its place and its value
+-- the number, as its position and its value
 abbrev pub number : Reader (Pos × ℕ)
 number = one_of number_of
 
@@ -155,6 +156,7 @@ many_up_to ms p (suc n) ts =
     if starts ms ts then and_then (p ts) (λ a more. and_then (many_up_to ms p n more) (λ more_of rest. Got (a ∷ more_of) rest))
     else Got [] ts
 
--- one after the other while the next token is of one of these kinds; each takes a token, so their count is enough
+-- one after the other while the next token is of one of these kinds; each takes a token, so their
+-- count is enough
 unfoldable pub many : {A : Type 0} → List ℕ → Reader A → Reader (List A)
 many ms p ts = many_up_to ms p (length ts) ts

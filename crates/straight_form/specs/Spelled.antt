@@ -4,7 +4,7 @@ use Rattle.std.specs.Coded.{Coded, code_by, coded×, coded⊎, coded_ℕ, coded_
 use Rattle.std.proofs.Common.{inl, inr}
 use base.Stored.{coded_unit}
 use Rattle.spark_base.specs.declared.position.Pos.{Pos}
-use Rattle.spark_base.specs.contracts.position.Pos as place_of
+use Rattle.spark_base.specs.contracts.position.Pos as position_of
 use Rattle.ada_lexer.specs.declared.token.Token.{Token}
 use Rattle.ada_lexer.specs.declared.token.TokenKind.{TokenKind}
 use Rattle.ada_lexer.specs.declared.token.TokenKind.TheVariants as kind
@@ -13,14 +13,14 @@ use Rattle.ada_lexer.specs.declared.token.Symbol.{Symbol}
 use Rattle.ada_lexer.specs.contracts.token.Reserved as reserved
 use Rattle.ada_lexer.specs.contracts.token.Symbol as symbol
 
--- A token's kind and place, and the text of an identifier or a string.
+-- A token's kind and position, and the text of an identifier or a string.
 pub data Spelled : Type 0 where
   Word : Reserved → Pos → Spelled
   Ident : Pos → List ℕ → Spelled
   Number : ℕ → Pos → Spelled
   Str : Pos → List ℕ → Spelled
   Delimiter : Symbol → Pos → Spelled
-  -- the place of the end of the file isn't kept, and isn't compared
+  -- the position of the end of the file isn't kept, and isn't compared
   EndOfFile : Spelled
 
 abbrev pub told_as : TokenKind → Pos → List ℕ → Spelled
@@ -66,9 +66,9 @@ whole_parts EndOfFile = refl
 
 abbrev pub spelled_code : Coded Spelled
 spelled_code = code_by Parts
-    (coded⊎ (coded× reserved.the_row.coded place_of.the_row.coded)
-    (coded⊎ (coded× place_of.the_row.coded (coded_list coded_ℕ))
-    (coded⊎ (coded× coded_ℕ place_of.the_row.coded)
-    (coded⊎ (coded× place_of.the_row.coded (coded_list coded_ℕ))
-    (coded⊎ (coded× symbol.the_row.coded place_of.the_row.coded) coded_unit)))))
+    (coded⊎ (coded× reserved.the_row.coded position_of.the_row.coded)
+    (coded⊎ (coded× position_of.the_row.coded (coded_list coded_ℕ))
+    (coded⊎ (coded× coded_ℕ position_of.the_row.coded)
+    (coded⊎ (coded× position_of.the_row.coded (coded_list coded_ℕ))
+    (coded⊎ (coded× symbol.the_row.coded position_of.the_row.coded) coded_unit)))))
     parts whole whole_parts

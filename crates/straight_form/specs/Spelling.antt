@@ -70,7 +70,8 @@ item_tokens (item.Objects pos first rest colon mark end) =
     id_token first ∷ (flat_map next_tokens rest
     ++ (Delimiter Colon colon ∷ id_token mark ∷ Delimiter Semicolon end ∷ []))
 
--- "with" Ada "." Unchecked_Deallocation ";" "procedure" id "is" {item} "begin" stmt {stmt} "end" id ";"
+-- "with" Ada "." Unchecked_Deallocation ";" "procedure" id "is" {item} "begin" stmt {stmt} "end" id
+-- ";"
 unfoldable pub unit_tokens : SourceUnit → List Spelled
 unit_tokens unit =
     Word KwWith unit.pos ∷ id_token unit.ada ∷ Delimiter Dot unit.dot ∷ id_token unit.deallocation

@@ -1,4 +1,5 @@
--- When a tree of the straight-line form stands for the tokens of a file (docs/LANGUAGE.md, "The straight-line form").
+-- When a tree of the straight-line form stands for the tokens of a file (docs/LANGUAGE.md, "The
+-- straight-line form").
 use Rattle.std.specs.Prelude.{◌≡◌, List, [], ◌∷◌, map}
 use Rattle.ada_lexer.specs.declared.token.Token.{Token}
 use Rattle.straight_form.specs.declared.tree.SourceUnit.{SourceUnit}
@@ -7,7 +8,8 @@ use Rattle.straight_form.specs.Spelling.{Spelling}
 use Rattle.straight_form.specs.WellPlaced.{WellPlaced}
 use Rattle.straight_form.specs.FixedNames.{FixedNames}
 
--- The tree is spelled by the tokens, each of its parts has its place, and the fixed names stand where the grammar has them.
+-- The tree is spelled by the tokens, each of its parts has its position, and the fixed names stand
+-- where the grammar has them.
 pub record IsSpelledBy (unit : SourceUnit) (tokens : List Spelled) : Type 0 where
   pub spelling : Spelling unit ≡ tokens
   pub placed : WellPlaced unit

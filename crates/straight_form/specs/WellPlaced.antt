@@ -1,7 +1,8 @@
--- The place of each part of a tree is that of its first token (docs/LANGUAGE.md, "The straight-line form").
+-- The position of each part of a tree is that of its first token (docs/LANGUAGE.md, "The
+-- straight-line form").
 --
--- Where a part begins with a token of its own, its place is the place of that token by the spelling. What is left
--- to say is the place of each part that begins with another part.
+-- Where a part begins with a token of its own, its position is the position of that token by the
+-- spelling. What is left to say is the position of each part that begins with another part.
 use Rattle.std.specs.Prelude.{◌≡◌, List, [], ◌∷◌, Option, Some, None}
 use Rattle.spark_base.specs.declared.position.Pos.{Pos}
 use Rattle.straight_form.specs.declared.tree.Name.{Name}
@@ -21,18 +22,18 @@ unfoldable pub Each : {A : Type 0} → (A → Type 0) → List A → Type 0
 Each P [] = Unit {0}
 Each P (x ∷ xs) = P x × Each P xs
 
-abbrev place : Spelled → Option Pos
-place (Word word pos) = Some pos
-place (Ident pos text) = Some pos
-place (Number number pos) = Some pos
-place (Str pos text) = Some pos
-place (Delimiter symbol pos) = Some pos
-place EndOfFile = None
+abbrev position : Spelled → Option Pos
+position (Word word pos) = Some pos
+position (Ident pos text) = Some pos
+position (Number number pos) = Some pos
+position (Str pos text) = Some pos
+position (Delimiter symbol pos) = Some pos
+position EndOfFile = None
 
 -- The first of the tokens stands there.
 unfoldable pub StartsAt : Pos → List Spelled → Type 0
 StartsAt pos [] = ⊥
-StartsAt pos (t ∷ ts) = place t ≡ Some pos
+StartsAt pos (t ∷ ts) = position t ≡ Some pos
 
 unfoldable pub NamePlaced : Name → Type 0
 NamePlaced (name.Object pos object) = StartsAt pos (id_token object ∷ [])

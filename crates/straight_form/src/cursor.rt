@@ -14,9 +14,9 @@ use spark_base::Pos;
 use std::alloc::Global;
 use std::marker::Model;
 
-/// The place of a token that is this reserved word.
-fn word_place(token: &Token<'_>, word: Reserved) -> Option<Pos>
-    ensures { result ≡ reading.word_place word (told token.now) }
+/// The position of a token that is this reserved word.
+fn word_position(token: &Token<'_>, word: Reserved) -> Option<Pos>
+    ensures { result ≡ reading.word_position word (told token.now) }
 {
     match token.kind {
         TokenKind::Word(it) if it == word => Some(token.pos),
@@ -24,9 +24,9 @@ fn word_place(token: &Token<'_>, word: Reserved) -> Option<Pos>
     }
 }
 
-/// The place of a token that is this delimiter.
-fn symbol_place(token: &Token<'_>, symbol: Symbol) -> Option<Pos>
-    ensures { result ≡ reading.symbol_place symbol (told token.now) }
+/// The position of a token that is this delimiter.
+fn symbol_position(token: &Token<'_>, symbol: Symbol) -> Option<Pos>
+    ensures { result ≡ reading.symbol_position symbol (told token.now) }
 {
     match token.kind {
         TokenKind::Symbol(it) if it == symbol => Some(token.pos),
@@ -34,7 +34,7 @@ fn symbol_place(token: &Token<'_>, symbol: Symbol) -> Option<Pos>
     }
 }
 
-/// The place and the value of a token that is a number.
+/// The position and the value of a token that is a number.
 fn number_of(token: &Token<'_>) -> Option<(Pos, u32)>
     ensures { result ≡ reading.number_of (told token.now) }
 {
@@ -99,7 +99,7 @@ impl<'t, 's> Cursor<'t, 's> {
         ensures { result ≡ starts (of_word word ∷ []) self.now }
     {
         match self.rest.split_first() {
-            Some((token, _)) => word_place(token, word).is_some(),
+            Some((token, _)) => word_position(token, word).is_some(),
             None => false,
         }
     }
@@ -110,7 +110,7 @@ impl<'t, 's> Cursor<'t, 's> {
         ensures { result ≡ starts (of_symbol symbol ∷ []) self.now }
     {
         match self.rest.split_first() {
-            Some((token, _)) => symbol_place(token, symbol).is_some(),
+            Some((token, _)) => symbol_position(token, symbol).is_some(),
             None => false,
         }
     }
@@ -144,7 +144,7 @@ impl<'t, 's> Cursor<'t, 's> {
         let Some(token) = self.rest.first() else {
             return Err(ParseRefusal::NotBuilt);
         };
-        let Some(pos) = word_place(token, word) else {
+        let Some(pos) = word_position(token, word) else {
             return Err(ParseRefusal::NotBuilt);
         };
         self.rest = &self.rest[1..];
@@ -158,7 +158,7 @@ impl<'t, 's> Cursor<'t, 's> {
         let Some(token) = self.rest.first() else {
             return Err(ParseRefusal::NotBuilt);
         };
-        let Some(pos) = symbol_place(token, symbol) else {
+        let Some(pos) = symbol_position(token, symbol) else {
             return Err(ParseRefusal::NotBuilt);
         };
         self.rest = &self.rest[1..];

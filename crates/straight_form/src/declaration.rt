@@ -31,7 +31,8 @@ fn access_type(alloc: Global, tokens: &mut Cursor<'_, '_>) -> Result<Item, Parse
     })
 }
 
-/// `procedure` id `is` `new` Ada `.` Unchecked_Deallocation `(` Integer `,` id `)` `;` (Ada 2012, 12.3 and 13.11.2).
+/// `procedure` id `is` `new` Ada `.` Unchecked_Deallocation `(` Integer `,` id `)` `;` (Ada 2012,
+/// 12.3 and 13.11.2).
 #[tactic(auto, unfolding(crate::specs::Readers::instance, crate::specs::Readers::actuals))]
 fn instance(alloc: Global, tokens: &mut Cursor<'_, '_>) -> Result<Item, ParseRefusal>
     ensures { Reads (readers.instance tokens.old) result tokens.new }

@@ -8,7 +8,8 @@ use thiserror::Error;
 /// Why no tree comes of the tokens of a file.
 #[derive(Clone, Copy, Debug, PartialEq, Eq, Error)]
 pub enum ParseRefusal {
-    /// The tokens aren't in the straight-line form (`docs/LANGUAGE.md`), as the end of the file alone.
+    /// The tokens aren't in the straight-line form (`docs/LANGUAGE.md`), as the end of the file
+    /// alone.
     #[error("form not built")]
     NotBuilt,
     /// There is too little memory for the tree.

@@ -11,7 +11,7 @@ use ada_lexer::{Reserved, Symbol};
 use spark_base::Pos;
 use std::alloc::Global;
 
-/// The place of a name.
+/// The position of a name.
 fn name_pos(name: &Name) -> Pos
     ensures { result ≡ readers.name_pos name.now }
 {

@@ -1,4 +1,4 @@
-//! The tree of a source in the straight-line form, with the place of each of its tokens.
+//! The tree of a source in the straight-line form, with the position of each of its tokens.
 //!
 //! `docs/LANGUAGE.md`, "The straight-line form", has the grammar.
 
@@ -6,7 +6,7 @@ use crate::word::Word;
 use spark_base::{Listed, Pos};
 
 /// An identifier, as it is written (Ada 2012, 2.3).
-#[derive(Debug, Drop)]
+#[derive(Drop)]
 pub struct Identifier {
     /// Its first byte.
     pub pos: Pos,
@@ -14,9 +14,9 @@ pub struct Identifier {
     pub text: Word,
 }
 
-/// `with` Ada `.` Unchecked_Deallocation `;` `procedure` id `is` {item} `begin` stmt {stmt} `end` id `;`
-/// (Ada 2012, 10.1.1, 10.1.2 and 6.3).
-#[derive(Debug, Drop)]
+/// `with` Ada `.` Unchecked_Deallocation `;` `procedure` id `is` {item} `begin` stmt {stmt} `end`
+/// id `;` (Ada 2012, 10.1.1, 10.1.2 and 6.3).
+#[derive(Drop)]
 pub struct SourceUnit {
     /// `with`
     pub pos: Pos,
@@ -51,7 +51,7 @@ pub struct SourceUnit {
 }
 
 /// A declaration (Ada 2012, 3.11).
-#[derive(Debug, Drop)]
+#[derive(Drop)]
 pub enum Item {
     /// `type` id `is` `access` Integer `;` (Ada 2012, 3.10)
     AccessType {
@@ -68,7 +68,8 @@ pub enum Item {
         /// `;`
         end: Pos,
     },
-    /// `procedure` id `is` `new` Ada `.` Unchecked_Deallocation `(` Integer `,` id `)` `;` (Ada 2012, 12.3 and 13.11.2)
+    /// `procedure` id `is` `new` Ada `.` Unchecked_Deallocation `(` Integer `,` id `)` `;` (Ada
+    /// 2012, 12.3 and 13.11.2)
     Instance {
         /// `procedure`
         pos: Pos,
@@ -99,7 +100,7 @@ pub enum Item {
     },
     /// id {`,` id} `:` id `;` (Ada 2012, 3.3.1)
     Objects {
-        /// The place of the first identifier.
+        /// The position of the first identifier.
         pos: Pos,
         /// The first identifier.
         first: Identifier,
@@ -115,7 +116,7 @@ pub enum Item {
 }
 
 /// `,` id
-#[derive(Debug, Drop)]
+#[derive(Drop)]
 pub enum NextIdentifier {
     /// `,` id
     After {
@@ -127,7 +128,7 @@ pub enum NextIdentifier {
 }
 
 /// A statement (Ada 2012, 5.1).
-#[derive(Debug, Drop)]
+#[derive(Drop)]
 pub enum Stmt {
     /// `null` `;` (Ada 2012, 5.1)
     Null {
@@ -138,7 +139,7 @@ pub enum Stmt {
     },
     /// name `:=` value `;` (Ada 2012, 5.2)
     Assign {
-        /// The place of the target.
+        /// The position of the target.
         pos: Pos,
         /// The target.
         target: Name,
@@ -151,7 +152,7 @@ pub enum Stmt {
     },
     /// id `(` id `)` `;` (Ada 2012, 6.4)
     Call {
-        /// The place of the first identifier.
+        /// The position of the first identifier.
         pos: Pos,
         /// The instance that is called.
         callee: Identifier,
@@ -167,18 +168,18 @@ pub enum Stmt {
 }
 
 /// A name (Ada 2012, 4.1).
-#[derive(Debug, Drop)]
+#[derive(Drop)]
 pub enum Name {
     /// id
     Object {
-        /// The place of the identifier.
+        /// The position of the identifier.
         pos: Pos,
         /// The identifier.
         object: Identifier,
     },
     /// id `.` `all` (Ada 2012, 4.1(5))
     Designated {
-        /// The place of the identifier.
+        /// The position of the identifier.
         pos: Pos,
         /// The access object.
         object: Identifier,
@@ -190,7 +191,7 @@ pub enum Name {
 }
 
 /// The source of an assignment (Ada 2012, 4.4).
-#[derive(Debug, Drop)]
+#[derive(Drop)]
 pub enum Value {
     /// A number (Ada 2012, 2.4)
     Number {
@@ -206,7 +207,7 @@ pub enum Value {
     },
     /// name
     Named {
-        /// The place of the name.
+        /// The position of the name.
         pos: Pos,
         /// The name.
         name: Name,

@@ -10,10 +10,19 @@ use crate::declaration::item;
 use crate::fixed::generic;
 use crate::refusal::ParseRefusal;
 use crate::statement::statement;
-use crate::tree::{Item, SourceUnit, Stmt};
+use crate::tree::{Identifier, Item, SourceUnit, Stmt};
 use ada_lexer::{Reserved, Symbol, Token};
-use spark_base::Listed;
+use spark_base::{Listed, Pos};
 use std::alloc::Global;
+
+/// Ada `.` Unchecked_Deallocation
+type Generic = (Identifier, (Pos, Identifier));
+
+/// `end` id `;`
+type Ending = (Pos, (Identifier, Pos));
+
+/// `begin` stmt {stmt}, and the ending.
+type Body = (Pos, (Stmt, (Listed<Stmt>, Ending)));
 
 /// Whether a declaration may begin with the next token.
 #[tactic(auto, using(crate::proofs::FirstKinds::in_three))]
@@ -55,25 +64,56 @@ fn statements(alloc: Global, tokens: &mut Cursor<'_, '_>) -> Result<Listed<Stmt>
     Ok(all)
 }
 
-/// `with` Ada `.` Unchecked_Deallocation `;` `procedure` id `is` {item} `begin` stmt {stmt} `end` id `;`
-#[tactic(auto, unfolding(crate::specs::Readers::unit, crate::specs::Readers::context, crate::specs::Readers::ending))]
-fn unit(alloc: Global, tokens: &mut Cursor<'_, '_>) -> Result<SourceUnit, ParseRefusal>
-    ensures { Reads (readers.unit tokens.old) result tokens.new }
+/// `with` Ada `.` Unchecked_Deallocation `;`
+#[tactic(auto, unfolding(crate::specs::Readers::context))]
+fn context(
+    alloc: Global,
+    tokens: &mut Cursor<'_, '_>,
+) -> Result<(Pos, (Generic, Pos)), ParseRefusal>
+    ensures { Reads (readers.context tokens.old) result tokens.new }
 {
     let pos = tokens.word(Reserved::KwWith)?;
-    let (ada, (dot, deallocation)) = generic(alloc, tokens)?;
+    let generic = generic(alloc, tokens)?;
     let with_end = tokens.symbol(Symbol::Semicolon)?;
-    let procedure = tokens.word(Reserved::KwProcedure)?;
-    let name = tokens.identifier(alloc)?;
-    let is = tokens.word(Reserved::KwIs)?;
-    let items = items(alloc, tokens)?;
-    let begin = tokens.word(Reserved::KwBegin)?;
-    let first = statement(alloc, tokens)?;
-    let rest = statements(alloc, tokens)?;
+    Ok((pos, (generic, with_end)))
+}
+
+/// `end` id `;`
+#[tactic(auto, unfolding(crate::specs::Readers::ending))]
+fn ending(alloc: Global, tokens: &mut Cursor<'_, '_>) -> Result<Ending, ParseRefusal>
+    ensures { Reads (readers.ending tokens.old) result tokens.new }
+{
     let end = tokens.word(Reserved::KwEnd)?;
     let closing = tokens.identifier(alloc)?;
     let unit_end = tokens.symbol(Symbol::Semicolon)?;
-    Ok(SourceUnit {
+    Ok((end, (closing, unit_end)))
+}
+
+/// `begin` stmt {stmt} `end` id `;`
+#[tactic(auto, unfolding(crate::specs::Readers::body))]
+fn body(alloc: Global, tokens: &mut Cursor<'_, '_>) -> Result<Body, ParseRefusal>
+    ensures { Reads (readers.body tokens.old) result tokens.new }
+{
+    let begin = tokens.word(Reserved::KwBegin)?;
+    let first = statement(alloc, tokens)?;
+    let rest = statements(alloc, tokens)?;
+    let ending = ending(alloc, tokens)?;
+    Ok((begin, (first, (rest, ending))))
+}
+
+/// The unit of a context clause, `procedure` id `is` {item}, and what stands behind them.
+fn made_unit(
+    context: (Pos, (Generic, Pos)),
+    front: (Pos, (Identifier, Pos)),
+    items: Listed<Item>,
+    body: Body,
+) -> SourceUnit
+    ensures { result ≡ readers.make_unit (context, (front.0, (front.1.0, (front.1.1, (items, body))))) }
+{
+    let (pos, ((ada, (dot, deallocation)), with_end)) = context;
+    let (procedure, (name, is)) = front;
+    let (begin, (first, (rest, (end, (closing, unit_end))))) = body;
+    SourceUnit {
         pos,
         ada,
         dot,
@@ -89,7 +129,22 @@ fn unit(alloc: Global, tokens: &mut Cursor<'_, '_>) -> Result<SourceUnit, ParseR
         end,
         closing,
         unit_end,
-    })
+    }
+}
+
+/// `with` Ada `.` Unchecked_Deallocation `;` `procedure` id `is` {item} `begin` stmt {stmt} `end`
+/// id `;`
+#[tactic(auto, unfolding(crate::specs::Readers::unit))]
+fn unit(alloc: Global, tokens: &mut Cursor<'_, '_>) -> Result<SourceUnit, ParseRefusal>
+    ensures { Reads (readers.unit tokens.old) result tokens.new }
+{
+    let context = context(alloc, tokens)?;
+    let procedure = tokens.word(Reserved::KwProcedure)?;
+    let name = tokens.identifier(alloc)?;
+    let is = tokens.word(Reserved::KwIs)?;
+    let items = items(alloc, tokens)?;
+    let body = body(alloc, tokens)?;
+    Ok(made_unit(context, (procedure, (name, is)), items, body))
 }
 
 /// source = unit EndOfFile
@@ -102,9 +157,11 @@ fn source(alloc: Global, tokens: &mut Cursor<'_, '_>) -> Result<SourceUnit, Pars
     Ok(unit)
 }
 
-/// The tree of a source in the straight-line form (`docs/LANGUAGE.md`), from the tokens of its file, as a list of one unit.
+/// The tree of a source in the straight-line form (`docs/LANGUAGE.md`), from the tokens of its
+/// file, as a list of one unit.
 ///
-/// It is refused as `NotBuilt` where no such tree is spelled by the tokens, as where the end of the file stands alone.
+/// It is refused as `NotBuilt` where no such tree is spelled by the tokens, as where the end of the
+/// file stands alone.
 pub fn parse(alloc: Global, tokens: &[Token<'_>]) -> Result<Vec<SourceUnit>, ParseRefusal>
     requires { EndsOnce (kinds_of tokens.now) }
     ensures found { IfOk result (λ units. IsOne (λ unit. Spells unit tokens.now) units.items) }

@@ -7,7 +7,7 @@ use Rattle.std.specs.List.{AllByRecursion}
 use Rattle.std.specs.List.Sorted.{IsStrictlySortedBy}
 use Rattle.std.specs.BTreeSet.{insert_key}
 use Rattle.std.proofs.lemmas.Map.Keys.{sorted_head, sorted_tail}
-use Rattle.place_names.specs.Lists.{Has}
+use Rattle.spark_base.specs.Lists.{Has}
 use Rattle.place_names.specs.Reports.{Report, report_cmp, IsAscending, IsReportList}
 use Rattle.straight_line.specs.declared.path.Place.{Place}
 use Rattle.straight_line.specs.declared.path.Place.TheVariants.{Object, Designated}
@@ -15,10 +15,10 @@ use Rattle.straight_line.specs.declared.reports.Entry.{Entry}
 use Rattle.straight_line.specs.declared.reports.PathReport.{PathReport}
 use Rattle.straight_line.specs.Reported.{printed_name, report_of}
 use Rattle.straight_line.specs.Within.{root_of}
-use Rattle.straight_line.specs.Marks as walk
-use Rattle.straight_line.specs.Marks.{entry_cmp, report_in, IsNamed, Adds}
-use Rattle.straight_line.proofs.Lists.{Has-map, Has-map_from}
-use Rattle.straight_line.proofs.Ordered.{entry_equal, entry_less}
+use Rattle.straight_line.specs.MovedFlags as walk
+use Rattle.straight_line.specs.MovedFlags.{entry_cmp, report_in, IsNamed, Adds}
+use Rattle.spark_base.proofs.Lists.{Has-map, Has-map_from}
+use Rattle.straight_line.proofs.Ordered.{entry_equal, entry_order}
 
 abbrev pub reported : Entry → Report
 reported e = report_of (report_in e)
@@ -160,7 +160,7 @@ ascending objects (x ∷ xs) named sorted = (
   λ r h. (
       let e = has_entry xs r h in
       let less = at_each (λ y. entry_cmp x y ≡ Less) xs e.0 (sorted_head entry_cmp x xs sorted) e.1 in
-      ap (report_cmp (printed_name objects) (reported x)) (sym e.2) ∙ entry_less objects x e.0 (named x (inl refl)) (named e.0 (inr e.1)) less),
+      ap (report_cmp (printed_name objects) (reported x)) (sym e.2) ∙ sym (entry_order objects x e.0 (named x (inl refl)) (named e.0 (inr e.1))) ∙ less),
   ascending objects xs (λ e h. named e (inr h)) (sorted_tail entry_cmp x xs sorted),
 )
 

@@ -2,12 +2,14 @@
 use Rattle.std.proofs.Common.{◌≡◌, ◌⊎◌, inl, inr, List, [], ◌∷◌, ◌++◌, map, Some, refl, sym, ap, ◌∙◌, subst, append_assoc}
 use Rattle.std.proofs.lemmas.List.{map-append}
 use Rattle.std.proofs.lemmas.List.Sums.{fold-append}
-use Rattle.place_names.specs.Lists.{Has}
-use Rattle.place_names.specs.Acts.{Act, Placed}
-use Rattle.place_names.specs.Facts.{Fact, effect, facts_after}
+use Rattle.spark_base.specs.Lists.{Has}
+use Rattle.place_names.specs.declared.act.Act.{Act}
+use Rattle.place_names.specs.declared.act.Placed.{Placed}
+use Rattle.place_names.specs.declared.fact.Fact.{Fact}
+use Rattle.place_names.specs.Facts.{effect, facts_after}
 use Rattle.place_names.specs.Rules.{Forbidden, forbids}
 use Rattle.place_names.specs.Reports.{Report, Gives, report_at}
-use Rattle.straight_line.proofs.Lists.{ends, last_same}
+use Rattle.spark_base.proofs.Lists.{ends, last_same}
 
 abbrev pub acts_of : List Placed → List Act
 acts_of acts = map (λ (p : Placed). p.act) acts

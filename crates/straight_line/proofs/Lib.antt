@@ -6,11 +6,10 @@ pub mod Turns
 pub mod Sentences
 -- the scope end, one object at a time
 pub mod ScopeEnd
--- membership, and what one more act gives
-pub mod Lists
+-- what one more act gives
 pub mod Gives
--- the marks stand for the facts
-pub mod Marked
+-- the moved flags stand for the facts
+pub mod Flagged
 pub mod Tested
 -- the entries are in the order of reports
 pub mod Ordered

@@ -14,8 +14,8 @@ object_count-append known rest = sum_by-append _ known rest
 pub IsNumbered-grow : (m n : ℕ) (kind : Declared) → m ≤ n → IsNumbered m kind → IsNumbered n kind
 IsNumbered-grow m n (Object x mark) h is = (is.0, omega arith)
 IsNumbered-grow m n Procedure h is = tt
-IsNumbered-grow m n (AccessType place) h is = tt
-IsNumbered-grow m n (Instance place) h is = tt
+IsNumbered-grow m n (AccessType rank) h is = tt
+IsNumbered-grow m n (Instance rank) h is = tt
 
 pub AreNumbered-grow : (m n : ℕ) (known : Declarations) → m ≤ n → AreNumbered m known → AreNumbered n known
 AreNumbered-grow m n [] h are = tt
@@ -58,14 +58,14 @@ GoWith-object known objects word text mark go room =
 none_counted : (word : List ℕ) (kind : Declared) → IsOther kind → object_count ((word, kind) ∷ []) ≡ 0
 none_counted word (Object n mark) other = absurd other
 none_counted word Procedure other = refl
-none_counted word (AccessType place) other = refl
-none_counted word (Instance place) other = refl
+none_counted word (AccessType rank) other = refl
+none_counted word (Instance rank) other = refl
 
 other_numbered : (n : ℕ) (kind : Declared) → IsOther kind → IsNumbered n kind
 other_numbered n (Object x mark) other = absurd other
 other_numbered n Procedure other = tt
-other_numbered n (AccessType place) other = tt
-other_numbered n (Instance place) other = tt
+other_numbered n (AccessType rank) other = tt
+other_numbered n (Instance rank) other = tt
 
 -- another declaration
 pub GoWith-other : (known : Declarations) (objects : List (List ℕ)) (word : List ℕ) (kind : Declared)

@@ -5,13 +5,13 @@ use Rattle.std.proofs.lemmas.List.{append-nil, reverse-append}
 use Rattle.std.proofs.lemmas.Grind.{take_at_read}
 use Rattle.std.proofs.lemmas.Option.{slice_get-get_or}
 use Rattle.spark_base.specs.declared.position.Pos.{Pos}
-use Rattle.place_names.specs.Acts.{Placed}
+use Rattle.place_names.specs.declared.act.Placed.{Placed}
 use Rattle.straight_line.specs.declared.kind.Declared.{Declared}
 use Rattle.straight_line.specs.Declarations.{Declarations}
 use Rattle.straight_line.specs.PathActs.{end_of, scope_end}
 use Rattle.straight_line.specs.Steps.{IsNumbered, AreNumbered, ends_at}
 
--- the declaration at a place is the last of the first ones
+-- the declaration with a rank is the last of the first ones
 record Last (known : Declarations) (i : ℕ) : Type 0 where
   entry : List ℕ × Declared
   there : slice_get known i ≡ Some entry
@@ -46,7 +46,7 @@ one_ended pos known left whole before after is some inside grown =
     ∙ sym (append_assoc before (ends_at pos known (left - 1)) (scope_end pos (take (left - 1) known)))
     ∙ ap (λ acts. acts ++ scope_end pos (take (left - 1) known)) (sym grown)
 
--- a declaration at a place is numbered
+-- a declaration with a rank is numbered
 pub IsNumbered-at : (n : ℕ) (known : Declarations) (i : ℕ) (kind : Declared) → AreNumbered n known
     → option_map (λ e. e.1) (slice_get known i) ≡ Some kind → IsNumbered n kind
 IsNumbered-at n [] i kind are at = cc

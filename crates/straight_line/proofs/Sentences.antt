@@ -1,4 +1,5 @@
--- The sentences of the form hold exactly where each declaration may follow those before it, and each statement is well.
+-- The sentences of the form hold exactly where each declaration may follow those before it, and
+-- each statement is well.
 use Rattle.std.proofs.Common.{◌≡◌, ℕ, ◌≤◌, Bool, true, false, ◌&&◌, List, [], ◌∷◌, ◌++◌, length, refl, sym, ap, subst, ◌∙◌, arith, append_assoc}
 use Rattle.std.proofs.lemmas.List.{append-nil}
 use Rattle.std.proofs.lemmas.Bool.{ltb-true, lt-ltb, false≢true}
@@ -73,16 +74,16 @@ room_left : (known : Declarations) (word : List ℕ) (kind : Declared) → objec
 room_left known word (Object n mark) few room =
     omega (arith, object_count-append known ((word, Object n mark) ∷ []), ltb-true (object_count known) 512 room)
 room_left known word Procedure few room = omega (arith, object_count-append known ((word, Procedure) ∷ []))
-room_left known word (AccessType place) few room = omega (arith, object_count-append known ((word, AccessType place) ∷ []))
-room_left known word (Instance place) few room = omega (arith, object_count-append known ((word, Instance place) ∷ []))
+room_left known word (AccessType rank) few room = omega (arith, object_count-append known ((word, AccessType rank) ∷ []))
+room_left known word (Instance rank) few room = omega (arith, object_count-append known ((word, Instance rank) ∷ []))
 
 room_there : (known : Declarations) (word : List ℕ) (kind : Declared) → object_count (known ++ (word, kind) ∷ []) ≤ 512
     → has_room known kind ≡ true
 room_there known word (Object n mark) few =
     lt-ltb (object_count known) 512 (omega (arith, object_count-append known ((word, Object n mark) ∷ []), few))
 room_there known word Procedure few = refl
-room_there known word (AccessType place) few = refl
-room_there known word (Instance place) few = refl
+room_there known word (AccessType rank) few = refl
+room_there known word (Instance rank) few = refl
 
 -- The sentences on declarations that stand behind others.
 record Sentences (known es : Declarations) : Type 0 where

@@ -21,7 +21,7 @@ use Rattle.straight_form.specs.declared.tree.Value.TheVariants.{Named, Allocator
 use Rattle.straight_form.specs.declared.tree.Stmt.TheVariants.{Assign, Call}
 use Rattle.straight_form.specs.declared.tree.SourceUnit.{SourceUnit}
 use Rattle.place_names.specs.declared.selector.Sel.TheVariants.{Deref}
-use Rattle.place_names.specs.Acts.{Read, Write, Move, Free, EndScope, Return}
+use Rattle.place_names.specs.declared.act.Act.TheVariants.{Read, Write, Move, Free, EndScope, Return}
 use Rattle.straight_line.specs.Declarations.{declarations, object_texts}
 use Rattle.straight_line.specs.Form.{IsStraightLine}
 use Rattle.straight_line.specs.PathActs.{placed, path_acts}
@@ -29,7 +29,7 @@ use Rattle.straight_line.specs.PathActs.{placed, path_acts}
 at : ℕ → ℕ → Pos
 at line column = record { file = 0; line = line; column = column }
 
--- the place of a token that no act stands at
+-- the position of a token that no act stands at
 elsewhere : Pos
 elsewhere = at 1 1
 

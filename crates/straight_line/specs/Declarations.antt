@@ -1,4 +1,5 @@
--- What the identifiers of a source in the straight-line form are declared as (docs/LANGUAGE.md, "The straight-line form").
+-- What the identifiers of a source in the straight-line form are declared as (docs/LANGUAGE.md,
+-- "The straight-line form").
 use Rattle.std.specs.Prelude.{ℕ, ◌+◌, Bool, true, false, List, [], ◌∷◌, ◌++◌, map, flat_map, length, count_by, nat_eq, Option, Some, None, if◌then◌else◌, codes}
 use Rattle.std.specs.Char.{to_ascii_lowercase}
 use Rattle.std.specs.Cmp.Lexicographic.{pointwise}
@@ -21,30 +22,32 @@ folded id = map to_ascii_lowercase id.text
 abbrev pub same : List ℕ → List ℕ → Bool
 same a b = pointwise nat_eq a b
 
--- The declarations up to a place of the source, the earliest first: each identifier in lower case, and what it is.
+-- The declarations up to a position of the source, the earliest first: each identifier in lower
+-- case, and what it is.
 abbrev pub Declarations : Type 0
 Declarations = List (List ℕ × Declared)
 
--- What an identifier is declared as, if it is declared up to that place.
+-- What an identifier is declared as, if it is declared up to that position.
 abbrev pub meaning : Declarations → Identifier → Option Declared
 meaning known id = lookup (same (folded id)) known
 
--- The access type that an identifier names, by its place. The procedure has place 0, so 0 says that it names none.
-abbrev pub access_place : Option Declared → ℕ
-access_place (Some (AccessType place)) = place
-access_place (Some Procedure) = 0
-access_place (Some (Instance place)) = 0
-access_place (Some (Object n mark)) = 0
-access_place None = 0
+-- The access type that an identifier names, by its rank. The procedure has rank 0, so 0 says that
+-- it names none.
+abbrev pub access_rank : Option Declared → ℕ
+access_rank (Some (AccessType rank)) = rank
+access_rank (Some Procedure) = 0
+access_rank (Some (Instance rank)) = 0
+access_rank (Some (Object n mark)) = 0
+access_rank None = 0
 
 -- The type that a mark names: Integer, or an access type that is declared earlier.
 abbrev pub mark_of : Declarations → Identifier → Mark
-mark_of known id = if same (folded id) (codes "integer") then Integer else Access (access_place (meaning known id))
+mark_of known id = if same (folded id) (codes "integer") then Integer else Access (access_rank (meaning known id))
 
 abbrev pub is_object : Declared → Bool
 is_object Procedure = false
-is_object (AccessType place) = false
-is_object (Instance place) = false
+is_object (AccessType rank) = false
+is_object (Instance rank) = false
 is_object (Object n mark) = true
 
 abbrev pub object_count : Declarations → ℕ
@@ -58,11 +61,12 @@ numbered n mark (id ∷ rest) = (folded id, Object (n + 1) mark) ∷ numbered (n
 abbrev pub next_name : NextIdentifier → Identifier
 next_name (After pos name) = name
 
--- What a declaration declares behind those that are known. Objects are numbered from 1 in the order of their identifiers.
+-- What a declaration declares behind those that are known. Objects are numbered from 1 in the order
+-- of their identifiers.
 abbrev pub declared_by : Declarations → Item → Declarations
 declared_by known (item.AccessType pos name is access designated end) = (folded name, AccessType (length known)) ∷ []
 declared_by known (item.Instance pos name is new ada dot deallocation left designated comma access right end) =
-    (folded name, Instance (access_place (meaning known access))) ∷ []
+    (folded name, Instance (access_rank (meaning known access))) ∷ []
 declared_by known (item.Objects pos first rest colon mark end) =
     numbered (object_count known) (mark_of known mark) (first ∷ map next_name rest)
 

@@ -1,4 +1,5 @@
--- Which sources have the straight-line form, beyond the grammar (docs/LANGUAGE.md, "The straight-line form").
+-- Which sources have the straight-line form, beyond the grammar (docs/LANGUAGE.md, "The
+-- straight-line form").
 use Rattle.std.specs.Prelude.{ℕ, ◌≤◌, Bool, true, false, not, ◌&&◌, ◌||◌, List, [], ◌∷◌, ◌++◌, length, nat_eq, nat_le, Option, Some, None, is_none, IsTrue, codes}
 use Rattle.std.specs.List.{list_all}
 use Rattle.std.specs.Map.{lookup}
@@ -29,28 +30,28 @@ abbrev pub may_name_procedure : List ℕ → Bool
 may_name_procedure word = not (same word (codes "natural") || same word (codes "positive") || same word (codes "boolean")
     || same word (codes "false") || same word (codes "true"))
 
--- An object's mark is Integer or an access type, and the last identifier of an instance is an access type. Each is
--- declared before this use, and place 0 says that there is no such declaration.
+-- An object's mark is Integer or an access type, and the last identifier of an instance is an
+-- access type. Each is declared before this use, and rank 0 says that there is no such declaration.
 abbrev pub has_mark : Mark → Bool
 has_mark Integer = true
-has_mark (Access place) = not (nat_eq place 0)
+has_mark (Access rank) = not (nat_eq rank 0)
 
 abbrev pub has_type : Declared → Bool
 has_type Procedure = true
-has_type (AccessType place) = true
-has_type (Instance place) = not (nat_eq place 0)
+has_type (AccessType rank) = true
+has_type (Instance rank) = not (nat_eq rank 0)
 has_type (Object n mark) = has_mark mark
 
 abbrev pub object_type : Option Declared → Option Mark
 object_type (Some (Object n mark)) = Some mark
 object_type (Some Procedure) = None
-object_type (Some (AccessType place)) = None
-object_type (Some (Instance place)) = None
+object_type (Some (AccessType rank)) = None
+object_type (Some (Instance rank)) = None
 object_type None = None
 
 -- `.all` follows an object of an access type, and what that designates is Integer.
 abbrev pub designated_type : Option Mark → Option Mark
-designated_type (Some (Access place)) = Some Integer
+designated_type (Some (Access rank)) = Some Integer
 designated_type (Some Integer) = None
 designated_type None = None
 
@@ -61,21 +62,21 @@ type_of known (name.Designated pos id dot all) = designated_type (object_type (m
 
 abbrev pub is_mark : Mark → Option Mark → Bool
 is_mark Integer (Some Integer) = true
-is_mark (Access place) (Some (Access other)) = nat_eq place other
+is_mark (Access rank) (Some (Access other)) = nat_eq rank other
 is_mark Integer (Some (Access other)) = false
-is_mark (Access place) (Some Integer) = false
+is_mark (Access rank) (Some Integer) = false
 is_mark mark None = false
 
--- An assignment gives Integer a number or a name that is Integer. It gives an access object `null`, an allocator, or an
--- object of the same access type.
+-- An assignment gives Integer a number or a name that is Integer. It gives an access object `null`,
+-- an allocator, or an object of the same access type.
 abbrev pub takes : Declarations → Mark → Value → Bool
 takes known mark (Named pos source) = is_mark mark (type_of known source)
 takes known Integer (Number pos number) = true
 takes known Integer (NullAccess pos) = false
 takes known Integer (Allocator pos designated apostrophe left number_pos number right) = false
-takes known (Access place) (Number pos number) = false
-takes known (Access place) (NullAccess pos) = true
-takes known (Access place) (Allocator pos designated apostrophe left number_pos number right) = true
+takes known (Access rank) (Number pos number) = false
+takes known (Access rank) (NullAccess pos) = true
+takes known (Access rank) (Allocator pos designated apostrophe left number_pos number right) = true
 
 abbrev pub assigns : Declarations → Option Mark → Value → Bool
 assigns known (Some mark) value = takes known mark value
@@ -83,9 +84,9 @@ assigns known None value = false
 
 -- A call names an instance and an object of its access type.
 abbrev pub frees : Option Declared → Option Mark → Bool
-frees (Some (Instance place)) actual = is_mark (Access place) actual
+frees (Some (Instance rank)) actual = is_mark (Access rank) actual
 frees (Some Procedure) actual = false
-frees (Some (AccessType place)) actual = false
+frees (Some (AccessType rank)) actual = false
 frees (Some (Object n mark)) actual = false
 frees None actual = false
 

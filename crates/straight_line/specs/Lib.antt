@@ -1,5 +1,5 @@
 -- what the public contracts rest on
-pub mod Deeds
+pub mod StraightActs
 pub mod Within
 pub mod Declarations
 pub mod Form
@@ -7,4 +7,4 @@ pub mod PathActs
 pub mod Reported
 -- what the functions inside promise each other
 pub mod Steps
-pub mod Marks
+pub mod MovedFlags

@@ -1,4 +1,5 @@
--- The acts of the one control path of a source in the straight-line form (docs/LANGUAGE.md, "The straight-line form"; docs/RULES.md, "Acts").
+-- The acts of the one control path of a source in the straight-line form (docs/LANGUAGE.md, "The
+-- straight-line form"; docs/RULES.md, "Acts").
 use Rattle.std.specs.Prelude.{ℕ, false, List, [], ◌∷◌, ◌++◌, reverse, flat_map, Option, Some, None}
 use Rattle.spark_base.specs.declared.position.Pos.{Pos}
 use Rattle.straight_form.specs.declared.tree.Identifier.{Identifier}
@@ -9,11 +10,13 @@ use Rattle.straight_form.specs.declared.tree.Value.TheVariants.{Number, NullAcce
 use Rattle.straight_form.specs.declared.tree.Stmt.{Stmt}
 use Rattle.straight_form.specs.declared.tree.Stmt.TheVariants.{Null, Assign, Call}
 use Rattle.straight_form.specs.declared.tree.SourceUnit.{SourceUnit}
-use Rattle.place_names.specs.Acts.{Act, Read, Write, Move, Free, EndScope, Return, Placed}
+use Rattle.place_names.specs.declared.act.Act.{Act}
+use Rattle.place_names.specs.declared.act.Act.TheVariants.{Read, Write, Move, Free, EndScope, Return}
+use Rattle.place_names.specs.declared.act.Placed.{Placed}
 use Rattle.straight_line.specs.declared.kind.Mark.TheVariants.{Integer, Access}
 use Rattle.straight_line.specs.declared.kind.Declared.{Declared}
 use Rattle.straight_line.specs.declared.kind.Declared.TheVariants.{Procedure, AccessType, Instance, Object}
-use Rattle.straight_line.specs.Deeds.{object_name, designated_name}
+use Rattle.straight_line.specs.StraightActs.{object_name, designated_name}
 use Rattle.straight_line.specs.Declarations.{Declarations, meaning, declarations}
 use Rattle.straight_line.specs.Form.{statements}
 
@@ -24,18 +27,18 @@ placed pos act = record { pos = pos; act = act }
 abbrev pub number_of : Option Declared → ℕ
 number_of (Some (Object n mark)) = n
 number_of (Some Procedure) = 0
-number_of (Some (AccessType place)) = 0
-number_of (Some (Instance place)) = 0
+number_of (Some (AccessType rank)) = 0
+number_of (Some (Instance rank)) = 0
 number_of None = 0
 
--- An Integer object as a source is read. An access object as a source is moved: its type is the access type itself, so its
--- one access part is the whole object.
+-- An Integer object as a source is read. An access object as a source is moved: its type is the
+-- access type itself, so its one access part is the whole object.
 abbrev pub object_source : Option Declared → Act
 object_source (Some (Object n Integer)) = Read (object_name n)
-object_source (Some (Object n (Access place))) = Move (object_name n) ([] ∷ [])
+object_source (Some (Object n (Access rank))) = Move (object_name n) ([] ∷ [])
 object_source (Some Procedure) = Read (object_name 0)
-object_source (Some (AccessType place)) = Read (object_name 0)
-object_source (Some (Instance place)) = Read (object_name 0)
+object_source (Some (AccessType rank)) = Read (object_name 0)
+object_source (Some (Instance rank)) = Read (object_name 0)
 object_source None = Read (object_name 0)
 
 -- What an access object designates is Integer, and is read.
@@ -65,18 +68,18 @@ statement_acts known (Call pos callee left actual right end) = free_act known ac
 
 -- The scope of an access object ends. The end of the scope of an Integer object is no act.
 abbrev pub end_of : Pos → Declared → List Placed
-end_of pos (Object n (Access place)) = placed pos (EndScope n false) ∷ []
+end_of pos (Object n (Access rank)) = placed pos (EndScope n false) ∷ []
 end_of pos (Object n Integer) = []
 end_of pos Procedure = []
-end_of pos (AccessType place) = []
-end_of pos (Instance place) = []
+end_of pos (AccessType rank) = []
+end_of pos (Instance rank) = []
 
 -- The scopes end in reverse order of declaration.
 abbrev pub scope_end : Pos → Declarations → List Placed
 scope_end pos known = flat_map (λ e. end_of pos e.1) (reverse known)
 
--- The acts of the path: those of the statements in order, the scope end, and the return of a procedure without formals.
--- Both of these stand at the word `end`. A declaration has no act.
+-- The acts of the path: those of the statements in order, the scope end, and the return of a
+-- procedure without formals. Both of these stand at the word `end`. A declaration has no act.
 unfoldable pub path_acts : SourceUnit → List Placed
 path_acts unit = flat_map (statement_acts (declarations unit)) (statements unit)
     ++ (scope_end unit.end (declarations unit) ++ placed unit.end (Return []) ∷ [])

@@ -5,7 +5,7 @@ use Rattle.place_names.specs.Names.{Name}
 use Rattle.place_names.specs.Printed.{printed}
 use Rattle.place_names.specs.Reports.{Report}
 use Rattle.straight_line.specs.declared.reports.PathReport.{PathReport}
-use Rattle.straight_line.specs.Deeds.{name_of}
+use Rattle.straight_line.specs.StraightActs.{name_of}
 
 -- An object is printed as its identifier is declared. Objects count from 1.
 abbrev pub object_text : List (List ℕ) → ℕ → List ℕ

@@ -6,14 +6,16 @@ use Rattle.spark_base.specs.declared.position.Pos.{Pos}
 use Rattle.straight_form.specs.declared.tree.Item.{Item}
 use Rattle.straight_form.specs.declared.tree.Stmt.{Stmt}
 use Rattle.straight_form.specs.declared.tree.SourceUnit.{SourceUnit}
-use Rattle.place_names.specs.Acts.{Act, Read, Move, Placed}
+use Rattle.place_names.specs.declared.act.Act.{Act}
+use Rattle.place_names.specs.declared.act.Act.TheVariants.{Read, Move}
+use Rattle.place_names.specs.declared.act.Placed.{Placed}
 use Rattle.straight_line.specs.declared.kind.Mark.{Mark}
 use Rattle.straight_line.specs.declared.kind.Mark.TheVariants.{Integer, Access}
 use Rattle.straight_line.specs.declared.kind.Declared.{Declared}
 use Rattle.straight_line.specs.declared.kind.Declared.TheVariants.{Procedure, AccessType, Instance, Object}
 use Rattle.straight_line.specs.declared.path.Place.{Place}
 use Rattle.straight_line.specs.declared.path.Place.TheVariants as place
-use Rattle.straight_line.specs.Deeds.{object_name, designated_name}
+use Rattle.straight_line.specs.StraightActs.{object_name, designated_name}
 use Rattle.straight_line.specs.Within.{IsObject}
 use Rattle.straight_line.specs.Declarations.{Declarations, folded, same, object_count, declared_by}
 use Rattle.straight_line.specs.Form.{may_be_declared, may_name_procedure, has_type, has_types, has_numbers_within, statements}
@@ -27,8 +29,8 @@ may_enter known word kind = is_none (lookup (same word) known) && (may_be_declar
 abbrev pub has_room : Declarations → Declared → Bool
 has_room known (Object n mark) = nat_lt (object_count known) 512
 has_room known Procedure = true
-has_room known (AccessType place) = true
-has_room known (Instance place) = true
+has_room known (AccessType rank) = true
+has_room known (Instance rank) = true
 
 abbrev pub may_follow : Declarations → List ℕ × Declared → Bool
 may_follow known e = has_room known e.1 && may_enter known e.0 e.1
@@ -46,15 +48,15 @@ items_follow known (item ∷ rest) = all_follow known (declared_by known item) &
 abbrev pub IsOther : Declared → Type 0
 IsOther (Object n mark) = ⊥
 IsOther Procedure = Unit {0}
-IsOther (AccessType place) = Unit {0}
-IsOther (Instance place) = Unit {0}
+IsOther (AccessType rank) = Unit {0}
+IsOther (Instance rank) = Unit {0}
 
 -- An object has one of the first n numbers.
 abbrev pub IsNumbered : ℕ → Declared → Type 0
 IsNumbered n (Object x mark) = IsObject n x
 IsNumbered n Procedure = Unit {0}
-IsNumbered n (AccessType place) = Unit {0}
-IsNumbered n (Instance place) = Unit {0}
+IsNumbered n (AccessType rank) = Unit {0}
+IsNumbered n (Instance rank) = Unit {0}
 
 abbrev pub AreNumbered : ℕ → Declarations → Type 0
 AreNumbered n [] = Unit {0}
@@ -86,6 +88,6 @@ declares_well unit =
 abbrev pub runs_well : Declarations → SourceUnit → Bool
 runs_well known unit = nat_lt (length unit.rest) 15000 && list_all (is_well known) (statements unit)
 
--- The scope end of the declaration at a place.
+-- The scope end of the declaration with a rank.
 abbrev pub ends_at : Pos → Declarations → ℕ → List Placed
-ends_at pos known place = flat_map (end_of pos) (option_to_list (option_map (λ e. e.1) (slice_get known place)))
+ends_at pos known rank = flat_map (end_of pos) (option_to_list (option_map (λ e. e.1) (slice_get known rank)))

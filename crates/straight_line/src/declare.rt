@@ -130,7 +130,7 @@ fn declare_item(
             Ok(declare_other(alloc, scope, name, kind, objects)?)
         }
         Item::Instance { name, access, .. } => {
-            let kind = Declared::Instance(scope.access_place(alloc, access)?);
+            let kind = Declared::Instance(scope.access_rank(alloc, access)?);
             Ok(declare_other(alloc, scope, name, kind, objects)?)
         }
         Item::Objects {

@@ -5,7 +5,7 @@ ghost use Rattle.straight_line.specs.declared.fault.Fault.TheVariants.{Memory};
 use std::alloc::{AllocError, AllocFailed};
 
 /// Why a source gives no path.
-#[derive(Clone, Copy, Debug, PartialEq, Eq)]
+#[derive(Clone, Copy, PartialEq, Eq)]
 pub enum Fault {
     /// It hasn't the straight-line form.
     OutOfForm,

@@ -1,8 +1,8 @@
 //! Whether a source has the straight-line form, and its one control path.
 ghost use Rattle.std.specs.Prelude.{◌≡◌, ◌≤◌, [], ◌∷◌, ◌++◌, ◌&&◌, true, false, map, flat_map, length, nat_lt, OnOk, OnSome, IfOk, IfSome, IfNone};
 ghost use Rattle.std.specs.List.{list_all};
-ghost use Rattle.place_names.specs.Acts.{Return};
-ghost use Rattle.straight_line.specs.Deeds.{placed_of};
+ghost use Rattle.place_names.specs.declared.act.Act.TheVariants.{Return};
+ghost use Rattle.straight_line.specs.StraightActs.{placed_of};
 ghost use Rattle.straight_line.specs.Within.{AreWithin};
 ghost use Rattle.straight_line.specs.Declarations.{folded, same, object_count, declarations, object_texts};
 ghost use Rattle.straight_line.specs.Form.{may_name_procedure, statements, IsStraightLine};
@@ -13,7 +13,7 @@ use crate::declare::declare_items;
 use crate::ending::finish;
 use crate::fault::{Fault, demand};
 use crate::kind::Declared;
-use crate::path::{PlacedDeed, StraightPath};
+use crate::path::{PlacedStraightAct, StraightPath};
 use crate::scope::{Scope, may_name_procedure};
 use crate::statement::{walk, walk_all};
 use std::alloc::{AllocError, Global};
@@ -62,49 +62,53 @@ fn declare_all(alloc: Global, unit: &SourceUnit, objects: &mut Vec<Word>) -> Res
     Ok(scope)
 }
 
-/// The deeds of the path of a source.
-fn deeds_of(alloc: Global, scope: &Scope, unit: &SourceUnit) -> Result<Vec<PlacedDeed>, Fault>
+/// The acts of the path of a source.
+fn straight_acts(
+    alloc: Global,
+    scope: &Scope,
+    unit: &SourceUnit,
+) -> Result<Vec<PlacedStraightAct>, Fault>
     requires { AreNumbered (object_count scope.now) scope.now }
     ensures form { OnOk result (runs_well scope.now unit.now ≡ true) }
-    ensures acts { IfOk result (λ deeds. map placed_of deeds.items
+    ensures acts { IfOk result (λ acts. map placed_of acts.items
         ≡ flat_map (statement_acts scope.now) (statements unit.now)
         ++ (scope_end unit.now.end scope.now ++ placed unit.now.end (Return []) ∷ [])) }
-    ensures within { IfOk result (λ deeds. AreWithin (object_count scope.now) deeds.items) }
+    ensures within { IfOk result (λ acts. AreWithin (object_count scope.now) acts.items) }
     ensures out { result ≡ Err Fault.OutOfForm → runs_well scope.now unit.now ≡ false }
 {
     demand(unit.rest.len() < MAX_STATEMENTS)?;
-    let mut deeds = Vec::new(alloc);
-    walk(alloc, scope, &unit.first, &mut deeds)?;
-    walk_all(alloc, scope, unit.rest.as_slice(), &mut deeds)?;
-    finish(scope, unit.end, &mut deeds)?;
-    Ok(deeds)
+    let mut acts = Vec::new(alloc);
+    walk(alloc, scope, &unit.first, &mut acts)?;
+    walk_all(alloc, scope, unit.rest.as_slice(), &mut acts)?;
+    finish(scope, unit.end, &mut acts)?;
+    Ok(acts)
 }
 
 /// The path of a source, or why there is none.
 fn path_of(alloc: Global, unit: &SourceUnit) -> Result<StraightPath, Fault>
     ensures in_form { OnOk result (IsStraightLine unit.now) }
     ensures objects { IfOk result (λ path. path.objects.items ≡ object_texts unit.now) }
-    ensures acts { IfOk result (λ path. map placed_of path.deeds.items ≡ path_acts unit.now) }
-    ensures within { IfOk result (λ path. AreWithin (length path.objects.items) path.deeds.items) }
+    ensures acts { IfOk result (λ path. map placed_of path.acts.items ≡ path_acts unit.now) }
+    ensures within { IfOk result (λ path. AreWithin (length path.objects.items) path.acts.items) }
     ensures few { IfOk result (λ path. length path.objects.items ≤ 512) }
     ensures out { result ≡ Err Fault.OutOfForm → ¬ IsStraightLine unit.now }
 {
     let mut objects = Vec::new(alloc);
     let scope = declare_all(alloc, unit, &mut objects)?;
-    let deeds = deeds_of(alloc, &scope, unit)?;
-    Ok(StraightPath { objects, deeds })
+    let acts = straight_acts(alloc, &scope, unit)?;
+    Ok(StraightPath { objects, acts })
 }
 
-/// The one control path of a source in the straight-line form (`docs/LANGUAGE.md`, "The straight-line form"), or
-/// nothing where the source hasn't that form, as where an object is used before its declaration. The error is want of
-/// memory.
+/// The one control path of a source in the straight-line form (`docs/LANGUAGE.md`, "The
+/// straight-line form"), or nothing where the source hasn't that form, as where an object is used
+/// before its declaration. The error is that of running out of memory.
 pub fn straight_path(alloc: Global, unit: &SourceUnit) -> Result<Option<StraightPath>, AllocError>
     ensures in_form { IfOk result (λ found. OnSome found (IsStraightLine unit.now)) }
     ensures objects { IfOk result (λ found. IfSome found (λ path. path.objects.items ≡ object_texts unit.now)) }
     ensures acts { IfOk result (λ found. IfSome found (λ path.
-        map placed_of path.deeds.items ≡ path_acts unit.now)) }
+        map placed_of path.acts.items ≡ path_acts unit.now)) }
     ensures within { IfOk result (λ found. IfSome found (λ path.
-        AreWithin (length path.objects.items) path.deeds.items)) }
+        AreWithin (length path.objects.items) path.acts.items)) }
     ensures few { IfOk result (λ found. IfSome found (λ path. length path.objects.items ≤ 512)) }
     ensures not_in_form { IfOk result (λ found. IfNone found (¬ IsStraightLine unit.now)) }
 {

@@ -3,9 +3,9 @@
 use spark_base::Pos;
 use straight_form::Word;
 
-/// A place that the straight-line form can name, by the number of its object. Objects count from 1, in the
-/// order of their declarations.
-#[derive(Clone, Copy, Debug, PartialEq, Eq)]
+/// A place that the straight-line form can name, by the number of its object. Objects count from 1,
+/// in the order of their declarations.
+#[derive(Clone, Copy, PartialEq, Eq)]
 pub enum Place {
     /// The object.
     Object(u32),
@@ -13,9 +13,10 @@ pub enum Place {
     Designated(u32),
 }
 
-/// What a point of the path does to one place (`docs/RULES.md`, "Acts").
-#[derive(Clone, Copy, Debug, PartialEq, Eq)]
-pub enum Deed {
+/// An act of the straight-line form: what a point of the path does to one place (`docs/RULES.md`,
+/// "Acts").
+#[derive(Clone, Copy, PartialEq, Eq)]
+pub enum StraightAct {
     /// An integer is read.
     Read(Place),
     /// The target of an assignment is written.
@@ -30,20 +31,20 @@ pub enum Deed {
     Return,
 }
 
-/// A deed, and the place of the first token of its name, or of its point.
-#[derive(Clone, Copy, Debug, PartialEq, Eq)]
-pub struct PlacedDeed {
+/// An act, and the position of the first token of its name, or of its point.
+#[derive(Clone, Copy, PartialEq, Eq)]
+pub struct PlacedStraightAct {
     /// Where it stands.
     pub pos: Pos,
     /// What is done.
-    pub deed: Deed,
+    pub act: StraightAct,
 }
 
-/// The objects of a source, and the deeds of its one control path.
-#[derive(Debug, Drop)]
+/// The objects of a source, and the acts of its one control path.
+#[derive(Drop)]
 pub struct StraightPath {
     /// The identifiers of the objects as they are declared, in order; the first has the number 1.
     pub objects: Vec<Word>,
-    /// The deeds in the order of the run.
-    pub deeds: Vec<PlacedDeed>,
+    /// The acts in the order of the run.
+    pub acts: Vec<PlacedStraightAct>,
 }

@@ -3,12 +3,12 @@ ghost use Rattle.std.specs.Prelude.{◌≡◌, ℕ, ◌-◌, ◌<◌, All, IfOk,
 ghost use Rattle.std.specs.BTreeSet.{IsOrdered};
 ghost use Rattle.std.specs.Option.{ForSome};
 ghost use Rattle.place_names.specs.Reports.{Gives, IsReportList};
-ghost use Rattle.straight_line.specs.Deeds.{name_of, placed_of};
+ghost use Rattle.straight_line.specs.StraightActs.{name_of, placed_of};
 ghost use Rattle.straight_line.specs.Within.{AreWithin, IsWithin, IsObject, root_of};
 ghost use Rattle.straight_line.specs.Reported.{printed_name, report_of};
-ghost use Rattle.straight_line.specs.Marks as walk;
+ghost use Rattle.straight_line.specs.MovedFlags as walk;
 
-use crate::path::{Deed, Place, PlacedDeed, StraightPath};
+use crate::path::{Place, PlacedStraightAct, StraightAct, StraightPath};
 use place_names::Rule;
 use spark_base::Pos;
 use std::alloc::{AllocError, Global};
@@ -16,21 +16,21 @@ use std::cmp::Reverse;
 use std::collections::BTreeSet;
 use straight_form::Word;
 
-/// A rule that a deed breaks because its object was moved, and the place that the deed names (`docs/RULES.md`,
-/// "Reports").
-#[derive(Clone, Copy, Debug, PartialEq, Eq)]
+/// A rule that an act breaks because its object was moved, and the place that the act names
+/// (`docs/RULES.md`, "Reports").
+#[derive(Clone, Copy)]
 pub struct PathReport {
-    /// Where the deed stands.
+    /// Where the act stands.
     pub pos: Pos,
     /// The rule.
     pub rule: Rule,
-    /// The place that the deed names.
+    /// The place that the act names.
     pub place: Place,
 }
 
-/// A report with the text of its place. Entries are in the order of reports: by position, rule, text and then the
-/// greater object; the last field follows from the text and the object.
-#[derive(Debug, PartialEq, Eq, PartialOrd, Ord, Drop)]
+/// A report with the text of its place. Entries are in the order of reports: by position, rule,
+/// text and then the greater object; the last field follows from the text and the object.
+#[derive(PartialEq, Eq, PartialOrd, Ord, Drop)]
 struct Entry {
     pos: Pos,
     rule: Rule,
@@ -39,25 +39,25 @@ struct Entry {
     is_designated: bool,
 }
 
-/// The reports of a path, sorted as reports are and without repeats: exactly those that some deed and some move before
-/// it give. The objects are numbered from 1 to their count.
+/// The reports of a path, sorted as reports are and without repeats: exactly those that some act
+/// and some move before it give. The objects are numbered from 1 to their count.
 pub fn path_reports(alloc: Global, path: &StraightPath) -> Result<Vec<PathReport>, AllocError>
-    requires { AreWithin (length path.now.objects.items) path.now.deeds.items }
+    requires { AreWithin (length path.now.objects.items) path.now.acts.items }
     ensures exact { IfOk result (λ reports. IsReportList (printed_name path.now.objects.items)
-        (Gives (map placed_of path.now.deeds.items)) (map report_of reports.items)) }
+        (Gives (map placed_of path.now.acts.items)) (map report_of reports.items)) }
 
     // Each report names an object of the path, and stands in a file in which the path does.
     ensures objects { IfOk result
         (λ reports. All (λ r. IsObject (length path.now.objects.items) (root_of r.place)) reports.items) }
     ensures files { IfOk result (λ reports. (n : ℕ)
-        → All (λ d. d.pos.file < n) path.now.deeds.items → All (λ r. r.pos.file < n) reports.items) }
+        → All (λ d. d.pos.file < n) path.now.acts.items → All (λ r. r.pos.file < n) reports.items) }
 {
     let mut moved = vec![in alloc; false; path.objects.len() + 1]?;
     let mut entries = BTreeSet::new(alloc);
-    'deeds: for placed in &path.deeds {
+    'acts: for placed in &path.acts {
         let report = report_at(&moved, *placed);
         add_report(alloc, &path.objects, report, &mut entries)?;
-        mark(&mut moved, placed.deed);
+        set_flag(&mut moved, placed.act);
     }
     in_order(alloc, entries)
 }
@@ -91,40 +91,41 @@ fn is_designated(place: Place) -> bool
     matches!(place, Place::Designated(_))
 }
 
-/// The rule that a deed breaks where its object was moved, and the place that it names.
-fn test_of(deed: Deed) -> Option<(Rule, Place)>
-    ensures { result ≡ walk.test_of deed }
+/// The rule that an act breaks where its object was moved, and the place that it names.
+fn test_of(act: StraightAct) -> Option<(Rule, Place)>
+    ensures { result ≡ walk.test_of act }
 {
-    match deed {
-        Deed::Read(place) => Some((Rule::O1, place)),
-        Deed::Write(Place::Designated(x)) => Some((Rule::O3, Place::Designated(x))),
-        Deed::Move(x) => Some((Rule::O4, Place::Object(x))),
-        Deed::Free(x) => Some((Rule::O14, Place::Object(x))),
-        Deed::Write(Place::Object(_)) | Deed::EndScope(_) | Deed::Return => None,
+    match act {
+        StraightAct::Read(place) => Some((Rule::O1, place)),
+        StraightAct::Write(Place::Designated(x)) => Some((Rule::O3, Place::Designated(x))),
+        StraightAct::Move(x) => Some((Rule::O4, Place::Object(x))),
+        StraightAct::Free(x) => Some((Rule::O14, Place::Object(x))),
+        StraightAct::Write(Place::Object(_)) | StraightAct::EndScope(_) | StraightAct::Return =>
+            None,
     }
 }
 
-/// The report of a deed where the objects that are moved have their marks.
-fn report_at(moved: &[bool], placed: PlacedDeed) -> Option<PathReport>
-    requires { IsWithin (length moved.now - 1) placed.deed }
+/// The report of an act. The moved flag of each object is given.
+fn report_at(moved: &[bool], placed: PlacedStraightAct) -> Option<PathReport>
+    requires { IsWithin (length moved.now - 1) placed.act }
     ensures { result ≡ walk.report_at moved.now placed }
 {
-    let (rule, place) = test_of(placed.deed)?;
+    let (rule, place) = test_of(placed.act)?;
     let pos = placed.pos;
     moved[object_of(place) as usize].then_some(PathReport { pos, rule, place })
 }
 
-/// Keeps the marks of the objects that are moved behind a deed.
-fn mark(moved: &mut Vec<bool>, deed: Deed)
-    requires { IsWithin (vec_len moved.old - 1) deed }
-    ensures { moved.new.items ≡ walk.marks_after moved.old.items deed }
+/// Sets and clears the moved flag of the object that an act names.
+fn set_flag(moved: &mut Vec<bool>, act: StraightAct)
+    requires { IsWithin (vec_len moved.old - 1) act }
+    ensures { moved.new.items ≡ walk.flags_after moved.old.items act }
 {
-    match deed {
-        Deed::Move(x) => moved[x as usize] = true,
-        Deed::Write(Place::Object(x)) | Deed::Free(x) | Deed::EndScope(x) => {
+    match act {
+        StraightAct::Move(x) => moved[x as usize] = true,
+        StraightAct::Write(Place::Object(x)) | StraightAct::Free(x) | StraightAct::EndScope(x) => {
             moved[x as usize] = false;
         }
-        Deed::Read(_) | Deed::Write(Place::Designated(_)) | Deed::Return => {}
+        StraightAct::Read(_) | StraightAct::Write(Place::Designated(_)) | StraightAct::Return => {}
     }
 }
 
@@ -176,6 +177,3 @@ fn report_in(entry: Entry) -> PathReport
         place,
     }
 }
-
-#[cfg(test)]
-mod tests;

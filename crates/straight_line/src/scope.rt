@@ -1,6 +1,6 @@
 //! The declarations of a source, found by their identifiers in lower case.
 ghost use Rattle.std.specs.Prelude.{◌≡◌, [], ◌∷◌, ◌++◌, true, false, codes, length, Option, Some, option_map, slice_get, IfOk, OnOk};
-ghost use Rattle.straight_line.specs.Declarations.{folded, same, meaning, access_place, mark_of};
+ghost use Rattle.straight_line.specs.Declarations.{folded, same, meaning, access_rank, mark_of};
 ghost use Rattle.straight_line.specs.Form.{may_be_declared, may_name_procedure, has_type, frees};
 ghost use Rattle.straight_line.specs.declared.kind.Mark.{Mark};
 ghost use Rattle.straight_line.specs.Steps.{may_enter};
@@ -13,7 +13,7 @@ use std::marker::Model;
 use straight_form::Word;
 use straight_form::tree::Identifier;
 
-/// The declarations up to a place of the source, in order. Contracts see them as a list.
+/// The declarations up to a position of the source, in order. Contracts see them as a list.
 #[derive(Drop)]
 pub struct Scope {
     known: IndexMap<Word, Declared>,
@@ -52,26 +52,26 @@ impl Scope {
         Ok(self.known.get(&word).copied())
     }
 
-    /// The place of the access type that an identifier names, or 0.
-    pub fn access_place(&self, alloc: Global, id: &Identifier) -> Result<usize, AllocError>
-        ensures { IfOk result (λ place. place ≡ access_place (meaning self.now id.now)) }
+    /// The rank of the access type that an identifier names, or 0.
+    pub fn access_rank(&self, alloc: Global, id: &Identifier) -> Result<usize, AllocError>
+        ensures { IfOk result (λ rank. rank ≡ access_rank (meaning self.now id.now)) }
     {
         match self.meaning(alloc, id)? {
-            Some(Declared::AccessType(place)) => Ok(place),
+            Some(Declared::AccessType(rank)) => Ok(rank),
             Some(Declared::Procedure | Declared::Instance(_) | Declared::Object(_, _)) | None => {
                 Ok(0)
             }
         }
     }
 
-    /// The place of the access type of the instance that an identifier names.
+    /// The rank of the access type of the instance that an identifier names.
     pub fn instance(&self, alloc: Global, id: &Identifier) -> Result<usize, Fault>
-        ensures found { IfOk result (λ place. meaning self.now id.now ≡ Some (Declared.Instance place)) }
+        ensures found { IfOk result (λ rank. meaning self.now id.now ≡ Some (Declared.Instance rank)) }
         ensures out { result ≡ Err Fault.OutOfForm →
             (actual : Option Mark) → frees (meaning self.now id.now) actual ≡ false }
     {
         match self.meaning(alloc, id)? {
-            Some(Declared::Instance(place)) => Ok(place),
+            Some(Declared::Instance(rank)) => Ok(rank),
             Some(Declared::Procedure | Declared::AccessType(_) | Declared::Object(_, _)) | None => {
                 Err(Fault::OutOfForm)
             }
@@ -82,19 +82,19 @@ impl Scope {
     pub fn mark(&self, alloc: Global, id: &Identifier) -> Result<Mark, AllocError>
         ensures { IfOk result (λ mark. mark ≡ mark_of self.now id.now) }
     {
-        let place = self.access_place(alloc, id)?;
+        let rank = self.access_rank(alloc, id)?;
         if is_integer(&id.text.folded(alloc)?) {
             Ok(Mark::Integer)
         } else {
-            Ok(Mark::Access(place))
+            Ok(Mark::Access(rank))
         }
     }
 
-    /// What the identifier at a place is declared as.
-    pub fn kind_at(&self, place: usize) -> Option<Declared>
-        ensures { result ≡ option_map (λ e. e.1) (slice_get self.now place) }
+    /// What the identifier with a rank is declared as.
+    pub fn kind_at(&self, rank: usize) -> Option<Declared>
+        ensures { result ≡ option_map (λ e. e.1) (slice_get self.now rank) }
     {
-        self.known.get_index(place).map(|(_, kind)| *kind)
+        self.known.get_index(rank).map(|(_, kind)| *kind)
     }
 
     /// Declares an identifier.
@@ -143,8 +143,8 @@ fn has_type(kind: Declared) -> bool
 {
     match kind {
         Declared::Procedure | Declared::AccessType(_) => true,
-        Declared::Instance(place) => place != 0,
+        Declared::Instance(rank) => rank != 0,
         Declared::Object(_, Mark::Integer) => true,
-        Declared::Object(_, Mark::Access(place)) => place != 0,
+        Declared::Object(_, Mark::Access(rank)) => rank != 0,
     }
 }

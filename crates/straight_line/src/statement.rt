@@ -1,17 +1,17 @@
-//! The deeds of the statements, in the order of the run.
+//! The acts of the statements, in the order of the run.
 ghost use Rattle.std.specs.Prelude.{◌≡◌, ℕ, [], ◌∷◌, ◌++◌, ◌&&◌, true, false, map, flat_map, Some, None, OnOk, IfOk};
 ghost use Rattle.std.specs.List.{list_all};
-ghost use Rattle.straight_line.specs.Deeds.{placed_of, name_of};
+ghost use Rattle.straight_line.specs.StraightActs.{placed_of, name_of};
 ghost use Rattle.straight_line.specs.Within.{IsObject, IsWithin, AreWithin, root_of};
 ghost use Rattle.straight_line.specs.Declarations.{meaning, object_count};
 ghost use Rattle.straight_line.specs.Form.{object_type, type_of, is_mark, takes, assigns, frees, has_number_within};
 ghost use Rattle.straight_line.specs.PathActs.{placed, name_source, source_acts, target_act, free_act, statement_acts};
 ghost use Rattle.straight_line.specs.Steps.{AreNumbered, is_well, source_act};
-ghost use Rattle.place_names.specs.Acts.{Write};
+ghost use Rattle.place_names.specs.declared.act.Act.TheVariants.{Write};
 
 use crate::fault::{Fault, demand};
 use crate::kind::{Declared, Mark};
-use crate::path::{Deed, Place, PlacedDeed};
+use crate::path::{Place, PlacedStraightAct, StraightAct};
 use crate::scope::Scope;
 use spark_base::Pos;
 use std::alloc::Global;
@@ -30,18 +30,17 @@ struct Named {
 
 impl Named {
     /// What the name does as the source of an assignment.
-    fn source(self) -> PlacedDeed
+    fn source(self) -> PlacedStraightAct
         ensures act { placed_of result ≡ placed self.pos (source_act self.place self.mark) }
-        ensures within { (n : ℕ) → IsObject n (root_of self.place) → IsWithin n result.deed }
+        ensures within { (n : ℕ) → IsObject n (root_of self.place) → IsWithin n result.act }
     {
-        let deed = match (self.place, self.mark) {
-            (Place::Object(number), Mark::Access(_)) => Deed::Move(number),
-            (Place::Object(_), Mark::Integer) | (Place::Designated(_), _) => Deed::Read(self.place),
+        let act = match (self.place, self.mark) {
+            (Place::Object(number), Mark::Access(_)) => StraightAct::Move(number),
+            (Place::Object(_), Mark::Integer) | (Place::Designated(_), _) => StraightAct::Read(
+                self.place,
+            ),
         };
-        PlacedDeed {
-            pos: self.pos,
-            deed,
-        }
+        PlacedStraightAct { pos: self.pos, act }
     }
 }
 
@@ -93,42 +92,42 @@ fn resolve(alloc: Global, scope: &Scope, name: &Name) -> Result<Named, Fault>
     }
 }
 
-/// The deed of a name as the source for a target of a type.
+/// The act of a name as the source for a target of a type.
 fn source(
     alloc: Global,
     scope: &Scope,
     mark: Mark,
     name: &Name,
-    deeds: &mut Vec<PlacedDeed>,
+    acts: &mut Vec<PlacedStraightAct>,
 ) -> Result<(), Fault>
     requires numbered { AreNumbered (object_count scope.now) scope.now }
-    requires within { AreWithin (object_count scope.now) deeds.old.items }
+    requires within { AreWithin (object_count scope.now) acts.old.items }
     ensures form { OnOk result (is_mark mark (type_of scope.now name.now) ≡ true) }
-    ensures acts { OnOk result (map placed_of deeds.new.items
-        ≡ map placed_of deeds.old.items ++ name_source scope.now name.now) }
-    ensures within { OnOk result (AreWithin (object_count scope.now) deeds.new.items) }
+    ensures acts { OnOk result (map placed_of acts.new.items
+        ≡ map placed_of acts.old.items ++ name_source scope.now name.now) }
+    ensures within { OnOk result (AreWithin (object_count scope.now) acts.new.items) }
     ensures out { result ≡ Err Fault.OutOfForm → is_mark mark (type_of scope.now name.now) ≡ false }
 {
     let source = resolve(alloc, scope, name)?;
     demand(mark == source.mark)?;
-    deeds.push(source.source())?;
+    acts.push(source.source())?;
     Ok(())
 }
 
-/// The deeds of the source of an assignment to a target of a type.
+/// The acts of the source of an assignment to a target of a type.
 fn evaluate(
     alloc: Global,
     scope: &Scope,
     mark: Mark,
     value: &Value,
-    deeds: &mut Vec<PlacedDeed>,
+    acts: &mut Vec<PlacedStraightAct>,
 ) -> Result<(), Fault>
     requires numbered { AreNumbered (object_count scope.now) scope.now }
-    requires within { AreWithin (object_count scope.now) deeds.old.items }
+    requires within { AreWithin (object_count scope.now) acts.old.items }
     ensures form { OnOk result ((takes scope.now mark value.now && has_number_within value.now) ≡ true) }
-    ensures acts { OnOk result (map placed_of deeds.new.items
-        ≡ map placed_of deeds.old.items ++ source_acts scope.now value.now) }
-    ensures within { OnOk result (AreWithin (object_count scope.now) deeds.new.items) }
+    ensures acts { OnOk result (map placed_of acts.new.items
+        ≡ map placed_of acts.old.items ++ source_acts scope.now value.now) }
+    ensures within { OnOk result (AreWithin (object_count scope.now) acts.new.items) }
     ensures out { result ≡ Err Fault.OutOfForm →
         (takes scope.now mark value.now && has_number_within value.now) ≡ false }
 {
@@ -140,105 +139,105 @@ fn evaluate(
         Value::Allocator { number, .. } => {
             Ok(demand(mark != Mark::Integer && *number <= MAX_NUMBER)?)
         }
-        Value::Named { name, .. } => Ok(source(alloc, scope, mark, name, deeds)?),
+        Value::Named { name, .. } => Ok(source(alloc, scope, mark, name, acts)?),
     }
 }
 
-/// The deeds of an assignment: those of its source, and then the write of its target.
+/// The acts of an assignment: those of its source, and then the write of its target.
 fn assign(
     alloc: Global,
     scope: &Scope,
     target: &Name,
     value: &Value,
-    deeds: &mut Vec<PlacedDeed>,
+    acts: &mut Vec<PlacedStraightAct>,
 ) -> Result<(), Fault>
     requires numbered { AreNumbered (object_count scope.now) scope.now }
-    requires within { AreWithin (object_count scope.now) deeds.old.items }
+    requires within { AreWithin (object_count scope.now) acts.old.items }
     ensures form { OnOk result ((assigns scope.now (type_of scope.now target.now) value.now
         && has_number_within value.now) ≡ true) }
-    ensures acts { OnOk result (map placed_of deeds.new.items ≡ map placed_of deeds.old.items
+    ensures acts { OnOk result (map placed_of acts.new.items ≡ map placed_of acts.old.items
         ++ (source_acts scope.now value.now ++ target_act scope.now target.now ∷ [])) }
-    ensures within { OnOk result (AreWithin (object_count scope.now) deeds.new.items) }
+    ensures within { OnOk result (AreWithin (object_count scope.now) acts.new.items) }
     ensures out { result ≡ Err Fault.OutOfForm →
         (assigns scope.now (type_of scope.now target.now) value.now
         && has_number_within value.now) ≡ false }
 {
     let target = resolve(alloc, scope, target)?;
-    evaluate(alloc, scope, target.mark, value, deeds)?;
-    deeds.push(PlacedDeed {
+    evaluate(alloc, scope, target.mark, value, acts)?;
+    acts.push(PlacedStraightAct {
         pos: target.pos,
-        deed: Deed::Write(target.place),
+        act: StraightAct::Write(target.place),
     })?;
     Ok(())
 }
 
-/// The deed of a call of an instance of Unchecked_Deallocation.
+/// The act of a call of an instance of Unchecked_Deallocation.
 fn free(
     alloc: Global,
     scope: &Scope,
     callee: &Identifier,
     actual: &Identifier,
-    deeds: &mut Vec<PlacedDeed>,
+    acts: &mut Vec<PlacedStraightAct>,
 ) -> Result<(), Fault>
     requires numbered { AreNumbered (object_count scope.now) scope.now }
-    requires within { AreWithin (object_count scope.now) deeds.old.items }
+    requires within { AreWithin (object_count scope.now) acts.old.items }
     ensures form { OnOk result (frees (meaning scope.now callee.now)
         (object_type (meaning scope.now actual.now)) ≡ true) }
-    ensures acts { OnOk result (map placed_of deeds.new.items
-        ≡ map placed_of deeds.old.items ++ free_act scope.now actual.now ∷ []) }
-    ensures within { OnOk result (AreWithin (object_count scope.now) deeds.new.items) }
+    ensures acts { OnOk result (map placed_of acts.new.items
+        ≡ map placed_of acts.old.items ++ free_act scope.now actual.now ∷ []) }
+    ensures within { OnOk result (AreWithin (object_count scope.now) acts.new.items) }
     ensures out { result ≡ Err Fault.OutOfForm → frees (meaning scope.now callee.now)
         (object_type (meaning scope.now actual.now)) ≡ false }
 {
-    let place = scope.instance(alloc, callee)?;
+    let rank = scope.instance(alloc, callee)?;
     let (number, mark) = object(alloc, scope, actual)?;
-    demand(mark == Mark::Access(place))?;
-    deeds.push(PlacedDeed {
+    demand(mark == Mark::Access(rank))?;
+    acts.push(PlacedStraightAct {
         pos: actual.pos,
-        deed: Deed::Free(number),
+        act: StraightAct::Free(number),
     })?;
     Ok(())
 }
 
-/// The deeds of a statement.
+/// The acts of a statement.
 pub fn walk(
     alloc: Global,
     scope: &Scope,
     stmt: &Stmt,
-    deeds: &mut Vec<PlacedDeed>,
+    acts: &mut Vec<PlacedStraightAct>,
 ) -> Result<(), Fault>
     requires numbered { AreNumbered (object_count scope.now) scope.now }
-    requires within { AreWithin (object_count scope.now) deeds.old.items }
+    requires within { AreWithin (object_count scope.now) acts.old.items }
     ensures form { OnOk result (is_well scope.now stmt.now ≡ true) }
-    ensures acts { OnOk result (map placed_of deeds.new.items
-        ≡ map placed_of deeds.old.items ++ statement_acts scope.now stmt.now) }
-    ensures within { OnOk result (AreWithin (object_count scope.now) deeds.new.items) }
+    ensures acts { OnOk result (map placed_of acts.new.items
+        ≡ map placed_of acts.old.items ++ statement_acts scope.now stmt.now) }
+    ensures within { OnOk result (AreWithin (object_count scope.now) acts.new.items) }
     ensures out { result ≡ Err Fault.OutOfForm → is_well scope.now stmt.now ≡ false }
 {
     match stmt {
         Stmt::Null { .. } => Ok(()),
-        Stmt::Assign { target, value, .. } => Ok(assign(alloc, scope, target, value, deeds)?),
-        Stmt::Call { callee, actual, .. } => Ok(free(alloc, scope, callee, actual, deeds)?),
+        Stmt::Assign { target, value, .. } => Ok(assign(alloc, scope, target, value, acts)?),
+        Stmt::Call { callee, actual, .. } => Ok(free(alloc, scope, callee, actual, acts)?),
     }
 }
 
-/// The deeds of statements in order.
+/// The acts of statements in order.
 pub fn walk_all(
     alloc: Global,
     scope: &Scope,
     stmts: &[Stmt],
-    deeds: &mut Vec<PlacedDeed>,
+    acts: &mut Vec<PlacedStraightAct>,
 ) -> Result<(), Fault>
     requires numbered { AreNumbered (object_count scope.now) scope.now }
-    requires within { AreWithin (object_count scope.now) deeds.old.items }
+    requires within { AreWithin (object_count scope.now) acts.old.items }
     ensures form { OnOk result (list_all (is_well scope.now) stmts.now ≡ true) }
-    ensures acts { OnOk result (map placed_of deeds.new.items
-        ≡ map placed_of deeds.old.items ++ flat_map (statement_acts scope.now) stmts.now) }
-    ensures within { OnOk result (AreWithin (object_count scope.now) deeds.new.items) }
+    ensures acts { OnOk result (map placed_of acts.new.items
+        ≡ map placed_of acts.old.items ++ flat_map (statement_acts scope.now) stmts.now) }
+    ensures within { OnOk result (AreWithin (object_count scope.now) acts.new.items) }
     ensures out { result ≡ Err Fault.OutOfForm → list_all (is_well scope.now) stmts.now ≡ false }
 {
     'turns: for stmt in stmts {
-        walk(alloc, scope, stmt, deeds)?;
+        walk(alloc, scope, stmt, acts)?;
     }
     Ok(())
 }

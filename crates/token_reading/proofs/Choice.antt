@@ -2,7 +2,7 @@
 use Rattle.std.proofs.Common.{◌≡◌, refl, sym, ap, ◌∙◌, subst, ℕ, Bool, true, false, List, [], ◌∷◌, ◌++◌, Option, Some, None, ◌⊎◌, inl, inr}
 use Rattle.std.specs.Prelude.{if◌then◌else◌}
 use Rattle.token_reading.specs.Spelled.{Spelled}
-use Rattle.token_reading.specs.Marks.{Mark, bare, after}
+use Rattle.token_reading.specs.Weights.{WeighedToken, bare, after}
 use Rattle.token_reading.specs.Reading.{Cause, Got, Fails, Reader, starts, to, either, choose, optional}
 use Rattle.token_reading.proofs.Sets.{apart, within, Leads, stops_both, stops_last, stops_before, starts_within, leads_left, leads_right}
 use Rattle.token_reading.proofs.Lists.{if_true, if_false}
@@ -15,15 +15,15 @@ pub same_start : (ms : List ℕ) (u : List Spelled) (x : Spelled) (r z : List Sp
 same_start ms [] x r z = refl
 same_start ms (t ∷ u) x r z = refl
 
-module _ {A : Type 0} {p q : Reader A} {g h : A → Type 0} {s : A → List Mark} {fp lp fq lq : List ℕ} {n : Bool}
+module _ {A : Type 0} {p q : Reader A} {g h : A → Type 0} {s : A → List WeighedToken} {fp lp fq lq : List ℕ} {n : Bool}
     (ms : List ℕ) (good : A → Type 0) (P : Law p g s fp lp false) (Q : Law q h s fq lq n)
     (first : (a : A) → g a → good a) (second : (a : A) → h a → good a) (which : (a : A) → good a → g a ⊎ h a)
     (taken_in : within fp ms ≡ true) (side : apart ms fq ≡ true) where
   read_first : (k : ℕ) (ts : List Spelled) (a : A) (j : ℕ) (rest : List Spelled) → Read g s k ts a j rest → Read good s k ts a j rest
-  read_first k ts a j rest read = record { fits = first a read.fits; light = read.light; count = read.count; whole = read.whole }
+  read_first k ts a j rest read = record { fits = first a read.fits; within_limits = read.within_limits; count = read.count; whole = read.whole }
 
   read_second : (k : ℕ) (ts : List Spelled) (a : A) (j : ℕ) (rest : List Spelled) → Read h s k ts a j rest → Read good s k ts a j rest
-  read_second k ts a j rest read = record { fits = second a read.fits; light = read.light; count = read.count; whole = read.whole }
+  read_second k ts a j rest read = record { fits = second a read.fits; within_limits = read.within_limits; count = read.count; whole = read.whole }
 
   either_sound : (r : Bool) (k : ℕ) (ts : List Spelled) (a : A) (j : ℕ) (rest : List Spelled) → (if r then p k ts else q k ts) ≡ Got a j rest
       → Read good s k ts a j rest
@@ -34,16 +34,16 @@ module _ {A : Type 0} {p q : Reader A} {g h : A → Type 0} {s : A → List Mark
   last = if n then ms ++ (lp ++ lq) else (lp ++ lq)
 
   either_accepts : (k : ℕ) (a : A) (rest : List Spelled) → good a → starts last rest ≡ false
-      → Accepted a (after k (s a)) rest (either ms p q k (bare (s a) ++ rest))
+      → Accepted a k (s a) rest (either ms p q k (bare (s a) ++ rest))
   either_accepts k a rest fits e =
       let ts : List Spelled = bare (s a) ++ rest in
       let stops = stops_last n ms (lp ++ lq) rest e in
       let both = stops_both lp lq rest stops.1 in
       elim (which a fits) [
-        | inl fits_first ↦ subst (λ o. Accepted a (after k (s a)) rest o)
+        | inl fits_first ↦ subst (λ o. Accepted a k (s a) rest o)
             (sym (if_true (starts ms ts) (p k ts) (q k ts) (starts_within fp ms taken_in (bare (s a)) rest (P.leads a fits_first))))
             (P.accepts k a rest fits_first both.0)
-        | inr fits_second ↦ subst (λ o. Accepted a (after k (s a)) rest o)
+        | inr fits_second ↦ subst (λ o. Accepted a k (s a) rest o)
             (sym (if_false (starts ms ts) (p k ts) (q k ts) (stops_before ms fq side n (bare (s a)) rest (Q.leads a fits_second) stops.0)))
             (Q.accepts k a rest fits_second both.1)
       ]
@@ -103,14 +103,14 @@ cases s t (inl a) = s a
 cases s t (inr b) = t b
 
 -- The spelling of the one that stands there.
-abbrev pub of_either : {A B : Type 0} → (A → List Mark) → (B → List Mark) → A ⊎ B → List Mark
+abbrev pub of_either : {A B : Type 0} → (A → List WeighedToken) → (B → List WeighedToken) → A ⊎ B → List WeighedToken
 of_either s t (inl a) = s a
 of_either s t (inr b) = t b
 
 abbrev Never : {A : Type 0} → A → Type 0
 Never a = ⊥
 
-module _ {A B : Type 0} {p : Reader A} {q : Reader B} {g : A → Type 0} {h : B → Type 0} {s : A → List Mark} {t : B → List Mark}
+module _ {A B : Type 0} {p : Reader A} {q : Reader B} {g : A → Type 0} {h : B → Type 0} {s : A → List WeighedToken} {t : B → List WeighedToken}
     {fp lp fq lq : List ℕ} {n : Bool} (ms : List ℕ) (P : Law p g s fp lp false) (Q : Law q h t fq lq n) where
   onto_left : (x : A ⊎ B) → Either g Never x → (a : A) × (g a × (inl a ≡ x))
   onto_left (inl a) good = (a, (good, refl))
@@ -148,9 +148,9 @@ abbrev pub Maybe : {A : Type 0} → (A → Type 0) → Option A → Type 0
 Maybe g (Some a) = g a
 Maybe g None = Unit {0}
 
-abbrev pub maybe_marked : {A : Type 0} → (A → List Mark) → Option A → List Mark
-maybe_marked s (Some a) = s a
-maybe_marked s None = []
+abbrev pub maybe_spelled : {A : Type 0} → (A → List WeighedToken) → Option A → List WeighedToken
+maybe_spelled s (Some a) = s a
+maybe_spelled s None = []
 
 abbrev There : {A : Type 0} → (A → Type 0) → Option A → Type 0
 There g (Some a) = g a
@@ -160,7 +160,7 @@ abbrev Absent : {A : Type 0} → Option A → Type 0
 Absent (Some a) = ⊥
 Absent None = Unit {0}
 
-module _ {A : Type 0} {p : Reader A} {g : A → Type 0} {s : A → List Mark} {fp lp : List ℕ}
+module _ {A : Type 0} {p : Reader A} {g : A → Type 0} {s : A → List WeighedToken} {fp lp : List ℕ}
     (ms : List ℕ) (P : Law p g s fp lp false) where
   onto_some : (x : Option A) → There g x → (a : A) × (g a × (Some a ≡ x))
   onto_some (Some a) good = (a, (good, refl))
@@ -182,10 +182,10 @@ module _ {A : Type 0} {p : Reader A} {g : A → Type 0} {s : A → List Mark} {f
   there_or_not (Some a) good = inl good
   there_or_not None good = inr tt
 
-  pub law_optional : within fp ms ≡ true → Law (optional ms p) (Maybe g) (maybe_marked s) (fp ++ []) (ms ++ (lp ++ [])) true
+  pub law_optional : within fp ms ≡ true → Law (optional ms p) (Maybe g) (maybe_spelled s) (fp ++ []) (ms ++ (lp ++ [])) true
   law_optional taken_in = law_either ms (Maybe g)
-      (law_to Some (There g) (maybe_marked s) P (λ a good. good) (λ a good. refl) onto_some)
-      (law_to (λ u. None) Absent (maybe_marked s) law_nothing (λ u good. tt) (λ u good. refl) onto_none)
+      (law_to Some (There g) (maybe_spelled s) P (λ a good. good) (λ a good. refl) onto_some)
+      (law_to (λ u. None) Absent (maybe_spelled s) law_nothing (λ u good. tt) (λ u good. refl) onto_none)
       is_there is_absent there_or_not taken_in (apart_none ms)
     where
       apart_none : (ns : List ℕ) → apart ns [] ≡ true

@@ -1,4 +1,5 @@
--- The sets of kinds that have one word, one delimiter or one other kind tell whether a token is of it.
+-- The sets of kinds that have one word, one delimiter or one other kind tell whether a token is of
+-- it.
 use Rattle.std.proofs.Common.{◌≡◌, refl, ap, ℕ, ◌+◌, ◌<◌, Bool, true, false, List, [], ◌∷◌, Some, None, arith}
 use Rattle.std.specs.Prelude.{◌==◌, ◌||◌, if◌then◌else◌}
 use Rattle.std.specs.Option.{is_some}
@@ -13,7 +14,7 @@ use Rattle.ada_lexer.specs.declared.token.Symbol.{Symbol}
 use Rattle.ada_lexer.specs.contracts.token.Reserved as reserved
 use Rattle.ada_lexer.specs.contracts.token.Symbol as symbols
 use Rattle.token_reading.specs.Spelled.{Spelled, Word, Ident, Number, Str, Delimiter, EndOfFile}
-use Rattle.token_reading.specs.Reading.{of_word, of_symbol, of_ident, of_number, of_string, code, is_in, word_place, symbol_place, identifier_of, string_of, number_of}
+use Rattle.token_reading.specs.Reading.{of_word, of_symbol, of_ident, of_number, of_string, code, is_in, word_position, symbol_position, identifier_of, string_of, number_of}
 
 pub word_small : (w : Reserved) → of_word w < 100
 word_small w = let h : of_word w < 73 = tag_small reserved.the_type w in omega arith
@@ -35,7 +36,7 @@ one_kind : {A : Type 0} (r : Bool) (a : A) → (r || false) ≡ is_some (if r th
 one_kind true a = refl
 one_kind false a = refl
 
-pub is_word : (w : Reserved) (t : Spelled) → is_in (of_word w ∷ []) (code t) ≡ is_some (word_place w t)
+pub is_word : (w : Reserved) (t : Spelled) → is_in (of_word w ∷ []) (code t) ≡ is_some (word_position w t)
 is_word w (Word it pos) = one_kind (sameb reserved.the_type it w) pos
 is_word w (Ident pos text) = let h : of_word w < 100 = word_small w in or_false _ (differ 200 (of_word w) (λ e. omega arith))
 is_word w (Number value pos) = let h : of_word w < 100 = word_small w in or_false _ (differ 201 (of_word w) (λ e. omega arith))
@@ -52,7 +53,7 @@ shifted a b =
 one_symbol : (a b : ℕ) (pos : Pos) → ((100 + a == 100 + b) || false) ≡ is_some (if a == b then Some pos else None)
 one_symbol a b pos = rw (shifted a b) (one_kind (a == b) pos)
 
-pub is_symbol : (s : Symbol) (t : Spelled) → is_in (of_symbol s ∷ []) (code t) ≡ is_some (symbol_place s t)
+pub is_symbol : (s : Symbol) (t : Spelled) → is_in (of_symbol s ∷ []) (code t) ≡ is_some (symbol_position s t)
 is_symbol s (Word it pos) = let h : of_word it < 100 = word_small it in or_false _ (differ (of_word it) (of_symbol s) (λ e. omega arith))
 is_symbol s (Ident pos text) = let h : of_symbol s < 200 = symbol_small s in or_false _ (differ 200 (of_symbol s) (λ e. omega arith))
 is_symbol s (Number value pos) = let h : of_symbol s < 200 = symbol_small s in or_false _ (differ 201 (of_symbol s) (λ e. omega arith))

@@ -1,4 +1,5 @@
--- A reader that hands what it has read to the next one reads as the sequence and the choice do, of which there are laws.
+-- A reader that hands what it has read to the next one reads as the sequence and the choice do, of
+-- which there are laws.
 use Rattle.std.proofs.Common.{◌≡◌, refl, ap, ◌∙◌, ℕ, Bool, true, false, List, inl, inr}
 use Rattle.std.specs.Prelude.{if◌then◌else◌}
 use Rattle.token_reading.specs.Spelled.{Spelled}

@@ -4,27 +4,27 @@ use Rattle.std.specs.Prelude.{if◌then◌else◌}
 use Rattle.std.specs.List.{flat_map}
 use Rattle.std.proofs.lemmas.List.{append_assoc, append_cancel_right}
 use Rattle.token_reading.specs.Spelled.{Spelled}
-use Rattle.token_reading.specs.Marks.{Mark, bare, after, Light, marked}
+use Rattle.token_reading.specs.Weights.{WeighedToken, bare, after, WithinLimits, row_spelling}
 
-pub bare-append : (ms ns : List Mark) → bare (ms ++ ns) ≡ bare ms ++ bare ns
+pub bare-append : (ms ns : List WeighedToken) → bare (ms ++ ns) ≡ bare ms ++ bare ns
 bare-append [] ns = refl
 bare-append (m ∷ ms) ns = ap (λ ts. m.token ∷ ts) (bare-append ms ns)
 
 -- Two spellings before some tokens.
-pub bare_both : (ms ns : List Mark) (rest : List Spelled) → bare (ms ++ ns) ++ rest ≡ bare ms ++ (bare ns ++ rest)
+pub bare_both : (ms ns : List WeighedToken) (rest : List Spelled) → bare (ms ++ ns) ++ rest ≡ bare ms ++ (bare ns ++ rest)
 bare_both ms ns rest = ap (λ ts. ts ++ rest) (bare-append ms ns) ∙ append_assoc (bare ms) (bare ns) rest
 
-pub after-append : (k : ℕ) (ms ns : List Mark) → after k (ms ++ ns) ≡ after (after k ms) ns
+pub after-append : (k : ℕ) (ms ns : List WeighedToken) → after k (ms ++ ns) ≡ after (after k ms) ns
 after-append k [] ns = refl
 after-append k (m ∷ ms) ns = after-append (m.weight.step k) ms ns
 
-pub light-append : (k : ℕ) (ms ns : List Mark) → Light k ms → Light (after k ms) ns → Light k (ms ++ ns)
-light-append k [] ns l more = more
-light-append k (m ∷ ms) ns l more = (l.0, light-append (m.weight.step k) ms ns l.1 more)
+pub within_limits-append : (k : ℕ) (ms ns : List WeighedToken) → WithinLimits k ms → WithinLimits (after k ms) ns → WithinLimits k (ms ++ ns)
+within_limits-append k [] ns l more = more
+within_limits-append k (m ∷ ms) ns l more = (l.0, within_limits-append (m.weight.step k) ms ns l.1 more)
 
-pub marked_flat : {A : Type 0} (s : A → List Mark) (xs : List A) → marked s xs ≡ flat_map s xs
-marked_flat s [] = refl
-marked_flat s (x ∷ xs) = ap (λ ms. s x ++ ms) (marked_flat s xs)
+pub row_spelling_flat : {A : Type 0} (s : A → List WeighedToken) (xs : List A) → row_spelling s xs ≡ flat_map s xs
+row_spelling_flat s [] = refl
+row_spelling_flat s (x ∷ xs) = ap (λ ms. s x ++ ms) (row_spelling_flat s xs)
 
 -- Nothing stands before a list that is the whole.
 pub nothing_before : (u w : List Spelled) → u ++ w ≡ w → u ≡ []

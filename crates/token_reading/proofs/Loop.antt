@@ -6,7 +6,7 @@ use Rattle.std.proofs.lemmas.List.{append_assoc, append-nil}
 use Rattle.token_reading.specs.declared.fault.ReadFault.{ReadFault}
 use Rattle.token_reading.specs.declared.fault.ReadFault.TheVariants as fault
 use Rattle.token_reading.specs.Spelled.{Spelled}
-use Rattle.token_reading.specs.Reading.{Cause, Refused, Deep, Outcome, Got, Fails, Ahead, at, Gives, Reader, starts, and_then, many_up_to, many}
+use Rattle.token_reading.specs.Reading.{Cause, Refused, OverLimit, Outcome, Got, Fails, Ahead, at, Gives, Reader, starts, and_then, many_up_to, many}
 use Rattle.token_reading.proofs.Lists.{if_true, if_false}
 use Rattle.token_reading.proofs.Many.{add_front, turn}
 
@@ -74,7 +74,7 @@ module _ {A : Type 0} (ms : List ℕ) (p : Reader A) (shortens : Shortens p) whe
   pub breaks_off : (cause : ReadFault) (xs : List A) (old new : Ahead) (o : Outcome (List A)) → starts ms old.tokens ≡ true
       → Gives (at p old) (Err cause) new → with_front xs (at (many ms p) old) ≡ o → Gives o (Err cause) new
   breaks_off fault.Refused xs old new o sees one before = breaks xs old Refused new.tokens o sees one before
-  breaks_off fault.Deep xs old new o sees one before = breaks xs old Deep new.tokens o sees one before
+  breaks_off fault.OverLimit xs old new o sees one before = breaks xs old OverLimit new.tokens o sees one before
   breaks_off fault.Memory xs old new o sees one before = tt
 
 -- An error that `?` hands on as it is.

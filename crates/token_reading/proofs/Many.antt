@@ -4,14 +4,14 @@ use Rattle.std.specs.Prelude.{if◌then◌else◌}
 use Rattle.std.specs.List.{flat_map}
 use Rattle.std.proofs.lemmas.List.{append_assoc, append-nil, length-append}
 use Rattle.token_reading.specs.Spelled.{Spelled}
-use Rattle.token_reading.specs.Marks.{Mark, bare, after, marked}
+use Rattle.token_reading.specs.Weights.{WeighedToken, bare, after, row_spelling}
 use Rattle.token_reading.specs.Reading.{Cause, Outcome, Got, Fails, Reader, starts, and_then, many_up_to, many, in_front, some, Each}
 use Rattle.token_reading.proofs.Sets.{apart, within, Leads, stops_both, stops_before, starts_within}
-use Rattle.token_reading.proofs.Lists.{bare-append, bare_both, after-append, light-append, marked_flat, nothing_before, if_true, if_false}
+use Rattle.token_reading.proofs.Lists.{bare-append, bare_both, after-append, within_limits-append, row_spelling_flat, nothing_before, if_true, if_false}
 use Rattle.token_reading.proofs.Made.{law_to, law_reworded}
 use Rattle.token_reading.proofs.Seq.{Both, law_seq}
 use Rattle.token_reading.proofs.Choice.{same_start}
-use Rattle.token_reading.proofs.Law.{Read, Accepted, Reached, Broken, Law, Leaves, rest_of, put, left_is, left_same, and_then_got, and_then_fails, got_fails, read_same, accepted_then, left_made, put_made, goes_past}
+use Rattle.token_reading.proofs.Law.{Read, Accepted, Reached, Broken, Law, Leaves, rest_of, put, left_same, and_then_got, and_then_fails, got_fails, read_same, accepted_then, accepted_made, left_made, put_made, goes_past}
 
 abbrev pub add_front : {A : Type 0} → A → List A → Reader (List A)
 add_front a xs i rest = Got (a ∷ xs) i rest
@@ -20,7 +20,7 @@ add_front a xs i rest = Got (a ∷ xs) i rest
 abbrev pub turn : {A : Type 0} → Outcome A → Reader (List A) → Outcome (List A)
 turn o q = and_then o (λ a j more. and_then (q j more) (add_front a))
 
-module _ {A : Type 0} {p : Reader A} {g : A → Type 0} {s : A → List Mark} {fp lp : List ℕ} (ms : List ℕ)
+module _ {A : Type 0} {p : Reader A} {g : A → Type 0} {s : A → List WeighedToken} {fp lp : List ℕ} (ms : List ℕ)
     (P : Law p g s fp lp false) (taken_in : within fp ms ≡ true) (side : apart lp fp ≡ true) where
   abbrev up : ℕ → Reader (List A)
   up n = many_up_to ms p n
@@ -41,25 +41,25 @@ module _ {A : Type 0} {p : Reader A} {g : A → Type 0} {s : A → List Mark} {f
       omega arith
 
   many_whole : (k : ℕ) (ts : List Spelled) (a : A) (j : ℕ) (mid : List Spelled) (xs : List A) (i : ℕ) (rest : List Spelled)
-      → Read g s k ts a j mid → Read (Each g) (marked s) j mid xs i rest
-      → Read (Each g) (marked s) k ts (a ∷ xs) i rest
+      → Read g s k ts a j mid → Read (Each g) (row_spelling s) j mid xs i rest
+      → Read (Each g) (row_spelling s) k ts (a ∷ xs) i rest
   many_whole k ts a j mid xs i rest front behind =
-      let back = subst (λ l. Read (Each g) (marked s) l mid xs i rest) front.count behind in
+      let back = subst (λ l. Read (Each g) (row_spelling s) l mid xs i rest) front.count behind in
       record {
         fits = (front.fits, back.fits);
-        light = light-append k (s a) (marked s xs) front.light back.light;
-        count = back.count ∙ sym (after-append k (s a) (marked s xs));
-        whole = front.whole ∙ ap (λ r. bare (s a) ++ r) back.whole ∙ sym (bare_both (s a) (marked s xs) rest);
+        within_limits = within_limits-append k (s a) (row_spelling s xs) front.within_limits back.within_limits;
+        count = back.count ∙ sym (after-append k (s a) (row_spelling s xs));
+        whole = front.whole ∙ ap (λ r. bare (s a) ++ r) back.whole ∙ sym (bare_both (s a) (row_spelling s xs) rest);
       }
 
   none_read : (k : ℕ) (ts : List Spelled) (xs : List A) (i : ℕ) (rest : List Spelled) → Got [] k ts ≡ Got xs i rest
-      → Read (Each g) (marked s) k ts xs i rest
-  none_read k ts xs i rest e = read_same k ts [] xs k i ts rest e (record { fits = tt; light = tt; count = refl; whole = refl })
+      → Read (Each g) (row_spelling s) k ts xs i rest
+  none_read k ts xs i rest e = read_same k ts [] xs k i ts rest e (record { fits = tt; within_limits = tt; count = refl; whole = refl })
 
   turn_sound : (n : ℕ)
-      → ((k : ℕ) (ts : List Spelled) (xs : List A) (i : ℕ) (rest : List Spelled) → up n k ts ≡ Got xs i rest → Read (Each g) (marked s) k ts xs i rest)
+      → ((k : ℕ) (ts : List Spelled) (xs : List A) (i : ℕ) (rest : List Spelled) → up n k ts ≡ Got xs i rest → Read (Each g) (row_spelling s) k ts xs i rest)
       → (r : Bool) (k : ℕ) (ts : List Spelled) (xs : List A) (i : ℕ) (rest : List Spelled) → (if r then turn (p k ts) (up n) else Got [] k ts) ≡ Got xs i rest
-      → Read (Each g) (marked s) k ts xs i rest
+      → Read (Each g) (row_spelling s) k ts xs i rest
   turn_sound n ih true k ts xs i rest e =
       let one = and_then_got (p k ts) (later n) xs i rest e in
       let two = and_then_got (up n one.1.0 one.1.1.0) (add_front one.0) xs i rest one.1.1.1.1 in
@@ -70,7 +70,7 @@ module _ {A : Type 0} {p : Reader A} {g : A → Type 0} {s : A → List Mark} {f
   turn_sound n ih false k ts xs i rest e = none_read k ts xs i rest e
 
   up_sound : (n k : ℕ) (ts : List Spelled) (xs : List A) (i : ℕ) (rest : List Spelled) → up n k ts ≡ Got xs i rest
-      → Read (Each g) (marked s) k ts xs i rest
+      → Read (Each g) (row_spelling s) k ts xs i rest
   up_sound zero k ts xs i rest e = none_read k ts xs i rest e
   up_sound (suc n) k ts xs i rest e = turn_sound n (up_sound n) (starts ms ts) k ts xs i rest e
 
@@ -78,27 +78,27 @@ module _ {A : Type 0} {p : Reader A} {g : A → Type 0} {s : A → List Mark} {f
   leads_more [] vs l = absurd (cc)
   leads_more (u ∷ us) vs l = l
 
-  leads_many : (xs : List A) → Each g xs → Leads true fp (bare (marked s xs))
+  leads_many : (xs : List A) → Each g xs → Leads true fp (bare (row_spelling s xs))
   leads_many [] good = refl
   leads_many (x ∷ xs) good =
-      subst (λ us. Leads true fp us) (sym (bare-append (s x) (marked s xs)))
-      (leads_more (bare (s x)) (bare (marked s xs)) (P.leads x good.0))
+      subst (λ us. Leads true fp us) (sym (bare-append (s x) (row_spelling s xs)))
+      (leads_more (bare (s x)) (bare (row_spelling s xs)) (P.leads x good.0))
 
   up_accepts : (n k : ℕ) (xs : List A) (rest : List Spelled) → Each g xs → starts (ms ++ lp) rest ≡ false
-      → length (bare (marked s xs) ++ rest) ≤ n → Accepted xs (after k (marked s xs)) rest (up n k (bare (marked s xs) ++ rest))
-  up_accepts zero k [] rest good e le = (refl, refl, refl)
+      → length (bare (row_spelling s xs) ++ rest) ≤ n → Accepted xs k (row_spelling s xs) rest (up n k (bare (row_spelling s xs) ++ rest))
+  up_accepts zero k [] rest good e le = (refl, refl, refl, tt)
   up_accepts zero k (x ∷ xs) rest good e le =
       let has : 0 < length (bare (s x)) = some_token (bare (s x)) (P.leads x good.0) in
-      let later : List Spelled = bare (marked s xs) ++ rest in
-      let whole : length (bare (s x ++ marked s xs) ++ rest) ≡ length (bare (s x)) + length later =
-      ap length (bare_both (s x) (marked s xs) rest) ∙ length-append (bare (s x)) later in
+      let later : List Spelled = bare (row_spelling s xs) ++ rest in
+      let whole : length (bare (s x ++ row_spelling s xs) ++ rest) ≡ length (bare (s x)) + length later =
+      ap length (bare_both (s x) (row_spelling s xs) rest) ∙ length-append (bare (s x)) later in
       absurd (omega arith)
   up_accepts (suc n) k [] rest good e le =
-      subst (λ o. Accepted [] k rest o) (sym (if_false (starts ms rest) (turn (p k rest) (up n)) (Got [] k rest) (stops_both ms lp rest e).0)) (refl, refl, refl)
+      subst (λ o. Accepted [] k [] rest o) (sym (if_false (starts ms rest) (turn (p k rest) (up n)) (Got [] k rest) (stops_both ms lp rest e).0)) (refl, refl, refl, tt)
   up_accepts (suc n) k (x ∷ xs) rest good e le =
       let has : 0 < length (bare (s x)) = some_token (bare (s x)) (P.leads x good.0) in
-      let front : List Mark = s x in
-      let back : List Mark = marked s xs in
+      let front : List WeighedToken = s x in
+      let back : List WeighedToken = row_spelling s xs in
       let more_of : List Spelled = bare back ++ rest in
       let ts : List Spelled = bare front ++ more_of in
       let same : bare (front ++ back) ++ rest ≡ ts = bare_both front back rest in
@@ -108,19 +108,17 @@ module _ {A : Type 0} {p : Reader A} {g : A → Type 0} {s : A → List Mark} {f
       let between : starts lp more_of ≡ false =
       stops_before lp fp side true (bare back) rest (leads_many xs good.1) (λ _. (stops_both ms lp rest e).1) in
       let j : ℕ = after k front in
-      let i : ℕ = after j back in
       let one = P.accepts k x more_of good.0 between in
       let more = up_accepts n j xs rest good.1 e fewer in
       let here : starts ms ts ≡ true = starts_within fp ms taken_in (bare front) more_of (P.leads x good.0) in
       let all : List A = x ∷ xs in
-      let list = accepted_then xs i rest all i rest (add_front x) (up n j more_of) more (refl, refl, refl) in
-      subst (λ l. Accepted all l rest (up (suc n) k (bare (front ++ back) ++ rest))) (sym (after-append k front back))
-      (subst (λ us. Accepted all i rest (up (suc n) k us)) (sym same)
-      (subst (λ o. Accepted all i rest o) (sym (if_true (starts ms ts) (turn (p k ts) (up n)) (Got [] k ts) here))
-      (accepted_then x j more_of all i rest (later n) (p k ts) one list)))
+      let list = accepted_made (λ (ys : List A). x ∷ ys) xs all j back rest (up n j more_of) refl more in
+      subst (λ us. Accepted all k (front ++ back) rest (up (suc n) k us)) (sym same)
+      (subst (λ o. Accepted all k (front ++ back) rest o) (sym (if_true (starts ms ts) (turn (p k ts) (up n)) (Got [] k ts) here))
+      (accepted_then x k front back all rest (later n) (p k ts) one (λ within_limits. list)))
 
   -- what is read in the first turn is cut short, or in a later one
-  cut_first : (k : ℕ) (ts : List Spelled) (c : Cause) (rest : List Spelled) → Broken g s k c ts rest → Broken (Each g) (marked s) k c ts rest
+  cut_first : (k : ℕ) (ts : List Spelled) (c : Cause) (rest : List Spelled) → Broken g s k c ts rest → Broken (Each g) (row_spelling s) k c ts rest
   cut_first k ts c rest broken = record {
     before = broken.before;
     tree = broken.tree ∷ [];
@@ -134,25 +132,25 @@ module _ {A : Type 0} {p : Reader A} {g : A → Type 0} {s : A → List Mark} {f
   }
 
   cut_later : (k : ℕ) (ts : List Spelled) (a : A) (j : ℕ) (mid : List Spelled) (c : Cause) (rest : List Spelled)
-      → Read g s k ts a j mid → Broken (Each g) (marked s) j c mid rest → Broken (Each g) (marked s) k c ts rest
+      → Read g s k ts a j mid → Broken (Each g) (row_spelling s) j c mid rest → Broken (Each g) (row_spelling s) k c ts rest
   cut_later k ts a j mid c rest front cut =
-      let broken = subst (λ l. Broken (Each g) (marked s) l c mid rest) front.count cut in
+      let broken = subst (λ l. Broken (Each g) (row_spelling s) l c mid rest) front.count cut in
       record {
         before = s a ++ broken.before;
         tree = a ∷ broken.tree;
         reached = broken.reached;
         more = broken.more;
         fits = (front.fits, broken.fits);
-        clear = light-append k (s a) broken.before front.light broken.clear;
+        clear = within_limits-append k (s a) broken.before front.within_limits broken.clear;
         reach = subst (λ l. Reached c l broken.reached rest) (sym (after-append k (s a) broken.before)) broken.reach;
         splits = front.whole ∙ ap (λ r. bare (s a) ++ r) broken.splits ∙ sym (bare_both (s a) broken.before rest);
         goes_on = ap (λ ns. s a ++ ns) broken.goes_on ∙ sym (append_assoc (s a) broken.before (broken.reached ++ broken.more));
       }
 
   turn_breaks : (n : ℕ)
-      → ((k : ℕ) (ts : List Spelled) (c : Cause) (rest : List Spelled) → up n k ts ≡ Fails c rest → Broken (Each g) (marked s) k c ts rest)
+      → ((k : ℕ) (ts : List Spelled) (c : Cause) (rest : List Spelled) → up n k ts ≡ Fails c rest → Broken (Each g) (row_spelling s) k c ts rest)
       → (r : Bool) (k : ℕ) (ts : List Spelled) (c : Cause) (rest : List Spelled) → (if r then turn (p k ts) (up n) else Got [] k ts) ≡ Fails c rest
-      → Broken (Each g) (marked s) k c ts rest
+      → Broken (Each g) (row_spelling s) k c ts rest
   turn_breaks n ih true k ts c rest e = elim (and_then_fails (p k ts) (later n) c rest e) [
     | inl first ↦ cut_first k ts c rest (P.breaks k ts c rest first)
     | inr one ↦
@@ -164,7 +162,7 @@ module _ {A : Type 0} {p : Reader A} {g : A → Type 0} {s : A → List Mark} {f
   ]
   turn_breaks n ih false k ts c rest e = absurd (got_fails [] k c ts rest e)
 
-  up_breaks : (n k : ℕ) (ts : List Spelled) (c : Cause) (rest : List Spelled) → up n k ts ≡ Fails c rest → Broken (Each g) (marked s) k c ts rest
+  up_breaks : (n k : ℕ) (ts : List Spelled) (c : Cause) (rest : List Spelled) → up n k ts ≡ Fails c rest → Broken (Each g) (row_spelling s) k c ts rest
   up_breaks zero k ts c rest e = absurd (got_fails [] k c ts rest e)
   up_breaks (suc n) k ts c rest e = turn_breaks n (up_breaks n) (starts ms ts) k ts c rest e
 
@@ -172,7 +170,7 @@ module _ {A : Type 0} {p : Reader A} {g : A → Type 0} {s : A → List Mark} {f
   up_prefix n k ts = of_outcome (up n k ts) refl
     where
       of_outcome : (o : Outcome (List A)) → up n k ts ≡ o → (u : List Spelled) × (ts ≡ u ++ rest_of o)
-      of_outcome (Got xs j rest) e = (bare (marked s xs), (up_sound n k ts xs j rest e).whole)
+      of_outcome (Got xs j rest) e = (bare (row_spelling s xs), (up_sound n k ts xs j rest e).whole)
       of_outcome (Fails c rest) e = let broken = up_breaks n k ts c rest e in (bare broken.before, broken.splits)
 
   some_length : (u : List Spelled) (x : Spelled) (r : List Spelled) → 0 < length (u ++ (x ∷ r))
@@ -191,7 +189,7 @@ module _ {A : Type 0} {p : Reader A} {g : A → Type 0} {s : A → List Mark} {f
   first_local n m ih k u x r z le lm (Got a j mid) is at =
       let leaves = left_made (λ (xs : List A). a ∷ xs) (up n j mid) (x ∷ r) at in
       let cut = up_prefix n j mid in
-      let split : mid ≡ cut.0 ++ (x ∷ r) = cut.1 ∙ ap (λ ts. cut.0 ++ ts) (left_is (up n j mid) (x ∷ r) leaves) in
+      let split : mid ≡ cut.0 ++ (x ∷ r) = cut.1 ∙ ap (λ ts. cut.0 ++ ts) leaves in
       let past = goes_past P k u x r z a j mid cut.0 is split in
       let there = subst (λ ts. Leaves (up n j ts) (x ∷ r)) split leaves in
       let less : length mid < length (u ++ (x ∷ r)) = shorter k (u ++ (x ∷ r)) a j mid is in
@@ -215,24 +213,24 @@ module _ {A : Type 0} {p : Reader A} {g : A → Type 0} {s : A → List Mark} {f
       ap (λ b. if b then turn (p k (u ++ (x ∷ z))) (up m) else Got [] k (u ++ (x ∷ z))) (same_start ms u x r z)
       ∙ turn_local n m (up_local n m) k u x r z le lm (starts ms (u ++ (x ∷ r))) e
 
-  pub law_many : Law (many ms p) (Each g) (marked s) fp (ms ++ lp) true
+  pub law_many : Law (many ms p) (Each g) (row_spelling s) fp (ms ++ lp) true
   unfolding many
   law_many = record {
     example = [];
     sample = tt;
     leads = leads_many;
     sound = λ k ts xs i rest e. up_sound (length ts) k ts xs i rest e;
-    accepts = λ k xs rest good e. up_accepts (length (bare (marked s xs) ++ rest)) k xs rest good e (omega arith);
+    accepts = λ k xs rest good e. up_accepts (length (bare (row_spelling s xs) ++ rest)) k xs rest good e (omega arith);
     breaks = λ k ts c rest e. up_breaks (length ts) k ts c rest e;
     local = λ k u x r z e. up_local (length (u ++ (x ∷ r))) (length (u ++ (x ∷ z))) k u x r z (omega arith) (omega arith) e;
   }
 
 -- The same, spelled as the lists of the library are made flat.
-pub law_each : {A : Type 0} {p : Reader A} {g : A → Type 0} {s : A → List Mark} {fp lp : List ℕ} (ms : List ℕ)
+pub law_each : {A : Type 0} {p : Reader A} {g : A → Type 0} {s : A → List WeighedToken} {fp lp : List ℕ} (ms : List ℕ)
     → Law p g s fp lp false → within fp ms ≡ true → apart lp fp ≡ true → Law (many ms p) (Each g) (flat_map s) fp (ms ++ lp) true
 law_each {g = g} {s = s} ms P taken_in side =
     law_reworded (Each g) (flat_map s) (law_many ms P taken_in side) (λ xs good. good) (λ xs good. good)
-    (λ xs good. sym (marked_flat s xs))
+    (λ xs good. sym (row_spelling_flat s xs))
 
 -- ---- at least one
 
@@ -240,20 +238,20 @@ abbrev pub SomeEach : {A : Type 0} → (A → Type 0) → List A → Type 0
 SomeEach g [] = ⊥
 SomeEach g (x ∷ xs) = g x × Each g xs
 
-module _ {A : Type 0} {p : Reader A} {g : A → Type 0} {s : A → List Mark} {fp lp : List ℕ} (ms : List ℕ)
+module _ {A : Type 0} {p : Reader A} {g : A → Type 0} {s : A → List WeighedToken} {fp lp : List ℕ} (ms : List ℕ)
     (P : Law p g s fp lp false) (taken_in : within fp ms ≡ true) (side : apart lp fp ≡ true) where
   onto_some : (xs : List A) → SomeEach g xs → (x : A × List A) × (Both g (Each g) x × (in_front x ≡ xs))
   onto_some [] good = absurd good
   onto_some (x ∷ xs) good = ((x, xs), (good, refl))
 
-  pub law_some : Law (some ms p) (SomeEach g) (marked s) fp (lp ++ (ms ++ lp)) false
-  law_some = law_to in_front (SomeEach g) (marked s)
+  pub law_some : Law (some ms p) (SomeEach g) (row_spelling s) fp (lp ++ (ms ++ lp)) false
+  law_some = law_to in_front (SomeEach g) (row_spelling s)
       (law_seq P (law_many ms P taken_in side) side) (λ x good. good) (λ x good. refl) onto_some
 
 -- The same, spelled as the lists of the library are made flat.
-pub law_some_each : {A : Type 0} {p : Reader A} {g : A → Type 0} {s : A → List Mark} {fp lp : List ℕ} (ms : List ℕ)
+pub law_some_each : {A : Type 0} {p : Reader A} {g : A → Type 0} {s : A → List WeighedToken} {fp lp : List ℕ} (ms : List ℕ)
     → Law p g s fp lp false → within fp ms ≡ true → apart lp fp ≡ true
     → Law (some ms p) (SomeEach g) (flat_map s) fp (lp ++ (ms ++ lp)) false
 law_some_each {g = g} {s = s} ms P taken_in side =
     law_reworded (SomeEach g) (flat_map s) (law_some ms P taken_in side) (λ xs good. good) (λ xs good. good)
-    (λ xs good. sym (marked_flat s xs))
+    (λ xs good. sym (row_spelling_flat s xs))

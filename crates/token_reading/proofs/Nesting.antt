@@ -7,23 +7,24 @@ use Rattle.spark_base.specs.declared.limits.TheConstants.{NESTING}
 use Rattle.token_reading.specs.declared.side.Side.{Side}
 use Rattle.token_reading.specs.declared.side.Side.TheVariants.{Apart}
 use Rattle.token_reading.specs.Spelled.{Spelled, Word, Delimiter}
-use Rattle.token_reading.specs.Marks.{Mark, bare, after, Light, opens}
-use Rattle.token_reading.specs.Reading.{Cause, Refused, Deep, Outcome, Got, Fails, Reader, starts, and_then, of_word, of_symbol, opens_word, opens_symbol, seq_on, seq}
+use Rattle.token_reading.specs.Weights.{WeighedToken, bare, after, WithinLimits, opens}
+use Rattle.token_reading.specs.Reading.{Cause, Refused, OverLimit, Outcome, Got, Fails, Reader, starts, and_then, of_word, of_symbol, opens_word, opens_symbol, seq_on, seq}
 use Rattle.token_reading.proofs.Sets.{Leads}
 use Rattle.token_reading.proofs.Lists.{bare-append, bare_both, after-append}
 use Rattle.token_reading.proofs.Tokens.{Any, law_opens_word, law_opens_symbol}
 use Rattle.token_reading.proofs.Seq.{pair_up, on_whole, in_first, in_second, BothOn, joined_on, Both, joined}
-use Rattle.token_reading.proofs.Law.{Read, Accepted, Broken, Law, Leaves, put, left_is, left_same, and_then_got, and_then_fails, got_fails, read_same, accepted_then, left_made, put_made, prefix, goes_past}
+use Rattle.token_reading.proofs.Law.{Read, Accepted, Broken, Law, Leaves, put, left_same, and_then_got, and_then_fails, got_fails, read_same, accepted_then, accepted_made, left_made, put_made, prefix, goes_past}
 
--- A law is owed of the second part only behind a first part that has no token too many: behind others it is never reached.
-module _ {A B : Type 0} {p : Reader A} {q : A → Reader B} {g : A → Type 0} {h : A → B → Type 0} {s : A → List Mark} {t : A → B → List Mark}
+-- A law is owed of the second part only behind a first part within the limits: behind others it is
+-- never reached.
+module _ {A B : Type 0} {p : Reader A} {q : A → Reader B} {g : A → Type 0} {h : A → B → Type 0} {s : A → List WeighedToken} {t : A → B → List WeighedToken}
     {first fq lq : List ℕ} {n : Bool} (P : Law p g s first [] false)
-    (Q : (k : ℕ) (a : A) → g a → Light k (s a) → Law (q a) (h a) (t a) fq lq n) (example : (a : A) → g a → (b : B) × h a b) where
+    (Q : (k : ℕ) (a : A) → g a → WithinLimits k (s a) → Law (q a) (h a) (t a) fq lq n) (example : (a : A) → g a → (b : B) × h a b) where
   abbrev Good : A × B → Type 0
   Good = BothOn g h
 
-  abbrev marks : A × B → List Mark
-  marks = joined_on s t
+  abbrev spelling : A × B → List WeighedToken
+  spelling = joined_on s t
 
   abbrev behind : A → Reader (A × B)
   behind a j more = and_then (q a j more) (pair_up a)
@@ -32,18 +33,18 @@ module _ {A B : Type 0} {p : Reader A} {q : A → Reader B} {g : A → Type 0} {
   leads_on [] vs l = absurd (cc)
   leads_on (u ∷ us) vs l = l
 
-  guarded_leads : (x : A × B) → Good x → Leads false first (bare (marks x))
+  guarded_leads : (x : A × B) → Good x → Leads false first (bare (spelling x))
   guarded_leads x good =
       subst (λ us. Leads false first us) (sym (bare-append (s x.0) (t x.0 x.1)))
       (leads_on (bare (s x.0)) (bare (t x.0 x.1)) (P.leads x.0 good.0))
 
   guarded_sound : (k : ℕ) (ts : List Spelled) (x : A × B) (i : ℕ) (rest : List Spelled) → seq_on p q k ts ≡ Got x i rest
-      → Read Good marks k ts x i rest
+      → Read Good spelling k ts x i rest
   guarded_sound k ts x i rest e =
       let one = and_then_got (p k ts) behind x i rest e in
       let two = and_then_got (q one.0 one.1.0 one.1.1.0) (pair_up one.0) x i rest one.1.1.1.1 in
       let front = P.sound k ts one.0 one.1.0 one.1.1.0 one.1.1.1.0 in
-      let back = (Q k one.0 front.fits front.light).sound one.1.0 one.1.1.0 two.0 two.1.0 two.1.1.0 two.1.1.1.0 in
+      let back = (Q k one.0 front.fits front.within_limits).sound one.1.0 one.1.1.0 two.0 two.1.0 two.1.1.0 two.1.1.1.0 in
       read_same {A = A × B} k ts (one.0, two.0) x two.1.0 i two.1.1.0 rest two.1.1.1.1
       (on_whole g h s t k ts one.0 one.1.0 one.1.1.0 two.0 two.1.0 two.1.1.0 front back)
 
@@ -51,43 +52,29 @@ module _ {A B : Type 0} {p : Reader A} {q : A → Reader B} {g : A → Type 0} {
   starts_none [] = refl
   starts_none (u ∷ ts) = refl
 
-  -- the operators behind both parts
-  abbrev count : ℕ → A × B → ℕ
-  count k x = after (after k (s x.0)) (t x.0 x.1)
-
-  second_accepts : (k : ℕ) (x : A × B) (rest : List Spelled) → Good x → Light k (s x.0) → starts lq rest ≡ false
-      → Accepted x (count k x) rest (behind x.0 (after k (s x.0)) (bare (t x.0 x.1) ++ rest))
-  second_accepts k x rest good light e =
+  second_accepts : (k : ℕ) (x : A × B) (rest : List Spelled) → Good x → WithinLimits k (s x.0) → starts lq rest ≡ false
+      → Accepted x (after k (s x.0)) (t x.0 x.1) rest (behind x.0 (after k (s x.0)) (bare (t x.0 x.1) ++ rest))
+  second_accepts k x rest good within_limits e =
       let j : ℕ = after k (s x.0) in
-      let left : List Spelled = bare (t x.0 x.1) ++ rest in
-      accepted_then x.1 (count k x) rest x (count k x) rest (pair_up x.0) (q x.0 j left)
-      ((Q k x.0 good.0 light).accepts j x.1 rest good.1 e) (refl, refl, refl)
+      accepted_made (λ (b : B). (x.0, b)) x.1 x j (t x.0 x.1) rest (q x.0 j (bare (t x.0 x.1) ++ rest)) refl
+      ((Q k x.0 good.0 within_limits).accepts j x.1 rest good.1 e)
 
   guarded_accepts : (k : ℕ) (x : A × B) (rest : List Spelled) → Good x → starts lq rest ≡ false
-      → Accepted x (after k (marks x)) rest (seq_on p q k (bare (marks x) ++ rest))
+      → Accepted x k (spelling x) rest (seq_on p q k (bare (spelling x) ++ rest))
   guarded_accepts k x rest good e =
       let left : List Spelled = bare (t x.0 x.1) ++ rest in
-      let ts : List Spelled = bare (s x.0) ++ left in
-      subst (λ l. Accepted x l rest (seq_on p q k (bare (marks x) ++ rest))) (sym (after-append k (s x.0) (t x.0 x.1)))
-      (subst (λ us. Accepted x (count k x) rest (seq_on p q k us)) (sym (bare_both (s x.0) (t x.0 x.1) rest))
-      (of_first left (λ light. second_accepts k x rest good light e) (p k ts) refl (P.accepts k x.0 left good.0 (starts_none left))))
-    where
-      of_first : (left : List Spelled) → (Light k (s x.0) → Accepted x (count k x) rest (behind x.0 (after k (s x.0)) left)) → (o : Outcome A)
-          → p k (bare (s x.0) ++ left) ≡ o → Accepted x.0 (after k (s x.0)) left o → Accepted x (count k x) rest (and_then o behind)
-      of_first left second (Got a j more) is one =
-          let light : Light k (s x.0) = subst (λ b. Light k (s b)) one.0 (P.sound k (bare (s x.0) ++ left) a j more is).light in
-          accepted_then x.0 (after k (s x.0)) left x (count k x) rest behind (Got a j more) one (second light)
-      of_first left second (Fails Deep more) is one = tt
-      of_first left second (Fails Refused more) is one = absurd one
+      subst (λ us. Accepted x k (spelling x) rest (seq_on p q k us)) (sym (bare_both (s x.0) (t x.0 x.1) rest))
+      (accepted_then x.0 k (s x.0) (t x.0 x.1) x rest behind (p k (bare (s x.0) ++ left)) (P.accepts k x.0 left good.0 (starts_none left))
+      (λ within_limits. second_accepts k x rest good within_limits e))
 
-  guarded_breaks : (k : ℕ) (ts : List Spelled) (c : Cause) (rest : List Spelled) → seq_on p q k ts ≡ Fails c rest → Broken Good marks k c ts rest
+  guarded_breaks : (k : ℕ) (ts : List Spelled) (c : Cause) (rest : List Spelled) → seq_on p q k ts ≡ Fails c rest → Broken Good spelling k c ts rest
   guarded_breaks k ts c rest e = elim (and_then_fails (p k ts) behind c rest e) [
     | inl early ↦ in_first g h s t k ts c rest example (P.breaks k ts c rest early)
     | inr one ↦
         let front = P.sound k ts one.0 one.1.0 one.1.1.0 one.1.1.1.0 in
         elim (and_then_fails (q one.0 one.1.0 one.1.1.0) (pair_up one.0) c rest one.1.1.1.1) [
           | inl second ↦
-              in_second g h s t k ts one.0 one.1.0 one.1.1.0 c rest front ((Q k one.0 front.fits front.light).breaks one.1.0 one.1.1.0 c rest second)
+              in_second g h s t k ts one.0 one.1.0 one.1.1.0 c rest front ((Q k one.0 front.fits front.within_limits).breaks one.1.0 one.1.1.0 c rest second)
           | inr two ↦ absurd (got_fails {A = A × B} (one.0, two.0) two.1.0 c two.1.1.0 rest two.1.1.1.1)
         ]
   ]
@@ -102,10 +89,10 @@ module _ {A B : Type 0} {p : Reader A} {q : A → Reader B} {g : A → Type 0} {
           ap (λ o. and_then o behind) (P.local k u x r z (left_same (p k (u ++ (x ∷ r))) (Fails c rest) (x ∷ r) is at) ∙ ap (put (x ∷ z)) is)
       of_first (Got a j mid) is at =
           let front = P.sound k (u ++ (x ∷ r)) a j mid is in
-          let second = Q k a front.fits front.light in
+          let second = Q k a front.fits front.within_limits in
           let leaves = left_made (λ (b : B). (a, b)) (q a j mid) (x ∷ r) at in
           let cut = prefix second j mid in
-          let split : mid ≡ cut.0 ++ (x ∷ r) = cut.1 ∙ ap (λ ts. cut.0 ++ ts) (left_is (q a j mid) (x ∷ r) leaves) in
+          let split : mid ≡ cut.0 ++ (x ∷ r) = cut.1 ∙ ap (λ ts. cut.0 ++ ts) leaves in
           let past = goes_past P k u x r z a j mid cut.0 is split in
           let there = subst (λ ts. Leaves (q a j ts) (x ∷ r)) split leaves in
           let more = second.local j cut.0 x r z there in
@@ -127,11 +114,11 @@ module _ {A B : Type 0} {p : Reader A} {q : A → Reader B} {g : A → Type 0} {
 
 -- ---- an opener and the rest of its construct, of which there is a law only where a level is left
 
-module _ {B : Type 0} {q : Reader B} {h : B → Type 0} {t : B → List Mark} {fq lq : List ℕ} {n : Bool} (example : B) (sample : h example) where
+module _ {B : Type 0} {q : Reader B} {h : B → Type 0} {t : B → List WeighedToken} {fq lq : List ℕ} {n : Bool} (example : B) (sample : h example) where
   pub law_opened_word : (v : Reserved) (d : ℕ) → (leb NESTING d ≡ false → Law q h t fq lq n)
       → Law (seq (opens_word v d) q) (Both Any h) (joined (λ p. opens Apart d (Word v p) ∷ []) t) (of_word v ∷ []) lq false
-  law_opened_word v d Q = law_guarded (law_opens_word v d) (λ k a good light. Q light.0.allowed) (λ a good. (example, sample))
+  law_opened_word v d Q = law_guarded (law_opens_word v d) (λ k a good within_limits. Q within_limits.0.allowed) (λ a good. (example, sample))
 
   pub law_opened_symbol : (side : Side) (v : Symbol) (d : ℕ) → (leb NESTING d ≡ false → Law q h t fq lq n)
       → Law (seq (opens_symbol side v d) q) (Both Any h) (joined (λ p. opens side d (Delimiter v p) ∷ []) t) (of_symbol v ∷ []) lq false
-  law_opened_symbol side v d Q = law_guarded (law_opens_symbol side v d) (λ k a good light. Q light.0.allowed) (λ a good. (example, sample))
+  law_opened_symbol side v d Q = law_guarded (law_opens_symbol side v d) (λ k a good within_limits. Q within_limits.0.allowed) (λ a good. (example, sample))

@@ -3,28 +3,28 @@ use Rattle.std.proofs.Common.{◌≡◌, refl, sym, ap, ◌∙◌, subst, ℕ, B
 use Rattle.std.specs.Prelude.{◌&&◌, if◌then◌else◌}
 use Rattle.std.proofs.lemmas.List.{append_assoc}
 use Rattle.token_reading.specs.Spelled.{Spelled}
-use Rattle.token_reading.specs.Marks.{Mark, bare, after}
+use Rattle.token_reading.specs.Weights.{WeighedToken, bare, after}
 use Rattle.token_reading.specs.Reading.{Cause, Outcome, Got, Fails, Reader, starts, and_then, seq_on, seq}
 use Rattle.token_reading.proofs.Sets.{apart, Leads, stops_last, stops_before, leads_first}
-use Rattle.token_reading.proofs.Lists.{bare-append, bare_both, after-append, light-append}
-use Rattle.token_reading.proofs.Law.{Read, Accepted, Reached, Broken, Law, Leaves, put, left_is, left_same, and_then_got, and_then_fails, got_fails, read_same, accepted_then, left_made, put_made, prefix, goes_past}
+use Rattle.token_reading.proofs.Lists.{bare-append, bare_both, after-append, within_limits-append}
+use Rattle.token_reading.proofs.Law.{Read, Accepted, Reached, Broken, Law, Leaves, put, left_same, and_then_got, and_then_fails, got_fails, read_same, accepted_then, accepted_made, left_made, put_made, prefix, goes_past}
 
 abbrev pub BothOn : {A B : Type 0} → (A → Type 0) → (A → B → Type 0) → A × B → Type 0
 BothOn g h x = g x.0 × h x.0 x.1
 
-abbrev pub joined_on : {A B : Type 0} → (A → List Mark) → (A → B → List Mark) → A × B → List Mark
+abbrev pub joined_on : {A B : Type 0} → (A → List WeighedToken) → (A → B → List WeighedToken) → A × B → List WeighedToken
 joined_on s t x = s x.0 ++ t x.0 x.1
 
 -- ---- what is read, or cut short, in one of two parts
 
-module _ {A B : Type 0} (g : A → Type 0) (h : A → B → Type 0) (s : A → List Mark) (t : A → B → List Mark) where
+module _ {A B : Type 0} (g : A → Type 0) (h : A → B → Type 0) (s : A → List WeighedToken) (t : A → B → List WeighedToken) where
   pub on_whole : (k : ℕ) (ts : List Spelled) (a : A) (j : ℕ) (mid : List Spelled) (b : B) (i : ℕ) (rest : List Spelled)
       → Read g s k ts a j mid → Read (h a) (t a) j mid b i rest → Read (BothOn g h) (joined_on s t) k ts (a, b) i rest
   on_whole k ts a j mid b i rest front behind_front =
       let back = subst (λ l. Read (h a) (t a) l mid b i rest) front.count behind_front in
       record {
         fits = (front.fits, back.fits);
-        light = light-append k (s a) (t a b) front.light back.light;
+        within_limits = within_limits-append k (s a) (t a b) front.within_limits back.within_limits;
         count = back.count ∙ sym (after-append k (s a) (t a b));
         whole = front.whole ∙ ap (λ r. bare (s a) ++ r) back.whole ∙ sym (bare_both (s a) (t a b) rest);
       }
@@ -34,7 +34,7 @@ module _ {A B : Type 0} (g : A → Type 0) (h : A → B → Type 0) (s : A → L
       → Broken (BothOn g h) (joined_on s t) k c ts rest
   in_first k ts c rest example broken =
       let other = example broken.tree broken.fits in
-      let second : List Mark = t broken.tree other.0 in
+      let second : List WeighedToken = t broken.tree other.0 in
       record {
         before = broken.before;
         tree = (broken.tree, other.0);
@@ -58,7 +58,7 @@ module _ {A B : Type 0} (g : A → Type 0) (h : A → B → Type 0) (s : A → L
         reached = broken.reached;
         more = broken.more;
         fits = (front.fits, broken.fits);
-        clear = light-append k (s a) broken.before front.light broken.clear;
+        clear = within_limits-append k (s a) broken.before front.within_limits broken.clear;
         reach = subst (λ l. Reached c l broken.reached rest) (sym (after-append k (s a) broken.before)) broken.reach;
         splits = front.whole ∙ ap (λ r. bare (s a) ++ r) broken.splits ∙ sym (bare_both (s a) broken.before rest);
         goes_on = ap (λ ms. s a ++ ms) broken.goes_on ∙ sym (append_assoc (s a) broken.before (broken.reached ++ broken.more));
@@ -67,8 +67,8 @@ module _ {A B : Type 0} (g : A → Type 0) (h : A → B → Type 0) (s : A → L
 abbrev pub pair_up : {A B : Type 0} → A → B → Reader (A × B)
 pair_up a b i rest = Got (a, b) i rest
 
-module _ {A B : Type 0} {p : Reader A} {q : A → Reader B} {g : A → Type 0} {h : A → B → Type 0} {s : A → List Mark}
-    {t : A → B → List Mark} {fp lp fq lq : List ℕ} {m n : Bool}
+module _ {A B : Type 0} {p : Reader A} {q : A → Reader B} {g : A → Type 0} {h : A → B → Type 0} {s : A → List WeighedToken}
+    {t : A → B → List WeighedToken} {fp lp fq lq : List ℕ} {m n : Bool}
     (P : Law p g s fp lp m) (Q : (a : A) → g a → Law (q a) (h a) (t a) fq lq n) (side : apart lp fq ≡ true) where
   abbrev behind : A → Reader (A × B)
   behind a j more = and_then (q a j more) (pair_up a)
@@ -89,21 +89,19 @@ module _ {A B : Type 0} {p : Reader A} {q : A → Reader B} {g : A → Type 0} {
       (on_whole g h s t k ts one.0 one.1.0 one.1.1.0 two.0 two.1.0 two.1.1.0 front back)
 
   on_accepts : (k : ℕ) (x : A × B) (rest : List Spelled) → BothOn g h x → starts (if n then lp ++ lq else lq) rest ≡ false
-      → Accepted x (after k (joined_on s t x)) rest (seq_on p q k (bare (joined_on s t x) ++ rest))
+      → Accepted x k (joined_on s t x) rest (seq_on p q k (bare (joined_on s t x) ++ rest))
   on_accepts k x rest good e =
-      let first : List Mark = s x.0 in
-      let second : List Mark = t x.0 x.1 in
+      let first : List WeighedToken = s x.0 in
+      let second : List WeighedToken = t x.0 x.1 in
       let j : ℕ = after k first in
-      let i : ℕ = after j second in
       let last = stops_last n lp lq rest e in
       let law = Q x.0 good.0 in
       let between = stops_before lp fq side n (bare second) rest (law.leads x.1 good.1) last.0 in
       let one = P.accepts k x.0 (bare second ++ rest) good.0 between in
       let two = law.accepts j x.1 rest good.1 last.1 in
-      let pair = accepted_then x.1 i rest x i rest (pair_up x.0) (q x.0 j (bare second ++ rest)) two (refl, refl, refl) in
-      subst (λ l. Accepted x l rest (seq_on p q k (bare (first ++ second) ++ rest))) (sym (after-append k first second))
-      (subst (λ ts. Accepted x i rest (seq_on p q k ts)) (sym (bare_both first second rest))
-      (accepted_then x.0 j (bare second ++ rest) x i rest behind (p k (bare first ++ (bare second ++ rest))) one pair))
+      let pair = accepted_made (λ (b : B). (x.0, b)) x.1 x j second rest (q x.0 j (bare second ++ rest)) refl two in
+      subst (λ ts. Accepted x k (first ++ second) rest (seq_on p q k ts)) (sym (bare_both first second rest))
+      (accepted_then x.0 k first second x rest behind (p k (bare first ++ (bare second ++ rest))) one (λ within_limits. pair))
 
   on_breaks : (k : ℕ) (ts : List Spelled) (c : Cause) (rest : List Spelled) → seq_on p q k ts ≡ Fails c rest → Broken (BothOn g h) (joined_on s t) k c ts rest
   on_breaks k ts c rest e = elim (and_then_fails (p k ts) behind c rest e) [
@@ -129,7 +127,7 @@ module _ {A B : Type 0} {p : Reader A} {q : A → Reader B} {g : A → Type 0} {
           let second = Q a front.fits in
           let leaves = left_made (λ (b : B). (a, b)) (q a j mid) (x ∷ r) at in
           let cut = prefix second j mid in
-          let split : mid ≡ cut.0 ++ (x ∷ r) = cut.1 ∙ ap (λ ts. cut.0 ++ ts) (left_is (q a j mid) (x ∷ r) leaves) in
+          let split : mid ≡ cut.0 ++ (x ∷ r) = cut.1 ∙ ap (λ ts. cut.0 ++ ts) leaves in
           let past = goes_past P k u x r z a j mid cut.0 is split in
           let there = subst (λ ts. Leaves (q a j ts) (x ∷ r)) split leaves in
           let more = second.local j cut.0 x r z there in
@@ -152,10 +150,10 @@ module _ {A B : Type 0} {p : Reader A} {q : A → Reader B} {g : A → Type 0} {
 abbrev pub Both : {A B : Type 0} → (A → Type 0) → (B → Type 0) → A × B → Type 0
 Both g h = BothOn g (λ a. h)
 
-abbrev pub joined : {A B : Type 0} → (A → List Mark) → (B → List Mark) → A × B → List Mark
+abbrev pub joined : {A B : Type 0} → (A → List WeighedToken) → (B → List WeighedToken) → A × B → List WeighedToken
 joined s t x = s x.0 ++ t x.1
 
-pub law_seq : {A B : Type 0} {p : Reader A} {q : Reader B} {g : A → Type 0} {h : B → Type 0} {s : A → List Mark} {t : B → List Mark}
+pub law_seq : {A B : Type 0} {p : Reader A} {q : Reader B} {g : A → Type 0} {h : B → Type 0} {s : A → List WeighedToken} {t : B → List WeighedToken}
     {fp lp fq lq : List ℕ} {m n : Bool} → Law p g s fp lp m → Law q h t fq lq n → apart lp fq ≡ true
     → Law (seq p q) (Both g h) (joined s t) (if m then fp ++ fq else fp) (if n then lp ++ lq else lq) (m && n)
 law_seq P Q side = law_seq_on P (λ a good. Q) side

@@ -1,4 +1,5 @@
--- Sets of kinds: apart from each other, one within the other, and what they say of the front of a list.
+-- Sets of kinds: apart from each other, one within the other, and what they say of the front of a
+-- list.
 use Rattle.std.proofs.Common.{◌≡◌, refl, sym, ap, ◌∙◌, subst, ℕ, Bool, true, false, not, List, [], ◌∷◌, ◌++◌}
 use Rattle.std.specs.Prelude.{◌==◌, ◌||◌, ◌&&◌, if◌then◌else◌}
 use Rattle.std.proofs.lemmas.Bool.Decides.{Decides-eqb}

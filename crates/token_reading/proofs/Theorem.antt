@@ -8,17 +8,17 @@ use Rattle.ada_lexer.specs.declared.token.TokenKind.{TokenKind}
 use Rattle.ada_lexer.specs.declared.token.TokenKind.TheVariants as kind
 use Rattle.ada_lexer.specs.Tokens.{EndsOnce, kinds_of}
 use Rattle.token_reading.specs.Spelled.{Spelled, Word, Ident, Number, Str, Delimiter, EndOfFile, told, told_as}
-use Rattle.token_reading.specs.Marks.{Mark, bare, after, Light}
-use Rattle.token_reading.specs.Reading.{Cause, Refused, Deep, Outcome, Got, Fails, Reader, of_end, is_in, and_then, file_end, whole_file}
-use Rattle.token_reading.specs.Sources.{file_of, IsSpelledBy, IsTreeOf, Begins, IsFaulty, IsTooMany, AtFirst, IsFile}
-use Rattle.token_reading.proofs.Law.{Read, Accepted, OneTooMany, Broken, Law, put, and_then_got, and_then_fails, got_same, got_fails, left_same}
+use Rattle.token_reading.specs.Weights.{WeighedToken, bare, after, WithinLimits}
+use Rattle.token_reading.specs.Reading.{Cause, Refused, OverLimit, Outcome, Got, Fails, Reader, of_end, is_in, and_then, file_end, whole_file}
+use Rattle.token_reading.specs.Sources.{file_of, IsSpelledBy, IsTreeOf, Begins, IsFaulty, IsOverLimit, AtFirst, IsFile}
+use Rattle.token_reading.proofs.Law.{Read, Accepted, OneOverLimit, Broken, Law, put, and_then_got, and_then_fails, got_same, got_fails, left_same}
 
 -- ---- lists that end at their one end of the file
 
-pub not_at_end : (k : ℕ) (us : List Mark) → Light k us → IsFile (bare us) → ⊥
-not_at_end k [] light file = file
-not_at_end k (m ∷ []) light file = light.0.within_file file
-not_at_end k (m ∷ (n ∷ us)) light file = not_at_end (m.weight.step k) (n ∷ us) light.1 file.1
+pub not_at_end : (k : ℕ) (us : List WeighedToken) → WithinLimits k us → IsFile (bare us) → ⊥
+not_at_end k [] within_limits file = file
+not_at_end k (m ∷ []) within_limits file = within_limits.0.within_file file
+not_at_end k (m ∷ (n ∷ us)) within_limits file = not_at_end (m.weight.step k) (n ∷ us) within_limits.1 file.1
 
 -- nothing stands behind the end
 pub ends_there : (us : List Spelled) (rest : List Spelled) → IsFile (us ++ (EndOfFile ∷ rest)) → rest ≡ []
@@ -69,14 +69,13 @@ got_as o a b i mid rest e same left = subst (λ r. o ≡ Got b i r) left (subst 
 
 -- ---- the four things that are told
 
-module _ {A : Type 0} {p : Reader A} {good : A → Type 0} {s : A → List Mark} {first last : List ℕ} {may : Bool}
+module _ {A : Type 0} {p : Reader A} {good : A → Type 0} {s : A → List WeighedToken} {first last : List ℕ} {may : Bool}
     (P : Law p good s first last may) (ends : is_in last of_end ≡ false) where
   -- two trees of one file are one
   unique : (ts : List Spelled) (a b : A) (j : ℕ) (rest : List Spelled) → p 0 ts ≡ Got a j rest → IsSpelledBy good s ts b → b ≡ a
   unique ts a b j rest e spells =
-      let i : ℕ = after 0 (s b) in
-      let accepted : Accepted b i (EndOfFile ∷ []) (p 0 (file_of (s b))) = P.accepts 0 b (EndOfFile ∷ []) spells.fits ends in
-      let same = subst (λ o. Accepted b i (EndOfFile ∷ []) o) (ap (λ us. p 0 us) spells.spelled ∙ e) accepted in
+      let accepted : Accepted b 0 (s b) (EndOfFile ∷ []) (p 0 (file_of (s b))) = P.accepts 0 b (EndOfFile ∷ []) spells.fits ends in
+      let same = subst (λ o. Accepted b 0 (s b) (EndOfFile ∷ []) o) (ap (λ us. p 0 us) spells.spelled ∙ e) accepted in
       sym same.0
 
   abbrev after_tree : A → Reader (A × Unit {0})
@@ -123,7 +122,7 @@ module _ {A : Type 0} {p : Reader A} {good : A → Type 0} {s : A → List Mark}
       let none : rest ≡ [] = ends_there (bare (s tree)) rest (subst IsFile read.whole file) in (
         record {
           spells = record { fits = read.fits; spelled = sym (read.whole ∙ ap (λ r. bare (s tree) ++ (EndOfFile ∷ r)) none) };
-          light = read.light;
+          within_limits = read.within_limits;
           only = λ other spells. unique ts tree other got.0 (EndOfFile ∷ rest) got.1 spells;
         },
         none,
@@ -134,26 +133,24 @@ module _ {A : Type 0} {p : Reader A} {good : A → Type 0} {s : A → List Mark}
       → Begins good s (u ++ (x ∷ [])) → ⊥
   faulty u x r e begins =
       let z : List Spelled = begins.behind in
-      let i : ℕ = after 0 (s begins.tree) in
       let there : p 0 (u ++ (x ∷ z)) ≡ Fails Refused (x ∷ z) =
       P.local 0 u x r z (left_same (p 0 (u ++ (x ∷ r))) (Fails Refused (x ∷ r)) (x ∷ r) e refl) ∙ ap (put (x ∷ z)) e in
       let whole : file_of (s begins.tree) ≡ u ++ (x ∷ z) = begins.whole ∙ append_assoc u (x ∷ []) z in
-      let accepted : Accepted begins.tree i (EndOfFile ∷ []) (p 0 (file_of (s begins.tree))) =
+      let accepted : Accepted begins.tree 0 (s begins.tree) (EndOfFile ∷ []) (p 0 (file_of (s begins.tree))) =
       P.accepts 0 begins.tree (EndOfFile ∷ []) begins.fits ends in
-      subst (λ o. Accepted begins.tree i (EndOfFile ∷ []) o) (ap (λ us. p 0 us) whole ∙ there) accepted
+      subst (λ o. Accepted begins.tree 0 (s begins.tree) (EndOfFile ∷ []) o) (ap (λ us. p 0 us) whole ∙ there) accepted
 
   -- no source begins with a whole tree and a token that isn't the end of the file
   pub faulty_behind : (u : List Spelled) (x : Spelled) (r : List Spelled) (a : A) (j : ℕ) → p 0 (u ++ (x ∷ r)) ≡ Got a j (x ∷ r)
       → (x ≡ EndOfFile → ⊥) → Begins good s (u ++ (x ∷ [])) → ⊥
   faulty_behind u x r a j e other begins =
       let z : List Spelled = begins.behind in
-      let i : ℕ = after 0 (s begins.tree) in
       let there : p 0 (u ++ (x ∷ z)) ≡ Got a j (x ∷ z) =
       P.local 0 u x r z (left_same (p 0 (u ++ (x ∷ r))) (Got a j (x ∷ r)) (x ∷ r) e refl) ∙ ap (put (x ∷ z)) e in
       let whole : file_of (s begins.tree) ≡ u ++ (x ∷ z) = begins.whole ∙ append_assoc u (x ∷ []) z in
-      let accepted : Accepted begins.tree i (EndOfFile ∷ []) (p 0 (file_of (s begins.tree))) =
+      let accepted : Accepted begins.tree 0 (s begins.tree) (EndOfFile ∷ []) (p 0 (file_of (s begins.tree))) =
       P.accepts 0 begins.tree (EndOfFile ∷ []) begins.fits ends in
-      let same = subst (λ o. Accepted begins.tree i (EndOfFile ∷ []) o) (ap (λ us. p 0 us) whole ∙ there) accepted in
+      let same = subst (λ o. Accepted begins.tree 0 (s begins.tree) (EndOfFile ∷ []) o) (ap (λ us. p 0 us) whole ∙ there) accepted in
       let left : x ∷ z ≡ EndOfFile ∷ [] = same.2 in
       other (cc)
 
@@ -184,7 +181,7 @@ module _ {A : Type 0} {p : Reader A} {good : A → Type 0} {s : A → List Mark}
   refused_late : (ts : List Spelled) (a : A) (i : ℕ) (mid rest : List Spelled) → IsFile ts → p 0 ts ≡ Got a i mid → file_end i mid ≡ Fails Refused rest
       → Read good s 0 ts a i mid → AtFirst (IsFaulty good s) ts rest
   refused_late ts a i [] rest file got e read =
-      absurd (not_at_end 0 (s a) read.light (subst IsFile (read.whole ∙ append-nil (bare (s a))) file))
+      absurd (not_at_end 0 (s a) read.within_limits (subst IsFile (read.whole ∙ append-nil (bare (s a))) file))
   refused_late ts a i (x ∷ r) rest file got e read =
       let fails = end_fails x r i Refused rest e in
       record {
@@ -199,7 +196,7 @@ module _ {A : Type 0} {p : Reader A} {good : A → Type 0} {s : A → List Mark}
             fits = read.fits;
             front = s a;
             behind = [];
-            clear = read.light;
+            clear = read.within_limits;
             begun = refl;
             whole = sym (append-nil (s a));
           };
@@ -214,18 +211,18 @@ module _ {A : Type 0} {p : Reader A} {good : A → Type 0} {s : A → List Mark}
         refused_late ts late.0 late.1.0 late.1.1.0 rest file late.1.1.1.0 late.1.1.1.1 (P.sound 0 ts late.0 late.1.0 late.1.1.0 late.1.1.1.0)
   ]
 
-  never_deep : (i : ℕ) (mid rest : List Spelled) → file_end i mid ≡ Fails Deep rest → ⊥
-  never_deep i [] rest e = cc
-  never_deep i (x ∷ r) rest e = let fails = end_fails x r i Deep rest e in let same : Deep ≡ Refused = fails.1 in cc
+  never_over_limit : (i : ℕ) (mid rest : List Spelled) → file_end i mid ≡ Fails OverLimit rest → ⊥
+  never_over_limit i [] rest e = cc
+  never_over_limit i (x ∷ r) rest e = let fails = end_fails x r i OverLimit rest e in let same : OverLimit ≡ Refused = fails.1 in cc
 
-  pub deep_file : (ts rest : List Spelled) → whole_file p 0 ts ≡ Fails Deep rest → AtFirst (IsTooMany good s) ts rest
-  deep_file ts rest e = elim (file_fails ts Deep rest e) [
+  pub over_limit_file : (ts rest : List Spelled) → whole_file p 0 ts ≡ Fails OverLimit rest → AtFirst (IsOverLimit good s) ts rest
+  over_limit_file ts rest e = elim (file_fails ts OverLimit rest e) [
     | inl early ↦
-        let broken = P.breaks 0 ts Deep rest early in
-        let reach : OneTooMany (after 0 broken.before) broken.reached rest = broken.reach in
+        let broken = P.breaks 0 ts OverLimit rest early in
+        let reach : OneOverLimit (after 0 broken.before) broken.reached rest = broken.reach in
         record {
           before = bare broken.before;
-          token = reach.mark.token;
+          token = reach.weighed.token;
           behind = reach.behind;
           at = reach.at;
           splits = broken.splits;
@@ -233,14 +230,14 @@ module _ {A : Type 0} {p : Reader A} {good : A → Type 0} {s : A → List Mark}
             tree = broken.tree;
             fits = broken.fits;
             front = broken.before;
-            mark = reach.mark;
+            weighed = reach.weighed;
             behind = broken.more;
             clear = broken.clear;
             begun = refl;
             is_token = refl;
-            is_heavy = reach.is_heavy;
+            exceeds_limit = reach.exceeds_limit;
             whole = broken.goes_on ∙ ap (λ ms. broken.before ++ (ms ++ broken.more)) reach.alone;
           };
         }
-    | inr late ↦ absurd (never_deep late.1.0 late.1.1.0 rest late.1.1.1.1)
+    | inr late ↦ absurd (never_over_limit late.1.0 late.1.1.0 rest late.1.1.1.1)
   ]

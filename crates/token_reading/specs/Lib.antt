@@ -1,6 +1,6 @@
 -- what the public contracts rest on
 pub mod Spelled
-pub mod Marks
+pub mod Weights
 pub mod Reading
 pub mod Kinds
 pub mod Sources

@@ -1,7 +1,8 @@
 -- Pure readers of lists of tokens, and how larger ones are made of them.
 --
--- A reader takes a tree from the front of a list, or tells from where on the list can't be read, and why. It is told
--- how many operators the outermost expression has so far, and tells how many there are behind what it read.
+-- A reader takes a tree from the front of a list, or tells from where on the list can't be read,
+-- and why. It is told how many operators the outermost expression has so far, and tells how many
+-- there are behind what it read.
 use Rattle.std.specs.Prelude.{◌≡◌, ℕ, zero, suc, ◌+◌, Bool, false, ◌==◌, ◌||◌, if◌then◌else◌, List, [], ◌∷◌, length, map, Option, Some, None, Result, Ok, Err, ◌⊎◌, refl}
 use Rattle.std.specs.Coded.{Coded, code_by, coded×, coded_ℕ, coded_list}
 use Rattle.std.specs.Str.{bytes_eq}
@@ -18,14 +19,14 @@ use Rattle.token_reading.specs.declared.fault.ReadFault.{ReadFault}
 use Rattle.token_reading.specs.declared.fault.ReadFault.TheVariants as fault
 use Rattle.token_reading.specs.declared.side.Side.{Side}
 use Rattle.token_reading.specs.declared.side.Side.TheVariants.{Apart, Within}
-use Rattle.token_reading.specs.Marks.{Weight, resting, opening, operating}
+use Rattle.token_reading.specs.Weights.{Weight, resting, opening, operating}
 use Rattle.token_reading.specs.Spelled.{Spelled, Word, Ident, Number, Str, Delimiter, EndOfFile, spelled_code}
 
 pub data Cause : Type 0 where
   -- the token can't stand there
   Refused : Cause
-  -- the token opens one construct too many, or is one operator too many
-  Deep : Cause
+  -- the token opens a construct or is an operator, and exceeds the limit
+  OverLimit : Cause
 
 pub data Outcome (A : Type 0) : Type 0 where
   -- what was read, the operators so far, and the tokens behind it
@@ -37,16 +38,17 @@ pub data Outcome (A : Type 0) : Type 0 where
 abbrev pub Reader : Type 0 → Type 0
 Reader A = ℕ → List Spelled → Outcome A
 
--- What a cursor has: the operators of the outermost expression so far, and the tokens that haven't been read.
+-- What a cursor has: the operators of the outermost expression so far, and the tokens that haven't
+-- been read.
 pub record Ahead : Type 0 where
   pub operators : ℕ
   pub tokens : List Spelled
 
--- A result tells of this outcome, but for want of memory.
+-- A result tells of this outcome, but where memory runs out.
 abbrev pub Gives : {A : Type 0} → Outcome A → Result A ReadFault → Ahead → Type 0
 Gives outcome (Ok a) new = outcome ≡ Got a new.operators new.tokens
 Gives outcome (Err fault.Refused) new = outcome ≡ Fails Refused new.tokens
-Gives outcome (Err fault.Deep) new = outcome ≡ Fails Deep new.tokens
+Gives outcome (Err fault.OverLimit) new = outcome ≡ Fails OverLimit new.tokens
 Gives outcome (Err fault.Memory) new = Unit {0}
 
 -- The outcome of a reader at a cursor.
@@ -103,7 +105,7 @@ starts ms (t ∷ ts) = is_in ms (code t)
 -- ---- one token
 
 abbrev pub weighed : {A : Type 0} → Weight → A → ℕ → Spelled → List Spelled → Outcome A
-weighed w a k t ts = if w.heavy k then Fails Deep (t ∷ ts) else Got a (w.step k) ts
+weighed w a k t ts = if w.exceeds k then Fails OverLimit (t ∷ ts) else Got a (w.step k) ts
 
 abbrev pub taken : {A : Type 0} → Weight → Option A → ℕ → Spelled → List Spelled → Outcome A
 taken w (Some a) k t ts = weighed w a k t ts
@@ -113,69 +115,70 @@ abbrev pub one_of : {A : Type 0} → Weight → (Spelled → Option A) → Reade
 one_of w f k [] = Fails Refused []
 one_of w f k (t ∷ ts) = taken w (f t) k t ts
 
-abbrev pub word_place : Reserved → Spelled → Option Pos
-word_place word (Word it pos) = if sameb reserved.the_type it word then Some pos else None
-word_place word _ = None
+abbrev pub word_position : Reserved → Spelled → Option Pos
+word_position word (Word it pos) = if sameb reserved.the_type it word then Some pos else None
+word_position word _ = None
 
--- the reserved word, as its place
+-- the reserved word, as its position
 abbrev pub word : Side → Reserved → Reader Pos
-word side v = one_of (resting side) (word_place v)
+word side v = one_of (resting side) (word_position v)
 
--- the reserved word apart from all expressions, which opens a construct, with so many open around it
+-- the reserved word apart from all expressions, which opens a construct, with so many open around
+-- it
 abbrev pub opens_word : Reserved → ℕ → Reader Pos
-opens_word v depth = one_of (opening Apart depth) (word_place v)
+opens_word v depth = one_of (opening Apart depth) (word_position v)
 
 -- the reserved word, which is an operator
 abbrev pub operator_word : Reserved → Reader Pos
-operator_word v = one_of operating (word_place v)
+operator_word v = one_of operating (word_position v)
 
-abbrev pub symbol_place : Symbol → Spelled → Option Pos
-symbol_place symbol (Delimiter it pos) = if sameb symbols.the_type it symbol then Some pos else None
-symbol_place symbol _ = None
+abbrev pub symbol_position : Symbol → Spelled → Option Pos
+symbol_position symbol (Delimiter it pos) = if sameb symbols.the_type it symbol then Some pos else None
+symbol_position symbol _ = None
 
--- the delimiter, as its place
+-- the delimiter, as its position
 abbrev pub symbol : Side → Symbol → Reader Pos
-symbol side v = one_of (resting side) (symbol_place v)
+symbol side v = one_of (resting side) (symbol_position v)
 
 -- the delimiter, which opens a construct, with so many open around it
 abbrev pub opens_symbol : Side → Symbol → ℕ → Reader Pos
-opens_symbol side v depth = one_of (opening side depth) (symbol_place v)
+opens_symbol side v depth = one_of (opening side depth) (symbol_position v)
 
 -- the delimiter, which is an operator
 abbrev pub operator_symbol : Symbol → Reader Pos
-operator_symbol v = one_of operating (symbol_place v)
+operator_symbol v = one_of operating (symbol_position v)
 
--- A place, and the text that stands there.
-abbrev pub PlacedText : Type 0
-PlacedText = Pos × List ℕ
+-- A position, and the text that stands there.
+abbrev pub PositionedText : Type 0
+PositionedText = Pos × List ℕ
 
-abbrev pub identifier_of : Spelled → Option PlacedText
+abbrev pub identifier_of : Spelled → Option PositionedText
 identifier_of (Ident pos text) = Some (pos, text)
 identifier_of _ = None
 
-abbrev pub ident : Side → Reader PlacedText
+abbrev pub ident : Side → Reader PositionedText
 ident side = one_of (resting side) identifier_of
 
-abbrev pub called_of : List ℕ → Spelled → Option PlacedText
+abbrev pub called_of : List ℕ → Spelled → Option PositionedText
 called_of name (Ident pos text) = if bytes_eq (map to_ascii_lowercase text) name then Some (pos, text) else None
 called_of name _ = None
 
 -- the identifier with this spelling in lower case, apart from all expressions
-abbrev pub ident_called : List ℕ → Reader PlacedText
+abbrev pub ident_called : List ℕ → Reader PositionedText
 ident_called name = one_of (resting Apart) (called_of name)
 
-abbrev pub string_of : Spelled → Option PlacedText
+abbrev pub string_of : Spelled → Option PositionedText
 string_of (Str pos text) = Some (pos, text)
 string_of _ = None
 
-abbrev pub string : Reader PlacedText
+abbrev pub string : Reader PositionedText
 string = one_of (resting Within) string_of
 
 abbrev pub number_of : Spelled → Option (Pos × ℕ)
 number_of (Number value pos) = Some (pos, value)
 number_of _ = None
 
--- the number, as its place and its value
+-- the number, as its position and its value
 abbrev pub number : Reader (Pos × ℕ)
 number = one_of (resting Within) number_of
 
@@ -229,7 +232,8 @@ many_up_to ms p (suc n) k ts =
     if starts ms ts then and_then (p k ts) (λ a j more. and_then (many_up_to ms p n j more) (λ more_of i rest. Got (a ∷ more_of) i rest))
     else Got [] k ts
 
--- one after the other while the next token is of one of these kinds; each takes a token, so their count is enough
+-- one after the other while the next token is of one of these kinds; each takes a token, so their
+-- count is enough
 unfoldable pub many : {A : Type 0} → List ℕ → Reader A → Reader (List A)
 many ms p k ts = many_up_to ms p (length ts) k ts
 
@@ -244,33 +248,33 @@ some ms p = to in_front (seq p (many ms p))
 abbrev pub whole_file : {A : Type 0} → Reader A → Reader A
 whole_file p = to (λ x. x.0) (seq p file_end)
 
--- ---- the place of a part that begins with another part
+-- ---- the position of a part that begins with another part
 
-abbrev pub place : Spelled → Option Pos
-place (Word word pos) = Some pos
-place (Ident pos text) = Some pos
-place (Number value pos) = Some pos
-place (Str pos text) = Some pos
-place (Delimiter symbol pos) = Some pos
-place EndOfFile = None
+abbrev pub position : Spelled → Option Pos
+position (Word word pos) = Some pos
+position (Ident pos text) = Some pos
+position (Number value pos) = Some pos
+position (Str pos text) = Some pos
+position (Delimiter symbol pos) = Some pos
+position EndOfFile = None
 
 abbrev pub stays : Option Pos → ℕ → List Spelled → Outcome Pos
 stays (Some pos) k ts = Got pos k ts
 stays None k ts = Fails Refused ts
 
--- the place of the next token, which stays
+-- the position of the next token, which stays
 abbrev pub here : Reader Pos
 here k [] = Fails Refused []
-here k (t ∷ ts) = stays (place t) k (t ∷ ts)
+here k (t ∷ ts) = stays (position t) k (t ∷ ts)
 
--- what is read, made into a tree with the place of its first token
+-- what is read, made into a tree with the position of its first token
 abbrev pub placed : {A B : Type 0} → (Pos → A → B) → Reader A → Reader B
 placed f p = to (λ x. f x.0 x.1) (seq here p)
 
 -- The first of the tokens stands there.
 abbrev pub StartsAt : Pos → List Spelled → Type 0
 StartsAt pos [] = ⊥
-StartsAt pos (t ∷ ts) = place t ≡ Some pos
+StartsAt pos (t ∷ ts) = position t ≡ Some pos
 
 -- The fact holds of each element.
 abbrev pub Each : {A : Type 0} → (A → Type 0) → List A → Type 0

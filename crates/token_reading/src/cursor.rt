@@ -6,7 +6,7 @@ ghost use Rattle.spark_base.specs.declared.limits.TheConstants.{NESTING, OPERATO
 ghost use Rattle.std.specs.Char.{to_ascii_lowercase};
 ghost use Rattle.token_reading.specs.Spelled.{told};
 ghost use Rattle.token_reading.specs.declared.side.Side.TheVariants.{Apart};
-ghost use Rattle.token_reading.specs.Marks.{rests};
+ghost use Rattle.token_reading.specs.Weights.{rests};
 ghost use Rattle.token_reading.specs.Kinds.{of_kind};
 ghost use Rattle.token_reading.specs.Reading as reading;
 ghost use Rattle.token_reading.specs.Reading.{Reads, starts, of_word, of_symbol, of_ident, of_number, of_string};
@@ -15,14 +15,15 @@ use crate::fault::ReadFault;
 use crate::kind::{Kind, is_of_kinds};
 use crate::side::Side;
 use crate::token::{
-    is_called, is_file_end, is_identifier, is_string, number_of, symbol_place, word_place,
+    is_called, is_file_end, is_identifier, is_string, number_of, symbol_position, word_position,
 };
 use ada_lexer::{Reserved, Symbol, Token};
 use spark_base::{Listed, NESTING, OPERATORS, Pos};
 use std::alloc::Global;
 use std::marker::Model;
 
-/// The operators of the outermost expression behind a token on this side that is none, where so many stand before it.
+/// The operators of the outermost expression behind a token on this side that is none, where so
+/// many stand before it.
 fn counted(side: Side, count: u32) -> u32
     ensures { result ≡ rests side count }
 {
@@ -77,7 +78,7 @@ impl<'t, 's> Cursor<'t, 's> {
         ensures { result ≡ starts (of_word word ∷ []) self.now.tokens }
     {
         match self.rest.split_first() {
-            Some((token, _)) => word_place(token, word).is_some(),
+            Some((token, _)) => word_position(token, word).is_some(),
             None => false,
         }
     }
@@ -88,7 +89,7 @@ impl<'t, 's> Cursor<'t, 's> {
         ensures { result ≡ starts (of_symbol symbol ∷ []) self.now.tokens }
     {
         match self.rest.split_first() {
-            Some((token, _)) => symbol_place(token, symbol).is_some(),
+            Some((token, _)) => symbol_position(token, symbol).is_some(),
             None => false,
         }
     }
@@ -136,8 +137,9 @@ impl<'t, 's> Cursor<'t, 's> {
         }
     }
 
-    /// The place of the next token, which stays. At the end of the file it is refused, since no part begins there.
-    pub fn place(&mut self) -> Result<Pos, ReadFault>
+    /// The position of the next token, which stays. At the end of the file it is refused, since no
+    /// part begins there.
+    pub fn position(&mut self) -> Result<Pos, ReadFault>
         ensures { Reads reading.here self.old result self.new }
     {
         let Some(token) = self.rest.first() else {
@@ -163,7 +165,7 @@ impl<'t, 's> Cursor<'t, 's> {
         let Some(token) = self.rest.first() else {
             return Err(ReadFault::Refused);
         };
-        let Some(pos) = word_place(token, word) else {
+        let Some(pos) = word_position(token, word) else {
             return Err(ReadFault::Refused);
         };
         self.count = counted(side, self.count);
@@ -171,37 +173,38 @@ impl<'t, 's> Cursor<'t, 's> {
         Ok(pos)
     }
 
-    /// Reads this reserved word apart from all expressions, which opens a construct where so many are open; it is too deep
-    /// where these are all that may be.
+    /// Reads this reserved word apart from all expressions, which opens a construct where so many
+    /// are open. It exceeds the limit where these are all that may be.
     pub fn opens_word(&mut self, word: Reserved, depth: u32) -> Result<Pos, ReadFault>
         ensures { Reads (reading.opens_word word depth) self.old result self.new }
     {
         let Some(token) = self.rest.first() else {
             return Err(ReadFault::Refused);
         };
-        let Some(pos) = word_place(token, word) else {
+        let Some(pos) = word_position(token, word) else {
             return Err(ReadFault::Refused);
         };
         if has_all_levels(depth) {
-            return Err(ReadFault::Deep);
+            return Err(ReadFault::OverLimit);
         }
         self.count = 0;
         self.rest = &self.rest[1..];
         Ok(pos)
     }
 
-    /// Reads this reserved word, which is an operator; it is too deep where the outermost expression has all that it may have.
+    /// Reads this reserved word, which is an operator. It exceeds the limit where the outermost
+    /// expression has all the operators that it may have.
     pub fn operator_word(&mut self, word: Reserved) -> Result<Pos, ReadFault>
         ensures { Reads (reading.operator_word word) self.old result self.new }
     {
         let Some(token) = self.rest.first() else {
             return Err(ReadFault::Refused);
         };
-        let Some(pos) = word_place(token, word) else {
+        let Some(pos) = word_position(token, word) else {
             return Err(ReadFault::Refused);
         };
         if self.has_all_operators() {
-            return Err(ReadFault::Deep);
+            return Err(ReadFault::OverLimit);
         }
         self.count += 1;
         self.rest = &self.rest[1..];
@@ -215,7 +218,7 @@ impl<'t, 's> Cursor<'t, 's> {
         let Some(token) = self.rest.first() else {
             return Err(ReadFault::Refused);
         };
-        let Some(pos) = symbol_place(token, symbol) else {
+        let Some(pos) = symbol_position(token, symbol) else {
             return Err(ReadFault::Refused);
         };
         self.count = counted(side, self.count);
@@ -223,43 +226,45 @@ impl<'t, 's> Cursor<'t, 's> {
         Ok(pos)
     }
 
-    /// Reads this delimiter, which opens a construct where so many are open; it is too deep where these are all that may be.
+    /// Reads this delimiter, which opens a construct where so many are open. It exceeds the limit
+    /// where these are all that may be.
     pub fn opens_symbol(&mut self, side: Side, symbol: Symbol, depth: u32) -> Result<Pos, ReadFault>
         ensures { Reads (reading.opens_symbol side symbol depth) self.old result self.new }
     {
         let Some(token) = self.rest.first() else {
             return Err(ReadFault::Refused);
         };
-        let Some(pos) = symbol_place(token, symbol) else {
+        let Some(pos) = symbol_position(token, symbol) else {
             return Err(ReadFault::Refused);
         };
         if has_all_levels(depth) {
-            return Err(ReadFault::Deep);
+            return Err(ReadFault::OverLimit);
         }
         self.count = counted(side, self.count);
         self.rest = &self.rest[1..];
         Ok(pos)
     }
 
-    /// Reads this delimiter, which is an operator; it is too deep where the outermost expression has all that it may have.
+    /// Reads this delimiter, which is an operator. It exceeds the limit where the outermost
+    /// expression has all the operators that it may have.
     pub fn operator_symbol(&mut self, symbol: Symbol) -> Result<Pos, ReadFault>
         ensures { Reads (reading.operator_symbol symbol) self.old result self.new }
     {
         let Some(token) = self.rest.first() else {
             return Err(ReadFault::Refused);
         };
-        let Some(pos) = symbol_place(token, symbol) else {
+        let Some(pos) = symbol_position(token, symbol) else {
             return Err(ReadFault::Refused);
         };
         if self.has_all_operators() {
-            return Err(ReadFault::Deep);
+            return Err(ReadFault::OverLimit);
         }
         self.count += 1;
         self.rest = &self.rest[1..];
         Ok(pos)
     }
 
-    /// Reads a number, as its place and its value.
+    /// Reads a number, as its position and its value.
     pub fn number(&mut self) -> Result<(Pos, u32), ReadFault>
         ensures { Reads reading.number self.old result self.new }
     {
@@ -273,7 +278,7 @@ impl<'t, 's> Cursor<'t, 's> {
         Ok(number)
     }
 
-    /// Reads an identifier, as its place and a copy of its bytes.
+    /// Reads an identifier, as its position and a copy of its bytes.
     pub fn identifier(&mut self, alloc: Global, side: Side) -> Result<(Pos, Listed<u8>), ReadFault>
         ensures { Reads (reading.ident side) self.old result self.new }
     {
@@ -312,7 +317,7 @@ impl<'t, 's> Cursor<'t, 's> {
         Ok((pos, text))
     }
 
-    /// Reads a string, as its place and a copy of its bytes, with its quotes.
+    /// Reads a string, as its position and a copy of its bytes, with its quotes.
     pub fn string(&mut self, alloc: Global) -> Result<(Pos, Listed<u8>), ReadFault>
         ensures { Reads reading.string self.old result self.new }
     {

@@ -11,10 +11,10 @@ pub enum ReadFault {
     /// No source has this token there, as a file of `;` alone.
     #[error("syntax")]
     Refused,
-    /// The token opens a construct where no level is left, or is an operator past the limit of its outermost expression,
-    /// as the last of 1,025 signs (`docs/TOOL.md`, "Limits").
+    /// The token opens a construct where no level is left, or is an operator past the limit of its
+    /// outermost expression, as the last of 1,025 signs (`docs/TOOL.md`, "Limits").
     #[error("nesting too deep")]
-    Deep,
+    OverLimit,
     /// There is too little memory for the tree.
     #[error("out of memory")]
     Memory,

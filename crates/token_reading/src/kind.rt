@@ -4,11 +4,11 @@ ghost use Rattle.token_reading.specs.Spelled.{told};
 ghost use Rattle.token_reading.specs.Kinds.{of_kind};
 ghost use Rattle.token_reading.specs.Reading.{code, is_in};
 
-use crate::token::{is_identifier, is_string, number_of, symbol_place, word_place};
+use crate::token::{is_identifier, is_string, number_of, symbol_position, word_position};
 use ada_lexer::{Reserved, Symbol, Token};
 
 /// A kind of token that can begin a form of the grammar.
-#[derive(Clone, Copy, Debug, PartialEq, Eq)]
+#[derive(Clone, Copy)]
 pub enum Kind {
     /// This reserved word.
     Word(Reserved),
@@ -28,8 +28,8 @@ pub fn is_of_kind(token: &Token<'_>, kind: Kind) -> bool
     ensures { result ≡ is_in (of_kind kind ∷ []) (code (told token.now)) }
 {
     match kind {
-        Kind::Word(word) => word_place(token, word).is_some(),
-        Kind::Delimiter(symbol) => symbol_place(token, symbol).is_some(),
+        Kind::Word(word) => word_position(token, word).is_some(),
+        Kind::Delimiter(symbol) => symbol_position(token, symbol).is_some(),
         Kind::Identifier => is_identifier(token),
         Kind::Number => number_of(token).is_some(),
         Kind::Str => is_string(token),

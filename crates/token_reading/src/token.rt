@@ -8,9 +8,9 @@ ghost use Rattle.token_reading.specs.Reading as reading;
 use ada_lexer::{Reserved, Symbol, Token, TokenKind};
 use spark_base::Pos;
 
-/// The place of a token that is this reserved word.
-pub fn word_place(token: &Token<'_>, word: Reserved) -> Option<Pos>
-    ensures { result ≡ reading.word_place word (told token.now) }
+/// The position of a token that is this reserved word.
+pub fn word_position(token: &Token<'_>, word: Reserved) -> Option<Pos>
+    ensures { result ≡ reading.word_position word (told token.now) }
 {
     match token.kind {
         TokenKind::Word(it) if it == word => Some(token.pos),
@@ -18,9 +18,9 @@ pub fn word_place(token: &Token<'_>, word: Reserved) -> Option<Pos>
     }
 }
 
-/// The place of a token that is this delimiter.
-pub fn symbol_place(token: &Token<'_>, symbol: Symbol) -> Option<Pos>
-    ensures { result ≡ reading.symbol_place symbol (told token.now) }
+/// The position of a token that is this delimiter.
+pub fn symbol_position(token: &Token<'_>, symbol: Symbol) -> Option<Pos>
+    ensures { result ≡ reading.symbol_position symbol (told token.now) }
 {
     match token.kind {
         TokenKind::Symbol(it) if it == symbol => Some(token.pos),
@@ -28,7 +28,7 @@ pub fn symbol_place(token: &Token<'_>, symbol: Symbol) -> Option<Pos>
     }
 }
 
-/// The place and the value of a token that is a number.
+/// The position and the value of a token that is a number.
 pub fn number_of(token: &Token<'_>) -> Option<(Pos, u32)>
     ensures { result ≡ reading.number_of (told token.now) }
 {

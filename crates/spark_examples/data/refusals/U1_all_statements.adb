@@ -8,7 +8,7 @@ with Ada.Integer_Text_IO;
 with Ada.Unchecked_Deallocation;
 use Ada.Text_IO;
 procedure Main with SPARK_Mode => On is
-   use type Ada.Text_IO.Count;
+   use type Integer;
    Size : constant := 4;
    type Colour is (Red, Green, Blue);
    subtype Index is Integer range 1 .. Size;

@@ -6,7 +6,7 @@ use Rattle.ada_lexer.specs.Pieces.{first_piece}
 use Rattle.ada_lexer.specs.Tokens.{tokens}
 use Rattle.ada_lexer.proofs.Cuts.{continued_none, continued_fault, cut_from-full, cut_from-broken, passes_gap, passes_lexeme}
 use Rattle.ada_lexer.proofs.Bounds.{still_fits}
-use Rattle.ada_lexer.proofs.Found.{found_none, found_behind, found_token, found_end, place-file, stand-file, refusal_at-file, behind-file}
+use Rattle.ada_lexer.proofs.Found.{found_none, found_behind, found_token, found_end, position-file, stand-file, refusal_at-file, behind-file}
 use Rattle.ada_lexer.proofs.TokenLists.{EndsOnce-append}
 use Rattle.ada_lexer.proofs.cut.lex.Goals as goal
 use Rattle.ada_lexer.proofs.cut.lex.Goals.{in-Gap, in-Lexeme+else-left-eq0+in_ok-push-in-Lexeme}
@@ -14,11 +14,11 @@ use Rattle.ada_lexer.proofs.cut.lex.Goals.{in-Gap, in-Lexeme+else-left-eq0+in_ok
 pub pieces-init : goal.pieces-init
 unfolding tokens
 pieces-init c = record {
-  cut = rw (c.new-found.ensures.items, c.first_place-pos.ensures) (continued_none _);
-  found = rw (c.new-found.ensures.items, c.first_place-pos.ensures) (found_none c.args.file c.args.text.now);
+  cut = rw (c.new-found.ensures.items, c.first_position-pos.ensures) (continued_none _);
+  found = rw (c.new-found.ensures.items, c.first_position-pos.ensures) (found_none c.args.file c.args.text.now);
   count = rw c.new-found.ensures.items (omega arith);
-  line = rw c.first_place-pos.ensures (omega arith);
-  column = rw c.first_place-pos.ensures (omega arith);
+  line = rw c.first_position-pos.ensures (omega arith);
+  column = rw c.first_position-pos.ensures (omega arith);
 }
 
 pub returns-then-left-eq0-clause-fault : goal.returns-then-left-eq0-clause-fault
@@ -81,11 +81,11 @@ returns-clause-ends c =
     rw c.in_ok-push.ensures.items (EndsOnce-append _ _ c.pieces.invariant.found.inner refl)
 
 pub returns-then-left-eq0-clause-names_file : goal.returns-then-left-eq0-clause-names_file
-returns-then-left-eq0-clause-names_file c = place-file _ _ _ c.pieces.pos _ c.pieces.invariant.found
+returns-then-left-eq0-clause-names_file c = position-file _ _ _ c.pieces.pos _ c.pieces.invariant.found
 
 pub returns-in-Broken-clause-names_file : goal.returns-in-Broken-clause-names_file
 returns-in-Broken-clause-names_file c =
-    let here = place-file _ _ _ c.pieces.pos _ c.pieces.invariant.found in
+    let here = position-file _ _ _ c.pieces.pos _ c.pieces.invariant.found in
     rw (c.refusal_at.ensures, c.behind.ensures.value) (refusal_at-file c.args.file c.in-Broken.fault _ (behind-file c.pieces.pos _ ∙ here))
 
 pub returns-clause-stands : goal.returns-clause-stands

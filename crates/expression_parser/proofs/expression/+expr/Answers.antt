@@ -7,4 +7,4 @@ returns-then-depth-gt-NESTING t c =
     expr_too_deep c.args.depth (omega (arith, c.if-depth-gt-NESTING.true)) c.args.tokens.now.operators c.args.tokens.now.tokens
 
 pub returns : goal.returns
-returns t c = rw (expr_level c.args.depth (omega (arith, c.if-depth-gt-NESTING.false))) c.level.ensures
+returns t c = rw (expr_level c.args.depth (omega (arith, c.if-depth-gt-NESTING.false))) c.expr.ensures

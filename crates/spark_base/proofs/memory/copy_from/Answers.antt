@@ -1,4 +1,4 @@
-use Rattle.std.proofs.Common.{◌≡◌, ◌≤◌, length, arith, rules}
+use Rattle.std.proofs.Common.{arith}
 use Rattle.std.proofs.lemmas.Grind.{common_steps}
 use Rattle.spark_base.proofs.Pieces.{copied_piece}
 use Rattle.spark_base.proofs.memory.copy_from.Goals as goal

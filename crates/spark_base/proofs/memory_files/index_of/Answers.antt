@@ -1,4 +1,4 @@
-use Rattle.std.proofs.Common.{◌∙◌, sym, ap, subst, true}
+use Rattle.std.proofs.Common.{◌∙◌, sym, ap}
 use Rattle.std.specs.Str.{bytes_eq}
 use Rattle.spark_base.proofs.NamedFiles.{found_there}
 use Rattle.spark_base.proofs.memory_files.index_of.Goals as goal

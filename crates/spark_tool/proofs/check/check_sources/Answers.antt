@@ -4,8 +4,8 @@ use Rattle.spark_tool.specs.Product.{Answer, Checks, too_large}
 use Rattle.spark_tool.specs.Reading.{Sources, TooLarge, sources_of}
 use Rattle.spark_tool.proofs.check.check_sources.Goals as goal
 
-pub returns-in_ok-refused_file-in-TooLarge-clause-answer : goal.returns-in_ok-refused_file-in-TooLarge-clause-answer
-returns-in_ok-refused_file-in-TooLarge-clause-answer c =
+pub returns-in_ok-file_refusal_answer-in-TooLarge-clause-answer : goal.returns-in_ok-file_refusal_answer-in-TooLarge-clause-answer
+returns-in_ok-file_refusal_answer-in-TooLarge-clause-answer c =
     let names : List (List ℕ) = map string_bytes c.args.names.now in
-    subst (λ (s : Sources). Checks names s (answer_of c.in_ok-refused_file-in-TooLarge.field-0)) (sym (ap sources_of c.in-TooLarge.is))
-    (subst (λ (a : Answer). Checks names (TooLarge c.in-TooLarge.file) a) (sym c.in_ok-refused_file-in-TooLarge.ensures) (too_large c.in-TooLarge.file))
+    subst (λ (s : Sources). Checks names s (answer_of c.in_ok-file_refusal_answer-in-TooLarge.field-0)) (sym (ap sources_of c.in-TooLarge.is))
+    (subst (λ (a : Answer). Checks names (TooLarge c.in-TooLarge.file) a) (sym c.in_ok-file_refusal_answer-in-TooLarge.ensures) (too_large c.in-TooLarge.file))

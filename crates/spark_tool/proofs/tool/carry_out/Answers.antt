@@ -1,5 +1,7 @@
+use Rattle.std.proofs.Common.{ℕ, map, string_bytes, subst, IfSome}
 use Rattle.spark_tool.specs.Answers.{answer_of}
-use Rattle.spark_tool.proofs.Complete.{front_of_usage}
+use Rattle.spark_tool.specs.Promises.{Delivers}
+use Rattle.spark_tool.proofs.Complete.{status_to, answer_delivers, answer_delivers_front, front_of_usage}
 use Rattle.spark_tool.proofs.tool.carry_out.Goals as goal
 
 pub returns-in_err-deliver-clause-misused_front : goal.returns-in_err-deliver-clause-misused_front
@@ -7,3 +9,19 @@ returns-in_err-deliver-clause-misused_front g c stopped none =
     front_of_usage (answer_of c.in_ok-answer.answer) (g.K.Sink.written c.args.out.now) (g.K.Sink.written c.deliver.new.out)
     (g.K.Sink.written c.args.err.now) (g.K.Sink.written c.deliver.new.err) (c.in_ok-answer.ensures.misused none)
     c.in_err-deliver.ensures.front_of_out c.in_err-deliver.ensures.front_of_err
+
+pub returns-clause-answered : goal.returns-clause-answered
+returns-clause-answered g c =
+    subst (λ (status : ℕ). IfSome (g.F.FileStore.stored c.args.files.now)
+    (λ files. Delivers files (map string_bytes c.args.words.now) (g.K.Sink.written c.args.out.now) (g.K.Sink.written c.deliver.new.out)
+    (g.K.Sink.written c.args.err.now) (g.K.Sink.written c.deliver.new.err) status))
+    (status_to c.in_ok-answer.answer.stream c.in_ok-answer.answer.text.items c.in_ok-answer.answer.status)
+    (answer_delivers (g.F.FileStore.stored c.args.files.now) (map string_bytes c.args.words.now) (answer_of c.in_ok-answer.answer)
+    (g.K.Sink.written c.args.out.now) (g.K.Sink.written c.deliver.new.out) (g.K.Sink.written c.args.err.now) (g.K.Sink.written c.deliver.new.err)
+    c.in_ok-answer.ensures.product c.in_ok-deliver.ensures.out c.in_ok-deliver.ensures.err)
+
+pub returns-in_err-deliver-clause-front : goal.returns-in_err-deliver-clause-front
+returns-in_err-deliver-clause-front g c stopped =
+    answer_delivers_front (g.F.FileStore.stored c.args.files.now) (map string_bytes c.args.words.now) (answer_of c.in_ok-answer.answer)
+    (g.K.Sink.written c.args.out.now) (g.K.Sink.written c.deliver.new.out) (g.K.Sink.written c.args.err.now) (g.K.Sink.written c.deliver.new.err)
+    c.in_ok-answer.ensures.product c.in_err-deliver.ensures.front_of_out c.in_err-deliver.ensures.front_of_err

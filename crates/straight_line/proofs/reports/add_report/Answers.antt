@@ -2,9 +2,9 @@
 use Rattle.std.proofs.Common.{◌≡◌, refl, sym, ap, ◌∙◌}
 use Rattle.straight_line.specs.declared.reports.Entry.{Entry}
 use Rattle.straight_line.specs.declared.reports.PathReport.{PathReport}
-use Rattle.straight_line.specs.Deeds.{name_of}
+use Rattle.straight_line.specs.StraightActs.{name_of}
 use Rattle.straight_line.specs.Reported.{printed_name}
-use Rattle.straight_line.specs.Marks.{report_in}
+use Rattle.straight_line.specs.MovedFlags.{report_in}
 use Rattle.straight_line.proofs.Collected.{stands_for}
 use Rattle.straight_line.proofs.reports.add_report.Goals as goal
 

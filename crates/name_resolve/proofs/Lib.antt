@@ -1,0 +1,10 @@
+pub mod Tables
+pub mod Answering
+pub mod Firsts
+pub mod Lists
+pub mod UsesInRegions
+pub mod Seeing
+pub mod Meanings
+pub mod Occurrences
+pub mod Files
+pub mod Given

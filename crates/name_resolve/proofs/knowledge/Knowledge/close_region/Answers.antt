@@ -1,0 +1,13 @@
+use Rattle.name_resolve.proofs.knowledge.Knowledge.close_region.Goals as goal
+
+pub returns : goal.returns
+returns c now s = record {
+  declarations = s.declarations;
+  regions = c.close.ensures _ _ _ _ s.regions;
+  withs = s.withs;
+  contexts = s.contexts;
+  own_package = s.own_package;
+  in_own_body = s.in_own_body;
+  body_names = s.body_names;
+  components = s.components;
+}

@@ -1,0 +1,12 @@
+use Rattle.std.proofs.Common.{ap, ◌∙◌, reverse}
+use Rattle.std.specs.List.{flat_map}
+use Rattle.name_events.specs.Known.{used_in, visible_members}
+use Rattle.name_resolve.specs.declared.sighting.Sighting.TheVariants.{Nothing}
+use Rattle.name_resolve.specs.Sightings.{sighted_all}
+use Rattle.name_resolve.proofs.knowledge.Knowledge.sight.Goals as goal
+
+pub returns : goal.returns
+returns c now s =
+    c.see_regions.ensures now now.uses s.declarations s.regions.uses
+    ∙ ap (λ fs. sighted_all Nothing (visible_members now (flat_map (λ inner. used_in now.uses inner.region) fs) c.args.word.now))
+    (ap reverse c.deref.ensures.value ∙ s.regions.around)

@@ -1,0 +1,84 @@
+-- What the tables know, as the lists of the definitions.
+use Rattle.std.specs.Prelude.{◌≡◌, ℕ, List, [], map, reverse, Option, None, Some, nat_eq}
+use Rattle.std.specs.List.{list_any}
+use Rattle.std.specs.Map.{lookup}
+use Rattle.name_events.specs.declared.declaration.OpenRegion.{OpenRegion}
+use Rattle.name_events.specs.Declarations.{Entry, has_number, last_of}
+use Rattle.name_events.specs.Known.{Known, Context, used_in}
+use Rattle.name_events.specs.KnownBehind.{context_found}
+use Rattle.name_events.specs.Faults.{is_library_procedure}
+use Rattle.name_resolve.specs.declared.entry_index.EntryIndex.{EntryIndex}
+use Rattle.name_resolve.specs.declared.declarations.Declarations.{Declarations}
+use Rattle.name_resolve.specs.declared.regions.Regions.{Regions}
+use Rattle.name_resolve.specs.declared.knowledge.Knowledge.{Knowledge}
+use Rattle.name_resolve.specs.declared.withs.Withs.{Withs}
+use Rattle.name_resolve.specs.declared.contexts.Given.{Given}
+use Rattle.name_resolve.specs.declared.contexts.Contexts.{Contexts}
+use Rattle.name_resolve.specs.Tables.{searched, Answers, FirstAnswers, is_source_package, asks_completion, listed_at}
+
+-- ---- declarations
+
+pub record IndexStands (k : EntryIndex) (entries : List Entry) : Type 0 where
+  pub last : Answers (searched k.last) entries
+  pub packages : FirstAnswers is_source_package (searched k.packages) entries
+
+pub record EntriesStand (k : Declarations) (entries waiting over : List Entry) (completions : List ℕ) : Type 0 where
+  pub declared : IndexStands k.declared entries
+  pub awaiting : FirstAnswers asks_completion (searched k.awaiting) entries
+  pub all : k.all.items ≡ map (λ entry. entry.1) entries
+  pub procedure : k.has_procedure ≡ list_any is_library_procedure entries
+  pub pending : k.pending.items ≡ waiting
+  pub ended : IndexStands k.ended over
+  pub completed : k.completed.keys ≡ completions
+
+abbrev pub DeclarationsStand : Declarations → Known → Type 0
+DeclarationsStand k now = EntriesStand k now.declared now.pending now.ended now.completed
+
+-- ---- regions
+
+pub record RegionsAre (k : Regions) (regions : ℕ) (enclosing : List OpenRegion) (clauses : List (ℕ × ℕ)) (packages : List ℕ) : Type 0 where
+  pub count : k.count ≡ regions
+  pub around : reverse k.around.items ≡ enclosing
+  pub uses : (region : ℕ) → listed_at k.uses region ≡ used_in clauses region
+  pub named : k.named.items ≡ packages
+
+abbrev pub RegionsStand : Regions → Known → Type 0
+RegionsStand k now = RegionsAre k now.region_count now.open_regions now.uses now.using
+
+-- ---- units
+
+pub record WithsStand (k : Withs) (withs : List ℕ) : Type 0 where
+  pub listed : k.list.items ≡ withs
+  pub has : (n : ℕ) → has_number n k.found.keys ≡ has_number n withs
+
+abbrev pub given_withs : Option Given → List ℕ
+given_withs None = []
+given_withs (Some given) = given.withs.items
+
+abbrev pub given_uses : Option Given → List ℕ
+given_uses None = []
+given_uses (Some given) = given.uses.items
+
+-- The context of the package of this number.
+abbrev pub context_numbered : List Context → ℕ → Context
+context_numbered contexts n = context_found (last_of (λ c. nat_eq n c.of_package) contexts)
+
+pub record ContextsStand (k : Contexts) (contexts : List Context) : Type 0 where
+  pub withs : (n : ℕ) → given_withs (lookup (nat_eq n) k.given.entries) ≡ (context_numbered contexts n).withs
+  pub uses : (n : ℕ) → given_uses (lookup (nat_eq n) k.given.entries) ≡ (context_numbered contexts n).uses
+
+-- ---- all
+
+pub record Stands (k : Knowledge) (now : Known) : Type 0 where
+  pub declarations : DeclarationsStand k.declarations now
+  pub regions : RegionsStand k.regions now
+  pub withs : WithsStand k.withs now.withs
+  pub contexts : ContextsStand k.contexts now.contexts
+  pub own_package : k.own_package ≡ now.own_package
+  pub in_own_body : k.in_own_body ≡ now.in_own_body
+  pub body_names : k.body_names.keys ≡ now.body_names
+  pub components : k.components.keys ≡ now.components
+
+-- For all that the two may stand for.
+abbrev pub EachKnown : Knowledge → Knowledge → (Known → Known → Type 0) → Type 0
+EachKnown whole k P = (behind now : Known) → Stands whole behind → Stands k now → P behind now

@@ -1,0 +1,46 @@
+-- What tables of names answer.
+use Rattle.std.specs.Prelude.{◌≡◌, ℕ, Bool, ◌&&◌, if◌then◌else◌, List, [], Option, None, Some, slice_get, nat_le}
+use Rattle.std.specs.Option.{option_map, option_map_or}
+use Rattle.std.specs.Map.{lookup}
+use Rattle.name_events.specs.declared.declaration.Declaration.{Declaration}
+use Rattle.name_events.specs.Declarations.{Name, Entry, Search, same, is_named, declared_in, first_where, or_else, is_package}
+use Rattle.name_events.specs.Predefined.{predefined_count}
+use Rattle.name_events.specs.Completions.{awaits}
+
+-- What the entries of the regions answer, a list of entries for each region.
+abbrev pub searched : List (List Entry) → Search
+searched regions region w = option_map_or (λ entries. lookup (same w) entries) (slice_get regions region) None
+
+-- The search behind one more declaration.
+abbrev pub noted : Search → Name → Declaration → Search
+noted find word d region w = if is_named region w (word, d) then Some d else find region w
+
+-- The search behind one more declaration that counts only where there was none.
+abbrev pub noted_first : Search → Name → Declaration → Search
+noted_first find word d region w = or_else (find region w) (if is_named region w (word, d) then Some d else None)
+
+-- The answers are those of a search in the list of declarations.
+abbrev pub Answers : Search → List Entry → Type 0
+Answers find entries = (region : ℕ) (w : Name) → find region w ≡ declared_in entries region w
+
+-- The first declaration of a name in a region that passes the test.
+abbrev pub first_in : (Declaration → Bool) → List Entry → Search
+first_in test entries region w =
+    option_map (λ entry. entry.1) (first_where (λ entry. is_named region w entry && test entry.1) entries)
+
+abbrev pub FirstAnswers : (Declaration → Bool) → Search → List Entry → Type 0
+FirstAnswers test find entries = (region : ℕ) (w : Name) → find region w ≡ first_in test entries region w
+
+abbrev pub is_source_package : Declaration → Bool
+is_source_package d = is_package d && nat_le predefined_count d.number
+
+abbrev pub asks_completion : Declaration → Bool
+asks_completion d = awaits d.form
+
+-- The packages of the list for a region.
+abbrev pub or_empty : Option (List ℕ) → List ℕ
+or_empty None = []
+or_empty (Some ns) = ns
+
+abbrev pub listed_at : List (List ℕ) → ℕ → List ℕ
+listed_at lists region = or_empty (slice_get lists region)

@@ -1,0 +1,378 @@
+//! What is known behind an event.
+ghost use Rattle.std.specs.Prelude.{◌≡◌, [], ◌∷◌, ◌++◌, ◌+◌, List, ℕ, Option, None, Some, OnOk, drop, map, length, if◌then◌else◌};
+ghost use Rattle.std.specs.Option.{option_map};
+ghost use Rattle.name_events.specs.declared.event.Clause.TheVariants as clause;
+ghost use Rattle.name_events.specs.declared.declaration.OpenRegion.{OpenRegion};
+ghost use Rattle.name_events.specs.declared.declaration.Declaration.{Declaration};
+ghost use Rattle.name_events.specs.Declarations.{Entry, added_name, added_number, declared_in, has_name, is_package};
+ghost use Rattle.name_events.specs.Known.{Known, here, part_here, region_of, seen, selected_along};
+ghost use Rattle.name_events.specs.KnownBehind.{begin_package, begin_unit, behind_declaration, declare, end_in, known_behind, named_in_use, named_in_with, new_entry, open_body, open_region, selectors_of, turned_private};
+ghost use Rattle.name_events.specs.Completions.{completed_by};
+ghost use Rattle.name_resolve.specs.Tables.{searched, Answers};
+ghost use Rattle.name_resolve.specs.Stands.{RegionsAre, Stands, WithsStand};
+
+use crate::form::is_package;
+use crate::knowledge::Knowledge;
+use crate::regions::Regions;
+use crate::table::Table;
+use crate::withs::Withs;
+use name_events::{
+    Clause, Declaration, DeclarationForm, Event, FoldedIdentifier, FoldedName, RegionPart,
+};
+use spark_base::Pos;
+use std::alloc::AllocError;
+
+/// The number of a declaration, where there is one.
+fn number_of(found: Option<Declaration>) -> Option<usize>
+    ensures { result ≡ option_map (λ d. d.number) found }
+{
+    match found {
+        None => None,
+        Some(declaration) => Some(declaration.number),
+    }
+}
+
+/// The declaration of a name in a package.
+fn member(ended: &Table, holder: Declaration, id: &FoldedIdentifier) -> Option<Declaration>
+    ensures { (entries : List Entry) → Answers (searched ended.now) entries
+        → result ≡ (if is_package holder then declared_in entries holder.own_region id.now.name else None) }
+{
+    if is_package(holder) {
+        ended.last(holder.own_region, &id.name)
+    } else {
+        None
+    }
+}
+
+/// Adds what a name in a `with` names, of which the front denotes this declaration, or nothing.
+fn add_named(
+    withs: &mut Withs,
+    ended: &Table,
+    found: Option<Declaration>,
+    rest: &[FoldedIdentifier],
+) -> Result<(), AllocError>
+    ensures { OnOk result ((entries : List Entry) (numbers : List ℕ) → Answers (searched ended.now) entries → WithsStand withs.old numbers
+        → WithsStand withs.new (numbers ++ named_in_with entries found (map (λ id. id.name) rest.now))) }
+{
+    let Some(declaration) = found else {
+        return Ok(());
+    };
+    withs.add(declaration.number)?;
+    let Some((next, behind)) = rest.split_first() else {
+        return Ok(());
+    };
+    let inner = member(ended, declaration, next);
+    add_named(withs, ended, inner, behind)?;
+    Ok(())
+}
+
+/// A `use` clause names what was found, if it is a package.
+fn use_found(regions: &mut Regions, found: Option<Declaration>) -> Result<(), AllocError>
+    ensures { OnOk result ((count : ℕ) (enclosing : List OpenRegion) (clauses : List (ℕ × ℕ)) (packages : List ℕ) → RegionsAre regions.old count enclosing clauses packages
+        → RegionsAre regions.new count enclosing clauses (packages ++ named_in_use clause.Use found)) }
+{
+    let Some(declaration) = found else {
+        return Ok(());
+    };
+    if is_package(declaration) {
+        regions.use_package(declaration.number)?;
+    }
+    Ok(())
+}
+
+impl Knowledge {
+    /// A unit begins, which is the body of this package, or of none.
+    fn begin_unit(&mut self, body_of: Option<Declaration>) -> Result<(), AllocError>
+        ensures { OnOk result ((now : Known) → Stands self.old now → Stands self.new (begin_unit now body_of)) }
+    {
+        self.regions.begin_unit(self.contexts.uses_of(body_of))?;
+        self.withs.clear();
+        self.withs.add_all(self.contexts.withs_of(body_of))?;
+        self.own_package = number_of(body_of);
+        self.in_own_body = false;
+        Ok(())
+    }
+
+    /// The unit has a `with` of this name.
+    fn add_with(&mut self, name: &FoldedName) -> Result<(), AllocError>
+        ensures { OnOk result ((now : Known) → Stands self.old now → Stands self.new (record now {
+          withs = now.withs ++ named_in_with now.ended (declared_in now.ended 0 name.now.first.name) (selectors_of name.now);
+        })) }
+    {
+        let found = self.declarations.ended.last.last(0, &name.first.name);
+        add_named(
+            &mut self.withs,
+            &self.declarations.ended.last,
+            found,
+            name.rest.as_slice(),
+        )?;
+        Ok(())
+    }
+
+    /// The declaration that a name with these selectors denotes.
+    fn selected_along(
+        &self,
+        found: Option<Declaration>,
+        rest: &[FoldedIdentifier],
+    ) -> Option<Declaration>
+        ensures { (now : Known) → Stands self.now now → result ≡ selected_along now found (map (λ id. id.name) rest.now) }
+    {
+        match found {
+            None => None,
+            Some(declaration) => match rest.split_first() {
+                None => Some(declaration),
+                Some((next, behind)) => {
+                    if is_package(declaration) {
+                        self.selected_along(self.selected(declaration, &next.name), behind)
+                    } else {
+                        None
+                    }
+                }
+            },
+        }
+    }
+
+    /// A `use` clause names this.
+    fn use_name(&mut self, name: &FoldedName) -> Result<(), AllocError>
+        ensures { OnOk result ((now : Known) → Stands self.old now → Stands self.new (record now {
+          using = now.using ++ named_in_use clause.Use (selected_along now (seen now name.now.first.name) (selectors_of name.now));
+        })) }
+    {
+        let first = self.seen(&name.first.name);
+        let found = self.selected_along(first, name.rest.as_slice());
+        use_found(&mut self.regions, found)?;
+        Ok(())
+    }
+
+    /// A name is used.
+    fn mention(&mut self, clause: Clause, name: &FoldedName) -> Result<(), AllocError>
+        ensures { OnOk result ((now : Known) → Stands self.old now → Stands self.new (record now {
+          using = now.using ++ named_in_use clause (selected_along now (seen now name.now.first.name) (selectors_of name.now));
+        })) }
+    {
+        match clause {
+            Clause::Use => Ok(self.use_name(name)?),
+            Clause::With => Ok(()),
+            Clause::UseType => Ok(()),
+            Clause::Elsewhere => Ok(()),
+        }
+    }
+
+    /// A package begins: its body will have what the context gives.
+    fn begin_package(&mut self) -> Result<(), AllocError>
+        ensures { OnOk result ((now : Known) → Stands self.old now → Stands self.new (begin_package now (length now.declared))) }
+    {
+        let number = self.declarations.all.len();
+        self.contexts
+            .add(number, &self.withs.list, self.regions.uses.at(0))?;
+        self.own_package = Some(number);
+        Ok(())
+    }
+
+    /// A declaration at this point.
+    fn declaration_here(&self, form: DeclarationForm, pos: Pos) -> Declaration
+        ensures { (now : Known) → Stands self.now now → result ≡ record {
+          number = length now.declared;
+          pos = pos;
+          form = form;
+          region = here now;
+          part = part_here now;
+          own_region = now.region_count;
+        } }
+    {
+        let inner = self.regions.here();
+        Declaration {
+            number: self.declarations.all.len(),
+            pos,
+            form,
+            region: inner.region,
+            part: inner.part,
+            own_region: self.regions.count,
+        }
+    }
+
+    /// An identifier is declared here.
+    fn declare(&mut self, form: DeclarationForm, id: &FoldedIdentifier) -> Result<(), AllocError>
+        ensures { OnOk result ((now : Known) → Stands self.old now → Stands self.new (declare now (new_entry now form id.now))) }
+    {
+        let declaration = self.declaration_here(form, id.pos);
+        self.declarations.declare(&id.name, declaration)?;
+        Ok(())
+    }
+
+    /// An identifier is declared here, which completes nothing.
+    fn enter(&mut self, form: DeclarationForm, id: &FoldedIdentifier) -> Result<(), AllocError>
+        ensures { OnOk result ((now : Known) → Stands self.old now → Stands self.new (behind_declaration now form id.now None)) }
+    {
+        match form {
+            DeclarationForm::Package => {
+                self.begin_package()?;
+                Ok(self.declare(DeclarationForm::Package, id)?)
+            }
+            _ => Ok(self.declare(form, id)?),
+        }
+    }
+
+    /// A declaration is completed.
+    fn complete(&mut self, number: usize) -> Result<(), AllocError>
+        ensures { OnOk result ((now : Known) → Stands self.old now → Stands self.new (record now { completed = added_number now.completed number })) }
+    {
+        self.declarations.complete(number)?;
+        Ok(())
+    }
+
+    /// An identifier is declared.
+    fn add_declaration(
+        &mut self,
+        form: DeclarationForm,
+        id: &FoldedIdentifier,
+    ) -> Result<(), AllocError>
+        ensures { OnOk result ((now : Known) → Stands self.old now
+            → Stands self.new (behind_declaration now form id.now (completed_by now form id.now.name))) }
+    {
+        match self.completed_by(form, &id.name) {
+            None => Ok(self.enter(form, id)?),
+            Some(completed) => Ok(self.complete(completed.number)?),
+        }
+    }
+
+    /// The declarations of a region that haven't ended, do.
+    fn end_in(&mut self, region: usize) -> Result<(), AllocError>
+        ensures { OnOk result ((now : Known) → Stands self.old now → Stands self.new (end_in region now)) }
+    {
+        self.declarations.end(region)?;
+        Ok(())
+    }
+
+    /// The declarations of the innermost region end.
+    fn end_here(&mut self) -> Result<(), AllocError>
+        ensures { OnOk result ((now : Known) → Stands self.old now → Stands self.new (end_in (here now) now)) }
+    {
+        let region = self.regions.here().region;
+        self.end_in(region)?;
+        Ok(())
+    }
+
+    /// The declarations of the region around it end.
+    fn end_outer(&mut self) -> Result<(), AllocError>
+        ensures { OnOk result ((now : Known) → Stands self.old now → Stands self.new (end_in (region_of (drop 1 now.open_regions)) now)) }
+    {
+        let region = self.regions.outer();
+        self.end_in(region)?;
+        Ok(())
+    }
+
+    /// A region begins.
+    fn open_region(&mut self) -> Result<(), AllocError>
+        ensures { OnOk result ((now : Known) → Stands self.old now → Stands self.new (open_region now)) }
+    {
+        self.regions.open(RegionPart::Visible)?;
+        Ok(())
+    }
+
+    /// A package body begins whose specification doesn't stand earlier: it has a region of its own.
+    fn open_own_body(&mut self, id: &FoldedIdentifier) -> Result<(), AllocError>
+        ensures { OnOk result ((now : Known) → Stands self.old now → Stands self.new (open_body now id.now None)) }
+    {
+        self.body_names.insert(id.name.clone()?)?;
+        self.regions.open(RegionPart::Body)?;
+        Ok(())
+    }
+
+    /// The region of a package goes on in its body.
+    fn reopen(&mut self, id: &FoldedIdentifier, spec: Declaration) -> Result<(), AllocError>
+        ensures { OnOk result ((now : Known) → Stands self.old now → Stands self.new (open_body now id.now (Some spec))) }
+    {
+        self.in_own_body = !self.body_names.contains(&id.name);
+        self.body_names.insert(id.name.clone()?)?;
+        self.regions.reopen(spec.own_region)?;
+        Ok(())
+    }
+
+    /// A package body begins.
+    fn open_body(
+        &mut self,
+        id: &FoldedIdentifier,
+        spec: Option<Declaration>,
+    ) -> Result<(), AllocError>
+        ensures { OnOk result ((now : Known) → Stands self.old now → Stands self.new (open_body now id.now spec)) }
+    {
+        match spec {
+            None => Ok(self.open_own_body(id)?),
+            Some(declaration) => Ok(self.reopen(id, declaration)?),
+        }
+    }
+
+    /// The components of a record begin.
+    fn begin_record(&mut self)
+        ensures { (now : Known) → Stands self.old now → Stands self.new (record now { components = [] }) }
+    {
+        self.components.clear();
+    }
+
+    /// A component is declared.
+    fn add_component(&mut self, id: &FoldedIdentifier) -> Result<(), AllocError>
+        ensures { OnOk result ((now : Known) → Stands self.old now → Stands self.new (record now { components = added_name now.components id.now.name })) }
+    {
+        self.components.insert(id.name.clone()?)?;
+        Ok(())
+    }
+
+    /// A `use` clause ends.
+    fn end_use_clause(&mut self) -> Result<(), AllocError>
+        ensures { OnOk result ((now : Known) → Stands self.old now → Stands self.new (record now {
+          uses = now.uses ++ map (λ p. (here now, p)) now.using;
+          using = [];
+        })) }
+    {
+        self.regions.end_use_clause()?;
+        Ok(())
+    }
+
+    /// The private part of a package begins.
+    fn turn_private(&mut self) -> Result<(), AllocError>
+        ensures { OnOk result ((now : Known) → Stands self.old now → Stands self.new (record now { open_regions = turned_private now.open_regions })) }
+    {
+        self.regions.turn_private()?;
+        Ok(())
+    }
+
+    /// The innermost region closes.
+    fn close_region(&mut self)
+        ensures { (now : Known) → Stands self.old now → Stands self.new (record now { open_regions = drop 1 now.open_regions }) }
+    {
+        self.regions.close();
+    }
+
+    /// Goes on behind an event.
+    #[tactic(auto, unfolding(name_events::specs::KnownBehind::known_behind))]
+    pub fn learn(&mut self, event: &Event) -> Result<(), AllocError>
+        ensures { OnOk result ((now : Known) → Stands self.old now → Stands self.new (known_behind now event.now)) }
+    {
+        match event {
+            Event::UnitBegins { body_of } => Ok(self.begin_unit(self.package_named(body_of))?),
+            Event::UnitHasWith { name } => Ok(self.add_with(name)?),
+            Event::Mentions { clause, name } => Ok(self.mention(*clause, name)?),
+            Event::UseClauseEnds => Ok(self.end_use_clause()?),
+            Event::Declares { form, identifier } => Ok(self.add_declaration(*form, identifier)?),
+            Event::DeclarationsEnd => Ok(self.end_here()?),
+            Event::OuterDeclarationsEnd => Ok(self.end_outer()?),
+            Event::RegionOpens => Ok(self.open_region()?),
+            Event::PackageBodyOpens { identifier } => {
+                let spec = self.source_package(identifier);
+                Ok(self.open_body(identifier, spec)?)
+            }
+            Event::PrivatePartBegins => Ok(self.turn_private()?),
+            Event::RegionCloses => {
+                self.close_region();
+                Ok(())
+            }
+            Event::RecordBegins => {
+                self.begin_record();
+                Ok(())
+            }
+            Event::DeclaresComponent { identifier } => Ok(self.add_component(identifier)?),
+            Event::EndsWithName { .. } => Ok(()),
+        }
+    }
+}

@@ -1,0 +1,30 @@
+//! What each identifier of a text denotes, or the first rule of names that it breaks.
+//!
+//! `resolve` takes the units of the files. It lists what they do with names (`name_events`), goes
+//! over the list once to learn all declarations, and a second time to look each name up in what is
+//! known before it. So what is known behind the whole and not yet before a name stands later. The
+//! rules and what a name denotes are definitions of `name_events`; `specs/Stands.antt` says how the
+//! tables here stand for the lists there. Time and memory are linear in the sources but for
+//! look-ups by hash, for a name that no enclosing region has, which is looked for in each package
+//! in use, and for the contexts of packages, which are copied for each of their bodies.
+#![tactic(auto)]
+
+mod contexts;
+mod declarations;
+mod entry_index;
+mod form;
+mod infos;
+mod knowledge;
+mod learn;
+mod predefined;
+mod refusal;
+mod regions;
+mod rules;
+mod sighting;
+mod source_files;
+mod table;
+mod use_lists;
+mod withs;
+
+pub use refusal::NameRefusal;
+pub use source_files::{Resolved, resolve};

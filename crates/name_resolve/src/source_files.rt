@@ -1,0 +1,119 @@
+//! What each identifier of the files denotes, or the first rule of names that they break.
+ghost use Rattle.std.specs.Prelude.{◌≡◌, [], List, IfOk, OnOk, None};
+ghost use Rattle.std.specs.List.{flat_map};
+ghost use Rattle.name_events.specs.Outline.{source_events};
+ghost use Rattle.name_events.specs.Known.{Known};
+ghost use Rattle.name_events.specs.KnownBehind.{known_behind_all};
+ghost use Rattle.name_events.specs.Denotes.{decl_infos, denotes as numbers_denoted, mentioned_from};
+ghost use Rattle.name_events.specs.Faults.{first_fault, name_fault};
+ghost use Rattle.name_resolve.specs.Inputs.{trees_of};
+ghost use Rattle.name_resolve.specs.Judges.{Judges};
+ghost use Rattle.name_resolve.specs.OfEvents.{fault_of_events, infos_of_events, numbers_of_events};
+ghost use Rattle.name_resolve.specs.Stands.{EachKnown, Stands};
+
+use crate::infos::infos;
+use crate::knowledge::Knowledge;
+use crate::refusal::NameRefusal;
+use crate::rules::visit;
+use ada_tree::Trees;
+use name_events::{DeclInfo, Event, EventList};
+use spark_base::Listed;
+use std::alloc::{AllocError, Global};
+
+/// Files whose names have a meaning: no rule of names is broken in them.
+#[derive(Drop)]
+pub struct Resolved {
+    /// The names of the files.
+    pub names: Vec<String>,
+    /// The units of the files.
+    pub files: Vec<Trees>,
+    /// The declarations, the predefined ones first, in the order of their identifiers.
+    pub decls: Vec<DeclInfo>,
+    /// For each occurrence, in the order of the text, the number of its declaration in `decls`.
+    pub denotes: Vec<u32>,
+    ghost fault: { ∥ name_fault (trees_of files.items) ≡ None ∥₁ },
+    ghost decls_are: { ∥ decls.items ≡ decl_infos (trees_of files.items) ∥₁ },
+    ghost denotes_are: { ∥ denotes.items ≡ numbers_denoted (trees_of files.items) ∥₁ },
+}
+
+/// What the files do with names.
+fn events_of(alloc: Global, files: &[Trees]) -> Result<Listed<Event>, AllocError>
+    ensures { IfOk result (λ events. events ≡ source_events (trees_of files.now)) }
+{
+    let mut list = EventList::new(alloc);
+    'turns: for file in files {
+        list.add_file(file.units.as_slice());
+    }
+    list.finish()
+}
+
+/// What is known behind events.
+fn learned(mut known: Knowledge, events: &[Event]) -> Result<Knowledge, AllocError>
+    ensures { IfOk result (λ made. (now : Known) → Stands known now → Stands made (known_behind_all now events.now)) }
+{
+    'turns: for event in events {
+        known.learn(event)?;
+    }
+    Ok(known)
+}
+
+/// What the occurrences in events denote, or the first broken rule.
+fn resolve_events(
+    alloc: Global,
+    whole: &Knowledge,
+    mut known: Knowledge,
+    events: &[Event],
+) -> Result<Vec<u32>, NameRefusal>
+    ensures fault { EachKnown whole.now known (λ behind n. Judges result (first_fault behind n events.now)) }
+    ensures denotes { IfOk result (λ made. EachKnown whole.now known (λ behind n. made.items ≡ flat_map (λ numbers. numbers) (mentioned_from behind n events.now))) }
+{
+    let mut denotes = Vec::new(alloc);
+    'turns: for event in events {
+        visit(&known, whole, event, &mut denotes)?;
+        known.learn(event)?;
+    }
+    Ok(denotes)
+}
+
+/// The declarations in events, and what the occurrences denote.
+#[derive(Drop)]
+struct Meanings {
+    decls: Vec<DeclInfo>,
+    denotes: Vec<u32>,
+}
+
+/// What the names in events mean, or the first broken rule.
+fn resolve_all(alloc: Global, events: &[Event]) -> Result<Meanings, NameRefusal>
+    ensures fault { Judges result (fault_of_events events.now) }
+    ensures decls { IfOk result (λ made. made.decls.items ≡ infos_of_events events.now) }
+    ensures denotes { IfOk result (λ made. made.denotes.items ≡ numbers_of_events events.now) }
+{
+    let first = Knowledge::new(alloc)?;
+    let whole = learned(first, events)?;
+    let known = Knowledge::new(alloc)?;
+    let denotes = resolve_events(alloc, &whole, known, events)?;
+    let decls = infos(alloc, &whole.declarations.all)?;
+    Ok(Meanings { decls, denotes })
+}
+
+/// What each identifier of the files denotes, or the first rule of names that they break, in the
+/// order of the text.
+pub fn resolve(
+    alloc: Global,
+    names: Vec<String>,
+    files: Vec<Trees>,
+) -> Result<Resolved, NameRefusal>
+    ensures fault { Judges result (name_fault (trees_of files.items)) }
+    ensures decls { IfOk result (λ made. made.decls.items ≡ decl_infos (trees_of files.items)) }
+    ensures denotes { IfOk result (λ made. made.denotes.items ≡ numbers_denoted (trees_of files.items)) }
+    ensures same { IfOk result (λ made. (made.names ≡ names) × (made.files ≡ files)) }
+{
+    let events = events_of(alloc, &files)?;
+    let made = resolve_all(alloc, events.as_slice())?;
+    Ok(Resolved {
+        names,
+        files,
+        decls: made.decls,
+        denotes: made.denotes,
+    })
+}

@@ -1,5 +1,0 @@
-use Rattle.std.proofs.Common.{◌≡◌, map, take, string_bytes}
-use Rattle.spark_tool.proofs.tests.copied.Given as goal
-
-abbrev pub invariant-words : goal.invariant-words
-invariant-words l = map string_bytes l.copies.items ≡ map string_bytes (take l.word-index l.words)

@@ -1,0 +1,23 @@
+//! Tests of `spark_tool`, over `run_tool` and the outside in memory.
+//!
+//! They stand in a crate of their own, so that the library isn't proved a second time for its
+//! tests. Each expected answer was worked out by hand from `docs/TOOL.md`; more of them stand in
+//! the heads of the examples. Nothing here is for other crates.
+#![tactic(auto)]
+
+#[cfg(test)]
+mod command;
+#[cfg(test)]
+mod faults;
+#[cfg(test)]
+mod limits;
+#[cfg(test)]
+mod names;
+#[cfg(test)]
+mod prefixes;
+#[cfg(test)]
+mod refusals;
+#[cfg(test)]
+mod statements;
+#[cfg(test)]
+mod words;

@@ -1,0 +1,157 @@
+//! Sources at each limit of the tool and of the grammar, and just past it.
+use crate::command::{NO_FAULTS, NONE, check, repeated, run_line};
+use std::alloc::{AllocError, Global};
+use std::test::Fail;
+
+/// A text of so many bytes.
+fn filled(alloc: Global, byte: u8, count: usize) -> Result<Vec<u8>, AllocError> {
+    Ok(vec![in alloc; byte; count]?)
+}
+
+/// Each row: a byte, how often it stands in the first file, how often in the second if there is
+/// one, and the refusal.
+const FILES: [(u8, usize, Option<usize>, &str); 8] = [
+    (b' ', 4_194_304, None, "f.adb:1:4194305: P1 syntax\n"),
+    (b' ', 4_194_305, None, "f.adb:1:1: S1 sources too large\n"),
+    (b' ', 4_194_303, Some(1), "f.adb:1:4194304: P1 syntax\n"),
+    (
+        b' ',
+        4_194_304,
+        Some(1),
+        "g.adb:1:1: S1 sources too large\n",
+    ),
+    (b';', 1_000_000, None, "f.adb:1:1: P1 syntax\n"),
+    (
+        b';',
+        1_000_001,
+        None,
+        "f.adb:1:1000001: L5 too many tokens\n",
+    ),
+    (b';', 999_995, Some(5), "f.adb:1:1: P1 syntax\n"),
+    (b';', 999_995, Some(7), "g.adb:1:6: L5 too many tokens\n"),
+];
+
+#[test]
+fn bytes_and_tokens(rt: HostRuntime) -> Result<(), Fail> {
+    let alloc = rt.alloc();
+    for row in &FILES {
+        let (byte, count, more, err) = *row;
+        let first = filled(alloc, byte, count)?;
+        let second = match more {
+            Some(count) => Some(filled(alloc, byte, count)?),
+            None => None,
+        };
+        let response = check(alloc, first, second, NO_FAULTS)?;
+        assert!(rt; response.is("", err, 2), "{err}");
+    }
+    Ok(())
+}
+
+/// Each row: the bytes of `f.adb`, those of `g.adb`, the words, the number of the call of the files
+/// that fails, what is written to the second output, and the status. `z.adb` isn't there.
+///
+/// The first call opens `f.adb`, 1,024 calls read 4,194,304 bytes of it, and the call behind them,
+/// number 1,025, reads one more byte or finds the end. Then call 1,026 opens `g.adb`, and call
+/// 1,027 reads its first byte.
+const READS: [(usize, usize, &str, u64, &str, u8); 6] = [
+    (
+        4_200_000,
+        0,
+        "check f.adb",
+        1_026,
+        "f.adb:1:1: S1 sources too large\n",
+        2,
+    ),
+    (4_200_000, 0, "check f.adb", 1_025, "", 7),
+    (
+        4_200_000,
+        0,
+        "check f.adb z.adb",
+        NONE,
+        "f.adb:1:1: S1 sources too large\n",
+        2,
+    ),
+    (
+        4_194_304,
+        9,
+        "check f.adb g.adb",
+        1_028,
+        "g.adb:1:1: S1 sources too large\n",
+        2,
+    ),
+    (4_194_304, 9, "check f.adb g.adb", 1_027, "", 7),
+    (
+        4_194_304,
+        9,
+        "check f.adb g.adb z.adb",
+        NONE,
+        "g.adb:1:1: S1 sources too large\n",
+        2,
+    ),
+];
+
+/// Nothing is read behind the first byte past the limit: not of its file, and not of a file behind
+/// that.
+#[test]
+fn nothing_is_read_behind_the_byte_past_the_limit(rt: HostRuntime) -> Result<(), Fail> {
+    let alloc = rt.alloc();
+    for row in &READS {
+        let (first, second, line, fails, err, status) = *row;
+        let first = filled(alloc, b' ', first)?;
+        let second = filled(alloc, b' ', second)?;
+        let response = run_line(alloc, line, first, Some(second), (fails, NONE, NONE))?;
+        assert!(rt; response.is("", err, status), "{line} {fails}");
+    }
+    Ok(())
+}
+
+/// Each row: a front, a piece, how often it stands, a middle, another piece as often, a back, and
+/// the refusal.
+const NESTED: [(&str, &str, usize, &str, &str, &str); 4] = [
+    (
+        "procedure Main is begin ",
+        "begin ",
+        63,
+        "null; ",
+        "end; ",
+        "f.adb:1:1: U1 form not built\n",
+    ),
+    (
+        "procedure Main is begin ",
+        "begin ",
+        64,
+        "null; ",
+        "end; ",
+        "f.adb:1:403: P2 nesting too deep\n",
+    ),
+    (
+        "procedure Main is N : Integer; begin N := 0",
+        " + 0",
+        1_024,
+        "; ",
+        "",
+        "f.adb:1:1: U1 form not built\n",
+    ),
+    (
+        "procedure Main is N : Integer; begin N := 0",
+        " + 0",
+        1_025,
+        "; ",
+        "",
+        "f.adb:1:4141: P2 nesting too deep\n",
+    ),
+];
+
+#[test]
+fn constructs_and_operators(rt: HostRuntime) -> Result<(), Fail> {
+    let alloc = rt.alloc();
+    for row in &NESTED {
+        let (front, opener, count, middle, closer, err) = *row;
+        let mut text = repeated(alloc, front, opener, count, middle)?;
+        let rest = repeated(alloc, "", closer, count, "end Main;")?;
+        text.extend_from_slice(rest.as_slice())?;
+        let response = check(alloc, text, None, NO_FAULTS)?;
+        assert!(rt; response.is("", err, 2), "{err}");
+    }
+    Ok(())
+}

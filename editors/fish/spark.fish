@@ -1,0 +1,7 @@
+# Completion of spark for fish: the command, then Ada sources and folders.
+function __spark_sources
+    complete -C "'' "(commandline -ct) | string match -r '.*(?:/|\.ad[bs])(?:\t.*)?$'
+end
+complete -c spark -f
+complete -c spark -n __fish_use_subcommand -a check -d 'Check Ada sources as one program'
+complete -c spark -n '__fish_seen_subcommand_from check' -a '(__spark_sources)'

@@ -1,0 +1,447 @@
+#!/usr/bin/env python3
+"""Makes docs/ERRORS.md from the examples: a section for each code that `spark` prints today.
+
+    python3 tools/errors_page.py            writes the page
+    python3 tools/errors_page.py --check    ends with 1 where the page isn't what would be written
+
+The programs and the lines that `spark` prints come from crates/spark_examples/data, all other text
+from this file. A new code is a new row of ROWS.
+"""
+import pathlib
+import re
+import sys
+import textwrap
+from typing import NamedTuple
+
+TOP = pathlib.Path(__file__).resolve().parent.parent
+DATA = TOP / "crates" / "spark_examples" / "data"
+PAGE = TOP / "docs" / "ERRORS.md"
+WIDTH = 100
+
+
+class Row(NamedTuple):
+    """A code, with the example that has it and its near neighbour, or how such a file comes about."""
+
+    code: str
+    title: str
+    meaning: str
+    mend: str
+    bad: str = ""
+    good: str = ""
+    # what is said of the neighbour, where it isn't accepted yet
+    good_is: str = ""
+    # in place of a program, where one would be too large
+    made_by: str = ""
+
+
+HEAD = """
+# Each code that `spark` prints, with a program that has it and how to mend it
+
+`spark check` prints one line for each report, and a single line where it refuses a source:
+
+```
+FILE:LINE:COLUMN: CODE ...
+```
+
+Codes that begin with `O` are reports: the program breaks a rule of ownership (status 1). All other codes are
+refusals: the source isn't checked for ownership at all (status 2). Faults of the command itself, as a wrong word
+or a file that can't be read, have no code; [TOOL.md](TOOL.md#statuses) has their statuses.
+
+Each section below has a program with the code, the line that `spark` prints for it, and the nearest program
+without it. The programs are files of `crates/spark_examples/data`. They stand here without their heads, the lines
+that say what is expected of them. The line numbers are those of the files, heads included.
+
+This page is made by `tools/errors_page.py`. Change the tool or the examples, not the page.
+"""
+
+ROWS = [
+    Row(
+        code="S1",
+        title="the sources are too large",
+        meaning="""
+            The files of one command have more than 4,194,304 bytes (4 MiB) in all. Comments and blanks count too. The
+            position is always line 1, column 1 of the file in which the limit is passed.
+            """,
+        made_by="""
+            Such a file is too large to show. It comes about where sources are generated, or where the files of more
+            than one program are given to one command. This makes one, of blanks:
+
+            ```
+            head -c 4194305 /dev/zero | tr '\\0' ' ' > large.adb
+            ```
+
+            ```
+            large.adb:1:1: S1 sources too large
+            ```
+            """,
+        mend="Name fewer files in one command, or have the generator write less: shorter names, fewer comments.",
+    ),
+    Row(
+        code="L1",
+        title="a byte that begins no token",
+        meaning="""
+            The byte at this position can't begin a token, as `?`, `!`, `#` or a letter with an accent; or it stands
+            in a string and is none of the printable ASCII characters, as a tab. In comments any byte may stand.
+            """,
+        bad="refusals/L1_question_mark.adb",
+        good="accepted/U1_value_by_assignment.adb",
+        mend="""
+            Remove the byte, or write the name or the text in ASCII. At the end of a line with an open string the byte
+            is a carriage return: close the string.
+            """,
+    ),
+    Row(
+        code="L2",
+        title="an identifier with a misplaced underscore",
+        meaning="""
+            An identifier has two underscores in a row, or ends with one. The position is its first letter. Ada has
+            the same rule.
+            """,
+        bad="refusals/L2_double_underscore.adb",
+        good="accepted/L2_single_underscores.adb",
+        mend="Leave single underscores between letters and digits, and no others.",
+    ),
+    Row(
+        code="L3",
+        title="a number out of form or out of range",
+        meaning="""
+            A number is above 2147483648, has two underscores in a row, ends with one, or is followed by a letter, by
+            `#`, or by a point and a digit. So numbers with an exponent (`1E3`), based numbers (`16#F#`) and real ones
+            (`1.5`) are refused: they are Ada, but not of this subset.
+            """,
+        bad="refusals/L3_too_large.adb",
+        good="accepted/L3_largest_number.adb",
+        mend="Write the value as a decimal integer. Today the largest one that is accepted is 2147483647.",
+    ),
+    Row(
+        code="L4",
+        title="a string that isn't closed on its line",
+        meaning="The line or the file ends before the string does. The position is the quote that opens it.",
+        bad="refusals/L4_open_string.adb",
+        good="accepted/L4_quote_in_comment.adb",
+        mend="""
+            Close the string on its line, or remove the quote. A quote within a string is written as two. (Strings are
+            in the grammar, but not yet in the programs that are checked; a quote in a comment begins no string.)
+            """,
+    ),
+    Row(
+        code="L5",
+        title="too many tokens",
+        meaning="""
+            The files of one command have more than 1,000,000 tokens together. The position is that of the first token
+            past them.
+            """,
+        made_by="""
+            Such a file is too large to show. Sources that people write reach the limit of bytes (S1) first, since a
+            token with its blanks takes more than four bytes on average; a generated list of numbers may not. This
+            makes a million and one semicolons:
+
+            ```
+            yes ';' | head -n 1000001 > many.adb
+            ```
+
+            ```
+            many.adb:1000001:1: L5 too many tokens
+            ```
+            """,
+        mend="Name fewer files in one command, or have the generator write less.",
+    ),
+    Row(
+        code="P1",
+        title="a syntax error",
+        meaning="""
+            This is the first token that no valid program could have here, after the tokens before it. The mistake is
+            at this token or before it: a missing semicolon, say, is found at the token behind it. Where the file ends
+            too early the position is that of its end. Some constructs of Ada that the subset leaves out are found
+            here too, where no word tells them: `**`, `<>`, character literals.
+            """,
+        bad="refusals/P1_no_statement.adb",
+        good="accepted/U1_only_null.adb",
+        mend="""
+            Look at the token, then at the one before it. [LANGUAGE.md](LANGUAGE.md#grammar) has the whole grammar, and
+            [examples](LANGUAGE.md#what-is-refused) of such tokens.
+            """,
+    ),
+    Row(
+        code="P2",
+        title="nesting too deep, or too many operators",
+        meaning="""
+            This token opens a construct within 64 others, or it is the 1,025th operator of one expression. Constructs
+            are packages, subprograms, blocks, loops, `if`, `case`, `record` and parentheses.
+            """,
+        bad="refusals/P2_nested_parentheses.adb",
+        good="refusals/U1_nested_parentheses.adb",
+        good_is="""
+            With one pair of parentheses less the grammar has no objection. No program with such an expression is
+            checked yet, so today it is refused with [U1](#u1-a-form-of-program-that-isnt-checked-yet):
+            """,
+        mend="Give a part of the expression a name of its own, or move inner statements into a procedure.",
+    ),
+    Row(
+        code="P3",
+        title="a construct of Ada that is left out",
+        meaning="""
+            As P1, where the token is a word that belongs to something in Ada that this subset leaves out: exceptions,
+            tasks, generics, `goto`, renaming, `aliased`, `access all`, derived and limited types and others.
+            [LANGUAGE.md](LANGUAGE.md#what-is-refused) lists the words. The word alone decides the code, so a word such
+            as `new` in a wrong position is P3 too.
+            """,
+        bad="refusals/P3_raise.adb",
+        good="accepted/U1_only_null.adb",
+        mend="""
+            Do without the construct, or keep it in a unit of its own that isn't given to `spark`. In the example, the
+            neighbour also has the context clause that all checked programs have today.
+            """,
+    ),
+    Row(
+        code="N1",
+        title="an unknown name",
+        meaning="""
+            No declaration of this name can be seen here, and none stands later in what encloses it. Predefined are
+            Integer, Natural, Positive, Boolean, False, True and Ada, and in Ada only Text_IO (Put, Put_Line, New_Line,
+            End_Of_File), Integer_Text_IO (Get) and Unchecked_Deallocation. In a `with` or `use` clause the position is
+            the first token of the name: what it names has to be a package, or in a `use type` a type.
+            """,
+        bad="refusals/N1_undeclared.adb",
+        good="accepted/N1_declared.adb",
+        mend="""
+            Declare the name, or correct its spelling. A name from another file is known only where that file is given
+            too, before this one.
+            """,
+    ),
+    Row(
+        code="N2",
+        title="a name that is declared twice",
+        meaning="""
+            This is the second declaration of the name in one region: a package, a subprogram with its formals, a block,
+            or the components of one record. Letter case makes no difference, and there is no overloading. Library units
+            stand in one region with Integer, Natural, Positive, Boolean, False, True and Ada. A second library
+            procedure, a library function and a second body of a package are N2 too.
+            """,
+        bad="refusals/N2_declared_twice.adb",
+        good="accepted/N2_two_names.adb",
+        mend="Give one of the two another name. Of two main programs, give each to a command of its own.",
+    ),
+    Row(
+        code="N3",
+        title="a name that isn't visible",
+        meaning="""
+            The name is declared, but can't be seen from here: a package, or Ada.Unchecked_Deallocation, in a unit
+            without a `with` clause for it; something in the private part or the body of a package, from elsewhere; or a
+            name that two packages in use both have.
+            """,
+        bad="refusals/N3_no_with_clause.adb",
+        good="refusals/U1_with_clause.adb",
+        good_is="""
+            With the clause the name is visible. No program with such a call is checked yet, so today it is refused with
+            [U1](#u1-a-form-of-program-that-isnt-checked-yet):
+            """,
+        mend="""
+            Add the `with` clause, move the declaration into the visible part, or write the package before the name:
+            `P.X`.
+            """,
+    ),
+    Row(
+        code="N4",
+        title="a name that is used before its declaration",
+        meaning="""
+            The name is declared, but later, or its declaration hasn't ended here: it counts from its `;` on. The files
+            are taken in the order of the words. The body of a package that stands before its specification is N4 as
+            well.
+            """,
+        bad="refusals/N4_used_before_declaration.adb",
+        good="accepted/N4_declared_before_use.adb",
+        mend="""
+            Move the declaration up, or name the files in the order in which they need each other: specifications first.
+            For two types that name each other, begin with an incomplete one: `type Cell;`.
+            """,
+    ),
+    Row(
+        code="N5",
+        title="a body or a full type that is missing",
+        meaning="""
+            A procedure or function that is declared in a package has no body in the body of that package; an incomplete
+            or a private type has no full type; or a package body has no specification. The position is the name that is
+            declared.
+            """,
+        bad="refusals/N5_no_body.adb",
+        good="refusals/U1_package_body.adb",
+        good_is="""
+            With the body nothing is missing. No program with packages is checked yet, so today it is refused with
+            [U1](#u1-a-form-of-program-that-isnt-checked-yet):
+            """,
+        mend="Write the body or the full type, or name the file that has it in the same command.",
+    ),
+    Row(
+        code="N6",
+        title="another name after `end`",
+        meaning="The name after `end` isn't that of the package, procedure or function that ends there.",
+        bad="refusals/N6_other_closing_name.adb",
+        good="accepted/U1_closing_name_in_other_case.adb",
+        mend="Correct the name. It may be left out too, but no program without it is checked yet.",
+    ),
+    Row(
+        code="U1",
+        title="a form of program that isn't checked yet",
+        meaning="""
+            The files may be good Ada, and the grammar and the rules of names have no objection. But they aren't one
+            procedure of the [straight-line form](LANGUAGE.md#the-straight-line-form), and no other programs are checked
+            so far. The position is always line 1, column 1 of the first file, whatever the cause. Two or more files
+            that pass the rules of names are always refused so. A mistake that Ada compilers find, as a value of the
+            wrong type, gives U1 as well.
+            """,
+        bad="refusals/U1_initial_value.adb",
+        good="accepted/U1_value_by_assignment.adb",
+        mend="""
+            Compare the program with the sentences of the [form](LANGUAGE.md#the-straight-line-form): one procedure
+            with the context clause, no initial values, no branches, loops or calls but those that free. A program
+            that needs more can't be checked yet.
+            """,
+    ),
+    Row(
+        code="O1",
+        title="a read of what was moved away",
+        meaning="""
+            `X.all` is read while X is moved: an assignment such as `Y := X` made Y the owner, and X was given no value
+            since. In a run X would still hold the address, and the object behind it may be freed or changed through Y
+            at any time.
+            """,
+        bad="rules/O1_read_after_move.adb",
+        good="accepted/O1_read_by_new_owner.adb",
+        mend="Read through the new owner, read before the move, or give X a new value first.",
+    ),
+    Row(
+        code="O3",
+        title="a write through a moved name",
+        meaning="""
+            `X.all` is written while X is moved, so the write would change an object that another name owns. X itself
+            may be written at any time: it has a value again then.
+            """,
+        bad="rules/O3_write_after_move.adb",
+        good="accepted/O3_write_after_move_back.adb",
+        mend="Write through the new owner, move the value back first, or give X a new object.",
+    ),
+    Row(
+        code="O4",
+        title="a second move of one value",
+        meaning="X is assigned to another name while it is moved, so one object would have two owners.",
+        bad="rules/O4_move_after_move.adb",
+        good="accepted/O4_move_after_new_value.adb",
+        mend="""
+            Assign from the present owner, or give X a new value between the two moves. To have the number twice,
+            allocate a second object and copy the number into it: `Z.all := Y.all;`.
+            """,
+    ),
+    Row(
+        code="O14",
+        title="a free of what was moved away",
+        meaning="""
+            X is freed while it is moved, so the object of another owner would be freed, and perhaps freed twice.
+            Freeing one name twice in a row is no report: a free makes the name null, and freeing null has no effect.
+            """,
+        bad="rules/O14_free_after_move.adb",
+        good="accepted/O14_free_of_new_owner.adb",
+        mend="Free the new owner instead.",
+    ),
+]
+
+
+class Example(NamedTuple):
+    """An example: the lines that are expected, the lines of its program, and the number of the first of them."""
+
+    path: str
+    status: int
+    expected: list
+    program: list
+    first: int
+
+
+def read_example(path):
+    """The example at this path below DATA."""
+    lines = (DATA / path).read_bytes().decode("ascii").split("\n")
+    count = 1
+    while lines[count].startswith("--> "):
+        count += 1
+    entries = [line[4:].partition(" ") for line in lines[1:count]]
+    status = next(int(rest) for word, _, rest in entries if word == "status")
+    expected = [rest for word, _, rest in entries if word in ("err", "out")]
+    program = lines[count:]
+    assert program[-1] == "" and all(line.isprintable() for line in program), path
+    return Example(path, status, expected, program[:-1], count + 1)
+
+
+def wrapped(text):
+    """Text in paragraphs, wrapped; code stays as it is."""
+    paragraphs = textwrap.dedent(text).strip("\n").split("\n\n")
+    return "\n\n".join(p if p.startswith("```") else filled(p) for p in paragraphs)
+
+
+def filled(paragraph):
+    return textwrap.fill(" ".join(paragraph.split()), WIDTH, break_long_words=False, break_on_hyphens=False)
+
+
+def link(path):
+    return "[`%s`](../crates/spark_examples/data/%s)" % (path.rpartition("/")[2], path)
+
+
+def program_of(example):
+    return "```ada\n%s\n```" % "\n".join(example.program)
+
+
+def shown(example):
+    """Each expected line, with the line of the file that it is about and a caret below its column."""
+    rows = []
+    for text in example.expected:
+        rows.append(text)
+        line, column = map(int, re.match(r"[^:]+:(\d+):(\d+): ", text).groups())
+        if line >= example.first:
+            number = "%5d" % line
+            rows.append("%s | %s" % (number, example.program[line - example.first]))
+            rows.append("%s | %s^" % (" " * len(number), " " * (column - 1)))
+    return "```\n%s\n```" % "\n".join(rows)
+
+
+def section(row):
+    parts = ["## %s: %s" % (row.code, row.title), wrapped(row.meaning)]
+    if row.made_by:
+        parts.append(wrapped(row.made_by))
+    else:
+        bad, good = read_example(row.bad), read_example(row.good)
+        verb = "reported" if row.code[0] in "OAV" else "refused"
+        assert all(": %s " % row.code in line for line in bad.expected) and bad.status == (1 if verb == "reported" else 2), row
+        parts += [filled("**%s:** %s" % (verb.capitalize(), link(row.bad))), program_of(bad), shown(bad)]
+        if row.good_is:
+            parts += [wrapped(row.good_is), filled("**Near it:** %s" % link(row.good)), program_of(good), shown(good)]
+        else:
+            assert (good.status, good.expected) == (0, ["accepted"]), row
+            parts += [filled("**Accepted:** %s" % link(row.good)), program_of(good)]
+    parts.append(wrapped("**To mend it.** " + " ".join(row.mend.split())))
+    return "\n\n".join(parts)
+
+
+def made():
+    """The page."""
+    titles = "\n".join("- [%s](#%s): %s" % (row.code, slug("%s: %s" % (row.code, row.title)), row.title) for row in ROWS)
+    return "\n\n".join([wrapped(HEAD), titles] + [section(row) for row in ROWS]) + "\n"
+
+
+def slug(heading):
+    """The anchor of a heading."""
+    return re.sub(r"[^\w\- ]", "", heading.strip().lower()).replace(" ", "-")
+
+
+def main():
+    if sys.argv[1:] == ["--check"]:
+        if not PAGE.is_file() or PAGE.read_text() != made():
+            print("docs/ERRORS.md isn't what tools/errors_page.py makes: run python3 tools/errors_page.py")
+            return 1
+    elif sys.argv[1:]:
+        print(__doc__)
+        return 2
+    else:
+        PAGE.write_text(made())
+    return 0
+
+
+if __name__ == "__main__":
+    sys.exit(main())

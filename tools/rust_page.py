@@ -1,0 +1,74 @@
+#!/usr/bin/env python3
+"""Compiles the programs of docs/FROM_RUST.md, and compares what the compilers say with the page.
+
+    python3 tools/rust_page.py [--program PATH]
+
+The first line of a Rust program names the errors that rustc gives, or says that it is accepted. GNAT
+accepts each Ada program. With --program, as ./spark, the lines that `spark check main.adb` prints
+are compared with the first lines of the Ada program too. rustc and GNAT are needed.
+"""
+import argparse
+import pathlib
+import re
+import subprocess
+import sys
+import tempfile
+
+TOP = pathlib.Path(__file__).resolve().parent.parent
+PAGE = TOP / "docs" / "FROM_RUST.md"
+
+
+def programs():
+    """The language, the first line in the page and the text of each program."""
+    text = PAGE.read_text()
+    for block in re.finditer(r"^```(rust|ada)\n(.*?)^```$", text, re.M | re.S):
+        yield block[1], text[: block.start()].count("\n") + 2, block[2]
+
+
+def run(folder, *words):
+    done = subprocess.run(words, cwd=folder, stdin=subprocess.DEVNULL, capture_output=True, text=True)
+    return done.returncode, done.stdout + done.stderr
+
+
+def rust_differs(folder, text):
+    wanted = re.match(r"// rustc: (.*)\n", text)[1]
+    (folder / "main.rs").write_text(text)
+    _, said = run(folder, "rustc", "--edition", "2021", "--emit", "metadata", "main.rs")
+    errors = re.findall(r"^error\[(E\d+)\]", said, re.M)
+    found = " ".join(errors) or ("accepted" if "error" not in said else said)
+    return None if found == wanted else "rustc: %s, and not %s" % (found, wanted)
+
+
+def ada_differs(folder, text, program):
+    wanted = re.findall(r"^--  spark: (.*)$", text, re.M)
+    (folder / "main.adb").write_text(text)
+    status, said = run(folder, "gcc", "-c", "-gnatc", "main.adb")
+    if status != 0:
+        return "GNAT: " + said
+    if program:
+        _, said = run(folder, program, "check", "main.adb")
+        if said.splitlines() != wanted:
+            return "spark: " + said
+    return None if wanted else "no line says what spark prints"
+
+
+def main():
+    words = argparse.ArgumentParser()
+    words.add_argument("--program")
+    given = words.parse_args()
+    program = given.program and str(pathlib.Path(given.program).resolve())
+    count, wrong = 0, 0
+    with tempfile.TemporaryDirectory() as name:
+        folder = pathlib.Path(name)
+        for language, line, text in programs():
+            count += 1
+            differs = rust_differs(folder, text) if language == "rust" else ada_differs(folder, text, program)
+            if differs:
+                wrong += 1
+                print("docs/FROM_RUST.md:%d: %s" % (line, differs))
+    print("%d programs, %d differ" % (count, wrong))
+    return 1 if wrong else 0
+
+
+if __name__ == "__main__":
+    sys.exit(main())
