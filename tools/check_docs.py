@@ -42,7 +42,7 @@ CITED = [
     r"\bthe papers\b",
     r"(?i)\bissues? #?\d",
     r"\B#\d+\b",
-    r"/work/",
+    r"(?<!\w)/w[o]rk/",
     r"\b[DTRW]\d+(\.\d+)?\b",
 ]
 
