@@ -14,6 +14,8 @@ mod limits;
 #[cfg(test)]
 mod names;
 #[cfg(test)]
+mod names_of_files;
+#[cfg(test)]
 mod prefixes;
 #[cfg(test)]
 mod refusals;
