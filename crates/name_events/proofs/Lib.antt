@@ -5,3 +5,4 @@ pub mod StatementLevels
 pub mod Searches
 pub mod VisibilityLaws
 pub mod FaultLaws
+pub mod IdentifiedLaws

@@ -2,18 +2,24 @@
 -- (docs/LANGUAGE.md, "Names").
 --
 -- The definitions before go from one event to the next. The laws here speak of the lists as they
--- stand, and `proofs/VisibilityLaws.antt` and `proofs/FaultLaws.antt` prove them.
-use Rattle.std.specs.Prelude.{◌≡◌, ℕ, true, List, ◌∷◌, ◌++◌, None, Some, slice_get}
+-- stand, and `proofs/VisibilityLaws.antt`, `proofs/FaultLaws.antt` and `proofs/IdentifiedLaws.antt`
+-- prove them.
+use Rattle.std.specs.Prelude.{◌≡◌, ℕ, Bool, true, false, if◌then◌else◌, List, [], ◌∷◌, ◌++◌, None, Some, slice_get}
 use Rattle.std.specs.List.{AllByRecursion}
 use mathlib.Core.Logic.{◌⊎◌}
 use Rattle.spark_base.specs.Lists.{Has}
 use Rattle.name_events.specs.declared.event.Event.{Event}
+use Rattle.name_events.specs.declared.event.Event.TheVariants as e
 use Rattle.name_events.specs.declared.declaration.RegionPart.TheVariants as part
 use Rattle.name_events.specs.declared.declaration.Declaration.{Declaration}
 use Rattle.name_events.specs.declared.declaration.OpenRegion.{OpenRegion}
+use Rattle.name_events.specs.declared.declaration.Identified.{Identified}
+use Rattle.name_events.specs.Outline.{source_events}
 use Rattle.name_events.specs.Declarations.{Name, Entry}
 use Rattle.name_events.specs.Known.{Known}
-use Rattle.name_events.specs.KnownBehind.{known_behind_all}
+use Rattle.name_events.specs.KnownBehind.{known_behind, known_behind_all, known_at_first}
+use Rattle.name_events.specs.Denotes.{Files, known_of}
+use Rattle.name_events.specs.Identified.{identified_at}
 use Rattle.name_events.specs.Faults.{Fault, fault}
 
 -- ---- visibility
@@ -92,3 +98,19 @@ pub record IsFirstFault (whole now : Known) (events : List Event) (found : Fault
 abbrev pub BreaksNothing : Known → Known → List Event → Type 0
 BreaksNothing whole now events = (front : List Event) (event : Event) (rest : List Event) → events ≡ front ++ event ∷ rest
     → fault whole (known_behind_all now front) event ≡ None
+
+-- ---- identifiers
+
+abbrev pub is_mention : Event → Bool
+is_mention (e.Mentions c name) = true
+is_mention _ = false
+
+-- The identifiers of those events that pass a test. Those of all events are `identified_from`.
+unfoldable pub identified_where : (Event → Bool) → Known → Known → List Event → List Identified
+identified_where test whole now [] = []
+identified_where test whole now (event ∷ rest) =
+    (if test event then identified_at whole now event else []) ++ identified_where test whole (known_behind now event) rest
+
+-- The identifiers in the names that these files use. Their numbers are `denotes`.
+unfoldable pub identified_uses : Files → List Identified
+identified_uses files = identified_where is_mention (known_of files) known_at_first (source_events files)

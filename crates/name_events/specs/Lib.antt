@@ -8,6 +8,7 @@ pub mod Known
 pub mod Completions
 pub mod KnownBehind
 pub mod Denotes
+pub mod Identified
 pub mod Faults
 -- what they amount to
 pub mod Laws

@@ -132,3 +132,12 @@ pub struct DeclInfo {
     /// token.
     pub region: u32,
 }
+
+/// An identifier that uses, makes or completes a declaration.
+#[derive(Clone, Copy)]
+pub struct Identified {
+    /// Its first byte.
+    pub pos: Pos,
+    /// The number of the declaration.
+    pub number: u32,
+}

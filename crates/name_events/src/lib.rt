@@ -6,9 +6,10 @@
 //! before and behind is the order of the list. What each production does, `specs/Outline.antt`
 //! states. On that list stand the definitions of the rules of names: what is known at each point
 //! (`specs/Known.antt`, `specs/KnownBehind.antt`), what occurrences denote (`specs/Denotes.antt`),
-//! and the rules N1 to N6 (`specs/Faults.antt`); `docs/LANGUAGE.md`, "Names", says them in words
-//! (Ada 2012, 8.1 to 8.4, 3.11.1, 10.1). Nothing is refused here but for memory, once for all
-//! files, by `finish`. Time and memory are linear in the tokens.
+//! the declaration of each identifier by its position (`specs/Identified.antt`), and the rules N1
+//! to N6 (`specs/Faults.antt`); `docs/LANGUAGE.md`, "Names", says them in words (Ada 2012, 8.1 to
+//! 8.4, 3.11.1, 10.1). Nothing is refused here but for memory, once for all files, by `finish`.
+//! Time and memory are linear in the tokens.
 #![tactic(auto)]
 
 mod declaration;
@@ -22,7 +23,8 @@ mod subprogram;
 mod unit;
 
 pub use declaration::{
-    DeclInfo, DeclKind, Declaration, DeclarationForm, Meaning, NameRule, OpenRegion, RegionPart,
+    DeclInfo, DeclKind, Declaration, DeclarationForm, Identified, Meaning, NameRule, OpenRegion,
+    RegionPart,
 };
 pub use event::{Clause, Event, FoldedIdentifier, FoldedName};
 pub use event_list::EventList;

@@ -7,9 +7,10 @@ use Rattle.name_events.specs.declared.event.Event.{Event}
 use Rattle.name_events.specs.Outline.{source_events, unit_events}
 use Rattle.name_events.specs.Declarations.{Entry}
 use Rattle.name_events.specs.Denotes.{decl_infos, denotes, info_of, known_of, mentioned}
+use Rattle.name_events.specs.Identified.{identified}
 use Rattle.name_events.specs.Faults.{name_fault}
 use Rattle.name_resolve.specs.Infos.{info}
-use Rattle.name_resolve.specs.OfEvents.{fault_of_events, infos_of_events, numbers_of_events}
+use Rattle.name_resolve.specs.OfEvents.{fault_of_events, identified_of_events, infos_of_events, numbers_of_events}
 
 source_next : (file : List SourceUnit) (files : List (List SourceUnit)) → source_events (file ∷ files) ≡ flat_map unit_events file ++ source_events files
 unfolding source_events
@@ -46,6 +47,10 @@ decls_is files = refl
 pub denotes_is : (files : List (List SourceUnit)) → denotes files ≡ numbers_of_events (source_events files)
 unfolding denotes mentioned known_of
 denotes_is files = refl
+
+pub identified_is : (files : List (List SourceUnit)) → identified files ≡ identified_of_events (source_events files)
+unfolding identified known_of
+identified_is files = refl
 
 pub infos_are : (entries : List Entry) → map info (map (λ entry. entry.1) entries) ≡ map info_of entries
 infos_are [] = refl

@@ -12,7 +12,9 @@ use Rattle.name_events.specs.Declarations.{is_package, or_else}
 use Rattle.name_events.specs.Known.{Known}
 use Rattle.name_events.specs.KnownBehind.{known_behind}
 use Rattle.name_events.specs.Denotes.{occurrences_from, selected_meaning, mentioned_at, mentioned_from}
+use Rattle.name_events.specs.Identified.{identified_at, identified_from}
 use Rattle.name_events.specs.Faults.{Fault, fault, first_fault, first_some, lacks_with, occurrence_fault}
+use Rattle.name_resolve.specs.declared.found.Found.{Found}
 use Rattle.name_resolve.specs.declared.knowledge.Knowledge.{Knowledge}
 use Rattle.name_resolve.specs.declared.refusal.NameRefusal.{NameRefusal}
 use Rattle.name_resolve.specs.declared.refusal.NameRefusal.TheVariants.{Unknown, Twice, NotVisible, TooEarly, NoBody, WrongEnd, Memory}
@@ -32,36 +34,42 @@ occurrence_lacks behind now id d (next ∷ rest) lacks =
     (first_some (occurrence_fault now) (if is_package d then occurrences_from behind now next (selected_meaning behind now d next.name) rest else []))
 
 -- What is left to say of all events is what is left to say of the rest.
-pub record Left (behind n : Known) (k : Knowledge) (events rest : List Event) (denotes : List ℕ) : Type 0 where
+pub record Left (behind n : Known) (k : Knowledge) (events rest : List Event) (found : Found) : Type 0 where
   pub known : Known
   pub stands : Stands k known
   pub faults : first_fault behind n events ≡ first_fault behind known rest
-  pub meanings : flat_map (λ ns. ns) (mentioned_from behind n events) ≡ denotes ++ flat_map (λ ns. ns) (mentioned_from behind known rest)
+  pub meanings : flat_map (λ ns. ns) (mentioned_from behind n events) ≡ found.denotes.items ++ flat_map (λ ns. ns) (mentioned_from behind known rest)
+  pub items : identified_from behind n events ≡ found.identified.items ++ identified_from behind known rest
 
-abbrev pub Goes : Knowledge → Knowledge → Knowledge → List Event → List Event → List ℕ → Type 0
-Goes whole first k events rest denotes = EachKnown whole first (λ behind n. Left behind n k events rest denotes)
+abbrev pub Goes : Knowledge → Knowledge → Knowledge → List Event → List Event → Found → Type 0
+Goes whole first k events rest found = EachKnown whole first (λ behind n. Left behind n k events rest found)
 
 flat-append : (xs ys : List (List ℕ)) → flat_map (λ ns. ns) (xs ++ ys) ≡ flat_map (λ ns. ns) xs ++ flat_map (λ ns. ns) ys
 flat-append [] ys = refl
 flat-append (x ∷ xs) ys = ap (λ ns. x ++ ns) (flat-append xs ys) ∙ sym (append_assoc x (flat_map (λ ns. ns) xs) (flat_map (λ ns. ns) ys))
 
-pub goes_on : (whole first k next : Knowledge) (events : List Event) (event : Event) (rest : List Event) (old new : List ℕ)
+pub goes_on : (whole first k next : Knowledge) (events : List Event) (event : Event) (rest : List Event) (old new : Found)
     → Goes whole first k events (event ∷ rest) old
     → EachKnown whole k (λ behind n. fault behind n event ≡ None)
-    → EachKnown whole k (λ behind n. new ≡ old ++ flat_map (λ ns. ns) (mentioned_at behind n event))
+    → EachKnown whole k (λ behind n. new.denotes.items ≡ old.denotes.items ++ flat_map (λ ns. ns) (mentioned_at behind n event))
+    → EachKnown whole k (λ behind n. new.identified.items ≡ old.identified.items ++ identified_at behind n event)
     → ((now : Known) → Stands k now → Stands next (known_behind now event))
     → Goes whole first next events rest new
-unfolding first_fault mentioned_from
-goes_on whole first k next events event rest old new goes right adds learns behind n sb sn =
+unfolding first_fault mentioned_from identified_from
+goes_on whole first k next events event rest old new goes right adds finds learns behind n sb sn =
     let left = goes behind n sb sn in
+    let after = known_behind left.known event in
     record {
-      known = known_behind left.known event;
+      known = after;
       stands = learns left.known left.stands;
-      faults = left.faults ∙ ap (λ o. or_else o (first_fault behind (known_behind left.known event) rest)) (right behind left.known sb left.stands);
+      faults = left.faults ∙ ap (λ o. or_else o (first_fault behind after rest)) (right behind left.known sb left.stands);
       meanings = left.meanings
-          ∙ ap (λ ns. old ++ ns) (flat-append (mentioned_at behind left.known event) (mentioned_from behind (known_behind left.known event) rest))
-          ∙ sym (append_assoc old (flat_map (λ ns. ns) (mentioned_at behind left.known event)) (flat_map (λ ns. ns) (mentioned_from behind (known_behind left.known event) rest)))
-          ∙ ap (λ ns. ns ++ flat_map (λ ns. ns) (mentioned_from behind (known_behind left.known event) rest)) (sym (adds behind left.known sb left.stands));
+          ∙ ap (λ ns. old.denotes.items ++ ns) (flat-append (mentioned_at behind left.known event) (mentioned_from behind after rest))
+          ∙ sym (append_assoc old.denotes.items (flat_map (λ ns. ns) (mentioned_at behind left.known event)) (flat_map (λ ns. ns) (mentioned_from behind after rest)))
+          ∙ ap (λ ns. ns ++ flat_map (λ ns. ns) (mentioned_from behind after rest)) (sym (adds behind left.known sb left.stands));
+      items = left.items
+          ∙ sym (append_assoc old.identified.items (identified_at behind left.known event) (identified_from behind after rest))
+          ∙ ap (λ xs. xs ++ identified_from behind after rest) (sym (finds behind left.known sb left.stands));
     }
 
 -- The first fault of the rest is that of all.
@@ -74,18 +82,25 @@ first_says (NoBody p) found all is on = on _ is
 first_says (WrongEnd p) found all is on = on _ is
 first_says Memory found all is on = tt
 
-pub breaks_off : (A : Type 0) (whole first k : Knowledge) (events : List Event) (event : Event) (rest : List Event) (denotes : List ℕ) (r : NameRefusal)
-    → Goes whole first k events (event ∷ rest) denotes
+pub breaks_off : (whole first k : Knowledge) (events : List Event) (event : Event) (rest : List Event) (found : Found) (r : NameRefusal)
+    → Goes whole first k events (event ∷ rest) found
     → EachKnown whole k (λ behind n. Says r (fault behind n event))
     → EachKnown whole first (λ behind n. Says r (first_fault behind n events))
 unfolding first_fault
-breaks_off A whole first k events event rest denotes r goes is behind n sb sn =
+breaks_off whole first k events event rest found r goes is behind n sb sn =
     let left = goes behind n sb sn in
     first_says r (fault behind left.known event) (first_fault behind n events) (is behind left.known sb left.stands)
     (λ f at. left.faults ∙ ap (λ o. or_else o (first_fault behind (known_behind left.known event) rest)) at)
 
-pub goes_first : (whole first : Knowledge) (events : List Event) → Goes whole first first events events []
-goes_first whole first events behind n sb sn = record { known = n; stands = sn; faults = refl; meanings = refl }
+pub goes_first : (whole first : Knowledge) (events : List Event) (found : Found) → found.denotes.items ≡ [] → found.identified.items ≡ []
+    → Goes whole first first events events found
+goes_first whole first events found none nowhere behind n sb sn = record {
+  known = n;
+  stands = sn;
+  faults = refl;
+  meanings = ap (λ ns. ns ++ flat_map (λ ns. ns) (mentioned_from behind n events)) (sym none);
+  items = ap (λ xs. xs ++ identified_from behind n events) (sym nowhere);
+}
 
 -- A refusal that is handed on.
 pub handed_on : (A : Type 0) (result : Result A NameRefusal) (P : NameRefusal → Type 0) (e : NameRefusal) (found : Option Fault)

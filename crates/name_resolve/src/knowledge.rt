@@ -6,6 +6,7 @@ ghost use Rattle.name_events.specs.Completions.{completed_by, completes_form, ma
 ghost use Rattle.name_events.specs.Known.{Known, directly_visible, here, is_number, packages_in_use, part_here, seen, selected, source_package, visible_members};
 ghost use Rattle.name_events.specs.KnownBehind.{known_at_first, package_named};
 ghost use Rattle.name_events.specs.Denotes.{meaning, selected_meaning, stands_later, stands_later_in};
+ghost use Rattle.name_events.specs.Identified.{number_declared};
 ghost use Rattle.name_events.specs.Faults.{lacks_with};
 ghost use Rattle.name_resolve.specs.declared.sighting.Sighting.TheVariants.{Nothing};
 ghost use Rattle.name_resolve.specs.Sightings.{sighted_all};
@@ -275,6 +276,17 @@ impl Knowledge {
                     None
                 }
             }
+        }
+    }
+
+    /// The number of the declaration that an identifier declares here: of the one which it
+    /// completes, or the next number.
+    pub fn number_declared(&self, form: DeclarationForm, word: &Word) -> usize
+        ensures { (now : Known) → Stands self.now now → result ≡ number_declared now form word.now }
+    {
+        match self.completed_by(form, word) {
+            None => self.declarations.all.len(),
+            Some(completed) => completed.number,
         }
     }
 }

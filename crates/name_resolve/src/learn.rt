@@ -350,19 +350,18 @@ impl Knowledge {
         ensures { OnOk result ((now : Known) → Stands self.old now → Stands self.new (known_behind now event.now)) }
     {
         match event {
-            Event::UnitBegins { body_of } => Ok(self.begin_unit(self.package_named(body_of))?),
-            Event::UnitHasWith { name } => Ok(self.add_with(name)?),
-            Event::Mentions { clause, name } => Ok(self.mention(*clause, name)?),
-            Event::UseClauseEnds => Ok(self.end_use_clause()?),
-            Event::Declares { form, identifier } => Ok(self.add_declaration(*form, identifier)?),
-            Event::DeclarationsEnd => Ok(self.end_here()?),
-            Event::OuterDeclarationsEnd => Ok(self.end_outer()?),
-            Event::RegionOpens => Ok(self.open_region()?),
+            Event::UnitBegins { body_of } => self.begin_unit(self.package_named(body_of)),
+            Event::UnitHasWith { name } => self.add_with(name),
+            Event::Mentions { clause, name } => self.mention(*clause, name),
+            Event::UseClauseEnds => self.end_use_clause(),
+            Event::Declares { form, identifier } => self.add_declaration(*form, identifier),
+            Event::DeclarationsEnd => self.end_here(),
+            Event::OuterDeclarationsEnd => self.end_outer(),
+            Event::RegionOpens => self.open_region(),
             Event::PackageBodyOpens { identifier } => {
-                let spec = self.source_package(identifier);
-                Ok(self.open_body(identifier, spec)?)
+                self.open_body(identifier, self.source_package(identifier))
             }
-            Event::PrivatePartBegins => Ok(self.turn_private()?),
+            Event::PrivatePartBegins => self.turn_private(),
             Event::RegionCloses => {
                 self.close_region();
                 Ok(())
@@ -371,7 +370,7 @@ impl Knowledge {
                 self.begin_record();
                 Ok(())
             }
-            Event::DeclaresComponent { identifier } => Ok(self.add_component(identifier)?),
+            Event::DeclaresComponent { identifier } => self.add_component(identifier),
             Event::EndsWithName { .. } => Ok(()),
         }
     }

@@ -13,6 +13,7 @@ mod contexts;
 mod declarations;
 mod entry_index;
 mod form;
+mod found;
 mod infos;
 mod knowledge;
 mod learn;

@@ -1,18 +1,21 @@
 //! The rules of names, each where a text may break it.
-ghost use Rattle.std.specs.Prelude.{◌≡◌, ◌++◌, ◌&&◌, not, OnOk, Some, IsOk, is_some, List, length, map};
+ghost use Rattle.std.specs.Prelude.{◌≡◌, [], ◌∷◌, ◌++◌, ◌&&◌, not, OnOk, Some, IfErr, IsOk, is_some, List, length, map};
 ghost use Rattle.std.specs.List.{flat_map};
 ghost use Rattle.name_events.specs.declared.event.Clause.TheVariants as clause;
 ghost use Rattle.name_events.specs.declared.declaration.Meaning.TheVariants.{Breaks, Denotes};
 ghost use Rattle.name_events.specs.Declarations.{declared_in, has_name};
-ghost use Rattle.name_events.specs.Known.{Known, here};
+ghost use Rattle.name_events.specs.Known.{Known, here, source_package};
 ghost use Rattle.name_events.specs.Denotes.{meaning_along, mentioned_at, number_denoted, occurrences, occurrences_from, whole_meaning};
+ghost use Rattle.name_events.specs.Identified.{identified_as, identified_at, identified_body, identified_use, number_declared};
 ghost use Rattle.name_events.specs.Faults.{body_fault, closing_fault, component_fault, declaration_fault, fault, first_some, is_incomplete, is_second, is_second_body, is_second_unit, is_unknown, may_stand, mention_fault, names_subprogram, occurrence_fault};
+ghost use Rattle.name_resolve.specs.declared.refusal.NameRefusal.TheVariants.{Memory};
 ghost use Rattle.name_resolve.specs.Judges.{Judges};
 ghost use Rattle.name_resolve.specs.Stands.{EachKnown, Stands};
 
 use crate::form::{awaits, both, either, is_body, is_generic, is_package, is_type};
+use crate::found::Found;
 use crate::knowledge::Knowledge;
-use crate::refusal::{NameRefusal, narrowed, refused};
+use crate::refusal::{NameRefusal, refused};
 use ada_tree::Word;
 use name_events::{
     Clause, Declaration, DeclarationForm, Event, FoldedIdentifier, FoldedName, Meaning, NameRule,
@@ -26,16 +29,18 @@ fn follow(
     id: &FoldedIdentifier,
     meaning: Meaning,
     rest: &[FoldedIdentifier],
-    denotes: &mut Vec<u32>,
+    found: &mut Found,
 ) -> Result<(), NameRefusal>
     ensures fault { EachKnown whole.now now.now (λ behind n. Judges result
         (first_some (occurrence_fault n) (occurrences_from behind n id.now meaning rest.now))) }
-    ensures denotes { OnOk result (EachKnown whole.now now.now (λ behind n. denotes.new.items
-        ≡ denotes.old.items ++ flat_map number_denoted (occurrences_from behind n id.now meaning rest.now))) }
+    ensures denotes { OnOk result (EachKnown whole.now now.now (λ behind n. found.new.denotes.items
+        ≡ found.old.denotes.items ++ flat_map number_denoted (occurrences_from behind n id.now meaning rest.now))) }
+    ensures identified { OnOk result (EachKnown whole.now now.now (λ behind n. found.new.identified.items
+        ≡ found.old.identified.items ++ flat_map identified_use (occurrences_from behind n id.now meaning rest.now))) }
 {
     match meaning {
         Meaning::Breaks(rule) => Err(refused(rule, id.pos)),
-        Meaning::Denotes(declaration) => { Ok(go_on(now, whole, id, declaration, rest, denotes)?) }
+        Meaning::Denotes(declaration) => { Ok(go_on(now, whole, id, declaration, rest, found)?) }
     }
 }
 
@@ -47,17 +52,19 @@ fn go_on(
     id: &FoldedIdentifier,
     declaration: Declaration,
     rest: &[FoldedIdentifier],
-    denotes: &mut Vec<u32>,
+    found: &mut Found,
 ) -> Result<(), NameRefusal>
     ensures fault { EachKnown whole.now now.now (λ behind n. Judges result
         (first_some (occurrence_fault n) (occurrences_from behind n id.now (Denotes declaration) rest.now))) }
-    ensures denotes { OnOk result (EachKnown whole.now now.now (λ behind n. denotes.new.items
-        ≡ denotes.old.items ++ flat_map number_denoted (occurrences_from behind n id.now (Denotes declaration) rest.now))) }
+    ensures denotes { OnOk result (EachKnown whole.now now.now (λ behind n. found.new.denotes.items
+        ≡ found.old.denotes.items ++ flat_map number_denoted (occurrences_from behind n id.now (Denotes declaration) rest.now))) }
+    ensures identified { OnOk result (EachKnown whole.now now.now (λ behind n. found.new.identified.items
+        ≡ found.old.identified.items ++ flat_map identified_use (occurrences_from behind n id.now (Denotes declaration) rest.now))) }
 {
     if now.lacks_with(declaration) {
         return Err(NameRefusal::NotVisible(id.pos));
     }
-    denotes.push(narrowed(declaration.number)?)?;
+    found.denote(id.pos, declaration.number)?;
     match rest.split_first() {
         None => Ok(()),
         Some((next, behind)) => {
@@ -65,7 +72,7 @@ fn go_on(
                 return Ok(());
             }
             let meaning = now.selected_meaning(whole, declaration, &next.name);
-            Ok(follow(now, whole, next, meaning, behind, denotes)?)
+            Ok(follow(now, whole, next, meaning, behind, found)?)
         }
     }
 }
@@ -145,11 +152,13 @@ fn mention(
     whole: &Knowledge,
     clause: Clause,
     name: &FoldedName,
-    denotes: &mut Vec<u32>,
+    found: &mut Found,
 ) -> Result<(), NameRefusal>
     ensures fault { EachKnown whole.now now.now (λ behind n. Judges result (mention_fault behind n clause name.now)) }
-    ensures denotes { OnOk result (EachKnown whole.now now.now (λ behind n. denotes.new.items
-        ≡ denotes.old.items ++ flat_map number_denoted (occurrences behind n name.now))) }
+    ensures denotes { OnOk result (EachKnown whole.now now.now (λ behind n. found.new.denotes.items
+        ≡ found.old.denotes.items ++ flat_map number_denoted (occurrences behind n name.now))) }
+    ensures identified { OnOk result (EachKnown whole.now now.now (λ behind n. found.new.identified.items
+        ≡ found.old.identified.items ++ flat_map identified_use (occurrences behind n name.now))) }
 {
     let meaning = now.meaning(whole, &name.first.name);
     let along = meaning_along(now, whole, meaning, name.rest.as_slice());
@@ -162,7 +171,7 @@ fn mention(
         &name.first,
         meaning,
         name.rest.as_slice(),
-        denotes,
+        found,
     )?)
 }
 
@@ -227,6 +236,25 @@ fn declaration(
     Ok(())
 }
 
+/// An identifier that is declared, with the number of its declaration.
+fn declare(
+    now: &Knowledge,
+    whole: &Knowledge,
+    form: DeclarationForm,
+    id: &FoldedIdentifier,
+    found: &mut Found,
+) -> Result<(), NameRefusal>
+    ensures fault { EachKnown whole.now now.now (λ behind n. Judges result (declaration_fault behind n form id.now)) }
+    ensures denotes { found.new.denotes.items ≡ found.old.denotes.items }
+    ensures identified { OnOk result (EachKnown whole.now now.now (λ behind n. found.new.identified.items
+        ≡ found.old.identified.items ++ identified_as id.now (number_declared n form id.now.name) ∷ [])) }
+{
+    declaration(now, whole, form, id)?;
+    let number = now.number_declared(form, &id.name);
+    found.identify(id.pos, number)?;
+    Ok(())
+}
+
 /// Whether it is a subprogram with its body.
 fn names_subprogram(found: Option<Declaration>) -> bool
     ensures { result ≡ names_subprogram found }
@@ -265,6 +293,39 @@ fn package_body(
     Err(NameRefusal::NoBody(id.pos))
 }
 
+/// The identifier of a package body has this package, or none.
+fn identify_package(
+    id: &FoldedIdentifier,
+    spec: Option<Declaration>,
+    found: &mut Found,
+) -> Result<(), NameRefusal>
+    ensures denotes { found.new.denotes.items ≡ found.old.denotes.items }
+    ensures identified { OnOk result (found.new.identified.items ≡ found.old.identified.items ++ identified_body id.now spec) }
+    ensures memory { IfErr result (λ refusal. refusal ≡ Memory) }
+{
+    match spec {
+        None => Ok(()),
+        Some(declaration) => Ok(found.identify(id.pos, declaration.number)?),
+    }
+}
+
+/// A package body, whose identifier has the package that goes on.
+fn continue_package(
+    now: &Knowledge,
+    whole: &Knowledge,
+    id: &FoldedIdentifier,
+    found: &mut Found,
+) -> Result<(), NameRefusal>
+    ensures fault { EachKnown whole.now now.now (λ behind n. Judges result (body_fault behind n id.now)) }
+    ensures denotes { found.new.denotes.items ≡ found.old.denotes.items }
+    ensures identified { OnOk result (EachKnown whole.now now.now (λ behind n. found.new.identified.items
+        ≡ found.old.identified.items ++ identified_body id.now (source_package n.ended id.now.name))) }
+{
+    package_body(now, whole, id)?;
+    identify_package(id, now.source_package(id), found)?;
+    Ok(())
+}
+
 /// A component: N2.
 fn component(now: &Knowledge, id: &FoldedIdentifier) -> Result<(), NameRefusal>
     ensures { (n : Known) → Stands now.now n → Judges result (component_fault n id.now) }
@@ -286,26 +347,28 @@ fn closing(id: &FoldedIdentifier, expected: &Word) -> Result<(), NameRefusal>
 }
 
 /// One event.
-#[tactic(auto, unfolding(name_events::specs::Faults::fault, name_events::specs::Denotes::mentioned_at))]
+#[tactic(auto, unfolding(name_events::specs::Faults::fault, name_events::specs::Denotes::mentioned_at, name_events::specs::Identified::identified_at))]
 pub fn visit(
     now: &Knowledge,
     whole: &Knowledge,
     event: &Event,
-    denotes: &mut Vec<u32>,
+    found: &mut Found,
 ) -> Result<(), NameRefusal>
     ensures fault { EachKnown whole.now now.now (λ behind n. Judges result (fault behind n event.now)) }
-    ensures denotes { OnOk result (EachKnown whole.now now.now (λ behind n. denotes.new.items
-        ≡ denotes.old.items ++ flat_map (λ numbers. numbers) (mentioned_at behind n event.now))) }
+    ensures denotes { OnOk result (EachKnown whole.now now.now (λ behind n. found.new.denotes.items
+        ≡ found.old.denotes.items ++ flat_map (λ numbers. numbers) (mentioned_at behind n event.now))) }
+    ensures identified { OnOk result (EachKnown whole.now now.now (λ behind n. found.new.identified.items
+        ≡ found.old.identified.items ++ identified_at behind n event.now)) }
 {
     match event {
-        Event::Mentions { clause, name } => Ok(mention(now, whole, *clause, name, denotes)?),
-        Event::Declares { form, identifier } => Ok(declaration(now, whole, *form, identifier)?),
-        Event::PackageBodyOpens { identifier } => Ok(package_body(now, whole, identifier)?),
-        Event::DeclaresComponent { identifier } => Ok(component(now, identifier)?),
+        Event::Mentions { clause, name } => mention(now, whole, *clause, name, found),
+        Event::Declares { form, identifier } => declare(now, whole, *form, identifier, found),
+        Event::PackageBodyOpens { identifier } => continue_package(now, whole, identifier, found),
+        Event::DeclaresComponent { identifier } => component(now, identifier),
         Event::EndsWithName {
             identifier,
             expected,
-        } => Ok(closing(identifier, expected)?),
+        } => closing(identifier, expected),
         Event::UnitBegins { .. }
         | Event::UnitHasWith { .. }
         | Event::UseClauseEnds

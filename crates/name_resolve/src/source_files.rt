@@ -5,18 +5,20 @@ ghost use Rattle.name_events.specs.Outline.{source_events};
 ghost use Rattle.name_events.specs.Known.{Known};
 ghost use Rattle.name_events.specs.KnownBehind.{known_behind_all};
 ghost use Rattle.name_events.specs.Denotes.{decl_infos, denotes as numbers_denoted, mentioned_from};
+ghost use Rattle.name_events.specs.Identified.{identified as all_identified, identified_from};
 ghost use Rattle.name_events.specs.Faults.{first_fault, name_fault};
 ghost use Rattle.name_resolve.specs.Inputs.{trees_of};
 ghost use Rattle.name_resolve.specs.Judges.{Judges};
-ghost use Rattle.name_resolve.specs.OfEvents.{fault_of_events, infos_of_events, numbers_of_events};
+ghost use Rattle.name_resolve.specs.OfEvents.{fault_of_events, identified_of_events, infos_of_events, numbers_of_events};
 ghost use Rattle.name_resolve.specs.Stands.{EachKnown, Stands};
 
+use crate::found::Found;
 use crate::infos::infos;
 use crate::knowledge::Knowledge;
 use crate::refusal::NameRefusal;
 use crate::rules::visit;
 use ada_tree::Trees;
-use name_events::{DeclInfo, Event, EventList};
+use name_events::{DeclInfo, Event, EventList, Identified};
 use spark_base::Listed;
 use std::alloc::{AllocError, Global};
 
@@ -31,9 +33,13 @@ pub struct Resolved {
     pub decls: Vec<DeclInfo>,
     /// For each occurrence, in the order of the text, the number of its declaration in `decls`.
     pub denotes: Vec<u32>,
+    /// For each identifier that uses, makes or completes a declaration, in the order of the text,
+    /// its position and the number of the declaration in `decls`.
+    pub identified: Vec<Identified>,
     ghost fault: { ∥ name_fault (trees_of files.items) ≡ None ∥₁ },
     ghost decls_are: { ∥ decls.items ≡ decl_infos (trees_of files.items) ∥₁ },
     ghost denotes_are: { ∥ denotes.items ≡ numbers_denoted (trees_of files.items) ∥₁ },
+    ghost identified_are: { ∥ identified.items ≡ all_identified (trees_of files.items) ∥₁ },
 }
 
 /// What the files do with names.
@@ -57,43 +63,45 @@ fn learned(mut known: Knowledge, events: &[Event]) -> Result<Knowledge, AllocErr
     Ok(known)
 }
 
-/// What the occurrences in events denote, or the first broken rule.
+/// The declarations of the identifiers in events, or the first broken rule.
 fn resolve_events(
     alloc: Global,
     whole: &Knowledge,
     mut known: Knowledge,
     events: &[Event],
-) -> Result<Vec<u32>, NameRefusal>
+) -> Result<Found, NameRefusal>
     ensures fault { EachKnown whole.now known (λ behind n. Judges result (first_fault behind n events.now)) }
-    ensures denotes { IfOk result (λ made. EachKnown whole.now known (λ behind n. made.items ≡ flat_map (λ numbers. numbers) (mentioned_from behind n events.now))) }
+    ensures denotes { IfOk result (λ made. EachKnown whole.now known (λ behind n. made.denotes.items ≡ flat_map (λ numbers. numbers) (mentioned_from behind n events.now))) }
+    ensures identified { IfOk result (λ made. EachKnown whole.now known (λ behind n. made.identified.items ≡ identified_from behind n events.now)) }
 {
-    let mut denotes = Vec::new(alloc);
+    let mut found = Found::new(alloc);
     'turns: for event in events {
-        visit(&known, whole, event, &mut denotes)?;
+        visit(&known, whole, event, &mut found)?;
         known.learn(event)?;
     }
-    Ok(denotes)
+    Ok(found)
 }
 
-/// The declarations in events, and what the occurrences denote.
+/// The declarations in events, and those of their identifiers.
 #[derive(Drop)]
 struct Meanings {
     decls: Vec<DeclInfo>,
-    denotes: Vec<u32>,
+    found: Found,
 }
 
 /// What the names in events mean, or the first broken rule.
 fn resolve_all(alloc: Global, events: &[Event]) -> Result<Meanings, NameRefusal>
     ensures fault { Judges result (fault_of_events events.now) }
     ensures decls { IfOk result (λ made. made.decls.items ≡ infos_of_events events.now) }
-    ensures denotes { IfOk result (λ made. made.denotes.items ≡ numbers_of_events events.now) }
+    ensures denotes { IfOk result (λ made. made.found.denotes.items ≡ numbers_of_events events.now) }
+    ensures identified { IfOk result (λ made. made.found.identified.items ≡ identified_of_events events.now) }
 {
     let first = Knowledge::new(alloc)?;
     let whole = learned(first, events)?;
     let known = Knowledge::new(alloc)?;
-    let denotes = resolve_events(alloc, &whole, known, events)?;
+    let found = resolve_events(alloc, &whole, known, events)?;
     let decls = infos(alloc, &whole.declarations.all)?;
-    Ok(Meanings { decls, denotes })
+    Ok(Meanings { decls, found })
 }
 
 /// What each identifier of the files denotes, or the first rule of names that they break, in the
@@ -106,6 +114,7 @@ pub fn resolve(
     ensures fault { Judges result (name_fault (trees_of files.items)) }
     ensures decls { IfOk result (λ made. made.decls.items ≡ decl_infos (trees_of files.items)) }
     ensures denotes { IfOk result (λ made. made.denotes.items ≡ numbers_denoted (trees_of files.items)) }
+    ensures identified { IfOk result (λ made. made.identified.items ≡ all_identified (trees_of files.items)) }
     ensures same { IfOk result (λ made. (made.names ≡ names) × (made.files ≡ files)) }
 {
     let events = events_of(alloc, &files)?;
@@ -114,6 +123,7 @@ pub fn resolve(
         names,
         files,
         decls: made.decls,
-        denotes: made.denotes,
+        denotes: made.found.denotes,
+        identified: made.found.identified,
     })
 }

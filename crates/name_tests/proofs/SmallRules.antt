@@ -1,6 +1,6 @@
 -- What is compared in the modules of small sources: a text that is cut into tokens, its tree, and
 -- what the definitions say of that.
-use Rattle.std.proofs.Common.{◌≡◌, ℕ, List, [], ◌∷◌}
+use Rattle.std.proofs.Common.{◌≡◌, ℕ, List, [], ◌∷◌, map}
 use Rattle.std.specs.Prelude.{None, Some}
 use Prim.Native.String.{String}
 use Rattle.ada_tree.specs.declared.unit.SourceUnit.{SourceUnit}
@@ -10,6 +10,7 @@ use Rattle.name_events.specs.ExpressionOutline.{next_name, part_name, next_dotte
 use Rattle.name_events.specs.Outline.{indication_events, component_events, subtype_events, type_events, item_events, simple_events, formal_events, next_formal_events, subspec_events, body_form, subspec_name, subprogram_events, decl_events, body_part_events, with_events, context_events, unit_events, source_events, stmts_events, stmt_box_events, stmt_list_events, stmt_events, stmts_box_events, elsifs_events, elsif_events, when_box_events, whens_events, when_events}
 use Rattle.name_events.specs.KnownBehind.{known_behind}
 use Rattle.name_events.specs.Denotes.{known_of, mentioned_at, mentioned_from, mentioned, denotes, decl_infos}
+use Rattle.name_events.specs.Identified.{identified_at, identified_from, identified}
 use Rattle.name_events.specs.Faults.{fault, first_fault, name_fault}
 
 -- The text has these units, and the first rule that they break is this one, at this column.
@@ -20,6 +21,12 @@ IsFirstBroken text rule column units = IsTextOf text units × (name_fault (units
 -- these numbers, in order.
 abbrev pub IsResolved : String → List ℕ → List SourceUnit → Type 0
 IsResolved text numbers units = IsTextOf text units × (name_fault (units ∷ []) ≡ None) × (denotes (units ∷ []) ≡ numbers)
+
+-- The text has these units, and the identifiers in these columns have the declarations with these
+-- numbers, in order.
+abbrev pub IsIdentified : String → List (ℕ × ℕ) → List SourceUnit → Type 0
+IsIdentified text found units =
+    IsTextOf text units × (map (λ item. (item.pos.column, item.number)) (identified (units ∷ [])) ≡ found)
 
 -- The definitions that are computed where a lemma names this one: what a tree does with names, and
 -- the rules.
@@ -33,5 +40,5 @@ unfolding next_name part_name next_dotted_name selector selectors range_events c
     subspec_events body_form subspec_name subprogram_events decl_events body_part_events with_events context_events
     unit_events source_events stmts_events stmt_box_events stmt_list_events stmt_events stmts_box_events elsifs_events
     elsif_events when_box_events whens_events when_events known_behind known_of mentioned_at mentioned_from mentioned
-    denotes decl_infos fault first_fault name_fault
+    denotes decl_infos identified_at identified_from identified fault first_fault name_fault
 resolves = Unit {0}

@@ -70,6 +70,40 @@ pub enum Code {
     U1,
 }
 
+/// The letters and the text of each code, in the order of the codes.
+const ROWS: [(&str, &str); 30] = [
+    ("S1", "sources too large"),
+    ("L1", "bad byte"),
+    ("L2", "bad identifier"),
+    ("L3", "bad number"),
+    ("L4", "unclosed string"),
+    ("L5", "too many tokens"),
+    ("P1", "syntax"),
+    ("P2", "nesting too deep"),
+    ("P3", "construct left out"),
+    ("N1", "unknown name"),
+    ("N2", "declared twice"),
+    ("N3", "not visible"),
+    ("N4", "used before its declaration"),
+    ("N5", "body missing"),
+    ("N6", "closing name differs"),
+    ("Y1", "type too large"),
+    ("Y2", "too many access parts"),
+    ("Y3", "array without elements"),
+    ("K1", "wrong type"),
+    ("K2", "not a variable"),
+    ("K3", "wrong profile"),
+    ("K4", "choice missing or doubled"),
+    ("K5", "owning expression out of place"),
+    ("K6", "anonymous access out of place"),
+    ("K7", "not static"),
+    ("K8", "package value"),
+    ("M1", "name too deep"),
+    ("G1", "too many points"),
+    ("G2", "too many facts"),
+    ("U1", "form not built"),
+];
+
 impl Code {
     /// The code as its line shows it, in two characters.
     pub fn letters(self) -> &'static str
@@ -85,42 +119,11 @@ impl Code {
         self.row().1
     }
 
-    /// The table of the codes: the letters and the text of each.
-    fn row(self) -> (&'static str, &'static str)
-        ensures letters { result.0.now ≡ code_letters self }
-        ensures text { result.1.now ≡ code_text self }
+    /// The row of the table of codes.
+    fn row(self) -> &'static (&'static str, &'static str)
+        ensures letters { result.now.0.now ≡ code_letters self }
+        ensures text { result.now.1.now ≡ code_text self }
     {
-        match self {
-            Code::S1 => ("S1", "sources too large"),
-            Code::L1 => ("L1", "bad byte"),
-            Code::L2 => ("L2", "bad identifier"),
-            Code::L3 => ("L3", "bad number"),
-            Code::L4 => ("L4", "unclosed string"),
-            Code::L5 => ("L5", "too many tokens"),
-            Code::P1 => ("P1", "syntax"),
-            Code::P2 => ("P2", "nesting too deep"),
-            Code::P3 => ("P3", "construct left out"),
-            Code::N1 => ("N1", "unknown name"),
-            Code::N2 => ("N2", "declared twice"),
-            Code::N3 => ("N3", "not visible"),
-            Code::N4 => ("N4", "used before its declaration"),
-            Code::N5 => ("N5", "body missing"),
-            Code::N6 => ("N6", "closing name differs"),
-            Code::Y1 => ("Y1", "type too large"),
-            Code::Y2 => ("Y2", "too many access parts"),
-            Code::Y3 => ("Y3", "array without elements"),
-            Code::K1 => ("K1", "wrong type"),
-            Code::K2 => ("K2", "not a variable"),
-            Code::K3 => ("K3", "wrong profile"),
-            Code::K4 => ("K4", "choice missing or doubled"),
-            Code::K5 => ("K5", "owning expression out of place"),
-            Code::K6 => ("K6", "anonymous access out of place"),
-            Code::K7 => ("K7", "not static"),
-            Code::K8 => ("K8", "package value"),
-            Code::M1 => ("M1", "name too deep"),
-            Code::G1 => ("G1", "too many points"),
-            Code::G2 => ("G2", "too many facts"),
-            Code::U1 => ("U1", "form not built"),
-        }
+        &ROWS[self as usize]
     }
 }

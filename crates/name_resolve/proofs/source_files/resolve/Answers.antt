@@ -3,8 +3,8 @@ use Rattle.name_events.specs.Outline.{source_events}
 use Rattle.name_events.specs.Faults.{name_fault}
 use Rattle.name_resolve.specs.Inputs.{trees_of}
 use Rattle.name_resolve.specs.Judges.{Says}
-use Rattle.name_resolve.specs.OfEvents.{fault_of_events, infos_of_events, numbers_of_events}
-use Rattle.name_resolve.proofs.Files.{decls_is, denotes_is, fault_is}
+use Rattle.name_resolve.specs.OfEvents.{fault_of_events, identified_of_events, infos_of_events, numbers_of_events}
+use Rattle.name_resolve.proofs.Files.{decls_is, denotes_is, fault_is, identified_is}
 use Rattle.name_resolve.proofs.Occurrences.{handed_on}
 use Rattle.name_resolve.proofs.source_files.resolve.Goals as goal
 
@@ -34,6 +34,12 @@ returns-clause-denotes c =
     ∙ ap numbers_of_events (c.as_slice.ensures ∙ c.in_ok-events.ensures ∙ ap (λ files. source_events (trees_of files)) c.deref.ensures.value)
     ∙ sym (denotes_is (trees_of c.args.files.items))
 
+pub returns-clause-identified : goal.returns-clause-identified
+returns-clause-identified c =
+    c.in_ok-made.ensures.identified
+    ∙ ap identified_of_events (c.as_slice.ensures ∙ c.in_ok-events.ensures ∙ ap (λ files. source_events (trees_of files)) c.deref.ensures.value)
+    ∙ sym (identified_is (trees_of c.args.files.items))
+
 pub invariant_of-result-clause-fault : goal.invariant_of-result-clause-fault
 invariant_of-result-clause-fault c =
     ∣ fault_is (trees_of c.args.files.items)
@@ -51,3 +57,9 @@ invariant_of-result-clause-denotes_are c =
     ∣ c.in_ok-made.ensures.denotes
     ∙ ap numbers_of_events (c.as_slice.ensures ∙ c.in_ok-events.ensures ∙ ap (λ files. source_events (trees_of files)) c.deref.ensures.value)
     ∙ sym (denotes_is (trees_of c.args.files.items)) ∣₁
+
+pub invariant_of-result-clause-identified_are : goal.invariant_of-result-clause-identified_are
+invariant_of-result-clause-identified_are c =
+    ∣ c.in_ok-made.ensures.identified
+    ∙ ap identified_of_events (c.as_slice.ensures ∙ c.in_ok-events.ensures ∙ ap (λ files. source_events (trees_of files)) c.deref.ensures.value)
+    ∙ sym (identified_is (trees_of c.args.files.items)) ∣₁

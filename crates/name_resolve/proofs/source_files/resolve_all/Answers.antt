@@ -12,11 +12,11 @@ returns-in_err-known-clause-fault c =
     memory_says _ c.from_residual-in_err-known.result (fault_of_events c.args.events.now)
     c.from_residual-in_err-known.ensures.0 c.from_residual-in_err-known.ensures.1
 
-pub returns-in_err-denotes-clause-fault : goal.returns-in_err-denotes-clause-fault
-returns-in_err-denotes-clause-fault c =
-    handed_on _ c.from_residual-in_err-denotes.result _ c.in_err-denotes.field-0.0 (fault_of_events c.args.events.now)
-    c.from_residual-in_err-denotes.ensures.0 c.from_residual-in_err-denotes.ensures.1 (λ r h. h)
-    (c.in_err-denotes.ensures.fault (known_of_events c.args.events.now) known_at_first
+pub returns-in_err-found-clause-fault : goal.returns-in_err-found-clause-fault
+returns-in_err-found-clause-fault c =
+    handed_on _ c.from_residual-in_err-found.result _ c.in_err-found.field-0.0 (fault_of_events c.args.events.now)
+    c.from_residual-in_err-found.ensures.0 c.from_residual-in_err-found.ensures.1 (λ r h. h)
+    (c.in_err-found.ensures.fault (known_of_events c.args.events.now) known_at_first
     (c.in_ok-whole.ensures known_at_first c.in_ok-first.ensures) c.in_ok-known.ensures)
 
 pub returns-in_err-decls-clause-fault : goal.returns-in_err-decls-clause-fault
@@ -27,7 +27,7 @@ returns-in_err-decls-clause-fault c =
 
 pub returns-clause-fault : goal.returns-clause-fault
 returns-clause-fault c =
-    c.in_ok-denotes.ensures.fault (known_of_events c.args.events.now) known_at_first
+    c.in_ok-found.ensures.fault (known_of_events c.args.events.now) known_at_first
     (c.in_ok-whole.ensures known_at_first c.in_ok-first.ensures) c.in_ok-known.ensures
 
 pub returns-clause-decls : goal.returns-clause-decls
@@ -38,5 +38,10 @@ returns-clause-decls c =
 
 pub returns-clause-denotes : goal.returns-clause-denotes
 returns-clause-denotes c =
-    c.in_ok-denotes.ensures.denotes (known_of_events c.args.events.now) known_at_first
+    c.in_ok-found.ensures.denotes (known_of_events c.args.events.now) known_at_first
+    (c.in_ok-whole.ensures known_at_first c.in_ok-first.ensures) c.in_ok-known.ensures
+
+pub returns-clause-identified : goal.returns-clause-identified
+returns-clause-identified c =
+    c.in_ok-found.ensures.identified (known_of_events c.args.events.now) known_at_first
     (c.in_ok-whole.ensures known_at_first c.in_ok-first.ensures) c.in_ok-known.ensures

@@ -1,0 +1,14 @@
+use Rattle.std.proofs.Common.{◌∙◌, arith}
+use Rattle.type_expressions.proofs.Steps.{arguments_step}
+use Rattle.type_expressions.proofs.checker.Checker.+inside.Goals as goal
+
+pub arguments-arguments-preserved : goal.arguments-arguments-preserved
+arguments-arguments-preserved t c =
+    let tree = rw c.in-Argument.is at c.node.ensures.tree in
+    let below = rw c.in-Argument.is at c.node.ensures.below in (
+      grind (arith, below, c.arguments.invariant),
+      grind (arith, below, c.arguments.invariant),
+      arguments_step _ _ _ _ _ _ _ _ _ _ _ _ c.reader.ensures.here c.reader-in-Argument.ensures.here tree
+          c.around_role-found.ensures c.is_loose-loose.ensures c.role_type-want.ensures c.inside-found.ensures
+          ∙ c.arguments.invariant.2,
+    )

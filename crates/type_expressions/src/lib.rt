@@ -1,0 +1,20 @@
+//! The sentences on expressions: where an expression isn't of the type that is demanded, or may not
+//! stand.
+//!
+//! A `Checker` has the trees of a program, what is settled of its declarations and types, and where
+//! an expression stands. Its methods take the first fault that was found so far, and give the first
+//! one with those of an expression: of all faults the first in the text counts, so nothing stops at
+//! one, and the order of tests is free. The definitions of `type_table` list all faults of an
+//! expression; `docs/LANGUAGE.md`, "Types", says them in words (Ada 2012, 4 and 6.4). Nothing takes
+//! memory. Time is linear in the trees, but for arguments by name, which are compared with each
+//! formal or component.
+#![tactic(auto)]
+
+mod actuals;
+mod around;
+mod checker;
+mod inside;
+mod readings;
+mod sources;
+
+pub use checker::Checker;

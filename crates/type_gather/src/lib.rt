@@ -1,0 +1,26 @@
+//! What all declarations of a program are, from the code of its units.
+//!
+//! `gather` takes the rows of a program's code and the numbers of its units, and gives what is
+//! `Known`: for each declaration its `Entry`, and for each type its `Info`, both by the number of
+//! the declaration. It goes through the units in the order of their text, so that a declaration
+//! needs those before it alone. What each declaration adds, `type_table/specs/Gathered.antt`
+//! states, one definition for one function here; what is known before the first unit,
+//! `type_table/specs/Whole.antt`. Nothing is refused: a declaration that breaks a rule of typing
+//! gets what the definitions say, and is reported by who looks for faults.
+//!
+//! It recurses only as deep as constructs nest. Time and memory are linear in the rows, but for a
+//! list of identifiers with one value, which is looked at once for each of them.
+#![tactic(auto)]
+
+mod bounds;
+mod declared;
+mod gathering;
+mod instance;
+mod objects;
+mod predefined;
+mod program;
+mod subprograms;
+mod types;
+mod walk;
+
+pub use program::gather;

@@ -1,0 +1,3 @@
+pub mod SameWord
+pub mod Statics
+pub mod Wide

@@ -1,0 +1,35 @@
+//! What names and expressions are, read off the declarations that are known.
+//!
+//! A `Reader` has the trees of a program, what is known of its declarations, and where an
+//! expression stands. Its methods answer what a name is as a value, what type an expression has by
+//! itself, whether it has the type that is demanded, what its static value is, and what arguments
+//! stand for. `type_table` has the definitions, each with the name of the function here that
+//! computes it; `docs/LANGUAGE.md`, "Types", says them in words (Ada 2012, 3, 4 and 6.4). Nothing
+//! is refused: that is for the crates above. Time is linear in what is read, but for arguments by
+//! name, which are compared with each formal or component.
+#![tactic(auto)]
+
+mod arguments;
+mod formal;
+mod look_up;
+mod names;
+mod operators;
+mod own_types;
+mod reader;
+mod static_values;
+mod views;
+mod ways;
+mod words;
+
+pub use formal::Formal;
+pub use look_up::{BOOLEAN, INTEGER, is_before};
+pub use operators::{is_arithmetic, is_equality, is_join, is_logical, operand_type, unary_type};
+pub use own_types::{is_demanding, is_object, is_string, is_unknown};
+pub use reader::Reader;
+pub use static_values::{ill_typed, is_sound, value_as};
+pub use views::{
+    designated, element_type, fits_others, has_value, is_access, is_anonymous, is_composite,
+    is_scalar, same_bounds, to_constant, view_of,
+};
+pub use ways::role_of;
+pub use words::same_word;

@@ -1,0 +1,133 @@
+-- Types that are looked at.
+use Rattle.std.proofs.Common.{◌≡◌, ◌⊎◌, inl, inr, ℕ, zero, suc, ◌+◌, ◌<◌, Bool, true, false, not, ◌&&◌, ◌||◌, List, [], ◌∷◌, refl, sym, ap, ◌∙◌, arith, length, drop, length-set, get_or, set, nat_eq, Option, Some, None, if◌then◌else◌}
+use Rattle.std.specs.Prelude.{slice_get}
+use Rattle.std.proofs.Math.Seq.{drop-cons}
+use Rattle.std.proofs.lemmas.Bool.{cases_eq}
+use Rattle.std.proofs.lemmas.List.{get_or-set_same, get_or-set_other}
+use Rattle.type_table.specs.declared.table.Component.{Component}
+use Rattle.type_table.specs.declared.table.Shape.{Shape}
+use Rattle.type_table.specs.declared.table.Shape.TheVariants as shape
+use Rattle.type_table.specs.declared.table.Info.{Info}
+use Rattle.type_table.specs.declared.table.Made.{Made}
+use Rattle.type_table.specs.declared.judgement.Fault.{Fault}
+use Rattle.type_table.specs.Types.{Table, info, info_found, shape_found}
+use Rattle.type_table.specs.Faults.{noted}
+use Rattle.type_table.specs.Declarations.{any_of, holds_shape, holds_parent, some_within, some_part}
+use Rattle.type_table.specs.Whole.{is_unsound, size_faults, made_faults}
+use Rattle.type_settled.specs.declared.measure.Measure.{Measure}
+use Rattle.type_settled.specs.Measures.{nothing, marked, some_below, IsMeasured}
+use Rattle.type_settled.specs.Skips.{marked_with, skips}
+
+-- ---- a type in a type
+
+or_assoc : (a b c : Bool) → (a || b) || c ≡ a || (b || c)
+or_assoc true b c = refl
+or_assoc false b c = refl
+
+never_any : (cs : List Component) → any_of (λ u. false) cs ≡ false
+never_any [] = refl
+never_any (c ∷ rest) = never_any rest
+
+never_shape : (s : Shape) → holds_shape (λ u. false) s ≡ false
+never_shape (shape.Whole low high) = refl
+never_shape (shape.Listed literals low high) = refl
+never_shape (shape.Access t constant named) = refl
+never_shape (shape.Fields cs) = never_any cs
+never_shape (shape.Elements low high t) = refl
+never_shape (shape.Same t) = refl
+
+never_parent : (p : Option ℕ) → holds_parent (λ u. false) p ≡ false
+never_parent None = refl
+never_parent (Some t) = refl
+
+shape_info : (o : Option Info) → shape_found o ≡ (info_found o).shape
+shape_info None = refl
+shape_info (Some i) = refl
+
+below_within : (is : ℕ → Bool) (table : Table) (n t : ℕ)
+    → holds_shape (some_within n is table) (shape_found (slice_get table t)) || holds_parent (some_within n is table) (info table t).parent
+    ≡ some_below n is table t
+unfolding some_below
+below_within is table zero t =
+    ap (λ b. b || holds_parent (λ u. false) (info table t).parent) (never_shape (shape_found (slice_get table t)))
+    ∙ never_parent (info table t).parent
+below_within is table (suc n) t =
+    let has : (ℕ → Bool) → Shape → Bool = λ f s. holds_shape f s || holds_parent f (info table t).parent in
+    let one : (u : ℕ) → some_within (suc n) is table u ≡ is u || some_below n is table u =
+    λ u. or_assoc (is u) (holds_shape (some_within n is table) (shape_found (slice_get table u)))
+    (holds_parent (some_within n is table) (info table u).parent)
+    ∙ ap (λ b. is u || b) (below_within is table n u) in
+    let each : some_within (suc n) is table ≡ (λ u. is u || some_below n is table u) = λ j u. one u j in
+    ap (λ f. has f (shape_found (slice_get table t))) each
+    ∙ ap (λ s. has (λ u. is u || some_below n is table u) s) (shape_info (slice_get table t))
+
+part_below : (is : ℕ → Bool) (table : Table) (t : ℕ) → some_below (length table) is table t ≡ some_part is table t
+unfolding some_part
+part_below is table t = sym (below_within is table (length table) t)
+
+-- ---- a type that is looked at
+
+pub made_noted : (found : Option Fault) (all : List Made) (marks : List Bool) (table : Table) (values : List Measure) (m : Made)
+    (measure : Measure) → IsMeasured (marked marks) table values → ((t : ℕ) → marked marks t ≡ is_unsound all t)
+    → measure ≡ get_or values m.number nothing
+    → noted found (made_faults table all m) ≡ noted found (if skips marks measure m then [] else size_faults table m.pos m.number)
+made_noted found all marks table values m measure right same at =
+    let same : marked marks ≡ is_unsound all = λ j t. same t j in
+    let below : measure.unsound ≡ some_part (is_unsound all) table m.number =
+    ap (λ m. m.unsound) (at ∙ right m.number) ∙ part_below (marked marks) table m.number
+    ∙ ap (λ is. some_part is table m.number) same in
+    let here : marked marks m.number ≡ is_unsound all m.number = ap (λ is. is m.number) same in
+    λ j. noted found (if not m.full || (sym here j || sym below j) then [] else size_faults table m.pos m.number)
+
+-- ---- marks
+
+pub or_false : (a : Bool) → a || false ≡ a
+or_false true = refl
+or_false false = refl
+
+or_true : (a : Bool) → true ≡ a || true
+or_true true = refl
+or_true false = refl
+
+same_number : (n : ℕ) → nat_eq n n ≡ true
+same_number n = grind arith
+
+other_number : (n t : ℕ) → (t ≡ n → ⊥) → nat_eq n t ≡ false
+other_number n t ne = grind arith
+
+marked_there : (n : ℕ) (marks : List Bool) (t : ℕ) → n < length marks → (t ≡ n) ⊎ (t ≡ n → ⊥)
+    → marked (set marks n true) t ≡ marked marks t || (nat_eq n t && true)
+marked_there n marks t lt (inl e) =
+    let here : marked (set marks n true) n ≡ marked marks n || (nat_eq n n && true) =
+    get_or-set_same marks n true false lt ∙ or_true (marked marks n) ∙ ap (λ b. marked marks n || (b && true)) (sym (same_number n)) in
+    rw e here
+marked_there n marks t lt (inr ne) =
+    get_or-set_other marks n t true false ne ∙ sym (or_false (marked marks t))
+    ∙ ap (λ b. marked marks t || (b && true)) (sym (other_number n t ne))
+
+and_false : (a : Bool) → false ≡ a && false
+and_false true = refl
+and_false false = refl
+
+marked_more : (m : Made) (sound : Bool) (marks : List Bool) (t : ℕ) → sound ≡ m.sound → m.number < length marks
+    → marked (if sound then marks else set marks m.number true) t ≡ marked marks t || (nat_eq m.number t && not sound)
+marked_more m true marks t is lt = sym (or_false (marked marks t)) ∙ ap (λ b. marked marks t || b) (and_false (nat_eq m.number t))
+marked_more m false marks t is lt = marked_there m.number marks t lt (cases_eq t m.number)
+
+-- One more of those that are made is marked.
+pub marks_step : (made : List Made) (i j : ℕ) (d m : Made) (marks after : List Bool) (all : List Made) (t : ℕ) → i < length made
+    → j ≡ i + 1 → m ≡ get_or made i d → m.number < length marks → after ≡ marked_with m marks
+    → marked marks t || is_unsound (drop i made) t ≡ is_unsound all t → marked after t || is_unsound (drop j made) t ≡ is_unsound all t
+marks_step made i j d m marks after all t within e at lt is before =
+    let e : j ≡ suc i = omega (arith, e) in
+    ap (λ k. marked after t || is_unsound (drop k made) t) e
+    ∙ ap (λ ms. marked ms t || is_unsound (drop (suc i) made) t) is
+    ∙ ap (λ b. b || is_unsound (drop (suc i) made) t) (marked_more m m.sound marks t refl lt)
+    ∙ or_assoc (marked marks t) (nat_eq m.number t && not m.sound) (is_unsound (drop (suc i) made) t)
+    ∙ ap (λ n. marked marks t || is_unsound (n ∷ drop (suc i) made) t) at
+    ∙ ap (λ xs. marked marks t || is_unsound xs t) (sym (drop-cons made i d within)) ∙ before
+
+pub length_marked : (m : Made) (sound : Bool) (marks : List Bool)
+    → length (if sound then marks else set marks m.number true) ≡ length marks
+length_marked m true marks = refl
+length_marked m false marks = length-set marks m.number true

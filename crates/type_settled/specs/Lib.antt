@@ -1,0 +1,4 @@
+-- what the functions inside promise each other
+pub mod Measures
+pub mod Orders
+pub mod Skips

@@ -1,0 +1,37 @@
+//! The first fault so far.
+ghost use Rattle.std.specs.Prelude.{◌≡◌};
+ghost use Rattle.type_table.specs.Faults.{is_before, precedes, noted, demand};
+
+use spark_base::Pos;
+use type_table::Fault;
+
+/// Whether one position is before another.
+fn is_before(p: Pos, q: Pos) -> bool
+    ensures { result ≡ is_before p q }
+{
+    p.file < q.file
+        || (p.file == q.file && (p.line < q.line || (p.line == q.line && p.column < q.column)))
+}
+
+/// Whether one fault goes before another.
+fn precedes(f: Fault, g: Fault) -> bool
+    ensures { result ≡ precedes f g }
+{
+    let before = is_before(f.pos, g.pos);
+    let behind = is_before(g.pos, f.pos);
+    before || (!behind && f.code < g.code)
+}
+
+/// The first fault, where the sentence with this number is broken at this position unless it holds.
+pub fn demand(found: Option<Fault>, code: u32, pos: Pos, holds: bool) -> Option<Fault>
+    ensures { result ≡ noted found (demand code pos holds) }
+{
+    if holds {
+        return found;
+    }
+    let fault = Fault { pos, code };
+    match found {
+        Some(first) if !precedes(fault, first) => found,
+        Some(_) | None => Some(fault),
+    }
+}
