@@ -127,24 +127,97 @@ def files():
     return texts
 
 
+def chained(number, before, i):
+    """A type that is an array, a record or a subtype of the one before."""
+    if i % 3 == 0:
+        return "type %s is array(1..1)of %s;" % (number, before)
+    if i % 3 == 1:
+        return "type %s is record X:%s;end record;" % (number, before)
+    return "subtype %s is %s;" % (number, before)
+
+
+def type_chain():
+    """100,000 types, each made of the one before, and below them all a private type whose full one stands behind."""
+    lines = ["package P is", "type A0 is private;"]
+    lines += [chained("A%d" % i, "A%d" % (i - 1), i) for i in range(1, 100_000)]
+    lines += ["private", "type A0 is (First);", "end P;"]
+    return filled("\n".join(lines) + "\n")
+
+
+def reversed_chain():
+    """50,000 private types, each made of the next one, so that each full type stands before what it is made of."""
+    count = 50_000
+    lines = ["package P is"] + ["type A%d is private;" % i for i in range(count)] + ["private"]
+    lines += ["type A%d is array(1..1)of A%d;" % (i, i + 1) for i in range(count - 1)]
+    lines += ["type A%d is (First);" % (count - 1), "end P;"]
+    return filled("\n".join(lines) + "\n")
+
+
+def case_choices():
+    """A `case` with 10,000 choices, none of them twice."""
+    choices = "\n".join("when %d => null;" % i for i in range(10_000, 0, -1))
+    return procedure(["case N is\n%s\nwhen others => null;\nend case;" % choices])
+
+
+def array_aggregate():
+    """An aggregate with a value for each of 65,536 elements."""
+    lines = ["procedure Main is", "type A is array (1 .. 65536) of Integer;", "X : A := ("]
+    lines += ["1," * 1_024] * 63 + ["1," * 1_023 + "1);", "begin null; end Main;"]
+    return filled("\n".join(lines) + "\n")
+
+
+def record_aggregate():
+    """A record with 30,000 components, and an aggregate that names them from the last to the first."""
+    names = ["C%d" % i for i in range(30_000)]
+    lines = ["procedure Main is", "type R is record", ",\n".join(names) + " : Integer;", "end record;", "X : R := ("]
+    lines += [",\n".join("%s => 1" % name for name in reversed(names)) + ");", "begin null; end Main;"]
+    return filled("\n".join(lines) + "\n")
+
+
+def static_chains():
+    """Named numbers and bounds with 1,024 operators each, as many as may stand in a source."""
+    chain = "0" + "+1" * 1_024
+    lines = ["procedure Main is"]
+    for i in range(TOKENS // 6_200):
+        lines += ["N%d:constant:=%s;" % (i, chain), "type A%d is array(1..%s)of Integer;" % (i, chain)]
+        lines += ["subtype S%d is Integer range 0..%s;" % (i, chain)]
+    return filled("\n".join(lines + ["begin null; end Main;"]) + "\n")
+
+
+def operator_chains():
+    """Conditions and strings with 1,024 operators each, as many as may stand in a source."""
+    conditions = ["if N + 0 = 1" + " and N = 1" * 511 + " then null; end if;", "if True" + " or else True" * 1_024 + " then null; end if;"]
+    texts = ['Ada.Text_IO.Put ("a"' + '&"b"' * 1_024 + ");"]
+    source = procedure((conditions + texts) * (TOKENS // 7_300))
+    return filled("with Ada.Text_IO;\n" + source[: source.rindex("--")])
+
+
 def cases():
-    """Each source with its name, and how `check` has to end: the status, and the lines on both outputs together."""
-    yield "form_accepted", form(moved_on), 0, 1
-    yield "form_reports", form(moved_again), 1, STATEMENTS - 1
-    yield "token_kinds", token_kinds(), 2, 1
-    yield "assignments_16000", assignments(16_000), 2, 1
-    yield "assignments_160000", assignments(160_000), 2, 1
-    yield "deep_parentheses", deep_parentheses(), 2, 1
-    yield "long_chains", long_chains(), 2, 1
-    yield "deep_blocks", deep_blocks(), 2, 1
-    yield "open_parentheses", open_parentheses(), 2, 1
-    yield "one_region", one_region(), 2, 1
-    yield "hiding_blocks", hiding_blocks(), 2, 1
-    yield "packages", packages(), 2, 1
-    yield "files", files(), 2, 1
+    """Each source with its name, and how `check` has to end: the status, the lines on both outputs together, and the code
+    of the first of them, where it has one."""
+    yield "form_accepted", form(moved_on), 0, 1, None
+    yield "form_reports", form(moved_again), 1, STATEMENTS - 1, "O4"
+    yield "token_kinds", token_kinds(), 2, 1, "P3"
+    yield "assignments_16000", assignments(16_000), 2, 1, "U1"
+    yield "assignments_160000", assignments(160_000), 2, 1, "U1"
+    yield "deep_parentheses", deep_parentheses(), 2, 1, "U1"
+    yield "long_chains", long_chains(), 2, 1, "U1"
+    yield "deep_blocks", deep_blocks(), 2, 1, "U1"
+    yield "open_parentheses", open_parentheses(), 2, 1, "P2"
+    yield "one_region", one_region(), 2, 1, "U1"
+    yield "hiding_blocks", hiding_blocks(), 2, 1, "U1"
+    yield "packages", packages(), 2, 1, "U1"
+    yield "files", files(), 2, 1, "U1"
+    yield "type_chain", type_chain(), 2, 1, "U1"
+    yield "reversed_chain", reversed_chain(), 2, 1, "U1"
+    yield "case_choices", case_choices(), 2, 1, "U1"
+    yield "array_aggregate", array_aggregate(), 2, 1, "U1"
+    yield "record_aggregate", record_aggregate(), 2, 1, "U1"
+    yield "static_chains", static_chains(), 2, 1, "U1"
+    yield "operator_chains", operator_chains(), 2, 1, "U1"
 
 
-def measured(paths, status, lines):
+def measured(paths, status, lines, code):
     """Seconds and MiB of one run on these files, which has to end as it should."""
     path = paths[0]
     times = path.with_suffix(".time")
@@ -154,6 +227,9 @@ def measured(paths, status, lines):
     written = (run.stdout + run.stderr).count(b"\n")
     if (run.returncode, written) != (status, lines):
         sys.exit("%s: status %d and %d lines in place of %d and %d" % (path.name, run.returncode, written, status, lines))
+    first = run.stderr.decode().partition("\n")[0]
+    if code and (": %s " % code) not in first:
+        sys.exit("%s: %r in place of %s" % (path.name, first, code))
     values = dict(line.strip().rsplit(": ", 1) for line in times.read_text().splitlines() if ": " in line)
     clock = values["Elapsed (wall clock) time (h:mm:ss or m:ss)"].split(":")
     seconds = sum(float(part) * 60**place for place, part in enumerate(reversed(clock)))
@@ -165,13 +241,13 @@ def bench(folder):
     subprocess.run([str(TOP / "spark")], stdin=subprocess.DEVNULL, capture_output=True)
     print("| source | bytes | status | lines | seconds | MiB |")
     print("|---|---|---|---|---|---|")
-    for name, text, status, lines in cases():
+    for name, text, status, lines, code in cases():
         texts = [text] if isinstance(text, str) else text
         assert sum(len(text) for text in texts) == SOURCE_BYTES
         paths = [folder / ("%s_%d.adb" % (name, i)) for i in range(len(texts))]
         for path, text in zip(paths, texts):
             path.write_bytes(text.encode("latin-1"))
-        seconds, mib = measured(paths, status, lines)
+        seconds, mib = measured(paths, status, lines, code)
         print("| %s | %d | %d | %d | %.2f | %.0f |" % (name, SOURCE_BYTES, status, lines, seconds, mib))
 
 

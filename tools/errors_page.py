@@ -281,14 +281,215 @@ ROWS = [
         mend="Correct the name. It may be left out too, but no program without it is checked yet.",
     ),
     Row(
+        code="Y1",
+        title="a type that is too large",
+        meaning="""
+            An object of this type would take more than 65,536 words: 1 for a number, a literal or an access value, the
+            sum over the components of a record, and for an array the words of its element times the number of its
+            elements. The position is the identifier of the type. This is a limit of `spark` and not of Ada.
+            """,
+        bad="refusals/Y1_large_array.adb",
+        good="refusals/U1_largest_array.adb",
+        good_is="""
+            With one element less the type is within the limit. No program with packages is checked yet, so today it is
+            refused with [U1](#u1-a-form-of-program-that-isnt-checked-yet):
+            """,
+        mend="""
+            Make the array shorter, or hold its parts by an access type: what is designated doesn't count.
+            """,
+    ),
+    Row(
+        code="Y2",
+        title="a type with too many access parts",
+        meaning="""
+            The type has more than 64 components that own an object, at any depth, or one that lies behind more than 16
+            selectors. All elements of an array count as one. The position is the identifier of the type. This is a
+            limit of `spark` and not of Ada.
+            """,
+        bad="refusals/Y2_65_access_parts.adb",
+        good="refusals/U1_64_access_parts.adb",
+        good_is="""
+            With an Integer for the last component the type has 64 such parts. No program with records is checked yet,
+            so today it is refused with [U1](#u1-a-form-of-program-that-isnt-checked-yet):
+            """,
+        mend="""
+            Hold some of the parts in a record of their own that is designated, or make an array of them.
+            """,
+    ),
+    Row(
+        code="Y3",
+        title="an array without elements",
+        meaning="""
+            The low bound of the index range is above the high bound. Ada allows such arrays. Only types whose own
+            definition has no other fault are looked at for Y1 to Y3, and these codes go before all of K1 to K8.
+            """,
+        bad="refusals/Y3_no_elements.adb",
+        good="refusals/U1_one_element.adb",
+        good_is="""
+            With one element there is no objection. No program with arrays is checked yet, so today it is refused with
+            [U1](#u1-a-form-of-program-that-isnt-checked-yet):
+            """,
+        mend="""
+            Correct the bounds, or leave the array out.
+            """,
+    ),
+    Row(
+        code="K1",
+        title="a wrong type",
+        meaning="""
+            The expression or name at this position doesn't have the type that is demanded there, or it is no value, no
+            type or no part of what stands before it. [LANGUAGE.md](LANGUAGE.md#k1-wrong-type) lists what is demanded
+            where. Most of it is Ada's, but stricter: a relation compares two scalars or an access object with `null`, a
+            string stands in Put and Put_Line alone, a call is no prefix, an allocator has exactly the designated
+            subtype, and an attribute has no access object before it. For the two operands of a relation the position is
+            that of the left one.
+            """,
+        bad="refusals/K1_boolean_for_integer.adb",
+        good="accepted/N1_declared.adb",
+        mend="""
+            Correct the name or the type. To compare two records, compare their components; to compare two access
+            objects, what they designate.
+            """,
+    ),
+    Row(
+        code="K2",
+        title="a name that isn't a variable",
+        meaning="""
+            Something is written here that is no variable: a constant, a named number, the parameter of a `for` loop, or
+            an expression. Written are the targets of assignments, `out` and `in out` actuals, and the actuals of Get
+            and of what frees an object. Ada has the same rule.
+            """,
+        bad="refusals/K2_constant.adb",
+        good="refusals/U1_variable.adb",
+        good_is="""
+            A variable may be assigned to. No program with initial values is checked yet, so today it is refused with
+            [U1](#u1-a-form-of-program-that-isnt-checked-yet):
+            """,
+        mend="""
+            Declare a variable and write that, or leave `constant` out.
+            """,
+    ),
+    Row(
+        code="K3",
+        title="a wrong profile",
+        meaning="""
+            A call doesn't have one actual for each formal, all by position or all by name; what is called as a
+            statement is no procedure; a body has another profile than its declaration, or an instance other types than
+            the designated and the access type; a function has a formal that isn't `in`; the main procedure has formals;
+            a `return` has an expression too many or lacks one; or an `exit` stands outside of a loop.
+            """,
+        bad="refusals/K3_missing_actual.adb",
+        good="refusals/U1_all_actuals.adb",
+        good_is="""
+            With an actual for each formal the call fits. No program with packages is checked yet, so today it is
+            refused with [U1](#u1-a-form-of-program-that-isnt-checked-yet):
+            """,
+        mend="""
+            Compare with the declaration. Where actuals are mixed, which Ada allows, name all of them. What a function
+            would write, let a procedure write.
+            """,
+    ),
+    Row(
+        code="K4",
+        title="a choice that is missing or doubled",
+        meaning="""
+            In a `case`, some value isn't covered (the position is that of `case`), one is covered twice, a choice isn't
+            static, or `others` isn't the last choice, alone. An object's name and a call need only the values of their
+            subtype, every other expression those of its whole type. In an aggregate, a component or an element is
+            missing or doubled, names and positions are mixed, or `others` stands in a record.
+            """,
+        bad="refusals/K4_missing_choice.adb",
+        good="refusals/U1_all_choices.adb",
+        good_is="""
+            With a choice for each value nothing is missing. No program with `case` is checked yet, so today it is
+            refused with [U1](#u1-a-form-of-program-that-isnt-checked-yet):
+            """,
+        mend="""
+            Add the choice, or `when others`. In an aggregate of a record, give each component by its name.
+            """,
+    ),
+    Row(
+        code="K5",
+        title="an owning expression out of place",
+        meaning="""
+            An access value, or a record or array with one, is moved by assigning it, so it stands only where its new
+            owner can be told: not in parentheses, not in a constant, not as an `in` actual unless it is a name or
+            `null`, and behind `others =>` only as `null`. Ada has none of these rules.
+            """,
+        bad="refusals/K5_parentheses.adb",
+        good="accepted/K5_no_parentheses.adb",
+        mend="""
+            Remove the parentheses, declare a variable, or assign the value to an object first and pass its name.
+            """,
+    ),
+    Row(
+        code="K6",
+        title="an anonymous access type out of place",
+        meaning="""
+            Objects of anonymous access types borrow (`access T`) or observe (`access constant T`) an object for a
+            while. Such an object stands alone in its declaration, in a subprogram or block, has an initial value and
+            isn't `constant`; its source is a name of an access type or a call of a traversal function, and for a
+            borrower it isn't access-to-constant. A traversal function, one with an anonymous access result, has an
+            access type for its first formal, and no other formal is anonymous; it is called for a name. Ada has none of
+            these rules.
+            """,
+        bad="refusals/K6_no_initial_value.adb",
+        good="refusals/U1_borrower.adb",
+        good_is="""
+            With a name as its initial value B borrows. No program with blocks is checked yet, so today it is refused
+            with [U1](#u1-a-form-of-program-that-isnt-checked-yet):
+            """,
+        mend="""
+            Give the object a source, or declare it with a named access type.
+            """,
+    ),
+    Row(
+        code="K7",
+        title="an expression that isn't static",
+        meaning="""
+            The bounds of arrays and subtypes and named numbers have to be known before a run: they are made of numbers,
+            literals, static constants, First and Last of scalar subtypes, and operators, and each value on the way is
+            an Integer. K7 also stands at the bound of a subtype outside its parent's bounds, at the mark of an object
+            whose subtype has no values, and at 2147483648 unless it is the operand of a minus sign. Ada allows other
+            bounds of arrays and subtypes, and subtypes without values.
+            """,
+        bad="refusals/K7_variable_as_bound.adb",
+        good="refusals/U1_constant_as_bound.adb",
+        good_is="""
+            A constant with a static value is a bound. No program with arrays is checked yet, so today it is refused
+            with [U1](#u1-a-form-of-program-that-isnt-checked-yet):
+            """,
+        mend="""
+            Use a constant with a static initial value. The smallest Integer is written as -2147483648, or as
+            Integer'First.
+            """,
+    ),
+    Row(
+        code="K8",
+        title="a package value that isn't allowed",
+        meaning="""
+            The initial value of an object in a package calls a function of the program, or names an object of an owning
+            type, or a part of one. Packages begin before any call, in the order of the text, so nothing could be moved
+            or observed there. Ada allows it.
+            """,
+        bad="refusals/K8_function_call.adb",
+        good="refusals/U1_function_call_in_body.adb",
+        good_is="""
+            In a subprogram an object may begin with a call. No program with packages is checked yet, so today it is
+            refused with [U1](#u1-a-form-of-program-that-isnt-checked-yet):
+            """,
+        mend="""
+            Give the object a simple value, or none, and assign to it in a procedure.
+            """,
+    ),
+    Row(
         code="U1",
         title="a form of program that isn't checked yet",
         meaning="""
-            The files may be good Ada, and the grammar and the rules of names have no objection. But they aren't one
-            procedure of the [straight-line form](LANGUAGE.md#the-straight-line-form), and no other programs are checked
-            so far. The position is always line 1, column 1 of the first file, whatever the cause. Two or more files
-            that pass the rules of names are always refused so. A mistake that Ada compilers find, as a value of the
-            wrong type, gives U1 as well.
+            The files are good Ada for all that was looked at: the grammar, the rules of names and those of typing have no
+            objection. But they aren't one procedure of the [straight-line form](LANGUAGE.md#the-straight-line-form), and
+            no other programs are checked so far. The position is always line 1, column 1 of the first file, whatever the
+            cause. Two or more files that pass these rules are always refused so.
             """,
         bad="refusals/U1_initial_value.adb",
         good="accepted/U1_value_by_assignment.adb",

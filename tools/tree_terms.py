@@ -256,6 +256,7 @@ class Lemmas:
     crate = ""
     # what is computed
     unfolding = ""
+    proof = "refl"
     # modules of the proofs, and what a lemma may use of each
     words = {}
 
@@ -291,7 +292,7 @@ class Lemmas:
     def lemma(self, case):
         files = [self.units(file, number) for number, file in enumerate(case.files)]
         statement = wrapped("%s : %s" % (case.name, self.statement(case, files)))
-        return statement + ["unfolding " + self.unfolding, "%s = refl" % case.name]
+        return statement + ["unfolding " + self.unfolding, "%s = %s" % (case.name, self.proof)]
 
     def imports(self, text):
         text = re.sub(QUOTED, "", text)
@@ -427,6 +428,24 @@ class TypeLemmas(Lemmas):
         return "use Rattle.%s.TheVariants as %s" % (self.types[name], name)
 
 
+class TypedLemmas(TypeLemmas):
+    """That a program breaks no rule of typing, and which typed program it means."""
+
+    crate = "typed_tests"
+    proof = "(refl, refl)"
+    words = {
+        **{of: words for of, words in TypeLemmas.words.items() if "type_tests" not in of},
+        "typed_tests.proofs.ResolvedTrees": TypeLemmas.words["type_tests.proofs.ResolvedTrees"],
+        "typed_tests.proofs.TypedRules": "IsTypedAs typing",
+    }
+
+    def statement(self, case, files):
+        return "IsTypedAs (%s) expected.%s" % (ResolvedTerms().program(files), case.name)
+
+    def imports(self, text):
+        return super().imports(text) + ["use Rattle.typed_tests.proofs.Expected as expected"]
+
+
 # ---- modes
 
 
@@ -459,7 +478,7 @@ def check(paths):
 
 def write_lemmas(only_check):
     status = 0
-    for lemmas in (NameLemmas(), TypeLemmas()):
+    for lemmas in (NameLemmas(), TypeLemmas(), TypedLemmas()):
         for module in lemmas.modules():
             path, text = lemmas.folder / "proofs" / (module.name + ".antt"), lemmas.text(module)
             if not only_check:

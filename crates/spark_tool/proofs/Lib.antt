@@ -4,6 +4,7 @@ pub mod AllTokens
 pub mod Parsed
 pub mod Straight
 pub mod Resolved
+pub mod Typed
 pub mod InFile
 pub mod CommandWords
 pub mod OneAnswer

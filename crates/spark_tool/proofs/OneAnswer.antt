@@ -9,6 +9,9 @@ use Rattle.ada_tree.specs.declared.unit.SourceUnit as whole
 use Rattle.ada_tree.specs.Refusals as grammar
 use Rattle.name_events.specs.declared.declaration.NameRule.{NameRule}
 use Rattle.name_events.specs.Faults.{name_fault}
+use Rattle.type_table.specs.Whole.{TypeFault, type_fault}
+use Rattle.type_table.specs.Refusals.{refusal_of}
+use Rattle.type_rules.specs.Programs.{program_of}
 use Rattle.ada_grammar.proofs.OneRefused.{one_refused_of, tree_not_refused_of}
 use Rattle.straight_form.specs.declared.tree.SourceUnit.{SourceUnit}
 use Rattle.straight_form.proofs.Theorem.{one_unit}
@@ -24,7 +27,7 @@ use Rattle.spark_tool.specs.Reading.{Sources, Texts, TooLarge, Missing, sources}
 use Rattle.spark_tool.specs.Lexing.{AllTokens, all_tokens}
 use Rattle.spark_tool.specs.Parsing.{told_cut, IsParsed, AreTreesOf, IsRefusedAt, FirstRefused}
 use Rattle.spark_tool.specs.StraightSource.{IsStraightSource}
-use Rattle.spark_tool.specs.Product.{Answer, Product, usage, check, Checks, missing, too_large, lexical, syntactic, unresolved, not_built, checked, refused, unread, misused, judged, lexical_code, syntactic_code, name_code}
+use Rattle.spark_tool.specs.Product.{Answer, Product, usage, check, Checks, missing, too_large, lexical, syntactic, unresolved, mistyped, not_built, checked, refused, unread, misused, judged, lexical_code, syntactic_code, name_code, type_code}
 use Rattle.spark_tool.proofs.Parsed.{at_middle, parsed_of}
 
 -- ---- pairs
@@ -95,17 +98,6 @@ trees_once (cuts ∷ files) (units ∷ one) (units2 ∷ two) of of2 =
     ap (λ (u : List whole.SourceUnit). u ∷ one) (of2.0.only units of.0.spells) ∙ ap (λ (rest : List (List whole.SourceUnit)). units2 ∷ rest)
     (trees_once files one two of.1 of2.1)
 
--- what the rules of names say of the files
-fault_once : (files : List (List Cut)) (one two : List (List whole.SourceUnit)) (found found2 : Option (NameRule × Pos)) → AreTreesOf files one
-    → AreTreesOf files two → name_fault one ≡ found → name_fault two ≡ found2 → found ≡ found2
-fault_once files one two found found2 of of2 is is2 = sym is ∙ ap name_fault (trees_once files one two of of2) ∙ is2
-
-no_fault_here : (files : List (List Cut)) (one two : List (List whole.SourceUnit)) (broken : NameRule) (pos : Pos) → AreTreesOf files one
-    → AreTreesOf files two → name_fault one ≡ Some (broken, pos) → name_fault two ≡ None → ⊥
-no_fault_here files one two broken pos of of2 is none =
-    let found : Option (NameRule × Pos) = Some (broken, pos) in
-    let same : found ≡ None = fault_once files one two found None of of2 is none in cc
-
 -- ---- the tree of the straight-line form
 
 straight_once : (files : List (List Cut)) (unit unit2 : SourceUnit) → IsStraightSource unit files → IsStraightSource unit2 files → unit ≡ unit2
@@ -115,16 +107,27 @@ straight_once (cuts ∷ (other ∷ more)) unit unit2 one two = absurd one
 
 -- ---- the answer to sources with these tokens
 
+-- where no rule of names and no sentence on types is broken
+data OfForm (names : List (List ℕ)) (cuts : List (List Cut)) (answer : Answer) : Type 0 where
+  leaves : ((unit : SourceUnit) → ¬ IsStraightSource unit cuts) → answer ≡ refused names (first_position 0) U1 → OfForm names cuts answer
+  reports : (unit : SourceUnit) (found : List Report) → IsStraightSource unit cuts
+      → IsReportList (printed_name (object_texts unit)) (Gives (path_acts unit)) found → answer ≡ judged names (object_texts unit) found
+      → OfForm names cuts answer
+
+-- by the first broken sentence on types
+abbrev OfTypes : List (List ℕ) → List (List Cut) → Option TypeFault → Answer → Type 0
+OfTypes names cuts (Some broken) answer =
+    (pos : Pos) × ((code : Code) × ((type_code (refusal_of broken) ≡ Some (pos, code)) × (answer ≡ refused names pos code)))
+OfTypes names cuts None answer = OfForm names cuts answer
+
+-- by the first broken rule of names
+abbrev OfNames : List (List ℕ) → List (List Cut) → List (List whole.SourceUnit) → Option (NameRule × Pos) → Answer → Type 0
+OfNames names cuts trees (Some broken) answer = answer ≡ refused names broken.1 (name_code broken.0)
+OfNames names cuts trees None answer = OfTypes names cuts (type_fault (program_of trees)) answer
+
 data OfTokens (names : List (List ℕ)) (cuts : List (List Cut)) (answer : Answer) : Type 0 where
   refuses : (code : grammar.Code) (pos : Pos) → FirstRefused code pos cuts → answer ≡ refused names pos (syntactic_code code) → OfTokens names cuts answer
-  breaks : (trees : List (List whole.SourceUnit)) (broken : NameRule) (pos : Pos) → AreTreesOf cuts trees → name_fault trees ≡ Some (broken, pos)
-      → answer ≡ refused names pos (name_code broken) → OfTokens names cuts answer
-  leaves : (trees : List (List whole.SourceUnit)) → AreTreesOf cuts trees → name_fault trees ≡ None → ((unit : SourceUnit) → ¬ IsStraightSource unit cuts) → answer ≡ refused names (first_position 0) U1
-      → OfTokens names cuts answer
-  reports : (trees : List (List whole.SourceUnit)) (unit : SourceUnit) (found : List Report) → AreTreesOf cuts trees → name_fault trees ≡ None
-      → IsStraightSource unit cuts
-      → IsReportList (printed_name (object_texts unit)) (Gives (path_acts unit)) found → answer ≡ judged names (object_texts unit) found
-      → OfTokens names cuts answer
+  parses : (trees : List (List whole.SourceUnit)) → AreTreesOf cuts trees → OfNames names cuts trees (name_fault trees) answer → OfTokens names cuts answer
 
 judged_once : (names : List (List ℕ)) (unit unit2 : SourceUnit) (found found2 : List Report) → unit ≡ unit2
     → IsReportList (printed_name (object_texts unit)) (Gives (path_acts unit)) found
@@ -135,34 +138,33 @@ judged_once names unit unit2 found found2 e one two =
     ap (judged names (object_texts unit)) (report_list-unique (printed_name (object_texts unit)) (Gives (path_acts unit)) found found2 one two_here)
     ∙ ap (λ (u : SourceUnit). judged names (object_texts u) found2) e
 
+form_once : (names : List (List ℕ)) (cuts : List (List Cut)) (a b : Answer) → OfForm names cuts a → OfForm names cuts b → a ≡ b
+form_once names cuts a b (leaves none is) (leaves none2 is2) = is ∙ sym is2
+form_once names cuts a b (leaves none is) (reports unit found form list is2) = absurd (none unit form)
+form_once names cuts a b (reports unit found form list is) (leaves none is2) = absurd (none unit form)
+form_once names cuts a b (reports unit found form list is) (reports unit2 found2 form2 list2 is2) =
+    is ∙ judged_once names unit unit2 found found2 (straight_once cuts unit unit2 form form2) list list2 ∙ sym is2
+
+types_once : (names : List (List ℕ)) (cuts : List (List Cut)) (fault : Option TypeFault) (a b : Answer) → OfTypes names cuts fault a → OfTypes names cuts fault b → a ≡ b
+types_once names cuts None a b one two = form_once names cuts a b one two
+types_once names cuts (Some broken) a b one two =
+    let both = same_parts one.0 two.0 one.1.0 two.1.0 (type_code (refusal_of broken)) one.1.1.0 two.1.1.0 in
+    one.1.1.1 ∙ ap (λ p. refused names p one.1.0) both.0 ∙ ap (λ c. refused names two.0 c) both.1 ∙ sym two.1.1.1
+
+names_once : (names : List (List ℕ)) (cuts : List (List Cut)) (trees : List (List whole.SourceUnit)) (fault : Option (NameRule × Pos)) (a b : Answer)
+    → OfNames names cuts trees fault a → OfNames names cuts trees fault b → a ≡ b
+names_once names cuts trees None a b one two = types_once names cuts (type_fault (program_of trees)) a b one two
+names_once names cuts trees (Some broken) a b one two = one ∙ sym two
+
 tokens_once : (names : List (List ℕ)) (cuts : List (List Cut)) (a b : Answer) → OfTokens names cuts a → OfTokens names cuts b → a ≡ b
 tokens_once names cuts a b (refuses code pos first is) (refuses code2 pos2 first2 is2) =
     let once = first_refused_once cuts code code2 pos pos2 first first2 in
     is ∙ ap (λ c. refused names pos (syntactic_code c)) once.0 ∙ ap (λ p. refused names p (syntactic_code code2)) once.1 ∙ sym is2
-tokens_once names cuts a b (refuses code pos first is) (breaks trees broken pos2 of fault is2) = absurd (trees_not_refused cuts trees code pos of first)
-tokens_once names cuts a b (refuses code pos first is) (leaves trees of fine none is2) = absurd (trees_not_refused cuts trees code pos of first)
-tokens_once names cuts a b (refuses code pos first is) (reports trees unit found of fine form list is2) =
-    absurd (trees_not_refused cuts trees code pos of first)
-tokens_once names cuts a b (breaks trees broken pos2 of fault is) (refuses code pos first is2) = absurd (trees_not_refused cuts trees code pos of first)
-tokens_once names cuts a b (breaks trees broken pos of fault is) (breaks trees2 broken2 pos2 of2 fault2 is2) =
-    let same = same_parts broken broken2 pos pos2 (name_fault trees) fault (ap name_fault (trees_once cuts trees trees2 of of2) ∙ fault2) in
-    is ∙ ap (λ r. refused names pos (name_code r)) same.0 ∙ ap (λ p. refused names p (name_code broken2)) same.1 ∙ sym is2
-tokens_once names cuts a b (breaks trees broken pos of fault is) (leaves trees2 of2 fine none is2) =
-    absurd (no_fault_here cuts trees trees2 broken pos of of2 fault fine)
-tokens_once names cuts a b (breaks trees broken pos of fault is) (reports trees2 unit found of2 fine form list is2) =
-    absurd (no_fault_here cuts trees trees2 broken pos of of2 fault fine)
-tokens_once names cuts a b (leaves trees of fine none is) (refuses code pos first is2) = absurd (trees_not_refused cuts trees code pos of first)
-tokens_once names cuts a b (leaves trees of fine none is) (breaks trees2 broken pos of2 fault is2) =
-    absurd (no_fault_here cuts trees2 trees broken pos of2 of fault fine)
-tokens_once names cuts a b (leaves trees of fine none is) (leaves trees2 of2 fine2 none2 is2) = is ∙ sym is2
-tokens_once names cuts a b (leaves trees of fine none is) (reports trees2 unit found of2 fine2 form list is2) = absurd (none unit form)
-tokens_once names cuts a b (reports trees unit found of fine form list is) (refuses code pos first is2) =
-    absurd (trees_not_refused cuts trees code pos of first)
-tokens_once names cuts a b (reports trees unit found of fine form list is) (breaks trees2 broken pos of2 fault is2) =
-    absurd (no_fault_here cuts trees2 trees broken pos of2 of fault fine)
-tokens_once names cuts a b (reports trees unit found of fine form list is) (leaves trees2 of2 fine2 none is2) = absurd (none unit form)
-tokens_once names cuts a b (reports trees unit found of fine form list is) (reports trees2 unit2 found2 of2 fine2 form2 list2 is2) =
-    is ∙ judged_once names unit unit2 found found2 (straight_once cuts unit unit2 form form2) list list2 ∙ sym is2
+tokens_once names cuts a b (refuses code pos first is) (parses trees of named) = absurd (trees_not_refused cuts trees code pos of first)
+tokens_once names cuts a b (parses trees of named) (refuses code pos first is) = absurd (trees_not_refused cuts trees code pos of first)
+tokens_once names cuts a b (parses trees of named) (parses trees2 of2 named2) =
+    names_once names cuts trees (name_fault trees) a b named
+    (subst (λ (t : List (List whole.SourceUnit)). OfNames names cuts t (name_fault t) b) (trees_once cuts trees2 trees of2 of) named2)
 
 -- ---- the answer to sources
 
@@ -176,6 +178,19 @@ Says names Missing answer = answer ≡ unread
 Says names (TooLarge file) answer = answer ≡ refused names (first_position file) S1
 Says names (Texts texts) answer = OfCut names (all_tokens 0 TOKENS texts) answer
 
+of_trees : (names texts : List (List ℕ)) (cuts : List (List Cut)) (trees : List (List whole.SourceUnit)) (answer : Answer)
+    → all_tokens 0 TOKENS texts ≡ Ok cuts → AreTreesOf cuts trees → OfNames names cuts trees (name_fault trees) answer
+    → OfCut names (all_tokens 0 TOKENS texts) answer
+of_trees names texts cuts trees answer cut of found =
+    subst (λ (o : AllTokens). OfCut names o answer) (sym cut) (parses trees of found)
+
+of_names : (names texts : List (List ℕ)) (cuts : List (List Cut)) (trees : List (List whole.SourceUnit)) (answer : Answer)
+    → all_tokens 0 TOKENS texts ≡ Ok cuts → AreTreesOf cuts trees → name_fault trees ≡ None
+    → OfTypes names cuts (type_fault (program_of trees)) answer → OfCut names (all_tokens 0 TOKENS texts) answer
+of_names names texts cuts trees answer cut of named found =
+    of_trees names texts cuts trees answer cut of
+    (subst (λ (f : Option (NameRule × Pos)). OfNames names cuts trees f answer) (sym named) found)
+
 says : (names : List (List ℕ)) (found : Sources) (answer : Answer) → Checks names found answer → Says names found answer
 says names _ _ missing = refl
 says names _ _ (too_large file) = refl
@@ -184,11 +199,17 @@ says names _ _ (lexical texts fault pos code cut coded) =
 says names _ _ (syntactic texts cuts code pos cut first) =
     subst (λ (o : AllTokens). OfCut names o (refused names pos (syntactic_code code))) (sym cut) (refuses code pos first refl)
 says names _ _ (unresolved texts cuts trees broken pos cut of fault) =
-    subst (λ (o : AllTokens). OfCut names o (refused names pos (name_code broken))) (sym cut) (breaks trees broken pos of fault refl)
-says names _ _ (not_built texts cuts trees cut of fine none) =
-    subst (λ (o : AllTokens). OfCut names o (refused names (first_position 0) U1)) (sym cut) (leaves trees of fine none refl)
-says names _ _ (checked texts cuts trees unit found cut of fine form list) =
-    subst (λ (o : AllTokens). OfCut names o (judged names (object_texts unit) found)) (sym cut) (reports trees unit found of fine form list refl)
+    of_trees names texts cuts trees _ cut of
+    (subst (λ (f : Option (NameRule × Pos)). OfNames names cuts trees f (refused names pos (name_code broken))) (sym fault) refl)
+says names _ _ (mistyped texts cuts trees broken pos code cut of named fault coded) =
+    of_names names texts cuts trees _ cut of named
+    (subst (λ (f : Option TypeFault). OfTypes names cuts f (refused names pos code)) (sym fault) (pos, (code, (coded, refl))))
+says names _ _ (not_built texts cuts trees cut of named fine none) =
+    of_names names texts cuts trees _ cut of named
+    (subst (λ (f : Option TypeFault). OfTypes names cuts f (refused names (first_position 0) U1)) (sym fine) (leaves none refl))
+says names _ _ (checked texts cuts trees unit found cut of named fine form list) =
+    of_names names texts cuts trees _ cut of named
+    (subst (λ (f : Option TypeFault). OfTypes names cuts f (judged names (object_texts unit) found)) (sym fine) (reports unit found form list refl))
 
 cut_once : (names : List (List ℕ)) (cut : AllTokens) (a b : Answer) → OfCut names cut a → OfCut names cut b → a ≡ b
 cut_once names (Ok cuts) a b one two = tokens_once names cuts a b one two

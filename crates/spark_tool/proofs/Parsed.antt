@@ -1,7 +1,7 @@
 -- What the grammar says of the files so far.
 use Rattle.std.proofs.Common.{◌≡◌, ◌<◌, ℕ, suc, ◌+◌, Ok, List, [], ◌∷◌, ◌++◌, Vec, map, length, All, get_or, take, drop, refl, sym, ap, ◌∙◌, subst, arith, drop-cons}
 use Rattle.std.proofs.lemmas.List.{map-append, take-append-drop, take_more}
-use Rattle.std.proofs.lemmas.List.Elements.{All-map, All-cons, All-nil}
+use Rattle.std.proofs.lemmas.List.Elements.{All-cons, All-nil}
 use Rattle.std.specs.declared.alloc.Global.{Global}
 use Rattle.spark_base.specs.declared.position.Pos.{Pos}
 use Rattle.spark_base.specs.declared.limits.TheConstants.{TOKENS}
@@ -19,7 +19,7 @@ use Rattle.spark_tool.specs.Lexing.{all_tokens, cuts_of}
 use Rattle.spark_tool.specs.Parsing.{told_cut, IsParsed, AreTreesOf, IsRefusedAt, FirstRefused}
 use Rattle.spark_tool.specs.Product.{Answer, Checks, syntactic}
 use Rattle.spark_tool.specs.Reading.{Texts}
-use Rattle.spark_tool.specs.Refusals.{IsFirstRefusal, NamesOneOf, RefusesSyntactically}
+use Rattle.spark_tool.specs.Refusals.{IsFirstRefusal, RefusesSyntactically}
 
 -- tokens are told alike as they are and as they were cut
 pub told_cuts : (tokens : List Token) → map told_cut (map cut_of tokens) ≡ map told tokens
@@ -98,26 +98,6 @@ first_refusal Memory files i file within is before found = tt
 pub at_middle : {X : Type 0} (P : X → Type 0) (before : List X) (x : X) (behind : List X) → All P (before ++ x ∷ behind) → P x
 at_middle P [] x behind all = all 0 x (omega arith)
 at_middle P (b ∷ before) x behind all = at_middle P before x behind (λ k d within. all (suc k) d (omega (arith, within)))
-
--- a refused token stands in one of the first n files, as all tokens do
-pub refused_among : (n : ℕ) (code : grammar.Code) (at : Pos) (files : List (Vec Token Global)) → FirstRefused code at (cuts_of files)
-    → All (λ file. All (λ token. token.pos.file < n) file.items) files → at.file < n
-refused_among n code at files first all =
-    let InFiles : List Cut → Type 0 = λ cuts. All (λ cut. cut.pos.file < n) cuts in
-    let each : All InFiles (cuts_of files) = All-map InFiles (λ (f : Vec Token Global). map cut_of f.items) files
-    (λ k d within. All-map (λ (cut : Cut). cut.pos.file < n) cut_of (get_or files k d).items (all k d within)) in
-    let file : InFiles first.file = at_middle InFiles first.before first.file first.behind (subst (λ (fs : List (List Cut)). All InFiles fs) first.splits each) in
-    let found = first.refused in
-    let token : found.token.pos.file < n = at_middle (λ (cut : Cut). cut.pos.file < n) found.before found.token found.behind
-    (subst (λ (cuts : List Cut). InFiles cuts) found.splits file) in
-    subst (λ (pos : Pos). pos.file < n) found.position token
-
-pub refusal_among : (n : ℕ) (refusal : ParseRefusal) (files : List (Vec Token Global)) → IsFirstRefusal (cuts_of files) refusal
-    → All (λ file. All (λ token. token.pos.file < n) file.items) files → NamesOneOf n refusal
-refusal_among n (Syntax at) files first all = refused_among n grammar.Syntax at files first all
-refusal_among n (TooDeep at) files first all = refused_among n grammar.TooDeep at files first all
-refusal_among n (LeftOut at) files first all = refused_among n grammar.LeftOut at files first all
-refusal_among n Memory files first all = tt
 
 -- the line of the first refusal answers the check
 pub refusal_answers : (names texts : List (List ℕ)) (cuts : List (List Cut)) (refusal : ParseRefusal) (answer : Answer)

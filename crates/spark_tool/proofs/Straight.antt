@@ -11,6 +11,8 @@ use Rattle.spark_tool.specs.Product.{Answer, Checks, checked, judged, lexical_co
 use Rattle.spark_tool.specs.Parsing.{AreTreesOf}
 use Rattle.ada_tree.specs.declared.unit.SourceUnit as whole
 use Rattle.name_events.specs.Faults.{name_fault}
+use Rattle.type_table.specs.Whole.{type_fault}
+use Rattle.type_rules.specs.Programs.{program_of}
 use Rattle.spark_tool.specs.Reading.{Texts}
 use Rattle.std.proofs.lemmas.List.Folds.{list_all-map}
 use Rattle.spark_base.specs.declared.position.Pos.{Pos}
@@ -128,14 +130,14 @@ prints_among n path some can = record {
 -- the reports of the path of a source answer the check
 pub checked_path : (names : List (List ℕ)) (texts : List (List ℕ)) (all : List (List Cut)) (path : StraightPath) (answer : Answer)
     → all_tokens 0 TOKENS texts ≡ Ok all → (trees : List (List whole.SourceUnit)) → AreTreesOf all trees → name_fault trees ≡ None
-    → IsPathOf (λ unit. IsStraightSource unit all) path → Judges names path answer → Checks names (Texts texts) answer
-checked_path names texts all path answer cut trees parsed resolved of judges =
+    → type_fault (program_of trees) ≡ None → IsPathOf (λ unit. IsStraightSource unit all) path → Judges names path answer → Checks names (Texts texts) answer
+checked_path names texts all path answer cut trees parsed resolved typed of judges =
     let exact : IsReportList (printed_name (object_texts of.unit)) (Gives (path_acts of.unit)) judges.reports =
     subst (λ (o : List (List ℕ)). IsReportList (printed_name o) (Gives (path_acts of.unit)) judges.reports) of.objects
     (subst (λ (acts : List Placed). IsReportList (printed_name path.objects.items) (Gives acts) judges.reports) of.acts judges.exact) in
     let same : answer ≡ judged names (object_texts of.unit) judges.reports =
     judges.judged ∙ ap (λ (o : List (List ℕ)). judged names o judges.reports) of.objects in
-    subst (Checks names (Texts texts)) (sym same) (checked texts all trees of.unit judges.reports cut parsed resolved of.in_form exact)
+    subst (Checks names (Texts texts)) (sym same) (checked texts all trees of.unit judges.reports cut parsed resolved typed of.in_form exact)
 
 -- the tree that was found
 pub known_unit : (tokens : List Token) (unit : SourceUnit) (found : Option SourceUnit) → found ≡ Some unit

@@ -11,13 +11,18 @@ use Rattle.ada_tree.specs.Refusals as grammar
 use Rattle.name_events.specs.declared.declaration.NameRule.{NameRule}
 use Rattle.name_events.specs.declared.declaration.NameRule.TheVariants as rule
 use Rattle.name_events.specs.Faults.{name_fault}
+use Rattle.type_table.specs.declared.refusal.TypeRefusal.{TypeRefusal}
+use Rattle.type_table.specs.declared.refusal.TypeRefusal.TheVariants as untyped
+use Rattle.type_table.specs.Whole.{TypeFault, type_fault}
+use Rattle.type_table.specs.Refusals.{refusal_of}
+use Rattle.type_rules.specs.Programs.{program_of}
 use Rattle.straight_form.specs.declared.tree.SourceUnit.{SourceUnit}
 use Rattle.place_names.specs.Reports.{Report, Gives, IsReportList}
 use Rattle.straight_line.specs.Declarations.{object_texts}
 use Rattle.straight_line.specs.PathActs.{path_acts}
 use Rattle.straight_line.specs.Reported.{printed_name}
 use Rattle.rule_reports.specs.declared.code.Code.{Code}
-use Rattle.rule_reports.specs.declared.code.Code.TheVariants.{S1, L1, L2, L3, L4, L5, P1, P2, P3, N1, N2, N3, N4, N5, N6, U1}
+use Rattle.rule_reports.specs.declared.code.Code.TheVariants.{S1, L1, L2, L3, L4, L5, P1, P2, P3, N1, N2, N3, N4, N5, N6, Y1, Y2, Y3, K1, K2, K3, K4, K5, K6, K7, K8, U1}
 use Rattle.rule_reports.specs.Lines.{refusal_line, report_lines, accepted_line, usage_line}
 use Rattle.spark_tool.specs.Commands.{Check, command_of}
 use Rattle.spark_tool.specs.Reading.{Sources, Texts, TooLarge, Missing, sources}
@@ -75,6 +80,21 @@ name_code rule.TooEarly = N4
 name_code rule.NoBody = N5
 name_code rule.WrongEnd = N6
 
+-- The position and the code of a broken sentence on types. Out of memory is none.
+abbrev pub type_code : TypeRefusal → Option (Pos × Code)
+type_code (untyped.TooLarge pos) = Some (pos, Y1)
+type_code (untyped.TooManyParts pos) = Some (pos, Y2)
+type_code (untyped.NoElements pos) = Some (pos, Y3)
+type_code (untyped.WrongType pos) = Some (pos, K1)
+type_code (untyped.NotVariable pos) = Some (pos, K2)
+type_code (untyped.WrongProfile pos) = Some (pos, K3)
+type_code (untyped.BadChoices pos) = Some (pos, K4)
+type_code (untyped.OwningPlace pos) = Some (pos, K5)
+type_code (untyped.AnonymousPlace pos) = Some (pos, K6)
+type_code (untyped.NotStatic pos) = Some (pos, K7)
+type_code (untyped.PackageValue pos) = Some (pos, K8)
+type_code untyped.Memory = None
+
 -- The reports, or that there are none.
 abbrev pub judged : List (List ℕ) → List (List ℕ) → List Report → Answer
 judged names objects [] = accepted
@@ -96,13 +116,19 @@ pub data Checks (names : List (List ℕ)) : Sources → Answer → Type 0 where
   unresolved : (texts : List (List ℕ)) (cuts : List (List Cut)) (trees : List (List whole.SourceUnit)) (broken : NameRule) (pos : Pos)
       → all_tokens 0 TOKENS texts ≡ Ok cuts → AreTreesOf cuts trees → name_fault trees ≡ Some (broken, pos)
       → Checks names (Texts texts) (refused names pos (name_code broken))
-  -- no rule of names is broken, but the files aren't one file of the straight-line form
+  -- the first broken sentence on types
+  mistyped : (texts : List (List ℕ)) (cuts : List (List Cut)) (trees : List (List whole.SourceUnit)) (broken : TypeFault) (pos : Pos) (code : Code)
+      → all_tokens 0 TOKENS texts ≡ Ok cuts → AreTreesOf cuts trees → name_fault trees ≡ None → type_fault (program_of trees) ≡ Some broken
+      → type_code (refusal_of broken) ≡ Some (pos, code) → Checks names (Texts texts) (refused names pos code)
+  -- no rule of names and no sentence on types is broken, but the files aren't one file of the
+  -- straight-line form
   not_built : (texts : List (List ℕ)) (cuts : List (List Cut)) (trees : List (List whole.SourceUnit)) → all_tokens 0 TOKENS texts ≡ Ok cuts
-      → AreTreesOf cuts trees → name_fault trees ≡ None → ((unit : SourceUnit) → ¬ IsStraightSource unit cuts)
+      → AreTreesOf cuts trees → name_fault trees ≡ None → type_fault (program_of trees) ≡ None → ((unit : SourceUnit) → ¬ IsStraightSource unit cuts)
       → Checks names (Texts texts) (refused names (first_position 0) U1)
   -- the reports of the one control path
   checked : (texts : List (List ℕ)) (cuts : List (List Cut)) (trees : List (List whole.SourceUnit)) (unit : SourceUnit) (reports : List Report)
-      → all_tokens 0 TOKENS texts ≡ Ok cuts → AreTreesOf cuts trees → name_fault trees ≡ None → IsStraightSource unit cuts
+      → all_tokens 0 TOKENS texts ≡ Ok cuts → AreTreesOf cuts trees → name_fault trees ≡ None → type_fault (program_of trees) ≡ None
+      → IsStraightSource unit cuts
       → IsReportList (printed_name (object_texts unit)) (Gives (path_acts unit)) reports
       → Checks names (Texts texts) (judged names (object_texts unit) reports)
 

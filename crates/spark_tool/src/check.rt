@@ -1,19 +1,22 @@
 //! Checks the sources of a command.
-ghost use Rattle.std.specs.Prelude.{◌≡◌, ◌<◌, ◌≤◌, ℕ, List, Ok, Err, None, Some, IfOk, IfSome, IfNone, MatchOption, OnErr, All, length, map, slice_get, string_bytes};
+ghost use Rattle.std.specs.Prelude.{◌≡◌, ◌<◌, ◌≤◌, ℕ, List, Ok, Err, None, Some, IfOk, IfSome, IfNone, OnErr, All, length, map, slice_get, string_bytes};
 ghost use Rattle.std.specs.List.{list_all};
 ghost use Rattle.ada_lexer.specs.Tokens.{EndsOnce, kinds_of, cut_of};
 ghost use Rattle.ada_tree.specs.declared.unit.SourceUnit as whole;
 ghost use Rattle.name_events.specs.Faults.{name_fault};
 ghost use Rattle.name_resolve.specs.Inputs.{trees_of};
-ghost use Rattle.name_resolve.specs.Judges.{Says};
+ghost use Rattle.name_resolve.specs.Judges as resolving;
+ghost use Rattle.type_table.specs.Refusals as types;
+ghost use Rattle.type_table.specs.Whole.{type_fault};
+ghost use Rattle.type_rules.specs.Programs.{program_of};
 ghost use Rattle.straight_form.specs.Spells.{Spells};
 ghost use Rattle.spark_tool.specs.Answers.{answer_of};
 ghost use Rattle.spark_base.specs.declared.limits.TheConstants.{TOKENS};
-ghost use Rattle.spark_tool.specs.Lexing.{IsAmong, all_tokens, cuts_of, texts_of};
+ghost use Rattle.spark_tool.specs.Lexing.{all_tokens, cuts_of, texts_of};
 ghost use Rattle.spark_tool.specs.Parsing.{AreTreesOf};
 ghost use Rattle.spark_tool.specs.Product as spec;
 ghost use Rattle.spark_tool.specs.Product.{Checks};
-ghost use Rattle.spark_tool.specs.Refusals.{RefusesLexically, RefusesSyntactically, RefusesByNames, NamesOneOf, IsChecked};
+ghost use Rattle.spark_tool.specs.Refusals.{RefusesLexically, RefusesSyntactically, RefusesByNames, RefusesByTypes, IsChecked};
 ghost use Rattle.spark_tool.specs.Reading.{sources_of, IsWhole, Texts};
 ghost use Rattle.spark_tool.specs.StraightSource.{is_plain, no_underscore, IsStraightFile, IsStraightSource};
 ghost use Rattle.spark_tool.specs.StraightPaths.{IsPathOf, Judges, CanPrint};
@@ -28,12 +31,14 @@ use crate::stop::Stop;
 use ada_lexer::{LexRefusal, Token, TokenKind};
 use ada_parser::ParseRefusal;
 use ada_tree::Trees;
-use name_resolve::{NameRefusal, resolve};
+use name_resolve::{NameRefusal, Resolved, resolve};
 use rule_reports::{Code, report_lines};
 use spark_base::{FILES, Pos, SOURCE_BYTES};
 use std::alloc::{AllocError, Global};
 use straight_form::tree::SourceUnit;
 use straight_line::{StraightPath, path_reports, straight_path};
+use type_rules::check_types;
+use type_table::TypeRefusal;
 
 /// Whether a text has no underscore.
 fn has_digits_alone(text: &[u8]) -> bool
@@ -137,7 +142,6 @@ fn lexical_code(fault: LexRefusal) -> Option<(Pos, Code)>
 
 /// The line of a lexical fault.
 fn refused_lexically(alloc: Global, names: &[String], fault: LexRefusal) -> Result<Answer, Stop>
-    requires { IsAmong (length names.now) fault }
     ensures line { IfOk result (λ answer. RefusesLexically (map string_bytes names.now) fault (answer_of answer)) }
     ensures memory { OnErr result (result ≡ Err Stop.Memory) }
 {
@@ -153,7 +157,6 @@ fn refused_syntactically(
     names: &[String],
     refusal: ParseRefusal,
 ) -> Result<Answer, Stop>
-    requires { NamesOneOf (length names.now) refusal }
     ensures line { IfOk result (λ answer. RefusesSyntactically (map string_bytes names.now) refusal (answer_of answer)) }
     ensures memory { OnErr result (result ≡ Err Stop.Memory) }
 {
@@ -181,6 +184,37 @@ fn refused_by_names(alloc: Global, names: &[String], refusal: NameRefusal) -> Re
     }
 }
 
+/// The position and the code of a broken sentence on types, or nothing where it is out of memory.
+fn type_code(refusal: TypeRefusal) -> Option<(Pos, Code)>
+    ensures { result ≡ spec.type_code refusal }
+{
+    match refusal {
+        TypeRefusal::TooLarge(pos) => Some((pos, Code::Y1)),
+        TypeRefusal::TooManyParts(pos) => Some((pos, Code::Y2)),
+        TypeRefusal::NoElements(pos) => Some((pos, Code::Y3)),
+        TypeRefusal::WrongType(pos) => Some((pos, Code::K1)),
+        TypeRefusal::NotVariable(pos) => Some((pos, Code::K2)),
+        TypeRefusal::WrongProfile(pos) => Some((pos, Code::K3)),
+        TypeRefusal::BadChoices(pos) => Some((pos, Code::K4)),
+        TypeRefusal::OwningPlace(pos) => Some((pos, Code::K5)),
+        TypeRefusal::AnonymousPlace(pos) => Some((pos, Code::K6)),
+        TypeRefusal::NotStatic(pos) => Some((pos, Code::K7)),
+        TypeRefusal::PackageValue(pos) => Some((pos, Code::K8)),
+        TypeRefusal::Memory => None,
+    }
+}
+
+/// The line of a broken sentence on types.
+fn refused_by_types(alloc: Global, names: &[String], refusal: TypeRefusal) -> Result<Answer, Stop>
+    ensures line { IfOk result (λ answer. RefusesByTypes (map string_bytes names.now) refusal (answer_of answer)) }
+    ensures memory { OnErr result (result ≡ Err Stop.Memory) }
+{
+    match type_code(refusal) {
+        Some((pos, code)) => Ok(refusal_answer(alloc, names, pos, code)?),
+        None => Err(Stop::Memory),
+    }
+}
+
 /// The names as texts of their own.
 fn copied(alloc: Global, names: &[String]) -> Result<Vec<String>, AllocError>
     ensures texts { IfOk result (λ copies. map string_bytes copies.items ≡ map string_bytes names.now) }
@@ -192,23 +226,17 @@ fn copied(alloc: Global, names: &[String]) -> Result<Vec<String>, AllocError>
     Ok(copies)
 }
 
-/// The refusal by the first broken rule of names, or nothing where none is broken.
-fn name_refusal(
-    alloc: Global,
-    names: &[String],
-    trees: Vec<Trees>,
-) -> Result<Option<NameRefusal>, AllocError>
-    ensures fault { IfOk result (λ found. MatchOption found (name_fault (trees_of trees.items) ≡ None)
-        (λ refusal. Says refusal (name_fault (trees_of trees.items)))) }
+/// The files with the meaning of their names.
+fn resolved(alloc: Global, names: &[String], trees: Vec<Trees>) -> Result<Resolved, NameRefusal>
+    ensures fault { resolving.Judges result (name_fault (trees_of trees.items)) }
+    ensures files { IfOk result (λ made. trees_of made.files.items ≡ trees_of trees.items) }
 {
     let copies = copied(alloc, names)?;
-    match resolve(alloc, copies, trees) {
-        Ok(_) => Ok(None),
-        Err(refusal) => Ok(Some(refusal)),
-    }
+    resolve(alloc, copies, trees)
 }
 
-/// The answer on the tokens of the named files, where no rule of names is broken.
+/// The answer on the tokens of the named files, where no rule of names and no sentence on types is
+/// broken.
 fn check_form(
     alloc: Global,
     names: &[String],
@@ -219,11 +247,33 @@ fn check_form(
     requires some { 0 < length names.now }
     ensures { IfOk result (λ answer. (texts : List (List ℕ)) → all_tokens 0 TOKENS texts ≡ Ok (cuts_of files.now)
         → (trees : List (List whole.SourceUnit)) → AreTreesOf (cuts_of files.now) trees → name_fault trees ≡ None
-        → Checks (map string_bytes names.now) (Texts texts) (answer_of answer)) }
+        → type_fault (program_of trees) ≡ None → Checks (map string_bytes names.now) (Texts texts) (answer_of answer)) }
 {
     match path_of_source(alloc, files)? {
         Some(path) => Ok(judge(alloc, names, &path)?),
         None => Ok(file_refusal_answer(alloc, names, 0, Code::U1)?),
+    }
+}
+
+/// The answer on the tokens of the named files whose names have a meaning.
+fn check_resolved(
+    alloc: Global,
+    names: &[String],
+    files: &[Vec<Token<'_>>],
+    program: &Resolved,
+) -> Result<Answer, Stop>
+    requires ends { All (λ file. EndsOnce (kinds_of file.items)) files.now }
+    requires first { IfSome (slice_get files.now 0) (λ tokens. All (λ token. token.pos.file ≡ 0) tokens.items) }
+    requires parsed { AreTreesOf (cuts_of files.now) (trees_of program.now.files.items) }
+    requires named { name_fault (trees_of program.now.files.items) ≡ None }
+    requires some { 0 < length names.now }
+    ensures answer { IfOk result (λ answer. (texts : List (List ℕ)) → all_tokens 0 TOKENS texts ≡ Ok (cuts_of files.now)
+        → Checks (map string_bytes names.now) (Texts texts) (answer_of answer)) }
+    ensures memory { OnErr result (result ≡ Err Stop.Memory) }
+{
+    match check_types(alloc, program) {
+        Ok(()) => Ok(check_form(alloc, names, files)?),
+        Err(refusal) => Ok(refused_by_types(alloc, names, refusal)?),
     }
 }
 
@@ -242,9 +292,9 @@ fn check_trees(
         → Checks (map string_bytes names.now) (Texts texts) (answer_of answer)) }
     ensures memory { OnErr result (result ≡ Err Stop.Memory) }
 {
-    match name_refusal(alloc, names, trees)? {
-        Some(refusal) => Ok(refused_by_names(alloc, names, refusal)?),
-        None => Ok(check_form(alloc, names, files)?),
+    match resolved(alloc, names, trees) {
+        Ok(program) => Ok(check_resolved(alloc, names, files, &program)?),
+        Err(refusal) => Ok(refused_by_names(alloc, names, refusal)?),
     }
 }
 
@@ -252,7 +302,6 @@ fn check_trees(
 fn check_tokens(alloc: Global, names: &[String], files: &[Vec<Token<'_>>]) -> Result<Answer, Stop>
     requires ends { All (λ file. EndsOnce (kinds_of file.items)) files.now }
     requires first { IfSome (slice_get files.now 0) (λ tokens. All (λ token. token.pos.file ≡ 0) tokens.items) }
-    requires among { All (λ file. All (λ token. token.pos.file < length names.now) file.items) files.now }
     requires some { 0 < length names.now }
     ensures answer { IfOk result (λ answer. (texts : List (List ℕ)) → all_tokens 0 TOKENS texts ≡ Ok (cuts_of files.now)
         → Checks (map string_bytes names.now) (Texts texts) (answer_of answer)) }

@@ -1,8 +1,8 @@
 //! Tests of `spark_tool`, over `run_tool` and the outside in memory.
 //!
 //! They stand in a crate of their own, so that the library isn't proved a second time for its
-//! tests. Each expected answer was worked out by hand from `docs/TOOL.md`; more of them stand in
-//! the heads of the examples. Nothing here is for other crates.
+//! tests. Each expected answer was worked out by hand from `docs/TOOL.md` and `docs/LANGUAGE.md`;
+//! more of them stand in the heads of the examples. Nothing here is for other crates.
 #![tactic(auto)]
 
 #[cfg(test)]

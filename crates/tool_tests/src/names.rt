@@ -57,28 +57,28 @@ const UNKNOWN: [(&str, &str, &str); 29] = [
     (
         "with Ada.Text_IO; procedure Main is begin Ada.Text_IO.Get; end Main;",
         "f.adb:1:55: N1 unknown name\n",
-        "with Ada.Text_IO; procedure Main is begin Ada.Text_IO.Put; end Main;",
+        "with Ada.Text_IO; procedure Main is begin Ada.Text_IO.New_Line; end Main;",
     ),
     // N1: what is no occurrence
     (
         "procedure Main is type R is record A : Integer; end record; X : R; begin Y.A := 1; end Main;",
         "f.adb:1:74: N1 unknown name\n",
-        "procedure Main is type R is record A : Integer; end record; X : R; begin X.B := 1; end Main;",
+        "procedure Main is type R is record A : Integer; end record; X : R; begin X.A := 1; end Main;",
     ),
     (
         "procedure Main is type R is record A : Integer; end record; X : R; begin X := (A => A); end Main;",
         "f.adb:1:85: N1 unknown name\n",
-        "procedure Main is type R is record A : Integer; end record; X : R; begin X := (B => 1); end Main;",
+        "procedure Main is type R is record A : Integer; end record; X : R; begin X := (A => 1); end Main;",
     ),
     (
-        "procedure Main is begin Main (X => X); end Main;",
-        "f.adb:1:36: N1 unknown name\n",
-        "procedure Main is begin Main (X => 1); end Main;",
+        "package P is procedure A (X : Integer); procedure B; end P;\npackage body P is\nprocedure A (X : Integer) is begin null; end A;\nprocedure B is begin A (X => X); end B;\nend P;",
+        "f.adb:4:30: N1 unknown name\n",
+        "package P is procedure A (X : Integer); procedure B; end P;\npackage body P is\nprocedure A (X : Integer) is begin null; end A;\nprocedure B is begin A (X => 1); end B;\nend P;",
     ),
     (
         "procedure Main is X : Integer := First'First; begin null; end Main;",
         "f.adb:1:34: N1 unknown name\n",
-        "procedure Main is X : Integer := Integer'Last_But_One; begin null; end Main;",
+        "procedure Main is X : Integer := Integer'First; begin null; end Main;",
     ),
     (
         "pragma SPARK_Mode (On); procedure Main with SPARK_Mode => On is X : Integer; begin X := On; end Main;",
@@ -88,7 +88,7 @@ const UNKNOWN: [(&str, &str, &str); 29] = [
     (
         "procedure Main is begin Man.X; end Main;",
         "f.adb:1:25: N1 unknown name\n",
-        "procedure Main is begin Main.X; end Main;",
+        "procedure Main is begin Main; end Main;",
     ),
     // N1: what a use clause makes visible, and from where on
     (
@@ -178,14 +178,14 @@ const TWICE: [(&str, &str, &str); 21] = [
         "procedure Main is type T is (A); begin declare type T is (A); type U is (B); begin null; end; end Main;",
     ),
     (
-        "procedure Main (X : Integer) is X : Integer; begin null; end Main;",
-        "f.adb:1:33: N2 declared twice\n",
-        "procedure Main (X : Integer) is begin declare X : Integer; begin null; end; end Main;",
+        "package P is procedure A (X : Integer); end P;\npackage body P is procedure A (X : Integer) is X : Integer; begin null; end A; end P;",
+        "f.adb:2:48: N2 declared twice\n",
+        "package P is procedure A (X : Integer); end P;\npackage body P is procedure A (X : Integer) is begin declare X : Integer; begin null; end; end A; end P;",
     ),
     (
-        "procedure Main (X : Integer; Y, x : Boolean) is begin null; end Main;",
-        "f.adb:1:33: N2 declared twice\n",
-        "procedure Main (X : Integer; Y, Main : Boolean) is begin null; end Main;",
+        "package P is procedure A (X : Integer; Y, x : Boolean); end P;\npackage body P is procedure A (X : Integer; Y, x : Boolean) is begin null; end A; end P;",
+        "f.adb:1:43: N2 declared twice\n",
+        "package P is procedure A (X : Integer; Y, A : Boolean); end P;\npackage body P is procedure A (X : Integer; Y, A : Boolean) is begin null; end A; end P;",
     ),
     (
         "package P is X : Integer; private X : Integer; end P;",
@@ -282,7 +282,7 @@ const HIDDEN: [(&str, &str, &str); 15] = [
     (
         "with Ada.Integer_Text_IO; procedure Main is begin Ada.Text_IO.New_Line; end Main;",
         "f.adb:1:55: N3 not visible\n",
-        "procedure Main is Ada : Integer; begin Ada.Text_IO.New_Line; end Main;",
+        "procedure Main is type R is record Text_IO : Integer; end record; Ada : R; begin Ada.Text_IO := 1; end Main;",
     ),
     (
         "with Ada; procedure Main is use Ada; begin Text_IO.New_Line; end Main;",
@@ -369,7 +369,7 @@ const LATER: [(&str, &str, &str); 19] = [
     (
         "procedure Main is X : Integer := A; type T is (A); begin null; end Main;",
         "f.adb:1:34: N4 used before its declaration\n",
-        "procedure Main is type T is (A); X : Integer := A; begin null; end Main;",
+        "procedure Main is type T is (A); X : T := A; begin null; end Main;",
     ),
     (
         "procedure Main is type R is record N : R; end record; begin null; end Main;",
@@ -377,9 +377,9 @@ const LATER: [(&str, &str, &str); 19] = [
         "procedure Main is type R; type L is access R; type R is record N : L; end record; begin null; end Main;",
     ),
     (
-        "procedure Main (X : Integer; T : T) is begin null; end Main;",
-        "f.adb:1:34: N4 used before its declaration\n",
-        "procedure Main (X : Integer; Integer : Integer) is begin null; end Main;",
+        "package P is procedure A (X : Integer; T : T); end P;\npackage body P is procedure A (X : Integer; T : Boolean) is begin null; end A; end P;",
+        "f.adb:1:44: N4 used before its declaration\n",
+        "package P is procedure A (X : Integer; Integer : Integer); end P;\npackage body P is procedure A (X : Integer; Integer : Integer) is begin null; end A; end P;",
     ),
     (
         "procedure Main is begin for I in 1 .. I loop null; end loop; end Main;",
@@ -465,7 +465,7 @@ const BODIES_AND_ENDS: [(&str, &str, &str); 18] = [
     (
         "package P is function F return Integer; end P;",
         "f.adb:1:23: N5 body missing\n",
-        "package P is function F return Integer; end P; package body P is procedure F is begin null; end F; end P;",
+        "package P is function F return Integer; end P; package body P is function F return Integer is begin return 1; end F; end P;",
     ),
     (
         "package P is end P; package body P is procedure A; end P;",

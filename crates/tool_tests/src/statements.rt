@@ -50,7 +50,7 @@ const LINES: [(&str, &str, &str, u8); 13] = [
     ),
     ("N := 1__0;", "", "f.adb:8:6: L3 bad number\n", 2),
     ("N := 2147483647;", "accepted\n", "", 0),
-    ("N := 2147483648;", "", "f.adb:1:1: U1 form not built\n", 2),
+    ("N := 2147483648;", "", "f.adb:8:6: K7 not static\n", 2),
     ("N := 2147483649;", "", "f.adb:8:6: L3 bad number\n", 2),
 ];
 

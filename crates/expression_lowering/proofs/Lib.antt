@@ -1,0 +1,5 @@
+-- what each form of a tree stands for
+pub mod ExpressionLevels
+pub mod Chains
+-- loops
+pub mod Steps

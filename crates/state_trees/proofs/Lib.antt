@@ -1,0 +1,10 @@
+-- what the functions' proofs cite
+pub mod Parts
+pub mod Passes
+pub mod Kept
+pub mod Marked
+-- what the functions of a crate of rules cite
+pub mod Tested
+-- laws of the definitions
+pub mod FactByFact
+pub mod Effects

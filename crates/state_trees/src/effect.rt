@@ -1,0 +1,142 @@
+//! What an act does to one fact.
+ghost use Rattle.std.specs.Prelude.{◌≡◌, ◌++◌};
+ghost use Rattle.std.specs.Cmp.Lexicographic.{pointwise};
+ghost use Rattle.place_names.specs.declared.act.Act.TheVariants as acts;
+ghost use Rattle.place_names.specs.declared.fact.Fact.TheVariants as facts;
+ghost use Rattle.place_names.specs.Names as names;
+ghost use Rattle.place_names.specs.Facts as effects;
+
+use place_names::{Act, Fact, Loan, Mode, PlaceName, PlaceTail, Sel};
+
+/// Whether a fact is that a place was moved which a name covers.
+fn is_moved_under(name: &PlaceName, fact: &Fact) -> bool
+    ensures { result ≡ effects.is_moved_under name.now fact.now }
+{
+    match fact {
+        Fact::Moved(moved) => name.covers(moved),
+        Fact::Lent { .. } => false,
+    }
+}
+
+/// Whether an object holds a loan, or the name of what was moved is rooted in it.
+fn belongs_to(object: u32, fact: &Fact) -> bool
+    ensures { result ≡ effects.belongs_to object fact.now }
+{
+    match fact {
+        Fact::Moved(moved) => moved.root() == object,
+        Fact::Lent { holder, .. } => *holder == object,
+    }
+}
+
+/// Whether a fact ends at an act.
+fn removes(act: &Act, fact: &Fact) -> bool
+    ensures { result ≡ effects.removes act.now fact.now }
+{
+    match act {
+        Act::Write { name } | Act::Free { name } => is_moved_under(name, fact),
+        Act::EndScope { object, .. } => belongs_to(*object, fact),
+        Act::Actual { name, mode, .. } => match mode {
+            Mode::Out => is_moved_under(name, fact),
+            Mode::In | Mode::InOut => false,
+        },
+        Act::Read { .. }
+        | Act::Look { .. }
+        | Act::Move { .. }
+        | Act::Borrow { .. }
+        | Act::Observe { .. }
+        | Act::Reborrow { .. }
+        | Act::Return { .. }
+        | Act::Global { .. }
+        | Act::Give { .. } => false,
+    }
+}
+
+/// Whether the third list is the first one followed by the second.
+fn is_joined(front: &[Sel], back: &[Sel], whole: &[Sel]) -> bool
+    ensures { result ≡ pointwise names.is_equal (front.now ++ back.now) whole.now }
+{
+    match whole.strip_prefix(front) {
+        Some(rest) => rest == back,
+        None => false,
+    }
+}
+
+/// Whether a name is another one and some steps behind it.
+fn is_part(name: &PlaceName, part: &PlaceTail, whole: &PlaceName) -> bool
+    ensures { result ≡ names.is_same (names.extend name.now part.now) whole.now }
+{
+    name.root() == whole.root() && is_joined(name.sels(), part.sels(), whole.sels())
+}
+
+/// Whether a fact is that one of some parts of a place was moved.
+fn is_moved_part(name: &PlaceName, parts: &[PlaceTail], fact: &Fact) -> bool
+    ensures { result ≡ effects.is_added (acts.Move name.now parts.now) fact.now }
+{
+    match fact {
+        Fact::Moved(moved) => parts.iter().any(|part| is_part(name, part, moved)),
+        Fact::Lent { .. } => false,
+    }
+}
+
+/// Whether two loans lend the same.
+fn is_same_loan(a: Loan, b: Loan) -> bool
+    ensures { result ≡ effects.is_same_loan a b }
+{
+    match (a, b) {
+        (Loan::Borrowed, Loan::Borrowed) | (Loan::Observed, Loan::Observed) => true,
+        (Loan::Borrowed, Loan::Observed) | (Loan::Observed, Loan::Borrowed) => false,
+    }
+}
+
+/// Whether two names are the same.
+fn is_same(a: &PlaceName, b: &PlaceName) -> bool
+    ensures { result ≡ names.is_same a.now b.now }
+{
+    a == b
+}
+
+/// Whether a fact is this loan.
+fn is_loan(kind: Loan, holder: u32, name: &PlaceName, fact: &Fact) -> bool
+    ensures { result ≡ effects.is_same_fact (facts.Lent kind holder name.now) fact.now }
+{
+    match fact {
+        Fact::Moved(_) => false,
+        Fact::Lent {
+            kind: lent,
+            holder: by,
+            name: of,
+        } => is_same_loan(kind, *lent) && holder == *by && is_same(name, of),
+    }
+}
+
+/// Whether an act adds a fact.
+fn is_added(act: &Act, fact: &Fact) -> bool
+    ensures { result ≡ effects.is_added act.now fact.now }
+{
+    match act {
+        Act::Move { name, parts } => is_moved_part(name, parts.as_slice(), fact),
+        Act::Borrow { holder, name } => is_loan(Loan::Borrowed, *holder, name, fact),
+        Act::Observe {
+            holder,
+            name,
+            from_observer,
+        } => !from_observer && is_loan(Loan::Observed, *holder, name, fact),
+        Act::Read { .. }
+        | Act::Look { .. }
+        | Act::Write { .. }
+        | Act::Reborrow { .. }
+        | Act::EndScope { .. }
+        | Act::Return { .. }
+        | Act::Actual { .. }
+        | Act::Global { .. }
+        | Act::Free { .. }
+        | Act::Give { .. } => false,
+    }
+}
+
+/// Whether a fact holds behind an act, where `held` says whether it held before.
+pub(crate) fn holds_behind(act: &Act, fact: &Fact, held: bool) -> bool
+    ensures { result ≡ effects.holds_behind act.now fact.now held }
+{
+    is_added(act, fact) || (held && !removes(act, fact))
+}

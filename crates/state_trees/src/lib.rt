@@ -1,0 +1,20 @@
+//! What may hold, and what may not hold, of the facts of a list, over the control paths that end at
+//! one point.
+//!
+//! A `Tree` borrows the list and says two things of each fact: whether it may hold, as some of the
+//! paths have it, and whether it may not, as some lack it. Contracts see it as a `FactState`, which
+//! has the list and two lists of truth values (`specs/FactStates.antt`). `apply` is what an act
+//! does to the facts of each path, `join` takes in the paths of another tree. How an act changes
+//! facts, `place_names` defines; `docs/RULES.md`, "Facts" and "Acts", says it in words. That the
+//! two lists of facts change as `effect` has it stands in `proofs/Effects.antt`, and what a tree
+//! says fact by fact in `proofs/FactByFact.antt`.
+//! Refused is a list with more facts than a `u32` has numbers for, as if out of memory. Each call
+//! takes time linear in the facts, but for `may` and `always`.
+#![tactic(auto)]
+
+mod effect;
+mod marks;
+mod overlap;
+mod tree;
+
+pub use tree::Tree;

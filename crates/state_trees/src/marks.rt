@@ -1,0 +1,70 @@
+//! Lists of marks, one for each fact of a list.
+ghost use Rattle.std.specs.Prelude.{◌≡◌, ◌↔◌, ◌||◌, not, length, vec_len, IsTrue};
+ghost use Rattle.state_trees.specs.FactStates.{may_behind, lacks_behind, either_mark};
+
+use crate::effect::holds_behind;
+use place_names::{Act, Fact};
+
+/// What an act does to the marks of what may hold.
+pub(crate) fn pass_may(may: &mut Vec<bool>, facts: &[Fact], act: &Act)
+    requires { vec_len may.old ≡ length facts.now }
+    ensures { may.new.items ≡ may_behind act.now facts.now may.old.items }
+{
+    'facts: for i in 0..facts.len() {
+        let held = may[i];
+        may[i] = holds_behind(act, &facts[i], held);
+    }
+}
+
+/// What an act does to the marks of what may not hold.
+pub(crate) fn pass_lacks(lacks: &mut Vec<bool>, facts: &[Fact], act: &Act)
+    requires { vec_len lacks.old ≡ length facts.now }
+    ensures { lacks.new.items ≡ lacks_behind act.now facts.now lacks.old.items }
+{
+    'facts: for i in 0..facts.len() {
+        let held = !lacks[i];
+        lacks[i] = !holds_behind(act, &facts[i], held);
+    }
+}
+
+/// Whether a mark is there, or isn't wanted.
+fn is_there(held: bool, more: bool) -> bool
+    ensures { result ≡ (held || not more) }
+{
+    held || !more
+}
+
+/// Whether each mark of the second list is in the first one.
+pub(crate) fn has_all(mine: &[bool], other: &[bool]) -> bool
+    requires { length mine.now ≡ length other.now }
+    ensures { IsTrue result ↔ (either_mark mine.now other.now ≡ mine.now) }
+{
+    mine.iter()
+        .zip(other)
+        .all(|(held, more)| is_there(*held, *more))
+}
+
+/// One or the other.
+fn either(a: bool, b: bool) -> bool
+    ensures { result ≡ (a || b) }
+{
+    a || b
+}
+
+/// Takes over the marks of another list.
+pub(crate) fn raise(mine: &mut Vec<bool>, other: &[bool])
+    requires { vec_len mine.old ≡ length other.now }
+    ensures { mine.new.items ≡ either_mark mine.old.items other.now }
+{
+    'marks: for i in 0..mine.len() {
+        let (held, more) = (mine[i], other[i]);
+        mine[i] = either(held, more);
+    }
+}
+
+/// Whether two lists have the same marks.
+pub(crate) fn is_same(mine: &[bool], other: &[bool]) -> bool
+    ensures { IsTrue result ↔ (mine.now ≡ other.now) }
+{
+    mine == other
+}

@@ -1,0 +1,120 @@
+//! What may hold and what may not hold of the facts of a list.
+ghost use Rattle.std.specs.Prelude.{◌≡◌, ◌<◌, ◌≤◌, ◌↔◌, length, IsTrue, IfOk, OnOk, OnErr};
+ghost use Rattle.state_trees.specs.FactStates.{none_hold, state_behind, joined, may_at, always_at, IsKept};
+ghost use Rattle.state_trees.specs.FactStates as states;
+
+use crate::marks::{has_all, is_same, pass_lacks, pass_may, raise};
+use crate::overlap::any_marked;
+use place_names::{Act, Fact, PlaceName, State};
+use std::alloc::{AllocError, Global};
+use std::marker::Model;
+
+/// For each fact of a list, whether it may hold and whether it may not hold.
+#[derive(Drop)]
+pub struct Tree<'f> {
+    facts: &'f [Fact],
+    may: Vec<bool>,
+    lacks: Vec<bool>,
+}
+
+impl<'f> Model for Tree<'f> {
+    ghost use Rattle.state_trees.specs.FactStates.{FactState, IsKept};
+
+    ghost Value = { FactState };
+
+    ghost view = { λ tree. record { facts = tree.facts.now; may = tree.may.items; lacks = tree.lacks.items } };
+
+    ghost invariant = { λ tree. IsKept (record { facts = tree.facts.now; may = tree.may.items; lacks = tree.lacks.items }) };
+}
+
+impl<'f> Tree<'f> {
+    /// No fact holds. A list with more facts than a `u32` has numbers for is refused as if out of
+    /// memory.
+    pub fn start(alloc: Global, facts: &'f [Fact]) -> Result<Tree<'f>, AllocError>
+        ensures { IfOk result (λ tree. tree ≡ none_hold facts.now) }
+    {
+        if facts.len() > u32::MAX as usize {
+            return Err(AllocError);
+        }
+        Ok(Tree {
+            facts,
+            may: vec![in alloc; false; facts.len()]?,
+            lacks: vec![in alloc; true; facts.len()]?,
+        })
+    }
+
+    /// A tree that says the same of the same list.
+    pub fn copy(&self) -> Result<Tree<'f>, AllocError>
+        ensures { IfOk result (λ tree. tree ≡ self.now) }
+    {
+        Ok(Tree {
+            facts: self.facts,
+            may: self.may.clone()?,
+            lacks: self.lacks.clone()?,
+        })
+    }
+
+    /// The list of facts. Each of them may hold or may not hold, and a `u32` has a number for each.
+    pub fn facts(&self) -> &'f [Fact]
+        ensures value { result.now ≡ self.now.facts }
+        ensures kept { IsKept self.now }
+    {
+        self.facts
+    }
+
+    /// What an act does to the facts of each path. Out of memory, the tree stays as it was.
+    pub fn apply(&mut self, act: &Act) -> Result<(), AllocError>
+        ensures ok { OnOk result (self.new ≡ state_behind act.now self.old) }
+        ensures err { OnErr result (self.new ≡ self.old) }
+    {
+        pass_may(&mut self.may, self.facts, act);
+        pass_lacks(&mut self.lacks, self.facts, act);
+        Ok(())
+    }
+
+    /// Takes in the paths of another tree, and tells whether that changed anything. Out of memory,
+    /// the tree stays as it was.
+    pub fn join(&mut self, other: &Tree<'_>) -> Result<bool, AllocError>
+        requires { other.now.facts ≡ self.old.facts }
+        ensures ok { OnOk result (self.new ≡ joined self.old other.now) }
+        ensures changed { IfOk result (λ changed. IsTrue changed ↔ ¬ (self.new ≡ self.old)) }
+        ensures err { OnErr result (self.new ≡ self.old) }
+    {
+        if has_all(&self.may, &other.may) && has_all(&self.lacks, &other.lacks) {
+            return Ok(false);
+        }
+        raise(&mut self.may, &other.may);
+        raise(&mut self.lacks, &other.lacks);
+        Ok(true)
+    }
+
+    /// Whether another tree has the same marks.
+    pub fn same(&self, other: &Tree<'_>) -> bool
+        ensures { IsTrue result ↔ ((self.now.may ≡ other.now.may) × (self.now.lacks ≡ other.now.lacks)) }
+    {
+        is_same(&self.may, &other.may) && is_same(&self.lacks, &other.lacks)
+    }
+
+    /// Whether the fact with a number may hold.
+    pub fn may(&self, fact: u32) -> bool
+        requires { fact < length self.now.facts }
+        ensures { result ≡ may_at self.now fact }
+    {
+        self.may[fact as usize]
+    }
+
+    /// Whether the fact with a number isn't among those that may not hold.
+    pub fn always(&self, fact: u32) -> bool
+        requires { fact < length self.now.facts }
+        ensures { result ≡ always_at self.now fact }
+    {
+        !self.lacks[fact as usize]
+    }
+
+    /// Whether a fact that may hold, and that a report would name by this word, overlaps a name.
+    pub fn any_overlapping(&self, name: &PlaceName, state: State) -> bool
+        ensures { result ≡ states.any_overlapping self.now name.now state }
+    {
+        any_marked(self.facts, &self.may, name, state)
+    }
+}

@@ -1,0 +1,5 @@
+pub mod Actuals
+pub mod BodyFormals
+pub mod Cases
+pub mod Holding
+pub mod Lists

@@ -1,0 +1,13 @@
+-- Which types a type has in itself.
+use Rattle.std.specs.Prelude.{ℕ, Bool, ◌||◌, nat_eq, slice_get}
+use Rattle.type_table.specs.Types.{Table, base, info, shape_found}
+use Rattle.type_table.specs.Declarations.{holds_parent, holds_shape, some_within}
+
+-- A type is this one, or has it in itself at a depth of at most n.
+abbrev pub has : Table → ℕ → ℕ → ℕ → Bool
+has table part n t = some_within n (λ t. nat_eq (base table t) part) table t
+
+-- What a type is made of, or a subtype of, has it.
+abbrev pub has_below : Table → ℕ → ℕ → ℕ → Bool
+has_below table part n t =
+    holds_shape (has table part n) (shape_found (slice_get table t)) || holds_parent (has table part n) (info table t).parent

@@ -1,0 +1,4 @@
+pub mod Actuals
+pub mod Formals
+pub mod Holding
+pub mod Making

@@ -1,0 +1,323 @@
+//! The sentences on declarations of types and subtypes (Ada 2012, 3.2 to 3.10).
+ghost use Rattle.std.specs.Prelude.{◌≡◌, ◌<◌, ◌++◌, length, not, is_none};
+ghost use Rattle.resolved_tree.specs.Nodes.{code_at, tree_at};
+ghost use Rattle.type_table.specs.Types.{info, is_nil};
+ghost use Rattle.type_table.specs.Faults.{noted};
+ghost use Rattle.type_table.specs.Declarations.{any_of, are_bounds, bound_faults, components_faults, constraint_faults, definition_faults, holds_itself, holds_parent, holds_shape, index_range, integer_mark, lies_within, record_faults, renamed_faults, subtype_faults, type_faults};
+ghost use Rattle.type_names.specs.Here.{here};
+ghost use Rattle.type_expressions.specs.Around.{context};
+ghost use Rattle.type_declarations.specs.Holding.{has, has_below};
+
+use crate::declared::{declared_number, declared_pos};
+use crate::marks::access_mark;
+use resolved_tree::{CodeNode, Mark};
+use type_expressions::Checker;
+use type_names::{INTEGER, Reader};
+use type_settled::demand;
+use type_statements::{
+    bounds_of, is_nothing, range_of_faults, scalar_mark, static_faults, static_value,
+};
+use type_table::{Component, Fault, Shape, Where};
+
+/// With the faults of a static expression of which a type is demanded.
+#[tactic(auto, using(type_expressions::proofs::Noted::noted_append))]
+pub fn bound_faults(checker: &Checker<'_>, found: Option<Fault>, of: u32, e: usize) -> Option<Fault>
+    requires { e < length checker.now.rows.now.0 }
+    ensures { result ≡ noted found (bound_faults (context checker.now) of (tree_at checker.now.rows.now e)) }
+{
+    let found = checker.faults(found, Where::Elsewhere, of, e);
+    static_faults(checker, found, e)
+}
+
+/// With the faults of both bounds.
+#[tactic(auto, using(type_expressions::proofs::Noted::noted_append))]
+fn both_bounds(
+    checker: &Checker<'_>,
+    found: Option<Fault>,
+    of: u32,
+    low: usize,
+    high: usize,
+) -> Option<Fault>
+    requires low { low < length checker.now.rows.now.0 }
+    requires high { high < length checker.now.rows.now.0 }
+    ensures { result ≡ noted found (bound_faults (context checker.now) of (tree_at checker.now.rows.now low)
+        ++ bound_faults (context checker.now) of (tree_at checker.now.rows.now high)) }
+{
+    let found = bound_faults(checker, found, of, low);
+    bound_faults(checker, found, of, high)
+}
+
+/// With K1, where a mark denotes a type that isn't Integer or a subtype of it.
+fn integer_mark(checker: &Checker<'_>, found: Option<Fault>, mark: Mark) -> Option<Fault>
+    ensures { result ≡ noted found (integer_mark (context checker.now) mark) }
+{
+    let reader = checker.reader();
+    let is_integer = reader.base(reader.marked(mark)) == INTEGER;
+    demand(
+        found,
+        1,
+        mark.pos,
+        !reader.denotes_type(mark.decl) || is_integer,
+    )
+}
+
+/// With the faults of the range of an array.
+#[tactic(auto, using(type_expressions::proofs::Noted::noted_append))]
+fn index_range(checker: &Checker<'_>, found: Option<Fault>, range: usize) -> Option<Fault>
+    requires { range < length checker.now.rows.now.1 }
+    ensures { result ≡ noted found (index_range (context checker.now) (code_at checker.now.rows.now range)) }
+{
+    let reader = checker.reader();
+    match checker.rows.code(range) {
+        CodeNode::Bounds { low, high } => both_bounds(checker, found, INTEGER, *low, *high),
+        CodeNode::Marked { mark } => {
+            let found = scalar_mark(checker, found, *mark);
+            integer_mark(checker, found, *mark)
+        }
+        CodeNode::Constrained { mark, low, high } => {
+            let is_complete = reader.is_complete(reader.marked(*mark), mark.pos);
+            let holds = reader.denotes_type(mark.decl) && is_complete;
+            let found = demand(found, 1, mark.pos, holds);
+            let found = integer_mark(checker, found, *mark);
+            both_bounds(checker, found, INTEGER, *low, *high)
+        }
+        CodeNode::RangeOf { name } => {
+            let found = range_of_faults(checker, found, *name);
+            demand(found, 7, reader.position(*name), false)
+        }
+        _ => found,
+    }
+}
+
+/// With the faults of components that have one mark.
+fn components_faults(checker: &Checker<'_>, found: Option<Fault>, group: usize) -> Option<Fault>
+    requires { group < length checker.now.rows.now.1 }
+    ensures { result ≡ noted found (components_faults (context checker.now).known (code_at checker.now.rows.now group)) }
+{
+    match checker.rows.code(group) {
+        CodeNode::Components { mark, .. } => checker.mark_faults(found, *mark),
+        _ => found,
+    }
+}
+
+/// With the faults of the components of a record.
+#[tactic(auto, using(type_expressions::proofs::Noted::noted_append))]
+fn record_faults(checker: &Checker<'_>, found: Option<Fault>, list: usize) -> Option<Fault>
+    requires { list < length checker.now.rows.now.1 }
+    ensures { result ≡ noted found (record_faults (context checker.now).known (code_at checker.now.rows.now list)) }
+{
+    let mut found = found;
+    let mut i = list;
+    'groups: while let CodeNode::More { first, rest } = checker.rows.code(i) {
+        found = components_faults(checker, found, *first);
+        i = *rest;
+    }
+    found
+}
+
+/// With the faults of the definition of a type.
+#[tactic(auto, using(type_expressions::proofs::Noted::noted_append))]
+fn definition_faults(
+    checker: &Checker<'_>,
+    found: Option<Fault>,
+    definition: usize,
+) -> Option<Fault>
+    requires { definition < length checker.now.rows.now.1 }
+    ensures { result ≡ noted found (definition_faults (context checker.now) (code_at checker.now.rows.now definition)) }
+{
+    match checker.rows.code(definition) {
+        CodeNode::Record { components } => record_faults(checker, found, *components),
+        CodeNode::Array { range, mark } => {
+            let found = index_range(checker, found, *range);
+            checker.mark_faults(found, *mark)
+        }
+        CodeNode::Access { mark } => access_mark(checker, found, *mark),
+        _ => found,
+    }
+}
+
+/// Whether some of these components has the type `part`, or has it in itself as deep as `depth`.
+#[cycle(holding)]
+fn any_holds(reader: &Reader<'_>, depth: usize, part: u32, components: &[Component]) -> bool
+    ensures { result ≡ any_of (has (here reader.now).known.table part depth) components.now }
+{
+    'components: for component in components {
+        if holds_within(reader, depth, part, component.of) {
+            return true;
+        }
+    }
+    false
+}
+
+/// Whether what a type is made of has the type `part` as deep as `depth`.
+#[cycle(holding)]
+fn shape_holds(reader: &Reader<'_>, depth: usize, part: u32, shape: &Shape) -> bool
+    ensures { result ≡ holds_shape (has (here reader.now).known.table part depth) shape.now }
+{
+    match shape {
+        Shape::Fields { components } => any_holds(reader, depth, part, components.as_slice()),
+        Shape::Elements { element, .. } => holds_within(reader, depth, part, *element),
+        Shape::Same { of } => holds_within(reader, depth, part, *of),
+        _ => false,
+    }
+}
+
+/// Whether what a type is a subtype of has it.
+#[cycle(holding)]
+fn parent_holds(reader: &Reader<'_>, depth: usize, part: u32, parent: Option<u32>) -> bool
+    ensures { result ≡ holds_parent (has (here reader.now).known.table part depth) parent }
+{
+    match parent {
+        Some(of) => holds_within(reader, depth, part, of),
+        None => false,
+    }
+}
+
+/// Whether what a type is made of, or a subtype of, has it.
+#[cycle(holding)]
+fn holds_below(reader: &Reader<'_>, depth: usize, part: u32, of: u32) -> bool
+    ensures { result ≡ has_below (here reader.now).known.table part depth of }
+{
+    match reader.known.table.as_slice().get(of as usize) {
+        Some(info) => {
+            shape_holds(reader, depth, part, &info.shape)
+                || parent_holds(reader, depth, part, info.parent)
+        }
+        None => false,
+    }
+}
+
+/// Whether a type is `part` or has it in itself, looked at as deep as `depth`.
+#[cycle(holding)]
+#[tactic(auto, using(crate::proofs::Holding::has_none, crate::proofs::Holding::has_more))]
+fn holds_within(reader: &Reader<'_>, depth: usize, part: u32, of: u32) -> bool
+    ensures { result ≡ has (here reader.now).known.table part depth of }
+{
+    if depth == 0 {
+        return false;
+    }
+    reader.base(of) == part || holds_below(reader, depth - 1, part, of)
+}
+
+/// Whether a full type has its private type in itself.
+#[tactic(auto, unfolding(type_table::specs::Declarations::some_part))]
+fn holds_itself(reader: &Reader<'_>, number: u32) -> bool
+    ensures { result ≡ holds_itself (here reader.now).known.table number }
+{
+    holds_below(reader, reader.known.table.len(), number, number)
+}
+
+/// Whether a type is the full type of a private type.
+fn is_private(reader: &Reader<'_>, number: u32) -> bool
+    ensures { result ≡ not (is_none (info (here reader.now).known.table number).seen_in) }
+{
+    match reader.known.table.as_slice().get(number as usize) {
+        Some(info) => info.seen_in.is_some(),
+        None => false,
+    }
+}
+
+/// With the faults of the declaration of a type.
+#[tactic(auto, using(type_expressions::proofs::Noted::noted_append))]
+pub fn type_faults(
+    checker: &Checker<'_>,
+    found: Option<Fault>,
+    name: usize,
+    definition: usize,
+) -> Option<Fault>
+    requires name { name < length checker.now.rows.now.1 }
+    requires definition { definition < length checker.now.rows.now.1 }
+    ensures { result ≡ noted found (type_faults (context checker.now) (code_at checker.now.rows.now name) (code_at checker.now.rows.now definition)) }
+{
+    let reader = checker.reader();
+    let found = definition_faults(checker, found, definition);
+    let number = declared_number(&reader, name);
+    let holds = !is_private(&reader, number) || !holds_itself(&reader, number);
+    demand(found, 1, declared_pos(&reader, name), holds)
+}
+
+/// With the faults of a subtype without a constraint.
+pub fn renamed_faults(checker: &Checker<'_>, found: Option<Fault>, mark: Mark) -> Option<Fault>
+    ensures { result ≡ noted found (renamed_faults (context checker.now) mark) }
+{
+    let reader = checker.reader();
+    let is_complete = reader.is_complete(reader.marked(mark), mark.pos);
+    demand(
+        found,
+        1,
+        mark.pos,
+        reader.denotes_type(mark.decl) && is_complete,
+    )
+}
+
+/// Whether a value is one of a type.
+fn lies_within(reader: &Reader<'_>, parent: u32, e: usize) -> bool
+    requires { e < length reader.now.rows.now.0 }
+    ensures { result ≡ lies_within (here reader.now) parent (tree_at reader.now.rows.now e) }
+{
+    let (low, high) = bounds_of(reader.full(parent));
+    let value = i64::from(static_value(reader, e));
+    low <= value && value <= high
+}
+
+/// Whether a bound breaks no sentence by itself.
+#[tactic(auto, using(type_statements::proofs::Steps::none_noted))]
+fn is_bound(checker: &Checker<'_>, parent: u32, e: usize) -> bool
+    requires { e < length checker.now.rows.now.0 }
+    ensures { result ≡ is_nil (bound_faults (context checker.now) parent (tree_at checker.now.rows.now e)) }
+{
+    is_nothing(bound_faults(checker, None, parent, e))
+}
+
+/// Whether two bounds break no sentence by themselves.
+fn are_bounds(checker: &Checker<'_>, parent: u32, low: usize, high: usize) -> bool
+    requires low { low < length checker.now.rows.now.0 }
+    requires high { high < length checker.now.rows.now.0 }
+    ensures { result ≡ are_bounds (context checker.now) parent (tree_at checker.now.rows.now low) (tree_at checker.now.rows.now high) }
+{
+    is_bound(checker, parent, low) && is_bound(checker, parent, high)
+}
+
+/// With the faults of the bounds of a subtype, as values of its parent.
+#[tactic(auto, using(type_expressions::proofs::Noted::noted_append))]
+fn constraint_faults(
+    checker: &Checker<'_>,
+    found: Option<Fault>,
+    parent: u32,
+    low: usize,
+    high: usize,
+) -> Option<Fault>
+    requires low { low < length checker.now.rows.now.0 }
+    requires high { high < length checker.now.rows.now.0 }
+    ensures { result ≡ noted found (constraint_faults (context checker.now) parent (tree_at checker.now.rows.now low) (tree_at checker.now.rows.now high)) }
+{
+    let reader = checker.reader();
+    let is_empty = static_value(&reader, high) < static_value(&reader, low);
+    if !are_bounds(checker, parent, low, high) || is_empty {
+        return found;
+    }
+    let holds = lies_within(&reader, parent, low);
+    let found = demand(found, 7, reader.position(low), holds);
+    let holds = lies_within(&reader, parent, high);
+    demand(found, 7, reader.position(high), holds)
+}
+
+/// With the faults of a subtype with bounds of its own.
+#[tactic(auto, using(type_expressions::proofs::Noted::noted_append))]
+pub fn subtype_faults(
+    checker: &Checker<'_>,
+    found: Option<Fault>,
+    mark: Mark,
+    low: usize,
+    high: usize,
+) -> Option<Fault>
+    requires low { low < length checker.now.rows.now.0 }
+    requires high { high < length checker.now.rows.now.0 }
+    ensures { result ≡ noted found (subtype_faults (context checker.now) mark (tree_at checker.now.rows.now low) (tree_at checker.now.rows.now high)) }
+{
+    let found = scalar_mark(checker, found, mark);
+    let parent = checker.reader().marked(mark);
+    let found = bound_faults(checker, found, parent, low);
+    let found = bound_faults(checker, found, parent, high);
+    constraint_faults(checker, found, parent, low, high)
+}

@@ -1,0 +1,91 @@
+-- What a refusal says of the faults of a program.
+use Rattle.std.proofs.Common.{◌≡◌, ℕ, List, map, length, Option, None, Some, Result, Ok, Err, refl, sym, ap, ◌∙◌, subst}
+use Rattle.std.specs.List.{flat_map}
+use Rattle.std.specs.Coded.{Coded, code_by, coded×, coded_list, coded_ℕ}
+use Rattle.ada_tree.specs.declared.unit.SourceUnit.{SourceUnit}
+use Rattle.name_events.specs.declared.declaration.Identified.{Identified}
+use Rattle.name_events.specs.Denotes.{decl_infos}
+use Rattle.name_events.specs.Identified.{identified}
+use Rattle.resolved_tree.specs.Trees.{Code, Program}
+use Rattle.tree_lowering.specs.Lowered.{lowered_files}
+use Rattle.type_table.specs.declared.judgement.Fault.{Fault}
+use Rattle.type_table.specs.declared.table.Known.{Known}
+use Rattle.type_table.specs.declared.table.Made.{Made}
+use Rattle.type_table.specs.declared.refusal.TypeRefusal.{TypeRefusal}
+use Rattle.type_table.specs.declared.refusal.TypeRefusal.TheVariants.{TooLarge, TooManyParts, NoElements, WrongType, NotVariable, WrongProfile, BadChoices, OwningPlace, AnonymousPlace, NotStatic, PackageValue, Memory}
+use Rattle.type_table.specs.Faults.{first, noted}
+use Rattle.type_table.specs.Refusals.{Judges, Says, refusal_of, size_refusal, sentence_refusal}
+use Rattle.type_table.specs.Whole.{TypeFault, Size, Sentence, all_made, decided, fault_known, known_of, made_faults, sentence_faults, type_fault, type_sizes}
+use Rattle.type_rules.specs.Programs.{program_of, sentence_fault}
+
+says : (r : TypeRefusal) (fault : TypeFault) → r ≡ refusal_of fault → Says r (Some fault)
+says (TooLarge p) fault is = is
+says (TooManyParts p) fault is = is
+says (NoElements p) fault is = is
+says (WrongType p) fault is = is
+says (NotVariable p) fault is = is
+says (WrongProfile p) fault is = is
+says (BadChoices p) fault is = is
+says (OwningPlace p) fault is = is
+says (AnonymousPlace p) fault is = is
+says (NotStatic p) fault is = is
+says (PackageValue p) fault is = is
+says Memory fault is = tt
+
+-- the first type that exceeds a limit
+first_size : (known : Known) (units : List Code) (made : List Made) (found : Option Fault) → made ≡ all_made known units
+    → found ≡ noted None (flat_map (made_faults known.table made) made) → first (type_sizes known units) ≡ found
+unfolding type_sizes
+first_size known units made found is sized =
+    ap (λ (m : List Made). noted None (flat_map (made_faults known.table m) m)) (sym is) ∙ sym sized
+
+pub size_said : (known : Known) (units : List Code) (made : List Made) (found : Option Fault) (fault : Fault) (r : TypeRefusal) → made ≡ all_made known units
+    → found ≡ noted None (flat_map (made_faults known.table made) made) → found ≡ Some fault → r ≡ size_refusal fault.code fault.pos
+    → Says r (fault_known known units)
+size_said known units made found fault r is sized some refused =
+    subst (λ (f : Option Fault). Says r (decided f (first (sentence_faults known units)))) (sym (first_size known units made found is sized ∙ some))
+    (says r (Size fault) refused)
+
+-- no type exceeds a limit
+pub sentence_judged : {A : Type 0} (known : Known) (units : List Code) (made : List Made) (found : Option Fault) (r : Result A TypeRefusal)
+    → made ≡ all_made known units → found ≡ noted None (flat_map (made_faults known.table made) made) → found ≡ None
+    → Judges r (sentence_fault known units) → Judges r (fault_known known units)
+sentence_judged {A} known units made found r is sized none judged =
+    subst (λ (f : Option Fault). Judges r (decided f (first (sentence_faults known units)))) (sym (first_size known units made found is sized ∙ none)) judged
+
+-- the first broken sentence
+pub sentence_said : (known : Known) (units : List Code) (found : Option Fault) (fault : Fault) (r : TypeRefusal) → found ≡ noted None (sentence_faults known units)
+    → found ≡ Some fault → r ≡ sentence_refusal fault.code fault.pos → Says r (sentence_fault known units)
+sentence_said known units found fault r is some refused =
+    subst (λ (f : Option Fault). Says r (decided None f)) (sym (sym is ∙ some)) (says r (Sentence fault) refused)
+
+pub no_sentence : (known : Known) (units : List Code) (found : Option Fault) → found ≡ noted None (sentence_faults known units) → found ≡ None
+    → sentence_fault known units ≡ None
+no_sentence known units found is none = ap (λ (f : Option Fault). decided None f) (sym is ∙ none)
+
+-- the program of the files
+abbrev with_units : ℕ → List Code → Program
+with_units count units = record { count = count; units = units }
+
+program_is : (files : List (List SourceUnit)) (units : List Code) (count : ℕ) (numbers : List Identified) → units ≡ lowered_files numbers files
+    → count ≡ length (decl_infos files) → numbers ≡ identified files → with_units count units ≡ program_of files
+program_is files units count numbers lowered counted numbered =
+    ap (with_units count) (lowered ∙ ap (λ (n : List Identified). lowered_files n files) numbered)
+    ∙ ap (λ (n : ℕ). with_units n (lowered_files (identified files) files)) counted
+
+pub files_judged : {A : Type 0} (r : Result A TypeRefusal) (files : List (List SourceUnit)) (known settled : Known) (units : List Code) (count : ℕ)
+    (numbers : List Identified) → Judges r (fault_known settled units) → settled ≡ known → known ≡ known_of (with_units count units)
+    → units ≡ lowered_files numbers files → count ≡ length (decl_infos files) → numbers ≡ identified files → Judges r (type_fault (program_of files))
+unfolding type_fault
+files_judged {A} r files known settled units count numbers judged same gathered lowered counted numbered =
+    let program : with_units count units ≡ program_of files = program_is files units count numbers lowered counted numbered in
+    let here : Judges r (type_fault (with_units count units)) =
+    subst (λ (k : Known). Judges r (fault_known k units)) (same ∙ gathered) judged in
+    subst (λ (p : Program). Judges r (type_fault p)) program here
+
+-- lists of identifiers with their declarations are told apart by their numbers
+pub identified_code : Coded (List Identified)
+identified_code =
+    coded_list (code_by ((ℕ × (ℕ × ℕ)) × ℕ) (coded× (coded× coded_ℕ (coded× coded_ℕ coded_ℕ)) coded_ℕ)
+    (λ i. ((i.pos.file, (i.pos.line, i.pos.column)), i.number))
+    (λ p. record { pos = record { file = p.0.0; line = p.0.1.0; column = p.0.1.1 }; number = p.1 }) (λ _. refl))

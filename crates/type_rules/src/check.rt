@@ -1,0 +1,69 @@
+//! The first broken sentence on types.
+ghost use Rattle.std.specs.Prelude.{◌≡◌, ◌<◌, All, length, map};
+ghost use Rattle.name_resolve.specs.Inputs.{trees_of};
+ghost use Rattle.resolved_tree.specs.Nodes.{code_at};
+ghost use Rattle.type_expressions.specs.Around.{context};
+ghost use Rattle.type_table.specs.Refusals.{Judges};
+ghost use Rattle.type_table.specs.Whole.{fault_known, outside, type_fault};
+ghost use Rattle.type_rules.specs.Programs.{program_of, sentence_fault};
+
+use crate::refused::{sentence_refusal, size_refusal};
+use expression_lowering::NumberIndex;
+use name_resolve::Resolved;
+use resolved_tree::Rows;
+use std::alloc::Global;
+use tree_lowering::lower;
+use type_declarations::{all_made, sentence_faults};
+use type_expressions::Checker;
+use type_gather::gather;
+use type_settled::{Settled, sizes};
+use type_table::TypeRefusal;
+
+/// Whether the files break a sentence on types: the first one, Y1 to Y3 before K1 to K8, and in the
+/// order of the text.
+pub fn check_types(alloc: Global, resolved: &Resolved) -> Result<(), TypeRefusal>
+    ensures { Judges result (type_fault (program_of (trees_of resolved.now.files.items))) }
+{
+    let numbers = NumberIndex::new(alloc, &resolved.identified)?;
+    let mut rows = Rows::new(alloc);
+    let lowered = lower(alloc, &numbers, &resolved.files, &mut rows)?;
+    let units = lowered.as_slice();
+    let decls = resolved.decls.as_slice();
+    let known = gather(alloc, &rows, units, decls.len())?;
+    let settled = Settled::new(alloc, known)?;
+    let checker = Checker {
+        rows: &rows,
+        settled: &settled,
+        home: None,
+        within: None,
+        sub: None,
+        in_loop: false,
+        starts: false,
+    };
+    check_code(alloc, &checker, units)
+}
+
+/// The first broken sentence of units, Y1 to Y3 before K1 to K8.
+fn check_code(alloc: Global, checker: &Checker<'_>, units: &[usize]) -> Result<(), TypeRefusal>
+    requires outside { context checker.now ≡ outside (context checker.now).known }
+    requires units { All (λ u. u < length checker.now.rows.now.1) units.now }
+    ensures { Judges result (fault_known (context checker.now).known (map (code_at checker.now.rows.now) units.now)) }
+{
+    let made = all_made(alloc, checker, units)?;
+    match sizes(alloc, checker.settled, made.as_slice(), None)? {
+        Some(fault) => Err(size_refusal(fault.code, fault.pos)),
+        None => check_sentences(alloc, checker, units),
+    }
+}
+
+/// The first of K1 to K8 that units break.
+fn check_sentences(alloc: Global, checker: &Checker<'_>, units: &[usize]) -> Result<(), TypeRefusal>
+    requires outside { context checker.now ≡ outside (context checker.now).known }
+    requires units { All (λ u. u < length checker.now.rows.now.1) units.now }
+    ensures { Judges result (sentence_fault (context checker.now).known (map (code_at checker.now.rows.now) units.now)) }
+{
+    match sentence_faults(alloc, checker, None, units)? {
+        Some(fault) => Err(sentence_refusal(fault.code, fault.pos)),
+        None => Ok(()),
+    }
+}

@@ -1,0 +1,14 @@
+//! The first broken sentence on types of a program, or that it breaks none.
+//!
+//! `check_types` takes files whose names have a meaning. It makes the small trees of their code
+//! (`tree_lowering`), gathers what their declarations are (`type_gather`), and then goes over all
+//! types for Y1 to Y3 (`type_settled`) and over all code for K1 to K8 (`type_statements`). The
+//! definitions of both are those of `type_table`; `docs/LANGUAGE.md`, "Types", says them in words.
+//! Time and memory: each pass visits each tree a bounded number of times; `docs/COSTS.md` names what
+//! isn't linear.
+#![tactic(auto)]
+
+mod check;
+mod refused;
+
+pub use check::check_types;

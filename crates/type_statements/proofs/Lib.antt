@@ -1,0 +1,5 @@
+pub mod Calls
+pub mod Taken
+pub mod Whole
+pub mod Gaps
+pub mod Steps

@@ -1,0 +1,3 @@
+package P is
+X : Integer;
+end P;
