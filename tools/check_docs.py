@@ -115,14 +115,14 @@ def faults_of_links(pages):
                 yield "%s: no heading %s" % (at, target)
     for path in sorted(DATA.glob("*/*")):
         if path not in linked:
-            yield "%s: no page links to this example" % path.relative_to(TOP)
+            yield "%s: no page links to this example or table" % path.relative_to(TOP)
 
 
 def counted():
     """How many there are of what a page may count."""
     crates = [line for line in (TOP / "crates.txt").read_text().splitlines() if re.match(r"\w+:", line)]
     return {
-        "examples": len(list(DATA.glob("*/*"))),
+        "examples": len(list(DATA.glob("*/*.adb"))),
         "wrong bodies": len(list(TOP.glob("crates/*/must-fail/*.edit"))),
         "crates": len(crates),
     }

@@ -1,41 +1,41 @@
 #!/usr/bin/env python3
-"""Compiles with GNAT the sources of the tests of typing that break no rule, and prints those that it refuses.
+"""Compiles with GNAT the sources of the tables that break no rule of typing, and prints those that it refuses.
 
     python3 tools/typing_rows.py            ends with 1 where GNAT refuses one, or accepts one that a comment calls no Ada
 
-The sources are the last text of each row of three texts in the tables of crates/tool_tests/src, of the files below.
-A row behind a comment `// not Ada: ..` is a source that differs from Ada as LANGUAGE.md says; GNAT has to refuse it.
+The sources are the rows with the last line `> typed` of the tables in crates/spark_examples/data/tables.
+A row right below a line `-- not Ada: ..` is a source that differs from Ada as LANGUAGE.md says; GNAT has to refuse it.
 gnatchop cuts a source into its units. With GNAT 12: gcc -c -gnatc -gnat12.
 """
 import pathlib
-import re
 import subprocess
 import sys
 import tempfile
 
 TOP = pathlib.Path(__file__).resolve().parent.parent
-TABLES = TOP / "crates" / "tool_tests" / "src"
-FILES = [
-    "marks_and_operators.rt",
-    "names_and_demands.rt",
-    "variables_and_profiles.rt",
-    "choices_and_owning.rt",
-    "access_and_static.rt",
-    "sizes_of_types.rt",
-]
-TEXT = r'"((?:[^"\\]|\\.)*)"'
-ROW = re.compile(r"(?P<differs>// not Ada: [^\n]*\n\s*)?\(\s*%s,\s*%s,\s*%s,?\s*\)," % (TEXT, TEXT, TEXT))
+TABLES = TOP / "crates" / "spark_examples" / "data" / "tables"
+
+
+def rows(text):
+    """The lines of each row, the comment right above them, and its last line without the mark."""
+    lines, above = [], ""
+    for line in text.splitlines():
+        if line.startswith("> "):
+            yield lines, above, line[2:]
+            lines, above = [], ""
+        elif lines or not (line == "" or line.startswith("--")):
+            lines.append(line)
+        else:
+            above = line
 
 
 def sources():
-    """Each file, the source near a broken one, and whether a comment says that it is no Ada."""
-    for name in FILES:
-        text = (TABLES / name).read_text()
-        tables = re.findall(r"^const \w+: \[\(&str, &str, &str\); (\d+)\]", text, re.M)
-        rows = list(ROW.finditer(text))
-        assert len(rows) == sum(map(int, tables)), name
-        for row in rows:
-            yield name, row[4].encode().decode("unicode_escape"), bool(row["differs"])
+    """Each table, a source in it that breaks no rule of typing, and whether a comment says that it is no Ada."""
+    for table in sorted(TABLES.glob("*.txt")):
+        for lines, above, wanted in rows(table.read_text()):
+            if wanted == "typed":
+                assert not any(line.startswith(("== ", "$ ")) for line in lines), lines
+                yield table.name, "\n".join(lines), above.startswith("-- not Ada: ")
 
 
 def refusal(source):

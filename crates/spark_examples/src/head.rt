@@ -46,7 +46,7 @@ impl<T: Drop> From<AllocFailed<T>> for HeadFault {
 }
 
 /// What stands behind a front, where the bytes begin with it.
-fn behind<'t>(bytes: &'t [u8], front: &[u8]) -> Option<&'t [u8]>
+pub(crate) fn behind<'t>(bytes: &'t [u8], front: &[u8]) -> Option<&'t [u8]>
     ensures { MatchOption result ((rest : List ℕ) → bytes.now ≢ front.now ++ rest) (λ rest. bytes.now ≡ front.now ++ rest.now) }
 {
     bytes.strip_prefix(front)
@@ -65,7 +65,7 @@ fn value_of<'t>(entry: &'t [u8], key: &[u8]) -> Option<&'t [u8]>
 }
 
 /// Adds a line and its line feed.
-fn add_line(text: &mut Vec<u8>, line: &[u8]) -> Result<(), AllocError>
+pub(crate) fn add_line(text: &mut Vec<u8>, line: &[u8]) -> Result<(), AllocError>
     ensures { OnOk result (text.new.items ≡ text.old.items ++ line.now ++ 10 ∷ []) }
 {
     text.extend_from_slice(line)?;
@@ -74,7 +74,7 @@ fn add_line(text: &mut Vec<u8>, line: &[u8]) -> Result<(), AllocError>
 }
 
 /// The words of a command, with a blank between two.
-fn words_of(alloc: Global, command: &[u8]) -> Result<Vec<String>, HeadFault> {
+pub(crate) fn words_of(alloc: Global, command: &[u8]) -> Result<Vec<String>, HeadFault> {
     let mut words = Vec::new(alloc);
     if command.is_empty() {
         return Ok(words);

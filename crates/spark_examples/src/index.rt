@@ -1,4 +1,4 @@
-//! Which examples there are.
+//! Which examples and tables there are.
 use std::io::ErrorKind;
 use std::{fs, io};
 
@@ -27,6 +27,14 @@ pub(crate) fn example_paths(rt: &HostRuntime) -> io::Result<Vec<String>> {
     'folders: for folder in FOLDERS {
         add_folder(rt, folder, &mut paths)?;
     }
+    paths.sort()?;
+    Ok(paths)
+}
+
+/// The paths of all tables, as `tables/names.txt`, sorted by their bytes.
+pub(crate) fn table_paths(rt: &HostRuntime) -> io::Result<Vec<String>> {
+    let mut paths = Vec::new(rt.alloc());
+    add_folder(rt, "tables", &mut paths)?;
     paths.sort()?;
     Ok(paths)
 }

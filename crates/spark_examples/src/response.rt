@@ -1,4 +1,4 @@
-//! How the tool responds to the command of an example, over files in memory.
+//! How the tool responds to the command of an example or of a row, over files in memory.
 ghost use Rattle.std.specs.Prelude.{◌≡◌, ◌↔◌, IsTrue, IfOk, map, string_bytes};
 ghost use Rattle.spark_base.specs.MemSinks.{sink_bytes};
 
@@ -39,15 +39,13 @@ fn copy_words(alloc: Global, words: &[String]) -> Result<Vec<String>, AllocError
     Ok(copy)
 }
 
-/// Runs the command of an example. The store has one file: the example, under its bare name.
+/// Runs the command of a head, over a store with these files.
 pub(crate) fn response_to(
     alloc: Global,
     head: &Head,
-    name: &str,
-    text: Vec<u8>,
+    files: Vec<(String, Vec<u8>)>,
 ) -> Result<Response, AllocError> {
     let words = copy_words(alloc, &head.words)?;
-    let files = vec![in alloc; (String::from_str(alloc, name)?, text)]?;
     let mut store = MemFiles::new(words, files, Vec::new(alloc));
     let mut input = MemSource::new(Vec::from_slice(alloc, &head.input)?, Vec::new(alloc));
     let mut out = MemSink::new(alloc, Vec::new(alloc));

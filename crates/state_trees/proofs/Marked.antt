@@ -1,5 +1,5 @@
 -- A search among the facts that are marked, and what each of them gives.
-use Rattle.std.proofs.Common.{◌≡◌, refl, ap, ℕ, zero, suc, ◌<◌, Bool, true, false, ◌&&◌, ◌||◌, List, [], ◌∷◌, zip, map, length, get_or, Option, Some, None, if◌then◌else◌, arith}
+use Rattle.std.proofs.Common.{◌≡◌, refl, ap, ℕ, zero, suc, ◌<◌, Bool, true, false, ◌&&◌, ◌||◌, List, [], ◌∷◌, zip, map, length, get_or, Option, None, if◌then◌else◌, arith}
 use Rattle.std.specs.List.{list_any}
 use Rattle.place_names.specs.declared.fact.Fact.{Fact}
 use Rattle.place_names.specs.Rules.{Forbidden}

@@ -1,6 +1,6 @@
 -- What may hold and what may not hold of the facts of a list, over some control paths
 -- (docs/RULES.md, "Facts").
-use Rattle.std.specs.Prelude.{◌≡◌, ◌≤◌, ℕ, suc, ◌+◌, Bool, true, false, not, ◌&&◌, ◌||◌, List, [], ◌∷◌, map, length, replicate, get_or}
+use Rattle.std.specs.Prelude.{◌≡◌, ◌≤◌, ℕ, suc, ◌+◌, Bool, true, false, not, ◌||◌, List, [], ◌∷◌, map, length, replicate, get_or}
 use Rattle.std.specs.List.{list_any}
 use Rattle.place_names.specs.declared.fact.Fact.{Fact}
 use Rattle.place_names.specs.declared.act.Act.{Act}

@@ -2,7 +2,8 @@
 //!
 //! They stand in a crate of their own, so that the library isn't proved a second time for its
 //! tests. Each expected answer was worked out by hand from `docs/TOOL.md` and `docs/LANGUAGE.md`;
-//! more of them stand in the heads of the examples. Nothing here is for other crates.
+//! more of them stand in the examples and tables of `spark_examples`. Nothing here is for other
+//! crates.
 #![tactic(auto)]
 
 #[cfg(test)]
@@ -11,10 +12,6 @@ mod command;
 mod faults;
 #[cfg(test)]
 mod limits;
-#[cfg(test)]
-mod names;
-#[cfg(test)]
-mod names_of_files;
 #[cfg(test)]
 mod prefixes;
 #[cfg(test)]

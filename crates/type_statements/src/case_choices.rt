@@ -198,13 +198,18 @@ fn chosen_type(reader: &Reader<'_>, e: usize) -> u32
 }
 
 /// Whether these leave out a value that the choices have to cover.
-fn leaves_gap(reader: &Reader<'_>, e: usize, covers: &[Cover]) -> bool
+fn leaves_gap(
+    alloc: Global,
+    reader: &Reader<'_>,
+    e: usize,
+    covers: &[Cover],
+) -> Result<bool, AllocError>
     requires { e < length reader.now.rows.now.0 }
     ensures { let bounds = bounds_of (full (here reader.now).known.table (chosen_type (here reader.now) (tree_at reader.now.rows.now e)))
-        in result ≡ has_gap bounds.0 bounds.1 covers.now }
+        in IfOk result (λ gap. gap ≡ has_gap bounds.0 bounds.1 covers.now) }
 {
     let (low, high) = bounds_of(reader.full(chosen_type(reader, e)));
-    has_gap(low, high, covers)
+    Ok(has_gap(alloc, low, high, covers)?)
 }
 
 /// Whether what an expression is by itself is known to be scalar.
@@ -229,19 +234,21 @@ fn is_chosen(checker: &Checker<'_>, e: usize) -> bool
 /// With the faults of choices that are all taken.
 #[tactic(auto, using(type_expressions::proofs::Noted::noted_append))]
 fn taken_faults(
+    alloc: Global,
     checker: &Checker<'_>,
     found: Option<Fault>,
     pos: Pos,
     selector: usize,
     choices: &Choices,
-) -> Option<Fault>
+) -> Result<Option<Fault>, AllocError>
     requires { selector < length checker.now.rows.now.0 }
-    ensures { result ≡ noted found (taken_faults (context checker.now) pos (tree_at checker.now.rows.now selector) choices.now) }
+    ensures { IfOk result (λ first. first ≡ noted found (taken_faults (context checker.now) pos (tree_at checker.now.rows.now selector) choices.now)) }
 {
-    let found = doubled(found, choices.covers.as_slice());
-    let is_covered = !leaves_gap(&checker.reader(), selector, choices.covers.as_slice());
+    let covers = choices.covers.as_slice();
+    let found = doubled(alloc, found, covers)?;
+    let is_covered = !leaves_gap(alloc, &checker.reader(), selector, covers)?;
     let holds = choices.has_others || !choices.are_sound || is_covered;
-    demand(found, 4, pos, holds)
+    Ok(demand(found, 4, pos, holds))
 }
 
 /// With the faults of the choices of a `case` as a whole: none covers a value of one before it, and
@@ -266,5 +273,5 @@ pub fn coverage(
     let of = type_or_integer(checker.reader().own_type(selector));
     let mut choices = Choices::new(alloc);
     choices.add_alternatives(checker, of, alternatives)?;
-    Ok(taken_faults(checker, found, pos, selector, &choices))
+    Ok(taken_faults(alloc, checker, found, pos, selector, &choices)?)
 }

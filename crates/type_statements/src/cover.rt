@@ -1,8 +1,17 @@
 //! The values that choices cover: which are doubled, and which are left out.
-ghost use Rattle.std.specs.Prelude.{◌≡◌, [], pos, ◌+ℤ◌};
-ghost use Rattle.type_table.specs.Faults.{noted};
-ghost use Rattle.type_table.specs.Statements.{any_covers, any_meets, bounds_of, doubled, gap_at, has_gap, meets};
+//!
+//! Choices are sorted by their low ends, so that n of them take n log n steps, and n log² n where a
+//! value is doubled.
+ghost use Rattle.std.specs.Prelude.{◌≡◌, ◌<◌, ◌≤◌, [], length, take, pos, ◌+ℤ◌, int_le, true, IfOk, IsPermutation};
+ghost use Rattle.std.specs.List.Sorted.{IsSortedByKey};
+ghost use Rattle.std.specs.Ordering.{int_cmp};
+ghost use Rattle.type_table.specs.declared.judgement.Cover.{Cover};
+ghost use Rattle.type_table.specs.Faults.{is_before, noted};
+ghost use Rattle.type_table.specs.Statements.{any_meets, bounds_of, covers, doubled, has_gap, meets};
+ghost use Rattle.type_statements.specs.Sweep.{has_values, is_first, leads, overlap, past, reach};
 
+use spark_base::Pos;
+use std::alloc::{AllocError, Global};
 use type_settled::demand;
 use type_table::{Cover, Fault, View};
 
@@ -39,8 +48,9 @@ fn any_meets(k: Cover, before: &[Cover]) -> bool
     false
 }
 
-/// With a fault at each choice that has a value of one before it.
-pub fn doubled(found: Option<Fault>, covers: &[Cover]) -> Option<Fault>
+/// With a fault at each choice that has a value of one before it: each is compared with all of
+/// those, which takes n² steps for n choices. No text leads here, since its choices stand in order.
+fn compared(found: Option<Fault>, covers: &[Cover]) -> Option<Fault>
     ensures { result ≡ noted found (doubled [] covers.now) }
 {
     let mut found = found;
@@ -51,23 +61,15 @@ pub fn doubled(found: Option<Fault>, covers: &[Cover]) -> Option<Fault>
     found
 }
 
-/// Whether some choice covers a value.
-fn any_covers(covers: &[Cover], value: i64) -> bool
-    ensures { result ≡ any_covers covers.now value }
+/// The choices in the order of their low ends.
+fn by_low(alloc: Global, covers: &[Cover]) -> Result<Vec<Cover>, AllocError>
+    ensures permutation { IfOk result (λ sorted. IsPermutation covers.now sorted.items) }
+    ensures sorted { IfOk result (λ sorted. IsSortedByKey (λ (k : Cover). k.low) int_cmp sorted.items) }
 {
-    'covers: for cover in covers {
-        if i64::from(cover.low) <= value && value <= i64::from(cover.high) {
-            return true;
-        }
-    }
-    false
-}
-
-/// Whether a value within the bounds is left out.
-fn gap_at(low: i64, high: i64, covers: &[Cover], value: i64) -> bool
-    ensures { result ≡ gap_at low high covers.now value }
-{
-    low <= value && value <= high && !any_covers(covers, value)
+    let mut sorted = Vec::new(alloc);
+    sorted.extend_from_slice(covers)?;
+    sorted.sort_unstable_by_key(|cover| cover.low);
+    Ok(sorted)
 }
 
 /// The value right behind a choice.
@@ -77,18 +79,162 @@ fn behind(cover: Cover) -> i64
     i64::from(cover.high) + 1
 }
 
-/// Whether a value between the bounds is left out: the low bound, or one right behind a choice.
-#[tactic(auto, unfolding(type_table::specs::Statements::has_gap))]
-pub fn has_gap(low: i64, high: i64, covers: &[Cover]) -> bool
-    ensures { result ≡ has_gap low high covers.now }
+/// Whether a choice covers a value.
+fn covers(value: i64, cover: Cover) -> bool
+    ensures { result ≡ covers value cover }
 {
-    if gap_at(low, high, covers, low) {
-        return true;
+    i64::from(cover.low) <= value && value <= i64::from(cover.high)
+}
+
+/// The first value that isn't covered, behind one more choice.
+fn past(value: i64, cover: Cover) -> i64
+    ensures { result ≡ past value cover }
+{
+    if covers(value, cover) {
+        behind(cover)
+    } else {
+        value
     }
-    'covers: for cover in covers {
-        if gap_at(low, high, covers, behind(*cover)) {
-            return true;
+}
+
+/// The first value, from a low one on, that choices don't cover, where they stand in the order of
+/// their low ends.
+fn reach(low: i64, sorted: &[Cover]) -> i64
+    ensures { result ≡ reach low sorted.now }
+{
+    let mut value = low;
+    'covers: for cover in sorted {
+        value = past(value, *cover);
+    }
+    value
+}
+
+/// Whether choices in order leave out a value between the bounds.
+fn leaves_out(low: i64, high: i64, sorted: &[Cover]) -> bool
+    ensures { result ≡ int_le (reach low sorted.now) high }
+{
+    reach(low, sorted) <= high
+}
+
+/// Whether a value between the bounds is left out.
+pub fn has_gap(alloc: Global, low: i64, high: i64, covers: &[Cover]) -> Result<bool, AllocError>
+    ensures { IfOk result (λ gap. gap ≡ has_gap low high covers.now) }
+{
+    let sorted = by_low(alloc, covers)?;
+    Ok(leaves_out(low, high, sorted.as_slice()))
+}
+
+/// Whether a choice has values.
+fn has_values(cover: Cover) -> bool
+    ensures { result ≡ has_values cover }
+{
+    cover.low <= cover.high
+}
+
+/// Whether a choice begins before a value, or before the end of the one in front of it.
+fn overlap(from: i64, sorted: &[Cover]) -> bool
+    ensures { result ≡ overlap from sorted.now }
+{
+    let mut from = from;
+    'covers: for cover in sorted {
+        if has_values(*cover) {
+            if i64::from(cover.low) < from {
+                return true;
+            }
+            from = behind(*cover);
         }
     }
     false
+}
+
+/// Whether choices have no value in common.
+fn are_apart(alloc: Global, covers: &[Cover]) -> Result<bool, AllocError>
+    ensures { IfOk result (λ apart. apart ≡ true → doubled [] covers.now ≡ []) }
+{
+    let sorted = by_low(alloc, covers)?;
+    Ok(!overlap(i64::from(i32::MIN), sorted.as_slice()))
+}
+
+/// How many choices at the front have no value in common. The first that is doubled stands behind
+/// them, and is looked for by halves.
+fn count_apart(alloc: Global, covers: &[Cover]) -> Result<usize, AllocError>
+    ensures within { IfOk result (λ count. count ≤ length covers.now) }
+    ensures apart { IfOk result (λ count. doubled [] (take count covers.now) ≡ []) }
+{
+    if are_apart(alloc, covers)? {
+        return Ok(covers.len());
+    }
+    let mut low = 0;
+    let mut high = covers.len();
+    'halves: while high - low > 1 {
+        let middle = low + (high - low) / 2;
+        if are_apart(alloc, &covers[..middle])? {
+            low = middle;
+        } else {
+            high = middle;
+        }
+    }
+    Ok(low)
+}
+
+/// Whether one position is before another.
+fn is_before(p: Pos, q: Pos) -> bool
+    ensures { result ≡ is_before p q }
+{
+    p.file < q.file
+        || (p.file == q.file && (p.line < q.line || (p.line == q.line && p.column < q.column)))
+}
+
+/// Whether a fault stands before each of the choices.
+fn leads(fault: Fault, covers: &[Cover]) -> bool
+    ensures { result ≡ leads fault covers.now }
+{
+    'covers: for cover in covers {
+        if !is_before(fault.pos, cover.at) {
+            return false;
+        }
+    }
+    true
+}
+
+/// Whether a fault is found, and stands before each of the choices.
+fn is_first(found: Option<Fault>, covers: &[Cover]) -> bool
+    ensures { result ≡ is_first found covers.now }
+{
+    match found {
+        Some(fault) => leads(fault, covers),
+        None => false,
+    }
+}
+
+/// With a fault at each choice that has a value of one before it, where those at the front have
+/// none. In a text the first of them is the first fault, since the others stand behind it.
+fn doubled_from(found: Option<Fault>, count: usize, covers: &[Cover]) -> Option<Fault>
+    requires within { count < length covers.now }
+    requires apart { doubled [] (take count covers.now) ≡ [] }
+    ensures { result ≡ noted found (doubled [] covers.now) }
+{
+    let cover = covers[count];
+    let first = demand(found, 4, cover.at, !any_meets(cover, &covers[..count]));
+    if is_first(first, &covers[count + 1..]) {
+        first
+    } else {
+        compared(found, covers)
+    }
+}
+
+/// With a fault at each choice that has a value of one before it.
+pub fn doubled(
+    alloc: Global,
+    found: Option<Fault>,
+    covers: &[Cover],
+) -> Result<Option<Fault>, AllocError>
+    ensures { IfOk result (λ first. first ≡ noted found (doubled [] covers.now)) }
+{
+    let count = count_apart(alloc, covers)?;
+    if count < covers.len() {
+        Ok(doubled_from(found, count, covers))
+    } else {
+        Ok(found)
+    }
 }

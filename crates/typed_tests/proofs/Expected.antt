@@ -11,7 +11,7 @@ use Rattle.typed_tree.specs.declared.node.ShortCircuit.TheVariants as short
 use Rattle.typed_tree.specs.declared.object.Object.{Object}
 use Rattle.typed_tree.specs.declared.object.ObjectKind.{ObjectKind}
 use Rattle.typed_tree.specs.declared.object.ObjectKind.TheVariants as kind
-use Rattle.typed_tree.specs.Trees.{TypedTree, TypedCode, Number, Literal, Null, Text, Name, Component, Designated, Element, Call, EndOfFile, Image, Unary, Binary, Short, IsNull, Aggregate, Alike, New, NoMore, More, Declare, Assign, Skip, Output, Input, Release, If, Branch, Case, Interval, Others, When, Loop, While, For, Exit, Return, Block}
+use Rattle.typed_tree.specs.Trees.{TypedTree, TypedCode, Number, Literal, Null, Text, Name, Component, Designated, Element, Call, EndOfFile, Parens, Image, Unary, Binary, Short, IsNull, Aggregate, Alike, New, NoMore, More, Declare, Assign, Skip, Output, Input, Release, If, Branch, Case, Interval, Others, When, Loop, While, For, Exit, Return, Block}
 use Rattle.typed_tree.specs.Programs.{TypedSub, TypedProgram}
 use Rattle.typed_tests.proofs.ResolvedTrees.{at, at1, at2}
 
@@ -186,7 +186,7 @@ blocks =
     -- the first token of the right operand is a parenthesis
     Exit (at 11 1) (one (Short short.AndThen
     (at 11 11) (Binary operator.Equal (whole (at 11 11) 1 integer) (Number (pos 5)))
-    (at 11 26) (Binary operator.NotEqual (whole (at 11 27) 1 integer) (Number (pos 4)))))
+    (at 11 26) (Binary operator.NotEqual (Parens (whole (at 11 27) 1 integer)) (Number (pos 4)))))
     ∷ If (all_of (
     Branch (at 12 1) (Binary operator.Less (whole (at 12 4) 1 integer) (Number (pos 3))) (all_of (Return (at 12 15) NoMore ∷ []))
     ∷ Branch (at 12 23) (Binary operator.GreaterEqual (whole (at 12 29) 1 integer) (Number (pos 7)))
@@ -273,8 +273,8 @@ parts =
     ∷ Declare (at 9 1) 2 (one (Literal 1))
     ∷ Declare (at 10 1) 3 (one (New 21 (one (Alike 21 (Number (pos 0))))))
     ∷ Declare (at 11 1) 4 (one (Binary operator.Xor (IsNull false (whole (at 11 24) 3 22))
-    (Unary unary.Not (Binary operator.Equal (whole (at 11 35) 2 16) (Literal 2)))))
-    ∷ Declare (at 12 1) 5 (one (Binary operator.Modulo (Unary unary.Abs (Unary unary.Minus (Number (pos 3)))) (Number (pos 2))))
+    (Unary unary.Not (Parens (Binary operator.Equal (whole (at 11 35) 2 16) (Literal 2))))))
+    ∷ Declare (at 12 1) 5 (one (Binary operator.Modulo (Unary unary.Abs (Parens (Unary unary.Minus (Number (pos 3))))) (Number (pos 2))))
     ∷ Assign (at 14 1)
     (Name (at 14 1) 1 (Element (whole (at 14 4) 5 integer) (pos 1) (pos 2) (Component 0 (Element
     (Name (at 14 14) 1 (Element (Number (pos 2)) (pos 1) (pos 2) (Component 1 (Designated

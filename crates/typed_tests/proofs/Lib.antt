@@ -6,3 +6,5 @@ pub mod ResolvedTrees
 pub mod Expected
 -- that they are these
 pub mod TypedSources
+-- how names of places are printed
+pub mod PrintedNames

@@ -144,6 +144,7 @@ tree_same f g k (node.Designated a) e is = grind (arith, e a)
 tree_same f g k (node.Element a low high b) e is = grind (arith, e a, e b)
 tree_same f g k (node.Call p s a) e is = grind (arith, e a)
 tree_same f g k node.EndOfFile e is = refl
+tree_same f g k (node.Parens a) e is = grind (arith, e a)
 tree_same f g k (node.Image t a) e is = grind (arith, e a)
 tree_same f g k (node.Unary op a) e is = grind (arith, e a)
 tree_same f g k (node.Binary op a b) e is = grind (arith, e a, e b)

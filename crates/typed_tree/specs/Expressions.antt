@@ -151,7 +151,7 @@ unfoldable mutual
       let r = reading_of s.context d rest in
       typed_name s p d r (typed_steps s (object_type (entry_of s.context.known d)) rest)
       (typed_actuals s (called_function r) rest) (typed_imaged s rest)
-  typed_expression s want (Parens p e) = typed_expression s want e
+  typed_expression s want (Parens p e) = typed.Parens (typed_expression s want e)
   typed_expression s want (Unary p op e) =
       if is_alone op e then typed.Number (negsuc 2147483647) else typed.Unary op (typed_expression s (unary_type op) e)
   typed_expression s want (Binary p op a b) =

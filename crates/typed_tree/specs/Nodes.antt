@@ -6,7 +6,7 @@ use Rattle.typed_tree.specs.declared.node.TypedNode.{TypedNode}
 use Rattle.typed_tree.specs.declared.node.TypedNode.TheVariants as node
 use Rattle.typed_tree.specs.declared.code_node.TypedCodeNode.{TypedCodeNode}
 use Rattle.typed_tree.specs.declared.code_node.TypedCodeNode.TheVariants as code_node
-use Rattle.typed_tree.specs.Trees.{TypedTree, Number, Literal, Null, Text, Name, Component, Designated, Element, Call, EndOfFile, Image, Unary, Binary, Short, IsNull, Aggregate, Alike, New, NoMore, More, TypedCode, Declare, Assign, Skip, Output, Input, Release, If, Branch, Case, Interval, Others, When, Loop, While, For, Exit, Return, Block}
+use Rattle.typed_tree.specs.Trees.{TypedTree, Number, Literal, Null, Text, Name, Component, Designated, Element, Call, EndOfFile, Parens, Image, Unary, Binary, Short, IsNull, Aggregate, Alike, New, NoMore, More, TypedCode, Declare, Assign, Skip, Output, Input, Release, If, Branch, Case, Interval, Others, When, Loop, While, For, Exit, Return, Block}
 
 -- The rows: nodes of expressions, and nodes of code.
 abbrev pub TypedNodes : Type 0
@@ -21,6 +21,7 @@ is_below n (node.Component k a) = nat_lt a n
 is_below n (node.Designated a) = nat_lt a n
 is_below n (node.Element a low high b) = nat_lt a n && nat_lt b n
 is_below n (node.Call p s a) = nat_lt a n
+is_below n (node.Parens a) = nat_lt a n
 is_below n (node.Image t a) = nat_lt a n
 is_below n (node.Unary op a) = nat_lt a n
 is_below n (node.Binary op a b) = nat_lt a n && nat_lt b n
@@ -44,6 +45,7 @@ typed_of tree (node.Designated a) = Designated (tree a)
 typed_of tree (node.Element a low high b) = Element (tree a) low high (tree b)
 typed_of tree (node.Call p s a) = Call p s (tree a)
 typed_of tree node.EndOfFile = EndOfFile
+typed_of tree (node.Parens a) = Parens (tree a)
 typed_of tree (node.Image t a) = Image t (tree a)
 typed_of tree (node.Unary op a) = Unary op (tree a)
 typed_of tree (node.Binary op a b) = Binary op (tree a) (tree b)

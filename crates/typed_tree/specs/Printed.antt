@@ -3,7 +3,6 @@ use Rattle.std.specs.Prelude.{ℕ, List, [], ◌∷◌, ◌++◌, codes, get_or,
 use Rattle.place_names.specs.declared.selector.Sel.{Sel}
 use Rattle.place_names.specs.declared.selector.Sel.TheVariants.{Field, Elem, Deref}
 use Rattle.place_names.specs.Names.{Name}
-use Rattle.type_table.specs.declared.table.Component.{Component}
 use Rattle.type_table.specs.declared.table.Shape.{Shape}
 use Rattle.type_table.specs.declared.table.Shape.TheVariants as shape
 use Rattle.type_table.specs.declared.table.Info.{Info}

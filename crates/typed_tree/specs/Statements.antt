@@ -18,6 +18,7 @@ use Rattle.type_table.specs.Names.{Context, seen, reading_of}
 use Rattle.type_table.specs.Expressions.{call_arguments, profile_of, result_type}
 use Rattle.type_table.specs.Statements.{choice_value, target_reading}
 use Rattle.type_table.specs.Gathered.{indicated, declared_pos, declared_number}
+use Rattle.type_table.specs.Declarations.{first_number}
 use Rattle.typed_tree.specs.Trees.{TypedTree, TypedCode, typed_code_list}
 use Rattle.typed_tree.specs.Trees as typed
 use Rattle.typed_tree.specs.Expressions.{Site, object_number, sub_number, typed_expression, typed_first, typed_actuals, typed_optional}
@@ -43,14 +44,12 @@ scope_count _ = 0
 -- ---- declarations of objects
 
 -- Each identifier is a declaration, with an evaluation of the value of its own (Ada 2012, 3.3.1(7)).
-abbrev pub typed_object : Site → Code → Tree → Code → TypedCode
-typed_object s i v d =
-    typed.Declare (declared_pos d) (object_number s (declared_number d))
-    (typed_optional s (indicated s.context.known (declared_number d) i) v)
+-- The value stands once in the text, for the type of the first.
+abbrev pub typed_object : Site → TypedTree → Code → TypedCode
+typed_object s v d = typed.Declare (declared_pos d) (object_number s (declared_number d)) v
 
-abbrev pub typed_number : Site → Tree → Code → TypedCode
-typed_number s e d =
-    typed.Declare (declared_pos d) (object_number s (declared_number d)) (typed.More (typed_expression s integer e) typed.NoMore)
+abbrev pub typed_objects : Site → Code → TypedTree → List TypedCode
+typed_objects s ids v = map (typed_object s v) (code_items ids)
 
 -- ---- statements without statements in them
 
@@ -128,8 +127,9 @@ typed_choices c choices = typed_code_list (map (typed_choice c) (code_items choi
 
 -- A statement that holds no others, or a declaration.
 abbrev pub plain_statements : Site → Code → List TypedCode
-plain_statements s (Objects ids constant i v) = map (typed_object s i v) (code_items ids)
-plain_statements s (Numbers ids e) = map (typed_number s e) (code_items ids)
+plain_statements s (Objects ids constant i v) =
+    typed_objects s ids (typed_optional s (indicated s.context.known (first_number ids) i) v)
+plain_statements s (Numbers ids e) = typed_objects s ids (typed.More (typed_expression s integer e) typed.NoMore)
 plain_statements s (Skip p) = typed.Skip p ∷ []
 plain_statements s (Assign target e) = typed_assign s target e ∷ []
 plain_statements s (Call name) = typed_call s name ∷ []

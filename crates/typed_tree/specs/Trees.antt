@@ -24,6 +24,8 @@ pub data TypedTree : Type 0 where
   -- a call: the position of its first token, the subprogram, and the actuals in the order of the formals
   Call : Pos → ℕ → TypedTree → TypedTree
   EndOfFile : TypedTree
+  -- an expression in parentheses, which is no name
+  Parens : TypedTree → TypedTree
   Image : ℕ → TypedTree → TypedTree
   Unary : UnaryOperator → TypedTree → TypedTree
   Binary : Operator → TypedTree → TypedTree → TypedTree

@@ -63,6 +63,10 @@ pub enum TypedNode {
     },
     /// End_Of_File
     EndOfFile,
+    /// An expression in parentheses, which is no name.
+    Parens {
+        inner: usize,
+    },
     /// The image of a value of this type.
     Image {
         of: u32,

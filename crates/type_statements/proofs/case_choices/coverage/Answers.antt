@@ -8,6 +8,6 @@ pub returns : goal.returns
 returns c =
     let rows = c.args.checker.now.rows.now in
     taken_whole (context c.args.checker.now) c.args.pos (tree_at rows c.args.selector) (choices_of (code_at rows c.args.alternatives))
-    c.args.found c.taken_faults.result c.new-choices.result c.add_alternatives.new.self c.type_or_integer-of.result (cc)
+    c.args.found c.in_ok-taken_faults.field-0 c.new-choices.result c.add_alternatives.new.self c.type_or_integer-of.result (cc)
     c.new-choices.ensures.covers c.new-choices.ensures.others c.new-choices.ensures.sound (cc) c.in_ok-add_alternatives.ensures
-    c.taken_faults.ensures
+    c.in_ok-taken_faults.ensures

@@ -1,0 +1,13 @@
+//! Tests acts by the rules of loans: O5 to O8, O11, and O10 for the mode `in`.
+//!
+//! `test_loans` takes a tree of what may hold before an act, and appends a `Found` for each
+//! different rule, name and word that some fact of it gives, in the order of the facts. Which acts
+//! these rules look at, `specs/LoanRules.antt` states; what a fact forbids at an act, `place_names`
+//! defines; `docs/RULES.md`, "Rules", says it in words. Other acts give nothing here.
+//! Time is linear in the facts, times those that are found.
+#![tactic(auto)]
+
+mod rule;
+mod test;
+
+pub use test::test_loans;

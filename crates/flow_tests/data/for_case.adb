@@ -1,0 +1,22 @@
+with Ada.Text_IO; use Ada.Text_IO;
+with Ada.Integer_Text_IO; use Ada.Integer_Text_IO;
+with Ada.Unchecked_Deallocation;
+procedure Main is
+   type Cell;
+   type List is access Cell;
+   type Cell is record
+      Value : Integer;
+      Next : List;
+   end record;
+   type Int_Ptr is access Integer;
+   procedure Free is new Ada.Unchecked_Deallocation (Cell, List);
+   procedure Drop is new Ada.Unchecked_Deallocation (Integer, Int_Ptr);
+S : Integer;
+begin
+for I in 1 .. S + 2 loop
+case I is
+when 1 | 3 .. 4 => S := S + I;
+when others => null;
+end case;
+end loop;
+end Main;

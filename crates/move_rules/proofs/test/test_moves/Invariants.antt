@@ -1,0 +1,6 @@
+use Rattle.state_trees.proofs.Tested.{Testing}
+use Rattle.move_rules.specs.MoveRules.{moves_forbid}
+use Rattle.move_rules.proofs.test.test_moves.Given as goal
+
+abbrev pub invariant-facts : goal.invariant-facts
+invariant-facts l = Testing (moves_forbid l.act) l.tree l.initial.found.items l.found.items l.i

@@ -1,0 +1,4 @@
+-- what the functions' proofs cite
+pub mod Ordered
+-- the law of such lists
+pub mod Collected
