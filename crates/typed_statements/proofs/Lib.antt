@@ -1,1 +1,3 @@
-pub mod AddedCode
+pub mod Lists
+pub mod Forms
+pub mod Bodies

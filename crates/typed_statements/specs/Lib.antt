@@ -1,5 +1,4 @@
 -- what the public contract rests on
-pub mod Added
+pub mod Bodies
 -- what the functions inside promise each other
-pub mod Parts
-pub mod Found
+pub mod Made

@@ -1,67 +1,49 @@
-//! Values, assignments and other statements that hold no others.
-ghost use Rattle.std.specs.Prelude.{◌≡◌, ◌<◌, length, IfOk};
-ghost use Rattle.resolved_tree.specs.Nodes.{tree_at};
+//! Declarations, and statements that hold no others.
+#![tactic(auto, using(typed_tree::proofs::Grown::grew_on, typed_tree::proofs::Grown::kept))]
+
+ghost use Rattle.std.specs.Prelude.{◌≡◌, ◌<◌, ◌++◌, length, map, IfOk, OnOk};
+ghost use Rattle.std.specs.List.{All};
+ghost use Rattle.resolved_tree.specs.Nodes.{code_at, tree_at};
 ghost use Rattle.type_table.specs.Statements.{target_reading};
 ghost use Rattle.type_names.specs.Here.{here};
-ghost use Rattle.typed_tree.specs.Trees.{NoMore, More};
-ghost use Rattle.typed_tree.specs.Nodes.{typed_at, Grew, Holds, HoldsCode};
-ghost use Rattle.typed_tree.specs.Expressions.{typed_optional};
-ghost use Rattle.typed_tree.specs.Statements.{returned_type, type_read, typed_assign};
+ghost use Rattle.typed_tree.specs.Nodes.{typed_code_at, Grew, HoldsAllCode, HoldsCode};
+ghost use Rattle.typed_tree.specs.Statements.{plain_statements, returned_type, type_read, typed_assign};
 ghost use Rattle.typed_expressions.specs.Sites.{site};
+ghost use Rattle.typed_statements.specs.Made.{is_simple, HoldsOne};
 
-use resolved_tree::Node;
+use crate::calls::call;
+use crate::objects::{numbers, objects};
+use crate::optional::optional;
+use resolved_tree::{CodeNode, Node};
 use std::alloc::AllocError;
-use type_names::INTEGER;
+use type_names::{BOOLEAN, INTEGER, Reader};
 use type_table::Reading;
 use typed_expressions::Writer;
-use typed_tree::{TypedCodeNode, TypedNode, TypedRows};
+use typed_tree::{TypedCodeNode, TypedRows};
 
-/// Adds a list of one expression.
-pub fn one(value: usize, to: &mut TypedRows) -> Result<usize, AllocError>
-    requires { value < length to.old.0 }
-    ensures tree { IfOk result (λ n. Holds to.new n (More (typed_at to.old value) NoMore)) }
-    ensures grew { Grew to.old to.new }
+/// What the target of an assignment is.
+fn target_reading(reader: &Reader<'_>, target: usize) -> Reading
+    requires { target < length reader.now.rows.now.0 }
+    ensures { result ≡ target_reading (here reader.now) (tree_at reader.now.rows.now target) }
 {
-    let rest = to.push(TypedNode::NoMore)?;
-    to.push(TypedNode::More { first: value, rest })
-}
-
-/// Adds a list of no expression or one.
-pub fn optional(
-    writer: &Writer<'_>,
-    want: u32,
-    list: usize,
-    to: &mut TypedRows,
-) -> Result<usize, AllocError>
-    requires { list < length writer.now.reader.rows.now.0 }
-    ensures tree { IfOk result (λ n. Holds to.new n (typed_optional (site writer.now) want (tree_at writer.now.reader.rows.now list))) }
-    ensures grew { Grew to.old to.new }
-{
-    match writer.reader.rows.node(list) {
-        Node::More { first, .. } => {
-            let value = writer.expression(want, *first, to)?;
-            one(value, to)
-        }
-        _ => to.push(TypedNode::NoMore),
+    match reader.rows.node(target) {
+        Node::Named { decl, rest, .. } => reader.reading_of(*decl, *rest),
+        _ => Reading::Off,
     }
 }
 
-/// The type of the target of an assignment.
-fn type_read(writer: &Writer<'_>, target: usize) -> u32
-    requires { target < length writer.now.reader.rows.now.0 }
-    ensures { result ≡ type_read (target_reading (here writer.now.reader) (tree_at writer.now.reader.rows.now target)) }
+/// The type of a place, or Integer.
+fn type_read(reading: Reading) -> u32
+    ensures { result ≡ type_read reading }
 {
-    match writer.reader.rows.node(target) {
-        Node::Named { decl, rest, .. } => match writer.reader.reading_of(*decl, *rest) {
-            Reading::Place { of } => of,
-            _ => INTEGER,
-        },
+    match reading {
+        Reading::Place { of } => of,
         _ => INTEGER,
     }
 }
 
 /// Adds an assignment.
-pub fn assign(
+fn assign(
     writer: &Writer<'_>,
     target: usize,
     value: usize,
@@ -74,18 +56,79 @@ pub fn assign(
     ensures grew { Grew to.old to.new }
 {
     let pos = writer.reader.position(target);
-    let want = type_read(writer, target);
+    let want = type_read(target_reading(&writer.reader, target));
     let target = writer.expression(INTEGER, target, to)?;
     let value = writer.expression(want, value, to)?;
     to.push_code(TypedCodeNode::Assign { pos, target, value })
 }
 
-/// The type of what a `return` gives.
-pub fn returned_type(writer: &Writer<'_>) -> u32
-    ensures { result ≡ returned_type (here writer.now.reader) writer.now.reader.sub }
+/// The type that a `return` gives a value of.
+fn returned_type(reader: &Reader<'_>) -> u32
+    ensures { result ≡ returned_type (here reader.now) reader.now.sub }
 {
-    match writer.reader.sub {
-        Some(f) => writer.reader.result_type(f),
+    match reader.sub {
         None => INTEGER,
+        Some(f) => reader.result_type(f),
+    }
+}
+
+/// Adds a statement that holds no others.
+fn simple(writer: &Writer<'_>, code: usize, to: &mut TypedRows) -> Result<usize, AllocError>
+    requires { code < length writer.now.reader.rows.now.1 }
+    ensures code { IfOk result (λ n. HoldsOne to.new n (is_simple (code_at writer.now.reader.rows.now code))
+        (plain_statements (site writer.now) (code_at writer.now.reader.rows.now code))) }
+    ensures grew { Grew to.old to.new }
+{
+    match writer.reader.rows.code(code) {
+        CodeNode::Assign { target, value } => assign(writer, *target, *value, to),
+        CodeNode::Call { name } => call(writer, *name, to),
+        CodeNode::Exit { pos, condition } => {
+            let condition = optional(writer, BOOLEAN, *condition, to)?;
+            to.push_code(TypedCodeNode::Exit {
+                pos: *pos,
+                condition,
+            })
+        }
+        CodeNode::Return { pos, value } => {
+            let value = optional(writer, returned_type(&writer.reader), *value, to)?;
+            to.push_code(TypedCodeNode::Return { pos: *pos, value })
+        }
+        CodeNode::Skip { pos } => to.push_code(TypedCodeNode::Skip { pos: *pos }),
+        _ => to.push_code(TypedCodeNode::NoMore),
+    }
+}
+
+/// Adds declarations, or a statement that holds no others, behind other code.
+#[tactic(auto, using(typed_tree::proofs::Grown::grew_on, crate::proofs::Lists::put_one, typed_tree::proofs::Grown::grew_none, std::proofs::lemmas::Grind::common_steps))]
+pub fn plain(
+    writer: &Writer<'_>,
+    code: usize,
+    made: &mut Vec<usize>,
+    to: &mut TypedRows,
+) -> Result<(), AllocError>
+    requires code { code < length writer.now.reader.rows.now.1 }
+    requires made { All (λ k. k < length to.old.1) made.old.items }
+    ensures code { OnOk result (HoldsAllCode to.new made.new.items (map (typed_code_at to.old) made.old.items
+        ++ plain_statements (site writer.now) (code_at writer.now.reader.rows.now code))) }
+    ensures grew { Grew to.old to.new }
+{
+    match writer.reader.rows.code(code) {
+        CodeNode::Objects {
+            names,
+            of,
+            value,
+            ..
+        } => objects(writer, *names, *of, *value, made, to),
+        CodeNode::Numbers { names, value } => numbers(writer, *names, *value, made, to),
+        CodeNode::Skip { .. }
+        | CodeNode::Assign { .. }
+        | CodeNode::Call { .. }
+        | CodeNode::Exit { .. }
+        | CodeNode::Return { .. } => {
+            let number = simple(writer, code, to)?;
+            made.push(number)?;
+            Ok(())
+        }
+        _ => Ok(()),
     }
 }

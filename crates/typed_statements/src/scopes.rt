@@ -1,78 +1,86 @@
-//! How many scopes begin in code.
-ghost use Rattle.std.specs.Prelude.{◌≡◌, ◌+◌, ◌<◌, length, IfOk};
+//! The numbers of scopes.
+ghost use Rattle.std.specs.Prelude.{◌≡◌, ◌<◌, ◌+◌, length, IfOk};
 ghost use Rattle.resolved_tree.specs.Nodes.{code_at};
 ghost use Rattle.typed_tree.specs.Statements.{scope_count};
 
 use resolved_tree::{CodeNode, Rows};
 use std::alloc::AllocError;
 
-/// One more: what can't be counted is out of memory.
-pub fn next_scope(next: u32) -> Result<u32, AllocError>
-    ensures { IfOk result (λ n. n ≡ next + 1) }
+/// The number behind another one: what has none is out of memory.
+pub fn following(scope: u32) -> Result<u32, AllocError>
+    ensures { IfOk result (λ n. n ≡ scope + 1) }
 {
-    match next.checked_add(1) {
+    match scope.checked_add(1) {
         Some(next) => Ok(next),
         None => Err(AllocError),
     }
 }
 
-/// The number of the next scope behind two parts of code.
-#[cycle(count)]
-fn both(rows: &Rows, first: usize, second: usize, next: u32) -> Result<u32, AllocError>
+/// The number of the scope that begins behind two parts of code, where the first scope that begins
+/// in them has the number `from`.
+#[cycle(scopes)]
+fn behind_both(rows: &Rows, first: usize, second: usize, from: u32) -> Result<u32, AllocError>
     requires first { first < length rows.now.1 }
     requires second { second < length rows.now.1 }
-    ensures { IfOk result (λ n. n ≡ next + (scope_count (code_at rows.now first) + scope_count (code_at rows.now second))) }
+    ensures { IfOk result (λ n. n ≡ from + (scope_count (code_at rows.now first) + scope_count (code_at rows.now second))) }
 {
-    let next = scope_count(rows, first, next)?;
-    scope_count(rows, second, next)
+    let next = behind(rows, first, from)?;
+    Ok(behind(rows, second, next)?)
 }
 
-/// The number of the next scope behind one declaration or statement.
-#[cycle(count)]
+/// The same, of code that is no list.
+#[cycle(scopes)]
 #[tactic(auto, unfolding(typed_tree::specs::Statements::scope_count))]
-fn one(rows: &Rows, code: usize, next: u32) -> Result<u32, AllocError>
+fn behind_one(rows: &Rows, code: usize, from: u32) -> Result<u32, AllocError>
     requires { code < length rows.now.1 }
-    ensures { IfOk result (λ n. n ≡ next + scope_count (code_at rows.now code)) }
+    ensures { IfOk result (λ n. n ≡ from + scope_count (code_at rows.now code)) }
 {
     match rows.code(code) {
         CodeNode::SubBody { items, stmts, .. } | CodeNode::Block { items, stmts, .. } => {
-            both(rows, *items, *stmts, next_scope(next)?)
+            let inner = following(from)?;
+            Ok(behind_both(rows, *items, *stmts, inner)?)
         }
         CodeNode::Package {
             visible,
             hidden,
             ..
-        } => both(rows, *visible, *hidden, next),
-        CodeNode::PackageBody { parts, .. } => scope_count(rows, *parts, next),
+        } => Ok(behind_both(rows, *visible, *hidden, from)?),
         CodeNode::If {
             branches,
             otherwise,
             ..
-        } => both(rows, *branches, *otherwise, next),
-        CodeNode::Case { alternatives, .. } => scope_count(rows, *alternatives, next),
-        CodeNode::Branch { stmts, .. }
-        | CodeNode::When { stmts, .. }
-        | CodeNode::Loop { stmts, .. }
-        | CodeNode::While { stmts, .. } => scope_count(rows, *stmts, next),
-        CodeNode::For { stmts, .. } => scope_count(rows, *stmts, next_scope(next)?),
-        CodeNode::More { first, rest } => both(rows, *first, *rest, next),
-        _ => Ok(next),
+        } => Ok(behind_both(rows, *branches, *otherwise, from)?),
+        CodeNode::More { first, rest } => Ok(behind_both(rows, *first, *rest, from)?),
+        CodeNode::PackageBody { parts: inner, .. }
+        | CodeNode::Branch { stmts: inner, .. }
+        | CodeNode::Case {
+            alternatives: inner,
+            ..
+        }
+        | CodeNode::When { stmts: inner, .. }
+        | CodeNode::Loop { stmts: inner, .. }
+        | CodeNode::While { stmts: inner, .. } => Ok(behind(rows, *inner, from)?),
+        CodeNode::For { stmts, .. } => {
+            let inner = following(from)?;
+            Ok(behind(rows, *stmts, inner)?)
+        }
+        _ => Ok(from),
     }
 }
 
-/// The number of the next scope behind some code, before which it is `next`. A list is gone along,
-/// so that the depth of calls is that of nesting.
-#[cycle(count)]
+/// The number of the scope that begins behind some code, where the first scope that begins in it
+/// has the number `from`.
+#[cycle(scopes)]
 #[tactic(auto, unfolding(typed_tree::specs::Statements::scope_count))]
-pub fn scope_count(rows: &Rows, code: usize, next: u32) -> Result<u32, AllocError>
+pub fn behind(rows: &Rows, code: usize, from: u32) -> Result<u32, AllocError>
     requires { code < length rows.now.1 }
-    ensures { IfOk result (λ n. n ≡ next + scope_count (code_at rows.now code)) }
+    ensures { IfOk result (λ n. n ≡ from + scope_count (code_at rows.now code)) }
 {
+    let mut next = from;
     let mut i = code;
-    let mut next = next;
     'parts: while let CodeNode::More { first, rest } = rows.code(i) {
-        next = one(rows, *first, next)?;
+        next = behind_one(rows, *first, next)?;
         i = *rest;
     }
-    one(rows, i, next)
+    Ok(behind_one(rows, i, next)?)
 }

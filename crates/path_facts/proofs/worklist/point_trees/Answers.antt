@@ -1,0 +1,89 @@
+use Rattle.std.proofs.Common.{◌≡◌, ◌<◌, ◌*◌, sym, ap, subst, inl, inr, ℕ, List, ◌∷◌, length, vec_len, Option, ◌∙◌, arith}
+use Rattle.spark_base.specs.Lists.{Has}
+use Rattle.label_flow.proofs.Worklist.{search_order}
+use Rattle.state_trees.specs.FactStates.{FactState}
+use Rattle.path_facts.specs.PointTrees.{path_points_of}
+use Rattle.path_facts.specs.Labels.{flow_of, labels_of, SearchedOn}
+use Rattle.path_facts.specs.Debts.{most, costs_of, owed}
+use Rattle.path_facts.proofs.Carried.{points_counted}
+use Rattle.path_facts.proofs.Debt.{owed_taken, cost_is, total_is, costs_counted, ones, one_each, ones_counted}
+use Rattle.path_facts.proofs.Started.{started, started_over, started_some, start_debt, first_work, none_left, taken, some_points}
+use Rattle.path_facts.proofs.Exact.{exact}
+use Rattle.path_facts.proofs.worklist.point_trees.Goals as goal
+
+pub turns-init : goal.turns-init
+turns-init g c =
+    let points = path_points_of c.args.points.now in
+    let facts = c.args.facts.now in
+    let trees : List (Option FactState) = c.in_ok-trees.trees.items in
+    let costs = costs_of points in
+    let begun = c.in_ok-trees.ensures in
+    let first = first_work c.push.new.self.items c.new-work.result.items c.new-work.ensures.items c.in_ok-push.ensures.items in
+    let size = begun.sized in
+    let some = started_some (length c.args.points.now) facts trees begun in (
+      subst (λ w. SearchedOn points facts trees w) (sym first) (started points facts trees (length c.args.points.now) begun),
+      started_over facts trees (length c.args.points.now) begun,
+      omega (arith, size, c.in_ok-trees.trees.ok.0),
+      λ a h. elim (subst (λ w. Has w a) first h) [ inl e ↦ subst (λ x. x < length c.args.points.now) e some | inr none ↦ absurd none ],
+      (
+          let owes = start_debt costs (length c.args.points.now) facts trees begun in
+          let all = ap (λ n. n * most (length facts)) (total_is points) in
+          let work = ap (owed costs) first in
+          omega arith),
+    )
+
+pub turn-requires-clause-searched : goal.turn-requires-clause-searched
+turn-requires-clause-searched g c =
+    let t = taken (length c.args.points.now) c.turns.work.items c.pop.new.self.items c.in-Some.p c.in-Some.ensures.items c.turns.invariant.3 in
+    search_order (flow_of (path_points_of c.args.points.now) c.args.facts.now) (labels_of c.turns.trees.items) c.turns.work.items
+    (c.in-Some.p ∷ c.pop.new.self.items) t.all c.turns.invariant.0
+
+pub turn-requires-clause-place : goal.turn-requires-clause-place
+turn-requires-clause-place g c =
+    (taken (length c.args.points.now) c.turns.work.items c.pop.new.self.items c.in-Some.p c.in-Some.ensures.items c.turns.invariant.3).place
+
+pub turn-requires-clause-places : goal.turn-requires-clause-places
+turn-requires-clause-places g c =
+    (taken (length c.args.points.now) c.turns.work.items c.pop.new.self.items c.in-Some.p c.in-Some.ensures.items c.turns.invariant.3).places
+
+pub turns-smaller : goal.turns-smaller
+turns-smaller g c =
+    let costs : List ℕ = ones c.args.points.now in
+    let t = taken (length c.args.points.now) c.turns.work.items c.pop.new.self.items c.in-Some.p c.in-Some.ensures.items c.turns.invariant.3 in
+    let pays = c.in_ok-turn.ensures.pays costs (ones_counted c.args.points.now) in
+    let was = owed_taken costs c.turns.work.items c.pop.new.self.items c.in-Some.p c.in-Some.ensures.items in
+    let one = one_each c.args.points.now c.in-Some.p t.place in
+    omega arith
+
+pub turns-preserved : goal.turns-preserved
+turns-preserved g c =
+    let points = path_points_of c.args.points.now in
+    let costs : List ℕ = costs_of points in
+    let pays = c.in_ok-turn.ensures.pays costs (costs_counted points ∙ points_counted c.args.points.now) in
+    let ticks = c.in_ok-turn.ensures.ticks in
+    let was = owed_taken costs c.turns.work.items c.pop.new.self.items c.in-Some.p c.in-Some.ensures.items in
+    let cost = cost_is points c.in-Some.p in
+    let before = c.turns.invariant.4 in
+    (c.in_ok-turn.ensures.searched, c.in_ok-turn.ensures.over, c.in_ok-turn.ensures.count, c.in_ok-turn.ensures.places, omega arith)
+
+-- the turn that failed was owed, too
+pub returns-in_err-turn-clause-cost : goal.returns-in_err-turn-clause-cost
+returns-in_err-turn-clause-cost g c =
+    let points = path_points_of c.args.points.now in
+    let costs : List ℕ = costs_of points in
+    let ticks = c.turn.ensures.ticks in
+    let was = owed_taken costs c.turns.work.items c.pop.new.self.items c.in-Some.p c.in-Some.ensures.items in
+    let cost = cost_is points c.in-Some.p in
+    let before = c.turns.invariant.4 in
+    omega arith
+
+pub returns-clause-exact : goal.returns-clause-exact
+returns-clause-exact g c =
+    let points = path_points_of c.args.points.now in
+    let facts = c.args.facts.now in
+    let none = none_left c.turns.work.items (omega (arith, c.turns.work.ok.0, c.in_default.ensures.cases.0)) in
+    let some = started_some (length c.args.points.now) facts c.in_ok-trees.trees.items c.in_ok-trees.ensures in
+    let size = points_counted c.args.points.now in
+    let count : vec_len c.turns.trees ≡ length c.args.points.now = c.turns.invariant.2 in
+    exact points facts c.turns.trees.items (some_points points (omega (arith, size, some))) (omega (arith, c.turns.trees.ok.0, size, count)) c.turns.invariant.1
+    (subst (λ w. SearchedOn points facts c.turns.trees.items w) none c.turns.invariant.0)

@@ -1,0 +1,22 @@
+//! What may hold and what may not hold before the acts of each point of a subprogram, over all its
+//! control paths.
+//!
+//! `point_trees` takes the points of one subprogram and a list of facts. It gives an entry for each
+//! point: none where no control path ends there, and else a `Tree` over the list. The tree's facts
+//! that may hold are exactly those of the list that some path to the point has, and those that may
+//! not hold exactly those that some such path lacks (`specs/PointTrees.antt`; `docs/RULES.md`,
+//! "Facts"). A worklist carries the state behind the acts of a point along each of its successors
+//! and joins it there. That it finds each path and no other follows from the laws of labels on a
+//! graph (`specs/Labels.antt`). The list may lack facts that the acts add, since each fact is
+//! followed by itself; where it has them all, it has each fact of each path (`proofs/Listed.antt`).
+//! The acts of calls on package objects change no fact (`proofs/Globals.antt`).
+//! Nothing is refused but for want of memory, as which a list with more facts than a `u32` has
+//! numbers for counts. At most `E * (2 * F + 2)` states are carried, with E successors and F facts,
+//! and `Steps` counts them.
+#![tactic(auto)]
+
+mod steps;
+mod worklist;
+
+pub use steps::Steps;
+pub use worklist::point_trees;
