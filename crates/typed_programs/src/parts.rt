@@ -1,0 +1,20 @@
+//! Typed programs as they are kept.
+
+use spark_base::Listed;
+use typed_statements::Subprogram;
+use typed_tree::{Object, TypedRows};
+
+/// A typed program: its objects, scopes and subprograms, each with the number that is its place.
+#[derive(Drop)]
+pub struct ProgramParts {
+    /// The typed expressions and statements of all subprograms.
+    pub rows: TypedRows,
+    /// Object 0 is the state of Ada.Text_IO.
+    pub objects: Listed<Object>,
+    /// Of each scope the one around it: of scope 0, which is around all others, its own number.
+    pub scopes: Listed<u32>,
+    /// Subprogram 0 declares the package objects.
+    pub subs: Listed<Subprogram>,
+    /// The number of the main procedure.
+    pub main: Option<u32>,
+}
