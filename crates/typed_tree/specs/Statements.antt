@@ -43,8 +43,8 @@ scope_count _ = 0
 
 -- ---- declarations of objects
 
--- Each identifier is a declaration, with an evaluation of the value of its own (Ada 2012, 3.3.1(7)).
--- The value stands once in the text, for the type of the first.
+-- Each identifier is a declaration, which evaluates the value for itself (Ada 2012, 3.3.1(7)). The
+-- value stands once in the text, and is typed for the type of the first.
 abbrev pub typed_object : Site → TypedTree → Code → TypedCode
 typed_object s v d = typed.Declare (declared_pos d) (object_number s (declared_number d)) v
 
