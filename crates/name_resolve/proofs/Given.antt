@@ -1,14 +1,15 @@
 -- Numbers and contexts that are looked up by hash.
-use Rattle.std.proofs.Common.{◌≡◌, refl, ap, sym, ◌∙◌, ℕ, Bool, true, false, if◌then◌else◌, nat_eq, List, [], ◌∷◌, ◌++◌, None, Some}
+use Rattle.std.proofs.Common.{◌≡◌, refl, ap, sym, ◌∙◌, subst, ℕ, Bool, true, false, if◌then◌else◌, nat_eq, List, [], ◌∷◌, ◌++◌, None, Some}
 use Rattle.std.specs.Prelude.{◌||◌}
 use Rattle.std.specs.Map.{lookup}
+use Rattle.std.specs.declared.rc.Rc.{Rc}
 use Rattle.std.proofs.lemmas.Bool.{eqb-true}
 use Rattle.indexmap.specs.IndexMap.{insert_entry}
 use Rattle.name_events.specs.Declarations.{has_number, added_number, last_of}
 use Rattle.name_events.specs.Known.{Context}
 use Rattle.name_events.specs.KnownBehind.{context_found}
 use Rattle.name_resolve.specs.declared.contexts.Given.{Given}
-use Rattle.name_resolve.specs.Stands.{given_withs, given_uses, context_numbered}
+use Rattle.name_resolve.specs.Stands.{context_numbered, GivenStands}
 use Rattle.name_resolve.proofs.Answering.{last_of_from}
 use Rattle.name_resolve.proofs.Lists.{any_push}
 use Rattle.name_resolve.proofs.Tables.{lookup_inserted_by}
@@ -30,32 +31,19 @@ has_added keys numbers n m same =
         or_false false = refl
 
 -- One more context.
-pub withs_pushed : (entries : List (ℕ × Given)) (number : ℕ) (given : Given) (contexts : List Context) (context : Context) (n : ℕ)
-    → number ≡ context.of_package → given.withs.items ≡ context.withs
-    → given_withs (lookup (nat_eq n) entries) ≡ (context_numbered contexts n).withs
-    → given_withs (lookup (nat_eq n) (insert_entry nat_eq entries number given)) ≡ (context_numbered (contexts ++ context ∷ []) n).withs
-withs_pushed entries number given contexts context n at is before =
-    ap given_withs (lookup_inserted_by nat_eq (λ a b h. eqb-true a b h) entries number n given)
-    ∙ ap (λ k. given_withs (if nat_eq n k then Some given else lookup (nat_eq n) entries)) at
-    ∙ by (nat_eq n context.of_package)
-    ∙ ap (λ o. (context_found o).withs) (sym (last_of_from (λ c. nat_eq n c.of_package) contexts context None))
+pub given_pushed : {Z : Type 0} (entries : List (ℕ × Rc Given Z)) (number : ℕ) (given : Rc Given Z) (contexts : List Context) (context : Context) (n : ℕ)
+    → number ≡ context.of_package → GivenStands (Some given) context
+    → GivenStands (lookup (nat_eq n) entries) (context_numbered contexts n)
+    → GivenStands (lookup (nat_eq n) (insert_entry nat_eq entries number given)) (context_numbered (contexts ++ context ∷ []) n)
+given_pushed entries number given contexts context n at is before =
+    subst (λ k. GivenStands k (context_numbered (contexts ++ context ∷ []) n))
+    (sym (lookup_inserted_by nat_eq (λ a b h. eqb-true a b h) entries number n given
+    ∙ ap (λ k. if nat_eq n k then Some given else lookup (nat_eq n) entries) at))
+    (subst (λ o. GivenStands (if nat_eq n context.of_package then Some given else lookup (nat_eq n) entries) (context_found o))
+    (sym (last_of_from (λ c. nat_eq n c.of_package) contexts context None))
+    (by (nat_eq n context.of_package)))
   where
-    by : (b : Bool) → given_withs (if b then Some given else lookup (nat_eq n) entries)
-        ≡ (context_found (if b then Some context else last_of (λ c. nat_eq n c.of_package) contexts)).withs
-    by true = is
-    by false = before
-
-pub uses_pushed : (entries : List (ℕ × Given)) (number : ℕ) (given : Given) (contexts : List Context) (context : Context) (n : ℕ)
-    → number ≡ context.of_package → given.uses.items ≡ context.uses
-    → given_uses (lookup (nat_eq n) entries) ≡ (context_numbered contexts n).uses
-    → given_uses (lookup (nat_eq n) (insert_entry nat_eq entries number given)) ≡ (context_numbered (contexts ++ context ∷ []) n).uses
-uses_pushed entries number given contexts context n at is before =
-    ap given_uses (lookup_inserted_by nat_eq (λ a b h. eqb-true a b h) entries number n given)
-    ∙ ap (λ k. given_uses (if nat_eq n k then Some given else lookup (nat_eq n) entries)) at
-    ∙ by (nat_eq n context.of_package)
-    ∙ ap (λ o. (context_found o).uses) (sym (last_of_from (λ c. nat_eq n c.of_package) contexts context None))
-  where
-    by : (b : Bool) → given_uses (if b then Some given else lookup (nat_eq n) entries)
-        ≡ (context_found (if b then Some context else last_of (λ c. nat_eq n c.of_package) contexts)).uses
+    by : (b : Bool) → GivenStands (if b then Some given else lookup (nat_eq n) entries)
+        (context_found (if b then Some context else last_of (λ c. nat_eq n c.of_package) contexts))
     by true = is
     by false = before

@@ -2,7 +2,8 @@
 use Rattle.std.proofs.Common.{◌≡◌, refl, ap, sym, ◌∙◌, true≢false, ℕ, Bool, true, false, not, if◌then◌else◌, List, [], ◌∷◌, ◌++◌, filter, map, nat_eq}
 use Rattle.std.proofs.lemmas.Bool.{eqb-true}
 use Rattle.name_events.specs.Known.{used_in}
-use Rattle.name_resolve.specs.Tables.{listed_at}
+use Rattle.std.proofs.lemmas.List.{append_assoc, append-nil}
+use Rattle.name_resolve.specs.Tables.{in_use_at, listed_at}
 
 either_way : (b : Bool) (xs : List ℕ) → xs ≡ (if b then xs else xs)
 either_way true xs = refl
@@ -76,25 +77,38 @@ used_in-begun clauses packages r =
     by true = refl
     by false = refl
 
-pub begun : (new between old : List (List ℕ)) (clauses : List (ℕ × ℕ)) (packages : List ℕ) (r : ℕ)
-    → listed_at new r ≡ (if nat_eq r 0 then listed_at between r ++ packages else listed_at between r)
-    → listed_at between r ≡ (if nat_eq r 0 then [] else listed_at old r)
-    → listed_at old r ≡ used_in clauses r
-    → listed_at new r ≡ used_in (filter (λ u. not (nat_eq 0 u.0)) clauses ++ map (λ p. (0, p)) packages) r
-begun new between old clauses packages r added cleared are =
-    added ∙ (λ j. if nat_eq r 0 then cleared j ++ packages else cleared j)
-    ∙ by (nat_eq r 0)
-    ∙ (λ j. if nat_eq r 0 then packages else are j)
-    ∙ sym (used_in-begun clauses packages r)
+-- Nothing is in use before the first unit.
+pub none_in_use : (r : ℕ) → in_use_at [] [] r ≡ []
+none_in_use r = by (nat_eq r 0)
   where
-    by : (b : Bool) → (if b then (if b then [] else listed_at old r) ++ packages else (if b then [] else listed_at old r))
-        ≡ (if b then packages else listed_at old r)
+    by : (b : Bool) → (if b then [] else []) ++ listed_at [] r ≡ []
     by true = refl
     by false = refl
 
-pub ended : (new old : List (List ℕ)) (clauses : List (ℕ × ℕ)) (here region : ℕ) (packages named : List ℕ) (r : ℕ)
+pub begun : (given before : List ℕ) (new old : List (List ℕ)) (clauses : List (ℕ × ℕ)) (r : ℕ)
+    → listed_at new r ≡ (if nat_eq r 0 then [] else listed_at old r)
+    → in_use_at before old r ≡ used_in clauses r
+    → in_use_at given new r ≡ used_in (filter (λ u. not (nat_eq 0 u.0)) clauses ++ map (λ p. (0, p)) given) r
+begun given before new old clauses r cleared are =
+    ap (λ ns. (if nat_eq r 0 then given else []) ++ ns) cleared
+    ∙ by (nat_eq r 0) are
+    ∙ sym (used_in-begun clauses given r)
+  where
+    by : (b : Bool) → (if b then before else []) ++ listed_at old r ≡ used_in clauses r
+        → (if b then given else []) ++ (if b then [] else listed_at old r) ≡ (if b then given else used_in clauses r)
+    by true are = append-nil given
+    by false are = are
+
+pub ended : (given : List ℕ) (new old : List (List ℕ)) (clauses : List (ℕ × ℕ)) (here region : ℕ) (packages named : List ℕ) (r : ℕ)
     → listed_at new r ≡ (if nat_eq r region then listed_at old r ++ named else listed_at old r)
-    → region ≡ here → named ≡ packages → listed_at old r ≡ used_in clauses r
-    → listed_at new r ≡ used_in (clauses ++ map (λ p. (here, p)) packages) r
-ended new old clauses here region packages named r added at is are =
-    added ∙ (λ j. if nat_eq r (at j) then are j ++ is j else are j) ∙ sym (used_in-added clauses here packages r)
+    → region ≡ here → named ≡ packages → in_use_at given old r ≡ used_in clauses r
+    → in_use_at given new r ≡ used_in (clauses ++ map (λ p. (here, p)) packages) r
+ended given new old clauses here region packages named r added at is are =
+    ap (λ ns. (if nat_eq r 0 then given else []) ++ ns) added
+    ∙ by (if nat_eq r 0 then given else []) (nat_eq r region)
+    ∙ (λ j. if nat_eq r (at j) then are j ++ is j else are j) ∙ sym (used_in-added clauses here packages r)
+  where
+    by : (front : List ℕ) (b : Bool) → front ++ (if b then listed_at old r ++ named else listed_at old r)
+        ≡ (if b then (front ++ listed_at old r) ++ named else front ++ listed_at old r)
+    by front true = sym (append_assoc front (listed_at old r) named)
+    by front false = refl

@@ -1,7 +1,9 @@
 -- What the tables know, as the lists of the definitions.
-use Rattle.std.specs.Prelude.{◌≡◌, ℕ, List, [], map, reverse, Option, None, Some, nat_eq}
+use Rattle.std.specs.Prelude.{◌≡◌, ℕ, List, [], ◌++◌, map, reverse, Option, None, Some, nat_eq}
 use Rattle.std.specs.List.{list_any}
 use Rattle.std.specs.Map.{lookup}
+use Rattle.std.specs.Rc.{rc_value}
+use Rattle.std.specs.declared.rc.Rc.{Rc}
 use Rattle.name_events.specs.declared.declaration.OpenRegion.{OpenRegion}
 use Rattle.name_events.specs.Declarations.{Entry, has_number, last_of}
 use Rattle.name_events.specs.Known.{Known, Context, used_in}
@@ -12,9 +14,10 @@ use Rattle.name_resolve.specs.declared.declarations.Declarations.{Declarations}
 use Rattle.name_resolve.specs.declared.regions.Regions.{Regions}
 use Rattle.name_resolve.specs.declared.knowledge.Knowledge.{Knowledge}
 use Rattle.name_resolve.specs.declared.withs.Withs.{Withs}
+use Rattle.name_resolve.specs.declared.numbers.Numbers.{Numbers}
 use Rattle.name_resolve.specs.declared.contexts.Given.{Given}
 use Rattle.name_resolve.specs.declared.contexts.Contexts.{Contexts}
-use Rattle.name_resolve.specs.Tables.{searched, Answers, FirstAnswers, is_source_package, asks_completion, listed_at}
+use Rattle.name_resolve.specs.Tables.{searched, Answers, FirstAnswers, is_source_package, asks_completion, in_use_at}
 
 -- ---- declarations
 
@@ -34,12 +37,26 @@ pub record EntriesStand (k : Declarations) (entries waiting over : List Entry) (
 abbrev pub DeclarationsStand : Declarations → Known → Type 0
 DeclarationsStand k now = EntriesStand k now.declared now.pending now.ended now.completed
 
+-- ---- what a unit is given
+
+abbrev pub given_withs : {Z : Type 0} → Option (Rc Given Z) → List ℕ
+given_withs None = []
+given_withs (Some given) = (rc_value given).withs.list.items
+
+abbrev pub given_found : {Z : Type 0} → Option (Rc Given Z) → List ℕ
+given_found None = []
+given_found (Some given) = (rc_value given).withs.found.keys
+
+abbrev pub given_uses : {Z : Type 0} → Option (Rc Given Z) → List ℕ
+given_uses None = []
+given_uses (Some given) = (rc_value given).uses.items
+
 -- ---- regions
 
 pub record RegionsAre (k : Regions) (regions : ℕ) (enclosing : List OpenRegion) (clauses : List (ℕ × ℕ)) (packages : List ℕ) : Type 0 where
   pub count : k.count ≡ regions
   pub around : reverse k.around.items ≡ enclosing
-  pub uses : (region : ℕ) → listed_at k.uses region ≡ used_in clauses region
+  pub uses : (region : ℕ) → in_use_at (given_uses k.given) k.uses region ≡ used_in clauses region
   pub named : k.named.items ≡ packages
 
 abbrev pub RegionsStand : Regions → Known → Type 0
@@ -47,25 +64,28 @@ RegionsStand k now = RegionsAre k now.region_count now.open_regions now.uses now
 
 -- ---- units
 
+pub record NumbersStand (k : Numbers) (numbers : List ℕ) : Type 0 where
+  pub listed : k.list.items ≡ numbers
+  pub has : (n : ℕ) → has_number n k.found.keys ≡ has_number n numbers
+
+-- What the unit is given stands before its own.
 pub record WithsStand (k : Withs) (withs : List ℕ) : Type 0 where
-  pub listed : k.list.items ≡ withs
-  pub has : (n : ℕ) → has_number n k.found.keys ≡ has_number n withs
+  pub own_withs : List ℕ
+  pub listed : given_withs k.given ++ own_withs ≡ withs
+  pub own : NumbersStand k.own own_withs
+  pub given : (n : ℕ) → has_number n (given_found k.given) ≡ has_number n (given_withs k.given)
 
-abbrev pub given_withs : Option Given → List ℕ
-given_withs None = []
-given_withs (Some given) = given.withs.items
-
-abbrev pub given_uses : Option Given → List ℕ
-given_uses None = []
-given_uses (Some given) = given.uses.items
+pub record GivenStands {Z : Type 0} (k : Option (Rc Given Z)) (context : Context) : Type 0 where
+  pub listed : given_withs k ≡ context.withs
+  pub has : (n : ℕ) → has_number n (given_found k) ≡ has_number n context.withs
+  pub uses : given_uses k ≡ context.uses
 
 -- The context of the package of this number.
 abbrev pub context_numbered : List Context → ℕ → Context
 context_numbered contexts n = context_found (last_of (λ c. nat_eq n c.of_package) contexts)
 
 pub record ContextsStand (k : Contexts) (contexts : List Context) : Type 0 where
-  pub withs : (n : ℕ) → given_withs (lookup (nat_eq n) k.given.entries) ≡ (context_numbered contexts n).withs
-  pub uses : (n : ℕ) → given_uses (lookup (nat_eq n) k.given.entries) ≡ (context_numbered contexts n).uses
+  pub given : (n : ℕ) → GivenStands (lookup (nat_eq n) k.given.entries) (context_numbered contexts n)
 
 -- ---- all
 

@@ -1,5 +1,5 @@
 -- What tables of names answer.
-use Rattle.std.specs.Prelude.{◌≡◌, ℕ, Bool, ◌&&◌, if◌then◌else◌, List, [], Option, None, Some, slice_get, nat_le}
+use Rattle.std.specs.Prelude.{◌≡◌, ℕ, Bool, ◌&&◌, if◌then◌else◌, List, [], Option, None, Some, slice_get, nat_eq, nat_le, ◌++◌}
 use Rattle.std.specs.Option.{option_map, option_map_or}
 use Rattle.std.specs.Map.{lookup}
 use Rattle.name_events.specs.declared.declaration.Declaration.{Declaration}
@@ -44,3 +44,7 @@ or_empty (Some ns) = ns
 
 abbrev pub listed_at : List (List ℕ) → ℕ → List ℕ
 listed_at lists region = or_empty (slice_get lists region)
+
+-- The packages in use in a region: in the predefined one those that the unit is given come first.
+abbrev pub in_use_at : List ℕ → List (List ℕ) → ℕ → List ℕ
+in_use_at given lists region = (if nat_eq region 0 then given else []) ++ listed_at lists region

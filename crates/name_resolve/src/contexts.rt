@@ -1,25 +1,28 @@
 //! What the context of a package gives to its body.
-ghost use Rattle.std.specs.Prelude.{◌≡◌, [], ◌∷◌, ◌++◌, List, ℕ, OnOk};
+ghost use Rattle.std.specs.Prelude.{◌≡◌, [], ◌∷◌, ◌++◌, List, OnOk, IfOk};
 ghost use Rattle.name_events.specs.Known.{Context};
 ghost use Rattle.name_events.specs.KnownBehind.{context_of};
-ghost use Rattle.name_resolve.specs.Stands.{ContextsStand};
+ghost use Rattle.name_resolve.specs.Stands.{ContextsStand, GivenStands, NumbersStand};
 
+use crate::numbers::Numbers;
 use indexmap::IndexMap;
 use name_events::Declaration;
 use std::alloc::{AllocError, Global};
+use std::rc::Rc;
 
 /// What the context of a package gives to its body: what it has a `with` and a `use` of, by number.
 #[derive(Drop)]
 pub struct Given {
-    pub withs: Vec<usize>,
+    pub withs: Numbers,
     pub uses: Vec<usize>,
 }
 
-/// The contexts of the packages so far, by the numbers of the packages.
+/// The contexts of the packages so far, by the numbers of the packages. The bodies of a package
+/// share one.
 #[derive(Drop)]
 pub struct Contexts {
     alloc: Global,
-    pub given: IndexMap<usize, Given>,
+    pub given: IndexMap<usize, Rc<Given>>,
 }
 
 impl Contexts {
@@ -34,39 +37,29 @@ impl Contexts {
     }
 
     /// Adds the context of a package.
-    pub fn add(&mut self, number: usize, withs: &[usize], uses: &[usize]) -> Result<(), AllocError>
-        ensures { OnOk result ((contexts : List Context) → ContextsStand self.old contexts
-            → ContextsStand self.new (contexts ++ (record { of_package = number; withs = withs.now; uses = uses.now }) ∷ [])) }
+    pub fn add(&mut self, number: usize, given: Given) -> Result<(), AllocError>
+        ensures { OnOk result ((contexts : List Context) (context : Context)
+            → number ≡ context.of_package → NumbersStand given.withs context.withs → given.uses.items ≡ context.uses
+            → ContextsStand self.old contexts → ContextsStand self.new (contexts ++ context ∷ [])) }
     {
-        let withs = Vec::from_slice(self.alloc, withs)?;
-        let uses = Vec::from_slice(self.alloc, uses)?;
-        self.given.insert(number, Given { withs, uses })?;
+        let shared = Rc::new(self.alloc, given)?;
+        self.given.insert(number, shared)?;
         Ok(())
     }
 
-    /// What the body of a package has a `with` of by the context of its specification.
-    pub fn withs_of(&self, package_spec: Option<Declaration>) -> &[usize]
-        ensures { (contexts : List Context) → ContextsStand self.now contexts → result.now ≡ (context_of contexts package_spec).withs }
+    /// What the context of its specification gives to the body of a package.
+    pub fn given_to(
+        &self,
+        package_spec: Option<Declaration>,
+    ) -> Result<Option<Rc<Given>>, AllocError>
+        ensures { IfOk result (λ given. (contexts : List Context) → ContextsStand self.now contexts → GivenStands given (context_of contexts package_spec)) }
     {
-        match package_spec {
-            None => &[],
-            Some(declaration) => match self.given.get(&declaration.number) {
-                None => &[],
-                Some(given) => given.withs.as_slice(),
-            },
-        }
-    }
-
-    /// What it has a `use` of.
-    pub fn uses_of(&self, package_spec: Option<Declaration>) -> &[usize]
-        ensures { (contexts : List Context) → ContextsStand self.now contexts → result.now ≡ (context_of contexts package_spec).uses }
-    {
-        match package_spec {
-            None => &[],
-            Some(declaration) => match self.given.get(&declaration.number) {
-                None => &[],
-                Some(given) => given.uses.as_slice(),
-            },
+        let Some(declaration) = package_spec else {
+            return Ok(None);
+        };
+        match self.given.get(&declaration.number) {
+            None => Ok(None),
+            Some(given) => Ok(Some(given.clone()?)),
         }
     }
 }

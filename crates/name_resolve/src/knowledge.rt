@@ -27,6 +27,7 @@ use std::alloc::{AllocError, Global};
 /// What is known of names at a point of a text. It is dropped by a function of its own: who owns
 /// one needn't prove again how each table within it is dropped.
 pub struct Knowledge {
+    pub alloc: Global,
     pub declarations: Declarations,
     pub regions: Regions,
     pub withs: Withs,
@@ -40,6 +41,7 @@ pub struct Knowledge {
 impl Drop for Knowledge {
     fn drop(self) {
         let Self {
+            alloc: _,
             declarations: _,
             regions: _,
             withs: _,
@@ -58,6 +60,7 @@ impl Knowledge {
         ensures { IfOk result (λ made. Stands made known_at_first) }
     {
         Ok(Knowledge {
+            alloc,
             declarations: predefined(alloc)?,
             regions: Regions::new(alloc),
             withs: Withs::new(alloc),
@@ -86,6 +89,7 @@ impl Knowledge {
     {
         see_regions(
             &self.declarations,
+            self.regions.given_uses(),
             &self.regions.uses,
             Sighting::Nothing,
             &self.regions.around,

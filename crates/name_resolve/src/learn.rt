@@ -11,11 +11,13 @@ ghost use Rattle.name_events.specs.Completions.{completed_by};
 ghost use Rattle.name_resolve.specs.Tables.{searched, Answers};
 ghost use Rattle.name_resolve.specs.Stands.{RegionsAre, Stands, WithsStand};
 
+use crate::contexts::Given;
 use crate::form::is_package;
 use crate::knowledge::Knowledge;
 use crate::regions::Regions;
 use crate::table::Table;
 use crate::withs::Withs;
+use indexmap::IndexSet;
 use name_events::{
     Clause, Declaration, DeclarationForm, Event, FoldedIdentifier, FoldedName, RegionPart,
 };
@@ -85,9 +87,8 @@ impl Knowledge {
     fn begin_unit(&mut self, body_of: Option<Declaration>) -> Result<(), AllocError>
         ensures { OnOk result ((now : Known) → Stands self.old now → Stands self.new (begin_unit now body_of)) }
     {
-        self.regions.begin_unit(self.contexts.uses_of(body_of))?;
-        self.withs.clear();
-        self.withs.add_all(self.contexts.withs_of(body_of))?;
+        self.regions.begin_unit(self.contexts.given_to(body_of)?)?;
+        self.withs.begin_unit(self.contexts.given_to(body_of)?);
         self.own_package = number_of(body_of);
         self.in_own_body = false;
         Ok(())
@@ -163,8 +164,9 @@ impl Knowledge {
         ensures { OnOk result ((now : Known) → Stands self.old now → Stands self.new (begin_package now (length now.declared))) }
     {
         let number = self.declarations.all.len();
-        self.contexts
-            .add(number, &self.withs.list, self.regions.uses.at(0))?;
+        let withs = self.withs.all()?;
+        let uses = self.regions.context_uses()?;
+        self.contexts.add(number, Given { withs, uses })?;
         self.own_package = Some(number);
         Ok(())
     }
@@ -303,11 +305,12 @@ impl Knowledge {
         }
     }
 
-    /// The components of a record begin.
+    /// The components of a record begin. The table is another one: to clear it would take the time
+    /// of the largest record so far.
     fn begin_record(&mut self)
         ensures { (now : Known) → Stands self.old now → Stands self.new (record now { components = [] }) }
     {
-        self.components.clear();
+        self.components = IndexSet::new(self.alloc);
     }
 
     /// A component is declared.

@@ -5,8 +5,8 @@
 //! known before it. So what is known behind the whole and not yet before a name stands later. The
 //! rules and what a name denotes are definitions of `name_events`; `specs/Stands.antt` says how the
 //! tables here stand for the lists there. Time and memory are linear in the sources but for
-//! look-ups by hash, for a name that no enclosing region has, which is looked for in each package
-//! in use, and for the contexts of packages, which are copied for each of their bodies.
+//! look-ups by hash, and for a name that no enclosing region has, which is looked for in each
+//! package in use. The bodies of a package share what its context gives to them.
 #![tactic(auto)]
 
 mod contexts;
@@ -17,6 +17,7 @@ mod found;
 mod infos;
 mod knowledge;
 mod learn;
+mod numbers;
 mod predefined;
 mod refusal;
 mod regions;

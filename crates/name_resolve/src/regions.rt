@@ -1,24 +1,28 @@
 //! The regions that enclose a point, and the packages in use there.
-ghost use Rattle.std.specs.Prelude.{◌≡◌, [], ◌∷◌, ◌++◌, ◌+◌, List, ℕ, OnOk, filter, map, nat_eq, not, drop, reverse};
+ghost use Rattle.std.specs.Prelude.{◌≡◌, [], ◌∷◌, ◌++◌, ◌+◌, List, ℕ, IfOk, OnOk, filter, map, nat_eq, not, drop, reverse};
 ghost use Rattle.name_events.specs.declared.declaration.OpenRegion.{OpenRegion};
 ghost use Rattle.name_events.specs.declared.declaration.RegionPart.TheVariants as part;
-ghost use Rattle.name_events.specs.Known.{part_of, region_of};
+ghost use Rattle.name_events.specs.Known.{part_of, region_of, used_in};
 ghost use Rattle.name_events.specs.KnownBehind.{turned_private};
-ghost use Rattle.name_resolve.specs.Stands.{RegionsAre};
+ghost use Rattle.name_resolve.specs.Stands.{given_uses, RegionsAre};
 
+use crate::contexts::Given;
 use crate::use_lists::UseLists;
 use name_events::{OpenRegion, RegionPart};
 use std::alloc::{AllocError, Global};
+use std::rc::Rc;
 
 /// How many regions the declarations of the language itself have.
 const PREDEFINED_REGIONS: usize = 4;
 
-/// The regions that enclose a point, the innermost last, and the packages in use there.
+/// The regions that enclose a point, the innermost last, and the packages in use there. In the
+/// predefined region those come first that the unit is given.
 #[derive(Drop)]
 pub struct Regions {
     alloc: Global,
     pub count: usize,
     pub around: Vec<OpenRegion>,
+    pub given: Option<Rc<Given>>,
     pub uses: UseLists,
     pub named: Vec<usize>,
 }
@@ -46,6 +50,7 @@ impl Regions {
             alloc,
             count: PREDEFINED_REGIONS,
             around: Vec::new(alloc),
+            given: None,
             uses: UseLists::new(alloc),
             named: Vec::new(alloc),
         }
@@ -122,14 +127,34 @@ impl Regions {
         }
     }
 
-    /// A unit begins, in which these packages are in use.
-    pub fn begin_unit(&mut self, inherited: &[usize]) -> Result<(), AllocError>
+    /// The packages in use that the unit is given.
+    pub fn given_uses(&self) -> &[usize]
+        ensures { result.now ≡ given_uses self.now.given }
+    {
+        match &self.given {
+            None => &[],
+            Some(given) => given.uses.as_slice(),
+        }
+    }
+
+    /// A list of the packages that are in use by the context.
+    pub fn context_uses(&self) -> Result<Vec<usize>, AllocError>
+        ensures { IfOk result (λ made. (count : ℕ) (enclosing : List OpenRegion) (clauses : List (ℕ × ℕ)) (packages : List ℕ)
+            → RegionsAre self.now count enclosing clauses packages → made.items ≡ used_in clauses 0) }
+    {
+        let mut made = Vec::from_slice(self.alloc, self.given_uses())?;
+        made.extend_from_slice(self.uses.at(0))?;
+        Ok(made)
+    }
+
+    /// A unit begins, to which this is given.
+    pub fn begin_unit(&mut self, given: Option<Rc<Given>>) -> Result<(), AllocError>
         ensures { OnOk result ((count : ℕ) (enclosing : List OpenRegion) (clauses : List (ℕ × ℕ)) (packages : List ℕ) → RegionsAre self.old count enclosing clauses packages
             → RegionsAre self.new count ((record { region = 0; part = part.Visible }) ∷ [])
-            (filter (λ u. not (nat_eq 0 u.0)) clauses ++ map (λ p. (0, p)) inherited.now) packages) }
+            (filter (λ u. not (nat_eq 0 u.0)) clauses ++ map (λ p. (0, p)) (given_uses given)) packages) }
     {
         self.uses.clear(self.alloc, 0)?;
-        self.uses.add(self.alloc, 0, inherited)?;
+        self.given = given;
         self.around.clear();
         self.around.push(OpenRegion {
             region: 0,

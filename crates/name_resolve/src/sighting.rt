@@ -3,7 +3,7 @@ ghost use Rattle.std.specs.Prelude.{◌≡◌, ℕ, List, option_to_list, revers
 ghost use Rattle.std.specs.List.{flat_map};
 ghost use Rattle.name_events.specs.Known.{Known, used_in, visible_member, visible_members};
 ghost use Rattle.name_resolve.specs.Sightings.{sighted, sighted_all};
-ghost use Rattle.name_resolve.specs.Tables.{listed_at};
+ghost use Rattle.name_resolve.specs.Tables.{in_use_at};
 ghost use Rattle.name_resolve.specs.Stands.{DeclarationsStand};
 
 use crate::declarations::Declarations;
@@ -72,22 +72,45 @@ fn see_packages(
     seen
 }
 
+/// Looks in the packages in use in a region. In the predefined one these come first that are given.
+fn see_region(
+    declarations: &Declarations,
+    given: &[usize],
+    uses: &UseLists,
+    so_far: Sighting,
+    region: usize,
+    word: &Word,
+) -> Sighting
+    ensures { (now : Known) → DeclarationsStand declarations.now now
+        → result ≡ sighted_all so_far (visible_members now (in_use_at given.now uses.now region) word.now) }
+{
+    let own = uses.at(region);
+    if region == 0 {
+        let seen = see_packages(declarations, so_far, given, word);
+        see_packages(declarations, seen, own, word)
+    } else {
+        see_packages(declarations, so_far, own, word)
+    }
+}
+
 /// Looks in the packages in use in these regions, of which the innermost stands last.
 pub fn see_regions(
     declarations: &Declarations,
+    given: &[usize],
     uses: &UseLists,
     so_far: Sighting,
     around: &[OpenRegion],
     word: &Word,
 ) -> Sighting
-    ensures { (now : Known) (clauses : List (ℕ × ℕ)) → DeclarationsStand declarations.now now → ((region : ℕ) → listed_at uses.now region ≡ used_in clauses region)
+    ensures { (now : Known) (clauses : List (ℕ × ℕ)) → DeclarationsStand declarations.now now
+        → ((region : ℕ) → in_use_at given.now uses.now region ≡ used_in clauses region)
         → result ≡ sighted_all so_far (visible_members now (flat_map (λ inner. used_in clauses inner.region) (reverse around.now)) word.now) }
 {
     match around.split_last() {
         None => so_far,
         Some((inner, outer)) => {
-            let seen = see_packages(declarations, so_far, uses.at(inner.region), word);
-            see_regions(declarations, uses, seen, outer, word)
+            let seen = see_region(declarations, given, uses, so_far, inner.region, word);
+            see_regions(declarations, given, uses, seen, outer, word)
         }
     }
 }

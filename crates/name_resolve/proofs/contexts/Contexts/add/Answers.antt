@@ -1,13 +1,18 @@
-use Rattle.std.proofs.Common.{refl, ap, ◌∙◌, nat_eq}
+use Rattle.std.proofs.Common.{ap, sym, ◌∙◌, subst, nat_eq, [], ◌∷◌, ◌++◌}
 use Rattle.std.specs.Map.{lookup}
-use Rattle.name_resolve.specs.Stands.{given_withs, given_uses}
-use Rattle.name_resolve.proofs.Given.{withs_pushed, uses_pushed}
+use Rattle.name_events.specs.Declarations.{has_number}
+use Rattle.name_resolve.specs.Stands.{context_numbered, GivenStands}
+use Rattle.name_resolve.proofs.Given.{given_pushed}
 use Rattle.name_resolve.proofs.contexts.Contexts.add.Goals as goal
 
 pub returns : goal.returns
-returns c contexts s = record {
-  withs = λ n. ap (λ entries. given_withs (lookup (nat_eq n) entries)) c.in_ok-insert.ensures.entries
-      ∙ withs_pushed c.args.self.now.given.entries c.args.number _ contexts _ n refl c.in_ok-withs.ensures.items (s.withs n);
-  uses = λ n. ap (λ entries. given_uses (lookup (nat_eq n) entries)) c.in_ok-insert.ensures.entries
-      ∙ uses_pushed c.args.self.now.given.entries c.args.number _ contexts _ n refl c.in_ok-uses.ensures.items (s.uses n);
+returns c contexts context at withs uses s = record {
+  given = λ n. subst (λ entries. GivenStands (lookup (nat_eq n) entries) (context_numbered (contexts ++ context ∷ []) n)) (sym c.in_ok-insert.ensures.entries)
+      (given_pushed c.args.self.now.given.entries c.args.number _ contexts context n at
+      (record {
+        listed = ap (λ given. given.withs.list.items) c.in_ok-shared.ensures.ok ∙ withs.listed;
+        has = λ m. ap (λ given. has_number m given.withs.found.keys) c.in_ok-shared.ensures.ok ∙ withs.has m;
+        uses = ap (λ given. given.uses.items) c.in_ok-shared.ensures.ok ∙ uses;
+      })
+      (s.given n));
 }
