@@ -1,5 +1,4 @@
 pub mod Actuals
 pub mod BodyFormals
 pub mod Cases
-pub mod Holding
 pub mod Lists

@@ -1,4 +1,3 @@
 pub mod Actuals
 pub mod Formals
-pub mod Holding
 pub mod Making

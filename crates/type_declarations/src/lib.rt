@@ -5,8 +5,8 @@
 //! takes the first fault that is found so far and gives the first one with those of the program's
 //! units; `all_made` gives the types that the units declare, and which of them break no sentence.
 //! What is a fault, `Declarations` and `Whole` of `type_table` define.
-//! Time is linear in the code, but for a `case`, for what expressions cost, and for the full types
-//! of private types.
+//! Time is linear in the code, but for a `case`, for what expressions cost, and for private types
+//! where some type has itself in it.
 #![tactic(auto)]
 
 mod code;

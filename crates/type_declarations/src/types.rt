@@ -3,10 +3,9 @@ ghost use Rattle.std.specs.Prelude.{◌≡◌, ◌<◌, ◌++◌, length, not, i
 ghost use Rattle.resolved_tree.specs.Nodes.{code_at, tree_at};
 ghost use Rattle.type_table.specs.Types.{info, is_nil};
 ghost use Rattle.type_table.specs.Faults.{noted};
-ghost use Rattle.type_table.specs.Declarations.{any_of, are_bounds, bound_faults, components_faults, constraint_faults, definition_faults, holds_itself, holds_parent, holds_shape, index_range, integer_mark, lies_within, record_faults, renamed_faults, subtype_faults, type_faults};
+ghost use Rattle.type_table.specs.Declarations.{are_bounds, bound_faults, components_faults, constraint_faults, definition_faults, index_range, integer_mark, lies_within, record_faults, renamed_faults, subtype_faults, type_faults};
 ghost use Rattle.type_names.specs.Here.{here};
 ghost use Rattle.type_expressions.specs.Around.{context};
-ghost use Rattle.type_declarations.specs.Holding.{has, has_below};
 
 use crate::declared::{declared_number, declared_pos};
 use crate::marks::access_mark;
@@ -17,7 +16,7 @@ use type_settled::demand;
 use type_statements::{
     bounds_of, is_nothing, range_of_faults, scalar_mark, static_faults, static_value,
 };
-use type_table::{Component, Fault, Shape, Where};
+use type_table::{Fault, Where};
 
 /// With the faults of a static expression of which a type is demanded.
 #[tactic(auto, using(type_expressions::proofs::Noted::noted_append))]
@@ -136,77 +135,6 @@ fn definition_faults(
     }
 }
 
-/// Whether some of these components has the type `part`, or has it in itself as deep as `depth`.
-#[cycle(holding)]
-fn any_holds(reader: &Reader<'_>, depth: usize, part: u32, components: &[Component]) -> bool
-    ensures { result ≡ any_of (has (here reader.now).known.table part depth) components.now }
-{
-    'components: for component in components {
-        if holds_within(reader, depth, part, component.of) {
-            return true;
-        }
-    }
-    false
-}
-
-/// Whether what a type is made of has the type `part` as deep as `depth`.
-#[cycle(holding)]
-fn shape_holds(reader: &Reader<'_>, depth: usize, part: u32, shape: &Shape) -> bool
-    ensures { result ≡ holds_shape (has (here reader.now).known.table part depth) shape.now }
-{
-    match shape {
-        Shape::Fields { components } => any_holds(reader, depth, part, components.as_slice()),
-        Shape::Elements { element, .. } => holds_within(reader, depth, part, *element),
-        Shape::Same { of } => holds_within(reader, depth, part, *of),
-        _ => false,
-    }
-}
-
-/// Whether what a type is a subtype of has it.
-#[cycle(holding)]
-fn parent_holds(reader: &Reader<'_>, depth: usize, part: u32, parent: Option<u32>) -> bool
-    ensures { result ≡ holds_parent (has (here reader.now).known.table part depth) parent }
-{
-    match parent {
-        Some(of) => holds_within(reader, depth, part, of),
-        None => false,
-    }
-}
-
-/// Whether what a type is made of, or a subtype of, has it.
-#[cycle(holding)]
-fn holds_below(reader: &Reader<'_>, depth: usize, part: u32, of: u32) -> bool
-    ensures { result ≡ has_below (here reader.now).known.table part depth of }
-{
-    match reader.known.table.as_slice().get(of as usize) {
-        Some(info) => {
-            shape_holds(reader, depth, part, &info.shape)
-                || parent_holds(reader, depth, part, info.parent)
-        }
-        None => false,
-    }
-}
-
-/// Whether a type is `part` or has it in itself, looked at as deep as `depth`.
-#[cycle(holding)]
-#[tactic(auto, using(crate::proofs::Holding::has_none, crate::proofs::Holding::has_more))]
-fn holds_within(reader: &Reader<'_>, depth: usize, part: u32, of: u32) -> bool
-    ensures { result ≡ has (here reader.now).known.table part depth of }
-{
-    if depth == 0 {
-        return false;
-    }
-    reader.base(of) == part || holds_below(reader, depth - 1, part, of)
-}
-
-/// Whether a full type has its private type in itself.
-#[tactic(auto, unfolding(type_table::specs::Declarations::some_part))]
-fn holds_itself(reader: &Reader<'_>, number: u32) -> bool
-    ensures { result ≡ holds_itself (here reader.now).known.table number }
-{
-    holds_below(reader, reader.known.table.len(), number, number)
-}
-
 /// Whether a type is the full type of a private type.
 fn is_private(reader: &Reader<'_>, number: u32) -> bool
     ensures { result ≡ not (is_none (info (here reader.now).known.table number).seen_in) }
@@ -232,7 +160,7 @@ pub fn type_faults(
     let reader = checker.reader();
     let found = definition_faults(checker, found, definition);
     let number = declared_number(&reader, name);
-    let holds = !is_private(&reader, number) || !holds_itself(&reader, number);
+    let holds = !is_private(&reader, number) || !checker.settled.holds_itself(number);
     demand(found, 1, declared_pos(&reader, name), holds)
 }
 

@@ -39,6 +39,7 @@ impl<'p> Checker<'p> {
         ensures known { result.known.now ≡ self.now.settled.now.known }
     {
         Reader {
+            alloc: self.settled.alloc,
             rows: self.rows,
             known: &self.settled.known,
             home: self.home,

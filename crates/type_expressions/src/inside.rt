@@ -4,13 +4,17 @@ ghost use Rattle.resolved_tree.specs.Nodes.{tree_at};
 ghost use Rattle.type_table.specs.Entries.{integer};
 ghost use Rattle.type_table.specs.Faults.{noted};
 ghost use Rattle.type_table.specs.Expressions.{passes_parens, inside, arguments, within_suffix, behind, faults, name_faults, loose_faults};
+ghost use Rattle.type_names.specs.Occurrences.{names_for};
+ghost use Rattle.type_names.specs.Matchings.{IsFor};
 ghost use Rattle.type_expressions.specs.Around.{context};
+ghost use Rattle.type_expressions.specs.Arguments.{argument};
 
 use crate::checker::Checker;
+use ada_tree::Word;
 use resolved_tree::{Node, Operator, UnaryOperator};
 use spark_base::Pos;
 use type_names::{
-    INTEGER, element_type, fits_others, is_anonymous, operand_type, role_of, unary_type,
+    INTEGER, Matching, element_type, fits_others, is_anonymous, operand_type, role_of, unary_type,
 };
 use type_settled::demand;
 use type_table::{Fault, Role, Way, Where};
@@ -87,6 +91,48 @@ impl<'p> Checker<'p> {
         }
     }
 
+    /// With the faults around and within an argument.
+    #[cycle(inside)]
+    #[tactic(auto, using(crate::proofs::Noted::noted_append))]
+    fn argument(
+        &self,
+        found: Option<Fault>,
+        role: Role,
+        i: usize,
+        name: &Option<Word>,
+        e: usize,
+    ) -> Option<Fault>
+        requires { e < length self.now.rows.now.0 }
+        ensures { result ≡ noted found (argument (context self.now) role i name.now (tree_at self.now.rows.now e)) }
+    {
+        let found = self.around_role(found, role, i, name, e);
+        let loose = self.reader().is_loose(role, i, name);
+        let want = self.reader().role_type(role, i, name);
+        self.inside(found, loose, want, e)
+    }
+
+    /// The same, where the names of what it may be for are known.
+    #[cycle(inside)]
+    #[tactic(auto, using(crate::proofs::Steps::argument_number))]
+    fn matched_argument(
+        &self,
+        found: Option<Fault>,
+        matching: &Matching,
+        role: Role,
+        i: usize,
+        name: &Option<Word>,
+        e: usize,
+    ) -> Option<Fault>
+        requires e { e < length self.now.rows.now.0 }
+        requires matching { IsFor matching.now (names_for (context self.now) role) }
+        ensures { result ≡ noted found (argument (context self.now) role i name.now (tree_at self.now.rows.now e)) }
+    {
+        match matching.number(self.settled.alloc, name) {
+            Some(number) => self.argument(found, role, number, &None, e),
+            None => self.argument(found, role, i, name, e),
+        }
+    }
+
     /// With the faults within the arguments of a list.
     #[cycle(inside)]
     #[tactic(auto, using(crate::proofs::Noted::noted_append), unfolding(type_table::specs::Expressions::arguments))]
@@ -94,14 +140,12 @@ impl<'p> Checker<'p> {
         requires { list < length self.now.rows.now.0 }
         ensures { result ≡ noted found (arguments (context self.now) role 0 (tree_at self.now.rows.now list)) }
     {
+        let matching = self.reader().matching(role, list);
         let mut found = found;
         let mut i = list;
         let mut n = 0;
         'arguments: while let Node::Argument { name, value, rest } = self.rows.node(i) {
-            found = self.around_role(found, role, n, name, *value);
-            let loose = self.reader().is_loose(role, n, name);
-            let want = self.reader().role_type(role, n, name);
-            found = self.inside(found, loose, want, *value);
+            found = self.matched_argument(found, &matching, role, n, name, *value);
             n += 1;
             i = *rest;
         }

@@ -60,6 +60,7 @@ impl Gathering {
         ensures rows { result.rows.now ≡ rows.now }
     {
         Reader {
+            alloc: self.alloc,
             rows,
             known: &self.known,
             home: self.home,

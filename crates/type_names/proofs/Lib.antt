@@ -1,3 +1,4 @@
 pub mod SameWord
+pub mod Occurrences
 pub mod Statics
 pub mod Wide

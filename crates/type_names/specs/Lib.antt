@@ -1,2 +1,4 @@
 pub mod Here
 pub mod Formals
+pub mod Occurrences
+pub mod Matchings

@@ -1,6 +1,6 @@
 //! Lists of arguments: whether they are one for each formal or component, and what each is for
 //! (Ada 2012, 4.3.1 and 6.4.1).
-ghost use Rattle.std.specs.Prelude.{◌≡◌, ◌<◌, length, map, nat_eq};
+ghost use Rattle.std.specs.Prelude.{◌≡◌, ◌<◌, length, map, nat_eq, IfOk};
 ghost use Rattle.resolved_tree.specs.Nodes.{tree_at};
 ghost use Rattle.type_table.specs.Types.{fields, is_nil};
 ghost use Rattle.type_table.specs.Entries.{entry_of};
@@ -8,15 +8,19 @@ ghost use Rattle.type_table.specs.Names.{seen};
 ghost use Rattle.type_table.specs.Expressions.{given_names, all_by_position, count_of, each_once, associates, meant, no_formal, no_component, formal, part, call_arguments, formal_names, profile_of, fits_aggregate};
 ghost use Rattle.type_names.specs.Here.{here};
 ghost use Rattle.type_names.specs.Formals.{demanded, is_given};
+ghost use Rattle.type_names.specs.Occurrences.{each_single};
 
 use crate::formal::Formal;
 use crate::look_up::INTEGER;
+use crate::matching::FEW;
 use crate::reader::Reader;
 use crate::views::span;
+use crate::word_index::WordIndex;
 use crate::words::same_word;
 use ada_tree::Word;
 use place_names::Mode;
 use resolved_tree::Node;
+use std::alloc::{AllocError, Global};
 use type_table::{Component, FormalInfo, View};
 
 impl<'p> Reader<'p> {
@@ -77,10 +81,33 @@ impl<'p> Reader<'p> {
         ensures { result ≡ associates (map (λ f. f.name) formals.now) (given_names (tree_at self.now.rows.now list)) }
     {
         self.has_length(list, formals.len())
-            && (self.by_position(list) || self.names_formals(formals, list))
+            && (self.by_position(list) || self.names_each_formal(formals, list))
     }
 
-    /// Whether each formal is named once.
+    /// Whether each formal is named once: by hash where there are many, if there is memory.
+    fn names_each_formal(&self, formals: &[FormalInfo], list: usize) -> bool
+        requires { list < length self.now.rows.now.0 }
+        ensures { result ≡ each_once (map (λ f. f.name) formals.now) (given_names (tree_at self.now.rows.now list)) }
+    {
+        if formals.len() > FEW {
+            if let Ok(once) = self.indexes_formals(formals, list) {
+                return once;
+            }
+        }
+        self.names_formals(formals, list)
+    }
+
+    /// The same, by hash.
+    fn indexes_formals(&self, formals: &[FormalInfo], list: usize) -> Result<bool, AllocError>
+        requires { list < length self.now.rows.now.0 }
+        ensures { IfOk result (λ once. once
+            ≡ each_once (map (λ f. f.name) formals.now) (given_names (tree_at self.now.rows.now list))) }
+    {
+        let index = self.given_index(list)?;
+        each_formal(self.alloc, &index, formals)
+    }
+
+    /// The same, by comparing each with all arguments.
     fn names_formals(&self, formals: &[FormalInfo], list: usize) -> bool
         requires { list < length self.now.rows.now.0 }
         ensures { result ≡ each_once (map (λ f. f.name) formals.now) (given_names (tree_at self.now.rows.now list)) }
@@ -99,10 +126,33 @@ impl<'p> Reader<'p> {
         ensures { result ≡ associates (map (λ c. c.name) components.now) (given_names (tree_at self.now.rows.now list)) }
     {
         self.has_length(list, components.len())
-            && (self.by_position(list) || self.names_components(components, list))
+            && (self.by_position(list) || self.names_each_component(components, list))
     }
 
-    /// Whether each component is named once.
+    /// Whether each component is named once: by hash where there are many, if there is memory.
+    fn names_each_component(&self, components: &[Component], list: usize) -> bool
+        requires { list < length self.now.rows.now.0 }
+        ensures { result ≡ each_once (map (λ c. c.name) components.now) (given_names (tree_at self.now.rows.now list)) }
+    {
+        if components.len() > FEW {
+            if let Ok(once) = self.indexes_components(components, list) {
+                return once;
+            }
+        }
+        self.names_components(components, list)
+    }
+
+    /// The same, by hash.
+    fn indexes_components(&self, components: &[Component], list: usize) -> Result<bool, AllocError>
+        requires { list < length self.now.rows.now.0 }
+        ensures { IfOk result (λ once. once
+            ≡ each_once (map (λ c. c.name) components.now) (given_names (tree_at self.now.rows.now list))) }
+    {
+        let index = self.given_index(list)?;
+        each_component(self.alloc, &index, components)
+    }
+
+    /// The same, by comparing each with all arguments.
     fn names_components(&self, components: &[Component], list: usize) -> bool
         requires { list < length self.now.rows.now.0 }
         ensures { result ≡ each_once (map (λ c. c.name) components.now) (given_names (tree_at self.now.rows.now list)) }
@@ -173,6 +223,34 @@ impl<'p> Reader<'p> {
             _ => INTEGER,
         }
     }
+}
+
+/// Whether the name of each formal occurs once.
+fn each_formal(alloc: Global, index: &WordIndex, formals: &[FormalInfo]) -> Result<bool, AllocError>
+    ensures { IfOk result (λ once. once ≡ each_single index.now (map (λ f. f.name) formals.now)) }
+{
+    'formals: for formal in formals {
+        if !index.is_single(alloc, &formal.name)? {
+            return Ok(false);
+        }
+    }
+    Ok(true)
+}
+
+/// Whether the name of each component occurs once.
+fn each_component(
+    alloc: Global,
+    index: &WordIndex,
+    components: &[Component],
+) -> Result<bool, AllocError>
+    ensures { IfOk result (λ once. once ≡ each_single index.now (map (λ c. c.name) components.now)) }
+{
+    'components: for component in components {
+        if !index.is_single(alloc, &component.name)? {
+            return Ok(false);
+        }
+    }
+    Ok(true)
 }
 
 /// Whether an identifier stands before the `=>` of an argument.

@@ -5,13 +5,16 @@
 //! itself, whether it has the type that is demanded, what its static value is, and what arguments
 //! stand for. `type_table` has the definitions, each with the name of the function here that
 //! computes it; `docs/LANGUAGE.md`, "Types", says them in words (Ada 2012, 3, 4 and 6.4). Nothing
-//! is refused: that is for the crates above. Time is linear in what is read, but for arguments by
-//! name, which are compared with each formal or component.
+//! is refused: that is for the crates above. Time is linear in what is read: where many arguments
+//! stand by name, these are found by hash, with memory for an index. Where there is no memory for
+//! it, each is compared with each formal or component. A component behind a name is looked for among
+//! those of its record.
 #![tactic(auto)]
 
 mod arguments;
 mod formal;
 mod look_up;
+mod matching;
 mod names;
 mod operators;
 mod own_types;
@@ -19,10 +22,12 @@ mod reader;
 mod static_values;
 mod views;
 mod ways;
+mod word_index;
 mod words;
 
 pub use formal::Formal;
 pub use look_up::{BOOLEAN, INTEGER, is_before};
+pub use matching::Matching;
 pub use operators::{is_arithmetic, is_equality, is_join, is_logical, operand_type, unary_type};
 pub use own_types::{is_demanding, is_object, is_string, is_unknown};
 pub use reader::Reader;
@@ -32,4 +37,5 @@ pub use views::{
     is_scalar, same_bounds, to_constant, view_of,
 };
 pub use ways::role_of;
+pub use word_index::{Occurrence, WordIndex};
 pub use words::same_word;

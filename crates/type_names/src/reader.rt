@@ -6,11 +6,14 @@ ghost use Rattle.type_table.specs.Names.{is_end};
 
 use resolved_tree::{Node, Rows};
 use spark_base::Pos;
+use std::alloc::Global;
 use type_table::Known;
 
 /// The trees of a program, what is known of its declarations, and where an expression stands.
 #[derive(Clone, Copy)]
 pub struct Reader<'p> {
+    /// Where memory comes from, for what is looked up by hash.
+    pub alloc: Global,
     /// The trees.
     pub rows: &'p Rows,
     /// What is known.

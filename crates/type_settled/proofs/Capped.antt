@@ -24,7 +24,7 @@ near r = grind arith
 short_first : (n r : ℕ) → nat_le n 16 && nat_le r 17 ≡ nat_le (max (n + 1) r) 17
 short_first n r = grind arith
 
-short_reach : (qs : List (List Sel)) → all_short qs ≡ nat_le (reach qs) 17
+pub short_reach : (qs : List (List Sel)) → all_short qs ≡ nat_le (reach qs) 17
 short_reach [] = refl
 short_reach (q ∷ rest) = ap (λ b. nat_le (length q) 16 && b) (short_reach rest) ∙ short_first (length q) (reach rest)
 

@@ -27,7 +27,7 @@ module _ (f g : ℕ → ℕ) (low : ℕ → Bool) (same : (t : ℕ) → IsTrue (
       ap (λ w. w ∷ map (λ c. f c.of) rest) (same c.of (and_first (low c.of) (all_ready low rest) all))
       ∙ ap (λ ws. g c.of ∷ ws) (words_each rest (and_second (low c.of) (all_ready low rest) all))
 
-  words_same : (s : Shape) → IsTrue (shape_ready low s) → words_of f s ≡ words_of g s
+  pub words_same : (s : Shape) → IsTrue (shape_ready low s) → words_of f s ≡ words_of g s
   words_same (shape.Whole a b) all = refl
   words_same (shape.Listed literals a b) all = refl
   words_same (shape.Access t constant named) all = refl
@@ -42,7 +42,7 @@ module _ (f g : ℕ → List (List Sel)) (low : ℕ → Bool) (same : (t : ℕ) 
       ap (λ qs. map (λ q. Field i ∷ q) qs ++ numbered (i + 1) f rest) (same c.of (and_first (low c.of) (all_ready low rest) all))
       ∙ ap (λ qs. map (λ q. Field i ∷ q) (g c.of) ++ qs) (parts_each (i + 1) rest (and_second (low c.of) (all_ready low rest) all))
 
-  parts_same : (s : Shape) → IsTrue (shape_ready low s) → parts_of f s ≡ parts_of g s
+  pub parts_same : (s : Shape) → IsTrue (shape_ready low s) → parts_of f s ≡ parts_of g s
   parts_same (shape.Whole a b) all = refl
   parts_same (shape.Listed literals a b) all = refl
   parts_same (shape.Access t constant named) all = refl

@@ -15,7 +15,7 @@ use Rattle.type_table.specs.Declarations.{any_of, holds_shape, holds_parent}
 use Rattle.type_settled.specs.declared.measure.Measure.{Measure}
 use Rattle.type_settled.specs.Measures.{reach, some_below, measured, nothing, deeper, component_of, joined, fields_of, shape_measure, parent_unsound, info_measure, part_of}
 
-same_measure : (a b : Measure) → a.words ≡ b.words → a.parts ≡ b.parts → a.reach ≡ b.reach → a.unsound ≡ b.unsound → a ≡ b
+pub same_measure : (a b : Measure) → a.words ≡ b.words → a.parts ≡ b.parts → a.reach ≡ b.reach → a.unsound ≡ b.unsound → a ≡ b
 same_measure a b w p r u = λ i. record { words = w i; parts = p i; reach = r i; unsound = u i }
 
 zero_left : (n : ℕ) → 0 + n ≡ n
@@ -107,11 +107,11 @@ module _ (part : ℕ → Measure) (parts : ℕ → List (List Sel)) (same : (t :
 farther : (r : ℕ) → deeper (min 18 r) ≡ min 18 (if nat_eq r 0 then 0 else r + 1)
 farther r = grind arith
 
-reach_map : (s : Sel) (qs : List (List Sel)) → reach (map (λ q. s ∷ q) qs) ≡ (if nat_eq (reach qs) 0 then 0 else reach qs + 1)
+pub reach_map : (s : Sel) (qs : List (List Sel)) → reach (map (λ q. s ∷ q) qs) ≡ (if nat_eq (reach qs) 0 then 0 else reach qs + 1)
 reach_map s [] = refl
 reach_map s (q ∷ rest) = grind (arith, common_steps, reach_map s rest)
 
-reach_append : (qs rs : List (List Sel)) → reach (qs ++ rs) ≡ max (reach qs) (reach rs)
+pub reach_append : (qs rs : List (List Sel)) → reach (qs ++ rs) ≡ max (reach qs) (reach rs)
 reach_append [] rs = omega arith
 reach_append (q ∷ rest) rs = grind (arith, reach_append rest rs)
 
@@ -180,7 +180,7 @@ module _ (part : ℕ → Measure) (has : ℕ → Bool) (same : (t : ℕ) → (pa
 
 -- ---- all of it
 
-shape_info : (o : Option Info) → (info_found o).shape ≡ shape_found o
+pub shape_info : (o : Option Info) → (info_found o).shape ≡ shape_found o
 shape_info None = refl
 shape_info (Some i) = refl
 

@@ -1,5 +1,5 @@
 -- Types that are looked at.
-use Rattle.std.proofs.Common.{◌≡◌, ◌⊎◌, inl, inr, ℕ, zero, suc, ◌+◌, ◌<◌, Bool, true, false, not, ◌&&◌, ◌||◌, List, [], ◌∷◌, refl, sym, ap, ◌∙◌, arith, length, drop, length-set, get_or, set, nat_eq, Option, Some, None, if◌then◌else◌}
+use Rattle.std.proofs.Common.{◌≡◌, ◌⊎◌, inl, inr, ℕ, zero, suc, ◌+◌, ◌<◌, Bool, true, false, not, ◌&&◌, ◌||◌, List, [], ◌∷◌, map, refl, sym, ap, ◌∙◌, arith, length, drop, length-set, get_or, set, nat_eq, Option, Some, None, if◌then◌else◌}
 use Rattle.std.specs.Prelude.{slice_get}
 use Rattle.std.proofs.Math.Seq.{drop-cons}
 use Rattle.std.proofs.lemmas.Bool.{cases_eq}
@@ -10,9 +10,9 @@ use Rattle.type_table.specs.declared.table.Shape.TheVariants as shape
 use Rattle.type_table.specs.declared.table.Info.{Info}
 use Rattle.type_table.specs.declared.table.Made.{Made}
 use Rattle.type_table.specs.declared.judgement.Fault.{Fault}
-use Rattle.type_table.specs.Types.{Table, info, info_found, shape_found}
+use Rattle.type_table.specs.Types.{Table, base, info, info_found, shape_found}
 use Rattle.type_table.specs.Faults.{noted}
-use Rattle.type_table.specs.Declarations.{any_of, holds_shape, holds_parent, some_within, some_part}
+use Rattle.type_table.specs.Declarations.{any_of, holds_shape, holds_parent, some_within, some_part, holds_itself}
 use Rattle.type_table.specs.Whole.{is_unsound, size_faults, made_faults}
 use Rattle.type_settled.specs.declared.measure.Measure.{Measure}
 use Rattle.type_settled.specs.Measures.{nothing, marked, some_below, IsMeasured}
@@ -28,7 +28,7 @@ never_any : (cs : List Component) → any_of (λ u. false) cs ≡ false
 never_any [] = refl
 never_any (c ∷ rest) = never_any rest
 
-never_shape : (s : Shape) → holds_shape (λ u. false) s ≡ false
+pub never_shape : (s : Shape) → holds_shape (λ u. false) s ≡ false
 never_shape (shape.Whole low high) = refl
 never_shape (shape.Listed literals low high) = refl
 never_shape (shape.Access t constant named) = refl
@@ -36,7 +36,7 @@ never_shape (shape.Fields cs) = never_any cs
 never_shape (shape.Elements low high t) = refl
 never_shape (shape.Same t) = refl
 
-never_parent : (p : Option ℕ) → holds_parent (λ u. false) p ≡ false
+pub never_parent : (p : Option ℕ) → holds_parent (λ u. false) p ≡ false
 never_parent None = refl
 never_parent (Some t) = refl
 
@@ -64,6 +64,24 @@ below_within is table (suc n) t =
 part_below : (is : ℕ → Bool) (table : Table) (t : ℕ) → some_below (length table) is table t ≡ some_part is table t
 unfolding some_part
 part_below is table t = sym (below_within is table (length table) t)
+
+-- ---- a type in itself
+
+subtype_marked : (table : Table) (t u : ℕ) → 0 < t → marked (map (λ i. nat_eq i.base t) table) u ≡ nat_eq (base table u) t
+subtype_marked [] t u lt = not_zero t lt
+  where
+    not_zero : (t : ℕ) → 0 < t → false ≡ nat_eq 0 t
+    not_zero t lt = grind (arith, lt)
+subtype_marked (i ∷ rest) t zero lt = refl
+subtype_marked (i ∷ rest) t (suc u) lt = subtype_marked rest t u lt
+
+pub itself_measured : (table : Table) (marks : List Bool) (values : List Measure) (t : ℕ) (m : Measure) → 0 < t
+    → marks ≡ map (λ i. nat_eq i.base t) table → IsMeasured (marked marks) table values → m ≡ get_or values t nothing
+    → m.unsound ≡ holds_itself table t
+itself_measured table marks values t m lt is right at =
+    let same : marked marks ≡ (λ u. nat_eq (base table u) t) =
+    λ j u. (ap (λ ms. marked ms u) is ∙ subtype_marked table t u lt) j in
+    ap (λ m. m.unsound) (at ∙ right t) ∙ part_below (marked marks) table t ∙ ap (λ f. some_part f table t) same
 
 -- ---- a type that is looked at
 

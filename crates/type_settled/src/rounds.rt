@@ -1,8 +1,10 @@
 //! Types measured in rounds.
-ghost use Rattle.std.specs.Prelude.{◌≡◌, ◌<◌, ℕ, length, IfOk, map};
-ghost use Rattle.type_settled.specs.Measures.{marked, part_in, info_measure, IsMeasured};
+ghost use Rattle.std.specs.Prelude.{◌≡◌, ◌<◌, ℕ, length, get_or, IfOk, IsTrue, map};
+ghost use Rattle.type_settled.specs.Measures.{marked, nothing, part_in, info_measure, IsMeasured};
+ghost use Rattle.type_settled.specs.Orders.{IsOrdered};
 
 use crate::measure::{Measure, info_measure};
+use crate::order::Order;
 use crate::visits::measured_in_order;
 use std::alloc::{AllocError, Global};
 use type_table::Info;
@@ -23,26 +25,69 @@ fn round(
     Ok(made)
 }
 
-/// Measures all types in as many rounds as there are types: no type is nested deeper.
+/// Whether two measures are the same.
+#[tactic(auto, using(crate::proofs::Measured::same_measure))]
+fn is_same(a: Measure, b: Measure) -> bool
+    ensures { IsTrue result → a ≡ b }
+{
+    a.words == b.words && a.parts == b.parts && a.reach == b.reach && a.unsound == b.unsound
+}
+
+/// Whether the measures of all types are the same.
+fn are_same(values: &[Measure], others: &[Measure]) -> bool
+    ensures { IsTrue result → (t : ℕ) → get_or values.now t nothing ≡ get_or others.now t nothing }
+{
+    if values.len() != others.len() {
+        return false;
+    }
+    let mut i = 0;
+    'types: while i < values.len() {
+        if !is_same(values[i], others[i]) {
+            return false;
+        }
+        i += 1;
+    }
+    true
+}
+
+/// Measures all types in as many rounds as there are types, since no type is nested deeper, or until
+/// a round changes nothing.
 #[tactic(auto, using(crate::proofs::RoundSteps::round_first))]
 fn rounds(alloc: Global, table: &[Info], unsound: &[bool]) -> Result<Vec<Measure>, AllocError>
     ensures { IfOk result (λ made. IsMeasured (marked unsound.now) table.now made.items) }
 {
     let mut values = Vec::new(alloc);
     'rounds: for _round in 0..table.len() {
-        values = round(alloc, table, unsound, &values)?;
+        let next = round(alloc, table, unsound, &values)?;
+        if are_same(&values, &next) {
+            return Ok(next);
+        }
+        values = next;
     }
     Ok(values)
 }
 
-/// The measures of all types, where those that are marked are unsound.
+/// The measures of all types, of those that are measured in order.
 #[tactic(auto, using(crate::proofs::Orders::whole_measured))]
-pub fn measures(alloc: Global, table: &[Info], unsound: &[bool]) -> Result<Vec<Measure>, AllocError>
+pub fn all_measured(
+    alloc: Global,
+    table: &[Info],
+    unsound: &[bool],
+    order: Order,
+) -> Result<Vec<Measure>, AllocError>
+    requires { IsOrdered (marked unsound.now) table.now order }
     ensures { IfOk result (λ made. IsMeasured (marked unsound.now) table.now made.items) }
 {
-    let order = measured_in_order(alloc, table, unsound)?;
     if order.is_whole() {
         return Ok(order.values);
     }
     rounds(alloc, table, unsound)
+}
+
+/// The measures of all types, where those that are marked are unsound.
+pub fn measures(alloc: Global, table: &[Info], unsound: &[bool]) -> Result<Vec<Measure>, AllocError>
+    ensures { IfOk result (λ made. IsMeasured (marked unsound.now) table.now made.items) }
+{
+    let order = measured_in_order(alloc, table, unsound)?;
+    all_measured(alloc, table, unsound, order)
 }

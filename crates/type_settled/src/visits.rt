@@ -1,5 +1,5 @@
 //! Each type is visited, and behind it what it is made of.
-ghost use Rattle.std.specs.Prelude.{IfOk};
+ghost use Rattle.std.specs.Prelude.{◌<◌, length, IfOk, IsSome};
 ghost use Rattle.type_settled.specs.Measures.{marked};
 ghost use Rattle.type_settled.specs.Orders.{IsOrdered};
 
@@ -9,19 +9,46 @@ use type_table::{Component, Info, Shape};
 
 /// The types that are to be measured, the next one last.
 #[derive(Drop)]
-struct Visits {
+pub struct Visits {
     stack: Vec<usize>,
     // Whether a type's parts were put on the stack.
     seen: Vec<bool>,
 }
 
 impl Visits {
+    /// No type of this table is to be measured.
+    pub fn new(alloc: Global, table: &[Info]) -> Result<Visits, AllocError> {
+        Ok(Visits {
+            stack: Vec::new(alloc),
+            seen: vec![in alloc; false; table.len()]?,
+        })
+    }
+
+    /// Puts a type on the stack.
+    pub fn enter(&mut self, t: usize) -> Result<(), AllocError> {
+        self.stack.push(t)?;
+        Ok(())
+    }
+
+    /// Takes the last type off the stack, where what it is made of was there.
+    pub fn leave(&mut self) -> Option<usize>
+        ensures { IsSome result → length self.new.stack.items < length self.old.stack.items }
+    {
+        let Some(t) = self.stack.last().copied() else {
+            return None;
+        };
+        if !is_done(&self.seen, t) {
+            return None;
+        }
+        self.stack.pop()
+    }
+
     /// Puts a type on the stack, unless it is done.
     fn put(&mut self, done: &[bool], t: usize) -> Result<(), AllocError> {
-        if !is_done(done, t) {
-            self.stack.push(t)?;
+        if is_done(done, t) {
+            return Ok(());
         }
-        Ok(())
+        self.enter(t)
     }
 
     /// Puts the types of components on the stack.
@@ -50,7 +77,7 @@ impl Visits {
     }
 
     /// Puts on the stack what the last type is made of, and says whether there was a type.
-    fn open(&mut self, done: &[bool], table: &[Info]) -> Result<bool, AllocError> {
+    pub fn open(&mut self, done: &[bool], table: &[Info]) -> Result<bool, AllocError> {
         let Some(t) = self.stack.last().copied() else {
             return Ok(false);
         };
@@ -68,11 +95,7 @@ impl Visits {
         requires { IsOrdered (marked unsound.now) table.now order.old }
         ensures { IsOrdered (marked unsound.now) table.now order.new }
     {
-        'types: while let Some(t) = self.stack.last().copied() {
-            if !is_done(&self.seen, t) {
-                return;
-            }
-            let _ = self.stack.pop();
+        'types: while let Some(t) = self.leave() {
             if t < table.len() {
                 settle(order, table, unsound, t);
             }
@@ -90,7 +113,7 @@ impl Visits {
         requires { IsOrdered (marked unsound.now) table.now order.old }
         ensures { IsOrdered (marked unsound.now) table.now order.new }
     {
-        self.stack.push(t)?;
+        self.enter(t)?;
         'opened: for _turn in 0..table.len() {
             self.close(order, table, unsound);
             if !self.open(&order.done, table)? {
@@ -112,10 +135,7 @@ pub fn measured_in_order(
     ensures { IfOk result (λ order. IsOrdered (marked unsound.now) table.now order) }
 {
     let mut order = begin(alloc, table, unsound)?;
-    let mut visits = Visits {
-        stack: Vec::new(alloc),
-        seen: vec![in alloc; false; table.len()]?,
-    };
+    let mut visits = Visits::new(alloc, table)?;
     'types: for t in 0..table.len() {
         visits.visit(&mut order, table, unsound, t)?;
     }

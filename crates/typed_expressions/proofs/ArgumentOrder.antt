@@ -1,5 +1,5 @@
 -- Values of arguments, and their order.
-use Rattle.std.proofs.Common.{◌≡◌, ℕ, zero, suc, ◌+◌, ◌<◌, Bool, true, false, if◌then◌else◌, List, [], ◌∷◌, ◌++◌, map, length, refl, ap, ◌∙◌, subst, sym, arith}
+use Rattle.std.proofs.Common.{◌≡◌, ℕ, zero, suc, ◌+◌, ◌<◌, Bool, true, false, if◌then◌else◌, List, [], ◌∷◌, ◌++◌, map, length, get_or, Option, Some, None, is_some, refl, ap, ◌∙◌, subst, sym, arith}
 use Rattle.std.specs.List.{All as Each}
 use Rattle.std.proofs.lemmas.Grind.{common_steps}
 use Rattle.std.proofs.lemmas.List.Elements.{All-head, All-tail, All-push, All-weaker}
@@ -13,7 +13,10 @@ use Rattle.typed_tree.specs.Nodes.{TypedNodes, typed_at, Grew, Holds, HoldsAll}
 use Rattle.type_table.specs.declared.judgement.Role.TheVariants as role
 use Rattle.type_table.specs.Entries.{integer}
 use Rattle.typed_tree.specs.Expressions.{Site, arguments_given, has_name, named_value, role_names, typed_actuals, typed_expression, typed_first, typed_imaged, typed_values}
-use Rattle.typed_expressions.specs.Arguments.{named_number}
+use Rattle.type_names.specs.declared.word_index.Occurrence.{Occurrence}
+use Rattle.type_names.specs.Formals.{is_given}
+use Rattle.type_names.specs.Occurrences.{Entries, Indexes, occurrence, occurs}
+use Rattle.typed_expressions.specs.Arguments.{named_number, number_at}
 
 holds_if : (to : TypedNodes) (b : Bool) (k n : ℕ) (t u : TypedTree) → Holds to k t → Holds to n u
     → Holds to (if b then k else n) (if b then t else u)
@@ -127,3 +130,59 @@ pub named_list : (c : Context) (r : Role) (args : Tree) (values ts : List TypedT
     → ts ≡ map (λ w. named_value w (given_names args) values) (role_names c r) → typed_list ts ≡ arguments_given c r args values
 named_list c r args values ts is these =
     ap typed_list (these ∙ by_name (all_by_position (given_names args)) values (map (λ w. named_value w (given_names args) values) (role_names c r)) is)
+
+-- ---- arguments found by an index
+
+zero_behind : (n : ℕ) → n + 0 ≡ n
+zero_behind n = omega arith
+
+one_behind : (n k : ℕ) → n + 1 + k ≡ n + suc k
+one_behind n k = omega arith
+
+has_given : (w : List ℕ) (g : Given) → is_given w g ≡ has_name w g
+has_given w None = refl
+has_given w (Some v) = refl
+
+named_if : (a b : Bool) → a ≡ b → (k m : ℕ) {x : ℕ} → x ≡ (if a then k else m) → x ≡ (if b then k else m)
+named_if a b is k m at = at ∙ ap (λ c. if c then k else m) is
+
+number_from : (other : ℕ) (all : List ℕ) (w : List ℕ) (n : ℕ) (given : List Given) (numbers : List ℕ)
+    → ((k : ℕ) → get_or all (n + k) other ≡ get_or numbers k other)
+    → number_at other all (occurrence n given w) ≡ named_number other w given numbers
+number_from other all w n [] numbers at = refl
+number_from other all w n (g ∷ given) [] at =
+    by (is_given w g) (ap (λ m. get_or all m other) (sym (zero_behind n)) ∙ at 0)
+    (number_from other all w (n + 1) given [] (λ k. ap (λ m. get_or all m other) (one_behind n k) ∙ at (suc k)) ∙ none_left given)
+  where
+    none_left : (given : List Given) → named_number other w given [] ≡ other
+    none_left [] = refl
+    none_left (g ∷ given) = refl
+
+    by : (b : Bool) → get_or all n other ≡ other → number_at other all (occurrence (n + 1) given w) ≡ other
+        → number_at other all (if b then Some (record { first = n; again = is_some (occurrence (n + 1) given w) }) else occurrence (n + 1) given w)
+        ≡ other
+    by true here there = here
+    by false here there = there
+number_from other all w n (g ∷ given) (k ∷ numbers) at =
+    named_if (is_given w g) (has_name w g) (has_given w g) k (named_number other w given numbers)
+    (by (is_given w g) (ap (λ m. get_or all m other) (sym (zero_behind n)) ∙ at 0)
+    (number_from other all w (n + 1) given numbers (λ k. ap (λ m. get_or all m other) (one_behind n k) ∙ at (suc k))))
+  where
+    by : (b : Bool) → get_or all n other ≡ k
+        → number_at other all (occurrence (n + 1) given w) ≡ named_number other w given numbers
+        → number_at other all (if b then Some (record { first = n; again = is_some (occurrence (n + 1) given w) }) else occurrence (n + 1) given w)
+        ≡ (if b then k else named_number other w given numbers)
+    by true here there = here
+    by false here there = there
+
+pub numbers_are : (entries : Entries) (given : List Given) (other : ℕ) (numbers : List ℕ) (names : List (List ℕ)) → Indexes entries given
+    → map (λ w. number_at other numbers (occurs entries w)) names ≡ map (λ w. named_number other w given numbers) names
+numbers_are entries given other numbers [] same = refl
+numbers_are entries given other numbers (w ∷ rest) same =
+    let here : number_at other numbers (occurs entries w) ≡ named_number other w given numbers =
+    ap (number_at other numbers) (same w) ∙ number_from other numbers w 0 given numbers (λ k. ap (λ m. get_or numbers m other) (none_before k)) in
+    let there = numbers_are entries given other numbers rest same in
+    λ j. here j ∷ there j
+  where
+    none_before : (k : ℕ) → 0 + k ≡ k
+    none_before k = omega arith

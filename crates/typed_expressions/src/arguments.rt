@@ -3,29 +3,20 @@ ghost use Rattle.std.specs.Prelude.{◌≡◌, ◌<◌, length, map, All, IfOk};
 ghost use Rattle.resolved_tree.specs.Nodes.{tree_at};
 ghost use Rattle.type_table.specs.Expressions.{given_names};
 ghost use Rattle.type_names.specs.Here.{here};
+ghost use Rattle.type_names.specs.Occurrences.{occurs};
 ghost use Rattle.typed_tree.specs.Trees.{typed_list};
 ghost use Rattle.typed_tree.specs.Nodes.{typed_at, Grew, Holds, HoldsAll};
-ghost use Rattle.typed_tree.specs.Expressions.{arguments_given, has_name, role_names, typed_actuals, typed_imaged, typed_values};
+ghost use Rattle.typed_tree.specs.Expressions.{arguments_given, role_names, typed_actuals, typed_imaged, typed_values};
 ghost use Rattle.typed_expressions.specs.Sites.{site};
-ghost use Rattle.typed_expressions.specs.Arguments.{named_number};
+ghost use Rattle.typed_expressions.specs.Arguments.{named_number, number_at};
 
 use crate::writer::Writer;
 use ada_tree::Word;
 use resolved_tree::Node;
 use std::alloc::AllocError;
-use type_names::{INTEGER, same_word};
+use type_names::{INTEGER, WordIndex};
 use type_table::{Component, FormalInfo, Role};
 use typed_tree::{TypedNode, TypedRows};
-
-/// Whether an identifier stands before the `=>` of an argument.
-fn has_name(word: &[u8], name: &Option<Word>) -> bool
-    ensures { result ≡ has_name word.now name.now }
-{
-    match name {
-        Some(given) => same_word(word, given.as_bytes()),
-        None => false,
-    }
-}
 
 impl<'p> Writer<'p> {
     /// Adds the expressions of arguments, in the order of the text.
@@ -36,11 +27,12 @@ impl<'p> Writer<'p> {
         ensures trees { IfOk result (λ made. HoldsAll to.new made.items (typed_values (site self.now) role 0 (tree_at self.now.reader.rows.now args))) }
         ensures grew { Grew to.old to.new }
     {
+        let matching = self.reader.matching(role, args);
         let mut made = Vec::new(self.alloc);
         let mut i = args;
         let mut n = 0;
         'arguments: while let Node::Argument { name, value, rest } = self.reader.rows.node(i) {
-            let want = self.reader.role_type(role, n, name);
+            let want = self.reader.matched_type(&matching, role, n, name);
             let number = self.expression(want, *value, to)?;
             made.push(number)?;
             n += 1;
@@ -50,23 +42,22 @@ impl<'p> Writer<'p> {
     }
 
     /// The number of the value of the argument with a name, or another number.
-    fn named_number(&self, other: usize, word: &[u8], args: usize, numbers: &[usize]) -> usize
-        requires { args < length self.now.reader.rows.now.0 }
-        ensures { result ≡ named_number other word.now (given_names (tree_at self.now.reader.rows.now args)) numbers.now }
+    fn named_number(
+        &self,
+        other: usize,
+        word: &Word,
+        index: &WordIndex,
+        numbers: &[usize],
+    ) -> Result<usize, AllocError>
+        ensures { IfOk result (λ n. n ≡ number_at other numbers.now (occurs index.now word.now)) }
     {
-        let mut i = args;
-        let mut left = numbers;
-        'arguments: while let Node::Argument { name, rest, .. } = self.reader.rows.node(i) {
-            let Some((number, behind)) = left.split_first() else {
-                return other;
-            };
-            if has_name(word, name) {
-                return *number;
-            }
-            left = behind;
-            i = *rest;
+        let Some(found) = index.occurrence(self.alloc, word)? else {
+            return Ok(other);
+        };
+        match numbers.get(found.first) {
+            Some(number) => Ok(*number),
+            None => Ok(other),
         }
-        other
     }
 
     /// The numbers of values in the order of components.
@@ -74,16 +65,15 @@ impl<'p> Writer<'p> {
         &self,
         other: usize,
         components: &[Component],
-        args: usize,
+        index: &WordIndex,
         numbers: &[usize],
     ) -> Result<Vec<usize>, AllocError>
-        requires { args < length self.now.reader.rows.now.0 }
         ensures { IfOk result (λ made. made.items
-            ≡ map (λ w. named_number other w (given_names (tree_at self.now.reader.rows.now args)) numbers.now) (map (λ k. k.name) components.now)) }
+            ≡ map (λ w. number_at other numbers.now (occurs index.now w)) (map (λ k. k.name) components.now)) }
     {
         let mut made = Vec::new(self.alloc);
         'components: for component in components {
-            made.push(self.named_number(other, component.name.as_bytes(), args, numbers))?;
+            made.push(self.named_number(other, &component.name, index, numbers)?)?;
         }
         Ok(made)
     }
@@ -93,18 +83,39 @@ impl<'p> Writer<'p> {
         &self,
         other: usize,
         formals: &[FormalInfo],
-        args: usize,
+        index: &WordIndex,
         numbers: &[usize],
     ) -> Result<Vec<usize>, AllocError>
-        requires { args < length self.now.reader.rows.now.0 }
         ensures { IfOk result (λ made. made.items
-            ≡ map (λ w. named_number other w (given_names (tree_at self.now.reader.rows.now args)) numbers.now) (map (λ f. f.name) formals.now)) }
+            ≡ map (λ w. number_at other numbers.now (occurs index.now w)) (map (λ f. f.name) formals.now)) }
     {
         let mut made = Vec::new(self.alloc);
         'formals: for formal in formals {
-            made.push(self.named_number(other, formal.name.as_bytes(), args, numbers))?;
+            made.push(self.named_number(other, &formal.name, index, numbers)?)?;
         }
         Ok(made)
+    }
+
+    /// The numbers of values in the order of what they are for, found by the index of arguments.
+    fn indexed(
+        &self,
+        other: usize,
+        role: Role,
+        index: &WordIndex,
+        numbers: &[usize],
+    ) -> Result<Vec<usize>, AllocError>
+        ensures { IfOk result (λ made. made.items
+            ≡ map (λ w. number_at other numbers.now (occurs index.now w)) (role_names (here self.now.reader) role)) }
+    {
+        match role {
+            Role::Parts { of } => {
+                self.named_components(other, self.reader.fields(of), index, numbers)
+            }
+            Role::Actuals { of } => {
+                self.named_formals(other, self.reader.formals(of), index, numbers)
+            }
+            Role::Allocated { .. } | Role::Every { .. } => Ok(Vec::new(self.alloc)),
+        }
     }
 
     /// The numbers of values in the order of what they are for.
@@ -119,15 +130,8 @@ impl<'p> Writer<'p> {
         ensures { IfOk result (λ made. made.items
             ≡ map (λ w. named_number other w (given_names (tree_at self.now.reader.rows.now args)) numbers.now) (role_names (here self.now.reader) role)) }
     {
-        match role {
-            Role::Parts { of } => {
-                self.named_components(other, self.reader.fields(of), args, numbers)
-            }
-            Role::Actuals { of } => {
-                self.named_formals(other, self.reader.formals(of), args, numbers)
-            }
-            Role::Allocated { .. } | Role::Every { .. } => Ok(Vec::new(self.alloc)),
-        }
+        let index = self.reader.given_index(args)?;
+        self.indexed(other, role, &index, numbers)
     }
 
     /// Adds the list of values in the order of what they are for.

@@ -5,7 +5,7 @@
 //! of typed nodes, and gives its number. `typed_tree` has the definitions; `docs/LANGUAGE.md`,
 //! "Typed programs", says them in words (Ada 2012, 4 and 6.4). Nothing is refused: of what breaks a
 //! rule something is made, too. The only error is out of memory. Time is linear in the trees, but
-//! for arguments by name, which are compared with each formal or component.
+//! for selected components, each of which is looked for among those of its record.
 #![tactic(auto)]
 
 mod arguments;

@@ -40,6 +40,7 @@ fn writer_outside<'p>(
     ensures rows { result.reader.rows.now ≡ rows.now }
 {
     let reader = Reader {
+        alloc,
         rows,
         known,
         home: None,

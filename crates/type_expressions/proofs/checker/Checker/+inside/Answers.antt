@@ -1,5 +1,8 @@
-use Rattle.std.proofs.Common.{◌∙◌, arith}
-use Rattle.type_expressions.proofs.Steps.{arguments_step}
+use Rattle.std.proofs.Common.{◌∙◌, arith, refl, sym, ap}
+use Rattle.resolved_tree.specs.Nodes.{tree_at}
+use Rattle.type_table.specs.Faults.{noted}
+use Rattle.type_expressions.specs.Around.{context}
+use Rattle.type_expressions.proofs.Steps.{argument_number, arguments_step}
 use Rattle.type_expressions.proofs.checker.Checker.+inside.Goals as goal
 
 pub arguments-arguments-preserved : goal.arguments-arguments-preserved
@@ -8,7 +11,6 @@ arguments-arguments-preserved t c =
     let below = rw c.in-Argument.is at c.node.ensures.below in (
       grind (arith, below, c.arguments.invariant),
       grind (arith, below, c.arguments.invariant),
-      arguments_step _ _ _ _ _ _ _ _ _ _ _ _ c.reader.ensures.here c.reader-in-Argument.ensures.here tree
-          c.around_role-found.ensures c.is_loose-loose.ensures c.role_type-want.ensures c.inside-found.ensures
+      arguments_step (context c.args.self.now) c.args.role c.arguments.n _ _ _ _ _ _ tree c.matched_argument-found.ensures
           ∙ c.arguments.invariant.2,
     )

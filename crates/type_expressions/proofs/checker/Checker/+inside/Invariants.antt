@@ -1,4 +1,4 @@
-use Rattle.std.proofs.Common.{◌≡◌, ◌<◌, ◌≤◌, ◌+◌, length}
+use Rattle.std.proofs.Common.{◌≡◌, ◌<◌, ◌≤◌, ◌+◌, ◌*◌, length}
 use Rattle.resolved_tree.specs.Nodes.{tree_at}
 use Rattle.type_table.specs.Faults.{noted}
 use Rattle.type_table.specs.Expressions.{arguments, behind}
@@ -6,16 +6,22 @@ use Rattle.type_expressions.specs.Around.{context}
 use Rattle.type_expressions.proofs.checker.Checker.+inside.Given as goal
 
 abbrev pub decreases-inside : goal.decreases-inside
-decreases-inside l = l.e
+decreases-inside l = 3 * l.e
+
+abbrev pub decreases-argument : goal.decreases-argument
+decreases-argument l = 3 * l.e + 1
+
+abbrev pub decreases-matched_argument : goal.decreases-matched_argument
+decreases-matched_argument l = 3 * l.e + 2
 
 abbrev pub decreases-arguments : goal.decreases-arguments
-decreases-arguments l = l.list
+decreases-arguments l = 3 * l.list
 
 abbrev pub decreases-behind : goal.decreases-behind
-decreases-behind l = l.suffixes
+decreases-behind l = 3 * l.suffixes
 
 abbrev pub decreases-within_suffix : goal.decreases-within_suffix
-decreases-within_suffix l = l.suffix
+decreases-within_suffix l = 3 * l.suffix
 
 abbrev pub invariant-arguments-arguments : goal.invariant-arguments-arguments
 invariant-arguments-arguments l =

@@ -25,8 +25,8 @@ values-arguments-preserved t c =
     let tree = rw c.in-Argument.is at c.node.ensures.tree in
     let below = rw c.in-Argument.is at c.node.ensures.below in
     let on = values_on (site c.args.self.now) c.args.role c.arguments.to c.expression.new.to c.arguments.made.items c.push.new.self.items
-    c.in_ok-number.number c.arguments.n (c.arguments.n + 1) c.role_type-want.result c.in-Argument.name _ _ _ _ c.expression.ensures.grew
-    c.arguments.invariant.3 c.arguments.invariant.4 tree refl c.role_type-want.ensures c.in_ok-number.ensures.tree c.in_ok-push.ensures.items in (
+    c.in_ok-number.number c.arguments.n (c.arguments.n + 1) c.matched_type-want.result c.in-Argument.name _ _ _ _ c.expression.ensures.grew
+    c.arguments.invariant.3 c.arguments.invariant.4 tree refl c.matched_type-want.ensures c.in_ok-number.ensures.tree c.in_ok-push.ensures.items in (
       grind (arith, below, c.arguments.invariant.0, c.arguments.invariant.1),
       grind (arith, below, c.arguments.invariant.0, c.arguments.invariant.1),
       grew_on _ _ _ c.arguments.invariant.2 c.expression.ensures.grew,

@@ -3,7 +3,7 @@ use Rattle.std.proofs.Common.{◌≡◌, refl, ℕ, suc, ◌+◌, Bool, true, fa
 use Rattle.std.specs.Prelude.{slice_get}
 use Rattle.type_table.specs.Types.{Table, base, info, shape_found}
 use Rattle.type_table.specs.Declarations.{holds_parent, holds_shape}
-use Rattle.type_declarations.specs.Holding.{has, has_below}
+use Rattle.type_settled.specs.Holding.{has, has_below}
 
 or_assoc : (a b c : Bool) → ((a || b) || c) ≡ (a || (b || c))
 or_assoc true b c = refl

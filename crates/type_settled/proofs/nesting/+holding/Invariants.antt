@@ -1,8 +1,7 @@
 use Rattle.std.proofs.Common.{◌≡◌, ◌+◌, ◌*◌, drop}
 use Rattle.type_table.specs.Declarations.{any_of}
-use Rattle.type_names.specs.Here.{here}
-use Rattle.type_declarations.specs.Holding.{has}
-use Rattle.type_declarations.proofs.types.+holding.Given as goal
+use Rattle.type_settled.specs.Holding.{has}
+use Rattle.type_settled.proofs.nesting.+holding.Given as goal
 
 abbrev pub decreases-holds_within : goal.decreases-holds_within
 decreases-holds_within l = 4 * l.depth
@@ -21,5 +20,5 @@ decreases-holds_below l = 4 * l.depth + 3
 
 abbrev pub invariant-any_holds-components : goal.invariant-any_holds-components
 invariant-any_holds-components l =
-    any_of (has (here l.reader).known.table l.part l.depth) (drop l.component-index l.components)
-    ≡ any_of (has (here l.reader).known.table l.part l.depth) l.components
+    any_of (has l.table l.part l.depth) (drop l.component-index l.components)
+    ≡ any_of (has l.table l.part l.depth) l.components
