@@ -1,5 +1,5 @@
 -- What a refusal says of the faults of a program.
-use Rattle.std.proofs.Common.{◌≡◌, ℕ, List, map, length, Option, None, Some, Result, Ok, Err, refl, sym, ap, ◌∙◌, subst}
+use Rattle.std.proofs.Common.{◌≡◌, ℕ, List, length, Option, None, Some, Result, refl, sym, ap, ◌∙◌, subst}
 use Rattle.std.specs.List.{flat_map}
 use Rattle.std.specs.Coded.{Coded, code_by, coded×, coded_list, coded_ℕ}
 use Rattle.ada_tree.specs.declared.unit.SourceUnit.{SourceUnit}
@@ -7,6 +7,7 @@ use Rattle.name_events.specs.declared.declaration.Identified.{Identified}
 use Rattle.name_events.specs.Denotes.{decl_infos}
 use Rattle.name_events.specs.Identified.{identified}
 use Rattle.resolved_tree.specs.Trees.{Code, Program}
+use Rattle.resolved_tree.specs.Nodes.{Rows, HoldsAllCode}
 use Rattle.tree_lowering.specs.Lowered.{lowered_files}
 use Rattle.type_table.specs.declared.judgement.Fault.{Fault}
 use Rattle.type_table.specs.declared.table.Known.{Known}
@@ -64,10 +65,10 @@ pub no_sentence : (known : Known) (units : List Code) (found : Option Fault) →
 no_sentence known units found is none = ap (λ (f : Option Fault). decided None f) (sym is ∙ none)
 
 -- the program of the files
-abbrev with_units : ℕ → List Code → Program
+abbrev pub with_units : ℕ → List Code → Program
 with_units count units = record { count = count; units = units }
 
-program_is : (files : List (List SourceUnit)) (units : List Code) (count : ℕ) (numbers : List Identified) → units ≡ lowered_files numbers files
+pub program_is : (files : List (List SourceUnit)) (units : List Code) (count : ℕ) (numbers : List Identified) → units ≡ lowered_files numbers files
     → count ≡ length (decl_infos files) → numbers ≡ identified files → with_units count units ≡ program_of files
 program_is files units count numbers lowered counted numbered =
     ap (with_units count) (lowered ∙ ap (λ (n : List Identified). lowered_files n files) numbered)
@@ -82,6 +83,14 @@ files_judged {A} r files known settled units count numbers judged same gathered 
     let here : Judges r (type_fault (with_units count units)) =
     subst (λ (k : Known). Judges r (fault_known k units)) (same ∙ gathered) judged in
     subst (λ (p : Program). Judges r (type_fault p)) program here
+
+-- the code of the files
+pub lowered_is : (files found : List (List SourceUnit)) (rows : Rows) (units : List ℕ) (numbers : List Identified)
+    → HoldsAllCode rows units (lowered_files numbers found) → found ≡ files → numbers ≡ identified files
+    → HoldsAllCode rows units (program_of files).units
+lowered_is files found rows units numbers holds same numbered =
+    let is : lowered_files numbers found ≡ lowered_files (identified files) files = λ j. lowered_files (numbered j) (same j) in
+    subst (λ (codes : List Code). HoldsAllCode rows units codes) is holds
 
 -- lists of identifiers with their declarations are told apart by their numbers
 pub identified_code : Coded (List Identified)

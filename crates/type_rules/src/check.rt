@@ -1,17 +1,17 @@
 //! The first broken sentence on types.
-ghost use Rattle.std.specs.Prelude.{◌≡◌, ◌<◌, All, length, map};
+ghost use Rattle.std.specs.Prelude.{◌≡◌, ◌<◌, All, IfOk, length, map};
 ghost use Rattle.name_resolve.specs.Inputs.{trees_of};
-ghost use Rattle.resolved_tree.specs.Nodes.{code_at};
+ghost use Rattle.resolved_tree.specs.Nodes.{code_at, HoldsAllCode};
 ghost use Rattle.type_expressions.specs.Around.{context};
 ghost use Rattle.type_table.specs.Refusals.{Judges};
-ghost use Rattle.type_table.specs.Whole.{fault_known, outside, type_fault};
+ghost use Rattle.type_table.specs.Whole.{fault_known, known_of, outside, type_fault};
 ghost use Rattle.type_rules.specs.Programs.{program_of, sentence_fault};
 
 use crate::refused::{sentence_refusal, size_refusal};
 use expression_lowering::NumberIndex;
 use name_resolve::Resolved;
 use resolved_tree::Rows;
-use std::alloc::Global;
+use std::alloc::{AllocError, Global};
 use tree_lowering::lower;
 use type_declarations::{all_made, sentence_faults};
 use type_expressions::Checker;
@@ -19,21 +19,50 @@ use type_gather::gather;
 use type_settled::{Settled, sizes};
 use type_table::TypeRefusal;
 
-/// Whether the files break a sentence on types: the first one, Y1 to Y3 before K1 to K8, and in the
-/// order of the text.
-pub fn check_types(alloc: Global, resolved: &Resolved) -> Result<(), TypeRefusal>
-    ensures { Judges result (type_fault (program_of (trees_of resolved.now.files.items))) }
+/// The code of the files, in rows, by the numbers of its units in the order of their text. Out of
+/// memory, the rows may have more nodes than before.
+pub fn lowered(
+    alloc: Global,
+    resolved: &Resolved,
+    rows: &mut Rows,
+) -> Result<Vec<usize>, AllocError>
+    ensures { IfOk result (λ units. HoldsAllCode rows.new units.items (program_of (trees_of resolved.now.files.items)).units) }
 {
     let numbers = NumberIndex::new(alloc, &resolved.identified)?;
-    let mut rows = Rows::new(alloc);
-    let lowered = lower(alloc, &numbers, &resolved.files, &mut rows)?;
-    let units = lowered.as_slice();
-    let decls = resolved.decls.as_slice();
-    let known = gather(alloc, &rows, units, decls.len())?;
+    let units = lower(alloc, &numbers, &resolved.files, rows)?;
+    Ok(units)
+}
+
+/// What is settled of the declarations and types of a program. `rows` has its code, `units` are the
+/// numbers of its units, and `count` is how many declarations it has, the predefined ones included.
+pub fn settled(
+    alloc: Global,
+    rows: &Rows,
+    units: &[usize],
+    count: usize,
+) -> Result<Settled, AllocError>
+    requires { All (λ u. u < length rows.now.1) units.now }
+    ensures { IfOk result (λ made. made.known ≡ known_of (record { count = count; units = map (code_at rows.now) units.now })) }
+{
+    let known = gather(alloc, rows, units, count)?;
     let settled = Settled::new(alloc, known)?;
+    Ok(settled)
+}
+
+/// Whether the units of a program break a sentence on types: the first one, Y1 to Y3 before K1 to
+/// K8, and in the order of the text.
+pub fn check_units(
+    alloc: Global,
+    rows: &Rows,
+    settled: &Settled,
+    units: &[usize],
+) -> Result<(), TypeRefusal>
+    requires { All (λ u. u < length rows.now.1) units.now }
+    ensures { Judges result (fault_known settled.now.known (map (code_at rows.now) units.now)) }
+{
     let checker = Checker {
-        rows: &rows,
-        settled: &settled,
+        rows,
+        settled,
         home: None,
         within: None,
         sub: None,
@@ -41,6 +70,19 @@ pub fn check_types(alloc: Global, resolved: &Resolved) -> Result<(), TypeRefusal
         starts: false,
     };
     check_code(alloc, &checker, units)
+}
+
+/// Whether the files break a sentence on types: the first one, Y1 to Y3 before K1 to K8, and in the
+/// order of the text.
+pub fn check_types(alloc: Global, resolved: &Resolved) -> Result<(), TypeRefusal>
+    ensures { Judges result (type_fault (program_of (trees_of resolved.now.files.items))) }
+{
+    let mut rows = Rows::new(alloc);
+    let lowered = lowered(alloc, resolved, &mut rows)?;
+    let units = lowered.as_slice();
+    let decls = resolved.decls.as_slice();
+    let settled = settled(alloc, &rows, units, decls.len())?;
+    check_units(alloc, &rows, &settled, units)
 }
 
 /// The first broken sentence of units, Y1 to Y3 before K1 to K8.

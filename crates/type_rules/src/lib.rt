@@ -4,11 +4,13 @@
 //! (`tree_lowering`), gathers what their declarations are (`type_gather`), and then goes over all
 //! types for Y1 to Y3 (`type_settled`) and over all code for K1 to K8 (`type_statements`). The
 //! definitions of both are those of `type_table`; `docs/LANGUAGE.md`, "Types", says them in words.
-//! Time and memory: each pass visits each tree a bounded number of times; `docs/COSTS.md` names what
-//! isn't linear.
+//! `lowered`, `settled` and `check_units` are its three steps, for callers that go on with what
+//! they make.
+//! Time and memory: each pass visits each tree a bounded number of times; `docs/COSTS.md` names
+//! what isn't linear.
 #![tactic(auto)]
 
 mod check;
 mod refused;
 
-pub use check::check_types;
+pub use check::{check_types, check_units, lowered, settled};

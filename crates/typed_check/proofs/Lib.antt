@@ -1,0 +1,3 @@
+-- laws
+pub mod Formed
+pub mod Checked
