@@ -1,0 +1,15 @@
+-- what is read of rows, and which trees have calls
+pub mod Reading
+pub mod Calls
+-- nodes by their kinds
+pub mod OtherNodes
+-- actuals
+pub mod Ways
+-- names that are too deep
+pub mod Deep
+-- instructions by their kinds
+pub mod ByInstruction
+-- leak checks
+pub mod DeepSpots
+-- where the first name that is too deep stands
+pub mod DeepPlaces

@@ -1,0 +1,13 @@
+-- what the public contract rests on
+pub mod Calls
+pub mod Frames
+pub mod Depths
+pub mod DeepPlaces
+-- what the functions inside promise each other
+pub mod Plans
+pub mod Turns
+pub mod Ways
+pub mod NamedActs
+pub mod Steps
+pub mod Spots
+pub mod OutNames

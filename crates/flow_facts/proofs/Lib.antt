@@ -1,0 +1,5 @@
+-- lists of facts that grow
+pub mod FactLists
+-- ascending lists, and the objects that facts are rooted in
+pub mod Ascending
+pub mod KeptRoots

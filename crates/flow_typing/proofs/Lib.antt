@@ -1,0 +1,2 @@
+-- how actuals are passed
+pub mod Ways

@@ -1,0 +1,3 @@
+-- what the public contract rests on
+pub mod Layouts
+pub mod Programs

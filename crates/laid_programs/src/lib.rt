@@ -1,0 +1,13 @@
+//! Programs that are laid out: the points of each subprogram, with the types, objects and scopes of
+//! the program.
+//!
+//! `Laid` keeps that its parts are the layout of some typed program within the limits
+//! (`specs/Layouts.antt`; `docs/FLOW.md`, "Points"). What is asked of control paths, effects, actuals
+//! and views is asked of it.
+#![tactic(auto)]
+
+mod laid;
+mod names;
+
+pub use laid::Laid;
+pub use names::Names;
