@@ -34,7 +34,7 @@ cases_step Greater k x y xs rest f h = elim h [
   | inr h ↦ elim (f h) [ inl g ↦ inl (inr g) | inr e ↦ inr e ]
 ]
 
-insert_cases : (xs : List Printed) (k y : Printed) → Has (insert_key printed_cmp xs k) y → Has xs y ⊎ (k ≡ y)
+pub insert_cases : (xs : List Printed) (k y : Printed) → Has (insert_key printed_cmp xs k) y → Has xs y ⊎ (k ≡ y)
 insert_cases [] k y h = elim h [ inl e ↦ inr e | inr h ↦ absurd h ]
 insert_cases (x ∷ xs) k y h = cases_step (printed_cmp k x) k x y xs (insert_key printed_cmp xs k) (insert_cases xs k y) h
 
@@ -44,7 +44,7 @@ keeps_step Less k x y xs rest f h = inr h
 keeps_step Equal k x y xs rest f h = h
 keeps_step Greater k x y xs rest f h = elim h [ inl e ↦ inl e | inr h ↦ inr (f h) ]
 
-insert_keeps : (xs : List Printed) (k y : Printed) → Has xs y → Has (insert_key printed_cmp xs k) y
+pub insert_keeps : (xs : List Printed) (k y : Printed) → Has xs y → Has (insert_key printed_cmp xs k) y
 insert_keeps [] k y h = absurd h
 insert_keeps (x ∷ xs) k y h = keeps_step (printed_cmp k x) k x y xs (insert_key printed_cmp xs k) (insert_keeps xs k y) h
 

@@ -2,3 +2,4 @@
 pub mod Ordered
 -- the law of such lists
 pub mod Collected
+pub mod Gained

@@ -1,4 +1,5 @@
 -- what the public contracts rest on
 pub mod PrintedReports
+pub mod Gains
 -- what comparisons promise
 pub mod Total

@@ -1,0 +1,6 @@
+-- nodes past the end
+pub mod Nodes
+-- names of actuals are within the limit
+pub mod Shallow
+-- subprograms by number, and reports of several points
+pub mod Subs

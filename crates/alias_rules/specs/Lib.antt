@@ -1,0 +1,3 @@
+-- what the functions inside promise each other
+pub mod Told
+pub mod Steps

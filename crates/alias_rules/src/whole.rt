@@ -1,0 +1,126 @@
+//! What the actuals of all calls are reported for.
+ghost use Rattle.std.specs.Prelude.{◌≡◌, None, map, flat_map, IfOk, OnOk};
+ghost use Rattle.spark_base.specs.Lists.{Has};
+ghost use Rattle.typed_tree.specs.Nodes.{typed_at};
+ghost use Rattle.flow_paths.specs.Objects.{sub_at, traverses};
+ghost use Rattle.flow_paths.specs.Aliases.{passed, alias_reports};
+ghost use Rattle.flow_paths.specs.Reports.{report_of};
+ghost use Rattle.laid_programs.specs.Programs.{program_of};
+ghost use Rattle.alias_rules.specs.Told.{known, formals_of, actuals_reports, Adds, point_reports, sub_reports, IsPointOf, ArePointsOf};
+ghost use Rattle.alias_rules.specs.Steps.{AreShallow};
+
+use crate::actuals::named_actuals;
+use crate::rules::{globals, overlaps};
+use flow_paths::{Effects, Instr, Point, Report};
+use flow_typing::is_anonymous;
+use laid_programs::Laid;
+use spark_base::Listed;
+use std::alloc::{AllocError, Global};
+
+/// The formals of a subprogram, in order.
+#[tactic(auto, using(crate::proofs::Subs::formals_past))]
+fn formals(laid: &Laid, callee: u32) -> &[u32]
+    ensures { result.now ≡ formals_of laid.now callee }
+{
+    match laid.subs.as_slice().get(callee as usize) {
+        Some(sub) => sub.formals.as_slice(),
+        None => &[],
+    }
+}
+
+/// The type of the result of a subprogram, where it is a function.
+#[tactic(auto, using(crate::proofs::Subs::result_past))]
+fn given(laid: &Laid, callee: u32) -> Option<u32>
+    ensures { result ≡ (sub_at (known laid.now) callee).result }
+{
+    match laid.subs.as_slice().get(callee as usize) {
+        Some(sub) => sub.result,
+        None => None,
+    }
+}
+
+/// Whether a subprogram gives an anonymous access value.
+fn traverses(laid: &Laid, callee: u32) -> bool
+    ensures { result ≡ traverses laid.now.table (sub_at (known laid.now) callee).result }
+{
+    match given(laid, callee) {
+        Some(t) => is_anonymous(laid.table.view(t)),
+        None => false,
+    }
+}
+
+/// The reports of one call of a procedure.
+fn report_call(
+    alloc: Global,
+    laid: &Laid,
+    effects: &Effects,
+    callee: u32,
+    actuals: usize,
+    reports: &mut Listed<Report>,
+) -> Result<(), AllocError>
+    requires { AreShallow (passed (formals_of laid.now callee) (typed_at laid.now.rows actuals)) }
+    ensures { OnOk result (Adds reports.old reports.new (actuals_reports laid.now effects.now callee actuals)) }
+{
+    let names = named_actuals(alloc, &laid.rows, formals(laid, callee), actuals)?;
+    overlaps(laid, &names, reports)?;
+    globals(laid, effects, callee, &names, reports)?;
+    Ok(())
+}
+
+/// The reports of one point.
+fn report_point(
+    alloc: Global,
+    laid: &Laid,
+    effects: &Effects,
+    point: &Point,
+    reports: &mut Listed<Report>,
+) -> Result<(), AllocError>
+    requires { IsPointOf laid.now.subs point.now }
+    ensures { OnOk result (Adds reports.old reports.new (point_reports (known laid.now) effects.now laid.now.rows point.now)) }
+{
+    match &point.instr {
+        Instr::Call {
+            sub,
+            actuals,
+            result: None,
+        } => {
+            if traverses(laid, *sub) {
+                return Err(AllocError);
+            }
+            Ok(report_call(alloc, laid, effects, *sub, *actuals, reports)?)
+        }
+        _ => Ok(()),
+    }
+}
+
+/// The reports of the points of a subprogram.
+fn report_points(
+    alloc: Global,
+    laid: &Laid,
+    effects: &Effects,
+    points: &[Point],
+    reports: &mut Listed<Report>,
+) -> Result<(), AllocError>
+    requires { ArePointsOf laid.now.subs points.now }
+    ensures { OnOk result (Adds reports.old reports.new (flat_map (point_reports (known laid.now) effects.now laid.now.rows) points.now)) }
+{
+    'points: for point in points {
+        report_point(alloc, laid, effects, point, reports)?;
+    }
+    Ok(())
+}
+
+/// What A1 and A2 report of a program, call by call (`docs/FLOW.md`, "Actuals that overlap").
+pub fn alias_reports(
+    alloc: Global,
+    laid: &Laid,
+    effects: &Effects,
+) -> Result<Listed<Report>, AllocError>
+    ensures { IfOk result (λ reports. map report_of reports ≡ alias_reports (program_of laid.now) effects.now) }
+{
+    let mut reports = Listed::new(alloc);
+    'subs: for sub in laid.subs.as_slice() {
+        report_points(alloc, laid, effects, sub.points.as_slice(), &mut reports)?;
+    }
+    Ok(reports)
+}

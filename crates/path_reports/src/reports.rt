@@ -1,0 +1,205 @@
+//! The reports of a subprogram.
+ghost use Rattle.std.specs.Prelude.{◌≡◌, ◌+◌, ◌*◌, ◌≤◌, length, map, IfOk, OnOk};
+ghost use Rattle.place_names.specs.Reports.{report_at};
+ghost use Rattle.report_lists.specs.Gains.{told, put_told, Gains};
+ghost use Rattle.flow_paths.specs.Paths.{PathReport};
+ghost use Rattle.flow_paths.specs.Printing.{printed_name};
+ghost use Rattle.state_trees.specs.FactStates.{IsKept};
+ghost use Rattle.path_facts.specs.PointTrees.{path_points_of, successors, AreWithin};
+ghost use Rattle.path_facts.specs.Carries.{state_along, acts_of};
+ghost use Rattle.path_reports.specs.CalledPoints.{called_point, called_points};
+ghost use Rattle.path_reports.specs.CalledPoints.{AreAscending, AreListed};
+ghost use Rattle.path_reports.specs.Told.{found_at, report_found, told_along, told_where, told_all};
+ghost use Rattle.path_reports.specs.Told.{IsKeptWhere, AreKept};
+
+use crate::called::called_acts;
+use borrow_observe::test_loans;
+use fact_questions::Found;
+use flow_paths::{Effects, Point};
+use move_rules::test_moves;
+use path_facts::{Steps, point_trees};
+use place_names::{Fact, Placed};
+use report_lists::{PrintedReport, ReportSet};
+use spark_base::Pos;
+use state_trees::Tree;
+use std::alloc::{AllocError, Global};
+use std::sync::ledger::Ledger;
+use type_table::Info;
+use typed_tree::{Object, print_name};
+
+/// What was found, as a report with the text of its name.
+fn printed_report(
+    alloc: Global,
+    table: &[Info],
+    objects: &[Object],
+    pos: Pos,
+    found: &Found,
+) -> Result<PrintedReport, AllocError>
+    ensures { IfOk result (λ report. report
+        ≡ told (printed_name table.now objects.now) (report_found pos found.now)) }
+{
+    let text = print_name(alloc, table, objects, &found.name)?;
+    Ok(PrintedReport {
+        pos,
+        rule: found.rule,
+        name: found.name.clone()?,
+        state: Some(found.state),
+        text,
+    })
+}
+
+/// Puts in what was found at a position.
+fn put_found(
+    alloc: Global,
+    table: &[Info],
+    objects: &[Object],
+    pos: Pos,
+    found: &[Found],
+    set: &mut ReportSet,
+) -> Result<(), AllocError>
+    ensures { OnOk result (set.new ≡ put_told (printed_name table.now objects.now) set.old
+        (map (report_found pos) found.now)) }
+{
+    'found: for one in found {
+        set.insert(printed_report(alloc, table, objects, pos, one)?)?;
+    }
+    Ok(())
+}
+
+/// Puts in what the facts that may hold forbid at an act.
+fn put_act(
+    alloc: Global,
+    table: &[Info],
+    objects: &[Object],
+    tree: &Tree<'_>,
+    placed: &Placed,
+    set: &mut ReportSet,
+) -> Result<(), AllocError>
+    ensures { OnOk result (set.new ≡ put_told (printed_name table.now objects.now) set.old
+        (map (report_at placed.now.pos) (found_at placed.now.act tree.now))) }
+{
+    let mut found = Vec::new(alloc);
+    test_moves(tree, &placed.act, &mut found)?;
+    test_loans(tree, &placed.act, &mut found)?;
+    put_found(alloc, table, objects, placed.pos, &found, set)?;
+    Ok(())
+}
+
+/// Puts in the reports of some acts, each tested before what it does.
+fn put_acts(
+    alloc: Global,
+    table: &[Info],
+    objects: &[Object],
+    tree: &mut Tree<'_>,
+    acts: &[Placed],
+    set: &mut ReportSet,
+) -> Result<(), AllocError>
+    ensures set { OnOk result (set.new ≡ put_told (printed_name table.now objects.now) set.old
+        (told_along acts.now tree.old)) }
+    ensures tree { OnOk result (tree.new ≡ state_along (acts_of acts.now) tree.old) }
+{
+    'acts: for placed in acts {
+        put_act(alloc, table, objects, tree, placed, set)?;
+        tree.apply(&placed.act)?;
+    }
+    Ok(())
+}
+
+/// Puts in the reports of a point: of its own acts, and behind them of those of its call.
+fn put_point(
+    alloc: Global,
+    table: &[Info],
+    objects: &[Object],
+    effects: &Effects,
+    tree: &Tree<'_>,
+    point: &Point,
+    set: &mut ReportSet,
+) -> Result<(), AllocError>
+    requires { AreAscending effects.now }
+    ensures set { OnOk result (set.new ≡ put_told (printed_name table.now objects.now) set.old
+        (told_along (called_point objects.now effects.now point.now).acts tree.now)) }
+    ensures kept { IsKept tree.now }
+{
+    let _list = tree.facts();
+    let called = called_acts(alloc, objects, effects, point)?;
+    let mut state = tree.copy()?;
+    put_acts(
+        alloc,
+        table,
+        objects,
+        &mut state,
+        point.acts.as_slice(),
+        set,
+    )?;
+    put_acts(alloc, table, objects, &mut state, &called, set)?;
+    Ok(())
+}
+
+/// The same, where some path comes there.
+fn put_where(
+    alloc: Global,
+    table: &[Info],
+    objects: &[Object],
+    effects: &Effects,
+    tree: &Option<Tree<'_>>,
+    point: &Point,
+    set: &mut ReportSet,
+) -> Result<(), AllocError>
+    requires { AreAscending effects.now }
+    ensures kept { IsKeptWhere tree.now }
+    ensures set { OnOk result (set.new ≡ put_told (printed_name table.now objects.now) set.old
+        (told_where (called_point objects.now effects.now point.now).acts tree.now)) }
+{
+    match tree {
+        Some(tree) => Ok(put_point(alloc, table, objects, effects, tree, point, set)?),
+        None => Ok(()),
+    }
+}
+
+/// Puts in the reports of all points.
+fn put_points(
+    alloc: Global,
+    table: &[Info],
+    objects: &[Object],
+    effects: &Effects,
+    trees: &[Option<Tree<'_>>],
+    points: &[Point],
+    set: &mut ReportSet,
+) -> Result<(), AllocError>
+    requires order { AreAscending effects.now }
+    requires count { length trees.now ≡ length points.now }
+    ensures kept { OnOk result (AreKept trees.now) }
+    ensures set { OnOk result (set.new ≡ put_told (printed_name table.now objects.now) set.old
+        (told_all (called_points objects.now effects.now points.now) trees.now)) }
+{
+    'points: for p in 0..points.len() {
+        put_where(alloc, table, objects, effects, &trees[p], &points[p], set)?;
+    }
+    Ok(())
+}
+
+/// Puts in exactly the reports of the rules on facts over all control paths of a subprogram, each
+/// with the text of its name. Each state that is carried along a successor counts one step,
+/// whatever comes of it. The only error is out of memory.
+pub fn path_reports<L: Ledger>(
+    alloc: Global,
+    table: &[Info],
+    objects: &[Object],
+    effects: &Effects,
+    points: &[Point],
+    facts: &[Fact],
+    set: &mut ReportSet,
+    steps: &mut Steps<L>,
+) -> Result<(), AllocError>
+    requires within { AreWithin (path_points_of points.now) }
+    requires listed { AreListed facts.now (path_points_of points.now) }
+    requires order { AreAscending effects.now }
+    ensures reports { OnOk result (Gains (printed_name table.now objects.now)
+        (PathReport (called_points objects.now effects.now points.now)) set.old set.new) }
+    ensures cost { steps.new
+        ≤ steps.old + successors (path_points_of points.now) * (2 * length facts.now + 2) }
+{
+    let trees = point_trees(alloc, points, facts, steps)?;
+    put_points(alloc, table, objects, effects, &trees, points, set)?;
+    Ok(())
+}

@@ -1,0 +1,5 @@
+-- Scopes on the way outwards.
+use Rattle.std.specs.Prelude.{ℕ, List, get_or}
+
+abbrev pub around : List ℕ → ℕ → ℕ
+around scopes b = get_or scopes b b
