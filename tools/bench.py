@@ -115,6 +115,15 @@ def packages():
     return filled("\n".join(lines) + "\n")
 
 
+def second_bodies():
+    """A package with a long context, and 60,000 bodies of it."""
+    names = ", ".join("P%d" % i for i in range(1_000))
+    lines = ["package P%d is end P%d;" % (i, i) for i in range(1_000)]
+    lines += ["with %s;" % names, "use %s;" % names] * 40
+    lines += ["package Q is end Q;"] + ["package body Q is end Q;"] * 60_000
+    return filled("\n".join(lines) + "\n")
+
+
 def files():
     """64 files: packages that each use the one before in 1,000 declarations, and the main procedure."""
     texts = ["package P0 is X0 : Integer := 0; end P0;\n"]
@@ -207,6 +216,7 @@ def cases():
     yield "one_region", one_region(), 2, 1, "U1"
     yield "hiding_blocks", hiding_blocks(), 2, 1, "U1"
     yield "packages", packages(), 2, 1, "U1"
+    yield "second_bodies", second_bodies(), 2, 1, "N2"
     yield "files", files(), 2, 1, "U1"
     yield "type_chain", type_chain(), 2, 1, "U1"
     yield "reversed_chain", reversed_chain(), 2, 1, "U1"
