@@ -84,7 +84,7 @@ ROWS = [
             in a string and is none of the printable ASCII characters, as a tab. In comments any byte may stand.
             """,
         bad="refusals/L1_question_mark.adb",
-        good="accepted/U1_value_by_assignment.adb",
+        good="accepted/K1_value_by_assignment.adb",
         mend="""
             Remove the byte, or write the name or the text in ASCII. At the end of a line with an open string the byte
             is a carriage return: close the string.
@@ -156,7 +156,7 @@ ROWS = [
             here too, where no word tells them: `**`, `<>`, character literals.
             """,
         bad="refusals/P1_no_statement.adb",
-        good="accepted/U1_only_null.adb",
+        good="accepted/P1_only_null.adb",
         mend="""
             Look at the token, then at the one before it. [LANGUAGE.md](LANGUAGE.md#grammar) has the whole grammar, and
             [examples](LANGUAGE.md#what-is-refused) of such tokens.
@@ -170,7 +170,7 @@ ROWS = [
             are packages, subprograms, blocks, loops, `if`, `case`, `record` and parentheses.
             """,
         bad="refusals/P2_nested_parentheses.adb",
-        good="refusals/U1_nested_parentheses.adb",
+        good="accepted/P2_63_parentheses.adb",
         good_is="""
             With one pair of parentheses less the grammar has no objection. No program with such an expression is
             checked yet, so today it is refused with [U1](#u1-a-form-of-program-that-isnt-checked-yet):
@@ -187,7 +187,7 @@ ROWS = [
             as `new` in a wrong position is P3 too.
             """,
         bad="refusals/P3_raise.adb",
-        good="accepted/U1_only_null.adb",
+        good="accepted/P1_only_null.adb",
         mend="""
             Do without the construct, or keep it in a unit of its own that isn't given to `spark`. In the example, the
             neighbour also has the context clause that all checked programs have today.
@@ -231,7 +231,7 @@ ROWS = [
             name that two packages in use both have.
             """,
         bad="refusals/N3_no_with_clause.adb",
-        good="refusals/U1_with_clause.adb",
+        good="accepted/N3_with_clause.adb",
         good_is="""
             With the clause the name is visible. No program with such a call is checked yet, so today it is refused with
             [U1](#u1-a-form-of-program-that-isnt-checked-yet):
@@ -265,7 +265,7 @@ ROWS = [
             declared.
             """,
         bad="refusals/N5_no_body.adb",
-        good="refusals/U1_package_body.adb",
+        good="accepted/N5_package_body.adb",
         good_is="""
             With the body nothing is missing. No program with packages is checked yet, so today it is refused with
             [U1](#u1-a-form-of-program-that-isnt-checked-yet):
@@ -277,7 +277,7 @@ ROWS = [
         title="another name after `end`",
         meaning="The name after `end` isn't that of the package, procedure or function that ends there.",
         bad="refusals/N6_other_closing_name.adb",
-        good="accepted/U1_closing_name_in_other_case.adb",
+        good="accepted/N6_closing_name_in_other_case.adb",
         mend="Correct the name. It may be left out too, but no program without it is checked yet.",
     ),
     Row(
@@ -289,7 +289,7 @@ ROWS = [
             elements. The position is the identifier of the type. This is a limit of `spark` and not of Ada.
             """,
         bad="refusals/Y1_large_array.adb",
-        good="refusals/U1_largest_array.adb",
+        good="accepted/Y1_largest_array.adb",
         good_is="""
             With one element less the type is within the limit. No program with packages is checked yet, so today it is
             refused with [U1](#u1-a-form-of-program-that-isnt-checked-yet):
@@ -307,7 +307,7 @@ ROWS = [
             limit of `spark` and not of Ada.
             """,
         bad="refusals/Y2_65_access_parts.adb",
-        good="refusals/U1_64_access_parts.adb",
+        good="accepted/Y2_64_access_parts.adb",
         good_is="""
             With an Integer for the last component the type has 64 such parts. No program with records is checked yet,
             so today it is refused with [U1](#u1-a-form-of-program-that-isnt-checked-yet):
@@ -324,7 +324,7 @@ ROWS = [
             definition has no other fault are looked at for Y1 to Y3, and these codes go before all of K1 to K8.
             """,
         bad="refusals/Y3_no_elements.adb",
-        good="refusals/U1_one_element.adb",
+        good="accepted/Y3_one_element.adb",
         good_is="""
             With one element there is no objection. No program with arrays is checked yet, so today it is refused with
             [U1](#u1-a-form-of-program-that-isnt-checked-yet):
@@ -360,7 +360,7 @@ ROWS = [
             and of what frees an object. Ada has the same rule.
             """,
         bad="refusals/K2_constant.adb",
-        good="refusals/U1_variable.adb",
+        good="accepted/K2_variable.adb",
         good_is="""
             A variable may be assigned to. No program with initial values is checked yet, so today it is refused with
             [U1](#u1-a-form-of-program-that-isnt-checked-yet):
@@ -379,7 +379,7 @@ ROWS = [
             a `return` has an expression too many or lacks one; or an `exit` stands outside of a loop.
             """,
         bad="refusals/K3_missing_actual.adb",
-        good="refusals/U1_all_actuals.adb",
+        good="accepted/K3_all_actuals.adb",
         good_is="""
             With an actual for each formal the call fits. No program with packages is checked yet, so today it is
             refused with [U1](#u1-a-form-of-program-that-isnt-checked-yet):
@@ -399,7 +399,7 @@ ROWS = [
             missing or doubled, names and positions are mixed, or `others` stands in a record.
             """,
         bad="refusals/K4_missing_choice.adb",
-        good="refusals/U1_all_choices.adb",
+        good="accepted/K4_all_choices.adb",
         good_is="""
             With a choice for each value nothing is missing. No program with `case` is checked yet, so today it is
             refused with [U1](#u1-a-form-of-program-that-isnt-checked-yet):
@@ -434,7 +434,7 @@ ROWS = [
             these rules.
             """,
         bad="refusals/K6_no_initial_value.adb",
-        good="refusals/U1_borrower.adb",
+        good="accepted/K6_borrower.adb",
         good_is="""
             With a name as its initial value B borrows. No program with blocks is checked yet, so today it is refused
             with [U1](#u1-a-form-of-program-that-isnt-checked-yet):
@@ -454,7 +454,7 @@ ROWS = [
             bounds of arrays and subtypes, and subtypes without values.
             """,
         bad="refusals/K7_variable_as_bound.adb",
-        good="refusals/U1_constant_as_bound.adb",
+        good="accepted/K7_constant_as_bound.adb",
         good_is="""
             A constant with a static value is a bound. No program with arrays is checked yet, so today it is refused
             with [U1](#u1-a-form-of-program-that-isnt-checked-yet):
@@ -473,7 +473,7 @@ ROWS = [
             or observed there. Ada allows it.
             """,
         bad="refusals/K8_function_call.adb",
-        good="refusals/U1_function_call_in_body.adb",
+        good="accepted/K8_function_call_in_body.adb",
         good_is="""
             In a subprogram an object may begin with a call. No program with packages is checked yet, so today it is
             refused with [U1](#u1-a-form-of-program-that-isnt-checked-yet):
@@ -491,8 +491,8 @@ ROWS = [
             no other programs are checked so far. The position is always line 1, column 1 of the first file, whatever the
             cause. Two or more files that pass these rules are always refused so.
             """,
-        bad="refusals/U1_initial_value.adb",
-        good="accepted/U1_value_by_assignment.adb",
+        bad="accepted/K1_initial_value.adb",
+        good="accepted/K1_value_by_assignment.adb",
         mend="""
             Compare the program with the sentences of the [form](LANGUAGE.md#the-straight-line-form): one procedure
             with the context clause, no initial values, no branches, loops or calls but those that free. A program

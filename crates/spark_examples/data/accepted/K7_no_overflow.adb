@@ -1,0 +1,9 @@
+--  K7: each value on the way is within Integer.
+--> spark check K7_no_overflow.adb
+--> status 0
+--> out accepted
+procedure Main is
+   Limit : constant := 2_147_483_647 - 1 + 1;
+begin
+   null;
+end Main;
