@@ -1,8 +1,8 @@
 --  Two mistakes in the use of a package: a job that is freed while it is looked at, and two names for one queue.
 --> spark check queues.ads queues.adb main.adb
 --> status 1
---> err main.adb:20:13: O10 Urgent: observed
---> err main.adb:23:36: O10 Todo: moved
+--> err main.adb:20:16: O10 Urgent: observed
+--> err main.adb:23:39: O10 Todo: moved
 with Ada.Text_IO; use Ada.Text_IO;
 with Queues; use Queues;
 procedure Main is
