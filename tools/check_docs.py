@@ -24,7 +24,6 @@ DATA = TOP / "crates" / "spark_examples" / "data"
 # The page, the file whose program it quotes, and whether the file has a head of an example.
 QUOTED = [
     ("README.md", DATA / "rules" / "O1_read_after_move.adb"),
-    ("docs/LANGUAGE.md", TOP / "crates" / "spark" / "data" / "f.adb"),
     ("docs/ARCHITECTURE.md", TOP / "crates" / "spark" / "data" / "f.adb"),
 ]
 

@@ -1,4 +1,4 @@
---  L3: 2147483647 is the largest number of the form, and zeros may stand before a number.
+--  L3: 2147483647 is the largest value of an Integer, and zeros may stand before a number.
 --> spark check L3_largest_number.adb
 --> status 0
 --> out accepted

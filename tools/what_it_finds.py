@@ -1,0 +1,346 @@
+#!/usr/bin/env python3
+"""Makes docs/WHAT_IT_FINDS.md: mistakes, the lines of `spark` for each, and what GNAT says and does.
+
+    python3 tools/what_it_finds.py                     writes the page
+    python3 tools/what_it_finds.py --check             ends with 1 where the page isn't what would be written
+    python3 tools/what_it_finds.py --run-gnat          compiles and runs each program with GNAT, keeps what is
+                                                       found in tools/what_it_finds.json, and writes the page
+    python3 tools/what_it_finds.py --program ./spark   ends with 1 where `spark check` answers otherwise
+
+The programs and the lines of `spark` are those of crates/spark_examples/data; what GNAT says and does is read
+from tools/what_it_finds.json, so that only --run-gnat needs GNAT. A new mistake is a new row of ROWS, and then
+--run-gnat.
+"""
+import json
+import pathlib
+import re
+import shutil
+import signal
+import subprocess
+import sys
+import tempfile
+from typing import NamedTuple
+
+sys.dont_write_bytecode = True
+import errors_page
+
+TOP = pathlib.Path(__file__).resolve().parent.parent
+PAGE = TOP / "docs" / "WHAT_IT_FINDS.md"
+ANSWERS = TOP / "tools" / "what_it_finds.json"
+QUEUE = ["queue/queues.ads", "queue/queues.adb"]
+# How a program is built, and what the page calls it.
+BUILDS = {"checked": ["-gnata", "-gnatVa"], "unchecked": ["-gnatp"]}
+# How often each program runs, so that what depends on addresses shows.
+RUNS = 10
+
+
+class Row(NamedTuple):
+    """A mistake: what it is, how it comes about, and the example that has it, with further files of its program."""
+
+    title: str
+    text: str
+    path: str
+    others: list = []
+
+
+HEAD = """
+# What `spark` finds, and what happens without it
+
+Each section has a program with a mistake, the lines that `spark check` prints for it, and what GNAT 12 says and does.
+All of these programs are Ada that GNAT accepts. Each was compiled with all warnings but the advice to write
+`constant` (`gcc -c -gnatc -gnatwa -gnatwK`); built with assertions and all checks, validity checks included
+(`gnatmake -gnata -gnatVa`); and built without checks (`gnatmake -gnatp`).
+
+Both builds were run ten times, on Linux with the GNU C library and without input. What a program does after a
+mistake depends on the compiler, the library and the addresses of that run; the page says what was seen.
+
+The programs are files of `crates/spark_examples/data`. They stand here without their heads; the line numbers are those
+of the files, heads included. This page is made by `tools/what_it_finds.py`, which also says how to try it again.
+"""
+
+TAIL = """
+## What it doesn't find
+
+`spark check` looks at ownership alone. Programs like the following break none of its rules, and are accepted.
+"""
+
+ROWS = [
+    Row(
+        "An object is used after it was freed",
+        "`Y := X` copies an address in Ada. The object is freed through one name, and read through the other.",
+        "rules/O1_use_after_free.adb",
+    ),
+    Row("An object is freed twice", "The same with a second free.", "rules/O14_double_free.adb"),
+    Row(
+        "One branch frees what is read behind it",
+        "A test shows it only where a run takes this branch. `spark` looks at each branch.",
+        "rules/O1_freed_on_a_branch.adb",
+    ),
+    Row(
+        "A loop frees what its next turn uses",
+        "The first turn is right. The second one reads what the first one freed, and frees it again.",
+        "rules/O1_freed_in_a_loop.adb",
+    ),
+    Row(
+        "An object is changed through a second name",
+        "Nothing is freed here, so no tool for memory finds it. The author took Count for a copy.",
+        "rules/O1_changed_by_a_second_name.adb",
+    ),
+    Row(
+        "Two lists share their cells",
+        "M takes the list over, but L is used further. To drop the first cell of L frees a cell of M.",
+        "rules/O10_two_lists_with_one_rest.adb",
+    ),
+    Row(
+        "A borrower writes into what was freed",
+        "The cell is freed while B still designates it. The next cell gets its place, so the write through B changes M.",
+        "rules/O14_borrowed.adb",
+    ),
+    Row(
+        "An observer looks at what was freed",
+        "The object is freed while C still designates it.",
+        "rules/O14_observed.adb",
+    ),
+    Row(
+        "An observer outlives its source",
+        "C is given an object of an inner block, which frees it at its end.",
+        "rules/V2_freed_in_the_inner_block.adb",
+    ),
+    Row(
+        "A part is freed through a borrower",
+        "The rest of the list is taken out and freed, and the list still leads to it.",
+        "rules/O8_freed_rest.adb",
+    ),
+    Row(
+        "A call frees a package object that is looked at",
+        "What a call does isn't seen where it stands. `spark` finds from the bodies what each subprogram reads and writes.",
+        "rules/O11_freed_while_observed.adb",
+    ),
+    Row(
+        "A procedure leaves a package object without its value",
+        "Each call but the first uses what the first one freed.",
+        "rules/O9_package_object_freed.adb",
+    ),
+    Row(
+        "Two actuals are one object",
+        "GNAT passes an array by its address, so what is written to To changes From. Right would be `5 4 3 2 1`.",
+        "rules/A1_turned_onto_itself.adb",
+    ),
+    Row(
+        "An actual is a package object that the callee changes",
+        "The formal By changes with Kept, under the hand of the procedure. Right would be `1 2 3 4 5`.",
+        "rules/A2_halved_by_itself.adb",
+    ),
+    Row(
+        "A function changes a package object",
+        "Ada leaves open which operand is evaluated first, so the value of such an expression is open too.",
+        "rules/V1_order_of_evaluation.adb",
+    ),
+    Row(
+        "A procedure changes what it is given to read",
+        "The formal is of mode `in`, but Ada protects only the record itself, and not what it leads to.",
+        "rules/V1_reader_that_writes.adb",
+    ),
+    Row(
+        "A package is used wrongly in another file",
+        """The specification and the body of the package, [queues.ads](../crates/spark_examples/data/queue/queues.ads) and
+        [queues.adb](../crates/spark_examples/data/queue/queues.adb), are right.""",
+        "queue/main.adb",
+        QUEUE,
+    ),
+]
+
+NOT_FOUND = [
+    Row(
+        "An object is lost",
+        "The first object is overwritten and never freed. Nothing is used wrongly, but memory is lost.",
+        "accepted/O3_overwritten.adb",
+    ),
+    Row(
+        "Null is dereferenced",
+        "Whether a name is null depends on the run. Ada has a check for it.",
+        "accepted/O1_null_is_read.adb",
+    ),
+    Row(
+        "An object without a value is read",
+        "R (2) was given no value. `spark` doesn't follow the values of objects.",
+        "accepted/O1_no_value_yet.adb",
+    ),
+]
+
+
+# ---- GNAT
+
+
+def ran(folder, *words, seconds=60):
+    return subprocess.run(
+        words, cwd=folder, stdin=subprocess.DEVNULL, capture_output=True, text=True, errors="replace", timeout=seconds
+    )
+
+
+def unit_files(folder, row):
+    """Writes the units of a program to files as GNAT wants them, and gives their names."""
+    for path in [*row.others, row.path]:
+        made = ran(folder, "gnatchop", "-q", "-w", str(errors_page.DATA / path))
+        assert made.returncode == 0, made.stderr
+    return sorted(path.name for path in folder.glob("*.ad[bs]"))
+
+
+def warnings(folder, names):
+    """What GNAT says when it compiles, line by line."""
+    said = []
+    for name in names:
+        if name.endswith(".ads") and name.replace(".ads", ".adb") in names:
+            continue
+        made = ran(folder, "gcc", "-c", "-gnatc", "-gnatwa", "-gnatwK", name)
+        assert made.returncode == 0, made.stderr
+        said += [line for line in made.stderr.splitlines() if line]
+    return said
+
+
+def ending(made):
+    """How a run ended, in words."""
+    raised = re.search(r"^raised (\w+) ?:? ?(.*)$", made.stderr, re.M)
+    if raised:
+        name = "_".join(word.capitalize() for word in raised[1].split("_"))
+        said = re.sub(r"^main\.adb:\d+ ", "", raised[2])
+        first = made.stderr.partition("\n")[0]
+        return "raises %s (%s)" % (name, first if first.startswith("free()") else said)
+    if made.returncode < 0:
+        said = made.stderr.strip().splitlines()
+        return "is ended by %s%s" % (signal.Signals(-made.returncode).name, ": " + said[0] if said else "")
+    return "ends normally" if made.returncode == 0 else "ends with status %d" % made.returncode
+
+
+def runs(folder, words):
+    """Builds a program, runs it ten times, and gives the different ends, and the output where it is always the same."""
+    made = ran(folder, "gnatmake", "-q", "-f", *words, "main.adb")
+    assert made.returncode == 0, made.stderr
+    found = [ran(folder, "./main", seconds=10) for _ in range(RUNS)]
+    outputs = {made.stdout for made in found}
+    return {"endings": sorted({ending(made) for made in found}), "output": outputs.pop() if len(outputs) == 1 else None}
+
+
+def gnat_answers(row):
+    with tempfile.TemporaryDirectory() as name:
+        folder = pathlib.Path(name)
+        answers = {"warnings": warnings(folder, unit_files(folder, row))}
+        for build, words in BUILDS.items():
+            answers[build] = runs(folder, words)
+        return answers
+
+
+def run_gnat():
+    version = ran(TOP, "gcc", "--version").stdout.splitlines()[0]
+    answers = {row.path: gnat_answers(row) for row in ROWS + NOT_FOUND}
+    ANSWERS.write_text(json.dumps({"compiler": version, "programs": answers}, indent=1, sort_keys=True) + "\n")
+
+
+# ---- the page
+
+
+def output_text(output):
+    """What a program printed, in words."""
+    if output is None:
+        return "prints numbers that differ from run to run"
+    lines = ["`%s`" % line.strip() for line in output.splitlines() if line.strip()]
+    return "prints " + ", ".join(lines) if lines else "prints nothing"
+
+
+def does(found):
+    """What a build of a program did, in words."""
+    ends = " or ".join(found["endings"])
+    if found["output"] == "" and ends != "ends normally":
+        return ends
+    return "%s, and %s" % (output_text(found["output"]), ends)
+
+
+def lines_of(row, example):
+    return "```\n%s\n```" % "\n".join(example.expected) if example.status == 0 else errors_page.shown(example)
+
+
+def section(row, answers, level):
+    example = errors_page.read_example(row.path)
+    said = answers["warnings"]
+    parts = ["%s %s" % (level, row.title), errors_page.wrapped(row.text)]
+    parts += [errors_page.filled(errors_page.link(row.path)), errors_page.program_of(example)]
+    parts += ["`spark check` prints:", lines_of(row, example)]
+    parts.append("GNAT, when it compiles, %s" % ("says:\n\n```\n%s\n```" % "\n".join(said) if said else "says nothing."))
+    parts.append(
+        errors_page.filled("Built with checks it %s. Built without, it %s." % (does(answers["checked"]), does(answers["unchecked"])))
+    )
+    return "\n\n".join(parts)
+
+
+def codes(example):
+    found = sorted({re.match(r"\S+: (\w\d+) ", line)[1] for line in example.expected if example.status})
+    return ", ".join(found) or "accepted"
+
+
+def table(answers):
+    rows = ["| mistake | `spark` | GNAT compiles | with checks it | without it |", "|---|---|---|---|---|"]
+    for row in ROWS + NOT_FOUND:
+        found = answers[row.path]
+        cells = ["[%s](#%s)" % (row.title, errors_page.slug(row.title)), codes(errors_page.read_example(row.path))]
+        cells.append("with a warning" if found["warnings"] else "without a word")
+        cells += [short(found[build]) for build in BUILDS]
+        rows.append("| %s |" % " | ".join(cells))
+    return "\n".join(rows)
+
+
+def short(found):
+    """What a build of a program did, in a few words."""
+    ends = " or ".join(re.sub(r" \(.*|: .*", "", text) for text in found["endings"])
+    if ends != "ends normally":
+        return ends
+    return "goes on" if found["output"] is None else "goes on, " + output_text(found["output"])
+
+
+def made():
+    answers = json.loads(ANSWERS.read_text())["programs"]
+    parts = [errors_page.wrapped(HEAD), table(answers)]
+    parts += [section(row, answers[row.path], "##") for row in ROWS]
+    parts += [errors_page.wrapped(TAIL)]
+    parts += [section(row, answers[row.path], "###") for row in NOT_FOUND]
+    return "\n\n".join(parts) + "\n"
+
+
+# ---- spark
+
+
+def differs(program, row):
+    """What `spark check` answers where that isn't what the example says."""
+    example = errors_page.read_example(row.path)
+    with tempfile.TemporaryDirectory() as name:
+        folder = pathlib.Path(name)
+        paths = [*row.others, row.path]
+        for path in paths:
+            shutil.copy(errors_page.DATA / path, folder)
+        got = ran(folder, program, "check", *[path.rpartition("/")[2] for path in paths])
+    said = (got.returncode, (got.stdout + got.stderr).splitlines())
+    return None if said == (example.status, example.expected) else "%s: status %d\n%s" % (row.path, said[0], "\n".join(said[1]))
+
+
+def main():
+    words = sys.argv[1:]
+    if words == ["--check"]:
+        if not PAGE.is_file() or PAGE.read_text() != made():
+            print("docs/WHAT_IT_FINDS.md isn't what tools/what_it_finds.py makes: run python3 tools/what_it_finds.py")
+            return 1
+    elif len(words) == 2 and words[0] == "--program":
+        program = str(pathlib.Path(words[1]).resolve())
+        found = [text for text in (differs(program, row) for row in ROWS + NOT_FOUND) if text]
+        print("\n".join(found + ["%d programs, %d differ" % (len(ROWS + NOT_FOUND), len(found))]))
+        return 1 if found else 0
+    elif words in ([], ["--run-gnat"]):
+        if words:
+            run_gnat()
+        PAGE.write_text(made())
+    else:
+        print(__doc__)
+        return 2
+    return 0
+
+
+if __name__ == "__main__":
+    sys.exit(main())
