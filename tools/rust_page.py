@@ -39,11 +39,22 @@ def rust_differs(folder, text):
     return None if found == wanted else "rustc: %s, and not %s" % (found, wanted)
 
 
+def gnat_refusal(folder):
+    """What GNAT says where it refuses a unit of main.adb, and nothing where it accepts all."""
+    with tempfile.TemporaryDirectory() as name:
+        units = pathlib.Path(name)
+        status, said = run(folder, "gnatchop", "-q", "-w", "main.adb", name)
+        for unit in sorted(units.glob("*.adb")):
+            if status == 0:
+                status, said = run(units, "gcc", "-c", "-gnatc", unit.name)
+        return said if status != 0 else ""
+
+
 def ada_differs(folder, text, program):
     wanted = re.findall(r"^--  spark: (.*)$", text, re.M)
     (folder / "main.adb").write_text(text)
-    status, said = run(folder, "gcc", "-c", "-gnatc", "main.adb")
-    if status != 0:
+    said = gnat_refusal(folder)
+    if said:
         return "GNAT: " + said
     if program:
         _, said = run(folder, program, "check", "main.adb")
