@@ -8,7 +8,8 @@ Checked is that links lead to files and headings that exist; that each example i
 that programs which a page quotes are those of their files; that counts of examples, wrong bodies and crates
 are right; that names of code in the pages about the code exist, and headings that the code cites; that
 TOOL.md, RULES.md and ERRORS.md have the same codes; that prose is at most 100 columns wide, keeps to one word
-for one idea and cites nothing that isn't here; and that ERRORS.md is what tools/errors_page.py makes.
+for one idea and cites nothing that isn't here; and that ERRORS.md and WHAT_IT_FINDS.md are what
+tools/errors_page.py and tools/what_it_finds.py make.
 """
 import pathlib
 import re
@@ -16,14 +17,19 @@ import sys
 
 sys.dont_write_bytecode = True
 import errors_page
+import what_it_finds
 
 TOP = pathlib.Path(__file__).resolve().parent.parent
 WIDTH = 100
 DATA = TOP / "crates" / "spark_examples" / "data"
 
-# The page, the file whose program it quotes, and whether the file has a head of an example.
+# The folders of examples of one file.
+FOLDERS = ["accepted", "leaks", "refusals", "rules", "runs"]
+
+# The page, and the file whose program it quotes.
 QUOTED = [
-    ("README.md", DATA / "rules" / "O1_read_after_move.adb"),
+    ("README.md", DATA / "queue" / "queues.ads"),
+    ("README.md", DATA / "queue" / "main.adb"),
     ("docs/ARCHITECTURE.md", TOP / "crates" / "spark" / "data" / "f.adb"),
 ]
 
@@ -121,7 +127,7 @@ def counted():
     """How many there are of what a page may count."""
     crates = [line for line in (TOP / "crates.txt").read_text().splitlines() if re.match(r"\w+:", line)]
     return {
-        "examples": len(list(DATA.glob("*/*.adb"))),
+        "examples": sum(len(list(DATA.glob(folder + "/*.adb"))) for folder in FOLDERS),
         "wrong bodies": len(list(TOP.glob("crates/*/must-fail/*.edit"))),
         "crates": len(crates),
     }
@@ -224,8 +230,10 @@ def faults(pages):
     yield from faults_of_quotes(pages)
     yield from faults_of_code(pages)
     yield from faults_of_codes(pages)
-    if errors_page.PAGE.read_text() != errors_page.made():
-        yield "docs/ERRORS.md: it isn't what tools/errors_page.py makes"
+    for maker in (errors_page, what_it_finds):
+        if not maker.PAGE.is_file() or maker.PAGE.read_text() != maker.made():
+            name = pathlib.Path(maker.__file__).name
+            yield "docs/%s: it isn't what tools/%s makes" % (maker.PAGE.name, name)
 
 
 # ---- wrapping
@@ -282,7 +290,7 @@ def main():
     paths = [TOP / "README.md"] + sorted((TOP / "docs").glob("*.md"))
     if sys.argv[1:2] == ["--wrap"]:
         for path in [pathlib.Path(name).resolve() for name in sys.argv[2:]] or paths:
-            if path != errors_page.PAGE:
+            if path not in (errors_page.PAGE, what_it_finds.PAGE):
                 path.write_text(wrap(Page(path)))
     elif sys.argv[1:]:
         print(__doc__)

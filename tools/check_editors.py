@@ -40,8 +40,18 @@ NAMES = [
 ]
 # Rules and names of places as they may be in reports (docs/RULES.md).
 RULES = ["O1", "O11", "O14", "A1", "A2", "V4"]
-PLACES = ["X", "X.all", "Head_1.Next.all.Items(?).all", "O1", "K5.all"]
-WORDS = ["moved", "borrowed", "observed"]
+PLACES = ["X", "X.all", "Head_1.Next.all.Items(?).all", "O1", "K5.all", "Store.Kept", "Ada.Text_IO"]
+WORDS = [
+    "moved",
+    "borrowed",
+    "observed",
+    "overlaps another actual",
+    "overlaps a global of the callee",
+    "constant view",
+    "source ends before the observer",
+    "not rooted in the traversed parameter",
+    "not rooted in the borrower",
+]
 
 # What other commands will write, and what the script `spark` says while it builds. None of this is
 # a report or a refusal.

@@ -786,9 +786,15 @@ def section(row):
     return "\n\n".join(parts)
 
 
+def item(row):
+    """The code and the title of a row, as an item of a list with a link."""
+    text = "- [%s](#%s): %s" % (row.code, slug("%s: %s" % (row.code, row.title)), row.title)
+    return textwrap.fill(text, WIDTH, subsequent_indent="  ", break_long_words=False, break_on_hyphens=False)
+
+
 def made():
     """The page."""
-    titles = "\n".join("- [%s](#%s): %s" % (row.code, slug("%s: %s" % (row.code, row.title)), row.title) for row in ROWS)
+    titles = "\n".join(item(row) for row in ROWS)
     return "\n\n".join([wrapped(HEAD), titles] + [section(row) for row in ROWS]) + "\n"
 
 
