@@ -252,7 +252,7 @@ def output_text(output):
 
 def does(found):
     """What a build of a program did, in words."""
-    ends = " or ".join(found["endings"])
+    ends = " or ".join(re.sub(r" \((.*)\)$", r" (`\1`)", text) for text in found["endings"])
     if found["output"] == "" and ends != "ends normally":
         return ends
     return "%s, and %s" % (output_text(found["output"]), ends)
@@ -269,9 +269,11 @@ def section(row, answers, level):
     parts += [errors_page.filled(errors_page.link(row.path)), errors_page.program_of(example)]
     parts += ["`spark check` prints:", lines_of(row, example)]
     parts.append("GNAT, when it compiles, %s" % ("says:\n\n```\n%s\n```" % "\n".join(said) if said else "says nothing."))
-    parts.append(
-        errors_page.filled("Built with checks it %s. Built without, it %s." % (does(answers["checked"]), does(answers["unchecked"])))
-    )
+    checked, unchecked = (does(answers[build]) for build in BUILDS)
+    if checked == unchecked:
+        parts.append(errors_page.filled("Built with checks and without, it %s." % checked))
+    else:
+        parts.append(errors_page.filled("Built with checks it %s. Built without, it %s." % (checked, unchecked)))
     return "\n\n".join(parts)
 
 
