@@ -1,5 +1,5 @@
 #!/usr/bin/env python3
-"""Times `./spark check` on sources of 4 MiB in all, and prints a row for each; docs/COSTS.md has the rows.
+"""Times `./spark check` on sources of at most 4 MiB, and prints a row for each; docs/COSTS.md has the rows.
 
     python3 tools/bench.py [FOLDER]
 
@@ -32,7 +32,7 @@ def filled(text):
 
 
 def form(statement):
-    """A source of the straight-line form with as many objects and statements as may be, and long names and comments."""
+    """A straight line with 512 objects and as many statements as may be, and long names and comments."""
     names = ["Object_%03d_" % i + "X" * 50 for i in range(OBJECTS)]
     lines = ["with Ada.Unchecked_Deallocation;", "procedure Main is", "   type Int_Ptr is access Integer;"]
     lines += ["   procedure Free is new Ada.Unchecked_Deallocation (Integer, Int_Ptr);"]
@@ -63,7 +63,7 @@ def token_kinds():
 
 
 def procedure(statements):
-    """A procedure with these statements, which isn't of the straight-line form: it has no context clause."""
+    """A procedure with these statements."""
     lines = ["procedure Main is", "   N : Integer := 0;", "begin"] + ["   " + text for text in statements] + ["end Main;"]
     return filled("\n".join(lines) + "\n")
 
@@ -201,30 +201,113 @@ def operator_chains():
     return filled("with Ada.Text_IO;\n" + source[: source.rindex("--")])
 
 
+def main_procedure(declarations, statements):
+    """A main procedure with lists of cells, over the type that its declarations begin with."""
+    lines = ["with Ada.Unchecked_Deallocation;", "procedure Main is", "type Cell;", "type List is access Cell;"]
+    lines += ["type Cell is record Value : Integer; Next : List; end record;"]
+    lines += ["procedure Free is new Ada.Unchecked_Deallocation (Cell, List);"]
+    return filled("\n".join(lines + declarations + ["begin"] + statements + ["end Main;"]) + "\n")
+
+
+def most_facts():
+    """A main procedure with 16,383 points and 512 facts, all in a loop of branches."""
+    lists = ["X%d" % i for i in range(512)]
+    statements = ["while N > 0 loop"]
+    statements += ["if N = %d then %s := %s; end if;" % (i, lists[(i + 1) % 512], name) for i, name in enumerate(lists)]
+    statements += ["if N > 7 then %s := null; end if;" % lists[i % 512] for i in range(7_000)]
+    statements += ["null;"] * 332 + ["end loop;"]
+    return main_procedure([", ".join(lists) + " : List;", "N : Integer := 1;"], statements)
+
+
+def branches_in_loop():
+    """Sixty branches in a loop, each of which moves or gives back."""
+    lists = ["X%d" % i for i in range(60)]
+    branches = ["if N = %d then X%d := X%d; else X%d := null; end if;" % (i, (i + 1) % 60, i, i) for i in range(60)]
+    return main_procedure([", ".join(lists) + " : List;", "N : Integer := 1;"], ["while N > 0 loop"] + branches + ["end loop;"])
+
+
+def conditionals_in_row():
+    """Forty conditionals in a row, so 2 ** 40 control paths."""
+    lists = ["X%d" % i for i in range(41)]
+    branches = ["if N = %d then X%d := X%d; end if;" % (i, i + 1, i) for i in range(40)]
+    return main_procedure([", ".join(lists) + " : List;", "N : Integer := 1;"], branches)
+
+
+def straight_line():
+    """10,000 statements of a straight line over 500 lists."""
+    lists = ["X%d" % i for i in range(500)]
+    moves = ["X%d := X%d;" % ((i + 1) % 500, i % 500) for i in range(10_000)]
+    return main_procedure([", ".join(lists) + " : List;"], moves)
+
+
+def call_cycle():
+    """10,000 procedures, each of which calls the next one and changes one of 1,000 package objects."""
+    lines = ["package P is"] + ["G%d:Integer:=0;" % i for i in range(1_000)]
+    lines += ["procedure Q%d;" % i for i in range(10_000)] + ["end P;", "package body P is"]
+    for i in range(10_000):
+        called, changed = (i + 1) % 10_000, i % 1_000
+        lines.append("procedure Q%d is begin G%d:=G%d+1;if G%d<9 then Q%d;end if;end Q%d;" % (i, changed, changed, changed, called, i))
+    lines += ["end P;", "with P; use P; procedure Main is begin Q0; end Main;"]
+    return filled("\n".join(lines) + "\n")
+
+
+def body_of(i):
+    """The body of a procedure that adds a cell, changes one through a borrower, or reads all through an observer."""
+    if i % 3 == 1:
+        return "is begin L := new Cell'(%d, L);" % i
+    if i % 3 == 2:
+        return "is B : access Cell := L; begin B.Value := B.Value + %d;" % i
+    observed = "declare C : access constant Cell := L; begin while C /= null loop S := (S + C.Value) mod 1000; C := C.Next; end loop; end;"
+    return "is S : Integer; begin %s L.Value := S;" % observed
+
+
+def lists_of_cells(count):
+    """A package of so many procedures over lists of cells, and a main procedure that calls each of them."""
+    numbers = range(1, count + 1)
+    lines = ["with Ada.Unchecked_Deallocation;", "package Work is", "type Cell; type List is access Cell;"]
+    lines += ["type Cell is record Value : Integer; Next : List; end record;"]
+    lines += ["procedure Free is new Ada.Unchecked_Deallocation (Cell, List);"]
+    lines += ["procedure P%d (L : in out List);" % i for i in numbers]
+    lines += ["end Work;", "package body Work is"]
+    lines += ["procedure P%d (L : in out List) %s end P%d;" % (i, body_of(i), i) for i in numbers]
+    lines += ["end Work;", "with Work; use Work; with Ada.Text_IO; use Ada.Text_IO;", "procedure Main is L : List;", "begin"]
+    lines += ["P%d (L);" % i for i in numbers]
+    lines += ["Put_Line (Integer'Image (L.Value));"]
+    lines += ["declare Old : List; begin while L /= null loop Old := L; L := Old.Next; Free (Old); end loop; end;", "end Main;"]
+    return "\n".join(lines) + "\n"
+
+
 def cases():
     """Each source with its name, and how `check` has to end: the status, the lines on both outputs together, and the code
     of the first of them, where it has one."""
     yield "form_accepted", form(moved_on), 0, 1, None
     yield "form_reports", form(moved_again), 1, STATEMENTS - 1, "O4"
     yield "token_kinds", token_kinds(), 2, 1, "P3"
-    yield "assignments_16000", assignments(16_000), 2, 1, "U1"
-    yield "assignments_160000", assignments(160_000), 2, 1, "U1"
-    yield "deep_parentheses", deep_parentheses(), 2, 1, "U1"
-    yield "long_chains", long_chains(), 2, 1, "U1"
-    yield "deep_blocks", deep_blocks(), 2, 1, "U1"
+    yield "assignments_16000", assignments(16_000), 0, 1, None
+    yield "assignments_160000", assignments(160_000), 2, 1, "G1"
+    yield "deep_parentheses", deep_parentheses(), 0, 1, None
+    yield "long_chains", long_chains(), 0, 1, None
+    yield "deep_blocks", deep_blocks(), 0, 1, None
     yield "open_parentheses", open_parentheses(), 2, 1, "P2"
-    yield "one_region", one_region(), 2, 1, "U1"
-    yield "hiding_blocks", hiding_blocks(), 2, 1, "U1"
-    yield "packages", packages(), 2, 1, "U1"
+    yield "one_region", one_region(), 2, 1, "G1"
+    yield "hiding_blocks", hiding_blocks(), 2, 1, "G1"
+    yield "packages", packages(), 0, 1, None
     yield "second_bodies", second_bodies(), 2, 1, "N2"
-    yield "files", files(), 2, 1, "U1"
-    yield "type_chain", type_chain(), 2, 1, "U1"
-    yield "reversed_chain", reversed_chain(), 2, 1, "U1"
-    yield "case_choices", case_choices(), 2, 1, "U1"
-    yield "array_aggregate", array_aggregate(), 2, 1, "U1"
-    yield "record_aggregate", record_aggregate(), 2, 1, "U1"
-    yield "static_chains", static_chains(), 2, 1, "U1"
-    yield "operator_chains", operator_chains(), 2, 1, "U1"
+    yield "files", files(), 2, 1, "G1"
+    yield "type_chain", type_chain(), 0, 1, None
+    yield "reversed_chain", reversed_chain(), 0, 1, None
+    yield "case_choices", case_choices(), 0, 1, None
+    yield "array_aggregate", array_aggregate(), 0, 1, None
+    yield "record_aggregate", record_aggregate(), 0, 1, None
+    yield "static_chains", static_chains(), 0, 1, None
+    yield "operator_chains", operator_chains(), 0, 1, None
+    yield "most_facts", most_facts(), 1, 512, "O4"
+    yield "branches_in_loop", branches_in_loop(), 1, 60, "O4"
+    yield "conditionals_in_row", conditionals_in_row(), 0, 1, None
+    yield "straight_line", straight_line(), 1, 9_501, "O4"
+    yield "call_cycle", call_cycle(), 0, 1, None
+    yield "lists_of_cells_1000", lists_of_cells(1_000), 0, 1, None
+    yield "lists_of_cells_10000", lists_of_cells(10_000), 0, 1, None
 
 
 def measured(paths, status, lines, code):
@@ -253,12 +336,12 @@ def bench(folder):
     print("|---|---|---|---|---|---|")
     for name, text, status, lines, code in cases():
         texts = [text] if isinstance(text, str) else text
-        assert sum(len(text) for text in texts) == SOURCE_BYTES
         paths = [folder / ("%s_%d.adb" % (name, i)) for i in range(len(texts))]
         for path, text in zip(paths, texts):
             path.write_bytes(text.encode("latin-1"))
         seconds, mib = measured(paths, status, lines, code)
-        print("| %s | %d | %d | %d | %.2f | %.0f |" % (name, SOURCE_BYTES, status, lines, seconds, mib))
+        size = sum(len(text) for text in texts)
+        print("| %s | %d | %d | %d | %.2f | %.0f |" % (name, size, status, lines, seconds, mib))
 
 
 def main():

@@ -1,10 +1,11 @@
 -- A carry of a state to a point, as the law of labels wants it.
-use Rattle.std.proofs.Common.{◌≡◌, ◌≢◌, refl, sym, ap, ◌∙◌, subst, ◌⊎◌, inl, inr, ℕ, zero, suc, set, get_or, ◌<◌, Bool, true, false, ◌||◌, not, List, [], ◌∷◌, ◌++◌, zip, length, drop, Option, Some, None, get_or-set_same, get_or-set_other, arith}
+use Rattle.std.proofs.Common.{◌≡◌, ◌≢◌, refl, sym, ap, ◌∙◌, subst, ◌⊎◌, inl, inr, ℕ, zero, suc, set, get_or, ◌<◌, Bool, true, false, ◌||◌, not, List, [], ◌∷◌, zip, length, drop, Option, Some, None, get_or-set_same, get_or-set_other, arith}
 use Rattle.std.proofs.Math.ListN.{length-set}
 use Rattle.std.specs.Bool.{Decides}
+use Rattle.std.specs.BTreeSet.{insert_key}
+use Rattle.std.specs.Ordering.{nat_cmp}
 use Rattle.std.specs.List.{list_all}
 use Rattle.spark_base.specs.Lists.{Has}
-use Rattle.spark_base.proofs.Lists.{Has-append_left, Has-append_right, Has-append_cases}
 use Rattle.place_names.specs.declared.act.Placed.{Placed}
 use Rattle.place_names.specs.declared.fact.Fact.{Fact}
 use Rattle.label_flow.specs.Searches.{Carried}
@@ -18,6 +19,7 @@ use Rattle.path_facts.specs.PointTrees.{tree_at, path_point_of, path_points_of, 
 use Rattle.path_facts.specs.Labels.{Label, Here, Says, carried, flow_of, Shows, labels_of, SearchedOn}
 use Rattle.path_facts.specs.Carries.{acts_of, come_to, CarriedTo, IsOver, AreOver}
 use Rattle.path_facts.proofs.Moves.{IsMoved}
+use Rattle.path_facts.proofs.Work.{more_keeps, more_has, more_only}
 
 same_or_not : (a b : ℕ) → (a ≡ b) ⊎ (a ≢ b)
 same_or_not a b = grind arith
@@ -70,7 +72,7 @@ carried_works : (q : ℕ) (s : FactState) (old new : List (Option FactState)) (w
     → (a : ℕ) → Has work a → Has work' a
 carried_works q s old new work work' c a h = elim c.works [
   | inl w ↦ subst (λ l. Has l a) (sym w.0) h
-  | inr w ↦ subst (λ l. Has l a) (sym w.0) (Has-append_left work (q ∷ []) a h)
+  | inr w ↦ subst (λ l. Has l a) (sym w.0) (more_keeps work q a h)
 ]
 
 pub carry_carries : (points : List PathPoint) (facts : List Fact) (p q : ℕ) (now s : FactState) (old new : List (Option FactState))
@@ -98,7 +100,7 @@ carry_carries points facts p q now s old new work work' h ks over moved c =
       pushed = λ a k m. elim (same_or_not a q) [
         | inl is ↦ elim c.works [
           | inl same ↦ inl (subst (λ n. labels_of old n k) (sym is) (subst (λ t. Shows t k) (here ∙ sym same.1) (subst (λ n. labels_of new n k) is m)))
-          | inr more ↦ inr (subst (Has work') (sym is) (subst (λ l. Has l q) (sym more.0) (Has-append_right work (q ∷ []) q (inl refl))))
+          | inr more ↦ inr (subst (Has work') (sym is) (subst (λ l. Has l q) (sym more.0) (more_has work q)))
         ]
         | inr other ↦ inl (subst (λ t. Shows t k) (tree_else q s old new work work' a other c) m)
       ];
@@ -120,9 +122,9 @@ pub carried_places : (n q : ℕ) (s : FactState) (old new : List (Option FactSta
     → CarriedTo q s old work new work' → ((a : ℕ) → Has work a → a < n) → (a : ℕ) → Has work' a → a < n
 carried_places n q s old new work work' h c places a m = elim c.works [
   | inl w ↦ places a (subst (λ l. Has l a) w.0 m)
-  | inr w ↦ elim (Has-append_cases work (q ∷ []) a (subst (λ l. Has l a) w.0 m)) [
+  | inr w ↦ elim (more_only work q a (subst (λ l. Has l a) w.0 m)) [
     | inl old ↦ places a old
-    | inr new ↦ elim new [ inl e ↦ subst (λ x. x < n) e h | inr none ↦ absurd none ]
+    | inr e ↦ subst (λ x. x < n) e h
   ]
 ]
 
@@ -136,7 +138,7 @@ set_twice (t ∷ trees) (suc q) a b = ap (λ l. t ∷ l) (set_twice trees q a b)
 -- the tree was taken out and a state put in its place
 pub carried_to : (q : ℕ) (s u : FactState) (old new : List (Option FactState)) (a t : Option FactState) (work work' : List ℕ)
     → t ≡ tree_at old q → u ≡ come_to s t → new ≡ set (set old q a) q (Some u)
-    → ((work' ≡ work) × (t ≡ Some u)) ⊎ ((work' ≡ work ++ q ∷ []) × (t ≢ Some u))
+    → ((work' ≡ work) × (t ≡ Some u)) ⊎ ((work' ≡ insert_key nat_cmp work q) × (t ≢ Some u))
     → CarriedTo q s old work new work'
 carried_to q s u old new a t work work' was is made works =
     let value : Some u ≡ Some (come_to s (tree_at old q)) = ap Some is ∙ ap (λ x. Some (come_to s x)) was in
@@ -165,7 +167,7 @@ joined_stable t s kt ks same nn =
 
 -- a join that changed the tree, and one that didn't
 pub carried_more : (q : ℕ) (s t u : FactState) (old new : List (Option FactState)) (a : Option FactState) (work work' : List ℕ)
-    → Some t ≡ tree_at old q → u ≡ joined t s → new ≡ set (set old q a) q (Some u) → work' ≡ work ++ q ∷ [] → (u ≡ t → ⊥)
+    → Some t ≡ tree_at old q → u ≡ joined t s → new ≡ set (set old q a) q (Some u) → work' ≡ insert_key nat_cmp work q → (u ≡ t → ⊥)
     → CarriedTo q s old work new work'
 carried_more q s t u old new a work work' was is made more changed =
     carried_to q s u old new a (Some t) work work' was is made (inr (more, λ e. changed (let same : t ≡ u = cc in sym same)))

@@ -1,15 +1,14 @@
 -- At most so many carries.
-use Rattle.std.proofs.Common.{◌≡◌, ◌≢◌, refl, sym, ap, ◌∙◌, inl, inr, ℕ, zero, suc, ◌<◌, ◌+◌, ◌*◌, ◌≤◌, List, [], ◌∷◌, ◌++◌, length, get_or, set, Option, Some, None, arith}
+use Rattle.std.proofs.Common.{◌≡◌, ◌≢◌, refl, sym, ap, ◌∙◌, inl, inr, ℕ, zero, suc, ◌<◌, ◌+◌, ◌*◌, ◌≤◌, List, [], ◌∷◌, length, get_or, set, Option, Some, None, arith}
+use Rattle.std.specs.BTreeSet.{insert_key}
+use Rattle.std.specs.Ordering.{nat_cmp}
 use Rattle.flow_paths.specs.Paths.{PathPoint, path_point}
 use Rattle.state_trees.specs.FactStates.{FactState, IsKept}
 use Rattle.state_trees.proofs.FactByFact.{missing_few, joined_fewer}
 use Rattle.path_facts.specs.PointTrees.{successors, tree_at}
 use Rattle.path_facts.specs.Carries.{come_to, CarriedTo}
 use Rattle.path_facts.specs.Debts.{room, costs_of, total, debt, owed}
-
-owed-append : (costs xs ys : List ℕ) → owed costs (xs ++ ys) ≡ owed costs xs + owed costs ys
-owed-append costs [] ys = omega arith
-owed-append costs (x ∷ xs) ys = (let e = owed-append costs xs ys in omega arith)
+use Rattle.path_facts.proofs.Work.{more_owed}
 
 pub times_more : (n a b : ℕ) → a + 1 ≤ b → n * a + n ≤ n * b
 times_more n a b h = grind arith
@@ -48,13 +47,14 @@ carry_pays full costs q s old new work work' h k few c = elim c.works [
       let t : Option FactState = Some (come_to s (tree_at old q)) in
       let less = less_debt full costs old q t h (fewer full s (tree_at old q) k few more.1) in
       let d : debt full costs new ≡ debt full costs (set old q t) = ap (debt full costs) c.trees in
-      let o : owed costs work' ≡ owed costs work + (get_or costs q 0 + 0) = ap (owed costs) more.0 ∙ owed-append costs work (q ∷ []) in
+      let o : owed costs work' ≡ owed costs (insert_key nat_cmp work q) = ap (owed costs) more.0 in
+      let put = more_owed costs work q in
       omega arith
 ]
 
 -- the point that was taken is owed no more
-pub owed_taken : (costs work rest : List ℕ) (p : ℕ) → work ≡ rest ++ p ∷ [] → owed costs work ≡ owed costs rest + get_or costs p 0
-owed_taken costs work rest p e = (let both = ap (owed costs) e ∙ owed-append costs rest (p ∷ []) in omega arith)
+pub owed_taken : (costs work rest : List ℕ) (p : ℕ) → work ≡ p ∷ rest → owed costs work ≡ owed costs rest + get_or costs p 0
+owed_taken costs work rest p e = (let both = ap (owed costs) e in omega arith)
 
 -- what a turn of a point costs
 pub cost_is : (points : List PathPoint) (p : ℕ) → get_or (costs_of points) p 0 ≡ length (path_point points p).next

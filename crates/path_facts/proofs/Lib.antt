@@ -4,6 +4,7 @@ pub mod Numbers
 pub mod Exact
 -- carries, their number, and the beginning
 pub mod Moves
+pub mod Work
 pub mod Carried
 pub mod Debt
 pub mod Started

@@ -1,7 +1,8 @@
 -- How the search begins.
 use Rattle.std.proofs.Common.{◌≡◌, refl, sym, ap, ◌∙◌, subst, inl, inr, ℕ, zero, suc, ◌<◌, ◌≤◌, ◌+◌, ◌*◌, true, false, ◌==◌, List, [], ◌∷◌, ◌++◌, length, Option, Some, None, nat_lt, lt-ltb, ltb-true, eqb-true, length-append, arith}
+use Rattle.std.specs.BTreeSet.{insert_key}
+use Rattle.std.specs.Ordering.{nat_cmp}
 use Rattle.spark_base.specs.Lists.{Has}
-use Rattle.spark_base.proofs.Lists.{Has-append_left, Has-append_right, Has-append_cases}
 use Rattle.place_names.specs.declared.fact.Fact.{Fact}
 use Rattle.place_names.proofs.Names.{both_parts, both_true}
 use Rattle.label_flow.proofs.Worklist.{search_begins}
@@ -77,27 +78,22 @@ started_some count facts (t ∷ trees) h = (let n = h.sized in omega arith)
 
 -- ---- the work
 
-pub none_left : {A : Type 0} (xs : List A) → length xs ≡ 0 → xs ≡ []
-none_left [] e = refl
-none_left (x ∷ xs) e = absurd (omega arith)
+pub none_left : (work : List ℕ) → (0 < length work → false ≡ true) → work ≡ []
+none_left [] some = refl
+none_left (a ∷ work) some = (let h = some (omega arith) in cc)
 
-pub first_work : (work none : List ℕ) → none ≡ [] → work ≡ none ++ 0 ∷ [] → work ≡ 0 ∷ []
-first_work work none e is = is ∙ ap (λ l. l ++ 0 ∷ []) e
+pub first_work : (work none : List ℕ) → none ≡ [] → work ≡ insert_key nat_cmp none 0 → work ≡ 0 ∷ []
+first_work work none e is = is ∙ ap (λ l. insert_key nat_cmp l 0) e
 
--- a point was taken from the end of the work
-pub record IsTaken (n : ℕ) (work rest : List ℕ) (p : ℕ) : Type 0 where
+-- the first number was taken from the work
+pub record IsTaken (n p : ℕ) (rest : List ℕ) : Type 0 where
   pub place : p < n
   pub places : (a : ℕ) → Has rest a → a < n
-  pub all : (a : ℕ) → Has work a → Has (p ∷ rest) a
 
-pub taken : (n : ℕ) (work rest : List ℕ) (p : ℕ) → work ≡ rest ++ p ∷ [] → ((a : ℕ) → Has work a → a < n) → IsTaken n work rest p
+pub taken : (n : ℕ) (work rest : List ℕ) (p : ℕ) → work ≡ p ∷ rest → ((a : ℕ) → Has work a → a < n) → IsTaken n p rest
 taken n work rest p e below = record {
-  place = below p (subst (λ w. Has w p) (sym e) (Has-append_right rest (p ∷ []) p (inl refl)));
-  places = λ a h. below a (subst (λ w. Has w a) (sym e) (Has-append_left rest (p ∷ []) a h));
-  all = λ a h. elim (Has-append_cases rest (p ∷ []) a (subst (λ w. Has w a) e h)) [
-    | inl old ↦ inr old
-    | inr new ↦ elim new [ inl is ↦ inl is | inr none ↦ absurd none ]
-  ];
+  place = below p (subst (λ w. Has w p) (sym e) (inl refl));
+  places = λ a h. below a (subst (λ w. Has w a) (sym e) (inr h));
 }
 
 -- ---- what is owed at the start

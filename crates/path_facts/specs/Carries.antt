@@ -1,5 +1,7 @@
 -- What one carry of a state to a point does to the trees and to the work.
-use Rattle.std.specs.Prelude.{◌≡◌, ◌≢◌, ◌⊎◌, suc, ℕ, List, [], ◌∷◌, ◌++◌, map, length, set, Option, Some, None}
+use Rattle.std.specs.BTreeSet.{insert_key}
+use Rattle.std.specs.Ordering.{nat_cmp}
+use Rattle.std.specs.Prelude.{◌≡◌, ◌≢◌, ◌⊎◌, suc, ℕ, List, [], ◌∷◌, map, length, set, Option, Some, None}
 use Rattle.place_names.specs.declared.act.Act.{Act}
 use Rattle.place_names.specs.declared.act.Placed.{Placed}
 use Rattle.place_names.specs.declared.fact.Fact.{Fact}
@@ -24,7 +26,7 @@ pub record CarriedTo (q : ℕ) (s : FactState) (old : List (Option FactState)) (
     (new : List (Option FactState)) (work' : List ℕ) : Type 0 where
   pub trees : new ≡ set old q (Some (come_to s (tree_at old q)))
   pub works : ((work' ≡ work) × (tree_at old q ≡ Some (come_to s (tree_at old q))))
-      ⊎ ((work' ≡ work ++ q ∷ []) × (tree_at old q ≢ Some (come_to s (tree_at old q))))
+      ⊎ ((work' ≡ insert_key nat_cmp work q) × (tree_at old q ≢ Some (come_to s (tree_at old q))))
 
 -- A tree is one over a list of facts.
 abbrev pub IsOver : List Fact → Option FactState → Type 0

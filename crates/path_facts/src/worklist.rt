@@ -13,6 +13,7 @@ use flow_paths::Point;
 use place_names::{Fact, Placed};
 use state_trees::Tree;
 use std::alloc::{AllocError, Global};
+use std::collections::BTreeSet;
 use std::sync::ledger::Ledger;
 
 /// What the acts of a point do to a state, in order.
@@ -28,7 +29,7 @@ fn apply_all(tree: &mut Tree<'_>, acts: &[Placed]) -> Result<(), AllocError>
 /// Carries a state to a point, which is put into the work where its tree changed.
 fn carry<'f, L: Ledger>(
     trees: &mut Vec<Option<Tree<'f>>>,
-    work: &mut Vec<usize>,
+    work: &mut BTreeSet<usize>,
     q: usize,
     state: &Tree<'f>,
     steps: &mut Steps<L>,
@@ -36,7 +37,7 @@ fn carry<'f, L: Ledger>(
     requires within { q < vec_len trees.old }
     requires over { AreOver state.now.facts trees.old.items }
     requires kept { IsKept state.now }
-    ensures carried { OnOk result (CarriedTo q state.now trees.old.items work.old.items trees.new.items work.new.items) }
+    ensures carried { OnOk result (CarriedTo q state.now trees.old.items work.old.keys trees.new.items work.new.keys) }
     ensures one { steps.new ≡ steps.old + 1 }
 {
     steps.tick();
@@ -44,14 +45,14 @@ fn carry<'f, L: Ledger>(
         None => {
             let first = state.copy()?;
             trees[q] = Some(first);
-            work.push(q)?;
+            work.insert(q)?;
             Ok(())
         }
         Some(mut tree) => {
             let changed = tree.join(state)?;
             trees[q] = Some(tree);
             if changed {
-                work.push(q)?;
+                work.insert(q)?;
             }
             Ok(())
         }
@@ -64,7 +65,7 @@ fn turn<'f, L: Ledger>(
     points: &[Point],
     facts: &'f [Fact],
     trees: &mut Vec<Option<Tree<'f>>>,
-    work: &mut Vec<usize>,
+    work: &mut BTreeSet<usize>,
     p: usize,
     steps: &mut Steps<L>,
 ) -> Result<(), AllocError>
@@ -72,13 +73,13 @@ fn turn<'f, L: Ledger>(
     requires count { vec_len trees.old ≡ length points.now }
     requires over { AreOver facts.now trees.old.items }
     requires edges { AreWithin (path_points_of points.now) }
-    requires places { (a : ℕ) → Has work.old.items a → a < length points.now }
-    requires searched { SearchedOn (path_points_of points.now) facts.now trees.old.items (p ∷ work.old.items) }
+    requires places { (a : ℕ) → Has work.old.keys a → a < length points.now }
+    requires searched { SearchedOn (path_points_of points.now) facts.now trees.old.items (p ∷ work.old.keys) }
     ensures count { OnOk result (vec_len trees.new ≡ length points.now) }
     ensures over { OnOk result (AreOver facts.now trees.new.items) }
-    ensures places { OnOk result ((a : ℕ) → Has work.new.items a → a < length points.now) }
-    ensures searched { OnOk result (SearchedOn (path_points_of points.now) facts.now trees.new.items work.new.items) }
-    ensures pays { OnOk result (Pays (most (length facts.now)) (length points.now) trees.old.items work.old.items trees.new.items work.new.items) }
+    ensures places { OnOk result ((a : ℕ) → Has work.new.keys a → a < length points.now) }
+    ensures searched { OnOk result (SearchedOn (path_points_of points.now) facts.now trees.new.items work.new.keys) }
+    ensures pays { OnOk result (Pays (most (length facts.now)) (length points.now) trees.old.items work.old.keys trees.new.items work.new.keys) }
     ensures ticks { steps.new ≤ steps.old + length (path_point (path_points_of points.now) p).next }
 {
     let mut state = match &trees[p] {
@@ -137,9 +138,11 @@ pub fn point_trees<'f, L: Ledger>(
         return Ok(Vec::new(alloc));
     }
     let mut trees = start_trees(alloc, points, facts)?;
-    let mut work = Vec::new(alloc);
-    work.push(0usize)?;
-    'turns: while let Some(p) = work.pop() {
+    let mut work = BTreeSet::new(alloc);
+    work.insert(0usize)?;
+    // Numbers ascend along the text. So a point has its turn once the states of the points before it
+    // have come, and what is behind a loop waits until the loop is done.
+    'turns: while let Some(p) = work.pop_first() {
         turn(points, facts, &mut trees, &mut work, p, steps)?;
     }
     Ok(trees)

@@ -83,6 +83,11 @@ told_along-append (p ∷ xs) ys s =
     ap (λ l. here ++ l) (told_along-append xs ys (state_behind p.act s))
     ∙ sym (append_assoc here (told_along xs (state_behind p.act s)) (told_along ys (state_along (acts_of xs) (state_behind p.act s))))
 
+-- where there are no acts, nothing is put in
+pub none_put : (printed : Name → List ℕ) (own called : List Placed) (s : FactState) (set : List Printed) → own ++ called ≡ []
+    → set ≡ put_told printed set (told_along (own ++ called) s)
+none_put printed own called s set none = sym (ap (λ acts. put_told printed set (told_along acts s)) none)
+
 -- first the acts of a point, then those of its call
 pub point_put : (printed : Name → List ℕ) (own called acts : List Placed) (s u : FactState) (set mid new : List Printed) → acts ≡ called
     → u ≡ state_along (acts_of own) s → mid ≡ put_told printed set (told_along own s) → new ≡ put_told printed mid (told_along acts u)

@@ -1,5 +1,5 @@
 //! The reports of a subprogram.
-ghost use Rattle.std.specs.Prelude.{◌≡◌, ◌+◌, ◌*◌, ◌≤◌, length, map, IfOk, OnOk};
+ghost use Rattle.std.specs.Prelude.{◌≡◌, ◌+◌, ◌*◌, ◌≤◌, [], ◌++◌, length, map, IsTrue, IfOk, OnOk};
 ghost use Rattle.place_names.specs.Reports.{report_at};
 ghost use Rattle.report_lists.specs.Gains.{told, put_told, Gains};
 ghost use Rattle.flow_paths.specs.Paths.{PathReport};
@@ -105,6 +105,16 @@ fn put_acts(
     Ok(())
 }
 
+/// Whether neither list has an act.
+fn are_none(own: &[Placed], called: &[Placed]) -> bool
+    ensures { IsTrue result → own.now ++ called.now ≡ [] }
+{
+    match (own, called) {
+        ([], []) => true,
+        _ => false,
+    }
+}
+
 /// Puts in the reports of a point: of its own acts, and behind them of those of its call.
 fn put_point(
     alloc: Global,
@@ -122,6 +132,9 @@ fn put_point(
 {
     let _list = tree.facts();
     let called = called_acts(alloc, objects, effects, point)?;
+    if are_none(point.acts.as_slice(), &called) {
+        return Ok(());
+    }
     let mut state = tree.copy()?;
     put_acts(
         alloc,

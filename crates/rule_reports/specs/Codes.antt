@@ -1,7 +1,7 @@
 -- The table of refusals (docs/TOOL.md, "Refusals").
 use Rattle.std.specs.Prelude.{ℕ, List, codes}
 use Rattle.rule_reports.specs.declared.code.Code.{Code}
-use Rattle.rule_reports.specs.declared.code.Code.TheVariants.{S1, L1, L2, L3, L4, L5, P1, P2, P3, N1, N2, N3, N4, N5, N6, Y1, Y2, Y3, K1, K2, K3, K4, K5, K6, K7, K8, M1, G1, G2, U1}
+use Rattle.rule_reports.specs.declared.code.Code.TheVariants.{S1, L1, L2, L3, L4, L5, P1, P2, P3, N1, N2, N3, N4, N5, N6, Y1, Y2, Y3, K1, K2, K3, K4, K5, K6, K7, K8, M1, G1, G2}
 
 -- The letters and the text of each code.
 abbrev pub code_row : Code → List ℕ × List ℕ
@@ -34,7 +34,6 @@ code_row K8 = (codes "K8", codes "package value")
 code_row M1 = (codes "M1", codes "name too deep")
 code_row G1 = (codes "G1", codes "too many points")
 code_row G2 = (codes "G2", codes "too many facts")
-code_row U1 = (codes "U1", codes "form not built")
 
 abbrev pub code_letters : Code → List ℕ
 code_letters code = (code_row code).0

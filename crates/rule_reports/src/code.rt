@@ -66,12 +66,10 @@ pub enum Code {
     G1,
     /// A subprogram has more than 512 facts.
     G2,
-    /// The source isn't in the form that is built so far.
-    U1,
 }
 
 /// The letters and the text of each code, in the order of the codes.
-const ROWS: [(&str, &str); 30] = [
+const ROWS: [(&str, &str); 29] = [
     ("S1", "sources too large"),
     ("L1", "bad byte"),
     ("L2", "bad identifier"),
@@ -101,7 +99,6 @@ const ROWS: [(&str, &str); 30] = [
     ("M1", "name too deep"),
     ("G1", "too many points"),
     ("G2", "too many facts"),
-    ("U1", "form not built"),
 ];
 
 impl Code {

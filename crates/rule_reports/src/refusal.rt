@@ -17,7 +17,7 @@ fn nameless_position(alloc: Global, pos: Pos) -> Result<Vec<u8>, AllocError>
 }
 
 /// A position by the names of the files; it is nameless where none of them has its number.
-fn any_position(alloc: Global, files: &[String], pos: Pos) -> Result<Vec<u8>, AllocError>
+pub(crate) fn any_position(alloc: Global, files: &[String], pos: Pos) -> Result<Vec<u8>, AllocError>
     ensures { IfOk result (λ text. text.items ≡ position_text (map string_bytes files.now) pos) }
 {
     if (pos.file as usize) < files.len() {

@@ -1,33 +1,57 @@
 //! Lines of reports (`docs/TOOL.md`, "Lines").
-ghost use Rattle.std.specs.Prelude.{◌≡◌, ◌<◌, All, IfOk, length, map, string_bytes};
-ghost use Rattle.straight_line.specs.Within.{IsObject, root_of};
-ghost use Rattle.straight_line.specs.Reported.{printed_name, report_of};
+ghost use Rattle.std.specs.Prelude.{◌≡◌, IfOk, map, string_bytes};
+ghost use Rattle.flow_paths.specs.Printing.{printed_name};
+ghost use Rattle.flow_paths.specs.Reports.{report_of};
 ghost use Rattle.rule_reports.specs.Lines as spec;
 
-use place_names::State;
-use spark_base::position_text;
+use crate::refusal::any_position;
+use flow_paths::Report;
+use place_names::{Rule, State};
 use std::alloc::{AllocError, Global};
-use straight_form::Word;
-use straight_line::{PathReport, place_text};
+use type_table::Info;
+use typed_tree::{Object, print_name};
+
+/// What the rules that look at the text without paths say. A report of another rule has a word.
+fn rule_words(rule: Rule) -> &'static str
+    ensures { result.now ≡ spec.rule_words rule }
+{
+    match rule {
+        Rule::A1 => "overlaps another actual",
+        Rule::A2 => "overlaps a global of the callee",
+        Rule::V1 => "constant view",
+        Rule::V2 => "source ends before the observer",
+        Rule::V3 => "not rooted in the traversed parameter",
+        Rule::V4 => "not rooted in the borrower",
+        _ => "",
+    }
+}
+
+/// What a report says of its name.
+fn word_text(rule: Rule, state: Option<State>) -> &'static str
+    ensures { result.now ≡ spec.word_text rule state }
+{
+    match state {
+        Some(state) => state.text(),
+        None => rule_words(rule),
+    }
+}
 
 /// The line of a report, `POS: RULE NAME: WORD`. The files are the names as they were given, by
-/// number, and the objects are the identifiers as they are declared, of which the first has the
-/// number 1.
+/// number; `table` has the types and `objects` the objects that its name speaks of.
 pub fn report_line(
     alloc: Global,
     files: &[String],
-    objects: &[Word],
-    report: &PathReport,
+    table: &[Info],
+    objects: &[Object],
+    report: &Report,
 ) -> Result<Vec<u8>, AllocError>
-    requires file { report.now.pos.file < length files.now }
-    requires object { IsObject (length objects.now) (root_of report.now.place) }
     ensures { IfOk result (λ text. text.items
-        ≡ spec.report_line (map string_bytes files.now) (printed_name objects.now) (report_of report.now)) }
+        ≡ spec.report_line (map string_bytes files.now) (printed_name table.now objects.now) (report_of report.now)) }
 {
     let rule = report.rule.text();
-    let word = State::Moved.text();
-    let name = place_text(alloc, objects, report.place)?;
-    let mut line = position_text(alloc, files, report.pos)?;
+    let word = word_text(report.rule, report.state);
+    let name = print_name(alloc, table, objects, &report.name)?;
+    let mut line = any_position(alloc, files, report.pos)?;
     line.extend_from_slice(format!(in alloc; ": {rule} ")?.as_bytes())?;
     line.extend_from_slice(&name)?;
     line.extend_from_slice(format!(in alloc; ": {word}\n")?.as_bytes())?;
@@ -38,17 +62,16 @@ pub fn report_line(
 pub fn report_lines(
     alloc: Global,
     files: &[String],
-    objects: &[Word],
-    reports: &[PathReport],
+    table: &[Info],
+    objects: &[Object],
+    reports: &[Report],
 ) -> Result<Vec<u8>, AllocError>
-    requires files { All (λ r. r.pos.file < length files.now) reports.now }
-    requires objects { All (λ r. IsObject (length objects.now) (root_of r.place)) reports.now }
     ensures { IfOk result (λ text. text.items
-        ≡ spec.report_lines (map string_bytes files.now) (printed_name objects.now) (map report_of reports.now)) }
+        ≡ spec.report_lines (map string_bytes files.now) (printed_name table.now objects.now) (map report_of reports.now)) }
 {
     let mut lines = Vec::new(alloc);
     'reports: for report in reports {
-        let line = report_line(alloc, files, objects, report)?;
+        let line = report_line(alloc, files, table, objects, report)?;
         lines.extend_from_slice(&line)?;
     }
     Ok(lines)

@@ -1,206 +1,250 @@
-//! The lines of the reports of small paths, worked out by hand from the rules.
-ghost use Rattle.std.specs.Prelude.{◌<◌, ◌↔◌, All, IsTrue, length};
-ghost use Rattle.straight_line.specs.Within.{AreWithin, IsObject, IsWithin, root_of};
-
+//! Lines of reports, written out by hand from the form of each line and of the names in it.
 use crate::texts::files;
-use rule_reports::report_lines;
-use spark_base::Pos;
+use ada_tree::Word;
+use flow_paths::Report;
+use place_names::{Mode, PlaceName, Rule, Sel, State};
+use rule_reports::{report_line, report_lines};
+use spark_base::{Listed, Pos};
 use std::alloc::{AllocError, Global};
 use std::test::Fail;
-use straight_form::Word;
-use straight_line::{
-    PathReport, Place, PlacedStraightAct, StraightAct, StraightPath, path_reports,
-};
+use type_table::{Component, Info, Shape};
+use typed_tree::{Object, ObjectKind};
 
-/// The objects of every case; `b` stands before `Y` by its number, and behind it by its bytes.
-const OBJECTS: [&[u8]; 4] = [b"X", b"b", b"Y", b"X"];
+/// type Cell; type Ptr is access Cell; type Row is array (1 .. 3) of Ptr; subtype Link is Ptr;
+const INTEGER: u32 = 0;
 
-const X: u32 = 1;
+const CELL: u32 = 1;
 
-const B: u32 = 2;
+const PTR: u32 = 2;
 
-const Y: u32 = 3;
+const ROW: u32 = 3;
 
-/// Another object whose identifier is `X`.
-const OTHER_X: u32 = 4;
+const LINK: u32 = 4;
 
-fn is_object(objects: usize, x: u32) -> bool
-    ensures { IsTrue result ↔ IsObject objects x }
-{
-    1 <= x && x as usize <= objects
-}
+/// X : Ptr; R : Row; and Head : Link in the package Lists.
+const X: u32 = 0;
 
-fn is_within(objects: usize, act: StraightAct) -> bool
-    ensures { IsTrue result ↔ IsWithin objects act }
-{
-    match act {
-        StraightAct::Read(Place::Object(x) | Place::Designated(x))
-        | StraightAct::Write(Place::Object(x) | Place::Designated(x))
-        | StraightAct::Move(x)
-        | StraightAct::Free(x)
-        | StraightAct::EndScope(x) => is_object(objects, x),
-        StraightAct::Return => true,
+const R: u32 = 1;
+
+const HEAD: u32 = 2;
+
+/// A type, which is no subtype.
+fn info(shape: Shape, number: u32) -> Info {
+    Info {
+        shape,
+        base: number,
+        parent: None,
+        seen_in: None,
+        completed: None,
     }
 }
 
-fn are_within(objects: usize, acts: &[PlacedStraightAct]) -> bool
-    ensures { IsTrue result ↔ AreWithin objects acts.now }
-{
-    acts.iter().all(|placed| is_within(objects, placed.act))
+/// A record with a value and a pointer to the next one.
+fn cell(alloc: Global) -> Result<Shape, AllocError> {
+    let mut components = Listed::new(alloc);
+    components.push(Component {
+        name: Word::new(alloc, b"Value")?,
+        of: INTEGER,
+    })?;
+    components.push(Component {
+        name: Word::new(alloc, b"Next")?,
+        of: PTR,
+    })?;
+    Ok(Shape::Fields { components })
 }
 
-fn stand_in(files: &[String], reports: &[PathReport]) -> bool
-    ensures { IsTrue result ↔ All (λ r. r.pos.file < length files.now) reports.now }
-{
-    let count = files.len();
-    reports
-        .iter()
-        .all(|report| (report.pos.file as usize) < count)
+/// The types, by number.
+fn table(alloc: Global) -> Result<Vec<Info>, AllocError> {
+    let mut table = Vec::new(alloc);
+    let whole = Shape::Whole {
+        low: i32::MIN,
+        high: i32::MAX,
+    };
+    table.push(info(whole, INTEGER))?;
+    table.push(info(cell(alloc)?, CELL))?;
+    let pointer = Shape::Access {
+        designated: CELL,
+        constant: false,
+        named: true,
+    };
+    table.push(info(pointer, PTR))?;
+    let row = Shape::Elements {
+        low: 1,
+        high: 3,
+        element: PTR,
+    };
+    table.push(info(row, ROW))?;
+    table.push(info(Shape::Same { of: PTR }, LINK))?;
+    Ok(table)
 }
 
-/// The line and the column of an act, and the act.
-type Row = (u32, u32, StraightAct);
+fn object(alloc: Global, name: &[u8], home: Option<Word>, of: u32) -> Result<Object, AllocError> {
+    Ok(Object {
+        name: Word::new(alloc, name)?,
+        package: home,
+        of,
+        kind: ObjectKind::Variable,
+        mode: Mode::In,
+        scope: 0,
+    })
+}
 
-/// A path of the objects and of these acts, in the second file.
-fn path_of(alloc: Global, rows: &[Row]) -> Result<StraightPath, AllocError> {
+/// The objects, by number.
+fn objects(alloc: Global) -> Result<Vec<Object>, AllocError> {
     let mut objects = Vec::new(alloc);
-    for name in &OBJECTS {
-        objects.push(Word::new(alloc, name)?)?;
-    }
-    let mut acts = Vec::new(alloc);
-    for row in rows {
-        let (line, column, act) = *row;
-        let pos = Pos {
-            file: 1,
-            line,
-            column,
-        };
-        acts.push(PlacedStraightAct { pos, act })?;
-    }
-    Ok(StraightPath { objects, acts })
+    objects.push(object(alloc, b"X", None, PTR)?)?;
+    objects.push(object(alloc, b"R", None, ROW)?)?;
+    let home = Word::new(alloc, b"Lists")?;
+    objects.push(object(alloc, b"Head", Some(home), LINK)?)?;
+    Ok(objects)
 }
 
-/// Each row: the acts of one statement after another, and the lines of their reports.
-const PATHS: [(&[Row], &str); 9] = [
-    // X := new Integer'(7); Y := X; b := X.all; Free (Y);
+const NONE: &[Sel] = &[];
+
+const ALL: &[Sel] = &[Sel::Deref];
+
+const VALUE: &[Sel] = &[Sel::Deref, Sel::Field(0)];
+
+const NEXT: &[Sel] = &[Sel::Deref, Sel::Field(1), Sel::Deref, Sel::Field(1)];
+
+const ELEM: &[Sel] = &[Sel::Elem, Sel::Deref, Sel::Field(0)];
+
+/// Each row: the file, the line and the column, the rule, the object and the selectors of the name,
+/// the word, and the line of the report.
+const REPORTS: [(u16, u32, u32, Rule, u32, &[Sel], Option<State>, &str); 10] = [
     (
-        &[
-            (8, 1, StraightAct::Write(Place::Object(X))),
-            (8, 28, StraightAct::Move(X)),
-            (8, 23, StraightAct::Write(Place::Object(Y))),
-            (8, 36, StraightAct::Read(Place::Designated(X))),
-            (8, 31, StraightAct::Write(Place::Object(B))),
-            (8, 49, StraightAct::Free(Y)),
-            (9, 1, StraightAct::EndScope(Y)),
-            (9, 1, StraightAct::EndScope(X)),
-            (9, 1, StraightAct::Return),
-        ],
-        "src/Other.ADB:8:36: O1 X.all: moved\n",
+        0,
+        8,
+        36,
+        Rule::O1,
+        X,
+        ALL,
+        Some(State::Moved),
+        "m.adb:8:36: O1 X.all: moved\n",
     ),
-    // X := X; b := X.all;
     (
-        &[
-            (1, 6, StraightAct::Move(X)),
-            (1, 1, StraightAct::Write(Place::Object(X))),
-            (1, 14, StraightAct::Read(Place::Designated(X))),
-        ],
-        "",
+        1,
+        12,
+        7,
+        Rule::O3,
+        X,
+        VALUE,
+        Some(State::Observed),
+        "src/Other.ADB:12:7: O3 X.all.Value: observed\n",
     ),
-    // Y := X; X := X; b := X.all;
     (
-        &[
-            (1, 6, StraightAct::Move(X)),
-            (1, 1, StraightAct::Write(Place::Object(Y))),
-            (1, 14, StraightAct::Move(X)),
-            (1, 9, StraightAct::Write(Place::Object(X))),
-            (1, 22, StraightAct::Read(Place::Designated(X))),
-        ],
-        "src/Other.ADB:1:14: O4 X: moved\n",
+        1,
+        12,
+        7,
+        Rule::O14,
+        HEAD,
+        NEXT,
+        Some(State::Borrowed),
+        "src/Other.ADB:12:7: O14 Lists.Head.all.Next.all.Next: borrowed\n",
     ),
-    // Y := X; X.all := X.all; b := X.all;
     (
-        &[
-            (1, 6, StraightAct::Move(X)),
-            (1, 1, StraightAct::Write(Place::Object(Y))),
-            (2, 10, StraightAct::Read(Place::Designated(X))),
-            (2, 1, StraightAct::Write(Place::Designated(X))),
-            (10, 6, StraightAct::Read(Place::Designated(X))),
-        ],
-        "src/Other.ADB:2:1: O3 X.all: moved\nsrc/Other.ADB:2:10: O1 X.all: moved\nsrc/Other.ADB:10:6: O1 X.all: moved\n",
+        0,
+        4_294_967_295,
+        1,
+        Rule::O10,
+        R,
+        ELEM,
+        Some(State::Moved),
+        "m.adb:4294967295:1: O10 R(?).all.Value: moved\n",
     ),
-    // Y := X; Free (X); Free (X);
     (
-        &[
-            (1, 6, StraightAct::Move(X)),
-            (1, 1, StraightAct::Write(Place::Object(Y))),
-            (1, 15, StraightAct::Free(X)),
-            (1, 25, StraightAct::Free(X)),
-        ],
-        "src/Other.ADB:1:15: O14 X: moved\n",
+        0,
+        1,
+        1,
+        Rule::A1,
+        X,
+        NONE,
+        None,
+        "m.adb:1:1: A1 X: overlaps another actual\n",
     ),
-    // the scope of a moved object ends; nothing is left of the move
     (
-        &[
-            (1, 6, StraightAct::Move(X)),
-            (2, 1, StraightAct::EndScope(X)),
-            (3, 1, StraightAct::Read(Place::Designated(X))),
-        ],
-        "",
+        0,
+        1,
+        2,
+        Rule::A2,
+        HEAD,
+        NONE,
+        None,
+        "m.adb:1:2: A2 Lists.Head: overlaps a global of the callee\n",
     ),
-    // the same act twice is one report
     (
-        &[
-            (1, 6, StraightAct::Move(X)),
-            (2, 1, StraightAct::Read(Place::Designated(X))),
-            (2, 1, StraightAct::Read(Place::Designated(X))),
-        ],
-        "src/Other.ADB:2:1: O1 X.all: moved\n",
+        0,
+        1,
+        3,
+        Rule::V1,
+        X,
+        NONE,
+        None,
+        "m.adb:1:3: V1 X: constant view\n",
     ),
-    // at one position by rule, and by the bytes of the name: upper case first, a name before what
-    // it designates
     (
-        &[
-            (1, 1, StraightAct::Move(B)),
-            (1, 1, StraightAct::Move(Y)),
-            (2, 1, StraightAct::Write(Place::Designated(B))),
-            (2, 1, StraightAct::Read(Place::Designated(B))),
-            (2, 1, StraightAct::Read(Place::Designated(Y))),
-            (2, 1, StraightAct::Read(Place::Object(Y))),
-        ],
-        "src/Other.ADB:2:1: O1 Y: moved\nsrc/Other.ADB:2:1: O1 Y.all: moved\nsrc/Other.ADB:2:1: O1 b.all: moved\nsrc/Other.ADB:2:1: O3 b.all: moved\n",
+        0,
+        1,
+        4,
+        Rule::V2,
+        X,
+        NONE,
+        None,
+        "m.adb:1:4: V2 X: source ends before the observer\n",
     ),
-    // two objects with one identifier are two reports
     (
-        &[
-            (1, 1, StraightAct::Move(X)),
-            (1, 1, StraightAct::Move(OTHER_X)),
-            (2, 1, StraightAct::Read(Place::Designated(X))),
-            (2, 1, StraightAct::Read(Place::Designated(OTHER_X))),
-        ],
-        "src/Other.ADB:2:1: O1 X.all: moved\nsrc/Other.ADB:2:1: O1 X.all: moved\n",
+        0,
+        1,
+        5,
+        Rule::V3,
+        X,
+        NONE,
+        None,
+        "m.adb:1:5: V3 X: not rooted in the traversed parameter\n",
+    ),
+    (
+        0,
+        1,
+        6,
+        Rule::V4,
+        X,
+        NONE,
+        None,
+        "m.adb:1:6: V4 X: not rooted in the borrower\n",
     ),
 ];
 
-/// The lines of the reports of a path with these acts.
-fn lines_of(alloc: Global, rows: &[Row]) -> Result<Vec<u8>, Fail> {
-    let path = path_of(alloc, rows)?;
-    if !are_within(path.objects.len(), &path.acts) {
-        return Err(Fail::new("another object"));
+fn name(root: u32, sels: &[Sel]) -> Result<PlaceName, Fail> {
+    let mut made = PlaceName::new(root);
+    for sel in sels {
+        made.push(*sel)?;
     }
-    let reports = path_reports(alloc, &path)?;
-    let files = files(alloc)?;
-    if !stand_in(&files, &reports) {
-        return Err(Fail::new("another file"));
-    }
-    Ok(report_lines(alloc, &files, &path.objects, &reports)?)
+    Ok(made)
 }
 
+/// The line of each report, and all of them one behind the other.
 #[test]
-fn paths(rt: HostRuntime) -> Result<(), Fail> {
-    for row in &PATHS {
-        let (acts, want) = *row;
-        let lines = lines_of(rt.alloc(), acts)?;
-        assert!(rt; lines.as_slice() == want.as_bytes(), "{want}");
+fn reports(rt: HostRuntime) -> Result<(), Fail> {
+    let alloc = rt.alloc();
+    let files = files(alloc)?;
+    let table = table(alloc)?;
+    let objects = objects(alloc)?;
+    let mut reports = Vec::new(alloc);
+    let mut wanted = Vec::new(alloc);
+    for row in &REPORTS {
+        let (file, line, column, rule, root, sels, state, want) = *row;
+        let report = Report {
+            pos: Pos { file, line, column },
+            rule,
+            name: name(root, sels)?,
+            state,
+        };
+        let text = report_line(alloc, &files, &table, &objects, &report)?;
+        assert!(rt; text.as_slice() == want.as_bytes(), "{want}");
+        reports.push(report)?;
+        wanted.extend_from_slice(want.as_bytes())?;
     }
+    let lines = report_lines(alloc, &files, &table, &objects, &reports)?;
+    assert!(rt; lines.as_slice() == wanted.as_slice());
     Ok(())
 }

@@ -21,8 +21,8 @@
 //! `$ spark WORD WORD ..` gives another one.
 //!
 //! The last line of a row says what is expected: `> accepted`; `> typed`, where no rule of names
-//! and of types is broken, so that the sources are accepted, get reports, or are refused by U1; or
-//! `> ` and the one line of a refusal.
+//! and of types is broken, so that the sources are accepted or get reports; or `> ` and the one line
+//! of a refusal.
 use crate::head::{Head, HeadFault, add_line, behind, words_of};
 use crate::response::Response;
 use std::alloc::{AllocError, Global};
@@ -35,8 +35,8 @@ pub(crate) struct Row {
     pub(crate) line: usize,
     /// Its files.
     pub(crate) files: Vec<(String, Vec<u8>)>,
-    /// What an example with the same command would have in its head. Of a typed row it is the
-    /// refusal by U1.
+    /// What an example with the same command would have in its head. Of a typed row it is that it
+    /// is accepted.
     pub(crate) head: Head,
     /// Whether its last line is `> typed`.
     pub(crate) typed: bool,
@@ -66,24 +66,14 @@ fn check_of(alloc: Global, files: &[(String, Vec<u8>)]) -> Result<Vec<String>, A
     Ok(words)
 }
 
-/// Adds the line by which U1 refuses the first file of a command.
-fn add_not_built(err: &mut Vec<u8>, words: &[String]) -> Result<(), AllocError> {
-    if let Some(name) = words.get(1) {
-        err.extend_from_slice(name.as_bytes())?;
-    }
-    Ok(add_line(err, b":1:1: U1 form not built")?)
-}
-
 /// What a row's last line expects of a command.
 fn expected(alloc: Global, words: Vec<String>, wanted: &[u8]) -> Result<Head, AllocError> {
     let mut status = 2u8;
     let mut out = Vec::new(alloc);
     let mut err = Vec::new(alloc);
-    if wanted == b"accepted".as_slice() {
+    if wanted == b"accepted".as_slice() || wanted == b"typed".as_slice() {
         status = 0;
-        add_line(&mut out, wanted)?;
-    } else if wanted == b"typed".as_slice() {
-        add_not_built(&mut err, &words)?;
+        add_line(&mut out, b"accepted")?;
     } else {
         add_line(&mut err, wanted)?;
     }

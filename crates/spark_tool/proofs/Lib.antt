@@ -2,10 +2,9 @@ pub mod Names
 pub mod Sources
 pub mod AllTokens
 pub mod Parsed
-pub mod Straight
+pub mod Read
 pub mod Resolved
-pub mod Typed
-pub mod InFile
+pub mod Judged
 pub mod CommandWords
 pub mod OneAnswer
 pub mod Complete

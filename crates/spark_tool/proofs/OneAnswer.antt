@@ -5,7 +5,7 @@ use Rattle.spark_base.specs.declared.limits.TheConstants.{SOURCE_BYTES, TOKENS}
 use Rattle.ada_lexer.specs.Positions.{first_position}
 use Rattle.ada_lexer.specs.Tokens.{Cut}
 use Rattle.token_reading.proofs.OneRefused.{Order, same, earlier, later, order}
-use Rattle.ada_tree.specs.declared.unit.SourceUnit as whole
+use Rattle.ada_tree.specs.declared.unit.SourceUnit.{SourceUnit}
 use Rattle.ada_tree.specs.Refusals as grammar
 use Rattle.name_events.specs.declared.declaration.NameRule.{NameRule}
 use Rattle.name_events.specs.Faults.{name_fault}
@@ -13,21 +13,23 @@ use Rattle.type_table.specs.Whole.{TypeFault, type_fault}
 use Rattle.type_table.specs.Refusals.{refusal_of}
 use Rattle.type_rules.specs.Programs.{program_of}
 use Rattle.ada_grammar.proofs.OneRefused.{one_refused_of, tree_not_refused_of}
-use Rattle.straight_form.specs.declared.tree.SourceUnit.{SourceUnit}
-use Rattle.straight_form.proofs.Theorem.{one_unit}
-use Rattle.place_names.specs.Reports.{Report, Gives, IsReportList}
+use Rattle.place_names.specs.Reports.{Report}
 use Rattle.place_names.proofs.Reports.{report_list-unique}
-use Rattle.straight_line.specs.Declarations.{object_texts}
-use Rattle.straight_line.specs.PathActs.{path_acts}
-use Rattle.straight_line.specs.Reported.{printed_name}
+use Rattle.flow_paths.specs.declared.refusal.LayFault.{LayFault}
+use Rattle.flow_paths.specs.declared.report.Effects.{Effects}
+use Rattle.flow_paths.specs.Effects.{AreEffects}
+use Rattle.flow_paths.specs.Laid.{FlowProgram}
+use Rattle.flow_paths.specs.Limits.{lay_fault}
+use Rattle.flow_paths.specs.Reports.{ProgramReport, AreReports}
+use Rattle.program_check.specs.Sources.{flow_of, printed_in}
+use Rattle.program_check.proofs.OneEffects.{one_effects}
 use Rattle.rule_reports.specs.declared.code.Code.{Code}
-use Rattle.rule_reports.specs.declared.code.Code.TheVariants.{S1, U1}
+use Rattle.rule_reports.specs.declared.code.Code.TheVariants.{S1}
 use Rattle.spark_tool.specs.Commands.{Command, Check, command_of}
 use Rattle.spark_tool.specs.Reading.{Sources, Texts, TooLarge, Missing, sources}
 use Rattle.spark_tool.specs.Lexing.{AllTokens, all_tokens}
 use Rattle.spark_tool.specs.Parsing.{told_cut, IsParsed, AreTreesOf, IsRefusedAt, FirstRefused}
-use Rattle.spark_tool.specs.StraightSource.{IsStraightSource}
-use Rattle.spark_tool.specs.Product.{Answer, Product, usage, check, Checks, missing, too_large, lexical, syntactic, unresolved, mistyped, not_built, checked, refused, unread, misused, judged, lexical_code, syntactic_code, name_code, type_code}
+use Rattle.spark_tool.specs.Product.{Answer, Product, usage, check, Checks, missing, too_large, lexical, syntactic, unresolved, mistyped, beyond, checked, refused, unread, misused, judged, lexical_code, syntactic_code, name_code, type_code, limit_code}
 use Rattle.spark_tool.proofs.Parsed.{at_middle, parsed_of}
 
 -- ---- pairs
@@ -82,79 +84,76 @@ all_parsed_not_refused : (files : List (List Cut)) (code : grammar.Code) (at : P
 all_parsed_not_refused files code at parsed first =
     refused_file_parsed code at first.before first.file first.behind files first.refused parsed first.splits
 
-trees_not_refused : (files : List (List Cut)) (trees : List (List whole.SourceUnit)) (code : grammar.Code) (at : Pos) → AreTreesOf files trees
+trees_not_refused : (files : List (List Cut)) (trees : List (List SourceUnit)) (code : grammar.Code) (at : Pos) → AreTreesOf files trees
     → FirstRefused code at files → ⊥
 trees_not_refused files trees code at of first = all_parsed_not_refused files code at (parsed_of files trees of) first
 
 -- ---- the trees of the files
 
-trees_once : (files : List (List Cut)) (one two : List (List whole.SourceUnit)) → AreTreesOf files one → AreTreesOf files two → one ≡ two
+trees_once : (files : List (List Cut)) (one two : List (List SourceUnit)) → AreTreesOf files one → AreTreesOf files two → one ≡ two
 trees_once [] [] [] of of2 = refl
 trees_once [] (units ∷ one) two of of2 = absurd of
 trees_once [] [] (units ∷ two) of of2 = absurd of2
 trees_once (cuts ∷ files) [] two of of2 = absurd of
 trees_once (cuts ∷ files) (units ∷ one) [] of of2 = absurd of2
 trees_once (cuts ∷ files) (units ∷ one) (units2 ∷ two) of of2 =
-    ap (λ (u : List whole.SourceUnit). u ∷ one) (of2.0.only units of.0.spells) ∙ ap (λ (rest : List (List whole.SourceUnit)). units2 ∷ rest)
+    ap (λ (u : List SourceUnit). u ∷ one) (of2.0.only units of.0.spells) ∙ ap (λ (rest : List (List SourceUnit)). units2 ∷ rest)
     (trees_once files one two of.1 of2.1)
-
--- ---- the tree of the straight-line form
-
-straight_once : (files : List (List Cut)) (unit unit2 : SourceUnit) → IsStraightSource unit files → IsStraightSource unit2 files → unit ≡ unit2
-straight_once [] unit unit2 one two = absurd one
-straight_once (cuts ∷ []) unit unit2 one two = one_unit _ unit unit2 one.spelled two.spelled
-straight_once (cuts ∷ (other ∷ more)) unit unit2 one two = absurd one
 
 -- ---- the answer to sources with these tokens
 
--- where no rule of names and no sentence on types is broken
-data OfForm (names : List (List ℕ)) (cuts : List (List Cut)) (answer : Answer) : Type 0 where
-  leaves : ((unit : SourceUnit) → ¬ IsStraightSource unit cuts) → answer ≡ refused names (first_position 0) U1 → OfForm names cuts answer
-  reports : (unit : SourceUnit) (found : List Report) → IsStraightSource unit cuts
-      → IsReportList (printed_name (object_texts unit)) (Gives (path_acts unit)) found → answer ≡ judged names (object_texts unit) found
-      → OfForm names cuts answer
+-- the reports of a program that is within its limits
+record IsReported (names : List (List ℕ)) (program : FlowProgram) (answer : Answer) : Type 0 where
+  effects : Effects
+  found : List Report
+  are : AreEffects program effects
+  reports : AreReports program effects found
+  says : answer ≡ judged names (printed_in program) found
+
+-- by the first limit that a program is beyond
+abbrev OfLimits : List (List ℕ) → FlowProgram → Option LayFault → Answer → Type 0
+OfLimits names program (Some fault) answer = answer ≡ refused names (limit_code fault).0 (limit_code fault).1
+OfLimits names program None answer = IsReported names program answer
 
 -- by the first broken sentence on types
-abbrev OfTypes : List (List ℕ) → List (List Cut) → Option TypeFault → Answer → Type 0
-OfTypes names cuts (Some broken) answer =
+abbrev OfTypes : List (List ℕ) → FlowProgram → Option TypeFault → Answer → Type 0
+OfTypes names program (Some broken) answer =
     (pos : Pos) × ((code : Code) × ((type_code (refusal_of broken) ≡ Some (pos, code)) × (answer ≡ refused names pos code)))
-OfTypes names cuts None answer = OfForm names cuts answer
+OfTypes names program None answer = OfLimits names program (lay_fault program) answer
 
 -- by the first broken rule of names
-abbrev OfNames : List (List ℕ) → List (List Cut) → List (List whole.SourceUnit) → Option (NameRule × Pos) → Answer → Type 0
-OfNames names cuts trees (Some broken) answer = answer ≡ refused names broken.1 (name_code broken.0)
-OfNames names cuts trees None answer = OfTypes names cuts (type_fault (program_of trees)) answer
+abbrev OfNames : List (List ℕ) → List (List SourceUnit) → Option (NameRule × Pos) → Answer → Type 0
+OfNames names trees (Some broken) answer = answer ≡ refused names broken.1 (name_code broken.0)
+OfNames names trees None answer = OfTypes names (flow_of trees) (type_fault (program_of trees)) answer
 
 data OfTokens (names : List (List ℕ)) (cuts : List (List Cut)) (answer : Answer) : Type 0 where
   refuses : (code : grammar.Code) (pos : Pos) → FirstRefused code pos cuts → answer ≡ refused names pos (syntactic_code code) → OfTokens names cuts answer
-  parses : (trees : List (List whole.SourceUnit)) → AreTreesOf cuts trees → OfNames names cuts trees (name_fault trees) answer → OfTokens names cuts answer
+  parses : (trees : List (List SourceUnit)) → AreTreesOf cuts trees → OfNames names trees (name_fault trees) answer → OfTokens names cuts answer
 
-judged_once : (names : List (List ℕ)) (unit unit2 : SourceUnit) (found found2 : List Report) → unit ≡ unit2
-    → IsReportList (printed_name (object_texts unit)) (Gives (path_acts unit)) found
-    → IsReportList (printed_name (object_texts unit2)) (Gives (path_acts unit2)) found2
-    → judged names (object_texts unit) found ≡ judged names (object_texts unit2) found2
-judged_once names unit unit2 found found2 e one two =
-    let two_here = subst (λ (u : SourceUnit). IsReportList (printed_name (object_texts u)) (Gives (path_acts u)) found2) (sym e) two in
-    ap (judged names (object_texts unit)) (report_list-unique (printed_name (object_texts unit)) (Gives (path_acts unit)) found found2 one two_here)
-    ∙ ap (λ (u : SourceUnit). judged names (object_texts u) found2) e
+reports_once : (names : List (List ℕ)) (program : FlowProgram) (a b : Answer) → IsReported names program a → IsReported names program b → a ≡ b
+reports_once names program a b one two =
+    let here = subst (λ (e : Effects). AreReports program e two.found) (one_effects program two.effects one.effects two.are one.are) two.reports in
+    one.says
+    ∙ ap (judged names (printed_in program))
+    (report_list-unique (printed_in program) (ProgramReport program one.effects) one.found two.found one.reports here)
+    ∙ sym two.says
 
-form_once : (names : List (List ℕ)) (cuts : List (List Cut)) (a b : Answer) → OfForm names cuts a → OfForm names cuts b → a ≡ b
-form_once names cuts a b (leaves none is) (leaves none2 is2) = is ∙ sym is2
-form_once names cuts a b (leaves none is) (reports unit found form list is2) = absurd (none unit form)
-form_once names cuts a b (reports unit found form list is) (leaves none is2) = absurd (none unit form)
-form_once names cuts a b (reports unit found form list is) (reports unit2 found2 form2 list2 is2) =
-    is ∙ judged_once names unit unit2 found found2 (straight_once cuts unit unit2 form form2) list list2 ∙ sym is2
+limits_once : (names : List (List ℕ)) (program : FlowProgram) (fault : Option LayFault) (a b : Answer) → OfLimits names program fault a
+    → OfLimits names program fault b → a ≡ b
+limits_once names program None a b one two = reports_once names program a b one two
+limits_once names program (Some fault) a b one two = one ∙ sym two
 
-types_once : (names : List (List ℕ)) (cuts : List (List Cut)) (fault : Option TypeFault) (a b : Answer) → OfTypes names cuts fault a → OfTypes names cuts fault b → a ≡ b
-types_once names cuts None a b one two = form_once names cuts a b one two
-types_once names cuts (Some broken) a b one two =
+types_once : (names : List (List ℕ)) (program : FlowProgram) (fault : Option TypeFault) (a b : Answer) → OfTypes names program fault a
+    → OfTypes names program fault b → a ≡ b
+types_once names program None a b one two = limits_once names program (lay_fault program) a b one two
+types_once names program (Some broken) a b one two =
     let both = same_parts one.0 two.0 one.1.0 two.1.0 (type_code (refusal_of broken)) one.1.1.0 two.1.1.0 in
     one.1.1.1 ∙ ap (λ p. refused names p one.1.0) both.0 ∙ ap (λ c. refused names two.0 c) both.1 ∙ sym two.1.1.1
 
-names_once : (names : List (List ℕ)) (cuts : List (List Cut)) (trees : List (List whole.SourceUnit)) (fault : Option (NameRule × Pos)) (a b : Answer)
-    → OfNames names cuts trees fault a → OfNames names cuts trees fault b → a ≡ b
-names_once names cuts trees None a b one two = types_once names cuts (type_fault (program_of trees)) a b one two
-names_once names cuts trees (Some broken) a b one two = one ∙ sym two
+names_once : (names : List (List ℕ)) (trees : List (List SourceUnit)) (fault : Option (NameRule × Pos)) (a b : Answer)
+    → OfNames names trees fault a → OfNames names trees fault b → a ≡ b
+names_once names trees None a b one two = types_once names (flow_of trees) (type_fault (program_of trees)) a b one two
+names_once names trees (Some broken) a b one two = one ∙ sym two
 
 tokens_once : (names : List (List ℕ)) (cuts : List (List Cut)) (a b : Answer) → OfTokens names cuts a → OfTokens names cuts b → a ≡ b
 tokens_once names cuts a b (refuses code pos first is) (refuses code2 pos2 first2 is2) =
@@ -163,8 +162,8 @@ tokens_once names cuts a b (refuses code pos first is) (refuses code2 pos2 first
 tokens_once names cuts a b (refuses code pos first is) (parses trees of named) = absurd (trees_not_refused cuts trees code pos of first)
 tokens_once names cuts a b (parses trees of named) (refuses code pos first is) = absurd (trees_not_refused cuts trees code pos of first)
 tokens_once names cuts a b (parses trees of named) (parses trees2 of2 named2) =
-    names_once names cuts trees (name_fault trees) a b named
-    (subst (λ (t : List (List whole.SourceUnit)). OfNames names cuts t (name_fault t) b) (trees_once cuts trees2 trees of2 of) named2)
+    names_once names trees (name_fault trees) a b named
+    (subst (λ (t : List (List SourceUnit)). OfNames names t (name_fault t) b) (trees_once cuts trees2 trees of2 of) named2)
 
 -- ---- the answer to sources
 
@@ -178,18 +177,25 @@ Says names Missing answer = answer ≡ unread
 Says names (TooLarge file) answer = answer ≡ refused names (first_position file) S1
 Says names (Texts texts) answer = OfCut names (all_tokens 0 TOKENS texts) answer
 
-of_trees : (names texts : List (List ℕ)) (cuts : List (List Cut)) (trees : List (List whole.SourceUnit)) (answer : Answer)
-    → all_tokens 0 TOKENS texts ≡ Ok cuts → AreTreesOf cuts trees → OfNames names cuts trees (name_fault trees) answer
+of_trees : (names texts : List (List ℕ)) (cuts : List (List Cut)) (trees : List (List SourceUnit)) (answer : Answer)
+    → all_tokens 0 TOKENS texts ≡ Ok cuts → AreTreesOf cuts trees → OfNames names trees (name_fault trees) answer
     → OfCut names (all_tokens 0 TOKENS texts) answer
 of_trees names texts cuts trees answer cut of found =
     subst (λ (o : AllTokens). OfCut names o answer) (sym cut) (parses trees of found)
 
-of_names : (names texts : List (List ℕ)) (cuts : List (List Cut)) (trees : List (List whole.SourceUnit)) (answer : Answer)
+of_names : (names texts : List (List ℕ)) (cuts : List (List Cut)) (trees : List (List SourceUnit)) (answer : Answer)
     → all_tokens 0 TOKENS texts ≡ Ok cuts → AreTreesOf cuts trees → name_fault trees ≡ None
-    → OfTypes names cuts (type_fault (program_of trees)) answer → OfCut names (all_tokens 0 TOKENS texts) answer
+    → OfTypes names (flow_of trees) (type_fault (program_of trees)) answer → OfCut names (all_tokens 0 TOKENS texts) answer
 of_names names texts cuts trees answer cut of named found =
     of_trees names texts cuts trees answer cut of
-    (subst (λ (f : Option (NameRule × Pos)). OfNames names cuts trees f answer) (sym named) found)
+    (subst (λ (f : Option (NameRule × Pos)). OfNames names trees f answer) (sym named) found)
+
+of_types : (names texts : List (List ℕ)) (cuts : List (List Cut)) (trees : List (List SourceUnit)) (answer : Answer)
+    → all_tokens 0 TOKENS texts ≡ Ok cuts → AreTreesOf cuts trees → name_fault trees ≡ None → type_fault (program_of trees) ≡ None
+    → OfLimits names (flow_of trees) (lay_fault (flow_of trees)) answer → OfCut names (all_tokens 0 TOKENS texts) answer
+of_types names texts cuts trees answer cut of named fine found =
+    of_names names texts cuts trees answer cut of named
+    (subst (λ (f : Option TypeFault). OfTypes names (flow_of trees) f answer) (sym fine) found)
 
 says : (names : List (List ℕ)) (found : Sources) (answer : Answer) → Checks names found answer → Says names found answer
 says names _ _ missing = refl
@@ -200,16 +206,17 @@ says names _ _ (syntactic texts cuts code pos cut first) =
     subst (λ (o : AllTokens). OfCut names o (refused names pos (syntactic_code code))) (sym cut) (refuses code pos first refl)
 says names _ _ (unresolved texts cuts trees broken pos cut of fault) =
     of_trees names texts cuts trees _ cut of
-    (subst (λ (f : Option (NameRule × Pos)). OfNames names cuts trees f (refused names pos (name_code broken))) (sym fault) refl)
+    (subst (λ (f : Option (NameRule × Pos)). OfNames names trees f (refused names pos (name_code broken))) (sym fault) refl)
 says names _ _ (mistyped texts cuts trees broken pos code cut of named fault coded) =
     of_names names texts cuts trees _ cut of named
-    (subst (λ (f : Option TypeFault). OfTypes names cuts f (refused names pos code)) (sym fault) (pos, (code, (coded, refl))))
-says names _ _ (not_built texts cuts trees cut of named fine none) =
-    of_names names texts cuts trees _ cut of named
-    (subst (λ (f : Option TypeFault). OfTypes names cuts f (refused names (first_position 0) U1)) (sym fine) (leaves none refl))
-says names _ _ (checked texts cuts trees unit found cut of named fine form list) =
-    of_names names texts cuts trees _ cut of named
-    (subst (λ (f : Option TypeFault). OfTypes names cuts f (judged names (object_texts unit) found)) (sym fine) (reports unit found form list refl))
+    (subst (λ (f : Option TypeFault). OfTypes names (flow_of trees) f (refused names pos code)) (sym fault) (pos, (code, (coded, refl))))
+says names _ _ (beyond texts cuts trees fault cut of named fine over) =
+    of_types names texts cuts trees _ cut of named fine
+    (subst (λ (f : Option LayFault). OfLimits names (flow_of trees) f (refused names (limit_code fault).0 (limit_code fault).1)) (sym over) refl)
+says names _ _ (checked texts cuts trees effects found cut of named fine within are reports) =
+    of_types names texts cuts trees _ cut of named fine
+    (subst (λ (f : Option LayFault). OfLimits names (flow_of trees) f (judged names (printed_in (flow_of trees)) found)) (sym within)
+    (record { effects = effects; found = found; are = are; reports = reports; says = refl }))
 
 cut_once : (names : List (List ℕ)) (cut : AllTokens) (a b : Answer) → OfCut names cut a → OfCut names cut b → a ≡ b
 cut_once names (Ok cuts) a b one two = tokens_once names cuts a b one two

@@ -19,7 +19,7 @@ use Rattle.spark_tool.specs.Lexing.{all_tokens, cuts_of}
 use Rattle.spark_tool.specs.Parsing.{told_cut, IsParsed, AreTreesOf, IsRefusedAt, FirstRefused}
 use Rattle.spark_tool.specs.Product.{Answer, Checks, syntactic}
 use Rattle.spark_tool.specs.Reading.{Texts}
-use Rattle.spark_tool.specs.Refusals.{IsFirstRefusal, RefusesSyntactically}
+use Rattle.spark_tool.specs.Refusals.{IsFirstRefusal, IsRefused, parse_code}
 
 -- tokens are told alike as they are and as they were cut
 pub told_cuts : (tokens : List Token) → map told_cut (map cut_of tokens) ≡ map told tokens
@@ -101,7 +101,7 @@ at_middle P (b ∷ before) x behind all = at_middle P before x behind (λ k d wi
 
 -- the line of the first refusal answers the check
 pub refusal_answers : (names texts : List (List ℕ)) (cuts : List (List Cut)) (refusal : ParseRefusal) (answer : Answer)
-    → all_tokens 0 TOKENS texts ≡ Ok cuts → IsFirstRefusal cuts refusal → RefusesSyntactically names refusal answer → Checks names (Texts texts) answer
+    → all_tokens 0 TOKENS texts ≡ Ok cuts → IsFirstRefusal cuts refusal → IsRefused names (parse_code refusal) answer → Checks names (Texts texts) answer
 refusal_answers names texts cuts (Syntax pos) answer cut first line = subst (Checks names (Texts texts)) (sym line) (syntactic texts cuts grammar.Syntax pos cut first)
 refusal_answers names texts cuts (TooDeep pos) answer cut first line = subst (Checks names (Texts texts)) (sym line) (syntactic texts cuts grammar.TooDeep pos cut first)
 refusal_answers names texts cuts (LeftOut pos) answer cut first line = subst (Checks names (Texts texts)) (sym line) (syntactic texts cuts grammar.LeftOut pos cut first)

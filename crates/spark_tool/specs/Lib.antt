@@ -3,11 +3,9 @@ pub mod Commands
 pub mod Reading
 pub mod Lexing
 pub mod Parsing
-pub mod StraightSource
 pub mod Product
 pub mod Promises
 -- what the functions inside promise each other
 pub mod Stops
 pub mod Answers
 pub mod Refusals
-pub mod StraightPaths

@@ -1,11 +1,13 @@
 -- Which files the grammar has, and where it refuses the first other one (docs/LANGUAGE.md,
 -- "Grammar").
-use Rattle.std.specs.Prelude.{◌≡◌, List, [], ◌∷◌, ◌++◌, map, All}
+use Rattle.std.specs.Prelude.{◌≡◌, ℕ, List, [], ◌∷◌, ◌++◌, Ok, map, All}
 use Rattle.spark_base.specs.declared.position.Pos.{Pos}
+use Rattle.spark_base.specs.declared.limits.TheConstants.{TOKENS}
 use Rattle.ada_lexer.specs.Tokens.{Cut}
 use Rattle.token_reading.specs.Spelled.{Spelled, told_as}
 use Rattle.ada_tree.specs.declared.unit.SourceUnit.{SourceUnit}
 use Rattle.ada_tree.specs.Refusals.{Code, IsRefused, IsTreeOf}
+use Rattle.spark_tool.specs.Lexing.{all_tokens}
 
 -- What a token is to the grammar.
 abbrev pub told_cut : Cut → Spelled
@@ -22,6 +24,12 @@ AreTreesOf [] [] = Unit {0}
 AreTreesOf [] (units ∷ trees) = ⊥
 AreTreesOf (cuts ∷ files) [] = ⊥
 AreTreesOf (cuts ∷ files) (units ∷ trees) = IsTreeOf (map told_cut cuts) units × AreTreesOf files trees
+
+-- The texts have tokens, and these are the trees of their files.
+pub record AreRead (texts : List (List ℕ)) (trees : List (List SourceUnit)) : Type 0 where
+  pub cuts : List (List Cut)
+  pub cut : all_tokens 0 TOKENS texts ≡ Ok cuts
+  pub parsed : AreTreesOf cuts trees
 
 -- A token of the file is refused with the code, at its position.
 pub record IsRefusedAt (code : Code) (at : Pos) (cuts : List Cut) : Type 0 where

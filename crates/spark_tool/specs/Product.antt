@@ -6,7 +6,7 @@ use Rattle.ada_lexer.specs.declared.refusal.LexRefusal.{LexRefusal}
 use Rattle.ada_lexer.specs.declared.refusal.LexRefusal.TheVariants.{BadByte, BadIdentifier, BadNumber, OpenString, TooMany, Memory}
 use Rattle.ada_lexer.specs.Positions.{first_position}
 use Rattle.ada_lexer.specs.Tokens.{Cut}
-use Rattle.ada_tree.specs.declared.unit.SourceUnit as whole
+use Rattle.ada_tree.specs.declared.unit.SourceUnit.{SourceUnit}
 use Rattle.ada_tree.specs.Refusals as grammar
 use Rattle.name_events.specs.declared.declaration.NameRule.{NameRule}
 use Rattle.name_events.specs.declared.declaration.NameRule.TheVariants as rule
@@ -16,19 +16,22 @@ use Rattle.type_table.specs.declared.refusal.TypeRefusal.TheVariants as untyped
 use Rattle.type_table.specs.Whole.{TypeFault, type_fault}
 use Rattle.type_table.specs.Refusals.{refusal_of}
 use Rattle.type_rules.specs.Programs.{program_of}
-use Rattle.straight_form.specs.declared.tree.SourceUnit.{SourceUnit}
-use Rattle.place_names.specs.Reports.{Report, Gives, IsReportList}
-use Rattle.straight_line.specs.Declarations.{object_texts}
-use Rattle.straight_line.specs.PathActs.{path_acts}
-use Rattle.straight_line.specs.Reported.{printed_name}
+use Rattle.place_names.specs.Names.{Name}
+use Rattle.place_names.specs.Reports.{Report}
+use Rattle.flow_paths.specs.declared.refusal.LayFault.{LayFault}
+use Rattle.flow_paths.specs.declared.refusal.LayFault.TheVariants as limit
+use Rattle.flow_paths.specs.declared.report.Effects.{Effects}
+use Rattle.flow_paths.specs.Effects.{AreEffects}
+use Rattle.flow_paths.specs.Limits.{lay_fault}
+use Rattle.flow_paths.specs.Reports.{AreReports}
+use Rattle.program_check.specs.Sources.{flow_of, printed_in}
 use Rattle.rule_reports.specs.declared.code.Code.{Code}
-use Rattle.rule_reports.specs.declared.code.Code.TheVariants.{S1, L1, L2, L3, L4, L5, P1, P2, P3, N1, N2, N3, N4, N5, N6, Y1, Y2, Y3, K1, K2, K3, K4, K5, K6, K7, K8, U1}
+use Rattle.rule_reports.specs.declared.code.Code.TheVariants.{S1, L1, L2, L3, L4, L5, P1, P2, P3, N1, N2, N3, N4, N5, N6, Y1, Y2, Y3, K1, K2, K3, K4, K5, K6, K7, K8, M1, G1, G2}
 use Rattle.rule_reports.specs.Lines.{refusal_line, report_lines, accepted_line, usage_line}
 use Rattle.spark_tool.specs.Commands.{Check, command_of}
 use Rattle.spark_tool.specs.Reading.{Sources, Texts, TooLarge, Missing, sources}
 use Rattle.spark_tool.specs.Lexing.{all_tokens}
 use Rattle.spark_tool.specs.Parsing.{AreTreesOf, FirstRefused}
-use Rattle.spark_tool.specs.StraightSource.{IsStraightSource}
 
 -- The bytes for both outputs, and the status.
 pub record Answer : Type 0 where
@@ -95,10 +98,16 @@ type_code (untyped.NotStatic pos) = Some (pos, K7)
 type_code (untyped.PackageValue pos) = Some (pos, K8)
 type_code untyped.Memory = None
 
+-- The position and the code of a limit that a program is beyond.
+abbrev pub limit_code : LayFault → Pos × Code
+limit_code (limit.NameTooDeep pos) = (pos, M1)
+limit_code (limit.TooManyPoints pos) = (pos, G1)
+limit_code (limit.TooManyFacts pos) = (pos, G2)
+
 -- The reports, or that there are none.
-abbrev pub judged : List (List ℕ) → List (List ℕ) → List Report → Answer
-judged names objects [] = accepted
-judged names objects (report ∷ more) = rejected (report_lines names (printed_name objects) (report ∷ more))
+abbrev pub judged : List (List ℕ) → (Name → List ℕ) → List Report → Answer
+judged names printed [] = accepted
+judged names printed (report ∷ more) = rejected (report_lines names printed (report ∷ more))
 
 -- What `check` answers on the sources of the named files. The first row that applies decides.
 pub data Checks (names : List (List ℕ)) : Sources → Answer → Type 0 where
@@ -113,24 +122,23 @@ pub data Checks (names : List (List ℕ)) : Sources → Answer → Type 0 where
   syntactic : (texts : List (List ℕ)) (cuts : List (List Cut)) (code : grammar.Code) (pos : Pos) → all_tokens 0 TOKENS texts ≡ Ok cuts
       → FirstRefused code pos cuts → Checks names (Texts texts) (refused names pos (syntactic_code code))
   -- the first broken rule of names over the trees of all files in order
-  unresolved : (texts : List (List ℕ)) (cuts : List (List Cut)) (trees : List (List whole.SourceUnit)) (broken : NameRule) (pos : Pos)
+  unresolved : (texts : List (List ℕ)) (cuts : List (List Cut)) (trees : List (List SourceUnit)) (broken : NameRule) (pos : Pos)
       → all_tokens 0 TOKENS texts ≡ Ok cuts → AreTreesOf cuts trees → name_fault trees ≡ Some (broken, pos)
       → Checks names (Texts texts) (refused names pos (name_code broken))
   -- the first broken sentence on types
-  mistyped : (texts : List (List ℕ)) (cuts : List (List Cut)) (trees : List (List whole.SourceUnit)) (broken : TypeFault) (pos : Pos) (code : Code)
+  mistyped : (texts : List (List ℕ)) (cuts : List (List Cut)) (trees : List (List SourceUnit)) (broken : TypeFault) (pos : Pos) (code : Code)
       → all_tokens 0 TOKENS texts ≡ Ok cuts → AreTreesOf cuts trees → name_fault trees ≡ None → type_fault (program_of trees) ≡ Some broken
       → type_code (refusal_of broken) ≡ Some (pos, code) → Checks names (Texts texts) (refused names pos code)
-  -- no rule of names and no sentence on types is broken, but the files aren't one file of the
-  -- straight-line form
-  not_built : (texts : List (List ℕ)) (cuts : List (List Cut)) (trees : List (List whole.SourceUnit)) → all_tokens 0 TOKENS texts ≡ Ok cuts
-      → AreTreesOf cuts trees → name_fault trees ≡ None → type_fault (program_of trees) ≡ None → ((unit : SourceUnit) → ¬ IsStraightSource unit cuts)
-      → Checks names (Texts texts) (refused names (first_position 0) U1)
-  -- the reports of the one control path
-  checked : (texts : List (List ℕ)) (cuts : List (List Cut)) (trees : List (List whole.SourceUnit)) (unit : SourceUnit) (reports : List Report)
+  -- a name, the points or the facts of the program are beyond a limit
+  beyond : (texts : List (List ℕ)) (cuts : List (List Cut)) (trees : List (List SourceUnit)) (fault : LayFault)
       → all_tokens 0 TOKENS texts ≡ Ok cuts → AreTreesOf cuts trees → name_fault trees ≡ None → type_fault (program_of trees) ≡ None
-      → IsStraightSource unit cuts
-      → IsReportList (printed_name (object_texts unit)) (Gives (path_acts unit)) reports
-      → Checks names (Texts texts) (judged names (object_texts unit) reports)
+      → lay_fault (flow_of trees) ≡ Some fault
+      → Checks names (Texts texts) (refused names (limit_code fault).0 (limit_code fault).1)
+  -- the reports of the program
+  checked : (texts : List (List ℕ)) (cuts : List (List Cut)) (trees : List (List SourceUnit)) (effects : Effects) (reports : List Report)
+      → all_tokens 0 TOKENS texts ≡ Ok cuts → AreTreesOf cuts trees → name_fault trees ≡ None → type_fault (program_of trees) ≡ None
+      → lay_fault (flow_of trees) ≡ None → AreEffects (flow_of trees) effects → AreReports (flow_of trees) effects reports
+      → Checks names (Texts texts) (judged names (printed_in (flow_of trees)) reports)
 
 -- What the tool answers to words over the files of a store.
 pub data Product (stored : List (List ℕ × List ℕ)) (words : List (List ℕ)) : Answer → Type 0 where

@@ -4,13 +4,14 @@
 //! gives a status. What it writes and answers, `specs/Product.antt` defines; `docs/TOOL.md` says it
 //! in words. Refused are words that give no command, files that can't be read, and sources that a
 //! stage refuses: each looks at all files before the next one begins, the lexer first, then the
-//! grammar, the rules of names, those of types, and the form that is built so far. Time is linear in
-//! the sources, but for the sorting of reports and what `type_rules` names. Memory is linear too;
-//! the trees of all files are held at once.
+//! grammar, the rules of names, those of types, and the limits of programs. Up to the trees, time and
+//! memory are linear in the sources; the tokens are given back before names are looked at. Then they
+//! are what `name_resolve` and `program_check` name.
 #![tactic(auto)]
 
 mod answer;
 mod check;
+mod codes;
 mod command;
 mod deliver;
 mod lexing;

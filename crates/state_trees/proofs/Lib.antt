@@ -2,6 +2,7 @@
 pub mod Parts
 pub mod Passes
 pub mod Kept
+pub mod Left
 pub mod Marked
 -- what the functions of a crate of rules cite
 pub mod Tested

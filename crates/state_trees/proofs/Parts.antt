@@ -1,5 +1,5 @@
 -- Whether a name is another one and some steps behind it, and so whether an act moved it.
-use Rattle.std.proofs.Common.{◌≡◌, ◌≢◌, refl, sym, ap, ◌∙◌, subst, Bool, false, ◌||◌, ℕ, List, [], ◌∷◌, ◌++◌, map}
+use Rattle.std.proofs.Common.{◌≡◌, ◌≢◌, refl, sym, ap, ◌∙◌, subst, Bool, false, ◌&&◌, ◌||◌, ◌==◌, ℕ, List, [], ◌∷◌, ◌++◌, map}
 use Rattle.std.specs.Bool.{Decides}
 use Rattle.std.specs.List.{list_any}
 use Rattle.std.specs.Cmp.Lexicographic.{pointwise, pointwise_decides}
@@ -42,6 +42,14 @@ pub any_moved : (m n : Name) (parts : List (List Sel))
     → list_any (λ q. is_same (extend m q) n) parts ≡ list_any (λ g. is_same_fact g (Moved n)) (map (λ q. Moved (extend m q)) parts)
 any_moved m n [] = refl
 any_moved m n (q ∷ parts) = ap (λ b. is_same (extend m q) n || b) (any_moved m n parts)
+
+-- a name of another object is that of no part
+pub none_elsewhere : (m n : Name) (parts : List (List Sel)) → (m.root == n.root) ≡ false
+    → false ≡ list_any (λ q. is_same (extend m q) n) parts
+none_elsewhere m n [] e = refl
+none_elsewhere m n (q ∷ parts) e =
+    none_elsewhere m n parts e
+    ∙ ap (λ b. (b && pointwise is_equal (m.sels ++ q) n.sels) || list_any (λ r. is_same (extend m r) n) parts) (sym e)
 
 pub none_lent : (m : Name) (l : Loan) (h : ℕ) (n : Name) (parts : List (List Sel))
     → false ≡ list_any (λ g. is_same_fact g (Lent l h n)) (map (λ q. Moved (extend m q)) parts)

@@ -35,6 +35,20 @@ passed_next g n xs marks items is p q x d held e v here there value =
     let new : v ≡ g (get_or xs n d) (get_or (passed g n xs marks) n e) = value ∙ (λ t. g (here t) (old t)) in
     (λ t. set (is t) n (new t)) ∙ next g n xs marks d e p q ∙ sym (ap (λ k. passed g k xs marks) (add-one n))
 
+-- one more mark that stays as it was
+stays : {A : Type 0} (g : A → Bool → Bool) (n : ℕ) (xs : List A) (marks : List Bool) (d : A) → n < length xs
+    → ((m : Bool) → g (get_or xs n d) m ≡ m) → passed g n xs marks ≡ passed g (suc n) xs marks
+stays g n [] marks d p same = absurd (omega arith)
+stays g zero (x ∷ xs) [] d p same = refl
+stays g zero (x ∷ xs) (m ∷ marks) d p same = sym (ap (λ b. b ∷ marks) (same m))
+stays g (suc n) (x ∷ xs) [] d p same = refl
+stays g (suc n) (x ∷ xs) (m ∷ marks) d p same = ap (λ t. g x m ∷ t) (stays g n xs marks d (omega arith) same)
+
+pub passed_stays : {A : Type 0} (g : A → Bool → Bool) (n : ℕ) (xs : List A) (marks items : List Bool) → items ≡ passed g n xs marks
+    → n < length xs → (x d : A) → x ≡ get_or xs n d → ((m : Bool) → g x m ≡ m) → items ≡ passed g (n + 1) xs marks
+passed_stays g n xs marks items is p x d here same =
+    is ∙ stays g n xs marks d p (λ m. sym (ap (λ y. g y m) here) ∙ same m) ∙ sym (ap (λ k. passed g k xs marks) (add-one n))
+
 -- all marks
 pub passed_may : (a : Act) (n : ℕ) (facts : List Fact) (may : List Bool) → length may ≡ length facts → length facts ≤ n
     → passed (λ f m. holds_behind a f m) n facts may ≡ may_behind a facts may

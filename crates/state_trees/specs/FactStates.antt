@@ -85,6 +85,10 @@ lacks_behind a (f ∷ facts) (l ∷ lacks) = not (holds_behind a f (not l)) ∷ 
 abbrev pub state_behind : Act → FactState → FactState
 state_behind a s = record { facts = s.facts; may = may_behind a s.facts s.may; lacks = lacks_behind a s.facts s.lacks }
 
+-- Some acts leave each fact as it was, whether it held before them or not.
+abbrev pub LeavesAll : Act → Type 0
+LeavesAll a = (f : Fact) (held : Bool) → holds_behind a f held ≡ held
+
 -- ---- two states
 
 -- A mark is there where it is in one of two lists.

@@ -1,10 +1,12 @@
 //! What an act does to one fact.
-ghost use Rattle.std.specs.Prelude.{◌≡◌, ◌++◌};
+ghost use Rattle.std.specs.Prelude.{◌≡◌, ◌++◌, Bool, false, unwrap_or};
+ghost use Rattle.std.specs.List.{list_any};
 ghost use Rattle.std.specs.Cmp.Lexicographic.{pointwise};
 ghost use Rattle.place_names.specs.declared.act.Act.TheVariants as acts;
 ghost use Rattle.place_names.specs.declared.fact.Fact.TheVariants as facts;
 ghost use Rattle.place_names.specs.Names as names;
 ghost use Rattle.place_names.specs.Facts as effects;
+ghost use Rattle.state_trees.specs.FactStates.{LeavesAll};
 
 use place_names::{Act, Fact, Loan, Mode, PlaceName, PlaceTail, Sel};
 
@@ -61,11 +63,20 @@ fn is_joined(front: &[Sel], back: &[Sel], whole: &[Sel]) -> bool
     }
 }
 
-/// Whether a name is another one and some steps behind it.
-fn is_part(name: &PlaceName, part: &PlaceTail, whole: &PlaceName) -> bool
-    ensures { result ≡ names.is_same (names.extend name.now part.now) whole.now }
+/// Whether the third list is the first one followed by one of some parts.
+fn is_joined_part(front: &[Sel], parts: &[PlaceTail], whole: &[Sel]) -> bool
+    ensures { result ≡ list_any (λ part. pointwise names.is_equal (front.now ++ part) whole.now) parts.now }
 {
-    name.root() == whole.root() && is_joined(name.sels(), part.sels(), whole.sels())
+    parts
+        .iter()
+        .any(|part| is_joined(front, part.sels(), whole))
+}
+
+/// Whether a name is that of one of some parts of a place.
+fn is_part(name: &PlaceName, parts: &[PlaceTail], whole: &PlaceName) -> bool
+    ensures { result ≡ list_any (λ part. names.is_same (names.extend name.now part) whole.now) parts.now }
+{
+    name.root() == whole.root() && is_joined_part(name.sels(), parts, whole.sels())
 }
 
 /// Whether a fact is that one of some parts of a place was moved.
@@ -73,7 +84,7 @@ fn is_moved_part(name: &PlaceName, parts: &[PlaceTail], fact: &Fact) -> bool
     ensures { result ≡ effects.is_added (acts.Move name.now parts.now) fact.now }
 {
     match fact {
-        Fact::Moved(moved) => parts.iter().any(|part| is_part(name, part, moved)),
+        Fact::Moved(moved) => is_part(name, parts, moved),
         Fact::Lent { .. } => false,
     }
 }
@@ -134,9 +145,39 @@ fn is_added(act: &Act, fact: &Fact) -> bool
     }
 }
 
-/// Whether a fact holds behind an act, where `held` says whether it held before.
-pub(crate) fn holds_behind(act: &Act, fact: &Fact, held: bool) -> bool
-    ensures { result ≡ effects.holds_behind act.now fact.now held }
+/// Whether a fact holds behind an act: none where it does so if it held before.
+pub(crate) fn settled(act: &Act, fact: &Fact) -> Option<bool>
+    ensures { (held : Bool) → effects.holds_behind act.now fact.now held ≡ unwrap_or result held }
 {
-    is_added(act, fact) || (held && !removes(act, fact))
+    if is_added(act, fact) {
+        Some(true)
+    } else if removes(act, fact) {
+        Some(false)
+    } else {
+        None
+    }
+}
+
+/// Whether there are facts that an act changes.
+pub(crate) fn changes(act: &Act) -> bool
+    ensures { result ≡ false → LeavesAll act.now }
+{
+    match act {
+        Act::Write { .. }
+        | Act::Move { .. }
+        | Act::Borrow { .. }
+        | Act::EndScope { .. }
+        | Act::Free { .. } => true,
+        Act::Observe { from_observer, .. } => !from_observer,
+        Act::Actual { mode, .. } => match mode {
+            Mode::Out => true,
+            Mode::In | Mode::InOut => false,
+        },
+        Act::Read { .. }
+        | Act::Look { .. }
+        | Act::Reborrow { .. }
+        | Act::Return { .. }
+        | Act::Global { .. }
+        | Act::Give { .. } => false,
+    }
 }

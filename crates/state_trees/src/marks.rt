@@ -2,28 +2,21 @@
 ghost use Rattle.std.specs.Prelude.{◌≡◌, ◌↔◌, ◌||◌, not, length, vec_len, IsTrue};
 ghost use Rattle.state_trees.specs.FactStates.{may_behind, lacks_behind, either_mark};
 
-use crate::effect::holds_behind;
+use crate::effect::settled;
 use place_names::{Act, Fact};
 
-/// What an act does to the marks of what may hold.
-pub(crate) fn pass_may(may: &mut Vec<bool>, facts: &[Fact], act: &Act)
-    requires { vec_len may.old ≡ length facts.now }
-    ensures { may.new.items ≡ may_behind act.now facts.now may.old.items }
+/// What an act does to the marks of what may hold, and to those of what may not hold.
+pub(crate) fn pass(may: &mut Vec<bool>, lacks: &mut Vec<bool>, facts: &[Fact], act: &Act)
+    requires may { vec_len may.old ≡ length facts.now }
+    requires lacks { vec_len lacks.old ≡ length facts.now }
+    ensures may { may.new.items ≡ may_behind act.now facts.now may.old.items }
+    ensures lacks { lacks.new.items ≡ lacks_behind act.now facts.now lacks.old.items }
 {
     'facts: for i in 0..facts.len() {
-        let held = may[i];
-        may[i] = holds_behind(act, &facts[i], held);
-    }
-}
-
-/// What an act does to the marks of what may not hold.
-pub(crate) fn pass_lacks(lacks: &mut Vec<bool>, facts: &[Fact], act: &Act)
-    requires { vec_len lacks.old ≡ length facts.now }
-    ensures { lacks.new.items ≡ lacks_behind act.now facts.now lacks.old.items }
-{
-    'facts: for i in 0..facts.len() {
-        let held = !lacks[i];
-        lacks[i] = !holds_behind(act, &facts[i], held);
+        if let Some(holds) = settled(act, &facts[i]) {
+            may[i] = holds;
+            lacks[i] = !holds;
+        }
     }
 }
 

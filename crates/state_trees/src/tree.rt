@@ -3,7 +3,8 @@ ghost use Rattle.std.specs.Prelude.{◌≡◌, ◌<◌, ◌≤◌, ◌↔◌, le
 ghost use Rattle.state_trees.specs.FactStates.{none_hold, state_behind, joined, may_at, always_at, IsKept};
 ghost use Rattle.state_trees.specs.FactStates as states;
 
-use crate::marks::{has_all, is_same, pass_lacks, pass_may, raise};
+use crate::effect::changes;
+use crate::marks::{has_all, is_same, pass, raise};
 use crate::overlap::any_marked;
 use place_names::{Act, Fact, PlaceName, State};
 use std::alloc::{AllocError, Global};
@@ -67,8 +68,10 @@ impl<'f> Tree<'f> {
         ensures ok { OnOk result (self.new ≡ state_behind act.now self.old) }
         ensures err { OnErr result (self.new ≡ self.old) }
     {
-        pass_may(&mut self.may, self.facts, act);
-        pass_lacks(&mut self.lacks, self.facts, act);
+        let facts = self.facts;
+        if changes(act) {
+            pass(&mut self.may, &mut self.lacks, facts, act);
+        }
         Ok(())
     }
 

@@ -1,4 +1,4 @@
-//! Sources at each limit of the tool and of the grammar, and just past it.
+//! Sources at each limit of the tool, of the grammar and of programs, and just past it.
 use crate::command::{NO_FAULTS, NONE, check, repeated, run_line};
 use std::alloc::{AllocError, Global};
 use std::test::Fail;
@@ -105,16 +105,18 @@ fn nothing_is_read_behind_the_byte_past_the_limit(rt: HostRuntime) -> Result<(),
     Ok(())
 }
 
-/// Each row: a front, a piece, how often it stands, a middle, another piece as often, a back, and
-/// the refusal.
-const NESTED: [(&str, &str, usize, &str, &str, &str); 4] = [
+/// Each row: a front, a piece, how often it stands, a middle, another piece as often, a back, what is
+/// written to each output, and the status.
+const NESTED: [(&str, &str, usize, &str, &str, &str, &str, u8); 4] = [
     (
         "procedure Main is begin ",
         "begin ",
         63,
         "null; ",
         "end; ",
-        "f.adb:1:1: U1 form not built\n",
+        "accepted\n",
+        "",
+        0,
     ),
     (
         "procedure Main is begin ",
@@ -122,7 +124,9 @@ const NESTED: [(&str, &str, usize, &str, &str, &str); 4] = [
         64,
         "null; ",
         "end; ",
+        "",
         "f.adb:1:403: P2 nesting too deep\n",
+        2,
     ),
     (
         "procedure Main is N : Integer; begin N := 0",
@@ -130,7 +134,9 @@ const NESTED: [(&str, &str, usize, &str, &str, &str); 4] = [
         1_024,
         "; ",
         "",
-        "f.adb:1:1: U1 form not built\n",
+        "accepted\n",
+        "",
+        0,
     ),
     (
         "procedure Main is N : Integer; begin N := 0",
@@ -138,7 +144,9 @@ const NESTED: [(&str, &str, usize, &str, &str, &str); 4] = [
         1_025,
         "; ",
         "",
+        "",
         "f.adb:1:4141: P2 nesting too deep\n",
+        2,
     ),
 ];
 
@@ -146,12 +154,95 @@ const NESTED: [(&str, &str, usize, &str, &str, &str); 4] = [
 fn constructs_and_operators(rt: HostRuntime) -> Result<(), Fail> {
     let alloc = rt.alloc();
     for row in &NESTED {
-        let (front, opener, count, middle, closer, err) = *row;
+        let (front, opener, count, middle, closer, out, err, status) = *row;
         let mut text = repeated(alloc, front, opener, count, middle)?;
         let rest = repeated(alloc, "", closer, count, "end Main;")?;
         text.extend_from_slice(rest.as_slice())?;
         let response = check(alloc, text, None, NO_FAULTS)?;
-        assert!(rt; response.is("", err, 2), "{err}");
+        assert!(rt; response.is(out, err, status), "{count} {status}");
+    }
+    Ok(())
+}
+
+/// Each step of it is two selectors, a dereference and a component.
+const CHAIN: &str =
+    "procedure Main is type Cell; type List is access Cell; type Cell is record Next : List; end record; L, X : List; begin L := X";
+
+/// Each row: a front, a piece, how often it stands, a back, what is written to each output, and the
+/// status.
+const PROGRAMS: [(&str, &str, usize, &str, &str, &str, u8); 4] = [
+    (
+        "procedure Main is begin ",
+        "null; ",
+        16_383,
+        "end Main;",
+        "accepted\n",
+        "",
+        0,
+    ),
+    (
+        "procedure Main is begin ",
+        "null; ",
+        16_384,
+        "end Main;",
+        "",
+        "f.adb:1:11: G1 too many points\n",
+        2,
+    ),
+    (CHAIN, ".Next", 8, "; end Main;", "accepted\n", "", 0),
+    (
+        CHAIN,
+        ".Next",
+        9,
+        "; end Main;",
+        "",
+        "f.adb:1:125: M1 name too deep\n",
+        2,
+    ),
+];
+
+#[test]
+fn points_and_selectors(rt: HostRuntime) -> Result<(), Fail> {
+    let alloc = rt.alloc();
+    for row in &PROGRAMS {
+        let (front, piece, count, back, out, err, status) = *row;
+        let text = repeated(alloc, front, piece, count, back)?;
+        let response = check(alloc, text, None, NO_FAULTS)?;
+        assert!(rt; response.is(out, err, status), "{count} {status}");
+    }
+    Ok(())
+}
+
+/// A program that moves so many objects.
+fn moves(alloc: Global, count: u32) -> Result<Vec<u8>, AllocError> {
+    let front = b"procedure Main is type Link is access Integer; Y : Link; ";
+    let mut text = Vec::from_slice(alloc, front)?;
+    for number in 0..count {
+        let object = format!(in alloc; "X{number} : Link; ")?;
+        text.extend_from_slice(object.as_bytes())?;
+    }
+    text.extend_from_slice(b"begin ")?;
+    for number in 0..count {
+        let statement = format!(in alloc; "Y := X{number}; ")?;
+        text.extend_from_slice(statement.as_bytes())?;
+    }
+    text.extend_from_slice(b"end Main;")?;
+    Ok(text)
+}
+
+/// Each row: how many objects are moved, what is written to each output, and the status.
+const MOVES: [(u32, &str, &str, u8); 2] = [
+    (512, "accepted\n", "", 0),
+    (513, "", "f.adb:1:11: G2 too many facts\n", 2),
+];
+
+#[test]
+fn facts(rt: HostRuntime) -> Result<(), Fail> {
+    let alloc = rt.alloc();
+    for row in &MOVES {
+        let (count, out, err, status) = *row;
+        let response = check(alloc, moves(alloc, count)?, None, NO_FAULTS)?;
+        assert!(rt; response.is(out, err, status), "{count}");
     }
     Ok(())
 }

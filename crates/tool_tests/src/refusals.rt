@@ -3,7 +3,7 @@ use crate::command::{NO_FAULTS, check};
 use std::test::Fail;
 
 /// Each row: a file, and its refusal.
-const ONE: [(&str, &str); 12] = [
+const ONE: [(&str, &str); 11] = [
     ("", "f.adb:1:1: P1 syntax\n"),
     ("-- none\n", "f.adb:2:1: P1 syntax\n"),
     (
@@ -13,10 +13,6 @@ const ONE: [(&str, &str); 12] = [
     (
         "procedure Main is begin end Main;",
         "f.adb:1:25: P1 syntax\n",
-    ),
-    (
-        "procedure Main is begin null; end Main;",
-        "f.adb:1:1: U1 form not built\n",
     ),
     (
         "procedure Main is begin N := 1; end Main;",
@@ -60,7 +56,7 @@ fn one_file(rt: HostRuntime) -> Result<(), Fail> {
 }
 
 /// Each row: two files, and the refusal.
-const TWO: [(&str, &str, &str); 9] = [
+const TWO: [(&str, &str, &str); 8] = [
     (
         "procedure A is begin null; end A;",
         "procedure B is begin end B;",
@@ -92,11 +88,6 @@ const TWO: [(&str, &str, &str); 9] = [
         "g.adb:1:22: P1 syntax\n",
     ),
     (
-        "package P is N : Integer; end P;",
-        "procedure A is begin null; end A;",
-        "f.adb:1:1: U1 form not built\n",
-    ),
-    (
         "package body P is end P;",
         "package P is N : Integer; end P;",
         "f.adb:1:14: N4 used before its declaration\n",
@@ -116,5 +107,19 @@ fn two_files(rt: HostRuntime) -> Result<(), Fail> {
         let response = check(rt.alloc(), first, Some(second), NO_FAULTS)?;
         assert!(rt; response.is("", row.2, 2), "{}", row.2);
     }
+    Ok(())
+}
+
+/// Files that nothing refuses, alone and beside another one.
+#[test]
+fn no_refusal(rt: HostRuntime) -> Result<(), Fail> {
+    let alloc = rt.alloc();
+    let text = Vec::from_slice(alloc, b"procedure Main is begin null; end Main;")?;
+    let response = check(alloc, text, None, NO_FAULTS)?;
+    assert!(rt; response.is("accepted\n", "", 0));
+    let first = Vec::from_slice(alloc, b"package P is N : Integer; end P;")?;
+    let second = Vec::from_slice(alloc, b"procedure A is begin null; end A;")?;
+    let response = check(alloc, first, Some(second), NO_FAULTS)?;
+    assert!(rt; response.is("accepted\n", "", 0));
     Ok(())
 }

@@ -18,17 +18,12 @@ const LINES: [(&str, &str, &str, u8); 13] = [
         1,
     ),
     ("Y := X; Free (X);", "", "f.adb:8:15: O14 X: moved\n", 1),
-    (
-        "if X = null then null; end if;",
-        "",
-        "f.adb:1:1: U1 form not built\n",
-        2,
-    ),
+    ("if X = null then null; end if;", "accepted\n", "", 0),
     (
         "X := X; Y := X; X := x; N := 1_0;",
         "",
-        "f.adb:1:1: U1 form not built\n",
-        2,
+        "f.adb:8:22: O4 X: moved\n",
+        1,
     ),
     (
         "X := X; Y := X; X := x; N := 10;",

@@ -7,6 +7,7 @@ ghost use Rattle.typed_check.specs.Typed.{IsTyped};
 
 use spark_base::Listed;
 use type_shapes::TypeTable;
+use typed_programs::ProgramParts;
 use typed_statements::Subprogram;
 use typed_tree::{Object, TypedRows};
 
@@ -45,5 +46,35 @@ impl Drop for Typed {
             subs: _,
             main: _,
         } = self;
+    }
+}
+
+impl Typed {
+    /// Takes it apart: the names of its files, its types, and the program.
+    pub fn into_parts(self) -> (Vec<String>, TypeTable, ProgramParts)
+        ensures names { result.0 ≡ self.names }
+        ensures table { result.1 ≡ self.table }
+        ensures program { result.2 ≡ record { rows = self.rows; objects = self.objects; scopes = self.scopes; subs = self.subs; main = self.main } }
+    {
+        let Self {
+            names,
+            table,
+            rows,
+            objects,
+            scopes,
+            subs,
+            main,
+        } = self;
+        (
+            names,
+            table,
+            ProgramParts {
+                rows,
+                objects,
+                scopes,
+                subs,
+                main,
+            },
+        )
     }
 }

@@ -1,9 +1,8 @@
-use Rattle.std.proofs.Common.{◌≡◌, ◌<◌, ◌*◌, sym, ap, subst, inl, inr, ℕ, List, ◌∷◌, length, vec_len, Option, ◌∙◌, arith}
+use Rattle.std.proofs.Common.{◌≡◌, ◌<◌, ◌*◌, sym, ap, subst, inl, inr, ℕ, List, length, vec_len, Option, ◌∙◌, arith}
 use Rattle.spark_base.specs.Lists.{Has}
-use Rattle.label_flow.proofs.Worklist.{search_order}
 use Rattle.state_trees.specs.FactStates.{FactState}
 use Rattle.path_facts.specs.PointTrees.{path_points_of}
-use Rattle.path_facts.specs.Labels.{flow_of, labels_of, SearchedOn}
+use Rattle.path_facts.specs.Labels.{SearchedOn}
 use Rattle.path_facts.specs.Debts.{most, costs_of, owed}
 use Rattle.path_facts.proofs.Carried.{points_counted}
 use Rattle.path_facts.proofs.Debt.{owed_taken, cost_is, total_is, costs_counted, ones, one_each, ones_counted}
@@ -18,7 +17,7 @@ turns-init g c =
     let trees : List (Option FactState) = c.in_ok-trees.trees.items in
     let costs = costs_of points in
     let begun = c.in_ok-trees.ensures in
-    let first = first_work c.push.new.self.items c.new-work.result.items c.new-work.ensures.items c.in_ok-push.ensures.items in
+    let first = first_work c.insert.new.self.keys c.new-work.result.keys c.new-work.ensures.empty c.in_ok-insert.ensures.keys in
     let size = begun.sized in
     let some = started_some (length c.args.points.now) facts trees begun in (
       subst (λ w. SearchedOn points facts trees w) (sym first) (started points facts trees (length c.args.points.now) begun),
@@ -34,24 +33,22 @@ turns-init g c =
 
 pub turn-requires-clause-searched : goal.turn-requires-clause-searched
 turn-requires-clause-searched g c =
-    let t = taken (length c.args.points.now) c.turns.work.items c.pop.new.self.items c.in-Some.p c.in-Some.ensures.items c.turns.invariant.3 in
-    search_order (flow_of (path_points_of c.args.points.now) c.args.facts.now) (labels_of c.turns.trees.items) c.turns.work.items
-    (c.in-Some.p ∷ c.pop.new.self.items) t.all c.turns.invariant.0
+    subst (λ w. SearchedOn (path_points_of c.args.points.now) c.args.facts.now c.turns.trees.items w) c.in-Some.ensures.removal c.turns.invariant.0
 
 pub turn-requires-clause-place : goal.turn-requires-clause-place
 turn-requires-clause-place g c =
-    (taken (length c.args.points.now) c.turns.work.items c.pop.new.self.items c.in-Some.p c.in-Some.ensures.items c.turns.invariant.3).place
+    (taken (length c.args.points.now) c.turns.work.keys c.pop_first.new.self.keys c.in-Some.p c.in-Some.ensures.removal c.turns.invariant.3).place
 
 pub turn-requires-clause-places : goal.turn-requires-clause-places
 turn-requires-clause-places g c =
-    (taken (length c.args.points.now) c.turns.work.items c.pop.new.self.items c.in-Some.p c.in-Some.ensures.items c.turns.invariant.3).places
+    (taken (length c.args.points.now) c.turns.work.keys c.pop_first.new.self.keys c.in-Some.p c.in-Some.ensures.removal c.turns.invariant.3).places
 
 pub turns-smaller : goal.turns-smaller
 turns-smaller g c =
     let costs : List ℕ = ones c.args.points.now in
-    let t = taken (length c.args.points.now) c.turns.work.items c.pop.new.self.items c.in-Some.p c.in-Some.ensures.items c.turns.invariant.3 in
+    let t = taken (length c.args.points.now) c.turns.work.keys c.pop_first.new.self.keys c.in-Some.p c.in-Some.ensures.removal c.turns.invariant.3 in
     let pays = c.in_ok-turn.ensures.pays costs (ones_counted c.args.points.now) in
-    let was = owed_taken costs c.turns.work.items c.pop.new.self.items c.in-Some.p c.in-Some.ensures.items in
+    let was = owed_taken costs c.turns.work.keys c.pop_first.new.self.keys c.in-Some.p c.in-Some.ensures.removal in
     let one = one_each c.args.points.now c.in-Some.p t.place in
     omega arith
 
@@ -61,7 +58,7 @@ turns-preserved g c =
     let costs : List ℕ = costs_of points in
     let pays = c.in_ok-turn.ensures.pays costs (costs_counted points ∙ points_counted c.args.points.now) in
     let ticks = c.in_ok-turn.ensures.ticks in
-    let was = owed_taken costs c.turns.work.items c.pop.new.self.items c.in-Some.p c.in-Some.ensures.items in
+    let was = owed_taken costs c.turns.work.keys c.pop_first.new.self.keys c.in-Some.p c.in-Some.ensures.removal in
     let cost = cost_is points c.in-Some.p in
     let before = c.turns.invariant.4 in
     (c.in_ok-turn.ensures.searched, c.in_ok-turn.ensures.over, c.in_ok-turn.ensures.count, c.in_ok-turn.ensures.places, omega arith)
@@ -72,7 +69,7 @@ returns-in_err-turn-clause-cost g c =
     let points = path_points_of c.args.points.now in
     let costs : List ℕ = costs_of points in
     let ticks = c.turn.ensures.ticks in
-    let was = owed_taken costs c.turns.work.items c.pop.new.self.items c.in-Some.p c.in-Some.ensures.items in
+    let was = owed_taken costs c.turns.work.keys c.pop_first.new.self.keys c.in-Some.p c.in-Some.ensures.removal in
     let cost = cost_is points c.in-Some.p in
     let before = c.turns.invariant.4 in
     omega arith
@@ -81,7 +78,7 @@ pub returns-clause-exact : goal.returns-clause-exact
 returns-clause-exact g c =
     let points = path_points_of c.args.points.now in
     let facts = c.args.facts.now in
-    let none = none_left c.turns.work.items (omega (arith, c.turns.work.ok.0, c.in_default.ensures.cases.0)) in
+    let none = none_left c.turns.work.keys c.in_default.ensures.variant.1 in
     let some = started_some (length c.args.points.now) facts c.in_ok-trees.trees.items c.in_ok-trees.ensures in
     let size = points_counted c.args.points.now in
     let count : vec_len c.turns.trees ≡ length c.args.points.now = c.turns.invariant.2 in

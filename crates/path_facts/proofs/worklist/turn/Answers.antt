@@ -18,8 +18,8 @@ edges-init g c =
     let facts = c.args.facts.now in
     let trees = c.args.trees.now.items in
     let next = next_is c.args.points.now c.args.p c.index-points-p-2.result c.as_slice-next.result.now c.requires.place c.as_slice-next.ensures in (
-      subst (λ xs. Turning (flow_of points facts) c.args.p (Shows (tree_at trees c.args.p)) xs (labels_of trees) c.args.work.now.items) (sym next)
-          (turn_begins (flow_of points facts) c.args.p (labels_of trees) c.args.work.now.items c.requires.searched),
+      subst (λ xs. Turning (flow_of points facts) c.args.p (Shows (tree_at trees c.args.p)) xs (labels_of trees) c.args.work.now.keys) (sym next)
+          (turn_begins (flow_of points facts) c.args.p (labels_of trees) c.args.work.now.keys c.requires.searched),
       c.requires.over,
       c.requires.count,
       λ costs e. omega arith,
@@ -67,8 +67,8 @@ edges-preserved g c =
     let new : List (Option FactState) = c.carry.new.trees.items in
     let now : FactState = c.in_ok-state-in-Some.state in
     let s : FactState = c.apply_all.new.tree in
-    let work : List ℕ = c.edges.work.items in
-    let work' : List ℕ = c.carry.new.work.items in
+    let work : List ℕ = c.edges.work.keys in
+    let work' : List ℕ = c.carry.new.work.keys in
     let carry = c.in_ok-carry.ensures.carried in
     -- the state behind the acts
     let place : p < length trees = omega (arith, c.args.trees.now.ok.0, c.requires.place, c.requires.count) in
@@ -110,8 +110,8 @@ returns-clause-searched g c =
     let facts = c.args.facts.now in
     let now = Shows (tree_at c.args.trees.now.items c.args.p) in
     let none = drop_past c.as_slice-next.result.now c.edges.q-index c.edges-test.false in
-    turn_ends (flow_of points facts) c.args.p now (labels_of c.edges.trees.items) c.edges.work.items
-    (subst (λ xs. Turning (flow_of points facts) c.args.p now xs (labels_of c.edges.trees.items) c.edges.work.items) none c.edges.invariant.0)
+    turn_ends (flow_of points facts) c.args.p now (labels_of c.edges.trees.items) c.edges.work.keys
+    (subst (λ xs. Turning (flow_of points facts) c.args.p now xs (labels_of c.edges.trees.items) c.edges.work.keys) none c.edges.invariant.0)
 
 pub returns-clause-ticks : goal.returns-clause-ticks
 returns-clause-ticks g c =

@@ -10,9 +10,9 @@ use Rattle.path_facts.proofs.worklist.turn.Given as goal
 abbrev pub invariant-edges : goal.invariant-edges
 invariant-edges g l =
     Turning (flow_of (path_points_of l.points) l.facts) l.p (Shows (tree_at l.initial.trees.items l.p)) (drop l.q-index l.next)
-    (labels_of l.trees.items) l.work.items
+    (labels_of l.trees.items) l.work.keys
     × AreOver l.facts l.trees.items
     × (vec_len l.trees ≡ length l.points)
-    × Pays (most (length l.facts)) (length l.points) l.initial.trees.items l.initial.work.items l.trees.items l.work.items
+    × Pays (most (length l.facts)) (length l.points) l.initial.trees.items l.initial.work.keys l.trees.items l.work.keys
     × (l.steps ≡ l.initial.steps + l.q-index)
-    × ((a : ℕ) → Has l.work.items a → a < length l.points)
+    × ((a : ℕ) → Has l.work.keys a → a < length l.points)

@@ -1,14 +1,21 @@
-use Rattle.std.proofs.Common.{map, string_bytes}
+use Rattle.std.proofs.Common.{Option, List, ℕ, subst, map, string_bytes}
+use Rattle.spark_base.specs.declared.position.Pos.{Pos}
 use Rattle.name_resolve.specs.Inputs.{trees_of}
-use Rattle.spark_tool.specs.Lexing.{cuts_of}
-use Rattle.spark_tool.proofs.Typed.{types_answer}
+use Rattle.rule_reports.specs.declared.code.Code.{Code}
+use Rattle.spark_tool.specs.Answers.{answer_of}
+use Rattle.spark_tool.specs.Refusals.{IsRefused}
+use Rattle.spark_tool.proofs.Judged.{verdict_answers, refusal_answers}
 use Rattle.spark_tool.proofs.check.check_resolved.Goals as goal
 
-pub returns-in_ok-check_form-in-Ok-clause-answer : goal.returns-in_ok-check_form-in-Ok-clause-answer
-returns-in_ok-check_form-in-Ok-clause-answer c texts cut =
-    c.in_ok-check_form-in-Ok.ensures texts cut (trees_of c.args.program.now.files.items) c.requires.parsed c.requires.named c.in-Ok.ensures
+pub returns-in_ok-judged-in-Ok-clause-answer : goal.returns-in_ok-judged-in-Ok-clause-answer
+returns-in_ok-judged-in-Ok-clause-answer c texts read =
+    verdict_answers (map string_bytes c.args.names.now) texts (trees_of c.args.program.files.items) c.in-Ok.verdict _ read c.requires c.in-Ok.ensures
+    c.in_ok-judged-in-Ok.ensures
 
-pub returns-in_ok-refused_by_types-in-Err-clause-answer : goal.returns-in_ok-refused_by_types-in-Err-clause-answer
-returns-in_ok-refused_by_types-in-Err-clause-answer c texts cut =
-    types_answer (map string_bytes c.args.names.now) texts (cuts_of c.args.files.now) (trees_of c.args.program.now.files.items) c.in-Err.refusal _ cut
-    c.requires.parsed c.requires.named c.in-Err.ensures c.in_ok-refused_by_types-in-Err.ensures.line
+pub returns-in_ok-refused-in-Err-clause-answer : goal.returns-in_ok-refused-in-Err-clause-answer
+returns-in_ok-refused-in-Err-clause-answer c texts read =
+    let names : List (List ℕ) = map string_bytes c.args.names.now in
+    refusal_answers names texts (trees_of c.args.program.files.items) c.in-Err.refusal (answer_of c.in_ok-refused-in-Err.field-0) read c.requires
+    c.in-Err.ensures
+    (subst (λ (found : Option (Pos × Code)). IsRefused names found (answer_of c.in_ok-refused-in-Err.field-0)) c.program_code.ensures
+    c.in_ok-refused-in-Err.ensures.line)

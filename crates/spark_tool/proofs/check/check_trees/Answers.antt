@@ -1,20 +1,26 @@
-use Rattle.std.proofs.Common.{List, ap, sym, ◌∙◌, subst, map, string_bytes}
+use Rattle.std.proofs.Common.{Option, List, ℕ, ap, sym, ◌∙◌, subst, map, string_bytes}
+use Rattle.spark_base.specs.declared.position.Pos.{Pos}
 use Rattle.ada_tree.specs.declared.unit.SourceUnit.{SourceUnit}
 use Rattle.name_events.specs.Faults.{name_fault}
 use Rattle.name_resolve.specs.Inputs.{trees_of}
-use Rattle.spark_tool.specs.Lexing.{cuts_of}
-use Rattle.spark_tool.specs.Parsing.{AreTreesOf}
+use Rattle.rule_reports.specs.declared.code.Code.{Code}
+use Rattle.spark_tool.specs.Answers.{answer_of}
+use Rattle.spark_tool.specs.Parsing.{AreRead}
+use Rattle.spark_tool.specs.Refusals.{IsRefused}
 use Rattle.spark_tool.proofs.Resolved.{names_answer}
 use Rattle.spark_tool.proofs.check.check_trees.Goals as goal
 
-pub check_resolved-requires-clause-parsed : goal.check_resolved-requires-clause-parsed
-check_resolved-requires-clause-parsed c =
-    subst (λ (trees : List (List SourceUnit)). AreTreesOf (cuts_of c.args.files.now) trees) (sym c.in-Ok.ensures.files) c.requires.parsed
+pub check_resolved-requires : goal.check_resolved-requires
+check_resolved-requires c = ap name_fault c.in-Ok.ensures.files ∙ c.in-Ok.ensures.fault
 
-pub check_resolved-requires-clause-named : goal.check_resolved-requires-clause-named
-check_resolved-requires-clause-named c = ap name_fault c.in-Ok.ensures.files ∙ c.in-Ok.ensures.fault
+pub returns-in_ok-check_resolved-in-Ok-clause-answer : goal.returns-in_ok-check_resolved-in-Ok-clause-answer
+returns-in_ok-check_resolved-in-Ok-clause-answer c texts read =
+    c.in_ok-check_resolved-in-Ok.ensures.answer texts
+    (subst (λ (trees : List (List SourceUnit)). AreRead texts trees) (sym c.in-Ok.ensures.files) read)
 
-pub returns-in_ok-refused_by_names-in-Err-clause-answer : goal.returns-in_ok-refused_by_names-in-Err-clause-answer
-returns-in_ok-refused_by_names-in-Err-clause-answer c texts cut =
-    names_answer (map string_bytes c.args.names.now) texts (cuts_of c.args.files.now) (trees_of c.args.trees.items) c.in-Err.refusal _ cut c.requires.parsed
-    c.in-Err.ensures.fault c.in_ok-refused_by_names-in-Err.ensures.line
+pub returns-in_ok-refused-in-Err-clause-answer : goal.returns-in_ok-refused-in-Err-clause-answer
+returns-in_ok-refused-in-Err-clause-answer c texts read =
+    let names : List (List ℕ) = map string_bytes c.args.names.now in
+    names_answer names texts (trees_of c.args.trees.items) c.in-Err.refusal (answer_of c.in_ok-refused-in-Err.field-0) read c.in-Err.ensures.fault
+    (subst (λ (found : Option (Pos × Code)). IsRefused names found (answer_of c.in_ok-refused-in-Err.field-0)) c.naming_code.ensures
+    c.in_ok-refused-in-Err.ensures.line)

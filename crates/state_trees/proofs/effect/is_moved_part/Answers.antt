@@ -1,9 +1,6 @@
-use Rattle.std.proofs.Common.{rules, tests, ◌∙◌, sym, ap}
-use Rattle.std.proofs.lemmas.Iterator.{YieldsList-from_slice}
-use Rattle.std.proofs.lemmas.Iterator.Search.{any_from_yields_List}
+use Rattle.std.proofs.Common.{◌∙◌, sym, ap}
 use Rattle.place_names.specs.declared.act.Act.TheVariants.{Move}
 use Rattle.place_names.specs.declared.fact.Fact.{Fact}
-use Rattle.place_names.specs.Names.{is_same, extend}
 use Rattle.place_names.specs.Facts.{is_added}
 use Rattle.state_trees.proofs.Parts.{any_moved, none_lent}
 use Rattle.state_trees.proofs.effect.is_moved_part.Goals as goal
@@ -12,8 +9,7 @@ pub returns-in-Moved : goal.returns-in-Moved
 returns-in-Moved c =
     let name = c.args.name.now in
     let parts = c.args.parts.now in
-    any_from_yields_List (λ q. is_same (extend name q) c.in-Moved.moved) _ _ c.any.result c.any.ensures.ran (YieldsList-from_slice parts cc)
-    (λ x b q k. search (rules, tests))
+    c.is_part.ensures
     ∙ any_moved name c.in-Moved.moved parts
     ∙ ap (λ (f : Fact). is_added (Move name parts) f) (sym c.in-Moved.is)
 

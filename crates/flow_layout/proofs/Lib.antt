@@ -1,0 +1,5 @@
+pub mod Sums
+pub mod Begins
+pub mod Steps
+pub mod BareLengths
+pub mod Dressed

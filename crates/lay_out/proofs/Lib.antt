@@ -1,0 +1,5 @@
+pub mod Limits
+pub mod Laying
+pub mod Ends
+pub mod Turns
+pub mod Whole

@@ -1,0 +1,75 @@
+//! What is known of the parts of a typed program, by number.
+ghost use Rattle.std.specs.Prelude.{◌≡◌, ℕ, false, get_or, map, IfOk};
+ghost use Rattle.flow_paths.specs.Objects.{has_scope_end};
+ghost use Rattle.flow_typing.specs.Typings.{typing};
+ghost use Rattle.lay_out.specs.Known.{has_end, signature_of};
+
+use flow_typing::{ProgramTyping, Signature, is_anonymous};
+use spark_base::Listed;
+use std::alloc::{AllocError, Global};
+use typed_statements::Subprogram;
+
+/// The declaration of Integer.
+const INTEGER: u32 = 0;
+
+/// The signature of a subprogram.
+fn signature(alloc: Global, sub: &Subprogram) -> Result<Signature, AllocError>
+    ensures { IfOk result (λ made. made ≡ signature_of sub.now) }
+{
+    let formals = Vec::from_slice(alloc, sub.formals.as_slice())?;
+    Ok(Signature::new(Listed::from_vec(formals), sub.result))
+}
+
+/// The signatures of some subprograms, in order.
+pub(crate) fn signatures(alloc: Global, subs: &[Subprogram]) -> Result<Vec<Signature>, AllocError>
+    ensures { IfOk result (λ made. made.items ≡ map signature_of subs.now) }
+{
+    let mut made = Vec::new(alloc);
+    'subs: for sub in subs {
+        let signature = signature(alloc, sub)?;
+        made.push(signature)?;
+    }
+    Ok(made)
+}
+
+/// The numbers of their bodies, in order.
+pub(crate) fn bodies(alloc: Global, subs: &[Subprogram]) -> Result<Vec<usize>, AllocError>
+    ensures { IfOk result (λ made. made.items ≡ map (λ b. b.body) subs.now) }
+{
+    let mut made = Vec::new(alloc);
+    'subs: for sub in subs {
+        made.push(sub.body)?;
+    }
+    Ok(made)
+}
+
+/// Whether the scope of an object of a type ends at a point of its own.
+fn has_end(known: &ProgramTyping<'_>, of: u32) -> bool
+    ensures { result ≡ has_end (typing known.now) of }
+{
+    known.is_owning(of) || is_anonymous(known.full(of))
+}
+
+/// For each object whether its scope ends at a point of its own, in order.
+fn ends_of(alloc: Global, known: &ProgramTyping<'_>) -> Result<Vec<bool>, AllocError>
+    ensures { IfOk result (λ ends. ends.items ≡ map (λ x. has_end (typing known.now) x.of) (typing known.now).objects) }
+{
+    let mut ends = Vec::new(alloc);
+    'objects: for object in known.objects {
+        ends.push(has_end(known, object.of))?;
+    }
+    Ok(ends)
+}
+
+/// By the number of an object, whether its scope ends at a point of its own. What is no object of the
+/// program is as one of type Integer, whose scope has no end: a table that says otherwise is none of
+/// a program.
+pub(crate) fn scope_ends(alloc: Global, known: &ProgramTyping<'_>) -> Result<Vec<bool>, AllocError>
+    ensures { IfOk result (λ ends. (x : ℕ) → get_or ends.items x false ≡ has_scope_end (typing known.now) x) }
+{
+    if has_end(known, INTEGER) {
+        return Err(AllocError);
+    }
+    let ends = ends_of(alloc, known)?;
+    Ok(ends)
+}

@@ -1,0 +1,21 @@
+//! Lays out typed programs.
+//!
+//! `lay_out` takes a `Typed` and makes a `Laid`: the points of each subprogram with their acts, leak
+//! checks and successors, its facts, and the words of its frame, and behind the objects of the
+//! program its temporaries. They are those that `flow_paths` defines (`specs/Laid.antt`;
+//! `docs/FLOW.md`, "Points"). Refused is a program beyond a limit (`docs/TOOL.md`, "Limits"): names
+//! are looked at before any point is made, and a subprogram whose points are too many is told
+//! before one of them is made. One subprogram is laid out behind the other, and the temporaries of
+//! each have the numbers behind those of the ones before. Time is linear in the code, in the points
+//! and in what they do to places, but for what `program_layout` and `flow_layout` say of facts,
+//! blocks and loops.
+#![tactic(auto)]
+
+mod known;
+mod laid_subs;
+mod lay;
+mod refusal;
+mod sub_writer;
+
+pub use lay::lay_out;
+pub use refusal::LayRefusal;

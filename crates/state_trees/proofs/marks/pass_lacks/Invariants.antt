@@ -1,7 +1,0 @@
-use Rattle.std.proofs.Common.{◌≡◌, not}
-use Rattle.place_names.specs.Facts.{holds_behind}
-use Rattle.state_trees.proofs.Passes.{passed}
-use Rattle.state_trees.proofs.marks.pass_lacks.Given as goal
-
-abbrev pub invariant-facts : goal.invariant-facts
-invariant-facts l = l.lacks.items ≡ passed (λ f m. not (holds_behind l.act f (not m))) l.i l.facts l.initial.lacks.items
