@@ -304,7 +304,7 @@ def cases():
     yield "most_facts", most_facts(), 1, 512, "O4"
     yield "branches_in_loop", branches_in_loop(), 1, 60, "O4"
     yield "conditionals_in_row", conditionals_in_row(), 0, 1, None
-    yield "straight_line", straight_line(), 1, 9_501, "O4"
+    yield "straight_line", straight_line(), 0, 1, None
     yield "call_cycle", call_cycle(), 0, 1, None
     yield "lists_of_cells_1000", lists_of_cells(1_000), 0, 1, None
     yield "lists_of_cells_10000", lists_of_cells(10_000), 0, 1, None
