@@ -70,11 +70,23 @@ impl<T> Listed<T> {
 }
 
 impl<T: Drop> Listed<T> {
+    /// Makes room for a first element alone, since most lists of a tree have no more than one. A
+    /// `Vec` would make room for four.
+    fn make_room(&mut self) -> Result<(), AllocError>
+        ensures { self.new ≡ self.old }
+    {
+        if self.elements.is_empty() {
+            self.elements.reserve_exact(1)?;
+        }
+        Ok(())
+    }
+
     /// Adds an element at the end. Out of memory, the list stays as it was.
     pub fn push(&mut self, element: T) -> Result<(), AllocError>
         ensures ok { OnOk result (self.new ≡ self.old ++ element ∷ []) }
         ensures err { OnErr result (self.new ≡ self.old) }
     {
+        self.make_room()?;
         self.elements.push(element)?;
         Ok(())
     }
