@@ -6,3 +6,4 @@ pub mod FixedNames
 pub mod Refusals
 pub mod Positions
 pub mod Lone
+pub mod WordBytes
