@@ -3,3 +3,5 @@ pub mod ExpressionLevels
 pub mod Chains
 -- loops
 pub mod Steps
+-- look-ups by position
+pub mod NumberIndexes
