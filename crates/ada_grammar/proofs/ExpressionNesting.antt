@@ -37,15 +37,15 @@ use Rattle.ada_tree.specs.declared.expression.ShortOperand.{ShortOperand}
 use Rattle.ada_tree.specs.declared.expression.ShortOperand.TheVariants as short_operand
 use Rattle.ada_tree.specs.declared.expression.Rel.{Rel, Row_of-Sum, end_of-Sum, more_of-Sum}
 use Rattle.ada_tree.specs.declared.expression.Rel.TheVariants as rel
-use Rattle.ada_tree.specs.declared.expression.Sum.{Sum, Row_of-Term, end_of-Term, more_of-Term, Row_of-NextTerm, end_of-NextTerm, more_of-NextTerm}
+use Rattle.ada_tree.specs.declared.expression.Sum.{Sum, Row_of-NextTerm, end_of-NextTerm, more_of-NextTerm}
 use Rattle.ada_tree.specs.declared.expression.Sum.TheVariants as sum
 use Rattle.ada_tree.specs.declared.expression.NextTerm.{NextTerm}
 use Rattle.ada_tree.specs.declared.expression.NextTerm.TheVariants as next_term
-use Rattle.ada_tree.specs.declared.expression.Term.{Term, Row_of-Factor, end_of-Factor, more_of-Factor, Row_of-NextFactor, end_of-NextFactor, more_of-NextFactor}
+use Rattle.ada_tree.specs.declared.expression.Term.{Term, Row_of-NextFactor, end_of-NextFactor, more_of-NextFactor}
 use Rattle.ada_tree.specs.declared.expression.Term.TheVariants as term
 use Rattle.ada_tree.specs.declared.expression.NextFactor.{NextFactor}
 use Rattle.ada_tree.specs.declared.expression.NextFactor.TheVariants as next_factor
-use Rattle.ada_tree.specs.declared.expression.Factor.{Factor, Row_of-Primary, end_of-Primary, more_of-Primary}
+use Rattle.ada_tree.specs.declared.expression.Factor.{Factor}
 use Rattle.ada_tree.specs.declared.expression.Factor.TheVariants as factor
 use Rattle.ada_tree.specs.declared.expression.Primary.{Primary, Row_of-Name, end_of-Name, more_of-Name, Row_of-Aggregate, end_of-Aggregate, more_of-Aggregate}
 use Rattle.ada_tree.specs.declared.expression.Primary.TheVariants as primary
@@ -64,7 +64,7 @@ use Rattle.token_reading.specs.declared.side.Side.{Side}
 use Rattle.token_reading.specs.declared.side.Side.TheVariants.{Apart, Within}
 use Rattle.token_reading.specs.Weights.{WeighedToken, plain, opens, operates}
 use Rattle.ada_grammar.specs.Nesting.{operator_word, operator_symbol, is_operator, always_closes, always_opens, closes, Nested, nothing, rests, operates_one, encloses}
-use Rattle.ada_tree.specs.Spelling.{optional, optional_word, optional_id, relational_symbol, sign_symbol, adding_symbol, multiplying_token, aggregate_box, aggregate_spelling, arg_box, arg_spelling, choice_spelling, constraint_spelling, dotted_spelling, expr_box, expr_spelling, factor_box, factor_spelling, name_box, name_spelling, next_arg_spelling, next_args_spelling, next_choice_spelling, next_dotted_spelling, next_factor_spelling, next_factors_spelling, next_identifier_spelling, next_part_spelling, next_term_spelling, next_terms_spelling, operand_spelling, operands_spelling, primary_box, primary_spelling, range_spelling, rel_box, rel_spelling, short_operand_spelling, short_operands_spelling, suffix_spelling, suffixes_spelling, sum_box, sum_spelling, term_box, term_spelling}
+use Rattle.ada_tree.specs.Spelling.{optional, optional_word, optional_id, relational_symbol, sign_symbol, adding_symbol, multiplying_token, aggregate_box, aggregate_spelling, arg_box, arg_spelling, choice_spelling, constraint_spelling, dotted_spelling, expr_box, expr_spelling, factor_spelling, name_box, name_spelling, next_arg_spelling, next_args_spelling, next_choice_spelling, next_dotted_spelling, next_factor_spelling, next_factors_spelling, next_identifier_spelling, next_part_spelling, next_term_spelling, next_terms_spelling, operand_spelling, operands_spelling, primary_spelling, range_spelling, rel_box, rel_spelling, short_operand_spelling, short_operands_spelling, suffix_spelling, suffixes_spelling, sum_box, sum_spelling, term_spelling}
 
 -- ---- spelling in a row
 
@@ -310,7 +310,7 @@ mutual
   rel_box_nested d (more_of-Rel part rest) = rel_nested d part
 
   rel_nested : (d : ℕ) (tree : Rel) → Nest d (rel_spelling d tree)
-  rel_nested d (rel.LoneSum' pos _ operand) = sum_box_nested d operand
+  rel_nested d (rel.LoneSum pos operand) = sum_nested d operand
   rel_nested d (rel.Compared' pos _ left operator operator_pos _ right) =
       joined (sum_box_nested d left) (at_operator (relational_operates operator) (sum_box_nested d right))
 
@@ -319,44 +319,32 @@ mutual
   sum_box_nested d (more_of-Sum part rest) = sum_nested d part
 
   sum_nested : (d : ℕ) (tree : Sum) → Nest d (sum_spelling d tree)
-  sum_nested d (sum.Unsigned' pos _ first _ rest) = joined (term_box_nested d first) (next_terms_nested d rest)
-  sum_nested d (sum.Signed' pos sign _ first _ rest) =
-      at_operator (sign_operates sign) (joined (term_box_nested d first) (next_terms_nested d rest))
+  sum_nested d (sum.Unsigned' pos first _ rest) = joined (term_nested d first) (next_terms_nested d rest)
+  sum_nested d (sum.Signed' pos sign first _ rest) =
+      at_operator (sign_operates sign) (joined (term_nested d first) (next_terms_nested d rest))
 
   next_terms_nested : {n : _} (d : ℕ) (row : Row_of-NextTerm n) → Nest d (next_terms_spelling d row)
   next_terms_nested d end_of-NextTerm = ended
   next_terms_nested d (more_of-NextTerm part rest) = joined (next_term_nested d part) (next_terms_nested d rest)
 
   next_term_nested : (d : ℕ) (tree : NextTerm) → Nest d (next_term_spelling d tree)
-  next_term_nested d (next_term.FurtherTerm' pos operator _ part) = at_operator (adding_operates operator) (term_box_nested d part)
-
-  term_box_nested : {n : _} (d : ℕ) (row : Row_of-Term n) → Nest d (term_box d row)
-  term_box_nested d end_of-Term = ended
-  term_box_nested d (more_of-Term part rest) = term_nested d part
+  next_term_nested d (next_term.FurtherTerm pos operator part) = at_operator (adding_operates operator) (term_nested d part)
 
   term_nested : (d : ℕ) (tree : Term) → Nest d (term_spelling d tree)
-  term_nested d (term.Product' pos _ first _ rest) = joined (factor_box_nested d first) (next_factors_nested d rest)
+  term_nested d (term.Product' pos first _ rest) = joined (factor_nested d first) (next_factors_nested d rest)
 
   next_factors_nested : {n : _} (d : ℕ) (row : Row_of-NextFactor n) → Nest d (next_factors_spelling d row)
   next_factors_nested d end_of-NextFactor = ended
   next_factors_nested d (more_of-NextFactor part rest) = joined (next_factor_nested d part) (next_factors_nested d rest)
 
   next_factor_nested : (d : ℕ) (tree : NextFactor) → Nest d (next_factor_spelling d tree)
-  next_factor_nested d (next_factor.FurtherFactor' pos operator _ part) =
-      at_operator (multiplying_operates operator pos) (factor_box_nested d part)
-
-  factor_box_nested : {n : _} (d : ℕ) (row : Row_of-Factor n) → Nest d (factor_box d row)
-  factor_box_nested d end_of-Factor = ended
-  factor_box_nested d (more_of-Factor part rest) = factor_nested d part
+  next_factor_nested d (next_factor.FurtherFactor pos operator part) =
+      at_operator (multiplying_operates operator pos) (factor_nested d part)
 
   factor_nested : (d : ℕ) (tree : Factor) → Nest d (factor_spelling d tree)
-  factor_nested d (factor.LonePrimary' pos _ operand) = primary_box_nested d operand
-  factor_nested d (factor.Abs' pos _ operand) = at_operator refl (primary_box_nested d operand)
-  factor_nested d (factor.Not' pos _ operand) = at_operator refl (primary_box_nested d operand)
-
-  primary_box_nested : {n : _} (d : ℕ) (row : Row_of-Primary n) → Nest d (primary_box d row)
-  primary_box_nested d end_of-Primary = ended
-  primary_box_nested d (more_of-Primary part rest) = primary_nested d part
+  factor_nested d (factor.LonePrimary pos operand) = primary_nested d operand
+  factor_nested d (factor.Abs pos operand) = at_operator refl (primary_nested d operand)
+  factor_nested d (factor.Not pos operand) = at_operator refl (primary_nested d operand)
 
   primary_nested : (d : ℕ) (tree : Primary) → Nest d (primary_spelling d tree)
   primary_nested d (primary.Number pos number) = at_rest Within refl ended

@@ -7,7 +7,7 @@ use Rattle.ada_lexer.specs.declared.token.Reserved.TheVariants as w
 use Rattle.ada_lexer.specs.declared.token.Symbol.TheVariants as s
 use Rattle.ada_tree.specs.declared.identifier.Dotted.{Dotted}
 use Rattle.ada_tree.specs.declared.expression.Aggregate.{Aggregate}
-use Rattle.ada_tree.specs.declared.expression.Aggregate.TheBlock.{shape-the_row-Expr-2, hidden-the_row-Expr-2, shape-the_row-Aggregate-11, hidden-the_row-Aggregate-11}
+use Rattle.ada_tree.specs.declared.expression.Aggregate.TheBlock.{shape-the_row-Expr-2, hidden-the_row-Expr-2, shape-the_row-Aggregate-8, hidden-the_row-Aggregate-8}
 use Rattle.ada_tree.specs.declared.expression.Expr.{Expr}
 use Rattle.ada_tree.specs.declared.expression.Primary.{Primary}
 use Rattle.ada_tree.specs.declared.expression.Primary.TheVariants as of_primary
@@ -53,7 +53,7 @@ qualified_value new mark tick left value right = refl
 
 qualified_aggregate : (new : Pos) (mark : Dotted) (tick pos : Pos) (x : Aggregate)
     → make_qualified new mark tick (of_primary.Aggregated pos x) ≡ of_primary.AllocatedAggregate new mark tick x
-unfolding hidden-the_row-Aggregate-11 shape-the_row-Aggregate-11 hidden
+unfolding hidden-the_row-Aggregate-8 shape-the_row-Aggregate-8 hidden
 qualified_aggregate new mark tick pos x = refl
 
 good_value : (d : ℕ) (new : Pos) (mark : Dotted) (tick left : Pos) (value : Expr) (right : Pos) → DottedPlaced mark → ExprPlaced (suc d) value

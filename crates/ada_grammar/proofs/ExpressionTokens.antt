@@ -23,15 +23,15 @@ use Rattle.ada_tree.specs.declared.expression.ShortOperand.{ShortOperand}
 use Rattle.ada_tree.specs.declared.expression.ShortOperand.TheVariants as short_operand
 use Rattle.ada_tree.specs.declared.expression.Rel.{Rel, Row_of-Sum, end_of-Sum, more_of-Sum}
 use Rattle.ada_tree.specs.declared.expression.Rel.TheVariants as rel
-use Rattle.ada_tree.specs.declared.expression.Sum.{Sum, Row_of-Term, end_of-Term, more_of-Term, Row_of-NextTerm, end_of-NextTerm, more_of-NextTerm}
+use Rattle.ada_tree.specs.declared.expression.Sum.{Sum, Row_of-NextTerm, end_of-NextTerm, more_of-NextTerm}
 use Rattle.ada_tree.specs.declared.expression.Sum.TheVariants as sum
 use Rattle.ada_tree.specs.declared.expression.NextTerm.{NextTerm}
 use Rattle.ada_tree.specs.declared.expression.NextTerm.TheVariants as next_term
-use Rattle.ada_tree.specs.declared.expression.Term.{Term, Row_of-Factor, end_of-Factor, more_of-Factor, Row_of-NextFactor, end_of-NextFactor, more_of-NextFactor}
+use Rattle.ada_tree.specs.declared.expression.Term.{Term, Row_of-NextFactor, end_of-NextFactor, more_of-NextFactor}
 use Rattle.ada_tree.specs.declared.expression.Term.TheVariants as term
 use Rattle.ada_tree.specs.declared.expression.NextFactor.{NextFactor}
 use Rattle.ada_tree.specs.declared.expression.NextFactor.TheVariants as next_factor
-use Rattle.ada_tree.specs.declared.expression.Factor.{Factor, Row_of-Primary, end_of-Primary, more_of-Primary}
+use Rattle.ada_tree.specs.declared.expression.Factor.{Factor}
 use Rattle.ada_tree.specs.declared.expression.Factor.TheVariants as factor
 use Rattle.ada_tree.specs.declared.expression.Primary.{Primary, Row_of-Name, end_of-Name, more_of-Name, Row_of-Aggregate, end_of-Aggregate, more_of-Aggregate}
 use Rattle.ada_tree.specs.declared.expression.Primary.TheVariants as primary
@@ -45,7 +45,7 @@ use Rattle.token_reading.specs.Weights.{WeighedToken, plain, opens, operates}
 use Rattle.token_reading.specs.Reading.{Each}
 use Rattle.ada_grammar.specs.Nesting.{operator_word, is_operator}
 use Rattle.ada_grammar.specs.Outermost.{IsPart}
-use Rattle.ada_tree.specs.Spelling.{aggregate_box, aggregate_spelling, arg_box, arg_spelling, dotted_spelling, expr_box, expr_spelling, factor_box, factor_spelling, name_box, name_spelling, next_arg_spelling, next_args_spelling, next_factor_spelling, next_factors_spelling, next_part_spelling, next_term_spelling, next_terms_spelling, operand_spelling, operands_spelling, primary_box, primary_spelling, rel_box, rel_spelling, short_operand_spelling, short_operands_spelling, suffix_spelling, suffixes_spelling, sum_box, sum_spelling, term_box, term_spelling}
+use Rattle.ada_tree.specs.Spelling.{aggregate_box, aggregate_spelling, arg_box, arg_spelling, dotted_spelling, expr_box, expr_spelling, factor_spelling, name_box, name_spelling, next_arg_spelling, next_args_spelling, next_factor_spelling, next_factors_spelling, next_part_spelling, next_term_spelling, next_terms_spelling, operand_spelling, operands_spelling, primary_spelling, rel_box, rel_spelling, short_operand_spelling, short_operands_spelling, suffix_spelling, suffixes_spelling, sum_box, sum_spelling, term_spelling}
 use Rattle.ada_grammar.proofs.ExpressionNesting.{relational_operates, sign_operates, adding_operates, multiplying_operates}
 
 -- Each of these tokens is part of an expression.
@@ -172,7 +172,7 @@ mutual
   rel_box_whole d (more_of-Rel part rest) = rel_whole d part
 
   rel_whole : (d : ℕ) (tree : Rel) → Whole (rel_spelling d tree)
-  rel_whole d (rel.LoneSum' pos _ operand) = sum_box_whole d operand
+  rel_whole d (rel.LoneSum pos operand) = sum_whole d operand
   rel_whole d (rel.Compared' pos _ left operator operator_pos _ right) =
       joined (sum_box_whole d left) (operated (relational_operates operator) (sum_box_whole d right))
 
@@ -181,44 +181,32 @@ mutual
   sum_box_whole d (more_of-Sum part rest) = sum_whole d part
 
   sum_whole : (d : ℕ) (tree : Sum) → Whole (sum_spelling d tree)
-  sum_whole d (sum.Unsigned' pos _ first _ rest) = joined (term_box_whole d first) (next_terms_whole d rest)
-  sum_whole d (sum.Signed' pos sign _ first _ rest) =
-      operated (sign_operates sign) (joined (term_box_whole d first) (next_terms_whole d rest))
+  sum_whole d (sum.Unsigned' pos first _ rest) = joined (term_whole d first) (next_terms_whole d rest)
+  sum_whole d (sum.Signed' pos sign first _ rest) =
+      operated (sign_operates sign) (joined (term_whole d first) (next_terms_whole d rest))
 
   next_terms_whole : {n : _} (d : ℕ) (row : Row_of-NextTerm n) → Whole (next_terms_spelling d row)
   next_terms_whole d end_of-NextTerm = ended
   next_terms_whole d (more_of-NextTerm part rest) = joined (next_term_whole d part) (next_terms_whole d rest)
 
   next_term_whole : (d : ℕ) (tree : NextTerm) → Whole (next_term_spelling d tree)
-  next_term_whole d (next_term.FurtherTerm' pos operator _ part) = operated (adding_operates operator) (term_box_whole d part)
-
-  term_box_whole : {n : _} (d : ℕ) (row : Row_of-Term n) → Whole (term_box d row)
-  term_box_whole d end_of-Term = ended
-  term_box_whole d (more_of-Term part rest) = term_whole d part
+  next_term_whole d (next_term.FurtherTerm pos operator part) = operated (adding_operates operator) (term_whole d part)
 
   term_whole : (d : ℕ) (tree : Term) → Whole (term_spelling d tree)
-  term_whole d (term.Product' pos _ first _ rest) = joined (factor_box_whole d first) (next_factors_whole d rest)
+  term_whole d (term.Product' pos first _ rest) = joined (factor_whole d first) (next_factors_whole d rest)
 
   next_factors_whole : {n : _} (d : ℕ) (row : Row_of-NextFactor n) → Whole (next_factors_spelling d row)
   next_factors_whole d end_of-NextFactor = ended
   next_factors_whole d (more_of-NextFactor part rest) = joined (next_factor_whole d part) (next_factors_whole d rest)
 
   next_factor_whole : (d : ℕ) (tree : NextFactor) → Whole (next_factor_spelling d tree)
-  next_factor_whole d (next_factor.FurtherFactor' pos operator _ part) =
-      operated (multiplying_operates operator pos) (factor_box_whole d part)
-
-  factor_box_whole : {n : _} (d : ℕ) (row : Row_of-Factor n) → Whole (factor_box d row)
-  factor_box_whole d end_of-Factor = ended
-  factor_box_whole d (more_of-Factor part rest) = factor_whole d part
+  next_factor_whole d (next_factor.FurtherFactor pos operator part) =
+      operated (multiplying_operates operator pos) (factor_whole d part)
 
   factor_whole : (d : ℕ) (tree : Factor) → Whole (factor_spelling d tree)
-  factor_whole d (factor.LonePrimary' pos _ operand) = primary_box_whole d operand
-  factor_whole d (factor.Abs' pos _ operand) = operated refl (primary_box_whole d operand)
-  factor_whole d (factor.Not' pos _ operand) = operated refl (primary_box_whole d operand)
-
-  primary_box_whole : {n : _} (d : ℕ) (row : Row_of-Primary n) → Whole (primary_box d row)
-  primary_box_whole d end_of-Primary = ended
-  primary_box_whole d (more_of-Primary part rest) = primary_whole d part
+  factor_whole d (factor.LonePrimary pos operand) = primary_whole d operand
+  factor_whole d (factor.Abs pos operand) = operated refl (primary_whole d operand)
+  factor_whole d (factor.Not pos operand) = operated refl (primary_whole d operand)
 
   primary_whole : (d : ℕ) (tree : Primary) → Whole (primary_spelling d tree)
   primary_whole d (primary.Number pos number) = kept refl ended

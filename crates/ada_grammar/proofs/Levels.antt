@@ -27,11 +27,11 @@ use Rattle.ada_tree.specs.declared.expression.ShortOperand.{ShortOperand}
 use Rattle.ada_tree.specs.declared.expression.ShortOperand.TheVariants as short_operand
 use Rattle.ada_tree.specs.declared.expression.Rel.{Rel}
 use Rattle.ada_tree.specs.declared.expression.Rel.TheVariants as rel
-use Rattle.ada_tree.specs.declared.expression.Sum.{Sum, Row_of-NextTerm, end_of-NextTerm, more_of-NextTerm, items-the_row-NextTerm, items_hidden-the_row-NextTerm-13}
+use Rattle.ada_tree.specs.declared.expression.Sum.{Sum, Row_of-NextTerm, end_of-NextTerm, more_of-NextTerm, items-the_row-NextTerm, items_hidden-the_row-NextTerm-10}
 use Rattle.ada_tree.specs.declared.expression.Sum.TheVariants as sum
 use Rattle.ada_tree.specs.declared.expression.NextTerm.{NextTerm}
 use Rattle.ada_tree.specs.declared.expression.NextTerm.TheVariants as next_term
-use Rattle.ada_tree.specs.declared.expression.Term.{Term, Row_of-NextFactor, end_of-NextFactor, more_of-NextFactor, items-the_row-NextFactor, items_hidden-the_row-NextFactor-14}
+use Rattle.ada_tree.specs.declared.expression.Term.{Term, Row_of-NextFactor, end_of-NextFactor, more_of-NextFactor, items-the_row-NextFactor, items_hidden-the_row-NextFactor-11}
 use Rattle.ada_tree.specs.declared.expression.Term.TheVariants as term
 use Rattle.ada_tree.specs.declared.expression.NextFactor.{NextFactor}
 use Rattle.ada_tree.specs.declared.expression.NextFactor.TheVariants as next_factor
@@ -39,7 +39,7 @@ use Rattle.ada_tree.specs.declared.expression.Factor.{Factor}
 use Rattle.ada_tree.specs.declared.expression.Factor.TheVariants as factor
 use Rattle.ada_tree.specs.declared.expression.Primary.{Primary}
 use Rattle.ada_tree.specs.declared.expression.Primary.TheVariants as primary
-use Rattle.ada_tree.specs.declared.expression.Name.{Name, Row_of-Suffix, end_of-Suffix, more_of-Suffix, items-the_row-Suffix, items_hidden-the_row-Suffix-7}
+use Rattle.ada_tree.specs.declared.expression.Name.{Name, Row_of-Suffix, end_of-Suffix, more_of-Suffix, items-the_row-Suffix, items_hidden-the_row-Suffix-6}
 use Rattle.ada_tree.specs.declared.expression.Name.TheVariants as name
 use Rattle.ada_tree.specs.declared.expression.Suffix.{Suffix}
 use Rattle.ada_tree.specs.declared.expression.Suffix.TheVariants as suffix
@@ -47,8 +47,8 @@ use Rattle.token_reading.specs.Spelled.{Word, Number, Str, Delimiter}
 use Rattle.token_reading.specs.declared.side.Side.{Side}
 use Rattle.token_reading.specs.declared.side.Side.TheVariants.{Within}
 use Rattle.token_reading.specs.Weights.{plain, opens, operates}
-use Rattle.ada_tree.specs.Spelling.{word, symbol, id_mark, dotted_spelling, relational_symbol, sign_symbol, adding_symbol, multiplying_token, aggregate_box, aggregate_spelling, arg_box, arg_spelling, expr_box, expr_spelling, factor_box, factor_spelling, name_box, name_spelling, next_arg_spelling, next_args_spelling, next_factor_spelling, next_factors_spelling, next_term_spelling, next_terms_spelling, operand_spelling, operands_spelling, primary_box, primary_spelling, rel_box, rel_spelling, short_operand_spelling, short_operands_spelling, suffix_spelling, suffixes_spelling, sum_box, sum_spelling, term_box, term_spelling}
-use Rattle.ada_tree.specs.declared.expression.Aggregate.TheBlock.{shape-the_row-Arg-0, hidden-the_row-Arg-0, shape-the_row-Expr-2, hidden-the_row-Expr-2, shape-the_row-Rel-3, hidden-the_row-Rel-3, shape-the_row-Primary-6, hidden-the_row-Primary-6, shape-the_row-Factor-8, hidden-the_row-Factor-8, shape-the_row-Term-9, hidden-the_row-Term-9, shape-the_row-Name-10, hidden-the_row-Name-10, shape-the_row-Aggregate-11, hidden-the_row-Aggregate-11, shape-the_row-Sum-12, hidden-the_row-Sum-12, hidden-the_row-NextArg-1, hidden-the_row-Operand-4, hidden-the_row-ShortOperand-5, hidden-the_row-Suffix-7, hidden-the_row-NextTerm-13, hidden-the_row-NextFactor-14}
+use Rattle.ada_tree.specs.Spelling.{word, symbol, id_mark, dotted_spelling, relational_symbol, sign_symbol, adding_symbol, multiplying_token, aggregate_box, aggregate_spelling, arg_box, arg_spelling, expr_box, expr_spelling, factor_spelling, name_box, name_spelling, next_arg_spelling, next_args_spelling, next_factor_spelling, next_factors_spelling, next_term_spelling, next_terms_spelling, operand_spelling, operands_spelling, primary_spelling, rel_box, rel_spelling, short_operand_spelling, short_operands_spelling, suffix_spelling, suffixes_spelling, sum_box, sum_spelling, term_spelling}
+use Rattle.ada_tree.specs.declared.expression.Aggregate.TheBlock.{shape-the_row-Arg-0, hidden-the_row-Arg-0, shape-the_row-Expr-2, hidden-the_row-Expr-2, shape-the_row-Rel-3, hidden-the_row-Rel-3, shape-the_row-Name-7, hidden-the_row-Name-7, shape-the_row-Aggregate-8, hidden-the_row-Aggregate-8, shape-the_row-Sum-9, hidden-the_row-Sum-9, hidden-the_row-NextArg-1, hidden-the_row-Operand-4, hidden-the_row-ShortOperand-5, hidden-the_row-Suffix-6, hidden-the_row-NextTerm-10, hidden-the_row-NextFactor-11}
 
 -- ---- lists
 
@@ -95,10 +95,10 @@ suffixes_row side d end_of-Suffix = refl
 suffixes_row side d (more_of-Suffix part rest) = ap (λ spelling. suffix_spelling side d part ++ spelling) (suffixes_row side d rest)
 
 suffixes_listed : (side : Side) (d : ℕ) (parts : List Suffix)
-    → suffixes_spelling side d (hidden-the_row-Suffix-7 parts) ≡ flat_map (suffix_spelling side d) parts
+    → suffixes_spelling side d (hidden-the_row-Suffix-6 parts) ≡ flat_map (suffix_spelling side d) parts
 suffixes_listed side d parts =
-    suffixes_row side d (hidden-the_row-Suffix-7 parts) ∙ ap (flat_map (suffix_spelling side d))
-    (items_hidden-the_row-Suffix-7 parts)
+    suffixes_row side d (hidden-the_row-Suffix-6 parts) ∙ ap (flat_map (suffix_spelling side d))
+    (items_hidden-the_row-Suffix-6 parts)
 
 next_terms_row : {n : _} (d : ℕ) (row : Row_of-NextTerm n)
     → next_terms_spelling d row ≡ flat_map (next_term_spelling d) (items-the_row-NextTerm n row)
@@ -107,10 +107,10 @@ next_terms_row d end_of-NextTerm = refl
 next_terms_row d (more_of-NextTerm part rest) = ap (λ spelling. next_term_spelling d part ++ spelling) (next_terms_row d rest)
 
 next_terms_listed : (d : ℕ) (parts : List NextTerm)
-    → next_terms_spelling d (hidden-the_row-NextTerm-13 parts) ≡ flat_map (next_term_spelling d) parts
+    → next_terms_spelling d (hidden-the_row-NextTerm-10 parts) ≡ flat_map (next_term_spelling d) parts
 next_terms_listed d parts =
-    next_terms_row d (hidden-the_row-NextTerm-13 parts) ∙ ap (flat_map (next_term_spelling d))
-    (items_hidden-the_row-NextTerm-13 parts)
+    next_terms_row d (hidden-the_row-NextTerm-10 parts) ∙ ap (flat_map (next_term_spelling d))
+    (items_hidden-the_row-NextTerm-10 parts)
 
 next_factors_row : {n : _} (d : ℕ) (row : Row_of-NextFactor n)
     → next_factors_spelling d row ≡ flat_map (next_factor_spelling d) (items-the_row-NextFactor n row)
@@ -119,10 +119,10 @@ next_factors_row d end_of-NextFactor = refl
 next_factors_row d (more_of-NextFactor part rest) = ap (λ spelling. next_factor_spelling d part ++ spelling) (next_factors_row d rest)
 
 next_factors_listed : (d : ℕ) (parts : List NextFactor)
-    → next_factors_spelling d (hidden-the_row-NextFactor-14 parts) ≡ flat_map (next_factor_spelling d) parts
+    → next_factors_spelling d (hidden-the_row-NextFactor-11 parts) ≡ flat_map (next_factor_spelling d) parts
 next_factors_listed d parts =
-    next_factors_row d (hidden-the_row-NextFactor-14 parts) ∙ ap (flat_map (next_factor_spelling d))
-    (items_hidden-the_row-NextFactor-14 parts)
+    next_factors_row d (hidden-the_row-NextFactor-11 parts) ∙ ap (flat_map (next_factor_spelling d))
+    (items_hidden-the_row-NextFactor-11 parts)
 
 -- ---- the alternatives
 
@@ -257,68 +257,68 @@ short_operand-FurtherShortOperand d v u pos second_word relation = refl
 pub rel-LoneSum : (d : ℕ) (pos : Pos) (operand : Sum)
     → rel_spelling d (rel.LoneSum pos operand)
     ≡ sum_spelling d operand
-unfolding rel_spelling sum_box hidden-the_row-Sum-12 shape-the_row-Sum-12 hidden
+unfolding rel_spelling
 rel-LoneSum d pos operand = refl
 
 -- rel = sum ("=" | "/=" | "<" | "<=" | ">" | ">=") sum
 pub rel-Compared : (d : ℕ) (pos : Pos) (left : Sum) (operator : RelationalOperator) (operator_pos : Pos) (right : Sum)
     → rel_spelling d (rel.Compared pos left operator operator_pos right)
     ≡ sum_spelling d left ++ (operates (Delimiter (relational_symbol operator) operator_pos) ∷ sum_spelling d right)
-unfolding rel_spelling sum_box hidden-the_row-Sum-12 shape-the_row-Sum-12 hidden
+unfolding rel_spelling sum_box hidden-the_row-Sum-9 shape-the_row-Sum-9 hidden
 rel-Compared d pos left operator operator_pos right = refl
 
 -- sum = term {("+" | "-" | "&") term}
 pub sum-Unsigned : (d : ℕ) (pos : Pos) (first : Term) (rest : List NextTerm)
     → sum_spelling d (sum.Unsigned pos first rest)
     ≡ term_spelling d first ++ flat_map (next_term_spelling d) rest
-unfolding sum_spelling term_box hidden-the_row-Term-9 shape-the_row-Term-9 hidden
+unfolding sum_spelling
 sum-Unsigned d pos first rest = ap (λ spelling. term_spelling d first ++ spelling) (next_terms_listed d rest)
 
 -- sum = ("+" | "-") term {("+" | "-" | "&") term}
 pub sum-Signed : (d : ℕ) (pos : Pos) (sign : Sign) (first : Term) (rest : List NextTerm)
     → sum_spelling d (sum.Signed pos sign first rest)
     ≡ operates (Delimiter (sign_symbol sign) pos) ∷ (term_spelling d first ++ flat_map (next_term_spelling d) rest)
-unfolding sum_spelling term_box hidden-the_row-Term-9 shape-the_row-Term-9 hidden
+unfolding sum_spelling
 sum-Signed d pos sign first rest = ap (λ spelling. operates (Delimiter (sign_symbol sign) pos) ∷ (term_spelling d first
     ++ spelling)) (next_terms_listed d rest)
 
 pub next_term-FurtherTerm : (d : ℕ) (pos : Pos) (operator : AddingOperator) (part : Term)
     → next_term_spelling d (next_term.FurtherTerm pos operator part)
     ≡ operates (Delimiter (adding_symbol operator) pos) ∷ term_spelling d part
-unfolding next_term_spelling term_box hidden-the_row-Term-9 shape-the_row-Term-9 hidden
+unfolding next_term_spelling
 next_term-FurtherTerm d pos operator part = refl
 
 pub term-Product : (d : ℕ) (pos : Pos) (first : Factor) (rest : List NextFactor)
     → term_spelling d (term.Product pos first rest)
     ≡ factor_spelling d first ++ flat_map (next_factor_spelling d) rest
-unfolding term_spelling factor_box hidden-the_row-Factor-8 shape-the_row-Factor-8 hidden
+unfolding term_spelling
 term-Product d pos first rest = ap (λ spelling. factor_spelling d first ++ spelling) (next_factors_listed d rest)
 
 pub next_factor-FurtherFactor : (d : ℕ) (pos : Pos) (operator : MultiplyingOperator) (part : Factor)
     → next_factor_spelling d (next_factor.FurtherFactor pos operator part)
     ≡ operates (multiplying_token operator pos) ∷ factor_spelling d part
-unfolding next_factor_spelling factor_box hidden-the_row-Factor-8 shape-the_row-Factor-8 hidden
+unfolding next_factor_spelling
 next_factor-FurtherFactor d pos operator part = refl
 
 -- factor = primary
 pub factor-LonePrimary : (d : ℕ) (pos : Pos) (operand : Primary)
     → factor_spelling d (factor.LonePrimary pos operand)
     ≡ primary_spelling d operand
-unfolding factor_spelling primary_box hidden-the_row-Primary-6 shape-the_row-Primary-6 hidden
+unfolding factor_spelling
 factor-LonePrimary d pos operand = refl
 
 -- factor = "abs" primary
 pub factor-Abs : (d : ℕ) (pos : Pos) (operand : Primary)
     → factor_spelling d (factor.Abs pos operand)
     ≡ operates (Word w.KwAbs pos) ∷ primary_spelling d operand
-unfolding factor_spelling primary_box hidden-the_row-Primary-6 shape-the_row-Primary-6 hidden
+unfolding factor_spelling
 factor-Abs d pos operand = refl
 
 -- factor = "not" primary
 pub factor-Not : (d : ℕ) (pos : Pos) (operand : Primary)
     → factor_spelling d (factor.Not pos operand)
     ≡ operates (Word w.KwNot pos) ∷ primary_spelling d operand
-unfolding factor_spelling primary_box hidden-the_row-Primary-6 shape-the_row-Primary-6 hidden
+unfolding factor_spelling
 factor-Not d pos operand = refl
 
 -- primary = number
@@ -346,7 +346,7 @@ primary-Null d pos = refl
 pub primary-Named : (d : ℕ) (pos : Pos) (part : Name)
     → primary_spelling d (primary.Named pos part)
     ≡ name_spelling Within d part
-unfolding primary_spelling name_box hidden-the_row-Name-10 shape-the_row-Name-10 hidden
+unfolding primary_spelling name_box hidden-the_row-Name-7 shape-the_row-Name-7 hidden
 primary-Named d pos part = refl
 
 -- primary = "(" expr ")"
@@ -361,7 +361,7 @@ primary-Parenthesized d pos part right_paren = refl
 pub primary-Aggregated : (d : ℕ) (pos : Pos) (part : Aggregate)
     → primary_spelling d (primary.Aggregated pos part)
     ≡ aggregate_spelling d part
-unfolding primary_spelling aggregate_box hidden-the_row-Aggregate-11 shape-the_row-Aggregate-11 hidden
+unfolding primary_spelling aggregate_box hidden-the_row-Aggregate-8 shape-the_row-Aggregate-8 hidden
 primary-Aggregated d pos part = refl
 
 -- primary = "new" mark
@@ -375,7 +375,7 @@ primary-Allocated d pos mark = refl
 pub primary-AllocatedAggregate : (d : ℕ) (pos : Pos) (mark : Dotted) (apostrophe : Pos) (part : Aggregate)
     → primary_spelling d (primary.AllocatedAggregate pos mark apostrophe part)
     ≡ word Within w.KwNew pos ∷ (dotted_spelling Within mark ++ (symbol Within s.Apostrophe apostrophe ∷ aggregate_spelling d part))
-unfolding primary_spelling aggregate_box hidden-the_row-Aggregate-11 shape-the_row-Aggregate-11 hidden
+unfolding primary_spelling aggregate_box hidden-the_row-Aggregate-8 shape-the_row-Aggregate-8 hidden
 primary-AllocatedAggregate d pos mark apostrophe part = refl
 
 -- primary = "new" mark "'" "(" expr ")"

@@ -6,7 +6,7 @@ use Rattle.std.proofs.lemmas.Option.{none-some, same_Some}
 use Rattle.std.specs.Prelude.{Option, Some, ◌∷◌}
 use denote.Hole.Carrier.{hidden}
 use Rattle.spark_base.specs.declared.position.Pos.{Pos}
-use Rattle.ada_tree.specs.declared.expression.Aggregate.TheBlock.{shape-the_row-Rel-3, hidden-the_row-Rel-3, shape-the_row-Primary-6, hidden-the_row-Primary-6, shape-the_row-Factor-8, hidden-the_row-Factor-8, shape-the_row-Term-9, hidden-the_row-Term-9, shape-the_row-Name-10, hidden-the_row-Name-10, shape-the_row-Sum-12, hidden-the_row-Sum-12}
+use Rattle.ada_tree.specs.declared.expression.Aggregate.TheBlock.{shape-the_row-Rel-3, hidden-the_row-Rel-3, shape-the_row-Name-7, hidden-the_row-Name-7}
 use Rattle.ada_tree.specs.declared.expression.Expr.{Expr}
 use Rattle.ada_tree.specs.declared.expression.Expr.TheVariants as expr
 use Rattle.ada_tree.specs.declared.expression.Rel.{Rel}
@@ -24,8 +24,8 @@ use Rattle.token_reading.specs.Weights.{WeighedToken}
 use Rattle.token_reading.specs.declared.side.Side.{Side}
 use Rattle.token_reading.specs.declared.side.Side.TheVariants.{Within}
 use Rattle.ada_tree.specs.Positions.{name_position}
-use Rattle.ada_tree.specs.Spelling.{name_spelling, name_box, primary_spelling, primary_box, factor_spelling, factor_box, term_spelling, term_box, sum_spelling, sum_box, rel_spelling, rel_box, expr_spelling}
-use Rattle.ada_tree.specs.WellPlaced.{StartsAt, NamePlaced, NameBoxPlaced, PrimaryPlaced, PrimaryBoxPlaced, FactorPlaced, FactorBoxPlaced, TermPlaced, TermBoxPlaced, SumPlaced, SumBoxPlaced, RelPlaced, RelBoxPlaced, ExprPlaced}
+use Rattle.ada_tree.specs.Spelling.{name_spelling, name_box, primary_spelling, factor_spelling, term_spelling, sum_spelling, rel_spelling, rel_box, expr_spelling}
+use Rattle.ada_tree.specs.WellPlaced.{StartsAt, NamePlaced, NameBoxPlaced, PrimaryPlaced, FactorPlaced, TermPlaced, SumPlaced, RelPlaced, RelBoxPlaced, ExprPlaced}
 use Rattle.ada_tree.specs.Lone.{unfollowed, name_of_box, primary_name, factor_name, term_name, sum_name, rel_name, lone_name, expr_of_name}
 use Rattle.ada_tree.proofs.Forms.{name_form, primary_form, factor_form, term_form, sum_form, rel_form, expr_form}
 use Rattle.ada_grammar.proofs.Levels.{primary-Named, factor-LonePrimary, term-Product, sum-Unsigned, rel-LoneSum, expr-LoneRelation}
@@ -99,16 +99,16 @@ spelled_starts : (d : ℕ) (n : Name) {spelling : List WeighedToken} → spellin
 spelled_starts d n same placed = subst (StartsAt (name_position n)) (sym same) (name_starts Within d n placed)
 
 primary_placed : (d : ℕ) (n : Name) → NamePlaced d n → PrimaryPlaced d (named n)
-unfolding PrimaryPlaced name_box NameBoxPlaced hidden-the_row-Name-10 shape-the_row-Name-10 hidden
+unfolding PrimaryPlaced name_box NameBoxPlaced hidden-the_row-Name-7 shape-the_row-Name-7 hidden
 primary_placed d n placed = (name_starts Within d n placed, placed)
 
 factor_placed : (d : ℕ) (n : Name) → NamePlaced d n → FactorPlaced d (plain_factor n)
-unfolding FactorPlaced primary_box PrimaryBoxPlaced hidden-the_row-Primary-6 shape-the_row-Primary-6 hidden
+unfolding FactorPlaced
 factor_placed d n placed =
     (spelled_starts d n (primary-Named d (name_position n) n) placed, primary_placed d n placed)
 
 term_placed : (d : ℕ) (n : Name) → NamePlaced d n → TermPlaced d (sole_term n)
-unfolding TermPlaced factor_box FactorBoxPlaced hidden-the_row-Factor-8 shape-the_row-Factor-8 hidden
+unfolding TermPlaced
 term_placed d n placed = (
   spelled_starts d n (factor_spelling-name d n) placed,
   factor_placed d n placed,
@@ -116,7 +116,7 @@ term_placed d n placed = (
 )
 
 sum_placed : (d : ℕ) (n : Name) → NamePlaced d n → SumPlaced d (unsigned_sum n)
-unfolding SumPlaced term_box TermBoxPlaced hidden-the_row-Term-9 shape-the_row-Term-9 hidden
+unfolding SumPlaced
 sum_placed d n placed = (
   spelled_starts d n (term_spelling-name d n) placed,
   term_placed d n placed,
@@ -124,7 +124,7 @@ sum_placed d n placed = (
 )
 
 rel_placed : (d : ℕ) (n : Name) → NamePlaced d n → RelPlaced d (sole_rel n)
-unfolding RelPlaced sum_box SumBoxPlaced hidden-the_row-Sum-12 shape-the_row-Sum-12 hidden
+unfolding RelPlaced
 rel_placed d n placed = (spelled_starts d n (sum_spelling-name d n) placed, sum_placed d n placed)
 
 pub expr_of_name-placed : (d : ℕ) (n : Name) → NamePlaced d n → ExprPlaced d (expr_of_name n)
@@ -146,7 +146,7 @@ placed_as_name spelling part whole d n pos same spelled placed starts =
 
 primary_is : (d : ℕ) (tree : Primary) (n : Name) → PrimaryPlaced d tree → primary_name tree ≡ Some n
     → NamePlaced d n × (tree ≡ named n)
-unfolding PrimaryPlaced name_box NameBoxPlaced primary_name name_of_box hidden-the_row-Name-10 shape-the_row-Name-10 hidden
+unfolding PrimaryPlaced name_box NameBoxPlaced primary_name name_of_box hidden-the_row-Name-7 shape-the_row-Name-7 hidden
 primary_is d = primary_form
     (λ t. (n : Name) → PrimaryPlaced d t → primary_name t ≡ Some n → NamePlaced d n × (t ≡ named n))
     (λ _ _ n _ is. absurd (none-some n is)) (λ _ _ n _ is. absurd (none-some n is)) (λ _ n _ is. absurd (none-some n is))
@@ -160,7 +160,7 @@ primary_is d = primary_form
 
 factor_is : (d : ℕ) (tree : Factor) (n : Name) → FactorPlaced d tree → factor_name tree ≡ Some n
     → NamePlaced d n × (tree ≡ plain_factor n)
-unfolding FactorPlaced primary_box PrimaryBoxPlaced hidden-the_row-Primary-6 shape-the_row-Primary-6 hidden
+unfolding FactorPlaced
 factor_is d = factor_form
     (λ t. (n : Name) → FactorPlaced d t → factor_name t ≡ Some n → NamePlaced d n × (t ≡ plain_factor n))
     (λ pos part n placed is.
@@ -173,7 +173,7 @@ factor_is d = factor_form
 
 term_is : (d : ℕ) (tree : Term) (n : Name) → TermPlaced d tree → term_name tree ≡ Some n
     → NamePlaced d n × (tree ≡ sole_term n)
-unfolding TermPlaced factor_box FactorBoxPlaced hidden-the_row-Factor-8 shape-the_row-Factor-8 hidden
+unfolding TermPlaced
 term_is d = term_form
     (λ t. (n : Name) → TermPlaced d t → term_name t ≡ Some n → NamePlaced d n × (t ≡ sole_term n))
     (λ pos part rest n placed is.
@@ -189,7 +189,7 @@ term_is d = term_form
 
 sum_is : (d : ℕ) (tree : Sum) (n : Name) → SumPlaced d tree → sum_name tree ≡ Some n
     → NamePlaced d n × (tree ≡ unsigned_sum n)
-unfolding SumPlaced term_box TermBoxPlaced hidden-the_row-Term-9 shape-the_row-Term-9 hidden
+unfolding SumPlaced
 sum_is d = sum_form
     (λ t. (n : Name) → SumPlaced d t → sum_name t ≡ Some n → NamePlaced d n × (t ≡ unsigned_sum n))
     (λ pos part rest n placed is.
@@ -206,7 +206,7 @@ sum_is d = sum_form
 
 rel_is : (d : ℕ) (tree : Rel) (n : Name) → RelPlaced d tree → rel_name tree ≡ Some n
     → NamePlaced d n × (tree ≡ sole_rel n)
-unfolding RelPlaced sum_box SumBoxPlaced hidden-the_row-Sum-12 shape-the_row-Sum-12 hidden
+unfolding RelPlaced
 rel_is d = rel_form
     (λ t. (n : Name) → RelPlaced d t → rel_name t ≡ Some n → NamePlaced d n × (t ≡ sole_rel n))
     (λ pos part n placed is.

@@ -7,18 +7,18 @@ use Rattle.ada_tree.specs.declared.expression.Expr.{Row_of-Operand, end_of-Opera
 use Rattle.ada_tree.specs.declared.expression.ShortOperand.{ShortOperand}
 use Rattle.ada_tree.specs.declared.expression.Expr.{Row_of-ShortOperand, end_of-ShortOperand, more_of-ShortOperand, items-the_row-ShortOperand, items_hidden-the_row-ShortOperand-5}
 use Rattle.ada_tree.specs.declared.expression.Suffix.{Suffix}
-use Rattle.ada_tree.specs.declared.expression.Name.{Row_of-Suffix, end_of-Suffix, more_of-Suffix, items-the_row-Suffix, items_hidden-the_row-Suffix-7}
+use Rattle.ada_tree.specs.declared.expression.Name.{Row_of-Suffix, end_of-Suffix, more_of-Suffix, items-the_row-Suffix, items_hidden-the_row-Suffix-6}
 use Rattle.ada_tree.specs.declared.expression.NextTerm.{NextTerm}
-use Rattle.ada_tree.specs.declared.expression.Sum.{Row_of-NextTerm, end_of-NextTerm, more_of-NextTerm, items-the_row-NextTerm, items_hidden-the_row-NextTerm-13}
+use Rattle.ada_tree.specs.declared.expression.Sum.{Row_of-NextTerm, end_of-NextTerm, more_of-NextTerm, items-the_row-NextTerm, items_hidden-the_row-NextTerm-10}
 use Rattle.ada_tree.specs.declared.expression.NextFactor.{NextFactor}
-use Rattle.ada_tree.specs.declared.expression.Term.{Row_of-NextFactor, end_of-NextFactor, more_of-NextFactor, items-the_row-NextFactor, items_hidden-the_row-NextFactor-14}
+use Rattle.ada_tree.specs.declared.expression.Term.{Row_of-NextFactor, end_of-NextFactor, more_of-NextFactor, items-the_row-NextFactor, items_hidden-the_row-NextFactor-11}
 use Rattle.ada_tree.specs.declared.statement.Elsif.{Elsif}
 use Rattle.ada_tree.specs.declared.statement.Stmt.{Row_of-Elsif, end_of-Elsif, more_of-Elsif, items-the_row-Elsif, items_hidden-the_row-Elsif-1}
 use Rattle.ada_tree.specs.declared.statement.When.{When}
 use Rattle.ada_tree.specs.declared.statement.Stmt.{Row_of-When, end_of-When, more_of-When, items-the_row-When, items_hidden-the_row-When-3}
 use Rattle.ada_tree.specs.declared.statement.Stmt.{Stmt}
 use Rattle.ada_tree.specs.declared.statement.Stmts.{Row_of-Stmt, end_of-Stmt, more_of-Stmt, items-the_row-Stmt, items_hidden-the_row-Stmt-5}
-use Rattle.ada_tree.specs.declared.expression.Aggregate.TheBlock.{hidden-the_row-NextArg-1, hidden-the_row-Operand-4, hidden-the_row-ShortOperand-5, hidden-the_row-Suffix-7, hidden-the_row-NextTerm-13, hidden-the_row-NextFactor-14}
+use Rattle.ada_tree.specs.declared.expression.Aggregate.TheBlock.{hidden-the_row-NextArg-1, hidden-the_row-Operand-4, hidden-the_row-ShortOperand-5, hidden-the_row-Suffix-6, hidden-the_row-NextTerm-10, hidden-the_row-NextFactor-11}
 use Rattle.ada_tree.specs.declared.statement.Elsif.TheBlock.{hidden-the_row-Elsif-1, hidden-the_row-When-3, hidden-the_row-Stmt-5}
 use Rattle.token_reading.specs.Reading.{Each}
 use Rattle.ada_tree.specs.WellPlaced.{NextArgsPlaced, NextArgPlaced, OperandsPlaced, OperandPlaced, ShortOperandsPlaced, ShortOperandPlaced, SuffixesPlaced, SuffixPlaced, NextTermsPlaced, NextTermPlaced, NextFactorsPlaced, NextFactorPlaced, ElsifsPlaced, ElsifPlaced, WhensPlaced, WhenPlaced, EachStmtPlaced, StmtPlaced}
@@ -55,27 +55,27 @@ unfolding SuffixesPlaced
 suffix-row d end_of-Suffix = refl
 suffix-row d (more_of-Suffix part rest) = ap (λ P. SuffixPlaced d part × P) (suffix-row d rest)
 
-pub suffix-placed : (d : ℕ) (parts : List Suffix) → SuffixesPlaced d (hidden-the_row-Suffix-7 parts) ≡ Each (SuffixPlaced d) parts
+pub suffix-placed : (d : ℕ) (parts : List Suffix) → SuffixesPlaced d (hidden-the_row-Suffix-6 parts) ≡ Each (SuffixPlaced d) parts
 suffix-placed d parts =
-    suffix-row d (hidden-the_row-Suffix-7 parts) ∙ ap (Each (SuffixPlaced d)) (items_hidden-the_row-Suffix-7 parts)
+    suffix-row d (hidden-the_row-Suffix-6 parts) ∙ ap (Each (SuffixPlaced d)) (items_hidden-the_row-Suffix-6 parts)
 
 next_term-row : {n : _} (d : ℕ) (row : Row_of-NextTerm n) → NextTermsPlaced d row ≡ Each (NextTermPlaced d) (items-the_row-NextTerm n row)
 unfolding NextTermsPlaced
 next_term-row d end_of-NextTerm = refl
 next_term-row d (more_of-NextTerm part rest) = ap (λ P. NextTermPlaced d part × P) (next_term-row d rest)
 
-pub next_term-placed : (d : ℕ) (parts : List NextTerm) → NextTermsPlaced d (hidden-the_row-NextTerm-13 parts) ≡ Each (NextTermPlaced d) parts
+pub next_term-placed : (d : ℕ) (parts : List NextTerm) → NextTermsPlaced d (hidden-the_row-NextTerm-10 parts) ≡ Each (NextTermPlaced d) parts
 next_term-placed d parts =
-    next_term-row d (hidden-the_row-NextTerm-13 parts) ∙ ap (Each (NextTermPlaced d)) (items_hidden-the_row-NextTerm-13 parts)
+    next_term-row d (hidden-the_row-NextTerm-10 parts) ∙ ap (Each (NextTermPlaced d)) (items_hidden-the_row-NextTerm-10 parts)
 
 next_factor-row : {n : _} (d : ℕ) (row : Row_of-NextFactor n) → NextFactorsPlaced d row ≡ Each (NextFactorPlaced d) (items-the_row-NextFactor n row)
 unfolding NextFactorsPlaced
 next_factor-row d end_of-NextFactor = refl
 next_factor-row d (more_of-NextFactor part rest) = ap (λ P. NextFactorPlaced d part × P) (next_factor-row d rest)
 
-pub next_factor-placed : (d : ℕ) (parts : List NextFactor) → NextFactorsPlaced d (hidden-the_row-NextFactor-14 parts) ≡ Each (NextFactorPlaced d) parts
+pub next_factor-placed : (d : ℕ) (parts : List NextFactor) → NextFactorsPlaced d (hidden-the_row-NextFactor-11 parts) ≡ Each (NextFactorPlaced d) parts
 next_factor-placed d parts =
-    next_factor-row d (hidden-the_row-NextFactor-14 parts) ∙ ap (Each (NextFactorPlaced d)) (items_hidden-the_row-NextFactor-14 parts)
+    next_factor-row d (hidden-the_row-NextFactor-11 parts) ∙ ap (Each (NextFactorPlaced d)) (items_hidden-the_row-NextFactor-11 parts)
 
 elsif-row : {n : _} (d : ℕ) (row : Row_of-Elsif n) → ElsifsPlaced d row ≡ Each (ElsifPlaced d) (items-the_row-Elsif n row)
 unfolding ElsifsPlaced

@@ -39,11 +39,11 @@ use Rattle.ada_tree.specs.declared.expression.Name.{Name}
 use Rattle.ada_tree.specs.declared.expression.Name.TheVariants as name
 use Rattle.ada_tree.specs.declared.expression.Suffix.{Suffix}
 use Rattle.ada_tree.specs.declared.expression.Suffix.TheVariants as suffix
-use Rattle.ada_tree.specs.declared.expression.Aggregate.TheBlock.{hidden-the_row-Aggregate-11, hidden-the_row-Arg-0, hidden-the_row-Expr-2, hidden-the_row-Factor-8, hidden-the_row-Name-10, hidden-the_row-Primary-6, hidden-the_row-Rel-3, hidden-the_row-Sum-12, hidden-the_row-Term-9, shape-the_row-Aggregate-11, shape-the_row-Arg-0, shape-the_row-Expr-2, shape-the_row-Factor-8, shape-the_row-Name-10, shape-the_row-Primary-6, shape-the_row-Rel-3, shape-the_row-Sum-12, shape-the_row-Term-9}
+use Rattle.ada_tree.specs.declared.expression.Aggregate.TheBlock.{hidden-the_row-Aggregate-8, hidden-the_row-Arg-0, hidden-the_row-Expr-2, hidden-the_row-Name-7, hidden-the_row-Rel-3, hidden-the_row-Sum-9, shape-the_row-Aggregate-8, shape-the_row-Arg-0, shape-the_row-Expr-2, shape-the_row-Name-7, shape-the_row-Rel-3, shape-the_row-Sum-9}
 use Rattle.token_reading.specs.declared.side.Side.TheVariants.{Within}
 use Rattle.token_reading.specs.Reading.{Each}
-use Rattle.ada_tree.specs.Spelling.{aggregate_box, aggregate_spelling, expr_box, expr_spelling, factor_box, factor_spelling, name_box, name_spelling, primary_box, primary_spelling, rel_box, rel_spelling, sum_box, sum_spelling, term_box, term_spelling}
-use Rattle.ada_tree.specs.WellPlaced.{StartsAt, AggregateBoxPlaced, AggregatePlaced, ArgBoxPlaced, ArgPlaced, DottedPlaced, ExprBoxPlaced, ExprPlaced, FactorBoxPlaced, FactorPlaced, NameBoxPlaced, NamePlaced, NextArgPlaced, NextFactorPlaced, NextTermPlaced, OperandPlaced, PrimaryBoxPlaced, PrimaryPlaced, RelBoxPlaced, RelPlaced, ShortOperandPlaced, SuffixPlaced, SumBoxPlaced, SumPlaced, TermBoxPlaced, TermPlaced}
+use Rattle.ada_tree.specs.Spelling.{aggregate_box, aggregate_spelling, expr_box, expr_spelling, factor_spelling, name_box, name_spelling, primary_spelling, rel_box, rel_spelling, sum_box, sum_spelling, term_spelling}
+use Rattle.ada_tree.specs.WellPlaced.{StartsAt, AggregateBoxPlaced, AggregatePlaced, ArgBoxPlaced, ArgPlaced, DottedPlaced, ExprBoxPlaced, ExprPlaced, FactorPlaced, NameBoxPlaced, NamePlaced, NextArgPlaced, NextFactorPlaced, NextTermPlaced, OperandPlaced, PrimaryPlaced, RelBoxPlaced, RelPlaced, ShortOperandPlaced, SuffixPlaced, SumBoxPlaced, SumPlaced, TermPlaced}
 use Rattle.ada_grammar.proofs.Placed.{next_arg-placed, next_factor-placed, next_term-placed, operand-placed, short_operand-placed, suffix-placed}
 
 pub name-Prefixed-placed : (d : ℕ) (pos : Pos) (first : Identifier) (rest : List Suffix)
@@ -173,7 +173,7 @@ short_operand-FurtherShortOperand-placed d pos second_word relation = refl
 pub rel-LoneSum-placed : (d : ℕ) (pos : Pos) (operand : Sum)
     → RelPlaced d (rel.LoneSum pos operand)
     ≡ (StartsAt pos (sum_spelling d operand) × SumPlaced d operand)
-unfolding RelPlaced sum_box SumBoxPlaced hidden-the_row-Sum-12 shape-the_row-Sum-12 hidden
+unfolding RelPlaced
 rel-LoneSum-placed d pos operand = refl
 
 -- rel = sum ("=" | "/=" | "<" | "<=" | ">" | ">=") sum
@@ -181,14 +181,14 @@ pub rel-Compared-placed : (d : ℕ) (pos : Pos) (left : Sum) (operator : Relatio
     (right : Sum)
     → RelPlaced d (rel.Compared pos left operator operator_pos right)
     ≡ (StartsAt pos (sum_spelling d left) × SumPlaced d left × SumPlaced d right)
-unfolding RelPlaced sum_box SumBoxPlaced hidden-the_row-Sum-12 shape-the_row-Sum-12 hidden
+unfolding RelPlaced sum_box SumBoxPlaced hidden-the_row-Sum-9 shape-the_row-Sum-9 hidden
 rel-Compared-placed d pos left operator operator_pos right = refl
 
 -- sum = term {("+" | "-" | "&") term}
 pub sum-Unsigned-placed : (d : ℕ) (pos : Pos) (first : Term) (rest : List NextTerm)
     → SumPlaced d (sum.Unsigned pos first rest)
     ≡ (StartsAt pos (term_spelling d first) × TermPlaced d first × Each (NextTermPlaced d) rest)
-unfolding SumPlaced term_box TermBoxPlaced hidden-the_row-Term-9 shape-the_row-Term-9 hidden
+unfolding SumPlaced
 sum-Unsigned-placed d pos first rest = ap (λ P. StartsAt pos (term_spelling d first) × TermPlaced d first
     × P) (next_term-placed d rest)
 
@@ -196,47 +196,47 @@ sum-Unsigned-placed d pos first rest = ap (λ P. StartsAt pos (term_spelling d f
 pub sum-Signed-placed : (d : ℕ) (pos : Pos) (sign : Sign) (first : Term) (rest : List NextTerm)
     → SumPlaced d (sum.Signed pos sign first rest)
     ≡ (TermPlaced d first × Each (NextTermPlaced d) rest)
-unfolding SumPlaced TermBoxPlaced hidden-the_row-Term-9 shape-the_row-Term-9 hidden
+unfolding SumPlaced
 sum-Signed-placed d pos sign first rest = ap (λ P. TermPlaced d first × P) (next_term-placed d rest)
 
 pub next_term-FurtherTerm-placed : (d : ℕ) (pos : Pos) (operator : AddingOperator) (part : Term)
     → NextTermPlaced d (next_term.FurtherTerm pos operator part)
     ≡ TermPlaced d part
-unfolding NextTermPlaced TermBoxPlaced hidden-the_row-Term-9 shape-the_row-Term-9 hidden
+unfolding NextTermPlaced
 next_term-FurtherTerm-placed d pos operator part = refl
 
 pub term-Product-placed : (d : ℕ) (pos : Pos) (first : Factor) (rest : List NextFactor)
     → TermPlaced d (term.Product pos first rest)
     ≡ (StartsAt pos (factor_spelling d first) × FactorPlaced d first × Each (NextFactorPlaced d) rest)
-unfolding TermPlaced factor_box FactorBoxPlaced hidden-the_row-Factor-8 shape-the_row-Factor-8 hidden
+unfolding TermPlaced
 term-Product-placed d pos first rest = ap (λ P. StartsAt pos (factor_spelling d first) × FactorPlaced d first
     × P) (next_factor-placed d rest)
 
 pub next_factor-FurtherFactor-placed : (d : ℕ) (pos : Pos) (operator : MultiplyingOperator) (part : Factor)
     → NextFactorPlaced d (next_factor.FurtherFactor pos operator part)
     ≡ FactorPlaced d part
-unfolding NextFactorPlaced FactorBoxPlaced hidden-the_row-Factor-8 shape-the_row-Factor-8 hidden
+unfolding NextFactorPlaced
 next_factor-FurtherFactor-placed d pos operator part = refl
 
 -- factor = primary
 pub factor-LonePrimary-placed : (d : ℕ) (pos : Pos) (operand : Primary)
     → FactorPlaced d (factor.LonePrimary pos operand)
     ≡ (StartsAt pos (primary_spelling d operand) × PrimaryPlaced d operand)
-unfolding FactorPlaced primary_box PrimaryBoxPlaced hidden-the_row-Primary-6 shape-the_row-Primary-6 hidden
+unfolding FactorPlaced
 factor-LonePrimary-placed d pos operand = refl
 
 -- factor = "abs" primary
 pub factor-Abs-placed : (d : ℕ) (pos : Pos) (operand : Primary)
     → FactorPlaced d (factor.Abs pos operand)
     ≡ PrimaryPlaced d operand
-unfolding FactorPlaced PrimaryBoxPlaced hidden-the_row-Primary-6 shape-the_row-Primary-6 hidden
+unfolding FactorPlaced
 factor-Abs-placed d pos operand = refl
 
 -- factor = "not" primary
 pub factor-Not-placed : (d : ℕ) (pos : Pos) (operand : Primary)
     → FactorPlaced d (factor.Not pos operand)
     ≡ PrimaryPlaced d operand
-unfolding FactorPlaced PrimaryBoxPlaced hidden-the_row-Primary-6 shape-the_row-Primary-6 hidden
+unfolding FactorPlaced
 factor-Not-placed d pos operand = refl
 
 -- primary = number
@@ -264,7 +264,7 @@ primary-Null-placed d pos = refl
 pub primary-Named-placed : (d : ℕ) (pos : Pos) (part : Name)
     → PrimaryPlaced d (primary.Named pos part)
     ≡ (StartsAt pos (name_spelling Within d part) × NamePlaced d part)
-unfolding PrimaryPlaced name_box NameBoxPlaced hidden-the_row-Name-10 shape-the_row-Name-10 hidden
+unfolding PrimaryPlaced name_box NameBoxPlaced hidden-the_row-Name-7 shape-the_row-Name-7 hidden
 primary-Named-placed d pos part = refl
 
 -- primary = "(" expr ")"
@@ -278,7 +278,7 @@ primary-Parenthesized-placed d pos part right_paren = refl
 pub primary-Aggregated-placed : (d : ℕ) (pos : Pos) (part : Aggregate)
     → PrimaryPlaced d (primary.Aggregated pos part)
     ≡ (StartsAt pos (aggregate_spelling d part) × AggregatePlaced d part)
-unfolding PrimaryPlaced aggregate_box AggregateBoxPlaced hidden-the_row-Aggregate-11 shape-the_row-Aggregate-11 hidden
+unfolding PrimaryPlaced aggregate_box AggregateBoxPlaced hidden-the_row-Aggregate-8 shape-the_row-Aggregate-8 hidden
 primary-Aggregated-placed d pos part = refl
 
 -- primary = "new" mark
@@ -292,7 +292,7 @@ primary-Allocated-placed d pos mark = refl
 pub primary-AllocatedAggregate-placed : (d : ℕ) (pos : Pos) (mark : Dotted) (apostrophe : Pos) (part : Aggregate)
     → PrimaryPlaced d (primary.AllocatedAggregate pos mark apostrophe part)
     ≡ (DottedPlaced mark × AggregatePlaced d part)
-unfolding PrimaryPlaced AggregateBoxPlaced hidden-the_row-Aggregate-11 shape-the_row-Aggregate-11 hidden
+unfolding PrimaryPlaced AggregateBoxPlaced hidden-the_row-Aggregate-8 shape-the_row-Aggregate-8 hidden
 primary-AllocatedAggregate-placed d pos mark apostrophe part = refl
 
 -- primary = "new" mark "'" "(" expr ")"

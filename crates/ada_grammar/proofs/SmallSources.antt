@@ -68,24 +68,18 @@ use Rattle.ada_tree.specs.declared.expression.Aggregate.TheBlock.{
   hidden-the_row-Expr-2,
   shape-the_row-Rel-3,
   hidden-the_row-Rel-3,
-  shape-the_row-Primary-6,
-  hidden-the_row-Primary-6,
-  shape-the_row-Factor-8,
-  hidden-the_row-Factor-8,
-  shape-the_row-Term-9,
-  hidden-the_row-Term-9,
-  shape-the_row-Name-10,
-  hidden-the_row-Name-10,
-  shape-the_row-Aggregate-11,
-  hidden-the_row-Aggregate-11,
-  shape-the_row-Sum-12,
-  hidden-the_row-Sum-12,
+  shape-the_row-Name-7,
+  hidden-the_row-Name-7,
+  shape-the_row-Aggregate-8,
+  hidden-the_row-Aggregate-8,
+  shape-the_row-Sum-9,
+  hidden-the_row-Sum-9,
   hidden-the_row-NextArg-1,
   hidden-the_row-Operand-4,
   hidden-the_row-ShortOperand-5,
-  hidden-the_row-Suffix-7,
-  hidden-the_row-NextTerm-13,
-  hidden-the_row-NextFactor-14,
+  hidden-the_row-Suffix-6,
+  hidden-the_row-NextTerm-10,
+  hidden-the_row-NextFactor-11,
 }
 use Rattle.ada_tree.specs.declared.statement.Elsif.TheBlock.{
   shape-the_row-Stmts-0,
@@ -126,13 +120,10 @@ use Rattle.ada_tree.specs.Spelling.{
   sum_spelling,
   next_terms_spelling,
   next_term_spelling,
-  term_box,
   term_spelling,
   next_factors_spelling,
   next_factor_spelling,
-  factor_box,
   factor_spelling,
-  primary_box,
   primary_spelling,
   name_box,
   aggregate_box,
@@ -194,13 +185,10 @@ use Rattle.ada_tree.specs.WellPlaced.{
   SumPlaced,
   NextTermsPlaced,
   NextTermPlaced,
-  TermBoxPlaced,
   TermPlaced,
   NextFactorsPlaced,
   NextFactorPlaced,
-  FactorBoxPlaced,
   FactorPlaced,
-  PrimaryBoxPlaced,
   PrimaryPlaced,
   NameBoxPlaced,
   AggregateBoxPlaced,
@@ -286,24 +274,23 @@ source_of placed named spelled =
 unfoldable pub computes : Type 0
 unfolding tokens first_piece identifier reserved reserved_words number string delimiter behind hidden shape-the_row-Arg-0
     hidden-the_row-Arg-0 shape-the_row-Expr-2 hidden-the_row-Expr-2 shape-the_row-Rel-3 hidden-the_row-Rel-3
-    shape-the_row-Primary-6 hidden-the_row-Primary-6 shape-the_row-Factor-8 hidden-the_row-Factor-8 shape-the_row-Term-9
-    hidden-the_row-Term-9 shape-the_row-Name-10 hidden-the_row-Name-10 shape-the_row-Aggregate-11 hidden-the_row-Aggregate-11
-    shape-the_row-Sum-12 hidden-the_row-Sum-12 hidden-the_row-NextArg-1 hidden-the_row-Operand-4 hidden-the_row-ShortOperand-5
-    hidden-the_row-Suffix-7 hidden-the_row-NextTerm-13 hidden-the_row-NextFactor-14 shape-the_row-Stmts-0
+    shape-the_row-Name-7 hidden-the_row-Name-7 shape-the_row-Aggregate-8 hidden-the_row-Aggregate-8
+    shape-the_row-Sum-9 hidden-the_row-Sum-9 hidden-the_row-NextArg-1 hidden-the_row-Operand-4 hidden-the_row-ShortOperand-5
+    hidden-the_row-Suffix-6 hidden-the_row-NextTerm-10 hidden-the_row-NextFactor-11 shape-the_row-Stmts-0
     hidden-the_row-Stmts-0 hidden-the_row-Elsif-1 shape-the_row-When-2 hidden-the_row-When-2 hidden-the_row-When-3
     shape-the_row-Stmt-4 hidden-the_row-Stmt-4 hidden-the_row-Stmt-5 next_identifier_spelling next_part_spelling dotted_spelling
     next_dotted_spelling relational_symbol sign_symbol adding_symbol multiplying_token name_spelling suffixes_spelling suffix_spelling
     arg_box next_args_spelling next_arg_spelling arg_spelling expr_box expr_spelling operands_spelling operand_spelling short_operands_spelling
-    short_operand_spelling rel_box rel_spelling sum_box sum_spelling next_terms_spelling next_term_spelling term_box term_spelling
-    next_factors_spelling next_factor_spelling factor_box factor_spelling primary_box primary_spelling name_box aggregate_box
+    short_operand_spelling rel_box rel_spelling sum_box sum_spelling next_terms_spelling next_term_spelling term_spelling
+    next_factors_spelling next_factor_spelling factor_spelling primary_spelling name_box aggregate_box
     aggregate_spelling range_spelling choice_spelling next_choice_spelling indication_spelling component_spelling use_spelling pragma_on_spelling
     pragma_spelling item_spelling stmts_box stmts_spelling stmt_box next_stmts_spelling stmt_spelling elsifs_spelling elsif_spelling when_box
     next_whens_spelling when_spelling mode_on_spelling mode_spelling formal_spelling next_formal_spelling formals_spelling subspec_spelling decl_spelling
     subprogram_spelling body_part_spelling private_spelling package_spelling package_body_spelling context_spelling unit_spelling DottedPlaced
     NextDottedPlaced NamePlaced SuffixesPlaced SuffixPlaced ArgBoxPlaced NextArgsPlaced NextArgPlaced ArgPlaced ExprBoxPlaced
     ExprPlaced OperandsPlaced OperandPlaced ShortOperandsPlaced ShortOperandPlaced RelBoxPlaced RelPlaced SumBoxPlaced
-    SumPlaced NextTermsPlaced NextTermPlaced TermBoxPlaced TermPlaced NextFactorsPlaced NextFactorPlaced FactorBoxPlaced
-    FactorPlaced PrimaryBoxPlaced PrimaryPlaced NameBoxPlaced AggregateBoxPlaced AggregatePlaced RangePlaced ChoicePlaced
+    SumPlaced NextTermsPlaced NextTermPlaced TermPlaced NextFactorsPlaced NextFactorPlaced
+    FactorPlaced PrimaryPlaced NameBoxPlaced AggregateBoxPlaced AggregatePlaced RangePlaced ChoicePlaced
     NextChoicePlaced IndicationPlaced ComponentPlaced UsePlaced ItemPlaced StmtsBoxPlaced StmtsPlaced StmtBoxPlaced
     EachStmtPlaced StmtPlaced ElsifsPlaced ElsifPlaced WhenBoxPlaced WhensPlaced WhenPlaced FormalPlaced NextFormalPlaced
     FormalsPlaced SubspecPlaced DeclPlaced SubprogramPlaced BodyPartPlaced PrivatePlaced PackagePlaced PackageBodyPlaced

@@ -11,34 +11,34 @@ use Rattle.ada_tree.specs.declared.operator.RelationalOperator.{RelationalOperat
 use Rattle.ada_tree.specs.declared.identifier.Identifier.{Identifier}
 use Rattle.ada_tree.specs.declared.identifier.NextPart.{NextPart}
 use Rattle.ada_tree.specs.declared.identifier.NextPart.TheVariants as next_part
-use Rattle.ada_tree.specs.declared.expression.Aggregate.TheBlock.{shape-the_row-Rel-3, hidden-the_row-Rel-3, shape-the_row-Primary-6, hidden-the_row-Primary-6, shape-the_row-Factor-8, hidden-the_row-Factor-8, shape-the_row-Term-9, hidden-the_row-Term-9, shape-the_row-Name-10, hidden-the_row-Name-10, shape-the_row-Sum-12, hidden-the_row-Sum-12}
+use Rattle.ada_tree.specs.declared.expression.Aggregate.TheBlock.{shape-the_row-Rel-3, hidden-the_row-Rel-3, shape-the_row-Name-7, hidden-the_row-Name-7}
 use Rattle.ada_tree.specs.declared.expression.Expr.{Expr}
 use Rattle.ada_tree.specs.declared.expression.Expr.TheVariants as expr
 use Rattle.ada_tree.specs.declared.expression.Rel.{Rel}
 use Rattle.ada_tree.specs.declared.expression.Rel.TheVariants as rel
-use Rattle.ada_tree.specs.declared.expression.Sum.{Sum, items_hidden-the_row-NextTerm-13}
+use Rattle.ada_tree.specs.declared.expression.Sum.{Sum, items_hidden-the_row-NextTerm-10}
 use Rattle.ada_tree.specs.declared.expression.Sum.TheVariants as sum
 use Rattle.ada_tree.specs.declared.expression.NextTerm.{NextTerm}
-use Rattle.ada_tree.specs.declared.expression.Term.{Term, items_hidden-the_row-NextFactor-14}
+use Rattle.ada_tree.specs.declared.expression.Term.{Term, items_hidden-the_row-NextFactor-11}
 use Rattle.ada_tree.specs.declared.expression.Term.TheVariants as term
 use Rattle.ada_tree.specs.declared.expression.NextFactor.{NextFactor}
 use Rattle.ada_tree.specs.declared.expression.Factor.{Factor}
 use Rattle.ada_tree.specs.declared.expression.Factor.TheVariants as factor
 use Rattle.ada_tree.specs.declared.expression.Primary.{Primary}
 use Rattle.ada_tree.specs.declared.expression.Primary.TheVariants as primary
-use Rattle.ada_tree.specs.declared.expression.Name.{Name, items_hidden-the_row-Suffix-7}
+use Rattle.ada_tree.specs.declared.expression.Name.{Name, items_hidden-the_row-Suffix-6}
 use Rattle.ada_tree.specs.declared.expression.Name.TheVariants as name
 use Rattle.ada_tree.specs.declared.expression.Suffix.{Suffix}
 use Rattle.ada_tree.specs.declared.expression.Suffix.TheVariants as suffix
-use Rattle.ada_tree.specs.Lone.{unfollowed, name_of_box, primary_name, primary_box_name, factor_name, factor_box_name, term_name, term_box_name, sum_name, sum_box_name, rel_name, rel_box_name, lone_name, selected_part, part_before, selected_parts, dotted_name, dotted_or_name, sole_identifier, range_positions, cut_range, range_prefix, name_with_range}
+use Rattle.ada_tree.specs.Lone.{unfollowed, name_of_box, primary_name, factor_name, term_name, sum_name, rel_name, rel_box_name, lone_name, selected_part, part_before, selected_parts, dotted_name, dotted_or_name, sole_identifier, range_positions, cut_range, range_prefix, name_with_range}
 use Rattle.ada_tree.proofs.Forms.{expr_form, primary_form, suffix_form}
 
 pub primary_name-Named : (pos : Pos) (n : Name) → primary_name (primary.Named pos n) ≡ Some n
-unfolding primary_name name_of_box hidden-the_row-Name-10 shape-the_row-Name-10 hidden
+unfolding primary_name name_of_box hidden-the_row-Name-7 shape-the_row-Name-7 hidden
 primary_name-Named pos n = refl
 
 pub factor_name-LonePrimary : (pos : Pos) (operand : Primary) → factor_name (factor.LonePrimary pos operand) ≡ primary_name operand
-unfolding factor_name primary_box_name hidden-the_row-Primary-6 shape-the_row-Primary-6 hidden
+unfolding factor_name
 factor_name-LonePrimary pos operand = refl
 
 pub factor_name-Abs : (pos : Pos) (operand : Primary) → factor_name (factor.Abs pos operand) ≡ None
@@ -51,13 +51,13 @@ factor_name-Not pos operand = refl
 
 pub term_name-Product : (pos : Pos) (first : Factor) (rest : List NextFactor)
     → term_name (term.Product pos first rest) ≡ unfollowed (factor_name first) rest
-unfolding term_name factor_box_name hidden-the_row-Factor-8 shape-the_row-Factor-8 hidden
-term_name-Product pos first rest = ap (unfollowed (factor_name first)) (items_hidden-the_row-NextFactor-14 rest)
+unfolding term_name
+term_name-Product pos first rest = ap (unfollowed (factor_name first)) (items_hidden-the_row-NextFactor-11 rest)
 
 pub sum_name-Unsigned : (pos : Pos) (first : Term) (rest : List NextTerm)
     → sum_name (sum.Unsigned pos first rest) ≡ unfollowed (term_name first) rest
-unfolding sum_name term_box_name hidden-the_row-Term-9 shape-the_row-Term-9 hidden
-sum_name-Unsigned pos first rest = ap (unfollowed (term_name first)) (items_hidden-the_row-NextTerm-13 rest)
+unfolding sum_name
+sum_name-Unsigned pos first rest = ap (unfollowed (term_name first)) (items_hidden-the_row-NextTerm-10 rest)
 
 pub sum_name-Signed : (pos : Pos) (sign : Sign) (first : Term) (rest : List NextTerm)
     → sum_name (sum.Signed pos sign first rest) ≡ None
@@ -65,7 +65,7 @@ unfolding sum_name
 sum_name-Signed pos sign first rest = refl
 
 pub rel_name-LoneSum : (pos : Pos) (operand : Sum) → rel_name (rel.LoneSum pos operand) ≡ sum_name operand
-unfolding rel_name sum_box_name hidden-the_row-Sum-12 shape-the_row-Sum-12 hidden
+unfolding rel_name
 rel_name-LoneSum pos operand = refl
 
 pub rel_name-Compared : (pos : Pos) (left : Sum) (operator : RelationalOperator) (operator_pos : Pos) (right : Sum)
@@ -82,26 +82,26 @@ pub dotted_name-Prefixed : (pos : Pos) (first : Identifier) (rest : List Suffix)
     ≡ option_map (λ parts. record { pos = pos; first = first; rest = parts }) (selected_parts rest)
 unfolding dotted_name
 dotted_name-Prefixed pos first rest = ap (λ parts. option_map (λ these. record { pos = pos; first = first; rest = these })
-    (selected_parts parts)) (items_hidden-the_row-Suffix-7 rest)
+    (selected_parts parts)) (items_hidden-the_row-Suffix-6 rest)
 
 pub sole_identifier-Prefixed : (pos : Pos) (first : Identifier) (rest : List Suffix)
     → sole_identifier (name.Prefixed pos first rest) ≡ unfollowed (Some first) rest
 unfolding sole_identifier
-sole_identifier-Prefixed pos first rest = ap (unfollowed (Some first)) (items_hidden-the_row-Suffix-7 rest)
+sole_identifier-Prefixed pos first rest = ap (unfollowed (Some first)) (items_hidden-the_row-Suffix-6 rest)
 
 pub range_prefix-Prefixed : (pos : Pos) (first : Identifier) (rest : List Suffix)
     → range_prefix (name.Prefixed pos first rest)
     ≡ option_map (λ cut. (name.Prefixed pos first cut.0, cut.1, cut.2)) (cut_range rest)
 unfolding range_prefix
 range_prefix-Prefixed pos first rest = ap (λ parts. option_map (λ cut. (name.Prefixed pos first cut.0, cut.1, cut.2))
-    (cut_range parts)) (items_hidden-the_row-Suffix-7 rest)
+    (cut_range parts)) (items_hidden-the_row-Suffix-6 rest)
 
 pub name_with_range-Prefixed : (pos : Pos) (first : Identifier) (rest : List Suffix) (apostrophe range : Pos)
     → name_with_range (name.Prefixed pos first rest) apostrophe range
     ≡ name.Prefixed pos first (rest ++ (suffix.RangeAttribute apostrophe range ∷ []))
 unfolding name_with_range
 name_with_range-Prefixed pos first rest apostrophe range = ap (λ parts. name.Prefixed pos first
-    (parts ++ (suffix.RangeAttribute apostrophe range ∷ []))) (items_hidden-the_row-Suffix-7 rest)
+    (parts ++ (suffix.RangeAttribute apostrophe range ∷ []))) (items_hidden-the_row-Suffix-6 rest)
 
 pub range_positions-RangeAttribute : (apostrophe range : Pos)
     → range_positions (suffix.RangeAttribute apostrophe range) ≡ Some (apostrophe, range)

@@ -38,15 +38,15 @@ use Rattle.ada_tree.specs.declared.expression.ShortOperand.{ShortOperand}
 use Rattle.ada_tree.specs.declared.expression.ShortOperand.TheVariants as short_operand
 use Rattle.ada_tree.specs.declared.expression.Rel.{Rel, Row_of-Sum, end_of-Sum, more_of-Sum}
 use Rattle.ada_tree.specs.declared.expression.Rel.TheVariants as rel
-use Rattle.ada_tree.specs.declared.expression.Sum.{Sum, Row_of-Term, end_of-Term, more_of-Term, Row_of-NextTerm, end_of-NextTerm, more_of-NextTerm}
+use Rattle.ada_tree.specs.declared.expression.Sum.{Sum, Row_of-NextTerm, end_of-NextTerm, more_of-NextTerm}
 use Rattle.ada_tree.specs.declared.expression.Sum.TheVariants as sum
 use Rattle.ada_tree.specs.declared.expression.NextTerm.{NextTerm}
 use Rattle.ada_tree.specs.declared.expression.NextTerm.TheVariants as next_term
-use Rattle.ada_tree.specs.declared.expression.Term.{Term, Row_of-Factor, end_of-Factor, more_of-Factor, Row_of-NextFactor, end_of-NextFactor, more_of-NextFactor}
+use Rattle.ada_tree.specs.declared.expression.Term.{Term, Row_of-NextFactor, end_of-NextFactor, more_of-NextFactor}
 use Rattle.ada_tree.specs.declared.expression.Term.TheVariants as term
 use Rattle.ada_tree.specs.declared.expression.NextFactor.{NextFactor}
 use Rattle.ada_tree.specs.declared.expression.NextFactor.TheVariants as next_factor
-use Rattle.ada_tree.specs.declared.expression.Factor.{Factor, Row_of-Primary, end_of-Primary, more_of-Primary}
+use Rattle.ada_tree.specs.declared.expression.Factor.{Factor}
 use Rattle.ada_tree.specs.declared.expression.Factor.TheVariants as factor
 use Rattle.ada_tree.specs.declared.expression.Primary.{Primary, Row_of-Name, end_of-Name, more_of-Name, Row_of-Aggregate, end_of-Aggregate, more_of-Aggregate}
 use Rattle.ada_tree.specs.declared.expression.Primary.TheVariants as primary
@@ -222,7 +222,7 @@ unfoldable mutual
 
   pub rel_spelling : ℕ → Rel → List WeighedToken
   -- rel = sum
-  rel_spelling d (rel.LoneSum' pos _ operand) = sum_box d operand
+  rel_spelling d (rel.LoneSum pos operand) = sum_spelling d operand
   -- rel = sum ("=" | "/=" | "<" | "<=" | ">" | ">=") sum
   rel_spelling d (rel.Compared' pos _ left operator operator_pos _ right) =
       sum_box d left ++ (operates (Delimiter (relational_symbol operator) operator_pos) ∷ sum_box d right)
@@ -233,50 +233,38 @@ unfoldable mutual
 
   pub sum_spelling : ℕ → Sum → List WeighedToken
   -- sum = term {("+" | "-" | "&") term}
-  sum_spelling d (sum.Unsigned' pos _ first _ rest) = term_box d first ++ next_terms_spelling d rest
+  sum_spelling d (sum.Unsigned' pos first _ rest) = term_spelling d first ++ next_terms_spelling d rest
   -- sum = ("+" | "-") term {("+" | "-" | "&") term}
-  sum_spelling d (sum.Signed' pos sign _ first _ rest) =
-      operates (Delimiter (sign_symbol sign) pos) ∷ (term_box d first ++ next_terms_spelling d rest)
+  sum_spelling d (sum.Signed' pos sign first _ rest) =
+      operates (Delimiter (sign_symbol sign) pos) ∷ (term_spelling d first ++ next_terms_spelling d rest)
 
   pub next_terms_spelling : {n : _} → ℕ → Row_of-NextTerm n → List WeighedToken
   next_terms_spelling d end_of-NextTerm = []
   next_terms_spelling d (more_of-NextTerm part rest) = next_term_spelling d part ++ next_terms_spelling d rest
 
   pub next_term_spelling : ℕ → NextTerm → List WeighedToken
-  next_term_spelling d (next_term.FurtherTerm' pos operator _ part) =
-      operates (Delimiter (adding_symbol operator) pos) ∷ term_box d part
-
-  pub term_box : {n : _} → ℕ → Row_of-Term n → List WeighedToken
-  term_box d end_of-Term = []
-  term_box d (more_of-Term part rest) = term_spelling d part
+  next_term_spelling d (next_term.FurtherTerm pos operator part) =
+      operates (Delimiter (adding_symbol operator) pos) ∷ term_spelling d part
 
   -- term = factor {("*" | "/" | "mod" | "rem") factor}
   pub term_spelling : ℕ → Term → List WeighedToken
-  term_spelling d (term.Product' pos _ first _ rest) = factor_box d first ++ next_factors_spelling d rest
+  term_spelling d (term.Product' pos first _ rest) = factor_spelling d first ++ next_factors_spelling d rest
 
   pub next_factors_spelling : {n : _} → ℕ → Row_of-NextFactor n → List WeighedToken
   next_factors_spelling d end_of-NextFactor = []
   next_factors_spelling d (more_of-NextFactor part rest) = next_factor_spelling d part ++ next_factors_spelling d rest
 
   pub next_factor_spelling : ℕ → NextFactor → List WeighedToken
-  next_factor_spelling d (next_factor.FurtherFactor' pos operator _ part) =
-      operates (multiplying_token operator pos) ∷ factor_box d part
-
-  pub factor_box : {n : _} → ℕ → Row_of-Factor n → List WeighedToken
-  factor_box d end_of-Factor = []
-  factor_box d (more_of-Factor part rest) = factor_spelling d part
+  next_factor_spelling d (next_factor.FurtherFactor pos operator part) =
+      operates (multiplying_token operator pos) ∷ factor_spelling d part
 
   pub factor_spelling : ℕ → Factor → List WeighedToken
   -- factor = primary
-  factor_spelling d (factor.LonePrimary' pos _ operand) = primary_box d operand
+  factor_spelling d (factor.LonePrimary pos operand) = primary_spelling d operand
   -- factor = "abs" primary
-  factor_spelling d (factor.Abs' pos _ operand) = operates (Word w.KwAbs pos) ∷ primary_box d operand
+  factor_spelling d (factor.Abs pos operand) = operates (Word w.KwAbs pos) ∷ primary_spelling d operand
   -- factor = "not" primary
-  factor_spelling d (factor.Not' pos _ operand) = operates (Word w.KwNot pos) ∷ primary_box d operand
-
-  pub primary_box : {n : _} → ℕ → Row_of-Primary n → List WeighedToken
-  primary_box d end_of-Primary = []
-  primary_box d (more_of-Primary part rest) = primary_spelling d part
+  factor_spelling d (factor.Not pos operand) = operates (Word w.KwNot pos) ∷ primary_spelling d operand
 
   pub primary_spelling : ℕ → Primary → List WeighedToken
   -- primary = number

@@ -9,13 +9,13 @@ use Rattle.ada_tree.specs.declared.identifier.NextPart.{NextPart}
 use Rattle.ada_tree.specs.declared.identifier.NextPart.TheVariants as next_part
 use Rattle.ada_tree.specs.declared.expression.Expr.{Expr, Row_of-Rel, end_of-Rel, more_of-Rel}
 use Rattle.ada_tree.specs.declared.expression.Expr.TheVariants as expr
-use Rattle.ada_tree.specs.declared.expression.Rel.{Rel, Row_of-Sum, end_of-Sum, more_of-Sum}
+use Rattle.ada_tree.specs.declared.expression.Rel.{Rel}
 use Rattle.ada_tree.specs.declared.expression.Rel.TheVariants as rel
-use Rattle.ada_tree.specs.declared.expression.Sum.{Sum, Row_of-Term, end_of-Term, more_of-Term, items-the_row-NextTerm}
+use Rattle.ada_tree.specs.declared.expression.Sum.{Sum, items-the_row-NextTerm}
 use Rattle.ada_tree.specs.declared.expression.Sum.TheVariants as sum
-use Rattle.ada_tree.specs.declared.expression.Term.{Term, Row_of-Factor, end_of-Factor, more_of-Factor, items-the_row-NextFactor}
+use Rattle.ada_tree.specs.declared.expression.Term.{Term, items-the_row-NextFactor}
 use Rattle.ada_tree.specs.declared.expression.Term.TheVariants as term
-use Rattle.ada_tree.specs.declared.expression.Factor.{Factor, Row_of-Primary, end_of-Primary, more_of-Primary}
+use Rattle.ada_tree.specs.declared.expression.Factor.{Factor}
 use Rattle.ada_tree.specs.declared.expression.Factor.TheVariants as factor
 use Rattle.ada_tree.specs.declared.expression.Primary.{Primary, Row_of-Name, end_of-Name, more_of-Name}
 use Rattle.ada_tree.specs.declared.expression.Primary.TheVariants as primary
@@ -40,35 +40,19 @@ unfoldable pub primary_name : Primary → Option Name
 primary_name (primary.Named' pos _ part) = name_of_box part
 primary_name _ = None
 
-unfoldable pub primary_box_name : {n : _} → Row_of-Primary n → Option Name
-primary_box_name end_of-Primary = None
-primary_box_name (more_of-Primary part rest) = primary_name part
-
 unfoldable pub factor_name : Factor → Option Name
-factor_name (factor.LonePrimary' pos _ operand) = primary_box_name operand
+factor_name (factor.LonePrimary pos operand) = primary_name operand
 factor_name _ = None
 
-unfoldable pub factor_box_name : {n : _} → Row_of-Factor n → Option Name
-factor_box_name end_of-Factor = None
-factor_box_name (more_of-Factor part rest) = factor_name part
-
 unfoldable pub term_name : Term → Option Name
-term_name (term.Product' pos _ first _ rest) = unfollowed (factor_box_name first) (items-the_row-NextFactor _ rest)
-
-unfoldable pub term_box_name : {n : _} → Row_of-Term n → Option Name
-term_box_name end_of-Term = None
-term_box_name (more_of-Term part rest) = term_name part
+term_name (term.Product' pos first _ rest) = unfollowed (factor_name first) (items-the_row-NextFactor _ rest)
 
 unfoldable pub sum_name : Sum → Option Name
-sum_name (sum.Unsigned' pos _ first _ rest) = unfollowed (term_box_name first) (items-the_row-NextTerm _ rest)
+sum_name (sum.Unsigned' pos first _ rest) = unfollowed (term_name first) (items-the_row-NextTerm _ rest)
 sum_name _ = None
 
-unfoldable pub sum_box_name : {n : _} → Row_of-Sum n → Option Name
-sum_box_name end_of-Sum = None
-sum_box_name (more_of-Sum part rest) = sum_name part
-
 unfoldable pub rel_name : Rel → Option Name
-rel_name (rel.LoneSum' pos _ operand) = sum_box_name operand
+rel_name (rel.LoneSum pos operand) = sum_name operand
 rel_name _ = None
 
 unfoldable pub rel_box_name : {n : _} → Row_of-Rel n → Option Name

@@ -50,20 +50,20 @@ expr_position (expr.AndThen' pos _ _ _ _ _ _ _ _) = pos
 expr_position (expr.OrElse' pos _ _ _ _ _ _ _ _) = pos
 
 abbrev pub rel_position : Rel → Pos
-rel_position (rel.LoneSum' pos _ _) = pos
+rel_position (rel.LoneSum pos _) = pos
 rel_position (rel.Compared' pos _ _ _ _ _ _) = pos
 
 abbrev pub sum_position : Sum → Pos
-sum_position (sum.Unsigned' pos _ _ _ _) = pos
-sum_position (sum.Signed' pos _ _ _ _ _) = pos
+sum_position (sum.Unsigned' pos _ _ _) = pos
+sum_position (sum.Signed' pos _ _ _ _) = pos
 
 abbrev pub term_position : Term → Pos
-term_position (term.Product' pos _ _ _ _) = pos
+term_position (term.Product' pos _ _ _) = pos
 
 abbrev pub factor_position : Factor → Pos
-factor_position (factor.LonePrimary' pos _ _) = pos
-factor_position (factor.Abs' pos _ _) = pos
-factor_position (factor.Not' pos _ _) = pos
+factor_position (factor.LonePrimary pos _) = pos
+factor_position (factor.Abs pos _) = pos
+factor_position (factor.Not pos _) = pos
 
 abbrev pub primary_position : Primary → Pos
 primary_position (primary.Number pos _) = pos

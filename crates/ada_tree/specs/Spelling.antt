@@ -67,8 +67,8 @@ unfoldable pub use Rattle.ada_tree.specs.ExpressionSpelling.{suffix_spelling, ar
 unfoldable pub use Rattle.ada_tree.specs.ExpressionSpelling.{arg_spelling, expr_box, expr_spelling, operands_spelling}
 unfoldable pub use Rattle.ada_tree.specs.ExpressionSpelling.{operand_spelling, short_operands_spelling, short_operand_spelling}
 unfoldable pub use Rattle.ada_tree.specs.ExpressionSpelling.{rel_box, rel_spelling, sum_box, sum_spelling, next_terms_spelling}
-unfoldable pub use Rattle.ada_tree.specs.ExpressionSpelling.{next_term_spelling, term_box, term_spelling, next_factors_spelling}
-unfoldable pub use Rattle.ada_tree.specs.ExpressionSpelling.{next_factor_spelling, factor_box, factor_spelling, primary_box}
+unfoldable pub use Rattle.ada_tree.specs.ExpressionSpelling.{next_term_spelling, term_spelling, next_factors_spelling}
+unfoldable pub use Rattle.ada_tree.specs.ExpressionSpelling.{next_factor_spelling, factor_spelling}
 unfoldable pub use Rattle.ada_tree.specs.ExpressionSpelling.{primary_spelling, name_box, aggregate_box, aggregate_spelling}
 unfoldable pub use Rattle.ada_tree.specs.ExpressionSpelling.{range_spelling, choice_spelling, next_choice_spelling}
 

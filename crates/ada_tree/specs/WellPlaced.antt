@@ -23,15 +23,15 @@ use Rattle.ada_tree.specs.declared.expression.ShortOperand.{ShortOperand}
 use Rattle.ada_tree.specs.declared.expression.ShortOperand.TheVariants as short_operand
 use Rattle.ada_tree.specs.declared.expression.Rel.{Rel, Row_of-Sum, end_of-Sum, more_of-Sum}
 use Rattle.ada_tree.specs.declared.expression.Rel.TheVariants as rel
-use Rattle.ada_tree.specs.declared.expression.Sum.{Sum, Row_of-Term, end_of-Term, more_of-Term, Row_of-NextTerm, end_of-NextTerm, more_of-NextTerm}
+use Rattle.ada_tree.specs.declared.expression.Sum.{Sum, Row_of-NextTerm, end_of-NextTerm, more_of-NextTerm}
 use Rattle.ada_tree.specs.declared.expression.Sum.TheVariants as sum
 use Rattle.ada_tree.specs.declared.expression.NextTerm.{NextTerm}
 use Rattle.ada_tree.specs.declared.expression.NextTerm.TheVariants as next_term
-use Rattle.ada_tree.specs.declared.expression.Term.{Term, Row_of-Factor, end_of-Factor, more_of-Factor, Row_of-NextFactor, end_of-NextFactor, more_of-NextFactor}
+use Rattle.ada_tree.specs.declared.expression.Term.{Term, Row_of-NextFactor, end_of-NextFactor, more_of-NextFactor}
 use Rattle.ada_tree.specs.declared.expression.Term.TheVariants as term
 use Rattle.ada_tree.specs.declared.expression.NextFactor.{NextFactor}
 use Rattle.ada_tree.specs.declared.expression.NextFactor.TheVariants as next_factor
-use Rattle.ada_tree.specs.declared.expression.Factor.{Factor, Row_of-Primary, end_of-Primary, more_of-Primary}
+use Rattle.ada_tree.specs.declared.expression.Factor.{Factor}
 use Rattle.ada_tree.specs.declared.expression.Factor.TheVariants as factor
 use Rattle.ada_tree.specs.declared.expression.Primary.{Primary, Row_of-Name, end_of-Name, more_of-Name, Row_of-Aggregate, end_of-Aggregate, more_of-Aggregate}
 use Rattle.ada_tree.specs.declared.expression.Primary.TheVariants as primary
@@ -83,7 +83,7 @@ use Rattle.token_reading.specs.declared.side.Side.TheVariants.{Apart, Within}
 use Rattle.token_reading.specs.Weights.{WeighedToken, bare}
 use Rattle.token_reading.specs.Reading as reading
 use Rattle.token_reading.specs.Reading.{Each}
-use Rattle.ada_tree.specs.Spelling.{dotted_spelling, name_box, name_spelling, expr_box, expr_spelling, rel_box, sum_box, term_box, factor_box, primary_box, aggregate_box, item_spelling, stmt_box, subspec_spelling, decl_spelling, subprogram_spelling, context_spelling, package_spelling, package_body_spelling}
+use Rattle.ada_tree.specs.Spelling.{dotted_spelling, name_box, name_spelling, expr_box, expr_spelling, rel_box, sum_box, sum_spelling, term_spelling, factor_spelling, primary_spelling, aggregate_box, item_spelling, stmt_box, subspec_spelling, decl_spelling, subprogram_spelling, context_spelling, package_spelling, package_body_spelling}
 
 -- The fact holds of the part, where there is one.
 abbrev pub EachSome : {A : Type 0} → (A → Type 0) → Option A → Type 0
@@ -165,7 +165,7 @@ unfoldable mutual
   RelBoxPlaced d (more_of-Rel part rest) = RelPlaced d part
 
   pub RelPlaced : ℕ → Rel → Type 0
-  RelPlaced d (rel.LoneSum' pos _ operand) = StartsAt pos (sum_box d operand) × SumBoxPlaced d operand
+  RelPlaced d (rel.LoneSum pos operand) = StartsAt pos (sum_spelling d operand) × SumPlaced d operand
   RelPlaced d (rel.Compared' pos _ left operator operator_pos _ right) =
       StartsAt pos (sum_box d left) × SumBoxPlaced d left × SumBoxPlaced d right
 
@@ -174,43 +174,31 @@ unfoldable mutual
   SumBoxPlaced d (more_of-Sum part rest) = SumPlaced d part
 
   pub SumPlaced : ℕ → Sum → Type 0
-  SumPlaced d (sum.Unsigned' pos _ first _ rest) = StartsAt pos (term_box d first) × TermBoxPlaced d first × NextTermsPlaced d rest
-  SumPlaced d (sum.Signed' pos sign _ first _ rest) = TermBoxPlaced d first × NextTermsPlaced d rest
+  SumPlaced d (sum.Unsigned' pos first _ rest) = StartsAt pos (term_spelling d first) × TermPlaced d first × NextTermsPlaced d rest
+  SumPlaced d (sum.Signed' pos sign first _ rest) = TermPlaced d first × NextTermsPlaced d rest
 
   pub NextTermsPlaced : {n : _} → ℕ → Row_of-NextTerm n → Type 0
   NextTermsPlaced d end_of-NextTerm = Unit {0}
   NextTermsPlaced d (more_of-NextTerm part rest) = NextTermPlaced d part × NextTermsPlaced d rest
 
   pub NextTermPlaced : ℕ → NextTerm → Type 0
-  NextTermPlaced d (next_term.FurtherTerm' pos operator _ part) = TermBoxPlaced d part
-
-  pub TermBoxPlaced : {n : _} → ℕ → Row_of-Term n → Type 0
-  TermBoxPlaced d end_of-Term = Unit {0}
-  TermBoxPlaced d (more_of-Term part rest) = TermPlaced d part
+  NextTermPlaced d (next_term.FurtherTerm pos operator part) = TermPlaced d part
 
   pub TermPlaced : ℕ → Term → Type 0
-  TermPlaced d (term.Product' pos _ first _ rest) =
-      StartsAt pos (factor_box d first) × FactorBoxPlaced d first × NextFactorsPlaced d rest
+  TermPlaced d (term.Product' pos first _ rest) =
+      StartsAt pos (factor_spelling d first) × FactorPlaced d first × NextFactorsPlaced d rest
 
   pub NextFactorsPlaced : {n : _} → ℕ → Row_of-NextFactor n → Type 0
   NextFactorsPlaced d end_of-NextFactor = Unit {0}
   NextFactorsPlaced d (more_of-NextFactor part rest) = NextFactorPlaced d part × NextFactorsPlaced d rest
 
   pub NextFactorPlaced : ℕ → NextFactor → Type 0
-  NextFactorPlaced d (next_factor.FurtherFactor' pos operator _ part) = FactorBoxPlaced d part
-
-  pub FactorBoxPlaced : {n : _} → ℕ → Row_of-Factor n → Type 0
-  FactorBoxPlaced d end_of-Factor = Unit {0}
-  FactorBoxPlaced d (more_of-Factor part rest) = FactorPlaced d part
+  NextFactorPlaced d (next_factor.FurtherFactor pos operator part) = FactorPlaced d part
 
   pub FactorPlaced : ℕ → Factor → Type 0
-  FactorPlaced d (factor.LonePrimary' pos _ operand) = StartsAt pos (primary_box d operand) × PrimaryBoxPlaced d operand
-  FactorPlaced d (factor.Abs' pos _ operand) = PrimaryBoxPlaced d operand
-  FactorPlaced d (factor.Not' pos _ operand) = PrimaryBoxPlaced d operand
-
-  pub PrimaryBoxPlaced : {n : _} → ℕ → Row_of-Primary n → Type 0
-  PrimaryBoxPlaced d end_of-Primary = Unit {0}
-  PrimaryBoxPlaced d (more_of-Primary part rest) = PrimaryPlaced d part
+  FactorPlaced d (factor.LonePrimary pos operand) = StartsAt pos (primary_spelling d operand) × PrimaryPlaced d operand
+  FactorPlaced d (factor.Abs pos operand) = PrimaryPlaced d operand
+  FactorPlaced d (factor.Not pos operand) = PrimaryPlaced d operand
 
   pub PrimaryPlaced : ℕ → Primary → Type 0
   PrimaryPlaced d (primary.Named' pos _ part) = StartsAt pos (name_box d part) × NameBoxPlaced d part

@@ -124,7 +124,7 @@ pub enum Rel {
         /// The position of the sum.
         pos: Pos,
         /// The sum.
-        sum: Boxed<Sum>,
+        sum: Sum,
     },
     /// sum (`=` | `/=` | `<` | `<=` | `>` | `>=`) sum (Ada 2012, 4.4 and 4.5.2)
     Compared {
@@ -150,7 +150,7 @@ pub enum Sum {
         /// The position of the first term.
         pos: Pos,
         /// The first term.
-        first: Boxed<Term>,
+        first: Term,
         /// The terms behind it.
         rest: Listed<NextTerm>,
     },
@@ -161,7 +161,7 @@ pub enum Sum {
         /// Which sign stands there.
         sign: Sign,
         /// The first term.
-        first: Boxed<Term>,
+        first: Term,
         /// The terms behind it.
         rest: Listed<NextTerm>,
     },
@@ -178,7 +178,7 @@ pub enum NextTerm {
         /// Which operator stands there.
         operator: AddingOperator,
         /// The term.
-        term: Boxed<Term>,
+        term: Term,
     },
 }
 
@@ -191,7 +191,7 @@ pub enum Term {
         /// The position of the first factor.
         pos: Pos,
         /// The first factor.
-        first: Boxed<Factor>,
+        first: Factor,
         /// The factors behind it.
         rest: Listed<NextFactor>,
     },
@@ -208,7 +208,7 @@ pub enum NextFactor {
         /// Which operator stands there.
         operator: MultiplyingOperator,
         /// The factor.
-        factor: Boxed<Factor>,
+        factor: Factor,
     },
 }
 
@@ -221,21 +221,21 @@ pub enum Factor {
         /// The position of the primary.
         pos: Pos,
         /// The primary.
-        primary: Boxed<Primary>,
+        primary: Primary,
     },
     /// `abs` primary (Ada 2012, 4.4 and 4.5.6)
     Abs {
         /// `abs`
         pos: Pos,
         /// The operand.
-        primary: Boxed<Primary>,
+        primary: Primary,
     },
     /// `not` primary (Ada 2012, 4.4 and 4.5.6)
     Not {
         /// `not`
         pos: Pos,
         /// The operand.
-        primary: Boxed<Primary>,
+        primary: Primary,
     },
 }
 

@@ -30,7 +30,7 @@ impl Rel {
         ensures { result ≡ rel_name self }
     {
         match self {
-            Rel::LoneSum { sum, .. } => Box::into_inner(sum.into_box()).into_name(),
+            Rel::LoneSum { sum, .. } => sum.into_name(),
             Rel::Compared { .. } => None,
         }
     }
@@ -43,7 +43,7 @@ impl Sum {
         match self {
             Sum::Unsigned { first, rest, .. } => {
                 if rest.is_empty() {
-                    Box::into_inner(first.into_box()).into_name()
+                    first.into_name()
                 } else {
                     None
                 }
@@ -59,7 +59,7 @@ impl Term {
     {
         let Term::Product { first, rest, .. } = self;
         if rest.is_empty() {
-            Box::into_inner(first.into_box()).into_name()
+            first.into_name()
         } else {
             None
         }
@@ -71,7 +71,7 @@ impl Factor {
         ensures { result ≡ factor_name self }
     {
         match self {
-            Factor::LonePrimary { primary, .. } => Box::into_inner(primary.into_box()).into_name(),
+            Factor::LonePrimary { primary, .. } => primary.into_name(),
             Factor::Abs { .. } | Factor::Not { .. } => None,
         }
     }

@@ -11,9 +11,9 @@ use Rattle.ada_tree.specs.declared.identifier.Identifier.{Identifier}
 use Rattle.ada_tree.specs.declared.identifier.Dotted.{Dotted}
 use Rattle.ada_tree.specs.declared.expression.Aggregate.{Aggregate, Row_of-NextArg, end_of-NextArg, more_of-NextArg, items-the_row-NextArg, items_hidden-the_row-NextArg-1}
 use Rattle.ada_tree.specs.declared.expression.Expr.{Expr, Row_of-Operand, end_of-Operand, more_of-Operand, items-the_row-Operand, items_hidden-the_row-Operand-4, Row_of-ShortOperand, end_of-ShortOperand, more_of-ShortOperand, items-the_row-ShortOperand, items_hidden-the_row-ShortOperand-5}
-use Rattle.ada_tree.specs.declared.expression.Sum.{Sum, Row_of-NextTerm, end_of-NextTerm, more_of-NextTerm, items-the_row-NextTerm, items_hidden-the_row-NextTerm-13}
-use Rattle.ada_tree.specs.declared.expression.Term.{Term, Row_of-NextFactor, end_of-NextFactor, more_of-NextFactor, items-the_row-NextFactor, items_hidden-the_row-NextFactor-14}
-use Rattle.ada_tree.specs.declared.expression.Name.{Name, Row_of-Suffix, end_of-Suffix, more_of-Suffix, items-the_row-Suffix, items_hidden-the_row-Suffix-7}
+use Rattle.ada_tree.specs.declared.expression.Sum.{Sum, Row_of-NextTerm, end_of-NextTerm, more_of-NextTerm, items-the_row-NextTerm, items_hidden-the_row-NextTerm-10}
+use Rattle.ada_tree.specs.declared.expression.Term.{Term, Row_of-NextFactor, end_of-NextFactor, more_of-NextFactor, items-the_row-NextFactor, items_hidden-the_row-NextFactor-11}
+use Rattle.ada_tree.specs.declared.expression.Name.{Name, Row_of-Suffix, end_of-Suffix, more_of-Suffix, items-the_row-Suffix, items_hidden-the_row-Suffix-6}
 use Rattle.ada_tree.specs.declared.expression.Aggregate.TheVariants as aggregate
 use Rattle.ada_tree.specs.declared.expression.Arg.{Arg}
 use Rattle.ada_tree.specs.declared.expression.Arg.TheVariants as arg
@@ -39,22 +39,22 @@ use Rattle.ada_tree.specs.declared.expression.Primary.TheVariants as primary
 use Rattle.ada_tree.specs.declared.expression.Name.TheVariants as name
 use Rattle.ada_tree.specs.declared.expression.Suffix.{Suffix}
 use Rattle.ada_tree.specs.declared.expression.Suffix.TheVariants as suffix
-use Rattle.ada_tree.specs.declared.expression.Aggregate.TheBlock.{shape-the_row-Arg-0, hidden-the_row-Arg-0, shape-the_row-Expr-2, hidden-the_row-Expr-2, shape-the_row-Rel-3, hidden-the_row-Rel-3, shape-the_row-Primary-6, hidden-the_row-Primary-6, shape-the_row-Factor-8, hidden-the_row-Factor-8, shape-the_row-Term-9, hidden-the_row-Term-9, shape-the_row-Name-10, hidden-the_row-Name-10, shape-the_row-Aggregate-11, hidden-the_row-Aggregate-11, shape-the_row-Sum-12, hidden-the_row-Sum-12, hidden-the_row-NextArg-1, hidden-the_row-Operand-4, hidden-the_row-ShortOperand-5, hidden-the_row-Suffix-7, hidden-the_row-NextTerm-13, hidden-the_row-NextFactor-14}
+use Rattle.ada_tree.specs.declared.expression.Aggregate.TheBlock.{shape-the_row-Arg-0, hidden-the_row-Arg-0, shape-the_row-Expr-2, hidden-the_row-Expr-2, shape-the_row-Rel-3, hidden-the_row-Rel-3, shape-the_row-Name-7, hidden-the_row-Name-7, shape-the_row-Aggregate-8, hidden-the_row-Aggregate-8, shape-the_row-Sum-9, hidden-the_row-Sum-9, hidden-the_row-NextArg-1, hidden-the_row-Operand-4, hidden-the_row-ShortOperand-5, hidden-the_row-Suffix-6, hidden-the_row-NextTerm-10, hidden-the_row-NextFactor-11}
 use Rattle.resolved_tree.specs.declared.operator.Operator.{Operator}
 use Rattle.resolved_tree.specs.declared.operator.Operator.TheVariants as op
 use Rattle.resolved_tree.specs.declared.operator.UnaryOperator.TheVariants as unary
 use Rattle.resolved_tree.specs.declared.operator.Attribute.TheVariants as attribute
 use Rattle.resolved_tree.specs.Trees.{Tree}
 use Rattle.resolved_tree.specs.Trees as t
-use Rattle.expression_lowering.specs.LoweredExpressions.{Numbers, mark_of, sign_operator, relational_operator, adding_operator, multiplying_operator, attribute_of, chained, selected_number, before_others, selected_numbers, leading_numbers, named, lowered_name, lowered_suffixes, lowered_suffix, box_before, args_row, next_arg_before, arg_before, lowered_expr_box, lowered_expr, operands_row, lowered_operand, short_operands_row, lowered_short_operand, lowered_rel_box, lowered_rel, lowered_sum_box, lowered_sum, terms_row, lowered_next_term, lowered_term_box, lowered_term, factors_row, lowered_next_factor, lowered_factor_box, lowered_factor, lowered_primary_box, lowered_primary, lowered_name_box, lowered_aggregate_box, lowered_aggregate, further_args, lowered_args}
+use Rattle.expression_lowering.specs.LoweredExpressions.{Numbers, mark_of, sign_operator, relational_operator, adding_operator, multiplying_operator, attribute_of, chained, selected_number, before_others, selected_numbers, leading_numbers, named, lowered_name, lowered_suffixes, lowered_suffix, box_before, args_row, next_arg_before, arg_before, lowered_expr_box, lowered_expr, operands_row, lowered_operand, short_operands_row, lowered_short_operand, lowered_rel_box, lowered_rel, lowered_sum_box, lowered_sum, terms_row, lowered_next_term, lowered_term, factors_row, lowered_next_factor, lowered_factor, lowered_primary, lowered_name_box, lowered_aggregate_box, lowered_aggregate, further_args, lowered_args}
 
 lowered_suffixes_items : {n : _} (numbers : Numbers) (row : Row_of-Suffix n) → lowered_suffixes numbers row ≡ map (lowered_suffix numbers) (items-the_row-Suffix n row)
 unfolding lowered_suffixes
 lowered_suffixes_items numbers end_of-Suffix = refl
 lowered_suffixes_items numbers (more_of-Suffix part rest) = ap (λ ts. lowered_suffix numbers part ∷ ts) (lowered_suffixes_items numbers rest)
 
-lowered_suffixes_listed : (numbers : Numbers) (parts : List Suffix) → lowered_suffixes numbers (hidden-the_row-Suffix-7 parts) ≡ map (lowered_suffix numbers) parts
-lowered_suffixes_listed numbers parts = lowered_suffixes_items numbers (hidden-the_row-Suffix-7 parts) ∙ ap (map (lowered_suffix numbers)) (items_hidden-the_row-Suffix-7 parts)
+lowered_suffixes_listed : (numbers : Numbers) (parts : List Suffix) → lowered_suffixes numbers (hidden-the_row-Suffix-6 parts) ≡ map (lowered_suffix numbers) parts
+lowered_suffixes_listed numbers parts = lowered_suffixes_items numbers (hidden-the_row-Suffix-6 parts) ∙ ap (map (lowered_suffix numbers)) (items_hidden-the_row-Suffix-6 parts)
 
 operands_row_items : {n : _} (numbers : Numbers) (by : Operator) (row : Row_of-Operand n) → operands_row numbers by row ≡ map (lowered_operand numbers by) (items-the_row-Operand n row)
 unfolding operands_row
@@ -77,16 +77,16 @@ unfolding terms_row
 terms_row_items numbers end_of-NextTerm = refl
 terms_row_items numbers (more_of-NextTerm part rest) = ap (λ ts. lowered_next_term numbers part ∷ ts) (terms_row_items numbers rest)
 
-terms_row_listed : (numbers : Numbers) (parts : List NextTerm) → terms_row numbers (hidden-the_row-NextTerm-13 parts) ≡ map (lowered_next_term numbers) parts
-terms_row_listed numbers parts = terms_row_items numbers (hidden-the_row-NextTerm-13 parts) ∙ ap (map (lowered_next_term numbers)) (items_hidden-the_row-NextTerm-13 parts)
+terms_row_listed : (numbers : Numbers) (parts : List NextTerm) → terms_row numbers (hidden-the_row-NextTerm-10 parts) ≡ map (lowered_next_term numbers) parts
+terms_row_listed numbers parts = terms_row_items numbers (hidden-the_row-NextTerm-10 parts) ∙ ap (map (lowered_next_term numbers)) (items_hidden-the_row-NextTerm-10 parts)
 
 factors_row_items : {n : _} (numbers : Numbers) (row : Row_of-NextFactor n) → factors_row numbers row ≡ map (lowered_next_factor numbers) (items-the_row-NextFactor n row)
 unfolding factors_row
 factors_row_items numbers end_of-NextFactor = refl
 factors_row_items numbers (more_of-NextFactor part rest) = ap (λ ts. lowered_next_factor numbers part ∷ ts) (factors_row_items numbers rest)
 
-factors_row_listed : (numbers : Numbers) (parts : List NextFactor) → factors_row numbers (hidden-the_row-NextFactor-14 parts) ≡ map (lowered_next_factor numbers) parts
-factors_row_listed numbers parts = factors_row_items numbers (hidden-the_row-NextFactor-14 parts) ∙ ap (map (lowered_next_factor numbers)) (items_hidden-the_row-NextFactor-14 parts)
+factors_row_listed : (numbers : Numbers) (parts : List NextFactor) → factors_row numbers (hidden-the_row-NextFactor-11 parts) ≡ map (lowered_next_factor numbers) parts
+factors_row_listed numbers parts = factors_row_items numbers (hidden-the_row-NextFactor-11 parts) ∙ ap (map (lowered_next_factor numbers)) (items_hidden-the_row-NextFactor-11 parts)
 
 args_row_items : {n : _} (numbers : Numbers) (row : Row_of-NextArg n) → args_row numbers row ≡ further_args numbers (items-the_row-NextArg n row)
 unfolding args_row
@@ -101,12 +101,12 @@ unfolding selected_numbers
 selected_numbers_items numbers end_of-Suffix = refl
 selected_numbers_items numbers (more_of-Suffix part rest) = ap (before_others (selected_number numbers part)) (selected_numbers_items numbers rest)
 
-selected_numbers_listed : (numbers : Numbers) (parts : List Suffix) → selected_numbers numbers (hidden-the_row-Suffix-7 parts) ≡ leading_numbers numbers parts
-selected_numbers_listed numbers parts = selected_numbers_items numbers (hidden-the_row-Suffix-7 parts) ∙ ap (leading_numbers numbers) (items_hidden-the_row-Suffix-7 parts)
+selected_numbers_listed : (numbers : Numbers) (parts : List Suffix) → selected_numbers numbers (hidden-the_row-Suffix-6 parts) ≡ leading_numbers numbers parts
+selected_numbers_listed numbers parts = selected_numbers_items numbers (hidden-the_row-Suffix-6 parts) ∙ ap (leading_numbers numbers) (items_hidden-the_row-Suffix-6 parts)
 
 pub name-Prefixed : (numbers : Numbers) (pos : Pos) (first : Identifier) (rest : List Suffix) → lowered_name numbers (name.Prefixed pos first rest) ≡ named numbers pos first (leading_numbers numbers rest) (map (lowered_suffix numbers) rest)
 unfolding lowered_name
-name-Prefixed numbers pos first rest = ap (λ ns. named numbers pos first ns (lowered_suffixes numbers (hidden-the_row-Suffix-7 rest))) (selected_numbers_listed numbers rest)
+name-Prefixed numbers pos first rest = ap (λ ns. named numbers pos first ns (lowered_suffixes numbers (hidden-the_row-Suffix-6 rest))) (selected_numbers_listed numbers rest)
     ∙ ap (named numbers pos first (leading_numbers numbers rest)) (lowered_suffixes_listed numbers rest)
 
 pub suffix-Selected : (numbers : Numbers) (pos : Pos) (selector : Identifier) → lowered_suffix numbers (suffix.Selected pos selector) ≡ t.Selected selector.text
@@ -174,43 +174,43 @@ unfolding lowered_short_operand lowered_rel_box hidden-the_row-Rel-3 shape-the_r
 short_operand-FurtherShortOperand numbers by pos second_word relation = refl
 
 pub rel-LoneSum : (numbers : Numbers) (pos : Pos) (operand : Sum) → lowered_rel numbers (rel.LoneSum pos operand) ≡ lowered_sum numbers operand
-unfolding lowered_rel lowered_sum_box hidden-the_row-Sum-12 shape-the_row-Sum-12 hidden
+unfolding lowered_rel
 rel-LoneSum numbers pos operand = refl
 
 pub rel-Compared : (numbers : Numbers) (pos : Pos) (left : Sum) (operator : RelationalOperator) (operator_pos : Pos) (right : Sum) → lowered_rel numbers (rel.Compared pos left operator operator_pos right) ≡ t.Binary pos (relational_operator operator) (lowered_sum numbers left) (lowered_sum numbers right)
-unfolding lowered_rel lowered_sum_box hidden-the_row-Sum-12 shape-the_row-Sum-12 hidden
+unfolding lowered_rel lowered_sum_box hidden-the_row-Sum-9 shape-the_row-Sum-9 hidden
 rel-Compared numbers pos left operator operator_pos right = refl
 
 pub sum-Unsigned : (numbers : Numbers) (pos : Pos) (first : Term) (rest : List NextTerm) → lowered_sum numbers (sum.Unsigned pos first rest) ≡ chained pos (lowered_term numbers first) (map (lowered_next_term numbers) rest)
-unfolding lowered_sum lowered_term_box hidden-the_row-Term-9 shape-the_row-Term-9 hidden
+unfolding lowered_sum
 sum-Unsigned numbers pos first rest = ap (chained pos (lowered_term numbers first)) (terms_row_listed numbers rest)
 
 pub sum-Signed : (numbers : Numbers) (pos : Pos) (sign : Sign) (first : Term) (rest : List NextTerm) → lowered_sum numbers (sum.Signed pos sign first rest) ≡ chained pos (t.Unary pos (sign_operator sign) (lowered_term numbers first)) (map (lowered_next_term numbers) rest)
-unfolding lowered_sum lowered_term_box hidden-the_row-Term-9 shape-the_row-Term-9 hidden
+unfolding lowered_sum
 sum-Signed numbers pos sign first rest = ap (chained pos (t.Unary pos (sign_operator sign) (lowered_term numbers first))) (terms_row_listed numbers rest)
 
 pub next_term-FurtherTerm : (numbers : Numbers) (pos : Pos) (operator : AddingOperator) (part : Term) → lowered_next_term numbers (next_term.FurtherTerm pos operator part) ≡ (adding_operator operator, lowered_term numbers part)
-unfolding lowered_next_term lowered_term_box hidden-the_row-Term-9 shape-the_row-Term-9 hidden
+unfolding lowered_next_term
 next_term-FurtherTerm numbers pos operator part = refl
 
 pub term-Product : (numbers : Numbers) (pos : Pos) (first : Factor) (rest : List NextFactor) → lowered_term numbers (term.Product pos first rest) ≡ chained pos (lowered_factor numbers first) (map (lowered_next_factor numbers) rest)
-unfolding lowered_term lowered_factor_box hidden-the_row-Factor-8 shape-the_row-Factor-8 hidden
+unfolding lowered_term
 term-Product numbers pos first rest = ap (chained pos (lowered_factor numbers first)) (factors_row_listed numbers rest)
 
 pub next_factor-FurtherFactor : (numbers : Numbers) (pos : Pos) (operator : MultiplyingOperator) (part : Factor) → lowered_next_factor numbers (next_factor.FurtherFactor pos operator part) ≡ (multiplying_operator operator, lowered_factor numbers part)
-unfolding lowered_next_factor lowered_factor_box hidden-the_row-Factor-8 shape-the_row-Factor-8 hidden
+unfolding lowered_next_factor
 next_factor-FurtherFactor numbers pos operator part = refl
 
 pub factor-LonePrimary : (numbers : Numbers) (pos : Pos) (operand : Primary) → lowered_factor numbers (factor.LonePrimary pos operand) ≡ lowered_primary numbers operand
-unfolding lowered_factor lowered_primary_box hidden-the_row-Primary-6 shape-the_row-Primary-6 hidden
+unfolding lowered_factor
 factor-LonePrimary numbers pos operand = refl
 
 pub factor-Abs : (numbers : Numbers) (pos : Pos) (operand : Primary) → lowered_factor numbers (factor.Abs pos operand) ≡ t.Unary pos unary.Abs (lowered_primary numbers operand)
-unfolding lowered_factor lowered_primary_box hidden-the_row-Primary-6 shape-the_row-Primary-6 hidden
+unfolding lowered_factor
 factor-Abs numbers pos operand = refl
 
 pub factor-Not : (numbers : Numbers) (pos : Pos) (operand : Primary) → lowered_factor numbers (factor.Not pos operand) ≡ t.Unary pos unary.Not (lowered_primary numbers operand)
-unfolding lowered_factor lowered_primary_box hidden-the_row-Primary-6 shape-the_row-Primary-6 hidden
+unfolding lowered_factor
 factor-Not numbers pos operand = refl
 
 pub primary-Number : (numbers : Numbers) (pos : Pos) (value : ℕ) → lowered_primary numbers (primary.Number pos value) ≡ t.Number pos value
@@ -226,7 +226,7 @@ unfolding lowered_primary
 primary-Null numbers pos = refl
 
 pub primary-Named : (numbers : Numbers) (pos : Pos) (part : Name) → lowered_primary numbers (primary.Named pos part) ≡ lowered_name numbers part
-unfolding lowered_primary lowered_name_box hidden-the_row-Name-10 shape-the_row-Name-10 hidden
+unfolding lowered_primary lowered_name_box hidden-the_row-Name-7 shape-the_row-Name-7 hidden
 primary-Named numbers pos part = refl
 
 pub primary-Parenthesized : (numbers : Numbers) (pos : Pos) (part : Expr) (right_paren : Pos) → lowered_primary numbers (primary.Parenthesized pos part right_paren) ≡ t.Parens pos (lowered_expr numbers part)
@@ -234,7 +234,7 @@ unfolding lowered_primary lowered_expr_box hidden-the_row-Expr-2 shape-the_row-E
 primary-Parenthesized numbers pos part right_paren = refl
 
 pub primary-Aggregated : (numbers : Numbers) (pos : Pos) (part : Aggregate) → lowered_primary numbers (primary.Aggregated pos part) ≡ lowered_aggregate numbers part
-unfolding lowered_primary lowered_aggregate_box hidden-the_row-Aggregate-11 shape-the_row-Aggregate-11 hidden
+unfolding lowered_primary lowered_aggregate_box hidden-the_row-Aggregate-8 shape-the_row-Aggregate-8 hidden
 primary-Aggregated numbers pos part = refl
 
 pub primary-Allocated : (numbers : Numbers) (pos : Pos) (mark : Dotted) → lowered_primary numbers (primary.Allocated pos mark) ≡ t.New pos (mark_of numbers mark) t.NoMore
@@ -242,7 +242,7 @@ unfolding lowered_primary
 primary-Allocated numbers pos mark = refl
 
 pub primary-AllocatedAggregate : (numbers : Numbers) (pos : Pos) (mark : Dotted) (apostrophe : Pos) (part : Aggregate) → lowered_primary numbers (primary.AllocatedAggregate pos mark apostrophe part) ≡ t.New pos (mark_of numbers mark) (t.Argument None (lowered_aggregate numbers part) t.NoMore)
-unfolding lowered_primary lowered_aggregate_box hidden-the_row-Aggregate-11 shape-the_row-Aggregate-11 hidden
+unfolding lowered_primary lowered_aggregate_box hidden-the_row-Aggregate-8 shape-the_row-Aggregate-8 hidden
 primary-AllocatedAggregate numbers pos mark apostrophe part = refl
 
 pub primary-AllocatedValue : (numbers : Numbers) (pos : Pos) (mark : Dotted) (apostrophe : Pos) (left_paren : Pos) (value : Expr) (right_paren : Pos) → lowered_primary numbers (primary.AllocatedValue pos mark apostrophe left_paren value right_paren) ≡ t.New pos (mark_of numbers mark) (t.Argument None (lowered_expr numbers value) t.NoMore)

@@ -32,15 +32,15 @@ use Rattle.ada_tree.specs.declared.expression.ShortOperand.{ShortOperand}
 use Rattle.ada_tree.specs.declared.expression.ShortOperand.TheVariants as short_operand
 use Rattle.ada_tree.specs.declared.expression.Rel.{Rel, Row_of-Sum, end_of-Sum, more_of-Sum}
 use Rattle.ada_tree.specs.declared.expression.Rel.TheVariants as rel
-use Rattle.ada_tree.specs.declared.expression.Sum.{Sum, Row_of-Term, end_of-Term, more_of-Term, Row_of-NextTerm, end_of-NextTerm, more_of-NextTerm}
+use Rattle.ada_tree.specs.declared.expression.Sum.{Sum, Row_of-NextTerm, end_of-NextTerm, more_of-NextTerm}
 use Rattle.ada_tree.specs.declared.expression.Sum.TheVariants as sum
 use Rattle.ada_tree.specs.declared.expression.NextTerm.{NextTerm}
 use Rattle.ada_tree.specs.declared.expression.NextTerm.TheVariants as next_term
-use Rattle.ada_tree.specs.declared.expression.Term.{Term, Row_of-Factor, end_of-Factor, more_of-Factor, Row_of-NextFactor, end_of-NextFactor, more_of-NextFactor}
+use Rattle.ada_tree.specs.declared.expression.Term.{Term, Row_of-NextFactor, end_of-NextFactor, more_of-NextFactor}
 use Rattle.ada_tree.specs.declared.expression.Term.TheVariants as term
 use Rattle.ada_tree.specs.declared.expression.NextFactor.{NextFactor}
 use Rattle.ada_tree.specs.declared.expression.NextFactor.TheVariants as next_factor
-use Rattle.ada_tree.specs.declared.expression.Factor.{Factor, Row_of-Primary, end_of-Primary, more_of-Primary}
+use Rattle.ada_tree.specs.declared.expression.Factor.{Factor}
 use Rattle.ada_tree.specs.declared.expression.Factor.TheVariants as factor
 use Rattle.ada_tree.specs.declared.expression.Primary.{Primary, Row_of-Name, end_of-Name, more_of-Name, Row_of-Aggregate, end_of-Aggregate, more_of-Aggregate}
 use Rattle.ada_tree.specs.declared.expression.Primary.TheVariants as primary
@@ -248,7 +248,7 @@ unfoldable mutual
 
   -- rel = sum [("=" | "/=" | "<" | "<=" | ">" | ">=") sum]
   pub lowered_rel : Numbers → Rel → Tree
-  lowered_rel numbers (rel.LoneSum' pos _ operand) = lowered_sum_box numbers operand
+  lowered_rel numbers (rel.LoneSum pos operand) = lowered_sum numbers operand
   lowered_rel numbers (rel.Compared' pos _ left operator operator_pos _ right) =
       t.Binary pos (relational_operator operator) (lowered_sum_box numbers left) (lowered_sum_box numbers right)
 
@@ -258,49 +258,37 @@ unfoldable mutual
 
   -- sum = ["+" | "-"] term {("+" | "-" | "&") term}: the sign belongs to the first term
   pub lowered_sum : Numbers → Sum → Tree
-  lowered_sum numbers (sum.Unsigned' pos _ first _ rest) =
-      chained pos (lowered_term_box numbers first) (terms_row numbers rest)
-  lowered_sum numbers (sum.Signed' pos sign _ first _ rest) =
-      chained pos (t.Unary pos (sign_operator sign) (lowered_term_box numbers first)) (terms_row numbers rest)
+  lowered_sum numbers (sum.Unsigned' pos first _ rest) =
+      chained pos (lowered_term numbers first) (terms_row numbers rest)
+  lowered_sum numbers (sum.Signed' pos sign first _ rest) =
+      chained pos (t.Unary pos (sign_operator sign) (lowered_term numbers first)) (terms_row numbers rest)
 
   pub terms_row : {n : _} → Numbers → Row_of-NextTerm n → List (Operator × Tree)
   terms_row numbers end_of-NextTerm = []
   terms_row numbers (more_of-NextTerm part rest) = lowered_next_term numbers part ∷ terms_row numbers rest
 
   pub lowered_next_term : Numbers → NextTerm → Operator × Tree
-  lowered_next_term numbers (next_term.FurtherTerm' pos operator _ part) =
-      (adding_operator operator, lowered_term_box numbers part)
-
-  pub lowered_term_box : {n : _} → Numbers → Row_of-Term n → Tree
-  lowered_term_box numbers end_of-Term = t.NoMore
-  lowered_term_box numbers (more_of-Term part rest) = lowered_term numbers part
+  lowered_next_term numbers (next_term.FurtherTerm pos operator part) =
+      (adding_operator operator, lowered_term numbers part)
 
   -- term = factor {("*" | "/" | "mod" | "rem") factor}
   pub lowered_term : Numbers → Term → Tree
-  lowered_term numbers (term.Product' pos _ first _ rest) =
-      chained pos (lowered_factor_box numbers first) (factors_row numbers rest)
+  lowered_term numbers (term.Product' pos first _ rest) =
+      chained pos (lowered_factor numbers first) (factors_row numbers rest)
 
   pub factors_row : {n : _} → Numbers → Row_of-NextFactor n → List (Operator × Tree)
   factors_row numbers end_of-NextFactor = []
   factors_row numbers (more_of-NextFactor part rest) = lowered_next_factor numbers part ∷ factors_row numbers rest
 
   pub lowered_next_factor : Numbers → NextFactor → Operator × Tree
-  lowered_next_factor numbers (next_factor.FurtherFactor' pos operator _ part) =
-      (multiplying_operator operator, lowered_factor_box numbers part)
-
-  pub lowered_factor_box : {n : _} → Numbers → Row_of-Factor n → Tree
-  lowered_factor_box numbers end_of-Factor = t.NoMore
-  lowered_factor_box numbers (more_of-Factor part rest) = lowered_factor numbers part
+  lowered_next_factor numbers (next_factor.FurtherFactor pos operator part) =
+      (multiplying_operator operator, lowered_factor numbers part)
 
   -- factor = primary | "abs" primary | "not" primary
   pub lowered_factor : Numbers → Factor → Tree
-  lowered_factor numbers (factor.LonePrimary' pos _ operand) = lowered_primary_box numbers operand
-  lowered_factor numbers (factor.Abs' pos _ operand) = t.Unary pos unary.Abs (lowered_primary_box numbers operand)
-  lowered_factor numbers (factor.Not' pos _ operand) = t.Unary pos unary.Not (lowered_primary_box numbers operand)
-
-  pub lowered_primary_box : {n : _} → Numbers → Row_of-Primary n → Tree
-  lowered_primary_box numbers end_of-Primary = t.NoMore
-  lowered_primary_box numbers (more_of-Primary part rest) = lowered_primary numbers part
+  lowered_factor numbers (factor.LonePrimary pos operand) = lowered_primary numbers operand
+  lowered_factor numbers (factor.Abs pos operand) = t.Unary pos unary.Abs (lowered_primary numbers operand)
+  lowered_factor numbers (factor.Not pos operand) = t.Unary pos unary.Not (lowered_primary numbers operand)
 
   -- primary = number | string | "null" | name | "(" expr ")" | aggregate | "new" mark ["'"
   -- (aggregate | "(" expr ")")]

@@ -101,14 +101,14 @@ fn next_term_parts(tree: &NextTerm) -> (Pos, AddingOperator, &Term)
         operator,
         term,
     } = tree;
-    (*pos, *operator, term.get())
+    (*pos, *operator, term)
 }
 
 fn term_parts(tree: &Term) -> (Pos, &Factor, &[NextFactor])
     ensures { tree.now ≡ Term.Product result.0 result.1.now result.2.now }
 {
     let Term::Product { pos, first, rest } = tree;
-    (*pos, first.get(), rest.as_slice())
+    (*pos, first, rest.as_slice())
 }
 
 fn next_factor_parts(tree: &NextFactor) -> (Pos, MultiplyingOperator, &Factor)
@@ -119,7 +119,7 @@ fn next_factor_parts(tree: &NextFactor) -> (Pos, MultiplyingOperator, &Factor)
         operator,
         factor,
     } = tree;
-    (*pos, *operator, factor.get())
+    (*pos, *operator, factor)
 }
 
 /// An operator behind its left operand.
@@ -473,7 +473,7 @@ fn rel(tree: &Rel, numbers: &NumberIndex, rows: &mut Rows) -> Result<usize, Allo
     ensures grew { Grew rows.old rows.new }
 {
     match tree {
-        Rel::LoneSum { sum: operand, .. } => sum(operand.get(), numbers, rows),
+        Rel::LoneSum { sum: operand, .. } => sum(operand, numbers, rows),
         Rel::Compared {
             pos,
             left,
@@ -495,7 +495,7 @@ fn sum(tree: &Sum, numbers: &NumberIndex, rows: &mut Rows) -> Result<usize, Allo
 {
     match tree {
         Sum::Unsigned { pos, first, rest } => {
-            let left = term(first.get(), numbers, rows)?;
+            let left = term(first, numbers, rows)?;
             next_terms(rest.as_slice(), *pos, left, numbers, rows)
         }
         Sum::Signed {
@@ -504,7 +504,7 @@ fn sum(tree: &Sum, numbers: &NumberIndex, rows: &mut Rows) -> Result<usize, Allo
             first,
             rest,
         } => {
-            let operand = term(first.get(), numbers, rows)?;
+            let operand = term(first, numbers, rows)?;
             let left = unary(*pos, sign_operator(*sign), operand, rows)?;
             next_terms(rest.as_slice(), *pos, left, numbers, rows)
         }
@@ -574,19 +574,19 @@ fn factor(tree: &Factor, numbers: &NumberIndex, rows: &mut Rows) -> Result<usize
         Factor::LonePrimary {
             primary: operand,
             ..
-        } => primary(operand.get(), numbers, rows),
+        } => primary(operand, numbers, rows),
         Factor::Abs {
             pos,
             primary: operand,
         } => {
-            let operand = primary(operand.get(), numbers, rows)?;
+            let operand = primary(operand, numbers, rows)?;
             unary(*pos, UnaryOperator::Abs, operand, rows)
         }
         Factor::Not {
             pos,
             primary: operand,
         } => {
-            let operand = primary(operand.get(), numbers, rows)?;
+            let operand = primary(operand, numbers, rows)?;
             unary(*pos, UnaryOperator::Not, operand, rows)
         }
     }

@@ -54,16 +54,16 @@ impl<F: Fn(Global, &mut Cursor<'_, '_>, u32) -> Result<Expr, ReadFault>> Express
     {
         if tokens.sees_word(Reserved::KwAbs) {
             let pos = tokens.operator_word(Reserved::KwAbs)?;
-            let primary = boxed(self.alloc, self.primary(tokens))?;
+            let primary = self.primary(tokens)?;
             return Ok(Factor::Abs { pos, primary });
         }
         if tokens.sees_word(Reserved::KwNot) {
             let pos = tokens.operator_word(Reserved::KwNot)?;
-            let primary = boxed(self.alloc, self.primary(tokens))?;
+            let primary = self.primary(tokens)?;
             return Ok(Factor::Not { pos, primary });
         }
         let pos = tokens.position()?;
-        let primary = boxed(self.alloc, self.primary(tokens))?;
+        let primary = self.primary(tokens)?;
         Ok(Factor::LonePrimary { pos, primary })
     }
 
@@ -74,7 +74,7 @@ impl<F: Fn(Global, &mut Cursor<'_, '_>, u32) -> Result<Expr, ReadFault>> Express
         ensures { Reads (readers.next_factor_in self.now.depth (readers.expr (suc self.now.depth))) tokens.old result tokens.new }
     {
         let (operator, pos) = multiplying_operator(tokens)?;
-        let factor = boxed(self.alloc, self.factor(tokens))?;
+        let factor = self.factor(tokens)?;
         Ok(NextFactor::FurtherFactor {
             pos,
             operator,
@@ -101,7 +101,7 @@ impl<F: Fn(Global, &mut Cursor<'_, '_>, u32) -> Result<Expr, ReadFault>> Express
         ensures { Reads (readers.term_in self.now.depth (readers.expr (suc self.now.depth))) tokens.old result tokens.new }
     {
         let pos = tokens.position()?;
-        let first = boxed(self.alloc, self.factor(tokens))?;
+        let first = self.factor(tokens)?;
         let rest = self.next_factors(tokens)?;
         Ok(Term::Product { pos, first, rest })
     }
@@ -113,7 +113,7 @@ impl<F: Fn(Global, &mut Cursor<'_, '_>, u32) -> Result<Expr, ReadFault>> Express
         ensures { Reads (readers.next_term_in self.now.depth (readers.expr (suc self.now.depth))) tokens.old result tokens.new }
     {
         let (operator, pos) = adding_operator(tokens)?;
-        let term = boxed(self.alloc, self.term(tokens))?;
+        let term = self.term(tokens)?;
         Ok(NextTerm::FurtherTerm {
             pos,
             operator,
@@ -141,7 +141,7 @@ impl<F: Fn(Global, &mut Cursor<'_, '_>, u32) -> Result<Expr, ReadFault>> Express
     {
         if tokens.sees_any(&SIGN_KINDS) {
             let (sign, pos) = sign_operator(tokens)?;
-            let first = boxed(self.alloc, self.term(tokens))?;
+            let first = self.term(tokens)?;
             let rest = self.next_terms(tokens)?;
             return Ok(Sum::Signed {
                 pos,
@@ -151,7 +151,7 @@ impl<F: Fn(Global, &mut Cursor<'_, '_>, u32) -> Result<Expr, ReadFault>> Express
             });
         }
         let pos = tokens.position()?;
-        let first = boxed(self.alloc, self.term(tokens))?;
+        let first = self.term(tokens)?;
         let rest = self.next_terms(tokens)?;
         Ok(Sum::Unsigned { pos, first, rest })
     }
@@ -163,8 +163,9 @@ impl<F: Fn(Global, &mut Cursor<'_, '_>, u32) -> Result<Expr, ReadFault>> Express
         ensures { Reads (readers.rel_in self.now.depth (readers.expr (suc self.now.depth))) tokens.old result tokens.new }
     {
         let pos = tokens.position()?;
-        let left = boxed(self.alloc, self.sum(tokens))?;
+        let sum = self.sum(tokens)?;
         if tokens.sees_any(&RELATIONAL_KINDS) {
+            let left = Boxed::new(self.alloc, sum)?;
             let (operator, operator_pos) = relational_operator(tokens)?;
             let right = boxed(self.alloc, self.sum(tokens))?;
             return Ok(Rel::Compared {
@@ -175,7 +176,7 @@ impl<F: Fn(Global, &mut Cursor<'_, '_>, u32) -> Result<Expr, ReadFault>> Express
                 right,
             });
         }
-        Ok(Rel::LoneSum { pos, sum: left })
+        Ok(Rel::LoneSum { pos, sum })
     }
 
     /// (`and` | `or` | `xor`) rel

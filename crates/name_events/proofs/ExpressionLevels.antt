@@ -12,9 +12,9 @@ use Rattle.ada_tree.specs.declared.identifier.Identifier.{Identifier}
 use Rattle.ada_tree.specs.declared.identifier.Dotted.{Dotted}
 use Rattle.ada_tree.specs.declared.expression.Aggregate.{Aggregate, Row_of-NextArg, end_of-NextArg, more_of-NextArg, items-the_row-NextArg, items_hidden-the_row-NextArg-1}
 use Rattle.ada_tree.specs.declared.expression.Expr.{Expr, Row_of-Operand, end_of-Operand, more_of-Operand, items-the_row-Operand, items_hidden-the_row-Operand-4, Row_of-ShortOperand, end_of-ShortOperand, more_of-ShortOperand, items-the_row-ShortOperand, items_hidden-the_row-ShortOperand-5}
-use Rattle.ada_tree.specs.declared.expression.Sum.{Sum, Row_of-NextTerm, end_of-NextTerm, more_of-NextTerm, items-the_row-NextTerm, items_hidden-the_row-NextTerm-13}
-use Rattle.ada_tree.specs.declared.expression.Term.{Term, Row_of-NextFactor, end_of-NextFactor, more_of-NextFactor, items-the_row-NextFactor, items_hidden-the_row-NextFactor-14}
-use Rattle.ada_tree.specs.declared.expression.Name.{Name, Row_of-Suffix, end_of-Suffix, more_of-Suffix, items-the_row-Suffix, items_hidden-the_row-Suffix-7}
+use Rattle.ada_tree.specs.declared.expression.Sum.{Sum, Row_of-NextTerm, end_of-NextTerm, more_of-NextTerm, items-the_row-NextTerm, items_hidden-the_row-NextTerm-10}
+use Rattle.ada_tree.specs.declared.expression.Term.{Term, Row_of-NextFactor, end_of-NextFactor, more_of-NextFactor, items-the_row-NextFactor, items_hidden-the_row-NextFactor-11}
+use Rattle.ada_tree.specs.declared.expression.Name.{Name, Row_of-Suffix, end_of-Suffix, more_of-Suffix, items-the_row-Suffix, items_hidden-the_row-Suffix-6}
 use Rattle.ada_tree.specs.declared.expression.Aggregate.TheVariants as aggregate
 use Rattle.ada_tree.specs.declared.expression.Arg.{Arg}
 use Rattle.ada_tree.specs.declared.expression.Arg.TheVariants as arg
@@ -40,10 +40,10 @@ use Rattle.ada_tree.specs.declared.expression.Primary.TheVariants as primary
 use Rattle.ada_tree.specs.declared.expression.Name.TheVariants as name
 use Rattle.ada_tree.specs.declared.expression.Suffix.{Suffix}
 use Rattle.ada_tree.specs.declared.expression.Suffix.TheVariants as suffix
-use Rattle.ada_tree.specs.declared.expression.Aggregate.TheBlock.{shape-the_row-Arg-0, hidden-the_row-Arg-0, shape-the_row-Expr-2, hidden-the_row-Expr-2, shape-the_row-Rel-3, hidden-the_row-Rel-3, shape-the_row-Primary-6, hidden-the_row-Primary-6, shape-the_row-Factor-8, hidden-the_row-Factor-8, shape-the_row-Term-9, hidden-the_row-Term-9, shape-the_row-Name-10, hidden-the_row-Name-10, shape-the_row-Aggregate-11, hidden-the_row-Aggregate-11, shape-the_row-Sum-12, hidden-the_row-Sum-12, hidden-the_row-NextArg-1, hidden-the_row-Operand-4, hidden-the_row-ShortOperand-5, hidden-the_row-Suffix-7, hidden-the_row-NextTerm-13, hidden-the_row-NextFactor-14}
+use Rattle.ada_tree.specs.declared.expression.Aggregate.TheBlock.{shape-the_row-Arg-0, hidden-the_row-Arg-0, shape-the_row-Expr-2, hidden-the_row-Expr-2, shape-the_row-Rel-3, hidden-the_row-Rel-3, shape-the_row-Name-7, hidden-the_row-Name-7, shape-the_row-Aggregate-8, hidden-the_row-Aggregate-8, shape-the_row-Sum-9, hidden-the_row-Sum-9, hidden-the_row-NextArg-1, hidden-the_row-Operand-4, hidden-the_row-ShortOperand-5, hidden-the_row-Suffix-6, hidden-the_row-NextTerm-10, hidden-the_row-NextFactor-11}
 use Rattle.name_events.specs.declared.event.Event.TheVariants as e
 use Rattle.name_events.specs.declared.event.Clause.TheVariants as clause
-use Rattle.name_events.specs.ExpressionOutline.{named, mention, selector, before_others, selectors, leading, aggregate_box_events, aggregate_events, arg_box_events, arg_events, expr_box_events, expr_events, factor_box_events, factor_events, name_box_events, name_events, next_arg_events, next_args_events, next_factor_events, next_factors_events, next_term_events, next_terms_events, operand_events, operands_events, primary_box_events, primary_events, rel_box_events, rel_events, short_operand_events, short_operands_events, suffix_events, suffixes_events, sum_box_events, sum_events, term_box_events, term_events}
+use Rattle.name_events.specs.ExpressionOutline.{named, mention, selector, before_others, selectors, leading, aggregate_box_events, aggregate_events, arg_box_events, arg_events, expr_box_events, expr_events, factor_events, name_box_events, name_events, next_arg_events, next_args_events, next_factor_events, next_factors_events, next_term_events, next_terms_events, operand_events, operands_events, primary_events, rel_box_events, rel_events, short_operand_events, short_operands_events, suffix_events, suffixes_events, sum_box_events, sum_events, term_events}
 
 next_args_row : {n : _} (row : Row_of-NextArg n) → next_args_events row ≡ flat_map next_arg_events (items-the_row-NextArg n row)
 unfolding next_args_events
@@ -74,36 +74,36 @@ unfolding suffixes_events
 suffixes_row end_of-Suffix = refl
 suffixes_row (more_of-Suffix part rest) = ap (λ es. suffix_events part ++ es) (suffixes_row rest)
 
-suffixes_listed : (parts : List Suffix) → suffixes_events (hidden-the_row-Suffix-7 parts) ≡ flat_map suffix_events parts
-suffixes_listed parts = suffixes_row (hidden-the_row-Suffix-7 parts) ∙ ap (flat_map suffix_events) (items_hidden-the_row-Suffix-7 parts)
+suffixes_listed : (parts : List Suffix) → suffixes_events (hidden-the_row-Suffix-6 parts) ≡ flat_map suffix_events parts
+suffixes_listed parts = suffixes_row (hidden-the_row-Suffix-6 parts) ∙ ap (flat_map suffix_events) (items_hidden-the_row-Suffix-6 parts)
 
 next_terms_row : {n : _} (row : Row_of-NextTerm n) → next_terms_events row ≡ flat_map next_term_events (items-the_row-NextTerm n row)
 unfolding next_terms_events
 next_terms_row end_of-NextTerm = refl
 next_terms_row (more_of-NextTerm part rest) = ap (λ es. next_term_events part ++ es) (next_terms_row rest)
 
-next_terms_listed : (parts : List NextTerm) → next_terms_events (hidden-the_row-NextTerm-13 parts) ≡ flat_map next_term_events parts
-next_terms_listed parts = next_terms_row (hidden-the_row-NextTerm-13 parts) ∙ ap (flat_map next_term_events) (items_hidden-the_row-NextTerm-13 parts)
+next_terms_listed : (parts : List NextTerm) → next_terms_events (hidden-the_row-NextTerm-10 parts) ≡ flat_map next_term_events parts
+next_terms_listed parts = next_terms_row (hidden-the_row-NextTerm-10 parts) ∙ ap (flat_map next_term_events) (items_hidden-the_row-NextTerm-10 parts)
 
 next_factors_row : {n : _} (row : Row_of-NextFactor n) → next_factors_events row ≡ flat_map next_factor_events (items-the_row-NextFactor n row)
 unfolding next_factors_events
 next_factors_row end_of-NextFactor = refl
 next_factors_row (more_of-NextFactor part rest) = ap (λ es. next_factor_events part ++ es) (next_factors_row rest)
 
-next_factors_listed : (parts : List NextFactor) → next_factors_events (hidden-the_row-NextFactor-14 parts) ≡ flat_map next_factor_events parts
-next_factors_listed parts = next_factors_row (hidden-the_row-NextFactor-14 parts) ∙ ap (flat_map next_factor_events) (items_hidden-the_row-NextFactor-14 parts)
+next_factors_listed : (parts : List NextFactor) → next_factors_events (hidden-the_row-NextFactor-11 parts) ≡ flat_map next_factor_events parts
+next_factors_listed parts = next_factors_row (hidden-the_row-NextFactor-11 parts) ∙ ap (flat_map next_factor_events) (items_hidden-the_row-NextFactor-11 parts)
 
 leading_row : {n : _} (row : Row_of-Suffix n) → selectors row ≡ leading (items-the_row-Suffix n row)
 unfolding selectors
 leading_row end_of-Suffix = refl
 leading_row (more_of-Suffix part rest) = ap (before_others (selector part)) (leading_row rest)
 
-leading_listed : (parts : List Suffix) → selectors (hidden-the_row-Suffix-7 parts) ≡ leading parts
-leading_listed parts = leading_row (hidden-the_row-Suffix-7 parts) ∙ ap leading (items_hidden-the_row-Suffix-7 parts)
+leading_listed : (parts : List Suffix) → selectors (hidden-the_row-Suffix-6 parts) ≡ leading parts
+leading_listed parts = leading_row (hidden-the_row-Suffix-6 parts) ∙ ap leading (items_hidden-the_row-Suffix-6 parts)
 
 pub name-Prefixed : (pos : Pos) (first : Identifier) (rest : List Suffix) → name_events (name.Prefixed pos first rest) ≡ e.Mentions clause.Elsewhere (named first (leading rest)) ∷ flat_map suffix_events rest
 unfolding name_events
-name-Prefixed pos first rest = ap (λ selectors. e.Mentions clause.Elsewhere (named first selectors) ∷ suffixes_events (hidden-the_row-Suffix-7 rest)) (leading_listed rest)
+name-Prefixed pos first rest = ap (λ selectors. e.Mentions clause.Elsewhere (named first selectors) ∷ suffixes_events (hidden-the_row-Suffix-6 rest)) (leading_listed rest)
     ∙ ap (λ es. e.Mentions clause.Elsewhere (named first (leading rest)) ∷ es) (suffixes_listed rest)
 
 pub suffix-Selected : (pos : Pos) (selector : Identifier) → suffix_events (suffix.Selected pos selector) ≡ []
@@ -171,43 +171,43 @@ unfolding short_operand_events rel_box_events hidden-the_row-Rel-3 shape-the_row
 short_operand-FurtherShortOperand pos second_word relation = refl
 
 pub rel-LoneSum : (pos : Pos) (operand : Sum) → rel_events (rel.LoneSum pos operand) ≡ sum_events operand
-unfolding rel_events sum_box_events hidden-the_row-Sum-12 shape-the_row-Sum-12 hidden
+unfolding rel_events
 rel-LoneSum pos operand = refl
 
 pub rel-Compared : (pos : Pos) (left : Sum) (operator : RelationalOperator) (operator_pos : Pos) (right : Sum) → rel_events (rel.Compared pos left operator operator_pos right) ≡ sum_events left ++ sum_events right
-unfolding rel_events sum_box_events hidden-the_row-Sum-12 shape-the_row-Sum-12 hidden
+unfolding rel_events sum_box_events hidden-the_row-Sum-9 shape-the_row-Sum-9 hidden
 rel-Compared pos left operator operator_pos right = refl
 
 pub sum-Unsigned : (pos : Pos) (first : Term) (rest : List NextTerm) → sum_events (sum.Unsigned pos first rest) ≡ term_events first ++ flat_map next_term_events rest
-unfolding sum_events term_box_events hidden-the_row-Term-9 shape-the_row-Term-9 hidden
+unfolding sum_events
 sum-Unsigned pos first rest = ap (λ es. term_events first ++ es) (next_terms_listed rest)
 
 pub sum-Signed : (pos : Pos) (sign : Sign) (first : Term) (rest : List NextTerm) → sum_events (sum.Signed pos sign first rest) ≡ term_events first ++ flat_map next_term_events rest
-unfolding sum_events term_box_events hidden-the_row-Term-9 shape-the_row-Term-9 hidden
+unfolding sum_events
 sum-Signed pos sign first rest = ap (λ es. term_events first ++ es) (next_terms_listed rest)
 
 pub next_term-FurtherTerm : (pos : Pos) (operator : AddingOperator) (part : Term) → next_term_events (next_term.FurtherTerm pos operator part) ≡ term_events part
-unfolding next_term_events term_box_events hidden-the_row-Term-9 shape-the_row-Term-9 hidden
+unfolding next_term_events
 next_term-FurtherTerm pos operator part = refl
 
 pub term-Product : (pos : Pos) (first : Factor) (rest : List NextFactor) → term_events (term.Product pos first rest) ≡ factor_events first ++ flat_map next_factor_events rest
-unfolding term_events factor_box_events hidden-the_row-Factor-8 shape-the_row-Factor-8 hidden
+unfolding term_events
 term-Product pos first rest = ap (λ es. factor_events first ++ es) (next_factors_listed rest)
 
 pub next_factor-FurtherFactor : (pos : Pos) (operator : MultiplyingOperator) (part : Factor) → next_factor_events (next_factor.FurtherFactor pos operator part) ≡ factor_events part
-unfolding next_factor_events factor_box_events hidden-the_row-Factor-8 shape-the_row-Factor-8 hidden
+unfolding next_factor_events
 next_factor-FurtherFactor pos operator part = refl
 
 pub factor-LonePrimary : (pos : Pos) (operand : Primary) → factor_events (factor.LonePrimary pos operand) ≡ primary_events operand
-unfolding factor_events primary_box_events hidden-the_row-Primary-6 shape-the_row-Primary-6 hidden
+unfolding factor_events
 factor-LonePrimary pos operand = refl
 
 pub factor-Abs : (pos : Pos) (operand : Primary) → factor_events (factor.Abs pos operand) ≡ primary_events operand
-unfolding factor_events primary_box_events hidden-the_row-Primary-6 shape-the_row-Primary-6 hidden
+unfolding factor_events
 factor-Abs pos operand = refl
 
 pub factor-Not : (pos : Pos) (operand : Primary) → factor_events (factor.Not pos operand) ≡ primary_events operand
-unfolding factor_events primary_box_events hidden-the_row-Primary-6 shape-the_row-Primary-6 hidden
+unfolding factor_events
 factor-Not pos operand = refl
 
 pub primary-Number : (pos : Pos) (number : ℕ) → primary_events (primary.Number pos number) ≡ []
@@ -223,7 +223,7 @@ unfolding primary_events
 primary-Null pos = refl
 
 pub primary-Named : (pos : Pos) (part : Name) → primary_events (primary.Named pos part) ≡ name_events part
-unfolding primary_events name_box_events hidden-the_row-Name-10 shape-the_row-Name-10 hidden
+unfolding primary_events name_box_events hidden-the_row-Name-7 shape-the_row-Name-7 hidden
 primary-Named pos part = refl
 
 pub primary-Parenthesized : (pos : Pos) (part : Expr) (right_paren : Pos) → primary_events (primary.Parenthesized pos part right_paren) ≡ expr_events part
@@ -231,7 +231,7 @@ unfolding primary_events expr_box_events hidden-the_row-Expr-2 shape-the_row-Exp
 primary-Parenthesized pos part right_paren = refl
 
 pub primary-Aggregated : (pos : Pos) (part : Aggregate) → primary_events (primary.Aggregated pos part) ≡ aggregate_events part
-unfolding primary_events aggregate_box_events hidden-the_row-Aggregate-11 shape-the_row-Aggregate-11 hidden
+unfolding primary_events aggregate_box_events hidden-the_row-Aggregate-8 shape-the_row-Aggregate-8 hidden
 primary-Aggregated pos part = refl
 
 pub primary-Allocated : (pos : Pos) (mark : Dotted) → primary_events (primary.Allocated pos mark) ≡ mention clause.Elsewhere mark ∷ []
@@ -239,7 +239,7 @@ unfolding primary_events
 primary-Allocated pos mark = refl
 
 pub primary-AllocatedAggregate : (pos : Pos) (mark : Dotted) (apostrophe : Pos) (part : Aggregate) → primary_events (primary.AllocatedAggregate pos mark apostrophe part) ≡ mention clause.Elsewhere mark ∷ aggregate_events part
-unfolding primary_events aggregate_box_events hidden-the_row-Aggregate-11 shape-the_row-Aggregate-11 hidden
+unfolding primary_events aggregate_box_events hidden-the_row-Aggregate-8 shape-the_row-Aggregate-8 hidden
 primary-AllocatedAggregate pos mark apostrophe part = refl
 
 pub primary-AllocatedValue : (pos : Pos) (mark : Dotted) (apostrophe : Pos) (left_paren : Pos) (value : Expr) (right_paren : Pos) → primary_events (primary.AllocatedValue pos mark apostrophe left_paren value right_paren) ≡ mention clause.Elsewhere mark ∷ expr_events value

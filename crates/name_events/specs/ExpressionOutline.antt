@@ -24,15 +24,15 @@ use Rattle.ada_tree.specs.declared.expression.ShortOperand.{ShortOperand}
 use Rattle.ada_tree.specs.declared.expression.ShortOperand.TheVariants as short_operand
 use Rattle.ada_tree.specs.declared.expression.Rel.{Rel, Row_of-Sum, end_of-Sum, more_of-Sum}
 use Rattle.ada_tree.specs.declared.expression.Rel.TheVariants as rel
-use Rattle.ada_tree.specs.declared.expression.Sum.{Sum, Row_of-Term, end_of-Term, more_of-Term, Row_of-NextTerm, end_of-NextTerm, more_of-NextTerm}
+use Rattle.ada_tree.specs.declared.expression.Sum.{Sum, Row_of-NextTerm, end_of-NextTerm, more_of-NextTerm}
 use Rattle.ada_tree.specs.declared.expression.Sum.TheVariants as sum
 use Rattle.ada_tree.specs.declared.expression.NextTerm.{NextTerm}
 use Rattle.ada_tree.specs.declared.expression.NextTerm.TheVariants as next_term
-use Rattle.ada_tree.specs.declared.expression.Term.{Term, Row_of-Factor, end_of-Factor, more_of-Factor, Row_of-NextFactor, end_of-NextFactor, more_of-NextFactor}
+use Rattle.ada_tree.specs.declared.expression.Term.{Term, Row_of-NextFactor, end_of-NextFactor, more_of-NextFactor}
 use Rattle.ada_tree.specs.declared.expression.Term.TheVariants as term
 use Rattle.ada_tree.specs.declared.expression.NextFactor.{NextFactor}
 use Rattle.ada_tree.specs.declared.expression.NextFactor.TheVariants as next_factor
-use Rattle.ada_tree.specs.declared.expression.Factor.{Factor, Row_of-Primary, end_of-Primary, more_of-Primary}
+use Rattle.ada_tree.specs.declared.expression.Factor.{Factor}
 use Rattle.ada_tree.specs.declared.expression.Factor.TheVariants as factor
 use Rattle.ada_tree.specs.declared.expression.Primary.{Primary, Row_of-Name, end_of-Name, more_of-Name, Row_of-Aggregate, end_of-Aggregate, more_of-Aggregate}
 use Rattle.ada_tree.specs.declared.expression.Primary.TheVariants as primary
@@ -195,7 +195,7 @@ unfoldable mutual
 
   -- rel = sum [("=" | "/=" | "<" | "<=" | ">" | ">=") sum]
   pub rel_events : Rel → Events
-  rel_events (rel.LoneSum' pos _ operand) = sum_box_events operand
+  rel_events (rel.LoneSum pos operand) = sum_events operand
   rel_events (rel.Compared' pos _ left operator operator_pos _ right) = sum_box_events left ++ sum_box_events right
 
   pub sum_box_events : {n : _} → Row_of-Sum n → Events
@@ -204,44 +204,32 @@ unfoldable mutual
 
   -- sum = ["+" | "-"] term {("+" | "-" | "&") term}
   pub sum_events : Sum → Events
-  sum_events (sum.Unsigned' pos _ first _ rest) = term_box_events first ++ next_terms_events rest
-  sum_events (sum.Signed' pos sign _ first _ rest) = term_box_events first ++ next_terms_events rest
+  sum_events (sum.Unsigned' pos first _ rest) = term_events first ++ next_terms_events rest
+  sum_events (sum.Signed' pos sign first _ rest) = term_events first ++ next_terms_events rest
 
   pub next_terms_events : {n : _} → Row_of-NextTerm n → Events
   next_terms_events end_of-NextTerm = []
   next_terms_events (more_of-NextTerm part rest) = next_term_events part ++ next_terms_events rest
 
   pub next_term_events : NextTerm → Events
-  next_term_events (next_term.FurtherTerm' pos operator _ part) = term_box_events part
-
-  pub term_box_events : {n : _} → Row_of-Term n → Events
-  term_box_events end_of-Term = []
-  term_box_events (more_of-Term part rest) = term_events part
+  next_term_events (next_term.FurtherTerm pos operator part) = term_events part
 
   -- term = factor {("*" | "/" | "mod" | "rem") factor}
   pub term_events : Term → Events
-  term_events (term.Product' pos _ first _ rest) = factor_box_events first ++ next_factors_events rest
+  term_events (term.Product' pos first _ rest) = factor_events first ++ next_factors_events rest
 
   pub next_factors_events : {n : _} → Row_of-NextFactor n → Events
   next_factors_events end_of-NextFactor = []
   next_factors_events (more_of-NextFactor part rest) = next_factor_events part ++ next_factors_events rest
 
   pub next_factor_events : NextFactor → Events
-  next_factor_events (next_factor.FurtherFactor' pos operator _ part) = factor_box_events part
-
-  pub factor_box_events : {n : _} → Row_of-Factor n → Events
-  factor_box_events end_of-Factor = []
-  factor_box_events (more_of-Factor part rest) = factor_events part
+  next_factor_events (next_factor.FurtherFactor pos operator part) = factor_events part
 
   -- factor = primary | "abs" primary | "not" primary
   pub factor_events : Factor → Events
-  factor_events (factor.LonePrimary' pos _ operand) = primary_box_events operand
-  factor_events (factor.Abs' pos _ operand) = primary_box_events operand
-  factor_events (factor.Not' pos _ operand) = primary_box_events operand
-
-  pub primary_box_events : {n : _} → Row_of-Primary n → Events
-  primary_box_events end_of-Primary = []
-  primary_box_events (more_of-Primary part rest) = primary_events part
+  factor_events (factor.LonePrimary pos operand) = primary_events operand
+  factor_events (factor.Abs pos operand) = primary_events operand
+  factor_events (factor.Not pos operand) = primary_events operand
 
   -- primary = number | string | "null" | name | "(" expr ")" | aggregate | "new" mark ["'"
   -- (aggregate | "(" expr ")")]

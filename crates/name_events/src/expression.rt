@@ -54,14 +54,14 @@ fn next_term_parts(tree: &NextTerm) -> (Pos, AddingOperator, &Term)
         operator,
         term,
     } = tree;
-    (*pos, *operator, term.get())
+    (*pos, *operator, term)
 }
 
 fn term_parts(tree: &Term) -> (Pos, &Factor, &[NextFactor])
     ensures { tree.now ≡ Term.Product result.0 result.1.now result.2.now }
 {
     let Term::Product { pos, first, rest } = tree;
-    (*pos, first.get(), rest.as_slice())
+    (*pos, first, rest.as_slice())
 }
 
 fn next_factor_parts(tree: &NextFactor) -> (Pos, MultiplyingOperator, &Factor)
@@ -72,7 +72,7 @@ fn next_factor_parts(tree: &NextFactor) -> (Pos, MultiplyingOperator, &Factor)
         operator,
         factor,
     } = tree;
-    (*pos, *operator, factor.get())
+    (*pos, *operator, factor)
 }
 
 /// name
@@ -205,7 +205,7 @@ fn rel(events: &mut EventList, tree: &Rel)
 {
     match tree {
         Rel::LoneSum { sum: operand, .. } => {
-            sum(events, operand.get());
+            sum(events, operand);
         }
         Rel::Compared { left, right, .. } => {
             sum(events, left.get());
@@ -220,7 +220,7 @@ fn sum(events: &mut EventList, tree: &Sum)
 {
     match tree {
         Sum::Unsigned { first, rest, .. } | Sum::Signed { first, rest, .. } => {
-            term(events, first.get());
+            term(events, first);
             next_terms(events, rest.as_slice());
         }
     }
@@ -270,7 +270,7 @@ fn factor(events: &mut EventList, tree: &Factor)
             primary: operand,
             ..
         } => {
-            primary(events, operand.get());
+            primary(events, operand);
         }
     }
 }
