@@ -4,7 +4,7 @@ use Rattle.std.specs.Option.{option_map}
 use Rattle.name_events.specs.declared.declaration.Declaration.{Declaration}
 use Rattle.name_events.specs.declared.declaration.OpenRegion.{OpenRegion}
 use Rattle.name_events.specs.Declarations.{Name, Entry, Search, is_named, last_of, declared_in, innermost, or_else}
-use Rattle.name_resolve.specs.Tables.{searched, noted, Answers}
+use Rattle.name_resolve.specs.Tables.{noted, Answers}
 
 pub last_of_from : {A : Type 0} (test : A → Bool) (xs : List A) (x : A) (found : Option A)
     → fold (λ found x. if test x then Some x else found) found (xs ++ x ∷ [])
@@ -23,9 +23,9 @@ declared_in-push decls w d region n =
     by true = refl
     by false = refl
 
-pub answers_noted : (old new : List (List Entry)) (decls : List Entry) (w : Name) (d : Declaration)
-    → ((r : ℕ) (n : Name) → searched new r n ≡ noted (searched old) w d r n)
-    → Answers (searched old) decls → Answers (searched new) (decls ++ (w, d) ∷ [])
+pub answers_noted : (old new : Search) (decls : List Entry) (w : Name) (d : Declaration)
+    → ((r : ℕ) (n : Name) → new r n ≡ noted old w d r n)
+    → Answers old decls → Answers new (decls ++ (w, d) ∷ [])
 answers_noted old new decls w d is answers r n =
     is r n ∙ ap (λ o. if is_named r n (w, d) then Some d else o) (answers r n) ∙ sym (declared_in-push decls w d r n)
 

@@ -2,8 +2,8 @@
 use Rattle.std.proofs.Common.{◌≡◌, refl, ap, sym, ◌∙◌, ℕ, Bool, true, false, ◌&&◌, if◌then◌else◌, List, [], ◌∷◌, ◌++◌, Option, None, Some}
 use Rattle.std.specs.Option.{option_map}
 use Rattle.name_events.specs.declared.declaration.Declaration.{Declaration}
-use Rattle.name_events.specs.Declarations.{Name, Entry, first_where, is_named, or_else}
-use Rattle.name_resolve.specs.Tables.{searched, noted_first, first_in, FirstAnswers}
+use Rattle.name_events.specs.Declarations.{Name, Entry, Search, first_where, is_named, or_else}
+use Rattle.name_resolve.specs.Tables.{noted_first, first_in, FirstAnswers}
 
 first_where-push : {A : Type 0} (test : A → Bool) (xs : List A) (x : A)
     → first_where test (xs ++ x ∷ []) ≡ or_else (first_where test xs) (if test x then Some x else None)
@@ -43,17 +43,17 @@ or_else-none None = refl
 or_else-none (Some x) = refl
 
 -- A declaration that passes the test is noted, where there is none.
-pub first_answers_noted : (test : Declaration → Bool) (old new : List (List Entry)) (entries : List Entry) (w : Name) (d : Declaration)
-    → test d ≡ true → ((r : ℕ) (n : Name) → searched new r n ≡ noted_first (searched old) w d r n)
-    → FirstAnswers test (searched old) entries → FirstAnswers test (searched new) (entries ++ (w, d) ∷ [])
+pub first_answers_noted : (test : Declaration → Bool) (old new : Search) (entries : List Entry) (w : Name) (d : Declaration)
+    → test d ≡ true → ((r : ℕ) (n : Name) → new r n ≡ noted_first old w d r n)
+    → FirstAnswers test old entries → FirstAnswers test new (entries ++ (w, d) ∷ [])
 first_answers_noted test old new entries w d passes is answers r n =
     is r n
     ∙ (λ j. or_else (answers r n j) (if sym (and_true (is_named r n (w, d)) (test d) passes) j then Some d else None))
     ∙ sym (first_in-push test entries w d r n)
 
 -- One that doesn't pass it changes no answer.
-pub first_answers_left : (test : Declaration → Bool) (old : List (List Entry)) (entries : List Entry) (w : Name) (d : Declaration)
-    → test d ≡ false → FirstAnswers test (searched old) entries → FirstAnswers test (searched old) (entries ++ (w, d) ∷ [])
+pub first_answers_left : (test : Declaration → Bool) (old : Search) (entries : List Entry) (w : Name) (d : Declaration)
+    → test d ≡ false → FirstAnswers test old entries → FirstAnswers test old (entries ++ (w, d) ∷ [])
 first_answers_left test old entries w d fails answers r n =
     answers r n ∙ sym (or_else-none (first_in test entries r n))
     ∙ (λ j. or_else (first_in test entries r n) (if sym (and_false (is_named r n (w, d)) (test d) fails) j then Some d else None))

@@ -1,4 +1,5 @@
 pub mod Tables
+pub mod Symbols
 pub mod Answering
 pub mod Firsts
 pub mod Lists

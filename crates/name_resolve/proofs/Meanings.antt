@@ -1,5 +1,5 @@
 -- What identifiers denote, by what the searches found.
-use Rattle.std.proofs.Common.{◌≡◌, refl, ap, sym, ◌∙◌, ℕ, Bool, true, false, not, ◌&&◌, if◌then◌else◌, List, Option, None, Some, is_some, reverse}
+use Rattle.std.proofs.Common.{◌≡◌, refl, ap, sym, ◌∙◌, true≢false, ℕ, Bool, true, false, not, ◌&&◌, if◌then◌else◌, List, Option, None, Some, is_some, reverse}
 use Rattle.std.specs.Prelude.{◌||◌}
 use Rattle.name_events.specs.declared.declaration.Declaration.{Declaration}
 use Rattle.name_events.specs.declared.declaration.NameRule.{NameRule}
@@ -14,8 +14,10 @@ use Rattle.name_resolve.specs.declared.sighting.Sighting.{Sighting}
 use Rattle.name_resolve.specs.declared.sighting.Sighting.TheVariants.{Nothing, One, Several}
 use Rattle.name_resolve.specs.Sightings.{sighted_all, the_one, is_any}
 use Rattle.name_events.specs.declared.declaration.DeclarationForm.{DeclarationForm}
-use Rattle.name_events.specs.Completions.{completed_by, completes_form, if_completes, may_complete}
-use Rattle.name_resolve.specs.Tables.{Answers, FirstAnswers, asks_completion, first_in}
+use Rattle.name_events.specs.declared.declaration.DeclarationForm.TheVariants as form
+use Rattle.name_events.specs.declared.declaration.RegionPart.{RegionPart}
+use Rattle.name_events.specs.Completions.{awaiting, completed_by, completes_form, if_completes, may_complete}
+use Rattle.name_resolve.specs.Tables.{Answers, asks_completion, first_in, is_completion}
 use Rattle.name_resolve.proofs.Answering.{innermost_same}
 use Rattle.name_resolve.proofs.Seeing.{any_seen, one_seen}
 
@@ -85,15 +87,40 @@ selected_absent behind now holder w rule is why =
 
 -- ---- completions
 
-pub completed_is : (now : Known) (new : DeclarationForm) (w : Name) (find : Search) (found : Option Declaration) (region : ℕ)
-    → FirstAnswers asks_completion find now.declared → region ≡ here now → found ≡ find region w
+pub completed_is : (now : Known) (new : DeclarationForm) (w : Name) (found : Option Declaration) (region : ℕ)
+    → region ≡ here now → found ≡ first_in asks_completion now.declared region w
     → if_completes now new found ≡ completed_by now new w
-completed_is now new w find found region answers at is =
-    ap (if_completes now new) (is ∙ answers region w ∙ ap (λ r. first_in asks_completion now.declared r w) at)
+completed_is now new w found region at is =
+    ap (if_completes now new) (is ∙ ap (λ r. first_in asks_completion now.declared r w) at)
 
-pub completes_there : (now : Known) (new : DeclarationForm) (w : Name) (find : Search) (d : Declaration) (b : Bool) (region : ℕ)
-    → FirstAnswers asks_completion find now.declared → region ≡ here now → Some d ≡ find region w
+-- Of a form that completes none.
+completes_none : (old new : DeclarationForm) (old_part new_part : RegionPart) → is_completion new ≡ false
+    → completes_form old old_part new new_part ≡ false
+completes_none form.IncompleteType form.FullType p q none = absurd (true≢false none)
+completes_none form.PrivateType form.FullType p q none = absurd (true≢false none)
+completes_none form.SubprogramDeclaration form.ProcedureBody p q none = absurd (true≢false none)
+completes_none form.SubprogramDeclaration form.FunctionBody p q none = absurd (true≢false none)
+completes_none _ _ p q none = refl
+
+if_none : (a b c : Bool) (d : Declaration) → b ≡ false → None ≡ (if a && (b && c) then Some d else None)
+if_none true true c d none = absurd (true≢false none)
+if_none true false c d none = refl
+if_none false b c d none = refl
+
+none_completed : (now : Known) (new : DeclarationForm) (found : Option Declaration) → is_completion new ≡ false
+    → None ≡ if_completes now new found
+none_completed now new None none = refl
+none_completed now new (Some d) none =
+    if_none (may_complete now) (completes_form d.form d.part new (part_here now)) (not (has_number d.number now.completed)) d
+    (completes_none d.form new d.part (part_here now) none)
+
+pub completes_nothing : (now : Known) (new : DeclarationForm) (w : Name) → is_completion new ≡ false
+    → None ≡ completed_by now new w
+completes_nothing now new w none = none_completed now new (awaiting now.declared (here now) w) none
+
+pub completes_there : (now : Known) (new : DeclarationForm) (w : Name) (d : Declaration) (b : Bool) (region : ℕ)
+    → region ≡ here now → Some d ≡ first_in asks_completion now.declared region w
     → b ≡ (may_complete now && (completes_form d.form d.part new (part_here now) && not (has_number d.number now.completed)))
     → (if b then Some d else None) ≡ completed_by now new w
-completes_there now new w find d b region answers at is completes =
-    ap (λ b. if b then Some d else None) completes ∙ completed_is now new w find (Some d) region answers at is
+completes_there now new w d b region at is completes =
+    ap (λ b. if b then Some d else None) completes ∙ completed_is now new w (Some d) region at is

@@ -1,11 +1,12 @@
 -- What the tables know, as the lists of the definitions.
-use Rattle.std.specs.Prelude.{◌≡◌, ℕ, List, [], ◌++◌, map, reverse, Option, None, Some, nat_eq}
+use Rattle.std.specs.Prelude.{◌≡◌, ℕ, List, [], ◌∷◌, ◌++◌, map, reverse, Option, None, Some, nat_eq}
 use Rattle.std.specs.List.{list_any}
 use Rattle.std.specs.Map.{lookup}
 use Rattle.std.specs.Rc.{rc_value}
 use Rattle.std.specs.declared.rc.Rc.{Rc}
 use Rattle.name_events.specs.declared.declaration.OpenRegion.{OpenRegion}
-use Rattle.name_events.specs.Declarations.{Entry, has_number, last_of}
+use Rattle.name_events.specs.declared.declaration.Declaration.{Declaration}
+use Rattle.name_events.specs.Declarations.{Name, Entry, has_number, last_of}
 use Rattle.name_events.specs.Known.{Known, Context, used_in}
 use Rattle.name_events.specs.KnownBehind.{context_found}
 use Rattle.name_events.specs.Faults.{is_library_procedure}
@@ -17,21 +18,31 @@ use Rattle.name_resolve.specs.declared.withs.Withs.{Withs}
 use Rattle.name_resolve.specs.declared.numbers.Numbers.{Numbers}
 use Rattle.name_resolve.specs.declared.contexts.Given.{Given}
 use Rattle.name_resolve.specs.declared.contexts.Contexts.{Contexts}
-use Rattle.name_resolve.specs.Tables.{searched, Answers, FirstAnswers, is_source_package, asks_completion, in_use_at}
+use Rattle.name_resolve.specs.Tables.{symbol_of, searched, HasOnly, Answers, FirstAnswers, is_source_package, asks_completion, in_use_at}
 
 -- ---- declarations
 
-pub record IndexStands (k : EntryIndex) (entries : List Entry) : Type 0 where
-  pub last : Answers (searched k.last) entries
-  pub packages : FirstAnswers is_source_package (searched k.packages) entries
+-- The tables have the symbols of these words only, and answer as the list does.
+pub record IndexStands (words : List Name) (k : EntryIndex) (entries : List Entry) : Type 0 where
+  pub last : Answers (searched words k.last) entries
+  pub packages : FirstAnswers is_source_package (searched words k.packages) entries
+  pub last_only : HasOnly words k.last
+  pub packages_only : HasOnly words k.packages
+
+-- The same declarations, with the symbols of their names.
+abbrev pub StandFor : List Name → List (ℕ × Declaration) → List Entry → Type 0
+StandFor words [] [] = Unit {0}
+StandFor words (d ∷ ds) (entry ∷ entries) = (symbol_of words entry.0 ≡ Some d.0) × (d.1 ≡ entry.1) × StandFor words ds entries
+StandFor words _ _ = ⊥
 
 pub record EntriesStand (k : Declarations) (entries waiting over : List Entry) (completions : List ℕ) : Type 0 where
-  pub declared : IndexStands k.declared entries
-  pub awaiting : FirstAnswers asks_completion (searched k.awaiting) entries
+  pub declared : IndexStands k.words k.declared entries
+  pub awaiting : FirstAnswers asks_completion (searched k.words k.awaiting) entries
+  pub awaiting_only : HasOnly k.words k.awaiting
   pub all : k.all.items ≡ map (λ entry. entry.1) entries
   pub procedure : k.has_procedure ≡ list_any is_library_procedure entries
-  pub pending : k.pending.items ≡ waiting
-  pub ended : IndexStands k.ended over
+  pub pending : StandFor k.words k.pending.items waiting
+  pub ended : IndexStands k.words k.ended over
   pub completed : k.completed.keys ≡ completions
 
 abbrev pub DeclarationsStand : Declarations → Known → Type 0

@@ -1,15 +1,36 @@
 -- What tables of names answer.
-use Rattle.std.specs.Prelude.{◌≡◌, ℕ, Bool, ◌&&◌, if◌then◌else◌, List, [], Option, None, Some, slice_get, nat_eq, nat_le, ◌++◌}
+use Rattle.std.specs.Prelude.{◌≡◌, ℕ, Bool, true, false, ◌&&◌, if◌then◌else◌, List, [], Option, None, Some, slice_get, nat_eq, nat_le, ◌++◌, ◌≤◌, length, position}
 use Rattle.std.specs.Option.{option_map, option_map_or}
 use Rattle.std.specs.Map.{lookup}
 use Rattle.name_events.specs.declared.declaration.Declaration.{Declaration}
+use Rattle.name_events.specs.declared.declaration.DeclarationForm.{DeclarationForm}
+use Rattle.name_events.specs.declared.declaration.DeclarationForm.TheVariants as form
 use Rattle.name_events.specs.Declarations.{Name, Entry, Search, same, is_named, declared_in, first_where, or_else, is_package}
 use Rattle.name_events.specs.Predefined.{predefined_count}
 use Rattle.name_events.specs.Completions.{awaits}
 
--- What the entries of the regions answer, a list of entries for each region.
-abbrev pub searched : List (List Entry) → Search
-searched regions region w = option_map_or (λ entries. lookup (same w) entries) (slice_get regions region) None
+-- The symbol of a word: where it stands among the words.
+abbrev pub symbol_of : List Name → Name → Option ℕ
+symbol_of words w = position (same w) words
+
+-- A region, and the symbol of a word.
+abbrev pub Key : Type 0
+Key = ℕ × ℕ
+
+abbrev pub same_key : Key → Key → Bool
+same_key a b = nat_eq a.0 b.0 && nat_eq a.1 b.1
+
+-- The declaration of a symbol in a region.
+abbrev pub entry_at : List (Key × Declaration) → ℕ → ℕ → Option Declaration
+entry_at table region s = lookup (same_key (region, s)) table
+
+-- What the entries answer of a word.
+abbrev pub searched : List Name → List (Key × Declaration) → Search
+searched words table region w = option_map_or (entry_at table region) (symbol_of words w) None
+
+-- The entries are of symbols of these words only.
+abbrev pub HasOnly : List Name → List (Key × Declaration) → Type 0
+HasOnly words table = (region s : ℕ) → length words ≤ s → entry_at table region s ≡ None
 
 -- The search behind one more declaration.
 abbrev pub noted : Search → Name → Declaration → Search
@@ -33,6 +54,13 @@ FirstAnswers test find entries = (region : ℕ) (w : Name) → find region w ≡
 
 abbrev pub is_source_package : Declaration → Bool
 is_source_package d = is_package d && nat_le predefined_count d.number
+
+-- Whether a declaration of this form may complete another one.
+abbrev pub is_completion : DeclarationForm → Bool
+is_completion form.FullType = true
+is_completion form.ProcedureBody = true
+is_completion form.FunctionBody = true
+is_completion _ = false
 
 abbrev pub asks_completion : Declaration → Bool
 asks_completion d = awaits d.form

@@ -1,28 +1,31 @@
 //! The declarations up to a point.
-ghost use Rattle.std.specs.Prelude.{◌≡◌, [], ◌∷◌, ◌++◌, List, ℕ, OnOk, IfOk, filter, nat_eq, not, slice_get};
+ghost use Rattle.std.specs.Prelude.{◌≡◌, [], ◌∷◌, ◌++◌, List, ℕ, Some, OnOk, IfOk, filter, nat_eq, not, slice_get};
 ghost use Rattle.std.specs.Option.{option_map};
-ghost use Rattle.name_events.specs.Declarations.{Entry, has_number, added_number};
-ghost use Rattle.name_events.specs.Known.{Known, visible_member};
+ghost use Rattle.name_events.specs.Declarations.{Entry, Name, declared_in, has_number, added_number};
+ghost use Rattle.name_events.specs.Known.{Known, source_package, visible_member};
 ghost use Rattle.name_events.specs.Faults.{is_library_procedure};
-ghost use Rattle.name_resolve.specs.Tables.{asks_completion, searched, FirstAnswers};
-ghost use Rattle.name_resolve.specs.Stands.{DeclarationsStand, EntriesStand, IndexStands};
+ghost use Rattle.name_resolve.specs.Tables.{asks_completion, first_in, searched, symbol_of, FirstAnswers, HasOnly};
+ghost use Rattle.name_resolve.specs.Stands.{DeclarationsStand, EntriesStand, IndexStands, StandFor};
 
 use crate::entry_index::EntryIndex;
 use crate::form::{awaits, either, is_procedure_body, is_visible};
 use crate::table::Table;
+use crate::words::Words;
 use ada_tree::Word;
 use indexmap::IndexSet;
 use name_events::Declaration;
 use std::alloc::{AllocError, Global};
 
-/// The declarations up to a point, and which of them have ended and are completed.
+/// The declarations up to a point, and which of them have ended and are completed. In the tables
+/// and in what is pending a name is the symbol of its word.
 pub struct Declarations {
     alloc: Global,
+    pub words: Words,
     pub all: Vec<Declaration>,
     pub declared: EntryIndex,
     pub awaiting: Table,
     pub has_procedure: bool,
-    pub pending: Vec<(Word, Declaration)>,
+    pub pending: Vec<(usize, Declaration)>,
     pub ended: EntryIndex,
     pub completed: IndexSet<usize>,
 }
@@ -31,6 +34,7 @@ impl Drop for Declarations {
     fn drop(self) {
         let Self {
             alloc: _,
+            words: _,
             all: _,
             declared: _,
             awaiting: _,
@@ -43,63 +47,66 @@ impl Drop for Declarations {
 }
 
 /// Whether it is a procedure that is a library unit.
-fn is_library_procedure(word: &Word, declaration: Declaration) -> bool
-    ensures { result ≡ is_library_procedure (word.now, declaration) }
+fn is_library_procedure(declaration: Declaration) -> bool
+    ensures { (word : Name) → result ≡ is_library_procedure (word, declaration) }
 {
     declaration.region == 0 && is_procedure_body(declaration.form)
 }
 
 /// Adds a declaration, if it asks for a completion.
 fn note_awaiting(
-    alloc: Global,
     awaiting: &mut Table,
-    word: &Word,
+    symbol: usize,
     declaration: Declaration,
 ) -> Result<(), AllocError>
-    ensures { OnOk result ((entries : List Entry) → FirstAnswers asks_completion (searched awaiting.old) entries
-        → FirstAnswers asks_completion (searched awaiting.new) (entries ++ (word.now, declaration) ∷ [])) }
+    ensures first { OnOk result ((words : List Name) (word : Name) (entries : List Entry) → symbol_of words word ≡ Some symbol
+        → FirstAnswers asks_completion (searched words awaiting.old) entries
+        → FirstAnswers asks_completion (searched words awaiting.new) (entries ++ (word, declaration) ∷ [])) }
+    ensures only { OnOk result ((words : List Name) (word : Name) → symbol_of words word ≡ Some symbol
+        → HasOnly words awaiting.old → HasOnly words awaiting.new) }
 {
     if awaits(declaration.form) {
-        awaiting.note_first(alloc, word, declaration)?;
+        awaiting.note_first(symbol, declaration)?;
     }
     Ok(())
 }
 
 /// Ends a declaration, if it is of that region.
 fn end_one(
-    alloc: Global,
     ended: &mut EntryIndex,
-    entry: &(Word, Declaration),
+    pending: &(usize, Declaration),
     region: usize,
 ) -> Result<(), AllocError>
-    ensures { OnOk result ((before : List Entry) → IndexStands ended.old before
-        → IndexStands ended.new (before ++ filter (λ d. nat_eq region d.1.region) (entry.now ∷ []))) }
+    ensures { OnOk result ((words : List Name) (entry : Entry) (before : List Entry)
+        → symbol_of words entry.0 ≡ Some pending.now.0 → pending.now.1 ≡ entry.1
+        → IndexStands words ended.old before
+        → IndexStands words ended.new (before ++ filter (λ d. nat_eq region d.1.region) (entry ∷ []))) }
 {
-    let (name, declaration) = entry;
+    let (symbol, declaration) = *pending;
     if region == declaration.region {
-        ended.note(alloc, name, *declaration)?;
+        ended.note(symbol, declaration)?;
     }
     Ok(())
 }
 
 /// Ends the declarations of a region.
 fn end_all(
-    alloc: Global,
     ended: &mut EntryIndex,
-    pending: &[(Word, Declaration)],
+    pending: &[(usize, Declaration)],
     region: usize,
 ) -> Result<(), AllocError>
-    ensures { OnOk result ((before : List Entry) → IndexStands ended.old before
-        → IndexStands ended.new (before ++ filter (λ d. nat_eq region d.1.region) pending.now)) }
+    ensures { OnOk result ((words : List Name) (waiting before : List Entry)
+        → StandFor words pending.now waiting → IndexStands words ended.old before
+        → IndexStands words ended.new (before ++ filter (λ d. nat_eq region d.1.region) waiting)) }
 {
     'turns: for entry in pending {
-        end_one(alloc, ended, entry, region)?;
+        end_one(ended, entry, region)?;
     }
     Ok(())
 }
 
 /// Leaves the declarations of other regions.
-fn keep_others(pending: &mut Vec<(Word, Declaration)>, region: usize)
+fn keep_others(pending: &mut Vec<(usize, Declaration)>, region: usize)
     ensures { pending.new.items ≡ filter (λ d. not (nat_eq region d.1.region)) pending.old.items }
 {
     pending.retain(|entry| region != entry.1.region);
@@ -112,6 +119,7 @@ impl Declarations {
     {
         Declarations {
             alloc,
+            words: Words::new(alloc),
             all: Vec::new(alloc),
             declared: EntryIndex::new(alloc),
             awaiting: Table::new(alloc),
@@ -122,15 +130,26 @@ impl Declarations {
         }
     }
 
+    /// The symbol of a name.
+    fn symbol(&mut self, word: &Word) -> Result<usize, AllocError>
+        ensures symbol { IfOk result (λ s. symbol_of self.new.words word.now ≡ Some s) }
+        ensures stands { OnOk result ((declared pending ended : List Entry) (completed : List ℕ) → EntriesStand self.old declared pending ended completed
+            → EntriesStand self.new declared pending ended completed) }
+    {
+        Ok(self.words.add(word)?)
+    }
+
     /// Adds a declaration, without a word on its end.
-    fn enter(&mut self, word: &Word, declaration: Declaration) -> Result<(), AllocError>
-        ensures { OnOk result ((declared pending ended : List Entry) (completed : List ℕ) → EntriesStand self.old declared pending ended completed
-            → EntriesStand self.new (declared ++ (word.now, declaration) ∷ []) pending ended completed) }
+    fn enter(&mut self, symbol: usize, declaration: Declaration) -> Result<(), AllocError>
+        ensures words { OnOk result (self.new.words ≡ self.old.words) }
+        ensures stands { OnOk result ((word : Name) (declared pending ended : List Entry) (completed : List ℕ) → symbol_of self.old.words word ≡ Some symbol
+            → EntriesStand self.old declared pending ended completed
+            → EntriesStand self.new (declared ++ (word, declaration) ∷ []) pending ended completed) }
     {
         self.all.push(declaration)?;
-        self.declared.note(self.alloc, word, declaration)?;
-        note_awaiting(self.alloc, &mut self.awaiting, word, declaration)?;
-        self.has_procedure = either(self.has_procedure, is_library_procedure(word, declaration));
+        self.declared.note(symbol, declaration)?;
+        note_awaiting(&mut self.awaiting, symbol, declaration)?;
+        self.has_procedure = either(self.has_procedure, is_library_procedure(declaration));
         Ok(())
     }
 
@@ -139,8 +158,9 @@ impl Declarations {
         ensures { OnOk result ((declared pending ended : List Entry) (completed : List ℕ) → EntriesStand self.old declared pending ended completed
             → EntriesStand self.new (declared ++ (word.now, declaration) ∷ []) (pending ++ (word.now, declaration) ∷ []) ended completed) }
     {
-        self.enter(word, declaration)?;
-        self.pending.push((word.clone()?, declaration))?;
+        let symbol = self.symbol(word)?;
+        self.enter(symbol, declaration)?;
+        self.pending.push((symbol, declaration))?;
         Ok(())
     }
 
@@ -149,8 +169,9 @@ impl Declarations {
         ensures { OnOk result ((declared pending ended : List Entry) (completed : List ℕ) → EntriesStand self.old declared pending ended completed
             → EntriesStand self.new (declared ++ (word.now, declaration) ∷ []) pending (ended ++ (word.now, declaration) ∷ []) completed) }
     {
-        self.enter(word, declaration)?;
-        self.ended.note(self.alloc, word, declaration)?;
+        let symbol = self.symbol(word)?;
+        self.enter(symbol, declaration)?;
+        self.ended.note(symbol, declaration)?;
         Ok(())
     }
 
@@ -159,7 +180,7 @@ impl Declarations {
         ensures { OnOk result ((declared pending ended : List Entry) (completed : List ℕ) → EntriesStand self.old declared pending ended completed
             → EntriesStand self.new declared (filter (λ d. not (nat_eq region d.1.region)) pending) (ended ++ filter (λ d. nat_eq region d.1.region) pending) completed) }
     {
-        end_all(self.alloc, &mut self.ended, &self.pending, region)?;
+        end_all(&mut self.ended, &self.pending, region)?;
         keep_others(&mut self.pending, region);
         Ok(())
     }
@@ -180,12 +201,56 @@ impl Declarations {
         self.completed.contains(&number)
     }
 
-    /// The declaration of a name in the visible part of a package.
-    pub fn visible_member(&self, number: usize, word: &Word) -> Option<Declaration>
-        ensures { (now : Known) → DeclarationsStand self.now now → result ≡ visible_member now (slice_get now.declared number) word.now }
+    /// The last declaration of a name in a region that has ended.
+    pub fn ended_in(&self, region: usize, word: &Word) -> Option<Declaration>
+        ensures { (now : Known) → DeclarationsStand self.now now → result ≡ declared_in now.ended region word.now }
+    {
+        self.ended.last.last(&self.words, region, word)
+    }
+
+    /// The last declaration of a name in a region, whether it has ended or not.
+    pub fn declared_in(&self, region: usize, word: &Word) -> Option<Declaration>
+        ensures { (now : Known) → DeclarationsStand self.now now → result ≡ declared_in now.declared region word.now }
+    {
+        self.declared.last.last(&self.words, region, word)
+    }
+
+    /// The package of the source with this name that has ended.
+    pub fn ended_package(&self, word: &Word) -> Option<Declaration>
+        ensures { (now : Known) → DeclarationsStand self.now now → result ≡ source_package now.ended word.now }
+    {
+        self.ended.packages.last(&self.words, 0, word)
+    }
+
+    /// The package of the source with this name, whether it has ended or not.
+    pub fn declared_package(&self, word: &Word) -> Option<Declaration>
+        ensures { (now : Known) → DeclarationsStand self.now now → result ≡ source_package now.declared word.now }
+    {
+        self.declared.packages.last(&self.words, 0, word)
+    }
+
+    /// The first declaration of a name in a region that asks for a completion.
+    pub fn awaiting_in(&self, region: usize, word: &Word) -> Option<Declaration>
+        ensures { (now : Known) → DeclarationsStand self.now now → result ≡ first_in asks_completion now.declared region word.now }
+    {
+        self.awaiting.last(&self.words, region, word)
+    }
+
+    /// The last declaration of a name, by its symbol, in a region that has ended.
+    fn ended_at(&self, region: usize, symbol: Option<usize>) -> Option<Declaration>
+        ensures { (now : Known) (w : Name) → DeclarationsStand self.now now → symbol ≡ symbol_of self.now.words w
+            → result ≡ declared_in now.ended region w }
+    {
+        self.ended.last.found(region, symbol)
+    }
+
+    /// The declaration of a name, by its symbol, in the visible part of a package.
+    pub fn visible_member(&self, number: usize, symbol: Option<usize>) -> Option<Declaration>
+        ensures { (now : Known) (w : Name) → DeclarationsStand self.now now → symbol ≡ symbol_of self.now.words w
+            → result ≡ visible_member now (slice_get now.declared number) w }
     {
         let holder = self.all.get(number)?;
-        let found = self.ended.last.last(holder.own_region, word)?;
+        let found = self.ended_at(holder.own_region, symbol)?;
         if is_visible(found) { Some(found) } else { None }
     }
 }

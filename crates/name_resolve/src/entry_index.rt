@@ -1,12 +1,11 @@
 //! Declarations as they are looked for.
-ghost use Rattle.std.specs.Prelude.{◌≡◌, [], ◌∷◌, ◌++◌, List, OnOk};
-ghost use Rattle.name_events.specs.Declarations.{Entry};
-ghost use Rattle.name_resolve.specs.Tables.{is_source_package, noted_first, searched, FirstAnswers};
+ghost use Rattle.std.specs.Prelude.{◌≡◌, [], ◌∷◌, ◌++◌, List, Some, OnOk};
+ghost use Rattle.name_events.specs.Declarations.{Entry, Name};
+ghost use Rattle.name_resolve.specs.Tables.{is_source_package, symbol_of};
 ghost use Rattle.name_resolve.specs.Stands.{IndexStands};
 
 use crate::form::is_package;
 use crate::table::Table;
-use ada_tree::Word;
 use name_events::Declaration;
 use std::alloc::{AllocError, Global};
 
@@ -31,7 +30,7 @@ pub fn is_source_package(declaration: Declaration) -> bool
 impl EntryIndex {
     /// Without declarations. It takes no memory.
     pub fn new(alloc: Global) -> EntryIndex
-        ensures { IndexStands result [] }
+        ensures { (words : List Name) → IndexStands words result [] }
     {
         EntryIndex {
             last: Table::new(alloc),
@@ -39,19 +38,14 @@ impl EntryIndex {
         }
     }
 
-    /// Adds a declaration.
-    pub fn note(
-        &mut self,
-        alloc: Global,
-        word: &Word,
-        declaration: Declaration,
-    ) -> Result<(), AllocError>
-        ensures { OnOk result ((entries : List Entry) → IndexStands self.old entries
-            → IndexStands self.new (entries ++ (word.now, declaration) ∷ [])) }
+    /// Adds a declaration, whose name has this symbol.
+    pub fn note(&mut self, symbol: usize, declaration: Declaration) -> Result<(), AllocError>
+        ensures { OnOk result ((words : List Name) (word : Name) (entries : List Entry) → symbol_of words word ≡ Some symbol
+            → IndexStands words self.old entries → IndexStands words self.new (entries ++ (word, declaration) ∷ [])) }
     {
-        self.last.note(alloc, word, declaration)?;
+        self.last.note(symbol, declaration)?;
         if is_source_package(declaration) {
-            self.packages.note_first(alloc, word, declaration)?;
+            self.packages.note_first(symbol, declaration)?;
         }
         Ok(())
     }

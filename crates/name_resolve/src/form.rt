@@ -2,6 +2,7 @@
 ghost use Rattle.std.specs.Prelude.{◌≡◌, ◌||◌, ◌&&◌};
 ghost use Rattle.name_events.specs.Declarations.{is_package, is_visible, is_type_form, is_generic_form, is_body_form, is_procedure_body, same_part};
 ghost use Rattle.name_events.specs.Completions.{awaits, completes_form};
+ghost use Rattle.name_resolve.specs.Tables.{is_completion};
 
 use name_events::{Declaration, DeclarationForm, RegionPart};
 
@@ -80,6 +81,18 @@ pub fn awaits(form: DeclarationForm) -> bool
         DeclarationForm::IncompleteType
         | DeclarationForm::PrivateType
         | DeclarationForm::SubprogramDeclaration => true,
+        _ => false,
+    }
+}
+
+/// Whether one of this form may complete another.
+pub fn is_completion(form: DeclarationForm) -> bool
+    ensures { result ≡ is_completion form }
+{
+    match form {
+        DeclarationForm::FullType
+        | DeclarationForm::ProcedureBody
+        | DeclarationForm::FunctionBody => true,
         _ => false,
     }
 }

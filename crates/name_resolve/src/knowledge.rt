@@ -1,7 +1,7 @@
 //! What is known of names at a point of a text.
 ghost use Rattle.std.specs.Prelude.{◌≡◌, IfOk, ◌&&◌, ◌||◌, not, length, List, None, Some, if◌then◌else◌};
 ghost use Rattle.name_events.specs.declared.declaration.NameRule.TheVariants.{Unknown, NotVisible, TooEarly};
-ghost use Rattle.name_events.specs.Declarations.{declared_in, has_number, is_visible, is_package};
+ghost use Rattle.name_events.specs.Declarations.{Name, declared_in, has_number, is_visible, is_package};
 ghost use Rattle.name_events.specs.Completions.{completed_by, completes_form, may_complete};
 ghost use Rattle.name_events.specs.Known.{Known, directly_visible, here, is_number, packages_in_use, part_here, seen, selected, source_package, visible_members};
 ghost use Rattle.name_events.specs.KnownBehind.{known_at_first, package_named};
@@ -10,11 +10,14 @@ ghost use Rattle.name_events.specs.Identified.{number_declared};
 ghost use Rattle.name_events.specs.Faults.{lacks_with};
 ghost use Rattle.name_resolve.specs.declared.sighting.Sighting.TheVariants.{Nothing};
 ghost use Rattle.name_resolve.specs.Sightings.{sighted_all};
+ghost use Rattle.name_resolve.specs.Tables.{symbol_of};
 ghost use Rattle.name_resolve.specs.Stands.{EachKnown, Stands};
 
 use crate::contexts::Contexts;
 use crate::declarations::Declarations;
-use crate::form::{both, completes, either, is_generic, is_package, is_visible, same_part};
+use crate::form::{
+    both, completes, either, is_completion, is_generic, is_package, is_visible, same_part,
+};
 use crate::predefined::predefined;
 use crate::regions::Regions;
 use crate::sighting::{Sighting, see_regions};
@@ -74,18 +77,18 @@ impl Knowledge {
 
     /// The last declaration of a name that ended before, in the innermost enclosing region that has
     /// one.
-    fn directly_visible(&self, word: &Word) -> Option<Declaration>
-        ensures { (now : Known) → Stands self.now now → result ≡ directly_visible now word.now }
+    fn directly_visible(&self, symbol: Option<usize>) -> Option<Declaration>
+        ensures { (now : Known) (w : Name) → Stands self.now now → symbol ≡ symbol_of self.now.declarations.words w
+            → result ≡ directly_visible now w }
     {
-        self.declarations
-            .ended
-            .last
-            .innermost(&self.regions.around, word)
+        let ended = &self.declarations.ended.last;
+        ended.innermost(&self.regions.around, symbol)
     }
 
     /// What the packages in use have of a name.
-    fn sight(&self, word: &Word) -> Sighting
-        ensures { (now : Known) → Stands self.now now → result ≡ sighted_all Nothing (visible_members now (packages_in_use now) word.now) }
+    fn sight(&self, symbol: Option<usize>) -> Sighting
+        ensures { (now : Known) (w : Name) → Stands self.now now → symbol ≡ symbol_of self.now.declarations.words w
+            → result ≡ sighted_all Nothing (visible_members now (packages_in_use now) w) }
     {
         see_regions(
             &self.declarations,
@@ -93,7 +96,7 @@ impl Knowledge {
             &self.regions.uses,
             Sighting::Nothing,
             &self.regions.around,
-            word,
+            symbol,
         )
     }
 
@@ -101,9 +104,10 @@ impl Knowledge {
     pub fn seen(&self, word: &Word) -> Option<Declaration>
         ensures { (now : Known) → Stands self.now now → result ≡ seen now word.now }
     {
-        match self.directly_visible(word) {
+        let symbol = self.declarations.words.symbol(word);
+        match self.directly_visible(symbol) {
             Some(found) => Some(found),
-            None => match self.sight(word) {
+            None => match self.sight(symbol) {
                 Sighting::One(found) => Some(found),
                 Sighting::Nothing => None,
                 Sighting::Several => None,
@@ -115,13 +119,10 @@ impl Knowledge {
     fn why_unseen(&self, whole: &Knowledge, word: &Word) -> NameRule
         ensures { EachKnown whole.now self.now (λ behind now. result ≡ (if stands_later behind now word.now then TooEarly else Unknown)) }
     {
-        if whole
-            .declarations
-            .declared
-            .last
-            .innermost(&self.regions.around, word)
-            .is_some()
-        {
+        let symbol = whole.declarations.words.symbol(word);
+        let declared = &whole.declarations.declared.last;
+        let found = declared.innermost(&self.regions.around, symbol);
+        if found.is_some() {
             NameRule::TooEarly
         } else {
             NameRule::Unknown
@@ -132,9 +133,10 @@ impl Knowledge {
     pub fn meaning(&self, whole: &Knowledge, word: &Word) -> Meaning
         ensures { EachKnown whole.now self.now (λ behind now. result ≡ meaning behind now word.now) }
     {
-        match self.directly_visible(word) {
+        let symbol = self.declarations.words.symbol(word);
+        match self.directly_visible(symbol) {
             Some(found) => Meaning::Denotes(found),
-            None => match self.sight(word) {
+            None => match self.sight(symbol) {
                 Sighting::One(found) => Meaning::Denotes(found),
                 Sighting::Several => Meaning::Breaks(NameRule::NotVisible),
                 Sighting::Nothing => Meaning::Breaks(self.why_unseen(whole, word)),
@@ -163,7 +165,7 @@ impl Knowledge {
     pub fn selected(&self, holder: Declaration, word: &Word) -> Option<Declaration>
         ensures { (now : Known) → Stands self.now now → result ≡ selected now holder word.now }
     {
-        match self.declarations.ended.last.last(holder.own_region, word) {
+        match self.declarations.ended_in(holder.own_region, word) {
             None => None,
             Some(found) => {
                 if self.reaches(holder, found) {
@@ -180,13 +182,8 @@ impl Knowledge {
         ensures { EachKnown whole.now self.now (λ behind now. result ≡ (if stands_later_in behind holder word.now
             then (if is_number now.own_package holder.number then TooEarly else NotVisible) else Unknown)) }
     {
-        if whole
-            .declarations
-            .declared
-            .last
-            .last(holder.own_region, word)
-            .is_none()
-        {
+        let later = whole.declarations.declared_in(holder.own_region, word);
+        if later.is_none() {
             return NameRule::Unknown;
         }
         if self.is_own(holder.number) {
@@ -200,7 +197,7 @@ impl Knowledge {
     pub fn selected_meaning(&self, whole: &Knowledge, holder: Declaration, word: &Word) -> Meaning
         ensures { EachKnown whole.now self.now (λ behind now. result ≡ selected_meaning behind now holder word.now) }
     {
-        match self.declarations.ended.last.last(holder.own_region, word) {
+        match self.declarations.ended_in(holder.own_region, word) {
             None => Meaning::Breaks(self.why_unselected(whole, holder, word)),
             Some(found) => {
                 if self.reaches(holder, found) {
@@ -228,7 +225,7 @@ impl Knowledge {
     {
         match body_of {
             None => None,
-            Some(word) => self.declarations.ended.packages.last(0, word),
+            Some(word) => self.declarations.ended_package(word),
         }
     }
 
@@ -236,14 +233,14 @@ impl Knowledge {
     pub fn source_package(&self, id: &FoldedIdentifier) -> Option<Declaration>
         ensures { (now : Known) → Stands self.now now → result ≡ source_package now.ended id.now.name }
     {
-        self.declarations.ended.packages.last(0, &id.name)
+        self.declarations.ended_package(&id.name)
     }
 
     /// The package of this name that was declared, whether it has ended or not.
     pub fn later_package(&self, id: &FoldedIdentifier) -> Option<Declaration>
         ensures { (now : Known) → Stands self.now now → result ≡ source_package now.declared id.now.name }
     {
-        self.declarations.declared.packages.last(0, &id.name)
+        self.declarations.declared_package(&id.name)
     }
 
     /// Whether a declaration here may complete one: a second body of a package completes nothing.
@@ -266,12 +263,16 @@ impl Knowledge {
         both(self.may_complete(), both(fits, !is_completed))
     }
 
-    /// The declaration that one of this form and name completes here.
+    /// The declaration that one of this form and name completes here. Few forms complete any: only
+    /// these are looked up.
     pub fn completed_by(&self, form: DeclarationForm, word: &Word) -> Option<Declaration>
         ensures { (now : Known) → Stands self.now now → result ≡ completed_by now form word.now }
     {
+        if !is_completion(form) {
+            return None;
+        }
         let region = self.regions.here().region;
-        match self.declarations.awaiting.last(region, word) {
+        match self.declarations.awaiting_in(region, word) {
             None => None,
             Some(found) => {
                 if self.completes(form, found) {

@@ -4,18 +4,17 @@ ghost use Rattle.std.specs.Option.{option_map};
 ghost use Rattle.name_events.specs.declared.event.Clause.TheVariants as clause;
 ghost use Rattle.name_events.specs.declared.declaration.OpenRegion.{OpenRegion};
 ghost use Rattle.name_events.specs.declared.declaration.Declaration.{Declaration};
-ghost use Rattle.name_events.specs.Declarations.{Entry, added_name, added_number, declared_in, has_name, is_package};
+ghost use Rattle.name_events.specs.Declarations.{added_name, added_number, declared_in, has_name, is_package};
 ghost use Rattle.name_events.specs.Known.{Known, here, part_here, region_of, seen, selected_along};
 ghost use Rattle.name_events.specs.KnownBehind.{begin_package, begin_unit, behind_declaration, declare, end_in, known_behind, named_in_use, named_in_with, new_entry, open_body, open_region, selectors_of, turned_private};
 ghost use Rattle.name_events.specs.Completions.{completed_by};
-ghost use Rattle.name_resolve.specs.Tables.{searched, Answers};
-ghost use Rattle.name_resolve.specs.Stands.{RegionsAre, Stands, WithsStand};
+ghost use Rattle.name_resolve.specs.Stands.{DeclarationsStand, RegionsAre, Stands, WithsStand};
 
 use crate::contexts::Given;
+use crate::declarations::Declarations;
 use crate::form::is_package;
 use crate::knowledge::Knowledge;
 use crate::regions::Regions;
-use crate::table::Table;
 use crate::withs::Withs;
 use indexmap::IndexSet;
 use name_events::{
@@ -35,12 +34,16 @@ fn number_of(found: Option<Declaration>) -> Option<usize>
 }
 
 /// The declaration of a name in a package.
-fn member(ended: &Table, holder: Declaration, id: &FoldedIdentifier) -> Option<Declaration>
-    ensures { (entries : List Entry) → Answers (searched ended.now) entries
-        → result ≡ (if is_package holder then declared_in entries holder.own_region id.now.name else None) }
+fn member(
+    declarations: &Declarations,
+    holder: Declaration,
+    id: &FoldedIdentifier,
+) -> Option<Declaration>
+    ensures { (now : Known) → DeclarationsStand declarations.now now
+        → result ≡ (if is_package holder then declared_in now.ended holder.own_region id.now.name else None) }
 {
     if is_package(holder) {
-        ended.last(holder.own_region, &id.name)
+        declarations.ended_in(holder.own_region, &id.name)
     } else {
         None
     }
@@ -49,12 +52,12 @@ fn member(ended: &Table, holder: Declaration, id: &FoldedIdentifier) -> Option<D
 /// Adds what a name in a `with` names, of which the front denotes this declaration, or nothing.
 fn add_named(
     withs: &mut Withs,
-    ended: &Table,
+    declarations: &Declarations,
     found: Option<Declaration>,
     rest: &[FoldedIdentifier],
 ) -> Result<(), AllocError>
-    ensures { OnOk result ((entries : List Entry) (numbers : List ℕ) → Answers (searched ended.now) entries → WithsStand withs.old numbers
-        → WithsStand withs.new (numbers ++ named_in_with entries found (map (λ id. id.name) rest.now))) }
+    ensures { OnOk result ((now : Known) (numbers : List ℕ) → DeclarationsStand declarations.now now → WithsStand withs.old numbers
+        → WithsStand withs.new (numbers ++ named_in_with now.ended found (map (λ id. id.name) rest.now))) }
 {
     let Some(declaration) = found else {
         return Ok(());
@@ -63,8 +66,8 @@ fn add_named(
     let Some((next, behind)) = rest.split_first() else {
         return Ok(());
     };
-    let inner = member(ended, declaration, next);
-    add_named(withs, ended, inner, behind)?;
+    let inner = member(declarations, declaration, next);
+    add_named(withs, declarations, inner, behind)?;
     Ok(())
 }
 
@@ -100,10 +103,10 @@ impl Knowledge {
           withs = now.withs ++ named_in_with now.ended (declared_in now.ended 0 name.now.first.name) (selectors_of name.now);
         })) }
     {
-        let found = self.declarations.ended.last.last(0, &name.first.name);
+        let found = self.declarations.ended_in(0, &name.first.name);
         add_named(
             &mut self.withs,
-            &self.declarations.ended.last,
+            &self.declarations,
             found,
             name.rest.as_slice(),
         )?;

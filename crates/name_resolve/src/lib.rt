@@ -4,9 +4,10 @@
 //! over the list once to learn all declarations, and a second time to look each name up in what is
 //! known before it. So what is known behind the whole and not yet before a name stands later. The
 //! rules and what a name denotes are definitions of `name_events`; `specs/Stands.antt` says how the
-//! tables here stand for the lists there. Time and memory are linear in the sources but for
-//! look-ups by hash, and for a name that no enclosing region has, which is looked for in each
-//! package in use. The bodies of a package share what its context gives to them.
+//! tables here stand for the lists there. They keep each word once, and know it by a symbol. Time
+//! and memory are linear in the sources but for look-ups by hash, and for a name that no enclosing
+//! region has, which is looked for in each package in use. The bodies of a package share what its
+//! context gives to them.
 #![tactic(auto)]
 
 mod contexts;
@@ -27,6 +28,7 @@ mod source_files;
 mod table;
 mod use_lists;
 mod withs;
+mod words;
 
 pub use refusal::NameRefusal;
 pub use source_files::{Resolved, resolve};

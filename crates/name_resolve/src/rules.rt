@@ -180,7 +180,7 @@ fn is_declared_here(now: &Knowledge, word: &Word) -> bool
     ensures { (n : Known) → Stands now.now n → result ≡ is_some (declared_in n.declared (here n) word.now) }
 {
     let region = now.regions.here().region;
-    now.declarations.declared.last.last(region, word).is_some()
+    now.declarations.declared_in(region, word).is_some()
 }
 
 /// Whether a library unit is a second one, or a function.
@@ -201,13 +201,12 @@ fn is_second_unit(now: &Knowledge, form: DeclarationForm, word: &Word) -> bool
 fn is_second(now: &Knowledge, form: DeclarationForm, word: &Word) -> bool
     ensures { (n : Known) → Stands now.now n → result ≡ is_second n form word.now }
 {
-    let completes = now.completed_by(form, word).is_some();
+    if now.completed_by(form, word).is_some() {
+        return false;
+    }
     let in_library = 0 == now.regions.here().region;
     let is_second_unit = both(in_library, is_second_unit(now, form, word));
-    both(
-        !completes,
-        either(is_declared_here(now, word), is_second_unit),
-    )
+    either(is_declared_here(now, word), is_second_unit)
 }
 
 /// Whether nothing completes a declaration that asks for it.
@@ -215,7 +214,7 @@ fn is_incomplete(now: &Knowledge, whole: &Knowledge, form: DeclarationForm) -> b
     ensures { EachKnown whole.now now.now (λ behind n. result ≡ is_incomplete behind n form) }
 {
     let number = now.declarations.all.len();
-    both(awaits(form), !whole.declarations.is_completed(number))
+    awaits(form) && !whole.declarations.is_completed(number)
 }
 
 /// An identifier that is declared: N2 and N5.
@@ -269,7 +268,7 @@ fn names_subprogram(found: Option<Declaration>) -> bool
 fn is_second_body(now: &Knowledge, word: &Word) -> bool
     ensures { (n : Known) → Stands now.now n → result ≡ is_second_body n word.now }
 {
-    let found = now.declarations.declared.last.last(0, word);
+    let found = now.declarations.declared_in(0, word);
     either(now.body_names.contains(word), names_subprogram(found))
 }
 

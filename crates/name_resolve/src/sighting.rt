@@ -1,14 +1,14 @@
-//! What the packages in use have of a name.
+//! What the packages in use have of a name. The name is given by its symbol, if it has one.
 ghost use Rattle.std.specs.Prelude.{◌≡◌, ℕ, List, option_to_list, reverse, slice_get, length};
 ghost use Rattle.std.specs.List.{flat_map};
+ghost use Rattle.name_events.specs.Declarations.{Name};
 ghost use Rattle.name_events.specs.Known.{Known, used_in, visible_member, visible_members};
 ghost use Rattle.name_resolve.specs.Sightings.{sighted, sighted_all};
-ghost use Rattle.name_resolve.specs.Tables.{in_use_at};
+ghost use Rattle.name_resolve.specs.Tables.{in_use_at, symbol_of};
 ghost use Rattle.name_resolve.specs.Stands.{DeclarationsStand};
 
 use crate::declarations::Declarations;
 use crate::use_lists::UseLists;
-use ada_tree::Word;
 use name_events::{Declaration, OpenRegion};
 
 /// What was found of a name so far.
@@ -44,12 +44,12 @@ fn see_package(
     declarations: &Declarations,
     so_far: Sighting,
     number: usize,
-    word: &Word,
+    symbol: Option<usize>,
 ) -> Sighting
-    ensures { (now : Known) → DeclarationsStand declarations.now now
-        → result ≡ sighted_all so_far (option_to_list (visible_member now (slice_get now.declared number) word.now)) }
+    ensures { (now : Known) (w : Name) → DeclarationsStand declarations.now now → symbol ≡ symbol_of declarations.now.words w
+        → result ≡ sighted_all so_far (option_to_list (visible_member now (slice_get now.declared number) w)) }
 {
-    match declarations.visible_member(number, word) {
+    match declarations.visible_member(number, symbol) {
         None => so_far,
         Some(found) => sighted(so_far, found),
     }
@@ -60,14 +60,14 @@ fn see_packages(
     declarations: &Declarations,
     so_far: Sighting,
     numbers: &[usize],
-    word: &Word,
+    symbol: Option<usize>,
 ) -> Sighting
-    ensures { (now : Known) → DeclarationsStand declarations.now now
-        → result ≡ sighted_all so_far (visible_members now numbers.now word.now) }
+    ensures { (now : Known) (w : Name) → DeclarationsStand declarations.now now → symbol ≡ symbol_of declarations.now.words w
+        → result ≡ sighted_all so_far (visible_members now numbers.now w) }
 {
     let mut seen = so_far;
     'turns: for number in numbers {
-        seen = see_package(declarations, seen, *number, word);
+        seen = see_package(declarations, seen, *number, symbol);
     }
     seen
 }
@@ -79,17 +79,17 @@ fn see_region(
     uses: &UseLists,
     so_far: Sighting,
     region: usize,
-    word: &Word,
+    symbol: Option<usize>,
 ) -> Sighting
-    ensures { (now : Known) → DeclarationsStand declarations.now now
-        → result ≡ sighted_all so_far (visible_members now (in_use_at given.now uses.now region) word.now) }
+    ensures { (now : Known) (w : Name) → DeclarationsStand declarations.now now → symbol ≡ symbol_of declarations.now.words w
+        → result ≡ sighted_all so_far (visible_members now (in_use_at given.now uses.now region) w) }
 {
     let own = uses.at(region);
     if region == 0 {
-        let seen = see_packages(declarations, so_far, given, word);
-        see_packages(declarations, seen, own, word)
+        let seen = see_packages(declarations, so_far, given, symbol);
+        see_packages(declarations, seen, own, symbol)
     } else {
-        see_packages(declarations, so_far, own, word)
+        see_packages(declarations, so_far, own, symbol)
     }
 }
 
@@ -100,17 +100,17 @@ pub fn see_regions(
     uses: &UseLists,
     so_far: Sighting,
     around: &[OpenRegion],
-    word: &Word,
+    symbol: Option<usize>,
 ) -> Sighting
-    ensures { (now : Known) (clauses : List (ℕ × ℕ)) → DeclarationsStand declarations.now now
+    ensures { (now : Known) (w : Name) (clauses : List (ℕ × ℕ)) → DeclarationsStand declarations.now now → symbol ≡ symbol_of declarations.now.words w
         → ((region : ℕ) → in_use_at given.now uses.now region ≡ used_in clauses region)
-        → result ≡ sighted_all so_far (visible_members now (flat_map (λ inner. used_in clauses inner.region) (reverse around.now)) word.now) }
+        → result ≡ sighted_all so_far (visible_members now (flat_map (λ inner. used_in clauses inner.region) (reverse around.now)) w) }
 {
     match around.split_last() {
         None => so_far,
         Some((inner, outer)) => {
-            let seen = see_region(declarations, given, uses, so_far, inner.region, word);
-            see_regions(declarations, given, uses, seen, outer, word)
+            let seen = see_region(declarations, given, uses, so_far, inner.region, symbol);
+            see_regions(declarations, given, uses, seen, outer, symbol)
         }
     }
 }

@@ -5,5 +5,5 @@ use Rattle.name_resolve.proofs.rules.is_declared_here.Goals as goal
 pub returns : goal.returns
 returns c n s =
     c.is_some.ensures
-    ∙ ap is_some (c.last.ensures ∙ s.declarations.declared.last c.here-region.result.region c.args.word.now
+    ∙ ap is_some (c.declared_in.ensures n s.declarations
     ∙ ap (λ r. declared_in n.declared r c.args.word.now) (c.here-region.ensures.region _ _ _ _ s.regions))

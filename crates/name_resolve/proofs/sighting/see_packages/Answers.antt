@@ -6,14 +6,14 @@ use Rattle.name_resolve.proofs.Seeing.{package_next}
 use Rattle.name_resolve.proofs.sighting.see_packages.Goals as goal
 
 pub turns-preserved : goal.turns-preserved
-turns-preserved c now s =
-    c.turns.invariant now s
-    ∙ ap (λ xs. sighted_all c.turns.seen (visible_members now xs c.args.word.now))
+turns-preserved c now w s has =
+    c.turns.invariant now w s has
+    ∙ ap (λ xs. sighted_all c.turns.seen (visible_members now xs w))
     (drop_more c.args.numbers.now c.turns.number-index _ c.turns-test.true)
-    ∙ package_next now c.args.word.now c.turns.seen c.see_package-seen.result _ (drop (c.turns.number-index + 1) c.args.numbers.now) (c.see_package-seen.ensures now s)
+    ∙ package_next now w c.turns.seen c.see_package-seen.result _ (drop (c.turns.number-index + 1) c.args.numbers.now) (c.see_package-seen.ensures now w s has)
 
 pub returns : goal.returns
-returns c now s =
-    sym (c.turns.invariant now s
-    ∙ ap (λ xs. sighted_all c.turns.seen (visible_members now xs c.args.word.now))
+returns c now w s has =
+    sym (c.turns.invariant now w s has
+    ∙ ap (λ xs. sighted_all c.turns.seen (visible_members now xs w))
     (drop_of_length-le c.args.numbers.now {i = c.turns.number-index} (omega (arith, c.turns-test.false))))

@@ -1,15 +1,22 @@
-use Rattle.std.proofs.Common.{◌∙◌, ap, subst, filter, not, nat_eq, ◌++◌}
-use Rattle.name_resolve.specs.Stands.{IndexStands}
+use Rattle.std.proofs.Common.{Bool, sym, subst, filter, not, nat_eq}
+use Rattle.name_events.specs.declared.declaration.Declaration.{Declaration}
+use Rattle.name_resolve.specs.Stands.{StandFor}
+use Rattle.name_resolve.proofs.Symbols.{stand_for_filtered}
 use Rattle.name_resolve.proofs.declarations.Declarations.end.Goals as goal
 
 pub returns : goal.returns
-returns c declared pending ended completed s = record {
-  declared = s.declared;
-  awaiting = s.awaiting;
-  all = s.all;
-  procedure = s.procedure;
-  pending = c.keep_others.ensures ∙ ap (filter (λ d. not (nat_eq c.args.region d.1.region))) s.pending;
-  ended = subst (λ xs. IndexStands c.end_all.new.ended (ended ++ filter (λ d. nat_eq c.args.region d.1.region) xs))
-      (c.deref.ensures.value ∙ s.pending) (c.in_ok-end_all.ensures ended s.ended);
-  completed = s.completed;
-}
+returns c declared pending ended completed s =
+    let words = c.args.self.now.words in
+    let stay : Declaration → Bool = λ d. not (nat_eq c.args.region d.region) in
+    record {
+      declared = s.declared;
+      awaiting = s.awaiting;
+      awaiting_only = s.awaiting_only;
+      all = s.all;
+      procedure = s.procedure;
+      pending = subst (λ ds. StandFor words ds (filter (λ entry. stay entry.1) pending)) (sym c.keep_others.ensures)
+          (stand_for_filtered words stay c.args.self.now.pending.items pending s.pending);
+      ended = c.in_ok-end_all.ensures words pending ended
+          (subst (λ ds. StandFor words ds pending) (sym c.deref.ensures.value) s.pending) s.ended;
+      completed = s.completed;
+    }

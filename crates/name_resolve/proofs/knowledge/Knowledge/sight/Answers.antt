@@ -7,7 +7,7 @@ use Rattle.name_resolve.specs.Tables.{in_use_at}
 use Rattle.name_resolve.proofs.knowledge.Knowledge.sight.Goals as goal
 
 pub returns : goal.returns
-returns c now s =
-    c.see_regions.ensures now now.uses s.declarations (λ region. ap (λ given. in_use_at given c.args.self.now.regions.uses region) c.given_uses.ensures ∙ s.regions.uses region)
-    ∙ ap (λ fs. sighted_all Nothing (visible_members now (flat_map (λ inner. used_in now.uses inner.region) fs) c.args.word.now))
+returns c now w s has =
+    c.see_regions.ensures now w now.uses s.declarations has (λ region. ap (λ given. in_use_at given c.args.self.now.regions.uses region) c.given_uses.ensures ∙ s.regions.uses region)
+    ∙ ap (λ fs. sighted_all Nothing (visible_members now (flat_map (λ inner. used_in now.uses inner.region) fs) w))
     (ap reverse c.deref.ensures.value ∙ s.regions.around)
