@@ -1,5 +1,5 @@
 -- One turn along a list of arguments.
-use Rattle.std.proofs.Common.{◌≡◌, ◌∙◌, ◌+◌, ◌++◌, ℕ, Option, Some, None, refl, sym, ap}
+use Rattle.std.proofs.Common.{◌≡◌, ◌∙◌, ◌+◌, ◌++◌, ℕ, Option, None, refl, sym, ap}
 use Rattle.resolved_tree.specs.Trees.{Tree, Argument}
 use Rattle.type_table.specs.declared.judgement.Fault.{Fault}
 use Rattle.type_table.specs.declared.judgement.Role.{Role}

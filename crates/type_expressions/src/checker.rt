@@ -42,6 +42,7 @@ impl<'p> Checker<'p> {
             alloc: self.settled.alloc,
             rows: self.rows,
             known: &self.settled.known,
+            components: self.settled.components.as_slice(),
             home: self.home,
             within: self.within,
             sub: self.sub,

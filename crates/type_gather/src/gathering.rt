@@ -1,18 +1,9 @@
 //! What is known of the declarations so far, and where the next one stands.
-ghost use Rattle.std.specs.Prelude.{◌≡◌, ◌<◌, length, set};
-ghost use Rattle.resolved_tree.specs.Nodes.{code_at};
-ghost use Rattle.type_table.specs.Types.{info};
-ghost use Rattle.type_table.specs.Entries.{entry_of, marked};
-ghost use Rattle.type_table.specs.Gathered.{with_entry, with_info, with_type, own_info, indicated, with_indication, is_subprogram};
-ghost use Rattle.type_names.specs.Here.{here};
-ghost use Rattle.type_gather.specs.Gathering.{context};
+ghost use Rattle.type_names.specs.ComponentNames.{FindAllComponents};
 
-use resolved_tree::{CodeNode, Mark, Rows};
-use spark_base::{Listed, Pos};
 use std::alloc::Global;
-use std::mem;
-use type_names::{INTEGER, Reader};
-use type_table::{Entry, Info, Known, Shape};
+use type_names::WordIndex;
+use type_table::Known;
 
 /// What is known of the declarations so far, and where the next one stands.
 #[derive(Drop)]
@@ -21,142 +12,13 @@ pub struct Gathering {
     pub alloc: Global,
     /// What is known.
     pub known: Known,
+    /// Of types the index of the names of their components, where they have one.
+    pub components: Vec<Option<WordIndex>>,
     /// The package whose declarations these are, in any of its parts.
     pub home: Option<u32>,
     /// The package whose private part or body this is.
     pub within: Option<u32>,
     /// The subprogram whose body this is.
     pub sub: Option<u32>,
-}
-
-/// A list with another element at an index, where there is one.
-fn with_element<T: Drop>(list: Listed<T>, index: usize, element: T) -> Listed<T>
-    ensures { result ≡ set list index element }
-{
-    let mut elements = list.into_vec();
-    if index < elements.len() {
-        elements[index] = element;
-    }
-    Listed::from_vec(elements)
-}
-
-/// What is known of a type that is no subtype.
-pub fn own_info(shape: Shape, number: u32) -> Info
-    ensures { result ≡ own_info shape number }
-{
-    Info {
-        shape,
-        base: number,
-        parent: None,
-        seen_in: None,
-        completed: None,
-    }
-}
-
-impl Gathering {
-    /// A reader of what is known here.
-    pub fn reader<'p>(&'p self, rows: &'p Rows) -> Reader<'p>
-        ensures here { here result ≡ context self.now }
-        ensures rows { result.rows.now ≡ rows.now }
-    {
-        Reader {
-            alloc: self.alloc,
-            rows,
-            known: &self.known,
-            home: self.home,
-            within: self.within,
-            sub: self.sub,
-            in_loop: false,
-            starts: false,
-        }
-    }
-
-    /// Says what a declaration is.
-    pub fn with_entry(&mut self, number: u32, entry: Entry)
-        ensures { context self.new ≡ with_entry number entry (context self.old) }
-    {
-        let entries = mem::replace(&mut self.known.entries, Listed::new(self.alloc));
-        self.known.entries = with_element(entries, number as usize, entry);
-    }
-
-    /// Says what the type with the number of a declaration is.
-    pub fn with_info(&mut self, number: u32, info: Info)
-        ensures { context self.new ≡ with_info number info (context self.old) }
-    {
-        let table = mem::replace(&mut self.known.table, Listed::new(self.alloc));
-        self.known.table = with_element(table, number as usize, info);
-    }
-
-    /// Says that a declaration is a type, and which one.
-    pub fn with_type(&mut self, number: u32, info: Info)
-        ensures { context self.new ≡ with_type number info (context self.old) }
-    {
-        self.with_info(number, info);
-        self.with_entry(number, Entry::Type);
-    }
-
-    /// Whether a declaration is a subprogram.
-    pub fn is_subprogram(&self, number: u32) -> bool
-        ensures { result ≡ is_subprogram (entry_of self.now.known number) }
-    {
-        match self.known.entries.as_slice().get(number as usize) {
-            Some(Entry::Subprogram { .. }) => true,
-            _ => false,
-        }
-    }
-
-    /// The package in whose private part and body alone a type is seen.
-    pub fn seen_in(&self, number: u32) -> Option<u32>
-        ensures { result ≡ (info self.now.known.table number).seen_in }
-    {
-        match self.known.table.as_slice().get(number as usize) {
-            Some(info) => info.seen_in,
-            None => None,
-        }
-    }
-
-    /// Where a type that was declared as an incomplete one is complete.
-    pub fn completed(&self, number: u32) -> Option<Pos>
-        ensures { result ≡ (info self.now.known.table number).completed }
-    {
-        match self.known.table.as_slice().get(number as usize) {
-            Some(info) => info.completed,
-            None => None,
-        }
-    }
-
-    /// The type that a mark denotes.
-    pub fn marked(&self, rows: &Rows, mark: Mark) -> u32
-        ensures { result ≡ marked self.now.known mark }
-    {
-        self.reader(rows).marked(mark)
-    }
-
-    /// The type of an object, a formal or a result: that of its mark, or the anonymous one of its
-    /// own declaration.
-    pub fn indicated(&self, rows: &Rows, number: u32, indication: usize) -> u32
-        requires { indication < length rows.now.1 }
-        ensures { result ≡ indicated self.now.known number (code_at rows.now indication) }
-    {
-        match rows.code(indication) {
-            CodeNode::Plain { mark } => self.marked(rows, *mark),
-            CodeNode::Anonymous { .. } => number,
-            _ => INTEGER,
-        }
-    }
-
-    /// Adds the anonymous access type of a declaration, where it has one.
-    pub fn with_indication(&mut self, rows: &Rows, number: u32, indication: usize)
-        requires { indication < length rows.now.1 }
-        ensures { context self.new ≡ with_indication number (code_at rows.now indication) (context self.old) }
-    {
-        if let CodeNode::Anonymous { constant, mark, .. } = rows.code(indication) {
-            let shape = Shape::Access {
-                designated: self.marked(rows, *mark),
-                constant: *constant,
-                named: false,
-            };
-            self.with_info(number, own_info(shape, number));
-        }
-    }
+    ghost found: { FindAllComponents components.items known.table },
 }

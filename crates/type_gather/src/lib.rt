@@ -9,13 +9,15 @@
 //! gets what the definitions say, and is reported by who looks for faults.
 //!
 //! It recurses only as deep as constructs nest. Time and memory are linear in the rows, but for a
-//! list of identifiers with one value, which is looked at once for each of them.
+//! list of identifiers with one value, which is looked at once for each of them. The components of
+//! a record that has many get an index by name with its type, as far as there is memory for it.
 #![tactic(auto)]
 
 mod bounds;
 mod declared;
 mod gathering;
 mod instance;
+mod known;
 mod objects;
 mod predefined;
 mod program;

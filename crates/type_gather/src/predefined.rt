@@ -3,7 +3,7 @@ ghost use Rattle.std.specs.Prelude.{◌≡◌, ◌++◌, ◌-◌, replicate, IfO
 ghost use Rattle.type_table.specs.Types.{no_type};
 ghost use Rattle.type_table.specs.Whole.{at_first, predefined_entries, predefined_types, whole};
 
-use crate::gathering::own_info;
+use crate::known::own_info;
 use ada_tree::Word;
 use spark_base::Listed;
 use std::alloc::{AllocError, Global};

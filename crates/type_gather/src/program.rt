@@ -25,6 +25,7 @@ pub fn gather(
     let mut gathering = Gathering {
         alloc,
         known: at_first(alloc, count)?,
+        components: Vec::new(alloc),
         home: None,
         within: None,
         sub: None,
@@ -35,6 +36,7 @@ pub fn gather(
     let Gathering {
         alloc: _,
         known,
+        components: _,
         home: _,
         within: _,
         sub: _,

@@ -7,7 +7,8 @@ ghost use Rattle.type_gather.specs.Gathering.{context};
 
 use crate::bounds::constrained_shape;
 use crate::declared::{declared_number, declared_pos, declared_text, texts};
-use crate::gathering::{Gathering, own_info};
+use crate::gathering::Gathering;
+use crate::known::own_info;
 use resolved_tree::{CodeNode, Mark, Rows};
 use spark_base::{Listed, Pos};
 use std::alloc::{AllocError, Global};

@@ -1,4 +1,5 @@
 pub mod SameWord
 pub mod Occurrences
+pub mod ComponentNames
 pub mod Statics
 pub mod Wide

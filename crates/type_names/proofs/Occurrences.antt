@@ -17,7 +17,6 @@ use Rattle.type_table.specs.Entries.{entry_of, same_word}
 use Rattle.type_table.specs.Names.{Context, seen}
 use Rattle.type_table.specs.Expressions.{Given, by_name, meant, count_of, each_once, formal, no_component, no_formal, part, part_type, profile_of, role_type}
 use Rattle.type_names.specs.declared.word_index.Occurrence.{Occurrence}
-use Rattle.type_names.specs.Formals.{is_given}
 use Rattle.type_names.specs.Occurrences.{occurrence, both_lists, is_single, each_single, Entries, occurs, next_occurrence, with_word, with_given, component_names, formal_names, names_for, number_found, number_for}
 
 -- Words that compare as the same are the same.

@@ -7,11 +7,13 @@
 //! computes it; `docs/LANGUAGE.md`, "Types", says them in words (Ada 2012, 3, 4 and 6.4). Nothing
 //! is refused: that is for the crates above. Time is linear in what is read: where many arguments
 //! stand by name, these are found by hash, with memory for an index. Where there is no memory for
-//! it, each is compared with each formal or component. A component behind a name is looked for among
-//! those of its record.
+//! it, each is compared with each formal or component. A component behind a name is found by hash
+//! where its record has many and a reader has their index, which `component_indexes` makes for all
+//! types, and `index_type` for one; else it is compared with each.
 #![tactic(auto)]
 
 mod arguments;
+mod component_index;
 mod formal;
 mod look_up;
 mod matching;
@@ -25,6 +27,7 @@ mod ways;
 mod word_index;
 mod words;
 
+pub use component_index::{component_indexes, index_type};
 pub use formal::Formal;
 pub use look_up::{BOOLEAN, INTEGER, is_before};
 pub use matching::Matching;

@@ -26,7 +26,7 @@ pub struct Matching {
 }
 
 /// The index of the names of components.
-fn component_index(alloc: Global, components: &[Component]) -> Result<WordIndex, AllocError>
+pub fn component_index(alloc: Global, components: &[Component]) -> Result<WordIndex, AllocError>
     ensures { IfOk result (λ made. Indexes made (component_names components.now)) }
 {
     let mut made = WordIndex::new(alloc);
@@ -106,16 +106,13 @@ impl<'p> Reader<'p> {
     {
         let mut i = list;
         let mut left = FEW;
-        'arguments: while let Node::Argument {
-            name: Some(_),
-            rest,
-            ..
-        } = self.rows.node(i)
-        {
-            if left == 0 {
-                return true;
+        'arguments: while let Node::Argument { name, rest, .. } = self.rows.node(i) {
+            if name.is_some() {
+                if left == 0 {
+                    return true;
+                }
+                left -= 1;
             }
-            left -= 1;
             i = *rest;
         }
         false

@@ -1,24 +1,60 @@
 //! What a name is as a value (Ada 2012, 4.1).
-ghost use Rattle.std.specs.Prelude.{◌≡◌, ◌<◌, length};
+ghost use Rattle.std.specs.Prelude.{◌≡◌, ◌<◌, length, IfSome};
 ghost use Rattle.resolved_tree.specs.Nodes.{tree_at};
 ghost use Rattle.type_table.specs.Types.{fields};
-ghost use Rattle.type_table.specs.Names.{seen, selected, is_index, through, step, is_end, ended, along, is_call, is_imaged, scalar_attribute, of_type, reading_of};
+ghost use Rattle.type_table.specs.Names.{component, seen, selected, is_index, through, step, is_end, ended, along, is_call, is_imaged, scalar_attribute, of_type, reading_of};
 ghost use Rattle.type_names.specs.Here.{here};
+ghost use Rattle.type_names.specs.ComponentNames.{component_number};
 
 use crate::look_up::INTEGER;
 use crate::reader::Reader;
-use crate::views::{array_attribute, component, dereferenced, indexed};
+use crate::views::{array_attribute, component_number, dereferenced, indexed};
 use ada_tree::Word;
 use resolved_tree::{Attribute, Node};
 use type_table::{Entry, Next, Predefined, Reading, View};
 
 impl<'p> Reader<'p> {
+    /// The number of the first component of a type with an identifier, where the type has an index
+    /// and there is memory for the identifier in lower case.
+    fn indexed_component(&self, t: u32, word: &Word) -> Option<usize>
+        ensures { IfSome result (λ n. n ≡ component_number word.now (fields self.now.known.now.table t)) }
+    {
+        let Some(Some(index)) = self.components.get(self.named(t) as usize) else {
+            return None;
+        };
+        match index.occurrence(self.alloc, word) {
+            Ok(Some(found)) => Some(found.first),
+            Ok(None) => Some(self.fields(t).len()),
+            Err(_) => None,
+        }
+    }
+
+    /// The number of the first component of a type with an identifier, or how many it has.
+    pub fn component_number(&self, t: u32, word: &Word) -> usize
+        ensures { result ≡ component_number word.now (fields self.now.known.now.table t) }
+    {
+        match self.indexed_component(t, word) {
+            Some(number) => number,
+            None => component_number(word, self.fields(t)),
+        }
+    }
+
+    /// Where the component of a record with an identifier leads.
+    fn component(&self, t: u32, word: &Word) -> Next
+        ensures { result ≡ component word.now (fields self.now.known.now.table t) }
+    {
+        match self.fields(t).get(self.component_number(t, word)) {
+            Some(component) => Next::Goes { of: component.of },
+            None => Next::Stops,
+        }
+    }
+
     /// The component of a type with an identifier.
     fn selected(&self, t: u32, word: &Word) -> Next
         ensures { result ≡ selected word.now (seen (here self.now) t) (fields self.now.known.now.table t) }
     {
         match self.seen(t) {
-            View::Fields => component(word, self.fields(t)),
+            View::Fields => self.component(t, word),
             _ => Next::Stops,
         }
     }

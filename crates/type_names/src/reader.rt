@@ -3,7 +3,9 @@ ghost use Rattle.std.specs.Prelude.{◌≡◌, ◌<◌, length};
 ghost use Rattle.resolved_tree.specs.Nodes.{tree_at};
 ghost use Rattle.resolved_tree.specs.Trees.{position};
 ghost use Rattle.type_table.specs.Names.{is_end};
+ghost use Rattle.type_names.specs.ComponentNames.{FindAllComponents};
 
+use crate::word_index::WordIndex;
 use resolved_tree::{Node, Rows};
 use spark_base::Pos;
 use std::alloc::Global;
@@ -18,6 +20,8 @@ pub struct Reader<'p> {
     pub rows: &'p Rows,
     /// What is known.
     pub known: &'p Known,
+    /// Of each type the index of the names of its components, where it has one.
+    pub components: &'p [Option<WordIndex>],
     /// The package whose declarations these are, in any of its parts.
     pub home: Option<u32>,
     /// The package whose private part or body this is.
@@ -28,6 +32,7 @@ pub struct Reader<'p> {
     pub in_loop: bool,
     /// Whether this is the initial value of a package object.
     pub starts: bool,
+    ghost found: { FindAllComponents components.now known.now.table },
 }
 
 impl<'p> Reader<'p> {

@@ -1,8 +1,9 @@
 //! What is asked of the definition of a type.
 ghost use Rattle.std.specs.Prelude.{◌≡◌, ◌≤◌, ◌^◌};
 ghost use Rattle.type_table.specs.Types.{view_of, components_of, is_scalar, same_bounds, has_value, span};
-ghost use Rattle.type_table.specs.Names.{component, selected, extent, indexed, dereferenced, array_attribute};
+ghost use Rattle.type_table.specs.Names.{extent, indexed, dereferenced, array_attribute};
 ghost use Rattle.type_table.specs.Expressions.{is_access, is_composite, is_anonymous, designated, to_constant, element_type, fits_others};
+ghost use Rattle.type_names.specs.ComponentNames.{component_number};
 
 use crate::look_up::INTEGER;
 use crate::words::same_word;
@@ -51,16 +52,16 @@ pub fn components_of(shape: &Shape) -> &[Component]
     }
 }
 
-/// The component with an identifier.
-pub fn component(word: &Word, components: &[Component]) -> Next
-    ensures { result ≡ component word.now components.now }
+/// The number of the first component with an identifier, or how many there are: compared with each.
+pub fn component_number(word: &Word, components: &[Component]) -> usize
+    ensures { result ≡ component_number word.now components.now }
 {
-    'search: for component in components {
+    'search: for (number, component) in components.iter().enumerate() {
         if same_word(word.as_bytes(), component.name.as_bytes()) {
-            return Next::Goes { of: component.of };
+            return number;
         }
     }
-    Next::Stops
+    components.len()
 }
 
 /// Whether it is a scalar type.

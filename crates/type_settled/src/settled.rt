@@ -2,6 +2,7 @@
 ghost use Rattle.std.specs.Prelude.{◌≡◌, [], IfOk};
 ghost use Rattle.type_table.specs.Types.{is_owning};
 ghost use Rattle.type_table.specs.Declarations.{holds_itself};
+ghost use Rattle.type_names.specs.ComponentNames.{FindAllComponents};
 ghost use Rattle.type_settled.specs.Holding.{AreLone};
 ghost use Rattle.type_settled.specs.Measures.{marked, IsMeasured};
 
@@ -12,19 +13,23 @@ use crate::visits::measured_in_order;
 use spark_base::Listed;
 use std::alloc::{AllocError, Global};
 use std::mem;
+use type_names::{WordIndex, component_indexes};
 use type_table::Known;
 
-/// All that is known of the declarations, which types are owning, and which don't have themselves in
-/// them. It is dropped by a function of its own: who owns one needn't prove again how each table
-/// within it is dropped.
+/// All that is known of the declarations, where components are found by name, which types are
+/// owning, and which don't have themselves in them. It is dropped by a function of its own: who
+/// owns one needn't prove again how each table within it is dropped.
 pub struct Settled {
     /// Where memory comes from.
     pub alloc: Global,
     /// What is known of the declarations.
     pub known: Known,
+    /// Of each type the index of the names of its components, where it has one.
+    pub components: Vec<Option<WordIndex>>,
     measures: Vec<Measure>,
     // The types of which it is known that they don't have themselves in them.
     lone: Vec<bool>,
+    ghost found: { FindAllComponents components.items known.table },
     ghost right: { IsMeasured (marked []) known.table measures.items },
     ghost apart: { AreLone known.table lone.items },
 }
@@ -34,6 +39,7 @@ impl Drop for Settled {
         let Self {
             alloc: _,
             known: _,
+            components: _,
             measures: _,
             lone: _,
         } = self;
@@ -48,9 +54,11 @@ impl Settled {
         let order = measured_in_order(alloc, known.table.as_slice(), &[])?;
         let lone = order.lone(alloc)?;
         let measures = all_measured(alloc, known.table.as_slice(), &[], order)?;
+        let components = component_indexes(alloc, known.table.as_slice());
         Ok(Settled {
             alloc,
             known,
+            components,
             measures,
             lone,
         })
@@ -72,6 +80,7 @@ impl Settled {
             entries: Listed::new(alloc),
             table: Listed::new(alloc),
         };
+        self.components = Vec::new(alloc);
         self.measures = Vec::new(alloc);
         self.lone = Vec::new(alloc);
         mem::replace(&mut self.known, none)

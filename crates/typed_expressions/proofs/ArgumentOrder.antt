@@ -1,5 +1,5 @@
 -- Values of arguments, and their order.
-use Rattle.std.proofs.Common.{◌≡◌, ℕ, zero, suc, ◌+◌, ◌<◌, Bool, true, false, if◌then◌else◌, List, [], ◌∷◌, ◌++◌, map, length, get_or, Option, Some, None, is_some, refl, ap, ◌∙◌, subst, sym, arith}
+use Rattle.std.proofs.Common.{◌≡◌, ℕ, zero, suc, ◌+◌, ◌<◌, Bool, true, false, if◌then◌else◌, List, [], ◌∷◌, ◌++◌, map, length, get_or, Some, None, is_some, refl, ap, ◌∙◌, subst, sym, arith}
 use Rattle.std.specs.List.{All as Each}
 use Rattle.std.proofs.lemmas.Grind.{common_steps}
 use Rattle.std.proofs.lemmas.List.Elements.{All-head, All-tail, All-push, All-weaker}
@@ -13,7 +13,6 @@ use Rattle.typed_tree.specs.Nodes.{TypedNodes, typed_at, Grew, Holds, HoldsAll}
 use Rattle.type_table.specs.declared.judgement.Role.TheVariants as role
 use Rattle.type_table.specs.Entries.{integer}
 use Rattle.typed_tree.specs.Expressions.{Site, arguments_given, has_name, named_value, role_names, typed_actuals, typed_expression, typed_first, typed_imaged, typed_values}
-use Rattle.type_names.specs.declared.word_index.Occurrence.{Occurrence}
 use Rattle.type_names.specs.Formals.{is_given}
 use Rattle.type_names.specs.Occurrences.{Entries, Indexes, occurrence, occurs}
 use Rattle.typed_expressions.specs.Arguments.{named_number, number_at}

@@ -4,8 +4,8 @@
 //! and subprograms, and where an expression stands. `expression` adds the typed expression to rows
 //! of typed nodes, and gives its number. `typed_tree` has the definitions; `docs/LANGUAGE.md`,
 //! "Typed programs", says them in words (Ada 2012, 4 and 6.4). Nothing is refused: of what breaks a
-//! rule something is made, too. The only error is out of memory. Time is linear in the trees, but
-//! for selected components, each of which is looked for among those of its record.
+//! rule something is made, too. The only error is out of memory. Time is linear in the trees, as
+//! far as there is memory for looking names up by hash.
 #![tactic(auto)]
 
 mod arguments;

@@ -1,6 +1,7 @@
 //! What stands behind names, as steps.
 ghost use Rattle.std.specs.Prelude.{◌≡◌, ◌<◌, length, IfOk};
 ghost use Rattle.resolved_tree.specs.Nodes.{tree_at};
+ghost use Rattle.type_table.specs.Types.{fields};
 ghost use Rattle.type_table.specs.Names.{through};
 ghost use Rattle.type_table.specs.Expressions.{next_type};
 ghost use Rattle.type_names.specs.Here.{here};
@@ -13,8 +14,8 @@ use crate::writer::Writer;
 use ada_tree::Word;
 use resolved_tree::Node;
 use std::alloc::AllocError;
-use type_names::{INTEGER, same_word};
-use type_table::{Component, Next, View};
+use type_names::INTEGER;
+use type_table::{Next, View};
 use typed_tree::{TypedNode, TypedRows};
 
 /// A suffix of a name, and the type that it starts from.
@@ -42,23 +43,6 @@ fn next_type(next: Next) -> u32
         Next::Goes { of } => of,
         _ => INTEGER,
     }
-}
-
-/// The number of the component with an identifier.
-fn component_number(word: &Word, components: &[Component]) -> Result<u32, AllocError>
-    ensures { IfOk result (λ n. n ≡ component_number word.now components.now) }
-{
-    let mut number = 0u32;
-    'components: for component in components {
-        if same_word(word.as_bytes(), component.name.as_bytes()) {
-            return Ok(number);
-        }
-        let Some(next) = number.checked_add(1) else {
-            return Err(AllocError);
-        };
-        number = next;
-    }
-    Ok(number)
 }
 
 /// Adds an implicit dereference in front of steps from an access value.
@@ -110,6 +94,17 @@ impl<'p> Writer<'p> {
         Ok(found)
     }
 
+    /// The number of the component of a type with an identifier. More than four billion components
+    /// count as too little memory.
+    fn component_number(&self, t: u32, word: &Word) -> Result<u32, AllocError>
+        ensures { IfOk result (λ n. n ≡ component_number word.now (fields self.now.reader.known.now.table t)) }
+    {
+        match u32::try_from(self.reader.component_number(t, word)) {
+            Ok(number) => Ok(number),
+            Err(_) => Err(AllocError),
+        }
+    }
+
     /// Adds the steps from a type on.
     #[cycle(expression)]
     #[tactic(auto, using(crate::proofs::Steps::steps_are, crate::proofs::Steps::station_step, typed_tree::proofs::Grown::grew_on, typed_tree::proofs::Grown::kept))]
@@ -148,7 +143,7 @@ impl<'p> Writer<'p> {
         let view = self.reader.seen(t);
         match self.reader.rows.node(suffix) {
             Node::Selected { selector } => {
-                let number = component_number(selector, self.reader.fields(through(view, t)))?;
+                let number = self.component_number(through(view, t), selector)?;
                 let steps = to.push(TypedNode::Component {
                     number,
                     rest: behind,

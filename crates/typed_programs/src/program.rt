@@ -3,6 +3,7 @@ ghost use Rattle.std.specs.Prelude.{◌≡◌, ◌<◌, flat_map, length, map, I
 ghost use Rattle.std.specs.List.{All};
 ghost use Rattle.resolved_tree.specs.Nodes.{code_at};
 ghost use Rattle.type_table.specs.Whole.{outside};
+ghost use Rattle.type_names.specs.ComponentNames.{FindAllComponents};
 ghost use Rattle.typed_tree.specs.Programs.{bodies_in, typed_program};
 ghost use Rattle.typed_expressions.specs.Sites.{site};
 ghost use Rattle.typed_programs.specs.Parts.{HoldsProgram};
@@ -12,7 +13,7 @@ use crate::parts::ProgramParts;
 use resolved_tree::Rows;
 use spark_base::Listed;
 use std::alloc::{AllocError, Global};
-use type_names::Reader;
+use type_names::{Reader, WordIndex, component_indexes};
 use type_table::Known;
 use typed_expressions::{Numbering, Writer};
 use typed_objects::{DeclaredObjects, bodies, objects, scopes};
@@ -33,9 +34,11 @@ fn writer_outside<'p>(
     alloc: Global,
     rows: &'p Rows,
     known: &'p Known,
+    components: &'p [Option<WordIndex>],
     objects: &'p Numbering,
     bodies: &'p Numbering,
 ) -> Writer<'p>
+    requires { FindAllComponents components.now known.now.table }
     ensures site { site result ≡ record { context = outside known.now; objects = objects.now; bodies = bodies.now } }
     ensures rows { result.reader.rows.now ≡ rows.now }
 {
@@ -43,6 +46,7 @@ fn writer_outside<'p>(
         alloc,
         rows,
         known,
+        components,
         home: None,
         within: None,
         sub: None,
@@ -97,6 +101,14 @@ pub fn typed_program(
     let object_numbers = Numbering::new(alloc, numbers.into_vec())?;
     let body_numbers = body_numbers(alloc, rows, units)?;
     let scopes = Listed::from_vec(scopes(alloc, rows, units)?);
-    let writer = writer_outside(alloc, rows, known, &object_numbers, &body_numbers);
+    let components = component_indexes(alloc, known.table.as_slice());
+    let writer = writer_outside(
+        alloc,
+        rows,
+        known,
+        components.as_slice(),
+        &object_numbers,
+        &body_numbers,
+    );
     program(&writer, units, objects, scopes)
 }

@@ -1,8 +1,6 @@
-use Rattle.std.proofs.Common.{◌∙◌, arith, refl, sym, ap}
-use Rattle.resolved_tree.specs.Nodes.{tree_at}
-use Rattle.type_table.specs.Faults.{noted}
+use Rattle.std.proofs.Common.{◌∙◌, arith}
 use Rattle.type_expressions.specs.Around.{context}
-use Rattle.type_expressions.proofs.Steps.{argument_number, arguments_step}
+use Rattle.type_expressions.proofs.Steps.{arguments_step}
 use Rattle.type_expressions.proofs.checker.Checker.+inside.Goals as goal
 
 pub arguments-arguments-preserved : goal.arguments-arguments-preserved
