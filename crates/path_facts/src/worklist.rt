@@ -27,6 +27,8 @@ fn apply_all(tree: &mut Tree<'_>, acts: &[Placed]) -> Result<(), AllocError>
 }
 
 /// Carries a state to a point, which is put into the work where its tree changed.
+// A profile of the program counts its calls, the steps (`docs/COSTS.md`), so it stays a function.
+#[inline(never)]
 fn carry<'f, L: Ledger>(
     trees: &mut Vec<Option<Tree<'f>>>,
     work: &mut BTreeSet<usize>,
