@@ -1,11 +1,14 @@
 #!/usr/bin/env python3
 """Times `./spark check` on sources of at most 4 MiB, and prints a row for each; docs/COSTS.md has the rows.
 
-    python3 tools/bench.py [FOLDER]
+    python3 tools/bench.py [--steps] [FOLDER]
 
 The sources are written to FOLDER, or to a temporary folder that is removed at the end. /usr/bin/time of GNU is needed.
+With --steps a last column says how many states were carried along successors of points, for the sources that the rules on
+facts are asked about. Valgrind counts these in a second run, which takes some fifty times as long.
 """
 import pathlib
+import re
 import subprocess
 import sys
 import tempfile
@@ -15,6 +18,8 @@ SOURCE_BYTES = 4_194_304
 TOKENS = 1_000_000
 STATEMENTS = 15_000
 OBJECTS = 512
+# the sources whose points are many for their length, or whose facts are
+FACTS = "most_facts branches_in_loop conditionals_in_row straight_line lists_of_cells_1000".split()
 
 RESERVED = """abort abs abstract accept access aliased all and array at begin body case constant declare delay delta
     digits do else elsif end entry exception exit for function generic goto if in interface is limited loop mod new not
@@ -183,6 +188,14 @@ def record_aggregate():
     return filled("\n".join(lines) + "\n")
 
 
+def selected_components():
+    """A record with 30,000 components, of which the last 16,000 are each read once by their names."""
+    names = ["C%d" % i for i in range(30_000)]
+    lines = ["procedure Main is", "type R is record", ",\n".join(names) + " : Integer;", "end record;", "X : R;"]
+    lines += ["N : Integer := 0;", "begin"] + ["N := X.%s;" % name for name in names[-16_000:]] + ["end Main;"]
+    return filled("\n".join(lines) + "\n")
+
+
 def static_chains():
     """Named numbers and bounds with 1,024 operators each, as many as may stand in a source."""
     chain = "0" + "+1" * 1_024
@@ -299,6 +312,7 @@ def cases():
     yield "case_choices", case_choices(), 0, 1, None
     yield "array_aggregate", array_aggregate(), 0, 1, None
     yield "record_aggregate", record_aggregate(), 0, 1, None
+    yield "selected_components", selected_components(), 0, 1, None
     yield "static_chains", static_chains(), 0, 1, None
     yield "operator_chains", operator_chains(), 0, 1, None
     yield "most_facts", most_facts(), 1, 512, "O4"
@@ -329,11 +343,35 @@ def measured(paths, status, lines, code):
     return seconds, int(values["Maximum resident set size (kbytes)"]) / 1024
 
 
-def bench(folder):
+def program():
+    """The program itself, which the script `spark` runs."""
+    built = TOP / "crates" / "spark" / "out" / "spark"
+    return built if built.is_file() else TOP / "spark"
+
+
+def steps_carried(paths):
+    """How many states were carried along successors of points: how often the one function that does so was called."""
+    profile = paths[0].with_suffix(".calls")
+    command = ["valgrind", "--tool=callgrind", "--callgrind-out-file=%s" % profile, str(program()), "check"]
+    subprocess.run(command + [path.name for path in paths], cwd=paths[0].parent, capture_output=True, check=False)
+    numbers, calls, wanted = set(), 0, False
+    for line in profile.read_text().splitlines():
+        called = re.match(r"c?fn=(\(\d+\))(?: (.*))?", line)
+        if called:
+            number, name = called.groups()
+            if name and name.startswith("path_facts::worklist::carry"):
+                numbers.add(number)
+            wanted = line.startswith("cfn=") and number in numbers
+        elif wanted and line.startswith("calls="):
+            calls += int(line[6:].split()[0])
+    return calls
+
+
+def bench(folder, counts_steps):
     # builds what there is to build, outside the times
     subprocess.run([str(TOP / "spark")], stdin=subprocess.DEVNULL, capture_output=True)
-    print("| source | bytes | status | lines | seconds | MiB |")
-    print("|---|---|---|---|---|---|")
+    print("| source | bytes | status | lines | seconds | MiB |" + " steps |" * counts_steps)
+    print("|---|---|---|---|---|---|" + "---|" * counts_steps)
     for name, text, status, lines, code in cases():
         texts = [text] if isinstance(text, str) else text
         paths = [folder / ("%s_%d.adb" % (name, i)) for i in range(len(texts))]
@@ -341,17 +379,23 @@ def bench(folder):
             path.write_bytes(text.encode("latin-1"))
         seconds, mib = measured(paths, status, lines, code)
         size = sum(len(text) for text in texts)
-        print("| %s | %d | %d | %d | %.2f | %.0f |" % (name, size, status, lines, seconds, mib))
+        row = "| %s | %d | %d | %d | %.2f | %.0f |" % (name, size, status, lines, seconds, mib)
+        if counts_steps:
+            row += " %s |" % (steps_carried(paths) if name in FACTS else "-")
+        print(row, flush=True)
 
 
 def main():
-    if len(sys.argv) > 1:
-        folder = pathlib.Path(sys.argv[1])
+    words = sys.argv[1:]
+    counts_steps = words[:1] == ["--steps"]
+    words = words[counts_steps:]
+    if words:
+        folder = pathlib.Path(words[0])
         folder.mkdir(parents=True, exist_ok=True)
-        bench(folder)
+        bench(folder, counts_steps)
     else:
         with tempfile.TemporaryDirectory() as folder:
-            bench(pathlib.Path(folder))
+            bench(pathlib.Path(folder), counts_steps)
 
 
 if __name__ == "__main__":
