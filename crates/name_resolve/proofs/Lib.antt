@@ -7,5 +7,6 @@ pub mod UsesInRegions
 pub mod Seeing
 pub mod Meanings
 pub mod Occurrences
+pub mod Unbroken
 pub mod Files
 pub mod Given

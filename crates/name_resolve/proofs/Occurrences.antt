@@ -1,7 +1,7 @@
 -- The first occurrence that breaks a rule, and one event after the other.
 use Rattle.std.proofs.Common.{◌≡◌, refl, ap, sym, ◌∙◌, ℕ, true, true≢false, if◌then◌else◌, List, [], ◌∷◌, ◌++◌, Option, None, Some, Result, Ok, Err, IsErr, IsErrAnd, subst, fold}
 use Rattle.std.specs.List.{flat_map}
-use Rattle.std.proofs.lemmas.List.{append_assoc}
+use Rattle.std.proofs.lemmas.List.{append_assoc, append-nil}
 use Rattle.name_events.specs.declared.event.Event.{Event}
 use Rattle.name_events.specs.declared.event.FoldedIdentifier.{FoldedIdentifier}
 use Rattle.name_events.specs.declared.declaration.Declaration.{Declaration}
@@ -41,23 +41,29 @@ pub record Left (behind n : Known) (k : Knowledge) (events rest : List Event) (f
   pub meanings : flat_map (λ ns. ns) (mentioned_from behind n events) ≡ found.denotes.items ++ flat_map (λ ns. ns) (mentioned_from behind known rest)
   pub items : identified_from behind n events ≡ found.identified.items ++ identified_from behind known rest
 
-abbrev pub Goes : Knowledge → Knowledge → Knowledge → List Event → List Event → Found → Type 0
-Goes whole first k events rest found = EachKnown whole first (λ behind n. Left behind n k events rest found)
+-- For all that may be known behind the whole text.
+abbrev pub ForEach : (Known → Type 0) → Knowledge → (Known → Known → Type 0) → Type 0
+ForEach May k P = (behind now : Known) → May behind → Stands k now → P behind now
+
+abbrev pub Goes : (Known → Type 0) → Knowledge → Knowledge → List Event → List Event → Found → Type 0
+Goes May first k events rest found = ForEach May first (λ behind n. Left behind n k events rest found)
 
 flat-append : (xs ys : List (List ℕ)) → flat_map (λ ns. ns) (xs ++ ys) ≡ flat_map (λ ns. ns) xs ++ flat_map (λ ns. ns) ys
 flat-append [] ys = refl
 flat-append (x ∷ xs) ys = ap (λ ns. x ++ ns) (flat-append xs ys) ∙ sym (append_assoc x (flat_map (λ ns. ns) xs) (flat_map (λ ns. ns) ys))
 
-pub goes_on : (whole first k next : Knowledge) (events : List Event) (event : Event) (rest : List Event) (old new : Found)
-    → Goes whole first k events (event ∷ rest) old
-    → EachKnown whole k (λ behind n. fault behind n event ≡ None)
-    → EachKnown whole k (λ behind n. new.denotes.items ≡ old.denotes.items ++ flat_map (λ ns. ns) (mentioned_at behind n event))
-    → EachKnown whole k (λ behind n. new.identified.items ≡ old.identified.items ++ identified_at behind n event)
+-- What may be known behind the whole text may be less with each event.
+pub goes_on : (Might May : Known → Type 0) (first k next : Knowledge) (events : List Event) (event : Event) (rest : List Event) (old new : Found)
+    → ((behind : Known) → May behind → Might behind)
+    → Goes Might first k events (event ∷ rest) old
+    → ForEach May k (λ behind n. fault behind n event ≡ None)
+    → ForEach May k (λ behind n. new.denotes.items ≡ old.denotes.items ++ flat_map (λ ns. ns) (mentioned_at behind n event))
+    → ForEach May k (λ behind n. new.identified.items ≡ old.identified.items ++ identified_at behind n event)
     → ((now : Known) → Stands k now → Stands next (known_behind now event))
-    → Goes whole first next events rest new
+    → Goes May first next events rest new
 unfolding first_fault mentioned_from identified_from
-goes_on whole first k next events event rest old new goes right adds finds learns behind n sb sn =
-    let left = goes behind n sb sn in
+goes_on Might May first k next events event rest old new less goes right adds finds learns behind n sb sn =
+    let left = goes behind n (less behind sb) sn in
     let after = known_behind left.known event in
     record {
       known = after;
@@ -83,7 +89,7 @@ first_says (WrongEnd p) found all is on = on _ is
 first_says Memory found all is on = tt
 
 pub breaks_off : (whole first k : Knowledge) (events : List Event) (event : Event) (rest : List Event) (found : Found) (r : NameRefusal)
-    → Goes whole first k events (event ∷ rest) found
+    → Goes (Stands whole) first k events (event ∷ rest) found
     → EachKnown whole k (λ behind n. Says r (fault behind n event))
     → EachKnown whole first (λ behind n. Says r (first_fault behind n events))
 unfolding first_fault
@@ -92,14 +98,29 @@ breaks_off whole first k events event rest found r goes is behind n sb sn =
     first_says r (fault behind left.known event) (first_fault behind n events) (is behind left.known sb left.stands)
     (λ f at. left.faults ∙ ap (λ o. or_else o (first_fault behind (known_behind left.known event) rest)) at)
 
-pub goes_first : (whole first : Knowledge) (events : List Event) (found : Found) → found.denotes.items ≡ [] → found.identified.items ≡ []
-    → Goes whole first first events events found
-goes_first whole first events found none nowhere behind n sb sn = record {
+pub goes_first : (May : Known → Type 0) (first : Knowledge) (events : List Event) (found : Found) → found.denotes.items ≡ [] → found.identified.items ≡ []
+    → Goes May first first events events found
+goes_first May first events found none nowhere behind n sb sn = record {
   known = n;
   stands = sn;
   faults = refl;
   meanings = ap (λ ns. ns ++ flat_map (λ ns. ns) (mentioned_from behind n events)) (sym none);
   items = ap (λ xs. xs ++ identified_from behind n events) (sym nowhere);
+}
+
+-- What is found behind the last event is all.
+pub record AllFound (behind n : Known) (events : List Event) (found : Found) : Type 0 where
+  pub fault : first_fault behind n events ≡ None
+  pub denotes : found.denotes.items ≡ flat_map (λ ns. ns) (mentioned_from behind n events)
+  pub identified : found.identified.items ≡ identified_from behind n events
+
+pub all_found : (behind n : Known) (k : Knowledge) (events rest : List Event) (found : Found) → rest ≡ [] → Left behind n k events rest found
+    → AllFound behind n events found
+unfolding first_fault mentioned_from identified_from
+all_found behind n k events rest found none left = record {
+  fault = left.faults ∙ ap (first_fault behind left.known) none;
+  denotes = sym (left.meanings ∙ ap (λ es. found.denotes.items ++ flat_map (λ ns. ns) (mentioned_from behind left.known es)) none ∙ append-nil found.denotes.items);
+  identified = sym (left.items ∙ ap (λ es. found.identified.items ++ identified_from behind left.known es) none ∙ append-nil found.identified.items);
 }
 
 -- A refusal that is handed on.

@@ -3,6 +3,7 @@ pub mod Tables
 -- what the tables know
 pub mod Stands
 pub mod Sightings
+pub mod Awaited
 -- declarations as later stages see them
 pub mod Infos
 pub mod OfEvents

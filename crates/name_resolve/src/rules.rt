@@ -198,7 +198,7 @@ fn is_second_unit(now: &Knowledge, form: DeclarationForm, word: &Word) -> bool
 }
 
 /// Whether a declaration is a second one, which completes none.
-fn is_second(now: &Knowledge, form: DeclarationForm, word: &Word) -> bool
+pub fn is_second(now: &Knowledge, form: DeclarationForm, word: &Word) -> bool
     ensures { (n : Known) → Stands now.now n → result ≡ is_second n form word.now }
 {
     if now.completed_by(form, word).is_some() {

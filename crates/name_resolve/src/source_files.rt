@@ -15,6 +15,7 @@ ghost use Rattle.name_resolve.specs.Stands.{EachKnown, Stands};
 use crate::found::Found;
 use crate::infos::infos;
 use crate::knowledge::Knowledge;
+use crate::one_pass::resolve_once;
 use crate::refusal::NameRefusal;
 use crate::rules::visit;
 use ada_tree::Trees;
@@ -89,8 +90,26 @@ struct Meanings {
     found: Found,
 }
 
-/// What the names in events mean, or the first broken rule.
-fn resolve_all(alloc: Global, events: &[Event]) -> Result<Meanings, NameRefusal>
+/// What the names in events mean, if no rule is broken in them. A refusal tells only that one is, or
+/// that there is too little memory.
+fn resolve_unbroken(alloc: Global, events: &[Event]) -> Result<Meanings, NameRefusal>
+    ensures fault { OnOk result (fault_of_events events.now ≡ None) }
+    ensures decls { IfOk result (λ made. made.decls.items ≡ infos_of_events events.now) }
+    ensures denotes { IfOk result (λ made. made.found.denotes.items ≡ numbers_of_events events.now) }
+    ensures identified { IfOk result (λ made. made.found.identified.items ≡ identified_of_events events.now) }
+{
+    let first = Knowledge::new(alloc)?;
+    let pass = resolve_once(alloc, first, events)?;
+    let decls = infos(alloc, &pass.behind.declarations.all)?;
+    Ok(Meanings {
+        decls,
+        found: pass.found,
+    })
+}
+
+/// What the names in events mean, or the first broken rule, by two passes: the first one learns all
+/// that is declared.
+fn resolve_knowing(alloc: Global, events: &[Event]) -> Result<Meanings, NameRefusal>
     ensures fault { Judges result (fault_of_events events.now) }
     ensures decls { IfOk result (λ made. made.decls.items ≡ infos_of_events events.now) }
     ensures denotes { IfOk result (λ made. made.found.denotes.items ≡ numbers_of_events events.now) }
@@ -102,6 +121,20 @@ fn resolve_all(alloc: Global, events: &[Event]) -> Result<Meanings, NameRefusal>
     let found = resolve_events(alloc, &whole, known, events)?;
     let decls = infos(alloc, &whole.declarations.all)?;
     Ok(Meanings { decls, found })
+}
+
+/// What the names in events mean, or the first broken rule. Which one it is takes what stands later.
+fn resolve_all(alloc: Global, events: &[Event]) -> Result<Meanings, NameRefusal>
+    ensures fault { Judges result (fault_of_events events.now) }
+    ensures decls { IfOk result (λ made. made.decls.items ≡ infos_of_events events.now) }
+    ensures denotes { IfOk result (λ made. made.found.denotes.items ≡ numbers_of_events events.now) }
+    ensures identified { IfOk result (λ made. made.found.identified.items ≡ identified_of_events events.now) }
+{
+    match resolve_unbroken(alloc, events) {
+        Ok(made) => Ok(made),
+        Err(NameRefusal::Memory) => Err(NameRefusal::Memory),
+        Err(_) => Ok(resolve_knowing(alloc, events)?),
+    }
 }
 
 /// What each identifier of the files denotes, or the first rule of names that they break, in the

@@ -5,7 +5,7 @@ use Rattle.name_resolve.specs.Judges.{Says}
 use Rattle.name_resolve.specs.OfEvents.{fault_of_events, known_of_events}
 use Rattle.name_resolve.proofs.Files.{infos_are}
 use Rattle.name_resolve.proofs.Occurrences.{handed_on, memory_says}
-use Rattle.name_resolve.proofs.source_files.resolve_all.Goals as goal
+use Rattle.name_resolve.proofs.source_files.resolve_knowing.Goals as goal
 
 pub returns-in_err-known-clause-fault : goal.returns-in_err-known-clause-fault
 returns-in_err-known-clause-fault c =
