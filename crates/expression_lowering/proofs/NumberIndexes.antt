@@ -1,18 +1,18 @@
 -- What a search finds among identifiers in the order of the text.
-use Rattle.std.proofs.Common.{◌≡◌, ◌∙◌, ℕ, zero, suc, ◌+◌, ◌-◌, ◌<◌, ◌≤◌, Bool, true, false, List, [], ◌∷◌, length, get_or, Some, None, Err, inl, inr, IsTrue, refl, sym, ap, arith}
+use Rattle.std.proofs.Common.{◌≡◌, ◌∙◌, ℕ, zero, suc, ◌+◌, ◌-◌, ◌<◌, ◌≤◌, Bool, true, false, List, [], ◌∷◌, length, get_or, Some, None, inl, inr, IsTrue, refl, sym, ap, arith}
 use Rattle.std.specs.declared.cmp.Ordering.{Ordering}
 use Rattle.std.specs.declared.cmp.Ordering.TheVariants.{Less, Equal, Greater}
-use Rattle.std.specs.Ordering.{is_eq, is_lt, nat_cmp, ordering_index}
+use Rattle.std.specs.Ordering.{is_eq, is_lt, nat_cmp, ordering_reverse}
 use Rattle.std.specs.Cmp.{both_tied, unsigned_ties}
 use Rattle.std.specs.List.{IsAllAdjacentAnswer}
-use Rattle.std.specs.List.Sorted.{IsBinarySearchResult, IsNonDecreasingBy}
 use Rattle.std.proofs.lemmas.Bool.{cases_lt}
+use Rattle.std.proofs.lemmas.List.{get_or_default}
 use Rattle.spark_base.specs.declared.position.Pos.{Pos}
 use Rattle.spark_base.specs.Positions.{position_cmp, Precedes}
-use Rattle.spark_base.proofs.Positions.{position_cmp_total, position_cmp-equal, Precedes-trans}
+use Rattle.spark_base.proofs.Positions.{position_cmp-equal, position_cmp-flip, Precedes-trans}
 use Rattle.name_events.specs.declared.declaration.Identified.{Identified}
 use Rattle.name_events.specs.Identified.{number_at, same_position}
-use Rattle.expression_lowering.specs.NumberIndexes.{InTextOrder}
+use Rattle.expression_lowering.specs.NumberIndexes.{BeginsBehind, EndsBefore, InTextOrder}
 
 -- positions that the order doesn't tell apart are the same
 same_position-compared : (a b : Pos) → same_position a b ≡ is_eq (position_cmp a b)
@@ -40,43 +40,54 @@ number_at-none (item ∷ rest) pos d differs =
     rw (same_position-compared item.pos pos, differs 0 (omega arith))
     (number_at-none rest pos d (λ k below. differs (suc k) (omega arith)))
 
--- the comparisons with a position rise along positions
-rises : (a b pos : Pos) → Precedes a b → ordering_index (position_cmp a pos) ≤ ordering_index (position_cmp b pos)
-rises a b pos before = by (position_cmp b pos) (position_cmp a pos) refl refl
-  where
-    by : (o p : Ordering) → position_cmp b pos ≡ o → position_cmp a pos ≡ p → ordering_index p ≤ ordering_index o
-    by Less p e f = let g : p ≡ Less = sym f ∙ position_cmp_total.trans a b pos before e in rw g (omega arith)
-    by Equal p e f =
-        let same = position_cmp-equal b pos e in
-        let g : p ≡ Less = sym f ∙ ap (position_cmp a) (sym same) ∙ before in rw g (omega arith)
-    by Greater Less e f = omega arith
-    by Greater Equal e f = omega arith
-    by Greater Greater e f = omega arith
+-- a position behind another compares as greater
+position_cmp-behind : (a b : Pos) → Precedes b a → position_cmp a b ≡ Greater
+position_cmp-behind a b before = position_cmp-flip a b ∙ ap ordering_reverse before
+
+-- and what compares as greater stands behind
+pub position_cmp-ahead : (a b : Pos) → position_cmp a b ≡ Greater → Precedes b a
+position_cmp-ahead a b behind = position_cmp-flip b a ∙ ap ordering_reverse behind
 
 module _ (numbers : List Identified) (ordered : InTextOrder numbers) (pos : Pos) where
-  comparisons_rise : IsNonDecreasingBy (λ item. ordering_index (position_cmp item.pos pos)) numbers
-  comparisons_rise i j d le within = elim (cases_lt i j) [
-    | inl less ↦ rises _ _ pos (ordered i j d less within)
-    | inr not_less ↦ let same : i ≡ j = omega arith in rw same (omega arith)
-  ]
-
-  -- a binary search for the position has found it
-  pub searched_found : (i : ℕ) (d : Identified) → i < length numbers → position_cmp (get_or numbers i d).pos pos ≡ Equal
+  -- the identifier at a place has the position
+  pub found_at : (i : ℕ) (d : Identified) → i < length numbers → position_cmp (get_or numbers i d).pos pos ≡ Equal
       → number_at numbers pos ≡ Some (get_or numbers i d).number
-  searched_found i d within here =
+  found_at i d within here =
       let same = position_cmp-equal _ pos here in
       number_at-found numbers pos i d within here
       (λ k less. ap is_eq (ap (position_cmp (get_or numbers k d).pos) (sym same) ∙ ordered k i d less within))
 
-  -- it has ended between those before the position and those behind it
-  pub searched_none : (i : ℕ) → IsBinarySearchResult (λ item. position_cmp item.pos pos) numbers (Err i) → number_at numbers pos ≡ None
-  searched_none i parted =
-      let d : Identified = record { pos = pos; number = 0 } in
-      let sides = parted comparisons_rise in
-      number_at-none numbers pos d (λ k below. elim (cases_lt k i) [
-        | inl less ↦ ap is_eq (sides.0 k d (omega arith) less)
-        | inr not_less ↦ ap is_eq (sides.1 k d not_less below)
-      ])
+  -- up to an identifier that stands before the position, all do
+  pub ends_with : (i j : ℕ) (d : Identified) → i < length numbers → j ≤ i + 1 → Precedes (get_or numbers i d).pos pos
+      → EndsBefore numbers j pos
+  ends_with i j d within le here k e below =
+      let at : ℕ → Pos = λ n. (get_or numbers n e).pos in
+      let here : Precedes (at i) pos = rw (get_or_default numbers i e d within) here in
+      elim (cases_lt k i) [
+        | inl less ↦ Precedes-trans (at k) (at i) pos (ordered k i e less within) here
+        | inr not_less ↦ let same : k ≡ i = omega arith in rw same here
+      ]
+
+  -- from an identifier on that stands behind the position, all do
+  pub begins_with : (i : ℕ) (d : Identified) → i < length numbers → Precedes pos (get_or numbers i d).pos
+      → BeginsBehind numbers i pos
+  begins_with i d within here k e above below =
+      let at : ℕ → Pos = λ n. (get_or numbers n e).pos in
+      let here : Precedes pos (at i) = rw (get_or_default numbers i e d within) here in
+      elim (cases_lt i k) [
+        | inl less ↦ Precedes-trans pos (at i) (at k) here (ordered i k e less below)
+        | inr not_less ↦ let same : k ≡ i = omega arith in rw same here
+      ]
+
+-- all identifiers stand before the position or behind it
+pub none_between : (numbers : List Identified) (pos : Pos) (from to : ℕ) → EndsBefore numbers from pos
+    → BeginsBehind numbers to pos → to ≤ from → number_at numbers pos ≡ None
+none_between numbers pos from to before behind empty =
+    let d : Identified = record { pos = pos; number = 0 } in
+    number_at-none numbers pos d (λ k below. elim (cases_lt k from) [
+      | inl less ↦ ap is_eq (before k d less)
+      | inr not_less ↦ ap is_eq (position_cmp-behind (get_or numbers k d).pos pos (behind k d (omega arith) below))
+    ])
 
 module _ (numbers : List Identified)
     (next : (k : ℕ) (d : Identified) → k + 1 < length numbers → Precedes (get_or numbers k d).pos (get_or numbers (k + 1) d).pos) where
@@ -92,7 +103,7 @@ module _ (numbers : List Identified)
   in_order_from_neighbours i j d less within = later i (j - i - 1) j d (omega arith) within
 
 -- what the test of neighbours says
-is_lt-Less : (o : Ordering) → true ≡ is_lt o → o ≡ Less
+pub is_lt-Less : (o : Ordering) → true ≡ is_lt o → o ≡ Less
 is_lt-Less Less e = refl
 is_lt-Less Equal e = cc
 is_lt-Less Greater e = cc

@@ -5,10 +5,12 @@
 //! function gives the number of the tree that it made. The levels of the grammar vanish there, an
 //! operator has its operands, and a mark or a name has the declaration that it denotes. What each
 //! production stands for, `specs/LoweredExpressions.antt` states (Ada 2012, 4.1 to 4.8). Nothing is
-//! refused but for memory. Time and memory are linear in the tokens, but for the look-ups.
+//! refused but for memory. Time and memory are linear in the tokens and lines, but for the
+//! look-ups.
 #![tactic(auto)]
 
 mod expression;
+mod line_starts;
 mod marks;
 mod number_index;
 mod ranges;

@@ -46,6 +46,15 @@ impl Rows {
         }
     }
 
+    /// Makes room for so many more trees and so much more code. What is there stays.
+    pub fn reserve(&mut self, trees: usize, code: usize) -> Result<(), AllocError>
+        ensures { self.new ≡ self.old }
+    {
+        self.nodes.reserve_exact(trees)?;
+        self.codes.reserve_exact(code)?;
+        Ok(())
+    }
+
     /// How many trees there are.
     pub fn len(&self) -> usize
         ensures { result ≡ length self.now.0 }

@@ -125,6 +125,13 @@ fn file(
     Ok(())
 }
 
+/// Makes room for the nodes of a text with so many identifiers, as most texts have them.
+fn make_room(identifiers: usize, rows: &mut Rows) -> Result<(), AllocError>
+    ensures { rows.new ≡ rows.old }
+{
+    rows.reserve(identifiers.saturating_mul(2), identifiers.saturating_mul(3))
+}
+
 /// Makes code of all units of all files, in order, and gives the numbers of these. Out of memory,
 /// the rows may have more nodes than before.
 pub fn lower(
@@ -136,6 +143,7 @@ pub fn lower(
     ensures units { IfOk result (λ units. HoldsAllCode rows.new units.items (lowered_files numbers.now (map (λ trees. trees.units) files.now))) }
     ensures grew { Grew rows.old rows.new }
 {
+    make_room(numbers.len(), rows)?;
     let mut units = Vec::new(alloc);
     'files: for trees in files {
         file(trees.as_slice(), numbers, rows, &mut units)?;
