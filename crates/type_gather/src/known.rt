@@ -58,7 +58,7 @@ pub fn own_info(shape: Shape, number: u32) -> Info
 }
 
 impl Gathering {
-    /// A reader of what is known here.
+    /// A reader of what is known here, with no index of formals: nothing here looks for these.
     pub fn reader<'p>(&'p self, rows: &'p Rows) -> Reader<'p>
         ensures here { here result ≡ context self.now }
         ensures rows { result.rows.now ≡ rows.now }
@@ -68,6 +68,7 @@ impl Gathering {
             rows,
             known: &self.known,
             components: self.components.as_slice(),
+            formals: &[],
             home: self.home,
             within: self.within,
             sub: self.sub,

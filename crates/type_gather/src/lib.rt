@@ -8,9 +8,9 @@
 //! `type_table/specs/Whole.antt`. Nothing is refused: a declaration that breaks a rule of typing
 //! gets what the definitions say, and is reported by who looks for faults.
 //!
-//! It recurses only as deep as constructs nest. Time and memory are linear in the rows, but for a
-//! list of identifiers with one value, which is looked at once for each of them. The components of
-//! a record that has many get an index by name with its type, as far as there is memory for it.
+//! It recurses only as deep as constructs nest. Time and memory are linear in the rows. The
+//! components of a record that has many get an index by name with its type, as far as there is
+//! memory for it.
 #![tactic(auto)]
 
 mod bounds;

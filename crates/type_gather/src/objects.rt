@@ -1,11 +1,8 @@
 //! Objects and named numbers (Ada 2012, 3.3 and 5.5).
-ghost use Rattle.std.specs.Prelude.{◌≡◌, ◌<◌, ◌&&◌, is_none, length};
+ghost use Rattle.std.specs.Prelude.{◌≡◌, ◌<◌, length};
 ghost use Rattle.resolved_tree.specs.Nodes.{code_at, tree_at};
 ghost use Rattle.resolved_tree.specs.Trees.{Objects, Numbers};
-ghost use Rattle.type_table.specs.Types.{full, is_scalar};
-ghost use Rattle.type_table.specs.Entries.{integer};
-ghost use Rattle.type_table.specs.Statics as statics;
-ghost use Rattle.type_table.specs.Gathered.{each, gather, initial_static, initial_value, object_info, object_kind, parameter_type, with_number, with_object};
+ghost use Rattle.type_table.specs.Gathered.{constant_value, each, gather, initial_value, number_info, object_info, object_kind, parameter_type, with_number, with_object};
 ghost use Rattle.type_table.specs.Statements.{type_or_integer};
 ghost use Rattle.type_gather.specs.Gathering.{context};
 
@@ -13,7 +10,7 @@ use crate::declared::declared_number;
 use crate::gathering::Gathering;
 use resolved_tree::{CodeNode, Node, Rows};
 use type_names::{INTEGER, is_scalar, value_as};
-use type_table::{Entry, Kind, ObjectInfo, Own, Static};
+use type_table::{Entry, InitialValue, Kind, ObjectInfo, Own};
 
 /// Whether an object is a variable or a constant.
 fn object_kind(constant: bool) -> Kind
@@ -37,119 +34,121 @@ fn type_or_integer(own: Own) -> u32
 }
 
 impl Gathering {
-    /// Whether a constant has a static initial value.
-    fn initial_static(&self, rows: &Rows, constant: bool, value: usize) -> bool
+    /// What is known of an initial value.
+    fn initial_value(&self, rows: &Rows, value: usize) -> InitialValue
         requires { value < length rows.now.0 }
-        ensures { result ≡ initial_static (context self.now) constant (tree_at rows.now value) }
+        ensures { result ≡ initial_value (context self.now) (tree_at rows.now value) }
     {
-        match rows.node(value) {
-            Node::More { first, .. } if constant => self.reader(rows).is_static(*first),
-            _ => false,
+        let reader = self.reader(rows);
+        InitialValue {
+            is_static: reader.is_static(value),
+            value: reader.value(value),
         }
     }
 
-    /// The initial value of a constant, where it has one.
-    fn initial_value(&self, rows: &Rows, constant: bool, value: usize) -> Option<Static>
+    /// What is known of the initial value of constants. That of variables isn't looked at.
+    fn constant_value(&self, rows: &Rows, constant: bool, value: usize) -> InitialValue
         requires { value < length rows.now.0 }
-        ensures { result ≡ initial_value (context self.now) constant (tree_at rows.now value) }
+        ensures { result ≡ constant_value (context self.now) constant (tree_at rows.now value) }
     {
         match rows.node(value) {
-            Node::More { first, .. } if constant => self.reader(rows).value(*first),
-            _ => None,
+            Node::More { first, .. } if constant => self.initial_value(rows, *first),
+            _ => InitialValue {
+                is_static: false,
+                value: None,
+            },
         }
-    }
-
-    /// Whether an object is a constant of a scalar type.
-    fn is_scalar_constant(&self, rows: &Rows, constant: bool, of: u32) -> bool
-        ensures { result ≡ constant && is_scalar (full self.now.known.table of) }
-    {
-        constant && is_scalar(self.reader(rows).full(of))
     }
 
     /// What an object of a type is.
-    fn object_info(&self, rows: &Rows, constant: bool, of: u32, value: usize) -> ObjectInfo
-        requires { value < length rows.now.0 }
-        ensures { result ≡ object_info (context self.now) constant of (tree_at rows.now value) }
+    fn object_info(&self, rows: &Rows, constant: bool, of: u32, initial: InitialValue) -> ObjectInfo
+        ensures { result ≡ object_info (context self.now) constant of initial }
     {
-        let scalar = self.is_scalar_constant(rows, constant, of);
-        let base = self.reader(rows).base(of);
+        let reader = self.reader(rows);
+        let scalar = is_scalar(reader.full(of));
         ObjectInfo {
             of,
             kind: object_kind(constant),
             in_package: self.sub.is_none(),
-            is_static: self.initial_static(rows, scalar, value),
-            value: value_as(base, self.initial_value(rows, scalar, value)),
+            is_static: scalar && initial.is_static,
+            value: if scalar {
+                value_as(reader.base(of), initial.value)
+            } else {
+                None
+            },
         }
     }
 
     /// An object.
-    fn with_object(&mut self, rows: &Rows, constant: bool, of: usize, value: usize, name: usize)
+    fn with_object(
+        &mut self,
+        rows: &Rows,
+        constant: bool,
+        of: usize,
+        initial: InitialValue,
+        name: usize,
+    )
         requires of { of < length rows.now.1 }
-        requires value { value < length rows.now.0 }
         requires name { name < length rows.now.1 }
-        ensures { context self.new ≡ with_object constant (code_at rows.now of) (tree_at rows.now value) (code_at rows.now name) (context self.old) }
+        ensures { context self.new ≡ with_object constant (code_at rows.now of) initial (code_at rows.now name) (context self.old) }
     {
         let number = declared_number(rows, name);
         let indicated = self.indicated(rows, number, of);
-        let object = self.object_info(rows, constant, indicated, value);
+        let object = self.object_info(rows, constant, indicated, initial);
         self.with_indication(rows, number, of);
         self.with_entry(number, Entry::Object { object });
     }
 
-    /// The objects of a list of identifiers.
+    /// The objects of a list of identifiers. Their initial value is looked at once.
     pub fn objects(&mut self, rows: &Rows, names: usize, constant: bool, of: usize, value: usize)
         requires names { names < length rows.now.1 }
         requires of { of < length rows.now.1 }
         requires value { value < length rows.now.0 }
-        ensures { context self.new ≡ each (with_object constant (code_at rows.now of) (tree_at rows.now value)) (code_at rows.now names) (context self.old) }
+        ensures { let shared = constant_value (context self.old) constant (tree_at rows.now value) in
+            context self.new ≡ each (with_object constant (code_at rows.now of) shared) (code_at rows.now names) (context self.old) }
     {
+        let shared = self.constant_value(rows, constant, value);
         let mut i = names;
         'names: while let CodeNode::More { first, rest } = rows.code(i) {
-            self.with_object(rows, constant, of, value, *first);
+            self.with_object(rows, constant, of, shared, *first);
             i = *rest;
         }
     }
 
     /// What a named number is.
-    fn number_info(&self, rows: &Rows, value: usize) -> ObjectInfo
-        requires { value < length rows.now.0 }
-        ensures { result ≡ record {
-          of = integer;
-          kind = Kind.Constant;
-          in_package = is_none self.now.sub;
-          is_static = statics.is_static (context self.now) (tree_at rows.now value);
-          value = statics.value_as integer (statics.value (context self.now) (tree_at rows.now value));
-        } }
+    fn number_info(&self, initial: InitialValue) -> ObjectInfo
+        ensures { result ≡ number_info (context self.now) initial }
     {
         ObjectInfo {
             of: INTEGER,
             kind: Kind::Constant,
             in_package: self.sub.is_none(),
-            is_static: self.reader(rows).is_static(value),
-            value: value_as(INTEGER, self.reader(rows).value(value)),
+            is_static: initial.is_static,
+            value: value_as(INTEGER, initial.value),
         }
     }
 
     /// A named number.
-    fn with_number(&mut self, rows: &Rows, value: usize, name: usize)
-        requires value { value < length rows.now.0 }
-        requires name { name < length rows.now.1 }
-        ensures { context self.new ≡ with_number (tree_at rows.now value) (code_at rows.now name) (context self.old) }
+    fn with_number(&mut self, rows: &Rows, initial: InitialValue, name: usize)
+        requires { name < length rows.now.1 }
+        ensures { context self.new ≡ with_number initial (code_at rows.now name) (context self.old) }
     {
         let number = declared_number(rows, name);
-        let object = self.number_info(rows, value);
+        let object = self.number_info(initial);
         self.with_entry(number, Entry::Object { object });
     }
 
-    /// The named numbers of a list of identifiers.
+    /// The named numbers of a list of identifiers. Their value is looked at once.
     pub fn numbers(&mut self, rows: &Rows, names: usize, value: usize)
         requires names { names < length rows.now.1 }
         requires value { value < length rows.now.0 }
-        ensures { context self.new ≡ each (with_number (tree_at rows.now value)) (code_at rows.now names) (context self.old) }
+        ensures { let shared = initial_value (context self.old) (tree_at rows.now value) in
+            context self.new ≡ each (with_number shared) (code_at rows.now names) (context self.old) }
     {
+        let shared = self.initial_value(rows, value);
         let mut i = names;
         'names: while let CodeNode::More { first, rest } = rows.code(i) {
-            self.with_number(rows, value, *first);
+            self.with_number(rows, shared, *first);
             i = *rest;
         }
     }

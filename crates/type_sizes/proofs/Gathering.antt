@@ -12,7 +12,7 @@ use Rattle.type_table.specs.declared.judgement.View.TheVariants as view
 use Rattle.type_table.specs.Types.{Table, no_type, full as view_at, base}
 use Rattle.type_table.specs.Entries.{entry_of, marked}
 use Rattle.type_table.specs.Names.{Context}
-use Rattle.type_table.specs.Gathered.{gather, each, with_type, with_indication, with_definition, with_literals, with_object, with_number, with_formal, with_formal_group, with_formals, with_result, with_front, with_body_front, own_info, full_info, constrained_shape, bound_pair, is_subprogram, front_number, declared_number, in_visible, in_hidden, in_subprogram}
+use Rattle.type_table.specs.Gathered.{gather, each, with_type, with_indication, with_definition, with_literals, initial_value, constant_value, with_object, with_number, with_formal, with_formal_group, with_formals, with_result, with_front, with_body_front, own_info, full_info, constrained_shape, bound_pair, is_subprogram, front_number, declared_number, in_visible, in_hidden, in_subprogram}
 use Rattle.type_table.specs.Whole.{made}
 
 or_true : (a : Bool) → IsTrue (a || true)
@@ -155,8 +155,10 @@ module _ (full_type : ℕ → Bool) where
       (or_right (full_type (declared_number d)) _
       (constrained_small (view_at c.known.table (marked c.known m)) (bound_pair c (base c.known.table (marked c.known m)) low high)))
   code_covered (Objects ids constant i v) c other full covered =
-      each_covered (with_object constant i v) (λ d c covered. indication_covered (declared_number d) i c covered) ids c covered
-  code_covered (Numbers ids e) c other full covered = each_covered (with_number e) (λ d c covered. covered) ids c covered
+      each_covered (with_object constant i (constant_value c constant v))
+      (λ d c covered. indication_covered (declared_number d) i c covered) ids c covered
+  code_covered (Numbers ids e) c other full covered =
+      each_covered (with_number (initial_value c e)) (λ d c covered. covered) ids c covered
   code_covered (Instance d m args) c other full covered = covered
   code_covered (SubDecl front) c other full covered = front_covered front c covered
   code_covered (SubBody front items stmts end) c other full covered =

@@ -9,7 +9,7 @@ use Rattle.type_table.specs.declared.table.Component.{Component}
 use Rattle.type_table.specs.declared.table.Shape.{Shape}
 use Rattle.type_table.specs.declared.table.Shape.TheVariants as shape
 use Rattle.type_table.specs.declared.table.Info.{Info}
-use Rattle.type_table.specs.declared.table.Static.{Static}
+use Rattle.type_table.specs.declared.table.InitialValue.{InitialValue}
 use Rattle.type_table.specs.declared.table.Kind.{Kind}
 use Rattle.type_table.specs.declared.table.Kind.TheVariants as kind
 use Rattle.type_table.specs.declared.table.ObjectInfo.{ObjectInfo}
@@ -259,41 +259,46 @@ with_body_front front c =
 
 -- ---- objects
 
--- A constant of a scalar type is static where its initial value is (Ada 2012, 4.9).
-abbrev pub initial_static : Context → Bool → Tree → Bool
-initial_static c true (More e rest) = is_static c e
-initial_static c _ _ = false
+-- The initial value of a list is looked at once, before the list: what that declares is known from
+-- its end on (Ada 2012, 3.3.1 and 8.3).
+abbrev pub initial_value : Context → Tree → InitialValue
+initial_value c e = record { is_static = is_static c e; value = value c e }
 
-abbrev pub initial_value : Context → Bool → Tree → Option Static
-initial_value c true (More e rest) = value c e
-initial_value c _ _ = None
+-- That of a variable isn't looked at.
+abbrev pub constant_value : Context → Bool → Tree → InitialValue
+constant_value c true (More e rest) = initial_value c e
+constant_value c _ _ = record { is_static = false; value = None }
 
 abbrev pub object_kind : Bool → Kind
 object_kind true = kind.Constant
 object_kind false = kind.Variable
 
-abbrev pub object_info : Context → Bool → ℕ → Tree → ObjectInfo
+-- A constant of a scalar type is static where its initial value is (Ada 2012, 4.9).
+abbrev pub object_info : Context → Bool → ℕ → InitialValue → ObjectInfo
 object_info c constant t v = record {
   of = t;
   kind = object_kind constant;
   in_package = is_none c.sub;
-  is_static = initial_static c (constant && is_scalar (full c.known.table t)) v;
-  value = value_as (base c.known.table t) (initial_value c (constant && is_scalar (full c.known.table t)) v);
+  is_static = is_scalar (full c.known.table t) && v.is_static;
+  value = if is_scalar (full c.known.table t) then value_as (base c.known.table t) v.value else None;
 }
 
-abbrev pub with_object : Bool → Code → Tree → Code → Context → Context
+abbrev pub with_object : Bool → Code → InitialValue → Code → Context → Context
 with_object constant i v d c =
     with_entry (declared_number d) (entry.Object (object_info c constant (indicated c.known (declared_number d) i) v))
     (with_indication (declared_number d) i c)
 
-abbrev pub with_number : Tree → Code → Context → Context
-with_number e d c = with_entry (declared_number d) (entry.Object (record {
+abbrev pub number_info : Context → InitialValue → ObjectInfo
+number_info c v = record {
   of = integer;
   kind = kind.Constant;
   in_package = is_none c.sub;
-  is_static = is_static c e;
-  value = value_as integer (value c e);
-})) c
+  is_static = v.is_static;
+  value = value_as integer v.value;
+}
+
+abbrev pub with_number : InitialValue → Code → Context → Context
+with_number v d c = with_entry (declared_number d) (entry.Object (number_info c v)) c
 
 -- The type of the parameter of a `for` loop (Ada 2012, 5.5): the mark of its range, where one stands
 -- there, else the whole type of its bounds.
@@ -349,8 +354,8 @@ gather (ConstrainedSubtype d m low high) c =
     with_type (declared_number d)
     (subtype_info c.known (marked c.known m)
     (constrained_shape (full c.known.table (marked c.known m)) (bound_pair c (base c.known.table (marked c.known m)) low high))) c
-gather (Objects ids constant i v) c = each (with_object constant i v) ids c
-gather (Numbers ids e) c = each (with_number e) ids c
+gather (Objects ids constant i v) c = each (with_object constant i (constant_value c constant v)) ids c
+gather (Numbers ids e) c = each (with_number (initial_value c e)) ids c
 gather (Instance d m args) c = with_entry (declared_number d) (entry.Instance (instance_type args)) c
 gather (SubDecl front) c = with_front front c
 gather (SubBody front items stmts end) c =

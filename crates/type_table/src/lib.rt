@@ -8,6 +8,6 @@ mod table;
 pub use judgement::{Cover, Fault, Next, Own, Reading, Role, View, Way, Where};
 pub use refusal::TypeRefusal;
 pub use table::{
-    Component, Entry, FormalInfo, Info, Kind, Known, Made, ObjectInfo, Predefined, Profile, Shape,
-    Static,
+    Component, Entry, FormalInfo, Info, InitialValue, Kind, Known, Made, ObjectInfo, Predefined,
+    Profile, Shape, Static,
 };

@@ -77,6 +77,15 @@ pub struct Static {
     pub sound: bool,
 }
 
+/// What is known of the initial value of a list of constants or named numbers (Ada 2012, 4.9).
+#[derive(Clone, Copy)]
+pub struct InitialValue {
+    /// Whether it is static.
+    pub is_static: bool,
+    /// Its value then, where it has one.
+    pub value: Option<Static>,
+}
+
 /// What an object is.
 #[derive(Clone, Copy)]
 pub enum Kind {
