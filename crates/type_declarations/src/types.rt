@@ -12,7 +12,7 @@ use crate::marks::access_mark;
 use resolved_tree::{CodeNode, Mark};
 use type_expressions::Checker;
 use type_names::{INTEGER, Reader};
-use type_settled::demand;
+use type_settled::{demand, is_ahead};
 use type_statements::{
     bounds_of, is_nothing, range_of_faults, scalar_mark, static_faults, static_value,
 };
@@ -145,7 +145,8 @@ fn is_private(reader: &Reader<'_>, number: u32) -> bool
     }
 }
 
-/// With the faults of the declaration of a type.
+/// With the faults of the declaration of a type. Whether a private type has itself in it is asked
+/// only where no fault before it is found.
 #[tactic(auto, using(type_expressions::proofs::Noted::noted_append))]
 pub fn type_faults(
     checker: &Checker<'_>,
@@ -159,9 +160,13 @@ pub fn type_faults(
 {
     let reader = checker.reader();
     let found = definition_faults(checker, found, definition);
+    let pos = declared_pos(&reader, name);
+    if is_ahead(found, 1, pos) {
+        return found;
+    }
     let number = declared_number(&reader, name);
     let holds = !is_private(&reader, number) || !checker.settled.holds_itself(number);
-    demand(found, 1, declared_pos(&reader, name), holds)
+    demand(found, 1, pos, holds)
 }
 
 /// With the faults of a subtype without a constraint.

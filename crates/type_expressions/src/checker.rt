@@ -43,6 +43,7 @@ impl<'p> Checker<'p> {
             rows: self.rows,
             known: &self.settled.known,
             components: self.settled.components.as_slice(),
+            formals: self.settled.formals.as_slice(),
             home: self.home,
             within: self.within,
             sub: self.sub,

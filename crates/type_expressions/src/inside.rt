@@ -4,8 +4,6 @@ ghost use Rattle.resolved_tree.specs.Nodes.{tree_at};
 ghost use Rattle.type_table.specs.Entries.{integer};
 ghost use Rattle.type_table.specs.Faults.{noted};
 ghost use Rattle.type_table.specs.Expressions.{passes_parens, inside, arguments, within_suffix, behind, faults, name_faults, loose_faults};
-ghost use Rattle.type_names.specs.Occurrences.{names_for};
-ghost use Rattle.type_names.specs.Matchings.{IsFor};
 ghost use Rattle.type_expressions.specs.Around.{context};
 ghost use Rattle.type_expressions.specs.Arguments.{argument};
 
@@ -14,7 +12,7 @@ use ada_tree::Word;
 use resolved_tree::{Node, Operator, UnaryOperator};
 use spark_base::Pos;
 use type_names::{
-    INTEGER, Matching, element_type, fits_others, is_anonymous, operand_type, role_of, unary_type,
+    INTEGER, element_type, fits_others, is_anonymous, operand_type, role_of, unary_type,
 };
 use type_settled::demand;
 use type_table::{Fault, Role, Way, Where};
@@ -111,23 +109,21 @@ impl<'p> Checker<'p> {
         self.inside(found, loose, want, e)
     }
 
-    /// The same, where the names of what it may be for are known.
+    /// The same, by the number of what it is for, where an index finds that by its name.
     #[cycle(inside)]
     #[tactic(auto, using(crate::proofs::Steps::argument_number))]
     fn matched_argument(
         &self,
         found: Option<Fault>,
-        matching: &Matching,
         role: Role,
         i: usize,
         name: &Option<Word>,
         e: usize,
     ) -> Option<Fault>
-        requires e { e < length self.now.rows.now.0 }
-        requires matching { IsFor matching.now (names_for (context self.now) role) }
+        requires { e < length self.now.rows.now.0 }
         ensures { result ≡ noted found (argument (context self.now) role i name.now (tree_at self.now.rows.now e)) }
     {
-        match matching.number(self.settled.alloc, name) {
+        match self.reader().argument_number(role, name) {
             Some(number) => self.argument(found, role, number, &None, e),
             None => self.argument(found, role, i, name, e),
         }
@@ -140,12 +136,11 @@ impl<'p> Checker<'p> {
         requires { list < length self.now.rows.now.0 }
         ensures { result ≡ noted found (arguments (context self.now) role 0 (tree_at self.now.rows.now list)) }
     {
-        let matching = self.reader().matching(role, list);
         let mut found = found;
         let mut i = list;
         let mut n = 0;
         'arguments: while let Node::Argument { name, value, rest } = self.rows.node(i) {
-            found = self.matched_argument(found, &matching, role, n, name, *value);
+            found = self.matched_argument(found, role, n, name, *value);
             n += 1;
             i = *rest;
         }

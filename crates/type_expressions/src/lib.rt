@@ -5,9 +5,10 @@
 //! an expression stands. Its methods take the first fault that was found so far, and give the first
 //! one with those of an expression: of all faults the first in the text counts, so nothing stops at
 //! one, and the order of tests is free. The definitions of `type_table` list all faults of an
-//! expression; `docs/LANGUAGE.md`, "Types", says them in words (Ada 2012, 4 and 6.4). Memory is
-//! taken only for an index of names, where many arguments stand by name, and there is an answer
-//! without it, too. Time is linear in the trees.
+//! expression; `docs/LANGUAGE.md`, "Types", says them in words (Ada 2012, 4 and 6.4). What an
+//! argument by name is for is found with the indexes of what is settled. Memory is taken only for a
+//! name in lower case, and for an index of the names of a list that has one for each of many
+//! components or formals; there is an answer without it, too. Time is linear in the trees.
 #![tactic(auto)]
 
 mod actuals;

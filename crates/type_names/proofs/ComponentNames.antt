@@ -1,6 +1,6 @@
 -- What indexes of the names of components find.
-use Rattle.std.proofs.Common.{◌≡◌, ◌≢◌, ◌⊎◌, inl, inr, ℕ, zero, suc, pred, suc-ne-zero, set, ◌+◌, Bool, true, false, not, cond, if◌then◌else◌, List, [], ◌∷◌, ◌++◌, length, slice_get, Option, Some, None, is_some, refl, sym, ap, subst, ◌∙◌, arith}
-use Rattle.std.proofs.lemmas.Option.{none-some, same_Some}
+use Rattle.std.proofs.Common.{◌≡◌, ◌≢◌, ◌⊎◌, inl, inr, ℕ, suc, ◌+◌, Bool, true, false, not, cond, if◌then◌else◌, List, [], ◌∷◌, length, slice_get, Option, Some, None, IfSome, is_some, refl, sym, ap, subst, ◌∙◌, arith}
+use Rattle.std.proofs.lemmas.List.{length-map}
 use Rattle.type_table.specs.declared.table.Component.{Component}
 use Rattle.type_table.specs.declared.judgement.Next.{Next}
 use Rattle.type_table.specs.declared.judgement.Next.TheVariants.{Goes, Stops}
@@ -8,8 +8,9 @@ use Rattle.type_table.specs.Types.{Table, fields, named}
 use Rattle.type_table.specs.Entries.{same_word}
 use Rattle.type_table.specs.Names.{component}
 use Rattle.type_names.specs.declared.word_index.Occurrence.{Occurrence}
-use Rattle.type_names.specs.Occurrences.{Entries, Indexes, component_names, number_found, occurrence, occurs}
-use Rattle.type_names.specs.ComponentNames.{component_number, own_components, FindsComponents, FindAllComponents, SameBut}
+use Rattle.type_names.specs.Occurrences.{Entries, Indexes, component_names, number_for, number_found, occurrence, occurs}
+use Rattle.type_names.specs.IndexLists.{OnlyHas}
+use Rattle.type_names.specs.ComponentNames.{component_number, own_components, FindAllComponents, SameBut}
 
 -- ---- in an index
 
@@ -30,12 +31,10 @@ found_from n (c ∷ rest) w = by (same_word w c.name) (found_from (n + 1) rest w
         let next : n + 1 + component_number w rest ≡ n + (1 + component_number w rest) = omega arith in
         ap (λ k. number_found k o) more ∙ is ∙ next
 
-pub index_finds : (entries : Entries) (cs : List Component) → Indexes entries (component_names cs) → FindsComponents (Some entries) cs
-index_finds entries cs is other w same =
-    let from : number_found (length cs) (occurrence 0 (component_names cs) w) ≡ component_number w cs =
+number_of : (w : List ℕ) (cs : List Component) → number_found (length cs) (occurrence 0 (component_names cs) w) ≡ component_number w cs
+number_of w cs =
     ap (λ k. number_found k (occurrence 0 (component_names cs) w)) (none_before (length cs)) ∙ found_from 0 cs w
-    ∙ sym (none_before (component_number w cs)) in
-    ap (λ e. number_found (length cs) (occurs e w)) (sym (same_Some entries other same)) ∙ ap (number_found (length cs)) (is w) ∙ from
+    ∙ sym (none_before (component_number w cs))
   where
     none_before : (k : ℕ) → k ≡ 0 + k
     none_before k = omega arith
@@ -44,8 +43,18 @@ pub first_found : (table : Table) (indexes : List (Option Entries)) (t n : ℕ) 
     → FindAllComponents indexes table → n ≡ named table t → slice_get indexes n ≡ Some (Some index) → o ≡ occurs index w
     → number_found (length (fields table t)) o ≡ component_number w (fields table t)
 first_found table indexes t n index w o all is there found =
-    ap (number_found (length (fields table t))) found
-    ∙ all (named table t) (Some index) (ap (slice_get indexes) (sym is) ∙ there) index w refl
+    ap (number_found (length (fields table t))) (found ∙ all (named table t) index (ap (slice_get indexes) (sym is) ∙ there) w)
+    ∙ number_of w (fields table t)
+
+-- What an argument by name is for.
+component_argument : (w : List ℕ) (cs : List Component) (i : ℕ) → component_number w cs ≡ number_for (component_names cs) i (Some w)
+component_argument w cs i =
+    sym (ap (λ n. number_found n (occurrence 0 (component_names cs) w)) (length-map cs (λ k. Some k.name)) ∙ number_of w cs)
+
+pub argument_found : (w : List ℕ) (cs : List Component) (found : Option ℕ) → IfSome found (λ n. n ≡ component_number w cs)
+    → IfSome found (λ n. (i : ℕ) → n ≡ number_for (component_names cs) i (Some w))
+argument_found w cs None is = is
+argument_found w cs (Some n) is = λ i. is ∙ component_argument w cs i
 
 -- ---- in a record
 
@@ -76,41 +85,14 @@ component_missing w cs n is none =
 
 -- ---- one more index
 
--- Nothing is to be found at a type without an index.
-no_index : (cs : List Component) → FindsComponents None cs
-no_index cs entries w is = absurd (none-some _ is)
-
-none_behind : {A : Type 0} (P : ℕ → Option A → Type 0) (all : List (Option A)) → ((t : ℕ) → P t None)
-    → ((t : ℕ) (x : Option A) → slice_get all t ≡ Some x → P t x) → (t : ℕ) (x : Option A) → slice_get (all ++ None ∷ []) t ≡ Some x → P t x
-none_behind P [] none each zero x is = subst (P 0) (same_Some None x is) (none 0)
-none_behind P [] none each (suc t) x is = absurd (none-some _ is)
-none_behind P (b ∷ all) none each zero x is = each 0 x is
-none_behind P (b ∷ all) none each (suc t) x is = none_behind (λ n. P (suc n)) all (λ n. none (suc n)) (λ n. each (suc n)) t x is
-
-pub room_added : (table : Table) (all next : List (Option Entries)) → next ≡ all ++ None ∷ [] → FindAllComponents all table → FindAllComponents next table
-room_added table all next is finds =
-    subst (λ indexes. FindAllComponents indexes table) (sym is)
-    (none_behind (λ t x. FindsComponents x (own_components table t)) all (λ t. no_index (own_components table t)) finds)
-
--- An element of a list that has another one at an index.
-pub set_cases : {A : Type 0} (all : List A) (t n : ℕ) (a x : A) → slice_get (set all t a) n ≡ Some x
-    → ((n ≡ t) × (a ≡ x)) ⊎ ((n ≢ t) × (slice_get all n ≡ Some x))
-set_cases [] t n a x is = absurd (none-some _ is)
-set_cases (b ∷ all) zero zero a x is = inl (refl, same_Some a x is)
-set_cases (b ∷ all) zero (suc n) a x is = inr (suc-ne-zero n, is)
-set_cases (b ∷ all) (suc t) zero a x is = inr ((λ e. suc-ne-zero t (sym e)), is)
-set_cases (b ∷ all) (suc t) (suc n) a x is = by (set_cases all t n a x is)
-  where
-    by : ((n ≡ t) × (a ≡ x)) ⊎ ((n ≢ t) × (slice_get all n ≡ Some x))
-        → ((suc n ≡ suc t) × (a ≡ x)) ⊎ ((suc n ≢ suc t) × (slice_get all n ≡ Some x))
-    by (inl (e, i)) = inl (ap suc e, i)
-    by (inr (ne, i)) = inr ((λ e. ne (ap pred e)), i)
-
-pub index_replaced : (before after : Table) (all next : List (Option Entries)) (t : ℕ) (index : Option Entries)
-    → next ≡ set all t index → SameBut t before after → FindsComponents index (own_components after t)
+pub index_replaced : (before after : Table) (all next : List (Option Entries)) (t : ℕ) (own : Option Entries)
+    → OnlyHas t own all next → SameBut t before after → IfSome own (λ index. Indexes index (component_names (own_components after t)))
     → FindAllComponents all before → FindAllComponents next after
-index_replaced before after all next t index is same finds each n x there = by (set_cases all t n index x (ap (λ l. slice_get l n) (sym is) ∙ there))
+index_replaced before after all next t own only same right each n index there = by (only n index there)
   where
-    by : ((n ≡ t) × (index ≡ x)) ⊎ ((n ≢ t) × (slice_get all n ≡ Some x)) → FindsComponents x (own_components after n)
-    by (inl (e, i)) = subst (λ k. FindsComponents x (own_components after k)) (sym e) (subst (λ y. FindsComponents y (own_components after t)) i finds)
-    by (inr (ne, at)) = subst (FindsComponents x) (same n ne) (each n x at)
+    Right : ℕ → Entries → Type 0
+    Right n index = Indexes index (component_names (own_components after n))
+
+    by : ((n ≡ t) × (own ≡ Some index)) ⊎ ((n ≢ t) × (slice_get all n ≡ Some (Some index))) → Right n index
+    by (inl (e, is)) = subst (λ k. Right k index) (sym e) (subst (λ o. IfSome o (Right t)) is right)
+    by (inr (ne, at)) = subst (λ cs. Indexes index (component_names cs)) (same n ne) (each n index at)

@@ -1,29 +1,23 @@
 -- What indexes of the names of components find.
-use Rattle.std.specs.Prelude.{◌≡◌, ◌≢◌, ℕ, List, length, slice_get, Option, Some}
+use Rattle.std.specs.Prelude.{◌≡◌, ◌≢◌, ℕ, List, slice_get, Option, Some}
 use Rattle.std.specs.List.{position_or_len}
 use Rattle.type_table.specs.declared.table.Component.{Component}
 use Rattle.type_table.specs.Types.{Table, components_of, shape_found}
 use Rattle.type_table.specs.Entries.{same_word}
-use Rattle.type_names.specs.Occurrences.{Entries, number_found, occurs}
+use Rattle.type_names.specs.Occurrences.{Entries, Indexes, component_names}
 
 -- The number of the first component with an identifier, or how many there are.
 abbrev pub component_number : List ℕ → List Component → ℕ
 component_number w components = position_or_len (λ k. same_word w k.name) components
 
--- An index, where there is one, finds the first component with each identifier.
-abbrev pub FindsComponents : Option Entries → List Component → Type 0
-FindsComponents index components =
-    (entries : Entries) (w : List ℕ) → index ≡ Some entries
-    → number_found (length components) (occurs entries w) ≡ component_number w components
-
 -- The components in the definition of a type.
 abbrev pub own_components : Table → ℕ → List Component
 own_components table t = components_of (shape_found (slice_get table t))
 
--- Each index finds those of its type.
+-- Each index is that of the components of its type.
 abbrev pub FindAllComponents : List (Option Entries) → Table → Type 0
 FindAllComponents indexes table =
-    (t : ℕ) (index : Option Entries) → slice_get indexes t ≡ Some index → FindsComponents index (own_components table t)
+    (t : ℕ) (index : Entries) → slice_get indexes t ≡ Some (Some index) → Indexes index (component_names (own_components table t))
 
 -- Two tables whose types have the same components, but for one type.
 abbrev pub SameBut : ℕ → Table → Table → Type 0

@@ -1,5 +1,6 @@
 pub mod Here
 pub mod Formals
 pub mod Occurrences
+pub mod IndexLists
 pub mod ComponentNames
-pub mod Matchings
+pub mod FormalNames

@@ -12,10 +12,9 @@ ghost use Rattle.type_names.specs.Occurrences.{each_single};
 
 use crate::formal::Formal;
 use crate::look_up::INTEGER;
-use crate::matching::FEW;
 use crate::reader::Reader;
 use crate::views::span;
-use crate::word_index::WordIndex;
+use crate::word_index::{FEW, WordIndex};
 use crate::words::same_word;
 use ada_tree::Word;
 use place_names::Mode;

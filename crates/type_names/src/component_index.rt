@@ -1,17 +1,31 @@
 //! Indexes of the names of components, for the records that have many.
-ghost use Rattle.std.specs.Prelude.{◌≡◌, Option, set};
+ghost use Rattle.std.specs.Prelude.{◌≡◌, IfOk, IfSome};
 ghost use Rattle.type_table.specs.Types.{Table, components_of};
-ghost use Rattle.type_names.specs.ComponentNames.{FindsComponents, FindAllComponents, SameBut, own_components};
+ghost use Rattle.type_names.specs.Occurrences.{component_names, Indexes};
+ghost use Rattle.type_names.specs.ComponentNames.{FindAllComponents, SameBut, own_components};
 
-use crate::matching::{FEW, component_index};
+use crate::index_lists::put_index;
 use crate::views::components_of;
-use crate::word_index::WordIndex;
-use std::alloc::Global;
+use crate::word_index::{FEW, WordIndex};
+use std::alloc::{AllocError, Global};
 use type_table::{Component, Info, Shape};
+
+/// The index of the names of components.
+fn component_index(alloc: Global, components: &[Component]) -> Result<WordIndex, AllocError>
+    ensures { IfOk result (λ made. Indexes made (component_names components.now)) }
+{
+    let mut made = WordIndex::new(alloc);
+    let mut i = 0;
+    'components: while i < components.len() {
+        made.add(alloc, &components[i].name, i)?;
+        i += 1;
+    }
+    Ok(made)
+}
 
 /// The index of the names of components, where there are many and there is memory for it.
 fn index_of_many(alloc: Global, components: &[Component]) -> Option<WordIndex>
-    ensures { FindsComponents result components.now }
+    ensures { IfSome result (λ index. Indexes index (component_names components.now)) }
 {
     if components.len() <= FEW {
         return None;
@@ -22,26 +36,6 @@ fn index_of_many(alloc: Global, components: &[Component]) -> Option<WordIndex>
     }
 }
 
-/// Adds types without an index up to one, as far as there is memory.
-fn make_room(indexes: &mut Vec<Option<WordIndex>>, t: usize)
-    ensures { (table : Table) → FindAllComponents indexes.old.items table → FindAllComponents indexes.new.items table }
-{
-    'types: while indexes.len() <= t {
-        if indexes.push(None).is_err() {
-            return;
-        }
-    }
-}
-
-/// Replaces the index of a type, where there is room for it.
-fn put(indexes: &mut Vec<Option<WordIndex>>, t: usize, index: Option<WordIndex>)
-    ensures { indexes.new.items ≡ set indexes.old.items t index }
-{
-    if t < indexes.len() {
-        indexes[t] = index;
-    }
-}
-
 /// Replaces the index of a type by that of its definition. The list has room only up to the last
 /// type with an index.
 pub fn index_type(alloc: Global, indexes: &mut Vec<Option<WordIndex>>, t: usize, shape: &Shape)
@@ -49,10 +43,7 @@ pub fn index_type(alloc: Global, indexes: &mut Vec<Option<WordIndex>>, t: usize,
         → FindAllComponents indexes.old.items before → FindAllComponents indexes.new.items after }
 {
     let index = index_of_many(alloc, components_of(shape));
-    if index.is_some() {
-        make_room(indexes, t);
-    }
-    put(indexes, t, index);
+    put_index(indexes, t, index);
 }
 
 /// Of each type the index of the names of its components, where it is a record that has many and

@@ -5,18 +5,23 @@
 //! itself, whether it has the type that is demanded, what its static value is, and what arguments
 //! stand for. `type_table` has the definitions, each with the name of the function here that
 //! computes it; `docs/LANGUAGE.md`, "Types", says them in words (Ada 2012, 3, 4 and 6.4). Nothing
-//! is refused: that is for the crates above. Time is linear in what is read: where many arguments
-//! stand by name, these are found by hash, with memory for an index. Where there is no memory for
-//! it, each is compared with each formal or component. A component behind a name is found by hash
-//! where its record has many and a reader has their index, which `component_indexes` makes for all
-//! types, and `index_type` for one; else it is compared with each.
+//! is refused: that is for the crates above.
+//!
+//! Time is linear in what is read. A component behind a name, and what an argument by name is for,
+//! is found by hash where the record or the subprogram has many and the reader has their index:
+//! `component_indexes` makes it for all types, `index_type` for one, and `formal_indexes` for all
+//! subprograms. Else it is compared with each. Whether arguments by name are one for each of many
+//! components or formals is told with an index of theirs, or, where there is no memory for that, by
+//! comparing each.
 #![tactic(auto)]
 
 mod arguments;
+mod by_name;
 mod component_index;
 mod formal;
+mod formal_index;
+mod index_lists;
 mod look_up;
-mod matching;
 mod names;
 mod operators;
 mod own_types;
@@ -29,8 +34,8 @@ mod words;
 
 pub use component_index::{component_indexes, index_type};
 pub use formal::Formal;
+pub use formal_index::formal_indexes;
 pub use look_up::{BOOLEAN, INTEGER, is_before};
-pub use matching::Matching;
 pub use operators::{is_arithmetic, is_equality, is_join, is_logical, operand_type, unary_type};
 pub use own_types::{is_demanding, is_object, is_string, is_unknown};
 pub use reader::Reader;

@@ -148,8 +148,8 @@ impl<'p> Reader<'p> {
         ensures { result.now ≡ (profile_of (entry_of self.now.known.now f)).formals }
     {
         match self.known.entries.as_slice().get(f as usize) {
-            Some(Entry::Subprogram { profile }) => profile.formals.as_slice(),
-            _ => &[],
+            Some(entry) => formals_of(entry),
+            None => &[],
         }
     }
 
@@ -181,6 +181,16 @@ impl<'p> Reader<'p> {
             Some(t) => is_anonymous(self.full(t)),
             None => false,
         }
+    }
+}
+
+/// The formals of what a declaration is: none where it is no subprogram.
+pub fn formals_of(entry: &Entry) -> &[FormalInfo]
+    ensures { result.now ≡ (profile_of entry.now).formals }
+{
+    match entry {
+        Entry::Subprogram { profile } => profile.formals.as_slice(),
+        _ => &[],
     }
 }
 

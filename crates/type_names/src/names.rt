@@ -16,7 +16,7 @@ use type_table::{Entry, Next, Predefined, Reading, View};
 impl<'p> Reader<'p> {
     /// The number of the first component of a type with an identifier, where the type has an index
     /// and there is memory for the identifier in lower case.
-    fn indexed_component(&self, t: u32, word: &Word) -> Option<usize>
+    pub(crate) fn indexed_component(&self, t: u32, word: &Word) -> Option<usize>
         ensures { IfSome result (λ n. n ≡ component_number word.now (fields self.now.known.now.table t)) }
     {
         let Some(Some(index)) = self.components.get(self.named(t) as usize) else {

@@ -4,6 +4,7 @@ ghost use Rattle.resolved_tree.specs.Nodes.{tree_at};
 ghost use Rattle.resolved_tree.specs.Trees.{position};
 ghost use Rattle.type_table.specs.Names.{is_end};
 ghost use Rattle.type_names.specs.ComponentNames.{FindAllComponents};
+ghost use Rattle.type_names.specs.FormalNames.{FindAllFormals};
 
 use crate::word_index::WordIndex;
 use resolved_tree::{Node, Rows};
@@ -22,6 +23,8 @@ pub struct Reader<'p> {
     pub known: &'p Known,
     /// Of each type the index of the names of its components, where it has one.
     pub components: &'p [Option<WordIndex>],
+    /// Of each subprogram the index of the names of its formals, where it has one.
+    pub formals: &'p [Option<WordIndex>],
     /// The package whose declarations these are, in any of its parts.
     pub home: Option<u32>,
     /// The package whose private part or body this is.
@@ -33,6 +36,7 @@ pub struct Reader<'p> {
     /// Whether this is the initial value of a package object.
     pub starts: bool,
     ghost found: { FindAllComponents components.now known.now.table },
+    ghost formals_found: { FindAllFormals formals.now known.now.entries },
 }
 
 impl<'p> Reader<'p> {

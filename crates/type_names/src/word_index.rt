@@ -7,6 +7,9 @@ use indexmap::IndexMap;
 use std::alloc::{AllocError, Global};
 use std::marker::Model;
 
+/// So many names are compared one after the other.
+pub const FEW: usize = 8;
+
 /// Where a word occurs in a list, in any case of letters.
 #[derive(Clone, Copy)]
 pub struct Occurrence {

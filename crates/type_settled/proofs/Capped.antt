@@ -8,7 +8,7 @@ use Rattle.type_table.specs.Types.{Table, words, parts, full, is_nil, is_owning}
 use Rattle.type_table.specs.Faults.{noted, demand}
 use Rattle.type_table.specs.Whole.{all_short, has_elements, size_faults}
 use Rattle.type_settled.specs.declared.measure.Measure.{Measure}
-use Rattle.type_settled.specs.Measures.{reach, nothing, IsMeasured}
+use Rattle.type_settled.specs.Measures.{reach, nothing, measured, IsMeasured}
 use Rattle.type_settled.proofs.Noted.{noted_append}
 use Rattle.type_settled.proofs.Owning.{owning_has_part}
 
@@ -30,20 +30,20 @@ short_reach (q ∷ rest) = ap (λ b. nat_le (length q) 16 && b) (short_reach res
 
 -- ---- what is measured, at the depth of the table
 
-pub words_measured : (is : ℕ → Bool) (table : Table) (values : List Measure) (t : ℕ) (m : Measure) → IsMeasured is table values
-    → m ≡ get_or values t nothing → m.words ≡ min 65537 (words table t)
+pub words_measured : (is : ℕ → Bool) (table : Table) (t : ℕ) (m : Measure) → m ≡ measured is (length table) table t
+    → m.words ≡ min 65537 (words table t)
 unfolding words
-words_measured is table values t m right at = ap (λ m. m.words) (at ∙ right t)
+words_measured is table t m right = ap (λ m. m.words) right
 
-pub parts_measured : (is : ℕ → Bool) (table : Table) (values : List Measure) (t : ℕ) (m : Measure) → IsMeasured is table values
-    → m ≡ get_or values t nothing → m.parts ≡ min 65 (length (parts table t))
+pub parts_measured : (is : ℕ → Bool) (table : Table) (t : ℕ) (m : Measure) → m ≡ measured is (length table) table t
+    → m.parts ≡ min 65 (length (parts table t))
 unfolding parts
-parts_measured is table values t m right at = ap (λ m. m.parts) (at ∙ right t)
+parts_measured is table t m right = ap (λ m. m.parts) right
 
-pub reach_measured : (is : ℕ → Bool) (table : Table) (values : List Measure) (t : ℕ) (m : Measure) → IsMeasured is table values
-    → m ≡ get_or values t nothing → m.reach ≡ min 18 (reach (parts table t))
+pub reach_measured : (is : ℕ → Bool) (table : Table) (t : ℕ) (m : Measure) → m ≡ measured is (length table) table t
+    → m.reach ≡ min 18 (reach (parts table t))
 unfolding parts
-reach_measured is table values t m right at = ap (λ m. m.reach) (at ∙ right t)
+reach_measured is table t m right = ap (λ m. m.reach) right
 
 -- ---- what follows
 
@@ -54,7 +54,7 @@ some_parts (q ∷ rest) = grind arith
 pub owning_measured : (is : ℕ → Bool) (table : Table) (values : List Measure) (t : ℕ) (m : Measure) → IsMeasured is table values
     → m ≡ get_or values t nothing → nat_lt 0 m.parts ≡ is_owning table t
 owning_measured is table values t m right at =
-    ap (λ n. nat_lt 0 n) (parts_measured is table values t m right at) ∙ some_parts (parts table t) ∙ sym (owning_has_part table t)
+    ap (λ n. nat_lt 0 n) (parts_measured is table t m (at ∙ right t)) ∙ some_parts (parts table t) ∙ sym (owning_has_part table t)
 
 pub sizes_noted : (found first second third : Option Fault) (m : Measure) (table : Table) (p : Pos) (t : ℕ)
     → m.words ≡ min 65537 (words table t) → m.parts ≡ min 65 (length (parts table t)) → m.reach ≡ min 18 (reach (parts table t))

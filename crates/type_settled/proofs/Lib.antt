@@ -5,8 +5,10 @@ pub mod Depths
 pub mod Noted
 pub mod Measured
 pub mod Holding
-pub mod Apart
+pub mod Ranked
 pub mod Orders
 pub mod RoundSteps
 pub mod Capped
+pub mod Reached
 pub mod Unsound
+pub mod Owned

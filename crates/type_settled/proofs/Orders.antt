@@ -1,5 +1,5 @@
 -- One more type is measured.
-use Rattle.std.proofs.Common.{◌≡◌, ◌⊎◌, inl, inr, ℕ, zero, suc, ◌+◌, ◌<◌, ◌≤◌, Bool, true, false, ◌&&◌, ◌||◌, List, [], ◌∷◌, refl, sym, ap, ◌∙◌, arith, length, get_or, set, replicate, IsTrue, nat_eq, Option, Some, None, length-set}
+use Rattle.std.proofs.Common.{◌≡◌, ◌⊎◌, inl, inr, ℕ, zero, suc, ◌+◌, ◌<◌, ◌≤◌, Bool, true, false, ◌&&◌, ◌||◌, List, [], ◌∷◌, refl, sym, ap, ◌∙◌, arith, length, get_or, set, replicate, IsTrue, Option, Some, None, length-set}
 use Rattle.std.proofs.lemmas.Grind.{common_steps}
 use Rattle.std.proofs.lemmas.Bool.{cases_eq, cases_lt}
 use Rattle.std.proofs.lemmas.List.{length-replicate, get_or-replicate, get_or-set_same, get_or-set_other, get_or_past}
@@ -14,7 +14,6 @@ use Rattle.type_settled.specs.declared.order.Order.{Order}
 use Rattle.type_settled.specs.Measures.{nothing, measured, joined, component_of, elements_of, fields_of, shape_measure, parent_unsound, info_measure, part_of, IsMeasured}
 use Rattle.type_settled.specs.Orders.{all_ready, shape_ready, parent_ready, is_ready, is_done, IsOrdered}
 use Rattle.type_settled.proofs.Measured.{measured_step, measured_past}
-use Rattle.type_settled.proofs.Apart.{apart_first, apart_step}
 
 and_first : (a b : Bool) → IsTrue (a && b) → IsTrue a
 and_first a b p = grind arith
@@ -73,7 +72,6 @@ ordered_first is table order values done depth = record {
   right = λ t n le is_done.
       ap (λ ms. get_or ms t nothing) values
       ∙ first_right is table t n (cases_lt t (length table)) (ap (λ ds. get_or ds t true) (sym done) ∙ is_done);
-  apart = λ is. apart_first table order.done.items done;
 }
 
 -- ---- one more type is done
@@ -109,17 +107,14 @@ module _ (is : ℕ → Bool) (table : Table) (order : Order) (t : ℕ) (ordered 
 pub ordered_step : (is : ℕ → Bool) (table : Table) (order after : Order) (t : ℕ) (i : Info) → IsOrdered is table order → t < length table
     → order.depth < length table → i ≡ get_or table t i → IsTrue (is_ready (is_done order.done.items) i)
     → after.values.items ≡ set order.values.items t (info_measure (part_of is (λ u. get_or order.values.items u nothing)) i)
-    → after.done.items ≡ set order.done.items t true → after.depth ≡ order.depth + 1 → is_done order.done.items t ≡ false
-    → after.apart ≡ (order.apart && (nat_eq i.base t || is_done order.done.items i.base)) → IsOrdered is table after
+    → after.done.items ≡ set order.done.items t true → after.depth ≡ order.depth + 1 → IsOrdered is table after
 unfolding measure
-ordered_step is table order after t i ordered within room at ready values done depth left apart =
+ordered_step is table order after t i ordered within room at ready values done depth =
     let found : info table t ≡ i = ap info_found (slice_get-get_or table t i within) ∙ sym at in
     let ready : IsTrue (is_ready (is_done order.done.items) (info table t)) = rw found ready in
     let values : after.values.items
     ≡ set order.values.items t (info_measure (part_of is (λ u. get_or order.values.items u nothing)) (info table t)) =
     rw found values in
-    let apart : after.apart ≡ (order.apart && (nat_eq (info table t).base t || is_done order.done.items (info table t).base)) =
-    rw found apart in
     record {
       values_length = rw values (length-set order.values.items t (measure is table order t ordered within ready) ∙ ordered.values_length);
       done_length = rw done (length-set order.done.items t true ∙ ordered.done_length);
@@ -128,12 +123,6 @@ ordered_step is table order after t i ordered within room at ready values done d
           ap (λ ms. get_or ms u nothing) values
           ∙ next_right is table order t ordered within ready u n (omega (arith, le, depth)) (cases_eq u t)
           (ap (λ ds. get_or ds u true) (sym done) ∙ is_done);
-      apart = λ is.
-          let both : IsTrue (order.apart && (nat_eq (info table t).base t || is_done order.done.items (info table t).base)) = sym apart ∙ is in
-          apart_step table order.done.items after.done.items t
-          (ordered.apart (and_first order.apart (nat_eq (info table t).base t || is_done order.done.items (info table t).base) both))
-          (omega (arith, within, ordered.done_length)) left ready
-          (and_second order.apart (nat_eq (info table t).base t || is_done order.done.items (info table t).base) both) done;
     }
 
 -- ---- all types are done

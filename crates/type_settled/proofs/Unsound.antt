@@ -1,5 +1,5 @@
 -- Types that are looked at.
-use Rattle.std.proofs.Common.{◌≡◌, ◌⊎◌, inl, inr, ℕ, zero, suc, ◌+◌, ◌<◌, Bool, true, false, not, ◌&&◌, ◌||◌, List, [], ◌∷◌, map, refl, sym, ap, ◌∙◌, arith, length, drop, length-set, get_or, set, nat_eq, Option, Some, None, if◌then◌else◌}
+use Rattle.std.proofs.Common.{◌≡◌, ◌⊎◌, inl, inr, ℕ, zero, suc, ◌+◌, ◌<◌, Bool, true, false, not, ◌&&◌, ◌||◌, List, [], ◌∷◌, map, refl, sym, ap, ◌∙◌, arith, length, drop, length-set, get_or, set, nat_eq, Option, Some, None, if◌then◌else◌, IsTrue, true≢false}
 use Rattle.std.specs.Prelude.{slice_get}
 use Rattle.std.proofs.Math.Seq.{drop-cons}
 use Rattle.std.proofs.lemmas.Bool.{cases_eq}
@@ -15,8 +15,13 @@ use Rattle.type_table.specs.Faults.{noted}
 use Rattle.type_table.specs.Declarations.{any_of, holds_shape, holds_parent, some_within, some_part, holds_itself}
 use Rattle.type_table.specs.Whole.{is_unsound, size_faults, made_faults}
 use Rattle.type_settled.specs.declared.measure.Measure.{Measure}
-use Rattle.type_settled.specs.Measures.{nothing, marked, some_below, IsMeasured}
+use Rattle.type_settled.specs.declared.measures.Measures.{Measures}
+use Rattle.type_settled.specs.declared.order.Order.{Order}
+use Rattle.type_settled.specs.Measures.{nothing, unsound_alone, marked, measured, some_below, measure_in, IsMeasured, IsKnown, AreEnough}
+use Rattle.type_settled.specs.Orders.{is_done, IsOrdered}
+use Rattle.type_settled.specs.Reach.{AreFound}
 use Rattle.type_settled.specs.Skips.{marked_with, skips}
+use Rattle.type_settled.proofs.Reached.{some_found}
 
 -- ---- a type in a type
 
@@ -75,27 +80,88 @@ subtype_marked [] t u lt = not_zero t lt
 subtype_marked (i ∷ rest) t zero lt = refl
 subtype_marked (i ∷ rest) t (suc u) lt = subtype_marked rest t u lt
 
-pub itself_measured : (table : Table) (marks : List Bool) (values : List Measure) (t : ℕ) (m : Measure) → 0 < t
-    → marks ≡ map (λ i. nat_eq i.base t) table → IsMeasured (marked marks) table values → m ≡ get_or values t nothing
-    → m.unsound ≡ holds_itself table t
-itself_measured table marks values t m lt is right at =
+pub itself_found : (table : Table) (marks made : List Bool) (t : ℕ) → 0 < t → marks ≡ map (λ i. nat_eq i.base t) table
+    → AreFound true (marked marks) table made → marked made t ≡ holds_itself table t
+itself_found table marks made t lt is found =
     let same : marked marks ≡ (λ u. nat_eq (base table u) t) =
     λ j u. (ap (λ ms. marked ms u) is ∙ subtype_marked table t u lt) j in
-    ap (λ m. m.unsound) (at ∙ right t) ∙ part_below (marked marks) table t ∙ ap (λ f. some_part f table t) same
+    found t (length table) (omega arith) ∙ some_found (length table) (marked marks) table t ∙ part_below (marked marks) table t
+    ∙ ap (λ f. some_part f table t) same
 
 -- ---- a type that is looked at
 
-pub made_noted : (found : Option Fault) (all : List Made) (marks : List Bool) (table : Table) (values : List Measure) (m : Made)
-    (measure : Measure) → IsMeasured (marked marks) table values → ((t : ℕ) → marked marks t ≡ is_unsound all t)
-    → measure ≡ get_or values m.number nothing
+known_unsound : (is : ℕ → Bool) (table : Table) (measures : Measures) (t : ℕ) (done : Bool) → IsKnown is table measures t done
+    → (if done then get_or measures.values.items t nothing else unsound_alone).unsound ≡ some_below (length table) is table t
+known_unsound is table measures t true known = ap (λ m. m.unsound) known
+known_unsound is table measures t false known = sym known
+
+known_right : (is : ℕ → Bool) (table : Table) (measures : Measures) (t : ℕ) (done : Bool) → IsKnown is table measures t done
+    → (if done then get_or measures.values.items t nothing else unsound_alone).unsound ≡ false
+    → (if done then get_or measures.values.items t nothing else unsound_alone) ≡ measured is (length table) table t
+known_right is table measures t true known none = known
+known_right is table measures t false known none = absurd (true≢false none)
+
+same_skip : (full a b c : Bool) → (a ≡ false → b ≡ c) → not full || (a || b) ≡ not full || (a || c)
+same_skip full true b c same = refl
+same_skip full false b c same = ap (λ d. not full || d) (same refl)
+
+pub made_noted : (found : Option Fault) (all : List Made) (marks : List Bool) (table : Table) (measures : Measures) (m : Made)
+    (measure : Measure) → AreEnough (marked marks) table measures → ((t : ℕ) → marked marks t ≡ is_unsound all t)
+    → measure ≡ measure_in measures m.number
     → noted found (made_faults table all m) ≡ noted found (if skips marks measure m then [] else size_faults table m.pos m.number)
-made_noted found all marks table values m measure right same at =
+made_noted found all marks table measures m measure right same at =
     let same : marked marks ≡ is_unsound all = λ j t. same t j in
-    let below : measure.unsound ≡ some_part (is_unsound all) table m.number =
-    ap (λ m. m.unsound) (at ∙ right m.number) ∙ part_below (marked marks) table m.number
-    ∙ ap (λ is. some_part is table m.number) same in
-    let here : marked marks m.number ≡ is_unsound all m.number = ap (λ is. is m.number) same in
-    λ j. noted found (if not m.full || (sym here j || sym below j) then [] else size_faults table m.pos m.number)
+    let below : marked marks m.number ≡ false → some_part (marked marks) table m.number ≡ measure.unsound =
+    λ left. sym (ap (λ m. m.unsound) at
+    ∙ known_unsound (marked marks) table measures m.number (get_or measures.done.items m.number true) (right m.number left)
+    ∙ part_below (marked marks) table m.number) in
+    ap (λ is. noted found (if not m.full || (is m.number || some_part is table m.number) then [] else size_faults table m.pos m.number)) (sym same)
+    ∙ ap (λ skip. noted found (if skip then [] else size_faults table m.pos m.number))
+    (same_skip m.full (marked marks m.number) (some_part (marked marks) table m.number) measure.unsound below)
+
+-- What is looked at is measured.
+or_first : (a b : Bool) → a || b ≡ false → a ≡ false
+or_first true b e = e
+or_first false b e = refl
+
+or_second : (a b : Bool) → a || b ≡ false → b ≡ false
+or_second true b e = absurd (true≢false e)
+or_second false b e = e
+
+pub looked_measured : (marks : List Bool) (table : Table) (measures : Measures) (m : Made) (measure : Measure)
+    → AreEnough (marked marks) table measures → skips marks measure m ≡ false → measure ≡ measure_in measures m.number
+    → measure ≡ measured (marked marks) (length table) table m.number
+looked_measured marks table measures m measure right looked at =
+    let rest : marked marks m.number || measure.unsound ≡ false = or_second (not m.full) (marked marks m.number || measure.unsound) looked in
+    let left : marked marks m.number ≡ false = or_first (marked marks m.number) measure.unsound rest in
+    let none : measure.unsound ≡ false = or_second (marked marks m.number) measure.unsound rest in
+    at ∙ known_right (marked marks) table measures m.number (get_or measures.done.items m.number true) (right m.number left)
+    (sym (ap (λ m. m.unsound) at) ∙ none)
+
+-- ---- types that are known
+
+pub whole_known : (is : ℕ → Bool) (table : Table) (order : Order) (measures : Measures) → IsOrdered is table order
+    → measures.values.items ≡ order.values.items → measures.done.items ≡ order.done.items
+    → ((t : ℕ) → is_done order.done.items t ≡ false → is t ≡ false → IsTrue (some_below (length table) is table t))
+    → AreEnough is table measures
+whole_known is table order measures ordered values done rest t left =
+    known_as (get_or measures.done.items t true) (ap (λ ds. get_or ds t true) done)
+  where
+    known_as : (d : Bool) → d ≡ get_or order.done.items t true → IsKnown is table measures t d
+    known_as true e = ap (λ ms. get_or ms t nothing) values ∙ ordered.right t (length table) ordered.within (sym e)
+    known_as false e = rest t (sym e) left
+
+pub rounds_known : (is : ℕ → Bool) (table : Table) (measures : Measures) → IsMeasured is table measures.values.items
+    → measures.done.items ≡ [] → AreEnough is table measures
+rounds_known is table measures right done t left =
+    known_as (get_or measures.done.items t true) (ap (λ ds. get_or ds t true) done)
+  where
+    known_as : (d : Bool) → d ≡ true → IsKnown is table measures t d
+    known_as true e = right t
+    known_as false e = absurd (true≢false (sym e))
+
+pub none_left : (done : List Bool) → ((t : ℕ) → IsTrue (is_done done t)) → (t : ℕ) → is_done done t ≡ false → ⊥
+none_left done each t left = true≢false (sym (each t) ∙ left)
 
 -- ---- marks
 

@@ -2,4 +2,7 @@
 pub mod Holding
 pub mod Measures
 pub mod Orders
+pub mod Owners
+pub mod Ranks
+pub mod Reach
 pub mod Skips

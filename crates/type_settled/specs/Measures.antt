@@ -1,6 +1,6 @@
 -- What is measured of a type: its words, its access parts, and whether a type in it is unsound, each
 -- as far as a limit needs it (docs/LANGUAGE.md, "Types").
-use Rattle.std.specs.Prelude.{◌≡◌, ℕ, zero, suc, ◌+◌, ◌*◌, Bool, false, ◌||◌, List, [], ◌∷◌, length, min, max, nat_eq, get_or, Option, Some, None, if◌then◌else◌}
+use Rattle.std.specs.Prelude.{◌≡◌, ℕ, zero, suc, ◌+◌, ◌*◌, Bool, true, false, ◌||◌, List, [], ◌∷◌, length, min, max, nat_eq, get_or, IsTrue, Option, Some, None, if◌then◌else◌}
 use Rattle.place_names.specs.declared.selector.Sel.{Sel}
 use Rattle.type_table.specs.declared.table.Component.{Component}
 use Rattle.type_table.specs.declared.table.Shape.{Shape}
@@ -9,6 +9,7 @@ use Rattle.type_table.specs.declared.table.Info.{Info}
 use Rattle.type_table.specs.Types.{Table, info, span, words_within, parts_within}
 use Rattle.type_table.specs.Declarations.{holds_shape, holds_parent}
 use Rattle.type_settled.specs.declared.measure.Measure.{Measure}
+use Rattle.type_settled.specs.declared.measures.Measures.{Measures}
 
 -- ---- what is meant
 
@@ -39,9 +40,26 @@ marked marks t = get_or marks t false
 abbrev pub nothing : Measure
 nothing = record { words = 0; parts = 0; reach = 0; unsound = false }
 
+-- That of a type with an unsound one in it, of which no more is said.
+abbrev pub unsound_alone : Measure
+unsound_alone = record { words = 0; parts = 0; reach = 0; unsound = true }
+
 -- These are the measures of all types.
 abbrev pub IsMeasured : (ℕ → Bool) → Table → List Measure → Type 0
 IsMeasured is table values = (t : ℕ) → get_or values t nothing ≡ measured is (length table) table t
+
+-- The measure of a type that is done; of another one, that an unsound type is in it.
+abbrev pub measure_in : Measures → ℕ → Measure
+measure_in measures t = if get_or measures.done.items t true then get_or measures.values.items t nothing else unsound_alone
+
+-- A type that is done is measured; another one has an unsound type in it.
+abbrev pub IsKnown : (ℕ → Bool) → Table → Measures → ℕ → Bool → Type 0
+IsKnown is table measures t true = get_or measures.values.items t nothing ≡ measured is (length table) table t
+IsKnown is table measures t false = IsTrue (some_below (length table) is table t)
+
+-- These are the measures of all types that are looked at: of one that is unsound nothing is asked.
+abbrev pub AreEnough : (ℕ → Bool) → Table → Measures → Type 0
+AreEnough is table measures = (t : ℕ) → is t ≡ false → IsKnown is table measures t (get_or measures.done.items t true)
 
 -- ---- a type, of its parts
 

@@ -1,12 +1,11 @@
 -- Types that are measured one after the other, each behind its parts.
-use Rattle.std.specs.Prelude.{◌≡◌, ◌≤◌, ℕ, Bool, true, false, ◌&&◌, List, [], ◌∷◌, length, get_or, IsTrue, Option, Some, None}
+use Rattle.std.specs.Prelude.{◌≡◌, ◌≤◌, ℕ, Bool, true, ◌&&◌, List, [], ◌∷◌, length, get_or, IsTrue, Option, Some, None}
 use Rattle.type_table.specs.declared.table.Component.{Component}
 use Rattle.type_table.specs.declared.table.Shape.{Shape}
 use Rattle.type_table.specs.declared.table.Shape.TheVariants as shape
 use Rattle.type_table.specs.declared.table.Info.{Info}
 use Rattle.type_table.specs.Types.{Table}
 use Rattle.type_settled.specs.declared.order.Order.{Order}
-use Rattle.type_settled.specs.Holding.{has, has_below}
 use Rattle.type_settled.specs.Measures.{nothing, measured}
 
 -- ---- the parts of a type are measured
@@ -34,11 +33,6 @@ is_done done t = get_or done t true
 
 -- ---- all that are measured
 
--- No type that is done but the first has itself in it, nor a type that isn't done.
-pub record IsApart (table : Table) (done : List Bool) : Type 0 where
-  pub none_done : (d n : ℕ) → (d ≡ 0 → ⊥) → IsTrue (is_done done d) → has_below table d n d ≡ false
-  pub none_left : (d t n : ℕ) → (d ≡ 0 → ⊥) → is_done done d ≡ false → IsTrue (is_done done t) → has table d n t ≡ false
-
 -- The measure of a type that is done is right at the depth so far, and at any greater one.
 pub record IsOrdered (is : ℕ → Bool) (table : Table) (order : Order) : Type 0 where
   pub values_length : length order.values.items ≡ length table
@@ -46,4 +40,3 @@ pub record IsOrdered (is : ℕ → Bool) (table : Table) (order : Order) : Type 
   pub within : order.depth ≤ length table
   pub right : (t n : ℕ) → order.depth ≤ n → IsTrue (is_done order.done.items t)
       → get_or order.values.items t nothing ≡ measured is n table t
-  pub apart : IsTrue order.apart → IsApart table order.done.items

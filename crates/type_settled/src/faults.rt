@@ -1,5 +1,5 @@
 //! The first fault so far.
-ghost use Rattle.std.specs.Prelude.{◌≡◌};
+ghost use Rattle.std.specs.Prelude.{◌≡◌, Bool, IsTrue};
 ghost use Rattle.type_table.specs.Faults.{is_before, precedes, noted, demand};
 
 use spark_base::Pos;
@@ -33,5 +33,16 @@ pub fn demand(found: Option<Fault>, code: u32, pos: Pos, holds: bool) -> Option<
     match found {
         Some(first) if !precedes(fault, first) => found,
         Some(_) | None => Some(fault),
+    }
+}
+
+/// Whether the fault that was found goes before the one of this sentence at this position, or is
+/// the same: then it makes no difference whether the sentence holds.
+pub fn is_ahead(found: Option<Fault>, code: u32, pos: Pos) -> bool
+    ensures { IsTrue result → (holds : Bool) → noted found (demand code pos holds) ≡ found }
+{
+    match found {
+        Some(first) => !precedes(Fault { pos, code }, first),
+        None => false,
     }
 }

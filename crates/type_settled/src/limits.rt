@@ -4,12 +4,12 @@ ghost use Rattle.type_table.specs.declared.table.Made.{Made};
 ghost use Rattle.type_table.specs.Types.{named, full, words, parts};
 ghost use Rattle.type_table.specs.Faults.{noted};
 ghost use Rattle.type_table.specs.Whole.{is_unsound, has_elements, made_faults, size_faults};
-ghost use Rattle.type_settled.specs.Measures.{nothing, reach, marked, IsMeasured};
+ghost use Rattle.type_settled.specs.Measures.{reach, marked, AreEnough};
 ghost use Rattle.type_settled.specs.Skips.{marked_with, skips};
 
 use crate::faults::demand;
-use crate::measure::{Measure, is_marked, measure_of};
-use crate::rounds::measures;
+use crate::measure::{Measure, is_marked};
+use crate::measures::{Measures, measure_in, measured};
 use crate::settled::Settled;
 use spark_base::{ACCESS_PARTS, Pos, SELECTORS, TYPE_WORDS};
 use std::alloc::{AllocError, Global};
@@ -106,7 +106,7 @@ fn size_faults(
 fn skips(unsound: &[bool], measure: Measure, m: Made) -> bool
     ensures { result ≡ skips unsound.now measure m }
 {
-    !m.full || is_marked(unsound, m.number) || measure.unsound
+    !m.full || is_marked(unsound, m.number as usize) || measure.unsound
 }
 
 /// The first fault, with those of a type that a declaration makes.
@@ -114,14 +114,14 @@ fn made_faults(
     found: Option<Fault>,
     table: &[Info],
     unsound: &[bool],
-    values: &[Measure],
+    measures: &Measures,
     m: Made,
 ) -> Option<Fault>
-    requires { IsMeasured (marked unsound.now) table.now values.now }
+    requires { AreEnough (marked unsound.now) table.now measures.now }
     ensures { (all : List Made) → ((t : ℕ) → marked unsound.now t ≡ is_unsound all t)
         → result ≡ noted found (made_faults table.now all m) }
 {
-    let measure = measure_of(values, m.number);
+    let measure = measure_in(measures, m.number);
     if skips(unsound, measure, m) {
         return found;
     }
@@ -140,10 +140,10 @@ pub fn sizes(
 {
     let table = settled.known.table.as_slice();
     let unsound = unsound(alloc, made)?;
-    let values = measures(alloc, table, &unsound)?;
+    let measures = measured(alloc, table, &unsound)?;
     let mut found = found;
     'made: for m in made {
-        found = made_faults(found, table, &unsound, &values, *m);
+        found = made_faults(found, table, &unsound, &measures, *m);
     }
     Ok(found)
 }

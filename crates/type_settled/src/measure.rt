@@ -1,7 +1,7 @@
 //! What is measured of a type, of the measures of its parts.
 ghost use Rattle.std.specs.Prelude.{◌≡◌, false, get_or};
 ghost use Rattle.type_table.specs.Types.{span};
-ghost use Rattle.type_settled.specs.Measures.{nothing, word, deeper, component_of, elements_of, joined, part_in, fields_of, shape_measure, parent_unsound, info_measure};
+ghost use Rattle.type_settled.specs.Measures.{nothing, unsound_alone, word, deeper, component_of, elements_of, joined, part_in, fields_of, shape_measure, parent_unsound, info_measure};
 
 use type_table::{Component, Info, Shape};
 
@@ -46,6 +46,16 @@ impl Measure {
             parts: 0,
             reach: 0,
             unsound: false,
+        }
+    }
+
+    /// That of a type with an unsound one in it, of which no more is said.
+    pub fn unsound() -> Measure
+        ensures { result ≡ unsound_alone }
+    {
+        Measure {
+            unsound: true,
+            ..Measure::nothing()
         }
     }
 
@@ -112,16 +122,16 @@ fn part(unsound: &[bool], values: &[Measure], t: u32) -> Measure
 {
     let measure = measure_of(values, t);
     Measure {
-        unsound: is_marked(unsound, t) || measure.unsound,
+        unsound: is_marked(unsound, t as usize) || measure.unsound,
         ..measure
     }
 }
 
 /// Whether this type is marked.
-pub fn is_marked(marks: &[bool], t: u32) -> bool
+pub fn is_marked(marks: &[bool], t: usize) -> bool
     ensures { result ≡ get_or marks.now t false }
 {
-    match marks.get(t as usize) {
+    match marks.get(t) {
         Some(mark) => *mark,
         None => false,
     }

@@ -1,11 +1,11 @@
 //! Types that have themselves in them.
-ghost use Rattle.std.specs.Prelude.{◌≡◌, ◌<◌, map, nat_eq, IfOk};
+ghost use Rattle.std.specs.Prelude.{◌≡◌, ◌<◌, map, nat_eq, IfOk, IfSome};
 ghost use Rattle.type_table.specs.Types.{base};
 ghost use Rattle.type_table.specs.Declarations.{any_of, holds_itself, holds_parent, holds_shape};
 ghost use Rattle.type_settled.specs.Holding.{has, has_below};
 
-use crate::measure::measure_of;
-use crate::rounds::measures;
+use crate::measure::is_marked;
+use crate::reach::reached;
 use std::alloc::{AllocError, Global};
 use type_table::{Component, Info, Shape};
 
@@ -101,14 +101,17 @@ fn subtypes(alloc: Global, table: &[Info], t: u32) -> Result<Vec<bool>, AllocErr
     Ok(marks)
 }
 
-/// Whether a type but the first has itself in it, measured for all types at once.
-fn is_measured_in(alloc: Global, table: &[Info], t: u32) -> Result<bool, AllocError>
+/// Whether a type but the first has itself in it, looked for in all types at once. None where that
+/// isn't found out.
+fn is_reached(alloc: Global, table: &[Info], t: u32) -> Result<Option<bool>, AllocError>
     requires { 0 < t }
-    ensures { IfOk result (λ found. found ≡ holds_itself table.now t) }
+    ensures { IfOk result (λ r. IfSome r (λ found. found ≡ holds_itself table.now t)) }
 {
     let marks = subtypes(alloc, table, t)?;
-    let values = measures(alloc, table, &marks)?;
-    Ok(measure_of(&values, t).unsound)
+    let Some(made) = reached(alloc, table, &marks, true)? else {
+        return Ok(None);
+    };
+    Ok(Some(is_marked(&made, t as usize)))
 }
 
 /// Whether a type has itself in it.
@@ -116,7 +119,7 @@ pub fn is_in_itself(alloc: Global, table: &[Info], t: u32) -> bool
     ensures { result ≡ holds_itself table.now t }
 {
     if t > 0 {
-        if let Ok(found) = is_measured_in(alloc, table, t) {
+        if let Ok(Some(found)) = is_reached(alloc, table, t) {
             return found;
         }
     }

@@ -1,5 +1,5 @@
 //! Types measured one after the other, each behind its parts.
-ghost use Rattle.std.specs.Prelude.{◌≡◌, ◌<◌, ℕ, ◌&&◌, ◌||◌, [], length, nat_eq, if◌then◌else◌, IfOk, IsTrue};
+ghost use Rattle.std.specs.Prelude.{◌≡◌, ◌<◌, ℕ, length, IfOk, IsTrue};
 ghost use Rattle.type_settled.specs.Measures.{marked};
 ghost use Rattle.type_settled.specs.Orders.{is_done, all_ready, shape_ready, parent_ready, is_ready, IsOrdered};
 
@@ -16,8 +16,6 @@ pub struct Order {
     pub done: Vec<bool>,
     /// How many are done: none is nested deeper.
     pub depth: usize,
-    /// Whether each that is done is a subtype of none but itself or one that was done before it.
-    pub apart: bool,
 }
 
 /// Whether a type is done. One beyond the table has no parts.
@@ -71,13 +69,6 @@ pub fn is_ready(done: &[bool], info: &Info) -> bool
     shape_ready(done, &info.shape) && parent_ready(done, info.parent)
 }
 
-/// Whether each type is a subtype of none but itself or one that was done before it, with one more.
-fn stays_apart(apart: bool, done: &[bool], base: u32, t: usize) -> bool
-    ensures { result ≡ apart && (nat_eq base t || is_done done.now base) }
-{
-    apart && (base as usize == t || is_done(done, base as usize))
-}
-
 /// No type is done.
 pub fn begin(alloc: Global, table: &[Info], unsound: &[bool]) -> Result<Order, AllocError>
     ensures { IfOk result (λ order. IsOrdered (marked unsound.now) table.now order) }
@@ -86,7 +77,6 @@ pub fn begin(alloc: Global, table: &[Info], unsound: &[bool]) -> Result<Order, A
         values: vec![in alloc; Measure::nothing(); table.len()]?,
         done: vec![in alloc; false; table.len()]?,
         depth: 0,
-        apart: true,
     })
 }
 
@@ -100,24 +90,12 @@ pub fn settle(order: &mut Order, table: &[Info], unsound: &[bool], t: usize)
     if is_done(&order.done, t) || order.depth >= table.len() || !is_ready(&order.done, info) {
         return;
     }
-    order.apart = stays_apart(order.apart, &order.done, info.base, t);
     order.values[t] = info_measure(unsound, &order.values, info);
     order.done[t] = true;
     order.depth += 1;
 }
 
 impl Order {
-    /// The types that are done, where all of them are apart: these don't have themselves in them.
-    pub fn lone(&self, alloc: Global) -> Result<Vec<bool>, AllocError>
-        ensures { IfOk result (λ made. made.items ≡ (if self.now.apart then self.now.done.items else [])) }
-    {
-        if self.apart {
-            Ok(Vec::from_slice(alloc, &self.done)?)
-        } else {
-            Ok(Vec::new(alloc))
-        }
-    }
-
     /// Whether all types are done.
     #[tactic(auto, using(crate::proofs::Orders::all_done))]
     pub fn is_whole(&self) -> bool

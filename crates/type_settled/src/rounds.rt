@@ -1,11 +1,8 @@
 //! Types measured in rounds.
 ghost use Rattle.std.specs.Prelude.{◌≡◌, ◌<◌, ℕ, length, get_or, IfOk, IsTrue, map};
 ghost use Rattle.type_settled.specs.Measures.{marked, nothing, part_in, info_measure, IsMeasured};
-ghost use Rattle.type_settled.specs.Orders.{IsOrdered};
 
 use crate::measure::{Measure, info_measure};
-use crate::order::Order;
-use crate::visits::measured_in_order;
 use std::alloc::{AllocError, Global};
 use type_table::Info;
 
@@ -50,10 +47,10 @@ fn are_same(values: &[Measure], others: &[Measure]) -> bool
     true
 }
 
-/// Measures all types in as many rounds as there are types, since no type is nested deeper, or until
-/// a round changes nothing.
+/// Measures all types in as many rounds as there are types, since no type is nested deeper, or
+/// until a round changes nothing.
 #[tactic(auto, using(crate::proofs::RoundSteps::round_first))]
-fn rounds(alloc: Global, table: &[Info], unsound: &[bool]) -> Result<Vec<Measure>, AllocError>
+pub fn rounds(alloc: Global, table: &[Info], unsound: &[bool]) -> Result<Vec<Measure>, AllocError>
     ensures { IfOk result (λ made. IsMeasured (marked unsound.now) table.now made.items) }
 {
     let mut values = Vec::new(alloc);
@@ -65,29 +62,4 @@ fn rounds(alloc: Global, table: &[Info], unsound: &[bool]) -> Result<Vec<Measure
         values = next;
     }
     Ok(values)
-}
-
-/// The measures of all types, of those that are measured in order.
-#[tactic(auto, using(crate::proofs::Orders::whole_measured))]
-pub fn all_measured(
-    alloc: Global,
-    table: &[Info],
-    unsound: &[bool],
-    order: Order,
-) -> Result<Vec<Measure>, AllocError>
-    requires { IsOrdered (marked unsound.now) table.now order }
-    ensures { IfOk result (λ made. IsMeasured (marked unsound.now) table.now made.items) }
-{
-    if order.is_whole() {
-        return Ok(order.values);
-    }
-    rounds(alloc, table, unsound)
-}
-
-/// The measures of all types, where those that are marked are unsound.
-pub fn measures(alloc: Global, table: &[Info], unsound: &[bool]) -> Result<Vec<Measure>, AllocError>
-    ensures { IfOk result (λ made. IsMeasured (marked unsound.now) table.now made.items) }
-{
-    let order = measured_in_order(alloc, table, unsound)?;
-    all_measured(alloc, table, unsound, order)
 }

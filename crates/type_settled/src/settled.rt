@@ -1,24 +1,25 @@
 //! Whether types are owning, and whether they have themselves in them.
-ghost use Rattle.std.specs.Prelude.{◌≡◌, [], IfOk};
+ghost use Rattle.std.specs.Prelude.{◌≡◌, IfOk};
 ghost use Rattle.type_table.specs.Types.{is_owning};
 ghost use Rattle.type_table.specs.Declarations.{holds_itself};
 ghost use Rattle.type_names.specs.ComponentNames.{FindAllComponents};
+ghost use Rattle.type_names.specs.FormalNames.{FindAllFormals};
 ghost use Rattle.type_settled.specs.Holding.{AreLone};
-ghost use Rattle.type_settled.specs.Measures.{marked, IsMeasured};
+ghost use Rattle.type_settled.specs.Owners.{AreOwners};
 
-use crate::measure::{Measure, is_marked, measure_of};
+use crate::measure::is_marked;
 use crate::nesting::is_in_itself;
-use crate::rounds::all_measured;
-use crate::visits::measured_in_order;
+use crate::owners::{is_named_access, owners};
+use crate::ranks::lone;
 use spark_base::Listed;
 use std::alloc::{AllocError, Global};
 use std::mem;
-use type_names::{WordIndex, component_indexes};
+use type_names::{WordIndex, component_indexes, formal_indexes};
 use type_table::Known;
 
-/// All that is known of the declarations, where components are found by name, which types are
-/// owning, and which don't have themselves in them. It is dropped by a function of its own: who
-/// owns one needn't prove again how each table within it is dropped.
+/// All that is known of the declarations, where components and formals are found by name, which
+/// types are owning, and which don't have themselves in them. It is dropped by a function of its
+/// own: who owns one needn't prove again how each table within it is dropped.
 pub struct Settled {
     /// Where memory comes from.
     pub alloc: Global,
@@ -26,11 +27,15 @@ pub struct Settled {
     pub known: Known,
     /// Of each type the index of the names of its components, where it has one.
     pub components: Vec<Option<WordIndex>>,
-    measures: Vec<Measure>,
+    /// Of each subprogram the index of the names of its formals, where it has one.
+    pub formals: Vec<Option<WordIndex>>,
+    // The owning types; of named access types it isn't said here.
+    owners: Vec<bool>,
     // The types of which it is known that they don't have themselves in them.
     lone: Vec<bool>,
     ghost found: { FindAllComponents components.items known.table },
-    ghost right: { IsMeasured (marked []) known.table measures.items },
+    ghost formals_found: { FindAllFormals formals.items known.entries },
+    ghost right: { AreOwners known.table owners.items },
     ghost apart: { AreLone known.table lone.items },
 }
 
@@ -40,7 +45,8 @@ impl Drop for Settled {
             alloc: _,
             known: _,
             components: _,
-            measures: _,
+            formals: _,
+            owners: _,
             lone: _,
         } = self;
     }
@@ -51,15 +57,16 @@ impl Settled {
     pub fn new(alloc: Global, known: Known) -> Result<Settled, AllocError>
         ensures { IfOk result (λ settled. settled.known ≡ known) }
     {
-        let order = measured_in_order(alloc, known.table.as_slice(), &[])?;
-        let lone = order.lone(alloc)?;
-        let measures = all_measured(alloc, known.table.as_slice(), &[], order)?;
+        let owners = owners(alloc, known.table.as_slice())?;
+        let lone = lone(alloc, known.table.as_slice())?;
         let components = component_indexes(alloc, known.table.as_slice());
+        let formals = formal_indexes(alloc, known.entries.as_slice());
         Ok(Settled {
             alloc,
             known,
             components,
-            measures,
+            formals,
+            owners,
             lone,
         })
     }
@@ -72,7 +79,7 @@ impl Settled {
     }
 
     /// Gives back what is known of the declarations. It takes no memory.
-    #[tactic(auto, using(crate::proofs::RoundSteps::round_first))]
+    #[tactic(auto, using(crate::proofs::Owned::none_owned))]
     pub fn into_known(mut self, alloc: Global) -> Known
         ensures { result ≡ self.known }
     {
@@ -81,7 +88,8 @@ impl Settled {
             table: Listed::new(alloc),
         };
         self.components = Vec::new(alloc);
-        self.measures = Vec::new(alloc);
+        self.formals = Vec::new(alloc);
+        self.owners = Vec::new(alloc);
         self.lone = Vec::new(alloc);
         mem::replace(&mut self.known, none)
     }
@@ -90,7 +98,7 @@ impl Settled {
     pub fn is_owning(&self, t: u32) -> bool
         ensures { result ≡ is_owning self.now.known.table t }
     {
-        measure_of(&self.measures, t).parts > 0
+        is_named_access(self.known.table.as_slice(), t) || is_marked(&self.owners, t as usize)
     }
 
     /// Whether a type has itself in it, at any depth. It is looked for only where
@@ -98,7 +106,7 @@ impl Settled {
     pub fn holds_itself(&self, t: u32) -> bool
         ensures { result ≡ holds_itself self.now.known.table t }
     {
-        if t != 0 && is_marked(&self.lone, t) {
+        if t != 0 && is_marked(&self.lone, t as usize) {
             return false;
         }
         is_in_itself(self.alloc, self.known.table.as_slice(), t)

@@ -27,12 +27,11 @@ impl<'p> Writer<'p> {
         ensures trees { IfOk result (λ made. HoldsAll to.new made.items (typed_values (site self.now) role 0 (tree_at self.now.reader.rows.now args))) }
         ensures grew { Grew to.old to.new }
     {
-        let matching = self.reader.matching(role, args);
         let mut made = Vec::new(self.alloc);
         let mut i = args;
         let mut n = 0;
         'arguments: while let Node::Argument { name, value, rest } = self.reader.rows.node(i) {
-            let want = self.reader.matched_type(&matching, role, n, name);
+            let want = self.reader.matched_type(role, n, name);
             let number = self.expression(want, *value, to)?;
             made.push(number)?;
             n += 1;

@@ -4,6 +4,7 @@ ghost use Rattle.std.specs.List.{All};
 ghost use Rattle.resolved_tree.specs.Nodes.{code_at};
 ghost use Rattle.type_table.specs.Whole.{outside};
 ghost use Rattle.type_names.specs.ComponentNames.{FindAllComponents};
+ghost use Rattle.type_names.specs.FormalNames.{FindAllFormals};
 ghost use Rattle.typed_tree.specs.Programs.{bodies_in, typed_program};
 ghost use Rattle.typed_expressions.specs.Sites.{site};
 ghost use Rattle.typed_programs.specs.Parts.{HoldsProgram};
@@ -13,7 +14,7 @@ use crate::parts::ProgramParts;
 use resolved_tree::Rows;
 use spark_base::Listed;
 use std::alloc::{AllocError, Global};
-use type_names::{Reader, WordIndex, component_indexes};
+use type_names::{Reader, WordIndex, component_indexes, formal_indexes};
 use type_table::Known;
 use typed_expressions::{Numbering, Writer};
 use typed_objects::{DeclaredObjects, bodies, objects, scopes};
@@ -35,10 +36,12 @@ fn writer_outside<'p>(
     rows: &'p Rows,
     known: &'p Known,
     components: &'p [Option<WordIndex>],
+    formals: &'p [Option<WordIndex>],
     objects: &'p Numbering,
     bodies: &'p Numbering,
 ) -> Writer<'p>
-    requires { FindAllComponents components.now known.now.table }
+    requires components { FindAllComponents components.now known.now.table }
+    requires formals { FindAllFormals formals.now known.now.entries }
     ensures site { site result ≡ record { context = outside known.now; objects = objects.now; bodies = bodies.now } }
     ensures rows { result.reader.rows.now ≡ rows.now }
 {
@@ -47,6 +50,7 @@ fn writer_outside<'p>(
         rows,
         known,
         components,
+        formals,
         home: None,
         within: None,
         sub: None,
@@ -102,11 +106,13 @@ pub fn typed_program(
     let body_numbers = body_numbers(alloc, rows, units)?;
     let scopes = Listed::from_vec(scopes(alloc, rows, units)?);
     let components = component_indexes(alloc, known.table.as_slice());
+    let formals = formal_indexes(alloc, known.entries.as_slice());
     let writer = writer_outside(
         alloc,
         rows,
         known,
         components.as_slice(),
+        formals.as_slice(),
         &object_numbers,
         &body_numbers,
     );

@@ -32,6 +32,7 @@ fn reader_in<'p>(
         rows: reader.rows,
         known: reader.known,
         components: reader.components,
+        formals: reader.formals,
         home,
         within,
         sub,

@@ -1,11 +1,10 @@
 use Rattle.std.proofs.Common.{◌∙◌}
 use Rattle.type_names.specs.Here.{here}
-use Rattle.type_names.specs.Occurrences.{names_for}
 use Rattle.type_names.proofs.Occurrences.{type_number}
 use Rattle.type_names.proofs.reader.Reader.matched_type.Goals as goal
 
 pub returns-in-Some : goal.returns-in-Some
 returns-in-Some c =
     let context = here c.args.self.now in
-    let found = rw c.in-Some.is at c.number.ensures (names_for context c.args.role) c.requires in
+    let found = rw c.in-Some.is at c.argument_number.ensures in
     c.role_type.ensures ∙ type_number context c.args.role c.args.i _ c.args.name.now (found c.args.i)

@@ -1,0 +1,142 @@
+//! Ranks of types: none is made of a type with a greater rank.
+ghost use Rattle.std.specs.Prelude.{◌≡◌, ◌<◌, ◌^◌, IfOk, IsTrue};
+ghost use Rattle.type_settled.specs.Holding.{AreLone};
+ghost use Rattle.type_settled.specs.Orders.{all_ready, shape_ready, parent_ready, is_ready};
+ghost use Rattle.type_settled.specs.Ranks.{AreRanks, is_lower, rank};
+
+use crate::links::{Way, links};
+use crate::walk::Walk;
+use std::alloc::{AllocError, Global};
+use type_table::{Component, Info, Shape};
+
+/// The types, each behind those that are made of it, except where two are made of one another.
+fn left_upwards(alloc: Global, table: &[Info]) -> Result<Vec<usize>, AllocError> {
+    let mut up = Walk::new(alloc, links(alloc, table, Way::Up)?, table.len())?;
+    let mut left = Vec::new(alloc);
+    'types: for t in 0..table.len() {
+        up.walk(t, &mut left)?;
+    }
+    Ok(left)
+}
+
+/// Gives a rank to some types.
+fn give(ranks: &mut Vec<u32>, types: &[usize], rank: u32) {
+    'types: for t in types {
+        if let Some(given) = ranks.get_mut(*t) {
+            *given = rank;
+        }
+    }
+}
+
+/// The ranks of all types. Those that are made of one another have the same.
+fn ranks(alloc: Global, table: &[Info]) -> Result<Vec<u32>, AllocError> {
+    let mut ranks = vec![in alloc; 0; table.len()]?;
+    let mut down = Walk::new(alloc, links(alloc, table, Way::Down)?, table.len())?;
+    let mut rank = 0u32;
+    'types: for t in left_upwards(alloc, table)?.iter().rev() {
+        let mut ring = Vec::new(alloc);
+        down.walk(*t, &mut ring)?;
+        give(&mut ranks, &ring, rank);
+        rank = rank.saturating_add(1);
+    }
+    Ok(ranks)
+}
+
+/// The rank of a type.
+fn rank(ranks: &[u32], t: usize) -> u64
+    ensures value { result ≡ rank ranks.now t }
+    ensures small { result < 2 ^ 32 }
+{
+    match ranks.get(t) {
+        Some(rank) => u64::from(*rank),
+        None => 0,
+    }
+}
+
+/// Whether the rank of a type is below this one.
+fn is_lower(ranks: &[u32], limit: u64, t: u32) -> bool
+    ensures { result ≡ is_lower ranks.now limit t }
+{
+    rank(ranks, t as usize) < limit
+}
+
+/// Whether the ranks of all components' types are below this one.
+fn all_lower(ranks: &[u32], limit: u64, components: &[Component]) -> bool
+    ensures { result ≡ all_ready (is_lower ranks.now limit) components.now }
+{
+    'components: for component in components {
+        if !is_lower(ranks, limit, component.of) {
+            return false;
+        }
+    }
+    true
+}
+
+/// Whether the ranks of the types that this definition is made of are below this one.
+fn shape_lower(ranks: &[u32], limit: u64, shape: &Shape) -> bool
+    ensures { result ≡ shape_ready (is_lower ranks.now limit) shape.now }
+{
+    match shape {
+        Shape::Fields { components } => all_lower(ranks, limit, components.as_slice()),
+        Shape::Elements { element, .. } => is_lower(ranks, limit, *element),
+        Shape::Same { of } => is_lower(ranks, limit, *of),
+        Shape::Whole { .. } | Shape::Listed { .. } | Shape::Access { .. } => true,
+    }
+}
+
+/// Whether the rank of the type in a mark is below this one.
+fn parent_lower(ranks: &[u32], limit: u64, parent: Option<u32>) -> bool
+    ensures { result ≡ parent_ready (is_lower ranks.now limit) parent }
+{
+    match parent {
+        Some(t) => is_lower(ranks, limit, t),
+        None => true,
+    }
+}
+
+/// Whether all that a type is made of has a rank below this one.
+fn parts_lower(ranks: &[u32], limit: u64, info: &Info) -> bool
+    ensures { result ≡ is_ready (is_lower ranks.now limit) info.now }
+{
+    shape_lower(ranks, limit, &info.shape) && parent_lower(ranks, limit, info.parent)
+}
+
+/// Whether no type is made of one with a greater rank, or a subtype of one.
+fn are_ranks(table: &[Info], ranks: &[u32]) -> bool
+    ensures { IsTrue result → AreRanks table.now ranks.now }
+{
+    'types: for (t, info) in table.iter().enumerate() {
+        let limit = rank(ranks, t) + 1;
+        if !parts_lower(ranks, limit, info) || !is_lower(ranks, limit, info.base) {
+            return false;
+        }
+    }
+    true
+}
+
+/// The types that are made of types with a lower rank alone.
+fn lower_alone(alloc: Global, table: &[Info], ranks: &[u32]) -> Result<Vec<bool>, AllocError>
+    requires { AreRanks table.now ranks.now }
+    ensures { IfOk result (λ made. AreLone table.now made.items) }
+{
+    let mut made = vec![in alloc; false; table.len()]?;
+    'types: for (t, info) in table.iter().enumerate() {
+        if parts_lower(ranks, rank(ranks, t), info) {
+            made[t] = true;
+        }
+    }
+    Ok(made)
+}
+
+/// Types that don't have themselves in them: all but those in rings, in time linear in the table.
+/// Of the first it isn't said.
+pub fn lone(alloc: Global, table: &[Info]) -> Result<Vec<bool>, AllocError>
+    ensures { IfOk result (λ made. AreLone table.now made.items) }
+{
+    let ranks = ranks(alloc, table)?;
+    if are_ranks(table, &ranks) {
+        lower_alone(alloc, table, &ranks)
+    } else {
+        Ok(Vec::new(alloc))
+    }
+}
