@@ -1,6 +1,7 @@
--- what is read of rows, and which trees have calls
+-- what is read of rows, which trees have calls, and which have no acts
 pub mod Reading
 pub mod Calls
+pub mod Actless
 -- nodes by their kinds
 pub mod OtherNodes
 -- actuals

@@ -1,5 +1,6 @@
 -- what the public contract rests on
 pub mod Calls
+pub mod Actless
 pub mod Frames
 pub mod Depths
 pub mod DeepPlaces

@@ -6,9 +6,10 @@
 //! names are planned first, each with the node of its name, and then made. Refused is, with
 //! `TooDeep`, an act one of whose names, or of the names of the facts that it adds, has more than 16
 //! selectors, and so a leak check of such a name (`specs/Depths.antt`); `first_deep` tells where the
-//! first of these names stands (`specs/DeepPlaces.antt`). Which trees have calls, `CallRows` tells;
-//! it is made once for all rows. Lists and the steps of names take no depth of calls. Time is linear
-//! in the trees of the instruction and in what it gives.
+//! first of these names stands (`specs/DeepPlaces.antt`). Which trees have calls, and which have no
+//! acts, `CallRows` tells; it is made once for all rows. Lists and the steps of names take no depth
+//! of calls. Time is linear in the trees of the instruction and in what it gives, and a tree without
+//! names isn't gone into.
 #![tactic(auto)]
 
 mod acts;

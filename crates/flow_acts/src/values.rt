@@ -64,12 +64,15 @@ impl<'p> ActWriter<'p> {
         }
     }
 
-    /// What the acts of a tree are made of.
+    /// What the acts of a tree are made of. A tree without acts isn't gone into.
     #[tactic(auto, unfolding(flow_paths::specs::Acts::acts_in))]
     fn turn(&self, e: usize) -> Turn
         ensures acts { acts_in (site self.now) (tree self.now e) ≡ turn_acts self.now result }
         ensures below { IsTurnBelow e result }
     {
+        if self.rows.is_actless(e) {
+            return Turn::Ends;
+        }
         match self.rows.node(e) {
             TypedNode::Name {
                 pos,

@@ -1,6 +1,7 @@
 //! The facts that acts can add.
-ghost use Rattle.std.specs.Prelude.{◌≡◌, ◌<◌, ◌≤◌, ◌+◌, true, false, IfOk, IfSome, IfNone, OnOk, length, map, flat_map};
+ghost use Rattle.std.specs.Prelude.{◌≡◌, ◌<◌, ◌≤◌, ◌+◌, ◌++◌, true, false, IfOk, IfSome, IfNone, OnOk, length, map, flat_map};
 ghost use Rattle.std.specs.List.{list_all, list_any};
+ghost use Rattle.std.specs.Cmp.Lexicographic.{pointwise};
 ghost use Rattle.spark_base.specs.declared.limits.TheConstants as limits;
 ghost use Rattle.place_names.specs.Names as names;
 ghost use Rattle.place_names.specs.Facts as facts;
@@ -10,7 +11,7 @@ ghost use Rattle.flow_facts.specs.FactLists.{with_fact, with_facts};
 ghost use Rattle.flow_facts.specs.Gathered.{acts_of, are_shallow, point_facts, points_shallow};
 
 use flow_paths::Point;
-use place_names::{Act, Fact, Loan, PlaceName, PlaceTail, Placed};
+use place_names::{Act, Fact, Loan, PlaceName, PlaceTail, Placed, Sel};
 use spark_base::{FACTS, Listed};
 use std::alloc::{AllocError, Global};
 
@@ -46,22 +47,50 @@ fn is_same_fact(a: &Fact, b: &Fact) -> bool
     }
 }
 
-/// Whether a fact is among some.
-fn has(found: &[Fact], fact: &Fact) -> bool
-    ensures { result ≡ list_any (λ f. facts.is_same_fact f fact.now) found.now }
+/// The number of a fact among some.
+fn number_of(found: &[Fact], fact: &Fact) -> Option<usize>
+    ensures some { IfSome result (λ i. (i < length found.now) × (list_any (λ f. facts.is_same_fact f fact.now) found.now ≡ true)) }
+    ensures none { IfNone result (list_any (λ f. facts.is_same_fact f fact.now) found.now ≡ false) }
 {
-    found.iter().any(|one| is_same_fact(one, fact))
+    'found: for i in 0..found.len() {
+        if is_same_fact(&found[i], fact) {
+            return Some(i);
+        }
+    }
+    None
 }
 
-/// Adds a fact, unless it is there.
-fn add_fact(found: &mut Listed<Fact>, fact: Fact) -> Result<(), AllocError>
+/// Adds a fact, unless it is there, and tells the number behind that of the fact.
+fn add_fact(found: &mut Listed<Fact>, fact: Fact) -> Result<usize, AllocError>
     ensures { OnOk result (found.new ≡ with_fact found.old fact) }
 {
-    if has(found.as_slice(), &fact) {
-        return Ok(());
+    if let Some(i) = number_of(found.as_slice(), &fact) {
+        return Ok(i + 1);
     }
     found.push(fact)?;
-    Ok(())
+    Ok(found.len())
+}
+
+/// Whether the first list is the second one followed by the third.
+fn is_joined(whole: &[Sel], front: &[Sel], back: &[Sel]) -> bool
+    ensures { result ≡ pointwise names.is_equal whole.now (front.now ++ back.now) }
+{
+    match whole.strip_prefix(front) {
+        Some(rest) => rest == back,
+        None => false,
+    }
+}
+
+/// Whether a fact is that a part of a place was moved.
+fn is_moved_part(one: &Fact, name: &PlaceName, part: &PlaceTail) -> bool
+    ensures { result ≡ facts.is_same_fact one.now (fact.Moved (names.extend name.now part.now)) }
+{
+    match one {
+        Fact::Moved(moved) => {
+            moved.root() == name.root() && is_joined(moved.sels(), name.sels(), part.sels())
+        }
+        Fact::Lent { .. } => false,
+    }
 }
 
 /// A part of a place.
@@ -79,7 +108,25 @@ fn part_of(name: &PlaceName, part: &PlaceTail) -> Result<PlaceName, AllocError>
     Ok(made)
 }
 
-/// Adds the facts of a move.
+/// Adds that a part of a place was moved, unless it is there, and tells the number behind that of
+/// the fact. The fact with the number `next` is looked at before the others.
+fn add_part(
+    found: &mut Listed<Fact>,
+    name: &PlaceName,
+    part: &PlaceTail,
+    next: usize,
+) -> Result<usize, AllocError>
+    requires { length name.now.sels + length part.now ≤ 16 }
+    ensures { OnOk result (found.new ≡ with_fact found.old (fact.Moved (names.extend name.now part.now))) }
+{
+    if next < found.len() && is_moved_part(&found.as_slice()[next], name, part) {
+        return Ok(next + 1);
+    }
+    Ok(add_fact(found, Fact::Moved(part_of(name, part)?))?)
+}
+
+/// Adds the facts of a move. Those of a name mostly stand in the order of its parts, so each is
+/// looked for behind the last.
 #[tactic(auto, using(crate::proofs::FactLists::with_facts_append))]
 fn add_moves(
     found: &mut Listed<Fact>,
@@ -89,8 +136,9 @@ fn add_moves(
     requires { are_shallow (map (λ q. fact.Moved (names.extend name.now q)) parts.now) ≡ true }
     ensures { OnOk result (found.new ≡ with_facts found.old (map (λ q. fact.Moved (names.extend name.now q)) parts.now)) }
 {
+    let mut next = 0;
     'parts: for part in parts {
-        add_fact(found, Fact::Moved(part_of(name, part)?))?;
+        next = add_part(found, name, part, next)?;
     }
     Ok(())
 }
@@ -127,7 +175,8 @@ fn add_loan(
     ensures { OnOk result (found.new ≡ with_fact found.old (fact.Lent kind holder name.now)) }
 {
     let name = name.clone()?;
-    add_fact(found, Fact::Lent { kind, holder, name })
+    let _behind = add_fact(found, Fact::Lent { kind, holder, name })?;
+    Ok(())
 }
 
 /// Adds the facts of the acts of a point, until there are more than 512. Whether all were added.

@@ -5,7 +5,8 @@
 //! `flow_numbers` say of them (`specs/Gathered.antt`; `docs/FLOW.md`, "Points"). A list of facts ends
 //! where it would have more than 512.
 //! Time: each fact that an act adds is compared with those so far, of which there are at most 512;
-//! all else is linear but for sorting.
+//! of a move with many parts, each with the fact behind the one before it, and only where it isn't
+//! that one with all. All else is linear but for sorting.
 #![tactic(auto)]
 
 mod facts;

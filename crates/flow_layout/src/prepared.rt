@@ -227,7 +227,8 @@ impl<'p> Layout<'p> {
     }
 
     /// Adds the points that come before one that uses an expression, where the next temporary has
-    /// the number `t` and `k` is what follows. A list is gone along.
+    /// the number `t` and `k` is what follows. A list is gone along, and an expression without such
+    /// points isn't gone into.
     #[cycle(prepare)]
     #[tactic(auto, unfolding(crate::specs::BarePrepared::bare_prepared, flow_numbers::specs::Extents::prep_size, flow_numbers::specs::Extents::filled_in))]
     pub fn prepare(
@@ -245,6 +246,9 @@ impl<'p> Layout<'p> {
         ensures points { OnOk result (made_in self.now made.new ≡ made_in self.now made.old
             ++ bare_prepared (laying self.now) (tree_in self.now e) (length made.old) t k.now) }
     {
+        if self.sizes.prep(e).size == 0 {
+            return Ok(());
+        }
         let mut i = e;
         let mut t = t;
         'parts: while let TypedNode::More { first, rest } = self.sizes.rows.node(i) {

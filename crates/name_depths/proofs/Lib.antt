@@ -15,6 +15,7 @@ pub mod PrepNames
 -- statements
 pub mod OtherCode
 pub mod Sources
+pub mod Shared
 pub mod Uses
 pub mod CodeNames
 pub mod ProgramNames

@@ -1,5 +1,5 @@
 //! The names of statements.
-ghost use Rattle.std.specs.Prelude.{◌≡◌, ◌||◌};
+ghost use Rattle.std.specs.Prelude.{◌≡◌, ◌<◌, ◌||◌, ℕ, IsTrue, Option};
 ghost use Rattle.flow_paths.specs.Names.{first, source, whole, whole_object, written};
 ghost use Rattle.flow_paths.specs.Objects.{is_borrower, is_observer};
 ghost use Rattle.name_depths.specs.Found.{earlier_of};
@@ -158,6 +158,62 @@ impl<'p> NameReader<'p> {
         earlier(self.value(low), self.value(high))
     }
 
+    /// Whether code declares an object by this value, of the same kind as this object: both are
+    /// borrowers or observers, or neither is.
+    fn declares(&self, c: usize, x: u32, value: usize) -> bool
+        ensures { IsTrue result → (r : Option ℕ) → code_deep (site self.now) r (code self.now c)
+            ≡ declared_deep (site self.now) x (tree self.now value) }
+    {
+        match self.rows.code(c) {
+            TypedCodeNode::Declare {
+                object,
+                value: own,
+                ..
+            } => own == value && self.holds_loans(object) == self.holds_loans(x),
+            _ => false,
+        }
+    }
+
+    /// Whether a list begins with such a declaration. Then this one adds nothing to it.
+    fn begins_alike(&self, list: usize, x: u32, value: usize) -> bool
+        ensures { IsTrue result → (r : Option ℕ) →
+            earlier_of (declared_deep (site self.now) x (tree self.now value)) (code_deep (site self.now) r (code self.now list))
+            ≡ code_deep (site self.now) r (code self.now list) }
+    {
+        match self.rows.code(list) {
+            TypedCodeNode::More { first, .. } => self.declares(first, x, value),
+            _ => false,
+        }
+    }
+
+    /// Whether the first of a list is a declaration that shares its value with the one behind it.
+    fn is_shared(&self, first: usize, rest: usize) -> bool
+        ensures { IsTrue result → (r : Option ℕ) →
+            earlier_of (code_deep (site self.now) r (code self.now first)) (code_deep (site self.now) r (code self.now rest))
+            ≡ code_deep (site self.now) r (code self.now rest) }
+    {
+        match self.rows.code(first) {
+            TypedCodeNode::Declare { object, value, .. } => self.begins_alike(rest, object, value),
+            _ => false,
+        }
+    }
+
+    /// What the names of a list are made of. A value that declarations share is looked at with the
+    /// last of them.
+    fn listed(&self, first: usize, rest: usize) -> CodeTurn
+        ensures deep { (r : Option ℕ) → earlier_of (code_deep (site self.now) r (code self.now first)) (code_deep (site self.now) r (code self.now rest))
+            ≡ code_turn_deep self.now r result }
+        ensures below { (c : ℕ) → first < c → rest < c → IsCodeBelow c result }
+    {
+        if self.is_shared(first, rest) {
+            return CodeTurn::Goes {
+                own: None,
+                stmts: rest,
+            };
+        }
+        CodeTurn::Both { head: first, rest }
+    }
+
     /// What the names of code are made of, in a subprogram that gives this.
     #[tactic(auto, unfolding(crate::specs::Statements::code_deep))]
     fn code_turn(&self, given: Option<u32>, c: usize) -> CodeTurn
@@ -225,7 +281,7 @@ impl<'p> NameReader<'p> {
                 own: self.bounds(low, high),
                 stmts,
             },
-            TypedCodeNode::More { first, rest } => CodeTurn::Both { head: first, rest },
+            TypedCodeNode::More { first, rest } => self.listed(first, rest),
             TypedCodeNode::Skip { .. }
             | TypedCodeNode::Branch { .. }
             | TypedCodeNode::Interval { .. }

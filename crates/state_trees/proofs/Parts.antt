@@ -18,24 +18,41 @@ use Rattle.place_names.proofs.Selectors.{same_selector}
 pub selector-decides : (s t : Sel) → Decides (selectors.eq-value.it s t) (s ≡ t)
 selector-decides s t = subst (λ b. Decides b (s ≡ t)) (sym (same_selector s t)) (is_equal-decides s t)
 
-behind_same : (front back rest : List Sel) → front ++ back ≡ front ++ rest → back ≡ rest
-behind_same [] back rest e = e
-behind_same (s ∷ front) back rest e = behind_same front back rest cc
+-- so it tells whether two lists of them are
+pub same_steps : (xs ys : List Sel) (r : Bool) → r ≡ pointwise selectors.eq-value.it xs ys → r ≡ pointwise is_equal xs ys
+same_steps xs ys r e =
+    same_from_decides {P = xs ≡ ys} r (pointwise is_equal xs ys) (slice_eq-Decides selector-decides xs ys r e)
+    (pointwise_decides {E = is_equal} is_equal-decides xs ys)
+
+-- ---- a list of parts
 
 -- what is behind the front decides
-pub joined_some : (front back whole rest : List Sel) (r : Bool) → whole ≡ front ++ rest → r ≡ pointwise selectors.eq-value.it rest back
-    → r ≡ pointwise is_equal (front ++ back) whole
-joined_some front back whole rest r is e =
-    let d = slice_eq-Decides selector-decides rest back r e in
-    same_from_decides {P = front ++ back ≡ whole} r (pointwise is_equal (front ++ back) whole)
-    (λ t. ap (λ l. front ++ l) (sym (d.0 t)) ∙ sym is, λ w. d.1 (sym (behind_same front back rest (w ∙ is))))
-    (pointwise_decides {E = is_equal} is_equal-decides (front ++ back) whole)
+behind : (front q rest : List Sel) → pointwise is_equal q rest ≡ pointwise is_equal (front ++ q) (front ++ rest)
+behind [] q rest = refl
+behind (s ∷ front) q rest =
+    behind front q rest ∙ ap (λ b. b && pointwise is_equal (front ++ q) (front ++ rest)) (sym ((is_equal-decides s s).1 refl))
 
-pub joined_none : (front back whole : List Sel) → ((rest : List Sel) → whole ≢ front ++ rest) → false ≡ pointwise is_equal (front ++ back) whole
-joined_none front back whole none =
-    same_from_decides {P = front ++ back ≡ whole} false (pointwise is_equal (front ++ back) whole)
-    (λ t. cc, λ w. absurd (none back (sym w)))
-    (pointwise_decides {E = is_equal} is_equal-decides (front ++ back) whole)
+any_behind : (front rest : List Sel) (parts : List (List Sel))
+    → list_any (λ q. pointwise is_equal q rest) parts ≡ list_any (λ q. pointwise is_equal (front ++ q) (front ++ rest)) parts
+any_behind front rest [] = refl
+any_behind front rest (q ∷ parts) = λ i. behind front q rest i || any_behind front rest parts i
+
+pub joined_some : (front rest whole : List Sel) (parts : List (List Sel)) (r : Bool) → whole ≡ front ++ rest
+    → r ≡ list_any (λ q. pointwise is_equal q rest) parts → r ≡ list_any (λ q. pointwise is_equal (front ++ q) whole) parts
+joined_some front rest whole parts r is e =
+    e ∙ any_behind front rest parts ∙ ap (λ w. list_any (λ q. pointwise is_equal (front ++ q) w) parts) (sym is)
+
+-- what doesn't begin with the front is no part behind it
+no_joined : (front q whole : List Sel) → ((rest : List Sel) → whole ≢ front ++ rest) → false ≡ pointwise is_equal (front ++ q) whole
+no_joined front q whole none =
+    same_from_decides {P = front ++ q ≡ whole} false (pointwise is_equal (front ++ q) whole)
+    (λ t. cc, λ w. absurd (none q (sym w)))
+    (pointwise_decides {E = is_equal} is_equal-decides (front ++ q) whole)
+
+pub joined_none : (front whole : List Sel) (parts : List (List Sel)) → ((rest : List Sel) → whole ≢ front ++ rest)
+    → false ≡ list_any (λ q. pointwise is_equal (front ++ q) whole) parts
+joined_none front whole [] none = refl
+joined_none front whole (q ∷ parts) none = λ i. no_joined front q whole none i || joined_none front whole parts none i
 
 -- one of the parts that are moved
 pub any_moved : (m n : Name) (parts : List (List Sel))

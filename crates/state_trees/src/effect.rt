@@ -1,5 +1,5 @@
 //! What an act does to one fact.
-ghost use Rattle.std.specs.Prelude.{◌≡◌, ◌++◌, Bool, false, unwrap_or};
+ghost use Rattle.std.specs.Prelude.{◌≡◌, ◌<◌, ◌++◌, Bool, true, false, length, unwrap_or, IfSome, IfNone};
 ghost use Rattle.std.specs.List.{list_any};
 ghost use Rattle.std.specs.Cmp.Lexicographic.{pointwise};
 ghost use Rattle.place_names.specs.declared.act.Act.TheVariants as acts;
@@ -53,38 +53,67 @@ fn removes(act: &Act, fact: &Fact) -> bool
     }
 }
 
-/// Whether the third list is the first one followed by the second.
-fn is_joined(front: &[Sel], back: &[Sel], whole: &[Sel]) -> bool
-    ensures { result ≡ pointwise names.is_equal (front.now ++ back.now) whole.now }
+/// Whether two lists of steps are the same.
+fn is_same_steps(a: &[Sel], b: &[Sel]) -> bool
+    ensures { result ≡ pointwise names.is_equal a.now b.now }
 {
-    match whole.strip_prefix(front) {
-        Some(rest) => rest == back,
+    a == b
+}
+
+/// The number of a part with these steps. The part with the number `first` is looked at before the
+/// others.
+fn part_with(parts: &[PlaceTail], first: usize, steps: &[Sel]) -> Option<usize>
+    ensures some { IfSome result (λ i. (i < length parts.now) × (list_any (λ part. pointwise names.is_equal part steps.now) parts.now ≡ true)) }
+    ensures none { IfNone result (list_any (λ part. pointwise names.is_equal part steps.now) parts.now ≡ false) }
+{
+    if first < parts.len() && is_same_steps(parts[first].sels(), steps) {
+        return Some(first);
+    }
+    'parts: for i in 0..parts.len() {
+        if is_same_steps(parts[i].sels(), steps) {
+            return Some(i);
+        }
+    }
+    None
+}
+
+/// Whether some steps are those of a part. The part with the number `next` is looked at before the
+/// others, and where one is found, `next` becomes the number behind it.
+fn is_any_part(parts: &[PlaceTail], steps: &[Sel], next: &mut usize) -> bool
+    ensures { result ≡ list_any (λ part. pointwise names.is_equal part steps.now) parts.now }
+{
+    match part_with(parts, *next, steps) {
+        Some(i) => {
+            *next = i + 1;
+            true
+        }
         None => false,
     }
 }
 
-/// Whether the third list is the first one followed by one of some parts.
-fn is_joined_part(front: &[Sel], parts: &[PlaceTail], whole: &[Sel]) -> bool
+/// Whether the third list is the first one followed by one of some parts. `next` is as above.
+fn is_joined_part(front: &[Sel], parts: &[PlaceTail], whole: &[Sel], next: &mut usize) -> bool
     ensures { result ≡ list_any (λ part. pointwise names.is_equal (front.now ++ part) whole.now) parts.now }
 {
-    parts
-        .iter()
-        .any(|part| is_joined(front, part.sels(), whole))
+    match whole.strip_prefix(front) {
+        Some(rest) => is_any_part(parts, rest, next),
+        None => false,
+    }
 }
 
 /// Whether a name is that of one of some parts of a place.
-fn is_part(name: &PlaceName, parts: &[PlaceTail], whole: &PlaceName) -> bool
+fn is_part(name: &PlaceName, parts: &[PlaceTail], whole: &PlaceName, next: &mut usize) -> bool
     ensures { result ≡ list_any (λ part. names.is_same (names.extend name.now part) whole.now) parts.now }
 {
-    name.root() == whole.root() && is_joined_part(name.sels(), parts, whole.sels())
+    name.root() == whole.root() && is_joined_part(name.sels(), parts, whole.sels(), next)
 }
 
 /// Whether a fact is that one of some parts of a place was moved.
-fn is_moved_part(name: &PlaceName, parts: &[PlaceTail], fact: &Fact) -> bool
+fn is_moved_part(name: &PlaceName, parts: &[PlaceTail], fact: &Fact, next: &mut usize) -> bool
     ensures { result ≡ effects.is_added (acts.Move name.now parts.now) fact.now }
 {
     match fact {
-        Fact::Moved(moved) => is_part(name, parts, moved),
+        Fact::Moved(moved) => is_part(name, parts, moved, next),
         Fact::Lent { .. } => false,
     }
 }
@@ -120,12 +149,13 @@ fn is_loan(kind: Loan, holder: u32, name: &PlaceName, fact: &Fact) -> bool
     }
 }
 
-/// Whether an act adds a fact.
-fn is_added(act: &Act, fact: &Fact) -> bool
+/// Whether an act adds a fact. Of the parts of a move, the one with the number `next` is looked at
+/// before the others, and where one is found, `next` becomes the number behind it.
+fn is_added(act: &Act, fact: &Fact, next: &mut usize) -> bool
     ensures { result ≡ effects.is_added act.now fact.now }
 {
     match act {
-        Act::Move { name, parts } => is_moved_part(name, parts.as_slice(), fact),
+        Act::Move { name, parts } => is_moved_part(name, parts.as_slice(), fact, next),
         Act::Borrow { holder, name } => is_loan(Loan::Borrowed, *holder, name, fact),
         Act::Observe {
             holder,
@@ -145,11 +175,12 @@ fn is_added(act: &Act, fact: &Fact) -> bool
     }
 }
 
-/// Whether a fact holds behind an act: none where it does so if it held before.
-pub(crate) fn settled(act: &Act, fact: &Fact) -> Option<bool>
+/// Whether a fact holds behind an act: none where it does so if it held before. `next` is the part
+/// of a move that is looked at first, and then the one behind the part that was found.
+pub(crate) fn settled(act: &Act, fact: &Fact, next: &mut usize) -> Option<bool>
     ensures { (held : Bool) → effects.holds_behind act.now fact.now held ≡ unwrap_or result held }
 {
-    if is_added(act, fact) {
+    if is_added(act, fact, next) {
         Some(true)
     } else if removes(act, fact) {
         Some(false)

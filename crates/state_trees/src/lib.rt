@@ -9,7 +9,9 @@
 //! two lists of facts change as `effect` has it stands in `proofs/Effects.antt`, and what a tree
 //! says fact by fact in `proofs/FactByFact.antt`.
 //! Refused is a list with more facts than a `u32` has numbers for, as if out of memory. Each call
-//! takes time linear in the facts, but for `may` and `always`.
+//! takes time linear in the facts, but for `may` and `always`. At a move of a name with many parts,
+//! a fact of that name is compared with the part behind the last that was found, and only where it
+//! isn't that one's with all of them.
 #![tactic(auto)]
 
 mod effect;

@@ -5,15 +5,17 @@ ghost use Rattle.state_trees.specs.FactStates.{may_behind, lacks_behind, either_
 use crate::effect::settled;
 use place_names::{Act, Fact};
 
-/// What an act does to the marks of what may hold, and to those of what may not hold.
+/// What an act does to the marks of what may hold, and to those of what may not hold. The facts of
+/// a moved name mostly stand in the order of its parts, so each part is looked for behind the last.
 pub(crate) fn pass(may: &mut Vec<bool>, lacks: &mut Vec<bool>, facts: &[Fact], act: &Act)
     requires may { vec_len may.old ≡ length facts.now }
     requires lacks { vec_len lacks.old ≡ length facts.now }
     ensures may { may.new.items ≡ may_behind act.now facts.now may.old.items }
     ensures lacks { lacks.new.items ≡ lacks_behind act.now facts.now lacks.old.items }
 {
+    let mut next_part = 0;
     'facts: for i in 0..facts.len() {
-        if let Some(holds) = settled(act, &facts[i]) {
+        if let Some(holds) = settled(act, &facts[i], &mut next_part) {
             may[i] = holds;
             lacks[i] = !holds;
         }

@@ -1,11 +1,22 @@
-use Rattle.std.proofs.Common.{rules, tests, ◌++◌}
-use Rattle.std.specs.Cmp.Lexicographic.{pointwise}
-use Rattle.std.proofs.lemmas.Iterator.{YieldsList-from_slice}
-use Rattle.std.proofs.lemmas.Iterator.Search.{any_from_yields_List}
-use Rattle.place_names.specs.Names.{is_equal}
+use Rattle.std.proofs.Common.{◌≡◌, ◌≢◌, ◌++◌, List, subst}
+use Rattle.std.specs.Option.{MatchOption}
+use Rattle.std.proofs.lemmas.Slice.Eq.{strip_prefix_is}
+use Rattle.place_names.specs.declared.selector.Sel.{Sel}
+use Rattle.state_trees.proofs.Parts.{selector-decides, joined_some, joined_none}
 use Rattle.state_trees.proofs.effect.is_joined_part.Goals as goal
 
-pub returns : goal.returns
-returns c =
-    any_from_yields_List (λ q. pointwise is_equal (c.args.front.now ++ q) c.args.whole.now) _ _ c.any.result c.any.ensures.ran
-    (YieldsList-from_slice c.args.parts.now cc) (λ x b q k. search (rules, tests))
+pub returns-in-Some : goal.returns-in-Some
+returns-in-Some c =
+    let front = c.args.front.now in
+    let whole = c.args.whole.now in
+    let found = strip_prefix_is selector-decides whole front c.strip_prefix.result c.strip_prefix.ensures.cases in
+    let is = subst (λ r. MatchOption r ((rest : List Sel) → whole ≢ front ++ rest) (λ x. whole ≡ front ++ x.now)) c.in-Some.is found in
+    joined_some front c.in-Some.rest.now whole c.args.parts.now c.is_any_part.result is c.is_any_part.ensures
+
+pub returns-in-None : goal.returns-in-None
+returns-in-None c =
+    let front = c.args.front.now in
+    let whole = c.args.whole.now in
+    let found = strip_prefix_is selector-decides whole front c.strip_prefix.result c.strip_prefix.ensures.cases in
+    let none = subst (λ r. MatchOption r ((rest : List Sel) → whole ≢ front ++ rest) (λ x. whole ≡ front ++ x.now)) c.in-None.is found in
+    joined_none front whole c.args.parts.now none
