@@ -2,8 +2,6 @@
 use Rattle.std.proofs.Common.{◌≡◌, ◌≢◌, refl, sym, ap, ◌∙◌, subst, ◌⊎◌, inl, inr, ℕ, zero, suc, set, get_or, ◌<◌, Bool, true, false, ◌||◌, not, List, [], ◌∷◌, zip, length, drop, Option, Some, None, get_or-set_same, get_or-set_other, arith}
 use Rattle.std.proofs.Math.ListN.{length-set}
 use Rattle.std.specs.Bool.{Decides}
-use Rattle.std.specs.BTreeSet.{insert_key}
-use Rattle.std.specs.Ordering.{nat_cmp}
 use Rattle.std.specs.List.{list_all}
 use Rattle.spark_base.specs.Lists.{Has}
 use Rattle.place_names.specs.declared.act.Placed.{Placed}
@@ -17,7 +15,7 @@ use Rattle.state_trees.proofs.Kept.{kept_joined}
 use Rattle.state_trees.proofs.Passes.{has_all-decides}
 use Rattle.path_facts.specs.PointTrees.{tree_at, path_point_of, path_points_of, AreWithin}
 use Rattle.path_facts.specs.Labels.{Label, Here, Says, carried, flow_of, Shows, labels_of, SearchedOn}
-use Rattle.path_facts.specs.Carries.{acts_of, come_to, CarriedTo, IsOver, AreOver}
+use Rattle.path_facts.specs.Carries.{acts_of, come_to, IsBrought, CarriedTo, IsOver, AreOver}
 use Rattle.path_facts.proofs.Moves.{IsMoved}
 use Rattle.path_facts.proofs.Work.{more_keeps, more_has, more_only}
 
@@ -136,18 +134,15 @@ set_twice (t ∷ trees) zero a b = refl
 set_twice (t ∷ trees) (suc q) a b = ap (λ l. t ∷ l) (set_twice trees q a b)
 
 -- the tree was taken out and a state put in its place
-pub carried_to : (q : ℕ) (s u : FactState) (old new : List (Option FactState)) (a t : Option FactState) (work work' : List ℕ)
+pub brought : (q : ℕ) (s u : FactState) (old new : List (Option FactState)) (a t : Option FactState) (changed : Bool)
     → t ≡ tree_at old q → u ≡ come_to s t → new ≡ set (set old q a) q (Some u)
-    → ((work' ≡ work) × (t ≡ Some u)) ⊎ ((work' ≡ insert_key nat_cmp work q) × (t ≢ Some u))
-    → CarriedTo q s old work new work'
-carried_to q s u old new a t work work' was is made works =
+    → (changed ≡ false → t ≡ Some u) → (changed ≡ true → t ≢ Some u) → IsBrought q s old new changed
+brought q s u old new a t changed was is made same changes =
     let value : Some u ≡ Some (come_to s (tree_at old q)) = ap Some is ∙ ap (λ x. Some (come_to s x)) was in
     record {
       trees = made ∙ set_twice old q a (Some u) ∙ ap (set old q) value;
-      works = elim works [
-        | inl w ↦ inl (w.0, sym was ∙ w.1 ∙ value)
-        | inr w ↦ inr (w.0, λ e. w.1 (was ∙ e ∙ sym value))
-      ];
+      same = λ e. sym was ∙ same e ∙ value;
+      changes = λ e is. changes e (was ∙ is ∙ sym value);
     }
 
 -- a state that doesn't differ from a join is the join
@@ -165,20 +160,15 @@ joined_stable t s kt ks same nn =
     let lacks = mark_stable t.lacks s.lacks (kt.lacks ∙ counts ∙ sym ks.lacks) (λ no. nn (λ e. no (ap (λ (x : FactState). x.lacks) e))) in
     λ i. record { facts = t.facts; may = may i; lacks = lacks i }
 
--- a join that changed the tree, and one that didn't
-pub carried_more : (q : ℕ) (s t u : FactState) (old new : List (Option FactState)) (a : Option FactState) (work work' : List ℕ)
-    → Some t ≡ tree_at old q → u ≡ joined t s → new ≡ set (set old q a) q (Some u) → work' ≡ insert_key nat_cmp work q → (u ≡ t → ⊥)
-    → CarriedTo q s old work new work'
-carried_more q s t u old new a work work' was is made more changed =
-    carried_to q s u old new a (Some t) work work' was is made (inr (more, λ e. changed (let same : t ≡ u = cc in sym same)))
-
-pub carried_same : (q : ℕ) (s t u : FactState) (old new : List (Option FactState)) (a : Option FactState) (work : List ℕ) (changed : Bool)
+-- a state that was joined
+pub joined_brought : (q : ℕ) (s t u : FactState) (old new : List (Option FactState)) (a : Option FactState) (changed : Bool)
     → IsKept s → AreOver s.facts old → Some t ≡ tree_at old q → u ≡ joined t s → new ≡ set (set old q a) q (Some u)
-    → changed ≡ false → ((u ≡ t → ⊥) → changed ≡ true) → CarriedTo q s old work new work
-carried_same q s t u old new a work changed ks over was is made stays moves =
+    → (changed ≡ true → u ≡ t → ⊥) → ((u ≡ t → ⊥) → changed ≡ true) → IsBrought q s old new changed
+joined_brought q s t u old new a changed ks over was is made changes moves =
     let o : IsOver s.facts (Some t) = subst (IsOver s.facts) (sym was) (over q) in
-    let same : joined t s ≡ t = joined_stable t s o.1 ks o.0 (λ n. (let e : changed ≡ true = moves (λ e. n (sym is ∙ e)) in cc)) in
-    carried_to q s u old new a (Some t) work work was is made (inl (refl, ap Some (sym (is ∙ same))))
+    brought q s u old new a (Some t) changed was is made
+    (λ stays. ap Some (sym (is ∙ joined_stable t s o.1 ks o.0 (λ n. (let e : changed ≡ true = moves (λ e. n (sym is ∙ e)) in cc)))))
+    (λ e same. changes e (let back : t ≡ u = cc in sym back))
 
 -- ---- a turn
 
@@ -201,11 +191,6 @@ pub same_default : {A : Type 0} (xs : List A) (n : ℕ) (d e : A) → n < length
 same_default [] n d e h = absurd (omega arith)
 same_default (x ∷ xs) zero d e h = refl
 same_default (x ∷ xs) (suc n) d e h = same_default xs n d e (omega arith)
-
-has_at : (xs : List ℕ) (i d : ℕ) → i < length xs → Has xs (get_or xs i d)
-has_at [] i d h = absurd (omega arith)
-has_at (x ∷ xs) zero d h = inl refl
-has_at (x ∷ xs) (suc i) d h = inr (has_at xs i d (omega arith))
 
 pub dropped : (xs : List ℕ) (i d : ℕ) → i < length xs → drop i xs ≡ get_or xs i d ∷ drop (suc i) xs
 dropped [] i d h = absurd (omega arith)
@@ -230,7 +215,6 @@ pub acts_is : (points : List Point) (p : ℕ) (d : Point) (acts : List Placed) �
 acts_is points p d acts h is = ap acts_of is ∙ ap (λ (x : PathPoint). acts_of x.acts) (point_is points p d h)
 
 -- a successor is a point
-pub next_within : (points : List Point) (p i d : ℕ) (next : List ℕ) → AreWithin (path_points_of points)
-    → next ≡ (path_point (path_points_of points) p).next → i < length next → get_or next i d < length points
-next_within points p i d next edges is h =
-    subst (λ n. get_or next i d < n) (points_counted points) (edges p (get_or next i d) (subst (λ l. Has l (get_or next i d)) is (has_at next i d h)))
+pub next_within : (points : List Point) (p : ℕ) (next : List ℕ) → AreWithin (path_points_of points)
+    → next ≡ (path_point (path_points_of points) p).next → (q : ℕ) → Has next q → q < length points
+next_within points p next edges is q h = subst (λ n. q < n) (points_counted points) (edges p q (subst (λ l. Has l q) is h))

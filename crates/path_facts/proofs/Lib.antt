@@ -7,6 +7,7 @@ pub mod Moves
 pub mod Work
 pub mod Carried
 pub mod Debt
+pub mod Turned
 pub mod Started
 -- laws of the definitions
 pub mod Globals

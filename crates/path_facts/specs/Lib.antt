@@ -4,3 +4,4 @@ pub mod PointTrees
 pub mod Labels
 pub mod Carries
 pub mod Debts
+pub mod Turns

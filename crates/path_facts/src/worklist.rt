@@ -5,8 +5,8 @@ ghost use Rattle.flow_paths.specs.Paths.{path_point};
 ghost use Rattle.state_trees.specs.FactStates.{none_hold, IsKept};
 ghost use Rattle.path_facts.specs.PointTrees.{path_points_of, AreWithin, successors, IsExact};
 ghost use Rattle.path_facts.specs.Labels.{SearchedOn};
-ghost use Rattle.path_facts.specs.Carries.{state_along, acts_of, CarriedTo, AreOver, IsStarted};
-ghost use Rattle.path_facts.specs.Debts.{most, Pays};
+ghost use Rattle.path_facts.specs.Carries.{state_along, acts_of, IsBrought, CarriedTo, CarriedAlong, AreOver, IsStarted};
+ghost use Rattle.path_facts.specs.Turns.{IsTurned};
 
 use crate::steps::Steps;
 use flow_paths::Point;
@@ -26,6 +26,31 @@ fn apply_all(tree: &mut Tree<'_>, acts: &[Placed]) -> Result<(), AllocError>
     Ok(())
 }
 
+/// Brings a state to a point and tells whether the point's tree changed. The first state is kept as
+/// the tree, a further one is joined.
+fn bring<'f>(
+    trees: &mut Vec<Option<Tree<'f>>>,
+    q: usize,
+    state: Tree<'f>,
+) -> Result<bool, AllocError>
+    requires within { q < vec_len trees.old }
+    requires over { AreOver state.facts trees.old.items }
+    requires kept { IsKept state }
+    ensures { IfOk result (λ changed. IsBrought q state.entry trees.old.items trees.new.items changed) }
+{
+    match trees[q].take() {
+        None => {
+            trees[q] = Some(state);
+            Ok(true)
+        }
+        Some(mut tree) => {
+            let changed = tree.join(&state)?;
+            trees[q] = Some(tree);
+            Ok(changed)
+        }
+    }
+}
+
 /// Carries a state to a point, which is put into the work where its tree changed.
 // A profile of the program counts its calls, the steps (`docs/COSTS.md`), so it stays a function.
 #[inline(never)]
@@ -33,32 +58,45 @@ fn carry<'f, L: Ledger>(
     trees: &mut Vec<Option<Tree<'f>>>,
     work: &mut BTreeSet<usize>,
     q: usize,
-    state: &Tree<'f>,
+    state: Tree<'f>,
     steps: &mut Steps<L>,
 ) -> Result<(), AllocError>
     requires within { q < vec_len trees.old }
-    requires over { AreOver state.now.facts trees.old.items }
-    requires kept { IsKept state.now }
-    ensures carried { OnOk result (CarriedTo q state.now trees.old.items work.old.keys trees.new.items work.new.keys) }
+    requires over { AreOver state.facts trees.old.items }
+    requires kept { IsKept state }
+    ensures carried { OnOk result (CarriedTo q state.entry trees.old.items work.old.keys trees.new.items work.new.keys) }
     ensures one { steps.new ≡ steps.old + 1 }
 {
     steps.tick();
-    match trees[q].take() {
-        None => {
-            let first = state.copy()?;
-            trees[q] = Some(first);
-            work.insert(q)?;
-            Ok(())
-        }
-        Some(mut tree) => {
-            let changed = tree.join(state)?;
-            trees[q] = Some(tree);
-            if changed {
-                work.insert(q)?;
-            }
-            Ok(())
-        }
+    if bring(trees, q, state)? {
+        work.insert(q)?;
     }
+    Ok(())
+}
+
+/// Passes a state on to some successors. The last one is given the state itself.
+fn pass_on<'f, L: Ledger>(
+    trees: &mut Vec<Option<Tree<'f>>>,
+    work: &mut BTreeSet<usize>,
+    next: &[u32],
+    state: Tree<'f>,
+    steps: &mut Steps<L>,
+) -> Result<(), AllocError>
+    requires within { (q : ℕ) → Has next.now q → q < vec_len trees.old }
+    requires over { AreOver state.facts trees.old.items }
+    requires kept { IsKept state }
+    ensures carried { OnOk result
+        (CarriedAlong next.now state.entry trees.old.items work.old.keys trees.new.items work.new.keys) }
+    ensures ticks { steps.new ≤ steps.old + length next.now }
+{
+    let Some((last, front)) = next.split_last() else {
+        return Ok(());
+    };
+    'edges: for q in front {
+        carry(trees, work, *q as usize, state.copy()?, steps)?;
+    }
+    carry(trees, work, *last as usize, state, steps)?;
+    Ok(())
 }
 
 /// The turn of a point that was taken from the work: the state behind its acts is carried along
@@ -77,11 +115,8 @@ fn turn<'f, L: Ledger>(
     requires edges { AreWithin (path_points_of points.now) }
     requires places { (a : ℕ) → Has work.old.keys a → a < length points.now }
     requires searched { SearchedOn (path_points_of points.now) facts.now trees.old.items (p ∷ work.old.keys) }
-    ensures count { OnOk result (vec_len trees.new ≡ length points.now) }
-    ensures over { OnOk result (AreOver facts.now trees.new.items) }
-    ensures places { OnOk result ((a : ℕ) → Has work.new.keys a → a < length points.now) }
-    ensures searched { OnOk result (SearchedOn (path_points_of points.now) facts.now trees.new.items work.new.keys) }
-    ensures pays { OnOk result (Pays (most (length facts.now)) (length points.now) trees.old.items work.old.keys trees.new.items work.new.keys) }
+    ensures turned { OnOk result (IsTurned (path_points_of points.now) facts.now (length points.now)
+        trees.old.items work.old.keys trees.new.items work.new.keys) }
     ensures ticks { steps.new ≤ steps.old + length (path_point (path_points_of points.now) p).next }
 {
     let mut state = match &trees[p] {
@@ -89,10 +124,7 @@ fn turn<'f, L: Ledger>(
         None => return Ok(()),
     };
     apply_all(&mut state, points[p].acts.as_slice())?;
-    let next = points[p].next.as_slice();
-    'edges: for q in next {
-        carry(trees, work, *q as usize, &state, steps)?;
-    }
+    pass_on(trees, work, points[p].next.as_slice(), state, steps)?;
     Ok(())
 }
 

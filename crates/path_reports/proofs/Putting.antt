@@ -1,5 +1,5 @@
 -- Reports that are put in one after the other.
-use Rattle.std.proofs.Common.{◌≡◌, ◌⊎◌, inl, inr, refl, sym, ap, ◌∙◌, subst, ℕ, zero, suc, ◌+◌, ◌<◌, ◌≤◌, add-one, List, [], ◌∷◌, ◌++◌, map, drop, length, get_or, Option, None, arith}
+use Rattle.std.proofs.Common.{◌≡◌, ◌⊎◌, inl, inr, refl, sym, ap, ◌∙◌, subst, ℕ, zero, suc, ◌+◌, ◌<◌, ◌≤◌, add-one, List, [], ◌∷◌, ◌++◌, map, drop, length, get_or, set, Option, None, arith}
 use Rattle.std.specs.BTreeSet.{insert_key}
 use Rattle.std.proofs.lemmas.List.{append_assoc, map-append}
 use Rattle.spark_base.specs.declared.position.Pos.{Pos}
@@ -123,6 +123,32 @@ pub points_done : (printed : Name → List ℕ) (points : List PathPoint) (trees
     → length points ≤ i → put_told printed set (told_all (drop i points) (drop i trees)) ≡ all → set ≡ all
 points_done printed points trees i set all h before =
     sym (ap (λ l. put_told printed set (told_all l (drop i trees))) (drop_past points i h)) ∙ before
+
+-- the trees behind one are left as they are where that one is taken out
+first_dropped : {A : Type 0} (xs : List A) (i : ℕ) (d : A) → get_or (drop i xs) 0 d ≡ get_or xs i d
+first_dropped [] zero d = refl
+first_dropped [] (suc i) d = refl
+first_dropped (x ∷ xs) zero d = refl
+first_dropped (x ∷ xs) (suc i) d = first_dropped xs i d
+
+next_dropped : {A : Type 0} (xs : List A) (i : ℕ) → drop 1 (drop i xs) ≡ drop (suc i) xs
+next_dropped [] zero = refl
+next_dropped [] (suc i) = refl
+next_dropped (x ∷ xs) zero = refl
+next_dropped (x ∷ xs) (suc i) = next_dropped xs i
+
+past_set : {A : Type 0} (xs : List A) (i : ℕ) (x : A) → drop (suc i) (set xs i x) ≡ drop (suc i) xs
+past_set [] i x = refl
+past_set (y ∷ xs) zero x = refl
+past_set (y ∷ xs) (suc i) x = past_set xs i x
+
+pub same_first : {A : Type 0} (xs ys : List A) (i : ℕ) (d : A) → drop i xs ≡ drop i ys → get_or xs i d ≡ get_or ys i d
+same_first xs ys i d same = sym (first_dropped xs i d) ∙ ap (λ l. get_or l 0 d) same ∙ first_dropped ys i d
+
+pub same_past : {A : Type 0} (xs ys : List A) (i : ℕ) (x : A) → drop i xs ≡ drop i ys → drop (i + 1) (set xs i x) ≡ drop (i + 1) ys
+same_past xs ys i x same =
+    subst (λ n. drop n (set xs i x) ≡ drop n ys) (sym (add-one i))
+    (past_set xs i x ∙ sym (next_dropped xs i) ∙ ap (drop 1) same ∙ next_dropped ys i)
 
 -- the trees that were read are kept
 kept_here : (trees : List (Option FactState)) (i q : ℕ) (t d : Option FactState) → t ≡ get_or trees i d → i < length trees → IsKeptWhere t

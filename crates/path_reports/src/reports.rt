@@ -1,5 +1,5 @@
 //! The reports of a subprogram.
-ghost use Rattle.std.specs.Prelude.{◌≡◌, ◌+◌, ◌*◌, ◌≤◌, [], ◌++◌, length, map, IsTrue, IfOk, OnOk};
+ghost use Rattle.std.specs.Prelude.{◌≡◌, ◌+◌, ◌*◌, ◌≤◌, [], ◌++◌, length, vec_len, map, IsTrue, IfOk, OnOk};
 ghost use Rattle.place_names.specs.Reports.{report_at};
 ghost use Rattle.report_lists.specs.Gains.{told, put_told, Gains};
 ghost use Rattle.flow_paths.specs.Paths.{PathReport};
@@ -121,30 +121,22 @@ fn put_point(
     table: &[Info],
     objects: &[Object],
     effects: &Effects,
-    tree: &Tree<'_>,
+    mut tree: Tree<'_>,
     point: &Point,
     set: &mut ReportSet,
 ) -> Result<(), AllocError>
     requires { AreAscending effects.now }
     ensures set { OnOk result (set.new ≡ put_told (printed_name table.now objects.now) set.old
-        (told_along (called_point objects.now effects.now point.now).acts tree.now)) }
-    ensures kept { IsKept tree.now }
+        (told_along (called_point objects.now effects.now point.now).acts tree.entry)) }
+    ensures kept { IsKept tree.entry }
 {
     let _list = tree.facts();
     let called = called_acts(alloc, objects, effects, point)?;
     if are_none(point.acts.as_slice(), &called) {
         return Ok(());
     }
-    let mut state = tree.copy()?;
-    put_acts(
-        alloc,
-        table,
-        objects,
-        &mut state,
-        point.acts.as_slice(),
-        set,
-    )?;
-    put_acts(alloc, table, objects, &mut state, &called, set)?;
+    put_acts(alloc, table, objects, &mut tree, point.acts.as_slice(), set)?;
+    put_acts(alloc, table, objects, &mut tree, &called, set)?;
     Ok(())
 }
 
@@ -154,14 +146,14 @@ fn put_where(
     table: &[Info],
     objects: &[Object],
     effects: &Effects,
-    tree: &Option<Tree<'_>>,
+    tree: Option<Tree<'_>>,
     point: &Point,
     set: &mut ReportSet,
 ) -> Result<(), AllocError>
     requires { AreAscending effects.now }
-    ensures kept { IsKeptWhere tree.now }
+    ensures kept { IsKeptWhere tree.entry }
     ensures set { OnOk result (set.new ≡ put_told (printed_name table.now objects.now) set.old
-        (told_where (called_point objects.now effects.now point.now).acts tree.now)) }
+        (told_where (called_point objects.now effects.now point.now).acts tree.entry)) }
 {
     match tree {
         Some(tree) => Ok(put_point(alloc, table, objects, effects, tree, point, set)?),
@@ -169,24 +161,32 @@ fn put_where(
     }
 }
 
-/// Puts in the reports of all points.
+/// Puts in the reports of all points, whose trees are used up.
 fn put_points(
     alloc: Global,
     table: &[Info],
     objects: &[Object],
     effects: &Effects,
-    trees: &[Option<Tree<'_>>],
+    mut trees: Vec<Option<Tree<'_>>>,
     points: &[Point],
     set: &mut ReportSet,
 ) -> Result<(), AllocError>
     requires order { AreAscending effects.now }
-    requires count { length trees.now ≡ length points.now }
-    ensures kept { OnOk result (AreKept trees.now) }
+    requires count { vec_len trees ≡ length points.now }
+    ensures kept { OnOk result (AreKept trees.entry.items) }
     ensures set { OnOk result (set.new ≡ put_told (printed_name table.now objects.now) set.old
-        (told_all (called_points objects.now effects.now points.now) trees.now)) }
+        (told_all (called_points objects.now effects.now points.now) trees.entry.items)) }
 {
     'points: for p in 0..points.len() {
-        put_where(alloc, table, objects, effects, &trees[p], &points[p], set)?;
+        put_where(
+            alloc,
+            table,
+            objects,
+            effects,
+            trees[p].take(),
+            &points[p],
+            set,
+        )?;
     }
     Ok(())
 }
@@ -213,6 +213,6 @@ pub fn path_reports<L: Ledger>(
         ≤ steps.old + successors (path_points_of points.now) * (2 * length facts.now + 2) }
 {
     let trees = point_trees(alloc, points, facts, steps)?;
-    put_points(alloc, table, objects, effects, &trees, points, set)?;
+    put_points(alloc, table, objects, effects, trees, points, set)?;
     Ok(())
 }

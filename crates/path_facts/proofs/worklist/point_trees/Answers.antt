@@ -47,7 +47,7 @@ pub turns-smaller : goal.turns-smaller
 turns-smaller g c =
     let costs : List ℕ = ones c.args.points.now in
     let t = taken (length c.args.points.now) c.turns.work.keys c.pop_first.new.self.keys c.in-Some.p c.in-Some.ensures.removal c.turns.invariant.3 in
-    let pays = c.in_ok-turn.ensures.pays costs (ones_counted c.args.points.now) in
+    let pays = c.in_ok-turn.ensures.turned.pays costs (ones_counted c.args.points.now) in
     let was = owed_taken costs c.turns.work.keys c.pop_first.new.self.keys c.in-Some.p c.in-Some.ensures.removal in
     let one = one_each c.args.points.now c.in-Some.p t.place in
     omega arith
@@ -56,12 +56,13 @@ pub turns-preserved : goal.turns-preserved
 turns-preserved g c =
     let points = path_points_of c.args.points.now in
     let costs : List ℕ = costs_of points in
-    let pays = c.in_ok-turn.ensures.pays costs (costs_counted points ∙ points_counted c.args.points.now) in
+    let pays = c.in_ok-turn.ensures.turned.pays costs (costs_counted points ∙ points_counted c.args.points.now) in
     let ticks = c.in_ok-turn.ensures.ticks in
     let was = owed_taken costs c.turns.work.keys c.pop_first.new.self.keys c.in-Some.p c.in-Some.ensures.removal in
     let cost = cost_is points c.in-Some.p in
     let before = c.turns.invariant.4 in
-    (c.in_ok-turn.ensures.searched, c.in_ok-turn.ensures.over, c.in_ok-turn.ensures.count, c.in_ok-turn.ensures.places, omega arith)
+    let turned = c.in_ok-turn.ensures.turned in
+    (turned.searched, turned.over, omega (arith, c.turn.new.trees.ok.0, turned.sized), turned.places, omega arith)
 
 -- the turn that failed was owed, too
 pub returns-in_err-turn-clause-cost : goal.returns-in_err-turn-clause-cost

@@ -1,4 +1,4 @@
-use Rattle.std.proofs.Common.{◌∙◌, ◌++◌, sym}
+use Rattle.std.proofs.Common.{◌∙◌, ◌++◌, ap, sym}
 use Rattle.flow_paths.specs.Printing.{printed_name}
 use Rattle.path_facts.specs.Carries.{state_along, acts_of}
 use Rattle.report_lists.specs.Gains.{put_told}
@@ -12,11 +12,10 @@ returns-clause-set c =
     let printed = printed_name c.args.table.now c.args.objects.now in
     let point = c.args.point.now in
     let own = c.as_slice-2.ensures in
-    let state = c.in_ok-state.ensures in
     let called = c.deref-2.ensures.value ∙ c.in_ok-called.ensures in
-    let done = c.in_ok-put_acts.ensures.tree ∙ (λ i. state_along (acts_of (own i)) (state i)) in
-    let first = c.in_ok-put_acts.ensures.set ∙ (λ i. put_told printed c.args.set.now (told_along (own i) (state i))) in
-    point_put printed point.acts (called_by c.args.objects.now c.args.effects.now point.pos point.instr) c.deref-2.result.now c.args.tree.now
+    let done = c.in_ok-put_acts.ensures.tree ∙ ap (λ l. state_along (acts_of l) c.args.tree) own in
+    let first = c.in_ok-put_acts.ensures.set ∙ ap (λ l. put_told printed c.args.set.now (told_along l c.args.tree)) own in
+    point_put printed point.acts (called_by c.args.objects.now c.args.effects.now point.pos point.instr) c.deref-2.result.now c.args.tree
     c.put_acts.new.tree c.args.set.now c.put_acts.new.set c.put_acts-2.new.set called done first c.in_ok-put_acts-2.ensures.set
 
 pub returns-then-are_none-clause-set : goal.returns-then-are_none-clause-set
@@ -24,5 +23,5 @@ returns-then-are_none-clause-set c =
     let printed = printed_name c.args.table.now c.args.objects.now in
     let point = c.args.point.now in
     let called = called_by c.args.objects.now c.args.effects.now point.pos point.instr in
-    none_put printed point.acts called c.args.tree.now c.args.set.now
+    none_put printed point.acts called c.args.tree c.args.set.now
     ((λ i. sym c.as_slice.ensures i ++ sym (c.deref.ensures.value ∙ c.in_ok-called.ensures) i) ∙ c.are_none.ensures c.if-are_none.true)
