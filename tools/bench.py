@@ -196,6 +196,35 @@ def selected_components():
     return filled("\n".join(lines) + "\n")
 
 
+def named_of_components(count, names):
+    """A record with 60,000 components, and so many aggregates that each name some of them alone."""
+    lines = ["procedure Main is", "type R is record", ",\n".join("C%d" % i for i in range(60_000)) + " : Integer;", "end record;"]
+    lines += ["X : R;", "begin"] + ["X := (%s);" % ",".join("%s=>1" % name for name in names)] * count + ["end Main;"]
+    return filled("\n".join(lines) + "\n")
+
+
+def value_of_many():
+    """400,000 constants in one list, with a value that has 1,024 operators."""
+    names = ["C%d" % i for i in range(400_000)]
+    lines = ["procedure Main is", ",\n".join(names) + " : constant Integer := 0" + "+1" * 1_024 + ";", "begin null; end Main;"]
+    return filled("\n".join(lines) + "\n")
+
+
+def types_in_ring():
+    """5,000 private types, each made of the next one, and the last one of the first."""
+    count = 5_000
+    lines = ["package P is"] + ["type A%d is private;" % i for i in range(count)] + ["private"]
+    lines += ["type A%d is array(1..1)of A%d;" % (i, (i + 1) % count) for i in range(count)]
+    return filled("\n".join(lines + ["end P;"]) + "\n")
+
+
+def moves_of_parts():
+    """100 statements that each move an object with 64 access parts 1,000 times."""
+    parts = "type R is record " + ",".join("C%d" % i for i in range(64)) + " : List; end record;"
+    lines = [parts, "type T is array (1 .. 1000) of R;", "A : R; X : T;"]
+    return main_procedure(lines, ["X := (" + "A," * 999 + "A);"] * 100)
+
+
 def static_chains():
     """Named numbers and bounds with 1,024 operators each, as many as may stand in a source."""
     chain = "0" + "+1" * 1_024
@@ -313,9 +342,14 @@ def cases():
     yield "array_aggregate", array_aggregate(), 0, 1, None
     yield "record_aggregate", record_aggregate(), 0, 1, None
     yield "selected_components", selected_components(), 0, 1, None
+    yield "nine_of_components", named_of_components(18_000, ["C%d" % i for i in range(9)]), 2, 1, "K4"
+    yield "one_of_components", named_of_components(90_000, ["C59999"]), 2, 1, "K4"
+    yield "value_of_many", value_of_many(), 2, 1, "G1"
+    yield "types_in_ring", types_in_ring(), 2, 1, "K1"
     yield "static_chains", static_chains(), 0, 1, None
     yield "operator_chains", operator_chains(), 0, 1, None
     yield "most_facts", most_facts(), 1, 512, "O4"
+    yield "moves_of_parts", moves_of_parts(), 1, 99_999, "O4"
     yield "branches_in_loop", branches_in_loop(), 1, 60, "O4"
     yield "conditionals_in_row", conditionals_in_row(), 0, 1, None
     yield "straight_line", straight_line(), 0, 1, None
