@@ -2,7 +2,7 @@
 ghost use Rattle.std.specs.Prelude.{◌≡◌, IfOk};
 
 use fact_questions::Found;
-use place_names::{Act, Fact, Loan, Mode, PlaceName, PlaceTail, Rule, Sel, State, TooDeep};
+use place_names::{Act, Fact, Loan, Mode, Parts, PlaceName, PlaceTail, Rule, Sel, State, TooDeep};
 use spark_base::Listed;
 use state_trees::Tree;
 use std::alloc::{AllocError, Global};
@@ -66,12 +66,12 @@ fn tail(sels: &[Sel]) -> Result<PlaceTail, TooDeep> {
     Ok(made)
 }
 
-fn parts(alloc: Global, rows: &[&[Sel]]) -> Result<Listed<PlaceTail>, Fail> {
-    let mut made = Listed::new(alloc);
+fn parts(alloc: Global, rows: &[&[Sel]]) -> Result<Parts, Fail> {
+    let mut made = Vec::new(alloc);
     for row in rows {
         made.push(tail(row)?)?;
     }
-    Ok(made)
+    Ok(Parts::from_vec(made)?)
 }
 
 fn roots(alloc: Global, rows: &[u32]) -> Result<Listed<u32>, AllocError> {

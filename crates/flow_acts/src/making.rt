@@ -9,7 +9,6 @@ ghost use Rattle.flow_paths.specs.Acts.{used};
 
 use crate::depths::is_deep_act;
 use crate::fault::ActFault;
-use crate::names::copied_parts;
 use crate::plan::{Doing, Planned};
 use crate::writer::ActWriter;
 use place_names::{Act, PlaceName, Placed};
@@ -22,7 +21,7 @@ impl<'p> ActWriter<'p> {
         ensures { IfOk result (λ a. a ≡ used (site self.now) name of) }
     {
         if self.typing.is_owning(of) {
-            let parts = copied_parts(self.alloc, self.typing.access_parts(of))?;
+            let parts = self.typing.shared_parts(of)?;
             return Ok(Act::Move { name, parts });
         }
         Ok(Act::Read { name })

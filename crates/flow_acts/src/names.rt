@@ -9,9 +9,9 @@ ghost use Rattle.flow_acts.specs.Steps.{steps_from};
 
 use crate::fault::ActFault;
 use crate::writer::ActWriter;
-use place_names::{PlaceName, PlaceTail, Sel};
-use spark_base::{Listed, SELECTORS};
-use std::alloc::{AllocError, Global};
+use place_names::{PlaceName, Sel};
+use spark_base::SELECTORS;
+use std::alloc::AllocError;
 use typed_tree::TypedNode;
 
 /// A step of a name, and those behind it.
@@ -38,20 +38,6 @@ pub(crate) fn is_deep(name: &PlaceName) -> bool
     ensures { result ≡ is_deep name.now }
 {
     name.sels().len() > SELECTORS
-}
-
-/// Copies of the access parts of a type.
-pub(crate) fn copied_parts(
-    alloc: Global,
-    parts: &[PlaceTail],
-) -> Result<Listed<PlaceTail>, AllocError>
-    ensures { IfOk result (λ copy. copy ≡ parts.now) }
-{
-    let mut copy = Listed::new(alloc);
-    'parts: for part in parts {
-        copy.push(part.clone()?)?;
-    }
-    Ok(copy)
 }
 
 impl<'p> ActWriter<'p> {

@@ -1,12 +1,13 @@
 //! What is known of the parts of a program by number.
-ghost use Rattle.std.specs.Prelude.{◌≡◌};
+ghost use Rattle.std.specs.Prelude.{◌≡◌, IfOk};
 ghost use Rattle.type_table.specs.Types.{full, is_owning, parts, words};
 ghost use Rattle.flow_paths.specs.Objects.{designated, sub_at, traverses};
 ghost use Rattle.flow_typing.specs.Typings.{typing};
 
 use crate::signature::Signature;
 use crate::views::{designated_of, is_anonymous};
-use place_names::PlaceTail;
+use place_names::{Parts, PlaceTail};
+use std::alloc::AllocError;
 use type_shapes::TypeTable;
 use type_table::View;
 use typed_tree::Object;
@@ -42,6 +43,13 @@ impl<'p> ProgramTyping<'p> {
         ensures { result.now ≡ parts (typing self.now).table t }
     {
         self.table.access_parts(t)
+    }
+
+    /// The access parts of a type, shared with its table.
+    pub fn shared_parts(&self, t: u32) -> Result<Parts, AllocError>
+        ensures { IfOk result (λ shared. shared ≡ parts (typing self.now).table t) }
+    {
+        Ok(self.table.shared_parts(t)?)
     }
 
     /// The words of a type.

@@ -1,7 +1,7 @@
 //! What the points of a subprogram do to places.
 
+use crate::parts::Parts;
 use crate::place_name::PlaceName;
-use crate::place_tail::PlaceTail;
 use spark_base::{Listed, Pos};
 
 /// The mode of a formal parameter (Ada 2012, 6.1).
@@ -33,7 +33,7 @@ pub enum Act {
     /// A name is an owning expression; `parts` are the access parts of its type.
     Move {
         name: PlaceName,
-        parts: Listed<PlaceTail>,
+        parts: Parts,
     },
     /// A name is the initial value of the borrower `holder`.
     Borrow {

@@ -2,16 +2,18 @@
 //! fact breaks.
 //!
 //! A `PlaceName` is an object and at most 16 selectors, of which `PlaceTail` has the selectors
-//! alone. An `Act` names places, and a `Fact` says of one that it was moved or is lent; contracts
-//! see both with names as plain values. `Rule` and `State` have the codes and words of reports.
-//! What names say, `specs/Names.antt` states; what each act changes, `specs/Facts.antt`; what a
-//! fact forbids, `specs/Rules.antt`; and the reports of a path in their order,
-//! `specs/Reports.antt`. `docs/RULES.md` says it all in words. Refused is a 17th selector, with
-//! `TooDeep`. No call takes memory, and each takes time linear in the selectors of its names.
+//! alone. `Parts` are the access parts of a type, which the type and all its uses share. An `Act`
+//! names places, and a `Fact` says of one that it was moved or is lent; contracts see both with
+//! names as plain values. `Rule` and `State` have the codes and words of reports. What names say,
+//! `specs/Names.antt` states; what each act changes, `specs/Facts.antt`; what a fact forbids,
+//! `specs/Rules.antt`; and the reports of a path in their order, `specs/Reports.antt`.
+//! `docs/RULES.md` says it all in words. Refused is a 17th selector, with `TooDeep`. No call but
+//! `Parts::from_vec` takes memory, and each takes time linear in the selectors of its names.
 #![tactic(auto)]
 
 mod act;
 mod fact;
+mod parts;
 mod place_name;
 mod place_tail;
 mod rule;
@@ -19,6 +21,7 @@ mod selector;
 
 pub use act::{Act, Mode, Placed};
 pub use fact::Fact;
+pub use parts::Parts;
 pub use place_name::{PlaceName, TooDeep};
 pub use place_tail::PlaceTail;
 pub use rule::{Loan, Rule, State};

@@ -1,10 +1,11 @@
 //! The table of the types of a program.
-ghost use Rattle.std.specs.Prelude.{◌≡◌, ◌<◌, length};
+ghost use Rattle.std.specs.Prelude.{◌≡◌, ◌<◌, length, IfOk};
 ghost use Rattle.type_table.specs.Types.{named, full, shape_of, view_of, words, parts, is_owning};
 ghost use Rattle.type_shapes.specs.Sizes.{AreSizes};
 
-use place_names::PlaceTail;
+use place_names::{Parts, PlaceTail};
 use spark_base::Listed;
+use std::alloc::AllocError;
 use std::marker::Model;
 use type_table::{Info, Shape, View};
 
@@ -16,7 +17,7 @@ pub struct TypeSize {
     /// Whether it is a named access type, or has an owning component or element.
     pub owning: bool,
     /// Its access parts: the ways without a dereference to a named access type.
-    pub parts: Listed<PlaceTail>,
+    pub parts: Parts,
 }
 
 /// The types of a program. Contracts see what is known of each, by its number.
@@ -86,6 +87,16 @@ impl TypeTable {
         match self.sizes.get(t as usize) {
             Some(size) => size.parts.as_slice(),
             None => &[],
+        }
+    }
+
+    /// The access parts of a type, shared with the table.
+    pub fn shared_parts(&self, t: u32) -> Result<Parts, AllocError>
+        ensures { IfOk result (λ shared. shared ≡ parts self.now t) }
+    {
+        match self.sizes.get(t as usize) {
+            Some(size) => Ok(size.parts.clone()?),
+            None => Ok(Parts::none()),
         }
     }
 

@@ -4,9 +4,8 @@ ghost use Rattle.type_table.specs.Types.{span, words_of, numbered, parts_of};
 ghost use Rattle.type_table.specs.Whole.{all_short};
 ghost use Rattle.type_sizes.specs.Sizes.{words_in, parts_in, shape_size, IsSmall};
 
-use crate::tails::{add_fronts, copies};
-use place_names::{PlaceTail, Sel};
-use spark_base::Listed;
+use crate::tails::add_fronts;
+use place_names::{Parts, PlaceTail, Sel};
 use std::alloc::{AllocError, Global};
 use type_shapes::TypeSize;
 use type_table::{Component, Shape};
@@ -77,25 +76,34 @@ fn shape_words(sizes: &[TypeSize], shape: &Shape) -> u32
     }
 }
 
+/// The same, shared with the type.
+fn shared_in(sizes: &[TypeSize], t: u32) -> Result<Parts, AllocError>
+    ensures { IfOk result (λ shared. shared ≡ parts_in sizes.now t) }
+{
+    match sizes.get(t as usize) {
+        Some(size) => Ok(size.parts.clone()?),
+        None => Ok(Parts::none()),
+    }
+}
+
 /// The access part of a named access type: itself.
-fn access_parts(alloc: Global, named: bool) -> Result<Listed<PlaceTail>, AllocError>
+fn access_parts(alloc: Global, named: bool) -> Result<Parts, AllocError>
     ensures { IfOk result (λ made. made ≡ (if named then [] ∷ [] else [])) }
 {
-    let mut made = Listed::new(alloc);
-    if named {
-        made.push(PlaceTail::new())?;
+    if !named {
+        return Ok(Parts::none());
     }
-    Ok(made)
+    Ok(Parts::from_vec(vec![in alloc; PlaceTail::new(); 1]?)?)
 }
 
 /// The access parts of an array.
-fn elements_parts(alloc: Global, tails: &[PlaceTail]) -> Result<Listed<PlaceTail>, AllocError>
+fn elements_parts(alloc: Global, tails: &[PlaceTail]) -> Result<Parts, AllocError>
     requires { IsTrue (all_short (map (λ q. Sel.Elem ∷ q) tails.now)) }
     ensures { IfOk result (λ made. made ≡ map (λ q. Sel.Elem ∷ q) tails.now) }
 {
     let mut made = Vec::new(alloc);
     add_fronts(&mut made, Sel::Elem, tails)?;
-    Ok(Listed::from_vec(made))
+    Ok(Parts::from_vec(made)?)
 }
 
 /// A number in 32 bits. More than four billion components count as too little memory.
@@ -113,7 +121,7 @@ fn fields_parts(
     alloc: Global,
     sizes: &[TypeSize],
     components: &[Component],
-) -> Result<Listed<PlaceTail>, AllocError>
+) -> Result<Parts, AllocError>
     requires { IsTrue (all_short (numbered 0 (parts_in sizes.now) components.now)) }
     ensures { IfOk result (λ made. made ≡ numbered 0 (parts_in sizes.now) components.now) }
 {
@@ -122,24 +130,20 @@ fn fields_parts(
         let number = narrowed(i)?;
         add_fronts(&mut made, Sel::Field(number), parts_in(sizes, component.of))?;
     }
-    Ok(Listed::from_vec(made))
+    Ok(Parts::from_vec(made)?)
 }
 
 /// The access parts of a definition.
-fn shape_parts(
-    alloc: Global,
-    sizes: &[TypeSize],
-    shape: &Shape,
-) -> Result<Listed<PlaceTail>, AllocError>
+fn shape_parts(alloc: Global, sizes: &[TypeSize], shape: &Shape) -> Result<Parts, AllocError>
     requires { IsTrue (all_short (parts_of (parts_in sizes.now) shape.now)) }
     ensures { IfOk result (λ made. made ≡ parts_of (parts_in sizes.now) shape.now) }
 {
     match shape {
-        Shape::Whole { .. } | Shape::Listed { .. } => Ok(Listed::new(alloc)),
+        Shape::Whole { .. } | Shape::Listed { .. } => Ok(Parts::none()),
         Shape::Access { named, .. } => access_parts(alloc, *named),
         Shape::Fields { components } => fields_parts(alloc, sizes, components.as_slice()),
         Shape::Elements { element, .. } => elements_parts(alloc, parts_in(sizes, *element)),
-        Shape::Same { of } => copies(alloc, parts_in(sizes, *of)),
+        Shape::Same { of } => shared_in(sizes, *of),
     }
 }
 

@@ -6,7 +6,7 @@ ghost use Rattle.type_sizes.specs.Limits.{AreWithin};
 ghost use Rattle.type_sizes.specs.Sizes.{IsSized};
 
 use crate::shapes::shape_size;
-use spark_base::Listed;
+use place_names::Parts;
 use std::alloc::{AllocError, Global};
 use type_settled::{Visits, is_done, is_ready};
 use type_shapes::TypeSize;
@@ -32,7 +32,7 @@ fn nothing(alloc: Global, count: usize) -> Result<Vec<TypeSize>, AllocError>
         made.push(TypeSize {
             words: 0,
             owning: false,
-            parts: Listed::new(alloc),
+            parts: Parts::none(),
         })?;
     }
     Ok(made)

@@ -1,10 +1,9 @@
-//! Access parts: copied, and with a selector in front.
+//! Access parts with a selector in front.
 ghost use Rattle.std.specs.Prelude.{◌≡◌, ◌<◌, ◌∷◌, ◌++◌, length, map, IfOk, IsTrue};
 ghost use Rattle.type_table.specs.Whole.{all_short};
 
 use place_names::{PlaceTail, Sel};
-use spark_base::Listed;
-use std::alloc::{AllocError, Global};
+use std::alloc::AllocError;
 
 /// The steps with one in front.
 fn with_front(sel: Sel, tail: &PlaceTail) -> PlaceTail
@@ -32,15 +31,4 @@ pub fn add_fronts(
         made.push(with_front(sel, tail))?;
     }
     Ok(())
-}
-
-/// The same parts.
-pub fn copies(alloc: Global, tails: &[PlaceTail]) -> Result<Listed<PlaceTail>, AllocError>
-    ensures { IfOk result (λ made. made ≡ tails.now) }
-{
-    let mut made = Vec::new(alloc);
-    'tails: for tail in tails {
-        made.push(tail.clone()?)?;
-    }
-    Ok(Listed::from_vec(made))
 }
