@@ -1,6 +1,7 @@
 -- laws
 pub mod Owning
 pub mod Depths
+pub mod Deepest
 -- what the functions inside need
 pub mod Noted
 pub mod Measured
@@ -11,4 +12,5 @@ pub mod RoundSteps
 pub mod Capped
 pub mod Reached
 pub mod Unsound
+pub mod Inside
 pub mod Owned

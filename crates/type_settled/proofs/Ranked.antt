@@ -1,5 +1,5 @@
 -- Types that are made of types with a lower rank alone don't have themselves in them.
-use Rattle.std.proofs.Common.{◌≡◌, ◌⊎◌, inl, inr, ℕ, zero, suc, ◌<◌, ◌≤◌, Bool, true, false, ◌&&◌, ◌||◌, List, [], ◌∷◌, refl, sym, ap, ◌∙◌, arith, length, get_or, set, replicate, nat_eq, nat_lt, ◌+◌, IsTrue, Option, Some, None, true≢false, if◌then◌else◌}
+use Rattle.std.proofs.Common.{◌≡◌, ◌⊎◌, inl, inr, ℕ, zero, suc, ◌<◌, ◌≤◌, Bool, true, false, ◌&&◌, ◌||◌, List, [], ◌∷◌, refl, sym, ap, ◌∙◌, arith, length, get_or, set, replicate, nat_eq, nat_lt, ◌+◌, IsTrue, Option, Some, None, true≢false}
 use Rattle.std.specs.Prelude.{slice_get}
 use Rattle.std.proofs.lemmas.Bool.{cases_eq, cases_lt}
 use Rattle.std.proofs.lemmas.List.{length-replicate, get_or-replicate, get_or-set_other, get_or_past}
@@ -75,7 +75,7 @@ has_past table d t (suc n) ne past =
     has_more table d (suc n) n t (omega arith) ∙ ap (λ b. nat_eq b d || has_below table d n t) (base_past table t past)
     ∙ ap (λ b. b || has_below table d n t) (not_first d ne) ∙ below_past table d n t past
 
-base_info : (o : Option Info) → base_found o ≡ (info_found o).base
+pub base_info : (o : Option Info) → base_found o ≡ (info_found o).base
 base_info None = refl
 base_info (Some i) = refl
 

@@ -1,8 +1,7 @@
 -- The types that are found are those that have a marked type in them.
-use Rattle.std.proofs.Common.{◌≡◌, ◌⊎◌, inl, inr, ℕ, zero, suc, ◌+◌, ◌<◌, ◌≤◌, Bool, true, false, ◌||◌, ◌&&◌, List, [], ◌∷◌, refl, sym, ap, ◌∙◌, arith, length, length-set, get_or, set, replicate, IsTrue, Option, Some, None, true≢false}
-use Rattle.std.specs.Prelude.{slice_get}
+use Rattle.std.proofs.Common.{◌≡◌, ◌⊎◌, inl, inr, ℕ, zero, suc, ◌+◌, ◌<◌, ◌≤◌, Bool, true, false, ◌||◌, ◌&&◌, List, [], ◌∷◌, refl, sym, ap, ◌∙◌, arith, length, length-set, get_or, set, replicate, Option, Some, None, true≢false}
 use Rattle.std.proofs.lemmas.Bool.{cases_eq, cases_lt}
-use Rattle.std.proofs.lemmas.List.{length-replicate, get_or-replicate, get_or-set_same, get_or-set_other, get_or_past}
+use Rattle.std.proofs.lemmas.List.{length-replicate, get_or-replicate, get_or-set_other, get_or_past}
 use Rattle.std.proofs.lemmas.Option.{slice_get-get_or, slice_get_past}
 use Rattle.type_table.specs.declared.table.Component.{Component}
 use Rattle.type_table.specs.declared.table.Shape.{Shape}
@@ -27,7 +26,7 @@ or_second false b e = e
 or_none : (a b : Bool) → a ≡ false → b ≡ false → a || b ≡ false
 or_none a b e f = ap (λ c. c || b) e ∙ f
 
-or_true : (a b : Bool) → b ≡ true → a || b ≡ true
+pub or_true : (a b : Bool) → b ≡ true → a || b ≡ true
 or_true true b e = refl
 or_true false b e = e
 
@@ -143,7 +142,7 @@ found_step parents marks table found after t i right within room at in_it made d
 
 -- ---- no type is left
 
-past_none : (parents : Bool) (has : ℕ → Bool) (table : Table) (t : ℕ) → length table ≤ t → holds parents has (info table t) ≡ false
+pub past_none : (parents : Bool) (has : ℕ → Bool) (table : Table) (t : ℕ) → length table ≤ t → holds parents has (info table t) ≡ false
 past_none true has table t past = ap (λ o. holds true has (info_found o)) (slice_get_past table t past)
 past_none false has table t past = ap (λ o. holds false has (info_found o)) (slice_get_past table t past)
 

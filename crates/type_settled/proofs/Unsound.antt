@@ -66,7 +66,7 @@ below_within is table (suc n) t =
     ap (λ f. has f (shape_found (slice_get table t))) each
     ∙ ap (λ s. has (λ u. is u || some_below n is table u) s) (shape_info (slice_get table t))
 
-part_below : (is : ℕ → Bool) (table : Table) (t : ℕ) → some_below (length table) is table t ≡ some_part is table t
+pub part_below : (is : ℕ → Bool) (table : Table) (t : ℕ) → some_below (length table) is table t ≡ some_part is table t
 unfolding some_part
 part_below is table t = sym (below_within is table (length table) t)
 
@@ -173,7 +173,7 @@ or_true : (a : Bool) → true ≡ a || true
 or_true true = refl
 or_true false = refl
 
-same_number : (n : ℕ) → nat_eq n n ≡ true
+pub same_number : (n : ℕ) → nat_eq n n ≡ true
 same_number n = grind arith
 
 other_number : (n t : ℕ) → (t ≡ n → ⊥) → nat_eq n t ≡ false

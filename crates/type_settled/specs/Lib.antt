@@ -5,4 +5,5 @@ pub mod Orders
 pub mod Owners
 pub mod Ranks
 pub mod Reach
+pub mod Rings
 pub mod Skips

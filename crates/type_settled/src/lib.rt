@@ -11,15 +11,19 @@
 //!
 //! All is done in time linear in the table. Each type is measured behind what it is made of. Types
 //! are ranked, so that none is made of a type with a greater rank: one that is made of lower ones
-//! alone doesn't have itself in it. Which types have a marked one in them is found by a worklist
-//! for all at once; marked are the named access types, or the subtypes of a type that may have
-//! itself in it, or, where one has, the types whose declarations break a rule. A pass behind each
-//! search looks that none was left out, and one behind the ranking that the ranks are in order.
-//! Only where that failed, or where a type has itself in it and none whose declaration breaks a
-//! rule, types would be measured in rounds.
+//! alone doesn't have itself in it. Types with the same rank that are made of one another are a
+//! ring: those that have its first type in them and are in that type have themselves in them, and
+//! are found upwards and downwards from the first types of all rings at once. Which types have a
+//! marked one in them is found by a worklist for all at once; marked are the named access types, or
+//! the subtypes of a type of which it isn't known yet whether it has itself in it, or, where one
+//! has, the types whose declarations break a rule. A pass behind each search for marked types looks
+//! that none was left out, and one behind the ranking that the ranks are in order. Only where that
+//! failed, or where a type has itself in it and none whose declaration breaks a rule, types would
+//! be measured in rounds.
 #![tactic(auto)]
 
 mod chains;
+mod downward;
 mod faults;
 mod limits;
 mod links;
@@ -28,10 +32,14 @@ mod measures;
 mod nesting;
 mod order;
 mod owners;
+mod parts;
 mod ranks;
 mod reach;
+mod rings;
+mod roots;
 mod rounds;
 mod settled;
+mod upward;
 mod visits;
 mod walk;
 

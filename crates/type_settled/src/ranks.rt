@@ -28,8 +28,8 @@ fn give(ranks: &mut Vec<u32>, types: &[usize], rank: u32) {
     }
 }
 
-/// The ranks of all types. Those that are made of one another have the same.
-fn ranks(alloc: Global, table: &[Info]) -> Result<Vec<u32>, AllocError> {
+/// The ranks of all types, by the rings that they are in.
+fn ranks_by_rings(alloc: Global, table: &[Info]) -> Result<Vec<u32>, AllocError> {
     let mut ranks = vec![in alloc; 0; table.len()]?;
     let mut down = Walk::new(alloc, links(alloc, table, Way::Down)?, table.len())?;
     let mut rank = 0u32;
@@ -40,6 +40,45 @@ fn ranks(alloc: Global, table: &[Info]) -> Result<Vec<u32>, AllocError> {
         rank = rank.saturating_add(1);
     }
     Ok(ranks)
+}
+
+/// Whether a type is made of no other one.
+fn is_plain(info: &Info) -> bool {
+    match info.shape {
+        Shape::Whole { .. } | Shape::Listed { .. } | Shape::Access { .. } => info.parent.is_none(),
+        _ => false,
+    }
+}
+
+/// Ranks in the order of the table, the lowest for all types that are made of no other one.
+fn ranks_in_order(alloc: Global, table: &[Info]) -> Result<Vec<u32>, AllocError> {
+    let mut ranks = Vec::new(alloc);
+    let mut rank = 0u32;
+    'types: for info in table {
+        rank = rank.saturating_add(1);
+        ranks.push(if is_plain(info) { 0 } else { rank })?;
+    }
+    Ok(ranks)
+}
+
+/// Whether each type is made of types with a lower rank alone.
+fn are_rising(table: &[Info], ranks: &[u32]) -> bool {
+    'types: for (t, info) in table.iter().enumerate() {
+        if !parts_lower(ranks, rank(ranks, t), info) {
+            return false;
+        }
+    }
+    true
+}
+
+/// The ranks of all types. Those that are made of one another have the same. Mostly each type stands
+/// behind what it is made of.
+pub fn ranks(alloc: Global, table: &[Info]) -> Result<Vec<u32>, AllocError> {
+    let ranks = ranks_in_order(alloc, table)?;
+    if are_rising(table, &ranks) {
+        return Ok(ranks);
+    }
+    ranks_by_rings(alloc, table)
 }
 
 /// The rank of a type.
@@ -129,13 +168,12 @@ fn lower_alone(alloc: Global, table: &[Info], ranks: &[u32]) -> Result<Vec<bool>
 }
 
 /// Types that don't have themselves in them: all but those in rings, in time linear in the table.
-/// Of the first it isn't said.
-pub fn lone(alloc: Global, table: &[Info]) -> Result<Vec<bool>, AllocError>
+/// Of the first it isn't said, and of none where these aren't the ranks.
+pub fn lone(alloc: Global, table: &[Info], ranks: &[u32]) -> Result<Vec<bool>, AllocError>
     ensures { IfOk result (λ made. AreLone table.now made.items) }
 {
-    let ranks = ranks(alloc, table)?;
-    if are_ranks(table, &ranks) {
-        lower_alone(alloc, table, &ranks)
+    if are_ranks(table, ranks) {
+        lower_alone(alloc, table, ranks)
     } else {
         Ok(Vec::new(alloc))
     }

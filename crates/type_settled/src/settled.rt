@@ -6,11 +6,13 @@ ghost use Rattle.type_names.specs.ComponentNames.{FindAllComponents};
 ghost use Rattle.type_names.specs.FormalNames.{FindAllFormals};
 ghost use Rattle.type_settled.specs.Holding.{AreLone};
 ghost use Rattle.type_settled.specs.Owners.{AreOwners};
+ghost use Rattle.type_settled.specs.Rings.{AreInRings};
 
 use crate::measure::is_marked;
 use crate::nesting::is_in_itself;
 use crate::owners::{is_named_access, owners};
-use crate::ranks::lone;
+use crate::ranks::{lone, ranks};
+use crate::rings::in_rings;
 use spark_base::Listed;
 use std::alloc::{AllocError, Global};
 use std::mem;
@@ -18,8 +20,8 @@ use type_names::{WordIndex, component_indexes, formal_indexes};
 use type_table::Known;
 
 /// All that is known of the declarations, where components and formals are found by name, which
-/// types are owning, and which don't have themselves in them. It is dropped by a function of its
-/// own: who owns one needn't prove again how each table within it is dropped.
+/// types are owning, which don't have themselves in them, and which do. It is dropped by a function
+/// of its own: who owns one needn't prove again how each table within it is dropped.
 pub struct Settled {
     /// Where memory comes from.
     pub alloc: Global,
@@ -33,10 +35,13 @@ pub struct Settled {
     owners: Vec<bool>,
     // The types of which it is known that they don't have themselves in them.
     lone: Vec<bool>,
+    // The types of which it is known that they have themselves in them.
+    in_rings: Vec<bool>,
     ghost found: { FindAllComponents components.items known.table },
     ghost formals_found: { FindAllFormals formals.items known.entries },
     ghost right: { AreOwners known.table owners.items },
     ghost apart: { AreLone known.table lone.items },
+    ghost together: { AreInRings known.table in_rings.items },
 }
 
 impl Drop for Settled {
@@ -48,17 +53,20 @@ impl Drop for Settled {
             formals: _,
             owners: _,
             lone: _,
+            in_rings: _,
         } = self;
     }
 }
 
 impl Settled {
-    /// Finds out which types are owning, and which don't have themselves in them.
+    /// Finds out which types are owning, which don't have themselves in them, and which do.
     pub fn new(alloc: Global, known: Known) -> Result<Settled, AllocError>
         ensures { IfOk result (λ settled. settled.known ≡ known) }
     {
         let owners = owners(alloc, known.table.as_slice())?;
-        let lone = lone(alloc, known.table.as_slice())?;
+        let ranks = ranks(alloc, known.table.as_slice())?;
+        let lone = lone(alloc, known.table.as_slice(), &ranks)?;
+        let in_rings = in_rings(alloc, known.table.as_slice(), &ranks, &lone)?;
         let components = component_indexes(alloc, known.table.as_slice());
         let formals = formal_indexes(alloc, known.entries.as_slice());
         Ok(Settled {
@@ -68,6 +76,7 @@ impl Settled {
             formals,
             owners,
             lone,
+            in_rings,
         })
     }
 
@@ -91,6 +100,7 @@ impl Settled {
         self.formals = Vec::new(alloc);
         self.owners = Vec::new(alloc);
         self.lone = Vec::new(alloc);
+        self.in_rings = Vec::new(alloc);
         mem::replace(&mut self.known, none)
     }
 
@@ -106,6 +116,9 @@ impl Settled {
     pub fn holds_itself(&self, t: u32) -> bool
         ensures { result ≡ holds_itself self.now.known.table t }
     {
+        if is_marked(&self.in_rings, t as usize) {
+            return true;
+        }
         if t != 0 && is_marked(&self.lone, t as usize) {
             return false;
         }
