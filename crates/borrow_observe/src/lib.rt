@@ -4,7 +4,8 @@
 //! different rule, name and word that some fact of it gives, in the order of the facts. Which acts
 //! these rules look at, `specs/LoanRules.antt` states; what a fact forbids at an act, `place_names`
 //! defines; `docs/RULES.md`, "Rules", says it in words. Other acts give nothing here.
-//! Time is linear in the facts, times those that are found.
+//! Only facts that the act touches are looked at (`Tree::touched`), since no other one forbids it.
+//! Time is linear in these, times those that are found.
 #![tactic(auto)]
 
 mod rule;

@@ -1,96 +1,120 @@
 //! Tests of an act by what may hold before it.
-ghost use Rattle.std.specs.Prelude.{◌≡◌, IfOk, None, if◌then◌else◌};
+ghost use Rattle.std.specs.Prelude.{◌≡◌, ◌≤◌, None, vec_len, if◌then◌else◌, OnOk, OnErr};
 ghost use Rattle.place_names.specs.declared.act.Act.TheVariants as acts;
-ghost use Rattle.fact_questions.specs.Findings.{as_option, Appends};
+ghost use Rattle.fact_questions.specs.Findings.{as_option, with_found, Appends};
 ghost use Rattle.borrow_observe.specs.LoanRules.{loans_forbid, loans_found};
 
-use crate::rule::{breaks_in, breaks_reborrow, breaks_scope_end, breaks_use};
-use fact_questions::{Found, add_found, found_if, is_moved_or_borrowed, is_moved_or_lent, place};
-use place_names::{Act, Fact, Mode, PlaceName, Rule};
+use crate::rule::{breaks_actual, breaks_reborrow, breaks_scope_end, breaks_use};
+use fact_questions::{Found, add_if, is_moved_or_borrowed, is_moved_or_lent, place};
+use place_names::{Act, Fact, PlaceName, Rule};
 use state_trees::Tree;
 use std::alloc::AllocError;
 
-/// What a fact forbids at an actual.
-fn forbidden_actual(
+/// Adds what a fact forbids at the source of a traversal function's return.
+fn add_give(
+    found: &mut Vec<Found>,
+    start: usize,
     name: &PlaceName,
-    mode: Mode,
-    owning: bool,
-    access: bool,
+    borrows: bool,
     fact: &Fact,
-) -> Result<Option<Found>, AllocError>
-    ensures { IfOk result
-        (λ found. found ≡ as_option (loans_forbid (acts.Actual name.now mode owning access) fact.now)) }
-{
-    match mode {
-        Mode::In => {
-            let is_broken = breaks_in(fact, name, owning, access);
-            Ok(found_if(is_broken, Rule::O10, name, fact)?)
-        }
-        Mode::Out | Mode::InOut => Ok(None),
-    }
-}
-
-/// What a fact forbids at the source of a traversal function's return.
-fn forbidden_give(name: &PlaceName, borrows: bool, fact: &Fact) -> Result<Option<Found>, AllocError>
-    ensures { IfOk result (λ found. found ≡ as_option (loans_forbid (acts.Give name.now borrows) fact.now)) }
+) -> Result<(), AllocError>
+    requires { start ≤ vec_len found.old }
+    ensures ok { OnOk result (found.new.items
+        ≡ with_found start found.old.items (as_option (loans_forbid (acts.Give name.now borrows) fact.now))) }
+    ensures err { OnErr result (found.new.items ≡ found.old.items) }
 {
     if borrows {
         let is_broken = is_moved_or_lent(fact, name);
-        return Ok(found_if(is_broken, Rule::O5, name, fact)?);
+        return add_if(found, start, is_broken, Rule::O5, name, fact);
     }
     let is_broken = is_moved_or_borrowed(fact, name);
-    Ok(found_if(is_broken, Rule::O6, name, fact)?)
+    add_if(found, start, is_broken, Rule::O6, name, fact)
 }
 
-/// What a fact forbids at an act by these rules.
-fn forbidden(act: &Act, fact: &Fact) -> Result<Option<Found>, AllocError>
-    ensures { IfOk result (λ found. found ≡ as_option (loans_forbid act.now fact.now)) }
+/// Adds what a fact forbids at an act by these rules.
+fn add_forbidden(
+    found: &mut Vec<Found>,
+    start: usize,
+    act: &Act,
+    fact: &Fact,
+) -> Result<(), AllocError>
+    requires { start ≤ vec_len found.old }
+    ensures ok { OnOk result (found.new.items
+        ≡ with_found start found.old.items (as_option (loans_forbid act.now fact.now))) }
+    ensures err { OnErr result (found.new.items ≡ found.old.items) }
 {
     match act {
         Act::Borrow { name, .. } => {
             let is_broken = is_moved_or_lent(fact, name);
-            Ok(found_if(is_broken, Rule::O5, name, fact)?)
+            add_if(found, start, is_broken, Rule::O5, name, fact)
         }
         Act::Observe { name, .. } => {
             let is_broken = is_moved_or_borrowed(fact, name);
-            Ok(found_if(is_broken, Rule::O6, name, fact)?)
+            add_if(found, start, is_broken, Rule::O6, name, fact)
         }
         Act::Reborrow { borrower, .. } => {
             let is_broken = breaks_reborrow(fact, *borrower);
-            Ok(found_if(is_broken, Rule::O7, &PlaceName::new(*borrower), fact)?)
+            add_if(
+                found,
+                start,
+                is_broken,
+                Rule::O7,
+                &PlaceName::new(*borrower),
+                fact,
+            )
         }
         Act::EndScope { object, borrower } => {
             let is_broken = breaks_scope_end(fact, *object, *borrower);
-            Ok(found_if(is_broken, Rule::O8, place(fact), fact)?)
+            add_if(found, start, is_broken, Rule::O8, place(fact), fact)
         }
         Act::Actual {
             name,
             mode,
             owning,
             access,
-        } => Ok(forbidden_actual(name, *mode, *owning, *access, fact)?),
+        } => {
+            let is_broken = breaks_actual(fact, name, *mode, *owning, *access);
+            add_if(found, start, is_broken, Rule::O10, name, fact)
+        }
         Act::Global { object, written } => {
             let is_broken = breaks_use(fact, *object, *written);
-            Ok(found_if(is_broken, Rule::O11, &PlaceName::new(*object), fact)?)
+            add_if(
+                found,
+                start,
+                is_broken,
+                Rule::O11,
+                &PlaceName::new(*object),
+                fact,
+            )
         }
-        Act::Give { name, borrows } => Ok(forbidden_give(name, *borrows, fact)?),
+        Act::Give { name, borrows } => add_give(found, start, name, *borrows, fact),
         Act::Read { .. }
         | Act::Look { .. }
         | Act::Write { .. }
         | Act::Move { .. }
         | Act::Return { .. }
-        | Act::Free { .. } => Ok(None),
+        | Act::Free { .. } => Ok(()),
     }
 }
 
 /// The same, where the fact may hold.
-fn forbidden_if(may: bool, act: &Act, fact: &Fact) -> Result<Option<Found>, AllocError>
-    ensures { IfOk result (λ found. found ≡ as_option (if may then loans_forbid act.now fact.now else None)) }
+fn add_forbidden_if(
+    found: &mut Vec<Found>,
+    start: usize,
+    may: bool,
+    act: &Act,
+    fact: &Fact,
+) -> Result<(), AllocError>
+    requires { start ≤ vec_len found.old }
+    ensures ok { OnOk result (found.new.items
+        ≡ with_found start found.old.items (as_option (if may then loans_forbid act.now fact.now else None))) }
+    ensures err { OnErr result (found.new.items ≡ found.old.items) }
 {
     if !may {
-        return Ok(None);
+        return Ok(());
     }
-    Ok(forbidden(act, fact)?)
+    add_forbidden(found, start, act, fact)?;
+    Ok(())
 }
 
 /// Appends what the facts that may hold forbid at an act by these rules, in the order of the facts
@@ -100,9 +124,10 @@ pub fn test_loans(tree: &Tree<'_>, act: &Act, found: &mut Vec<Found>) -> Result<
 {
     let start = found.len();
     let facts = tree.facts();
-    'facts: for i in 0..facts.len() {
-        let more = forbidden_if(tree.may(i as u32), act, &facts[i])?;
-        add_found(found, start, more)?;
+    let numbers = tree.touched(act);
+    'numbers: for k in 0..numbers.len() {
+        let i = numbers.at(k);
+        add_forbidden_if(found, start, tree.may(i), act, &facts[i as usize])?;
     }
     Ok(())
 }

@@ -92,3 +92,14 @@ pub gathering_stops : (initial items : List Found) (given : List (Option Forbidd
 gathering_stops initial items given i g =
     let grows = all_grow g.so (drop i given) in
     (g.so, grows.0, sym g.rest ∙ grows.1, g.is)
+
+-- one that gives nothing
+pub gathering_passes_over : (initial items : List Found) (given : List (Option Forbidden)) (i : ℕ) → Gathering initial items given i → i < length given
+    → get_or given i None ≡ None → Gathering initial items given (i + 1)
+gathering_passes_over initial items given i g h none = record {
+  so = g.so;
+  is = g.is;
+  rest = ap (λ n. with_all g.so (drop n given)) (add-one i)
+      ∙ ap (λ o. with_all (with_one g.so o) (drop (suc i) given)) (sym none)
+      ∙ sym (ap (with_all g.so) (drop_at given i h)) ∙ g.rest;
+}

@@ -1,5 +1,5 @@
 //! What facts forbid at an act, as a list.
-ghost use Rattle.std.specs.Prelude.{◌≡◌, ◌==◌, ◌≤◌, vec_len, IfOk, OnOk, OnErr};
+ghost use Rattle.std.specs.Prelude.{◌≡◌, ◌==◌, ◌≤◌, vec_len, Some, OnOk, OnErr};
 ghost use Rattle.std.specs.List.{list_any};
 ghost use Rattle.place_names.specs.Names as names;
 ghost use Rattle.place_names.specs.Rules.{forbidden_if};
@@ -50,42 +50,42 @@ fn has(found: &[Found], more: &Found) -> bool
     found.iter().any(|one| is_same(one, more))
 }
 
-/// What a fact forbids, where a test of it has succeeded: the rule, the name and the fact's word.
-pub fn found_if(
-    test: bool,
-    rule: Rule,
-    name: &PlaceName,
-    fact: &Fact,
-) -> Result<Option<Found>, AllocError>
-    ensures { IfOk result (λ found. found ≡ as_option (forbidden_if test rule name.now fact.now)) }
-{
-    if !test {
-        return Ok(None);
-    }
-    Ok(Some(Found {
-        rule,
-        name: name.clone()?,
-        state: word(fact),
-    }))
-}
-
 /// Adds one at the end, unless it is among those from the place `start` on. Out of memory, the list
 /// stays as it was.
-pub fn add_found(
-    found: &mut Vec<Found>,
-    start: usize,
-    more: Option<Found>,
-) -> Result<(), AllocError>
+fn add_found(found: &mut Vec<Found>, start: usize, more: Found) -> Result<(), AllocError>
     requires { start ≤ vec_len found.old }
-    ensures ok { OnOk result (found.new.items ≡ with_found start found.old.items more) }
+    ensures ok { OnOk result (found.new.items ≡ with_found start found.old.items (Some more)) }
     ensures err { OnErr result (found.new.items ≡ found.old.items) }
 {
-    let Some(more) = more else {
-        return Ok(());
-    };
     if has(&found[start..], &more) {
         return Ok(());
     }
     found.push(more)?;
+    Ok(())
+}
+
+/// Adds what a fact forbids, where a test of it has succeeded: the rule, the name and the fact's
+/// word. Nothing is made where it hasn't. Out of memory, the list stays as it was.
+pub fn add_if(
+    found: &mut Vec<Found>,
+    start: usize,
+    test: bool,
+    rule: Rule,
+    name: &PlaceName,
+    fact: &Fact,
+) -> Result<(), AllocError>
+    requires { start ≤ vec_len found.old }
+    ensures ok { OnOk result (found.new.items ≡ with_found start found.old.items (as_option (forbidden_if test rule name.now fact.now))) }
+    ensures err { OnErr result (found.new.items ≡ found.old.items) }
+{
+    if !test {
+        return Ok(());
+    }
+    let more = Found {
+        rule,
+        name: name.clone()?,
+        state: word(fact),
+    };
+    add_found(found, start, more)?;
     Ok(())
 }

@@ -1,2 +1,3 @@
 -- what the functions' proofs cite
 pub mod Above
+pub mod Untouched

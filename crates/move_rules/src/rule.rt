@@ -1,11 +1,14 @@
 //! Whether a fact breaks a rule.
 ghost use Rattle.std.specs.Prelude.{◌≡◌, ◌&&◌, ◌||◌, Bool};
+ghost use Rattle.place_names.specs.declared.act.Act.TheVariants as acts;
 ghost use Rattle.place_names.specs.declared.act.Mode.TheVariants.{InOut};
+ghost use Rattle.place_names.specs.declared.rule.Rule.TheVariants as rule;
 ghost use Rattle.place_names.specs.Names as names;
 ghost use Rattle.place_names.specs.Rules as rules;
+ghost use Rattle.move_rules.specs.MoveRules.{moves_forbid};
 
 use fact_questions::{is_moved_or_borrowed, is_moved_or_lent, place};
-use place_names::{Fact, Loan, PlaceName};
+use place_names::{Fact, Loan, Mode, PlaceName};
 
 /// One and the other.
 fn both(a: bool, b: bool) -> bool
@@ -79,13 +82,25 @@ pub(crate) fn breaks_write(fact: &Fact, name: &PlaceName) -> bool
 }
 
 /// An actual of mode `in out`, by whether its type is owning.
-pub(crate) fn breaks_in_out(fact: &Fact, name: &PlaceName, owning: bool) -> bool
+fn breaks_in_out(fact: &Fact, name: &PlaceName, owning: bool) -> bool
     ensures { (access : Bool) → result ≡ rules.breaks_O10 name.now InOut owning access fact.now }
 {
     if owning {
         is_moved_or_lent(fact, name)
     } else {
         is_moved_or_borrowed(fact, name) || breaks_write(fact, name)
+    }
+}
+
+/// An actual of mode `in out` or `out`. One of mode `in` isn't looked at here.
+pub(crate) fn breaks_actual(fact: &Fact, name: &PlaceName, mode: Mode, owning: bool) -> bool
+    ensures { (access : Bool) → moves_forbid (acts.Actual name.now mode owning access) fact.now
+        ≡ rules.forbidden_if result rule.O10 name.now fact.now }
+{
+    match mode {
+        Mode::In => false,
+        Mode::InOut => breaks_in_out(fact, name, owning),
+        Mode::Out => breaks_write(fact, name),
     }
 }
 

@@ -14,7 +14,7 @@ passed g (suc n) [] marks = marks
 passed g (suc n) (x ∷ xs) [] = []
 passed g (suc n) (x ∷ xs) (m ∷ marks) = g x m ∷ passed g n xs marks
 
-default_same : {A : Type 0} (xs : List A) (n : ℕ) (d e : A) → n < length xs → get_or xs n d ≡ get_or xs n e
+pub default_same : {A : Type 0} (xs : List A) (n : ℕ) (d e : A) → n < length xs → get_or xs n d ≡ get_or xs n e
 default_same [] n d e p = absurd (omega arith)
 default_same (x ∷ xs) zero d e p = refl
 default_same (x ∷ xs) (suc n) d e p = default_same xs n d e (omega arith)

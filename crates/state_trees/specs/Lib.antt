@@ -1,2 +1,5 @@
--- what the public contracts rest on
+-- what the public contract rests on
 pub mod FactStates
+pub mod Concerns
+-- what the functions inside promise each other
+pub mod Indexes

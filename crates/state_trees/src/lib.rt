@@ -8,15 +8,25 @@
 //! facts, `place_names` defines; `docs/RULES.md`, "Facts" and "Acts", says it in words. That the
 //! two lists of facts change as `effect` has it stands in `proofs/Effects.antt`, and what a tree
 //! says fact by fact in `proofs/FactByFact.antt`.
-//! Refused is a list with more facts than a `u32` has numbers for, as if out of memory. Each call
-//! takes time linear in the facts, but for `may` and `always`. At a move of a name with many parts,
-//! a fact of that name is compared with the part behind the last that was found, and only where it
-//! isn't that one's with all of them.
+//! An act changes only facts that it touches, and only they forbid it: those that concern the
+//! object it speaks of (`specs/Concerns.antt`, `proofs/Untouched.antt`). So `apply` looks at these
+//! alone, and `touched` gives their numbers to the crates of rules. They come from an index, which
+//! `start` makes for a longer list and all trees over it share. Where there is none, as for few
+//! facts or for want of memory, and at a return, which speaks of many objects, all facts are looked
+//! at.
+//! Refused is a list with more facts than a `u32` has numbers for, as if out of memory. `start`
+//! takes time linear in the facts, but for the look-ups of their objects; `apply` is linear in the
+//! facts that are looked at, `may` and `always` take constant time, and each other call is linear
+//! in all facts. At a move of a name with many parts, a fact of that name is compared with the part
+//! behind the last that was found, and only where it isn't that one's with all of them.
 #![tactic(auto)]
 
 mod effect;
+mod index;
 mod marks;
+mod numbers;
 mod overlap;
 mod tree;
 
+pub use numbers::Numbers;
 pub use tree::Tree;

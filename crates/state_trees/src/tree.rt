@@ -1,10 +1,13 @@
 //! What may hold and what may not hold of the facts of a list.
 ghost use Rattle.std.specs.Prelude.{◌≡◌, ◌<◌, ◌≤◌, ◌↔◌, length, IsTrue, IfOk, OnOk, OnErr};
+ghost use Rattle.state_trees.specs.Concerns.{HasTouched};
 ghost use Rattle.state_trees.specs.FactStates.{none_hold, state_behind, joined, may_at, always_at, IsKept};
 ghost use Rattle.state_trees.specs.FactStates as states;
 
 use crate::effect::changes;
+use crate::index::{Shared, index_of, share};
 use crate::marks::{has_all, is_same, pass, raise};
+use crate::numbers::{Numbers, touched};
 use crate::overlap::any_marked;
 use place_names::{Act, Fact, PlaceName, State};
 use std::alloc::{AllocError, Global};
@@ -16,6 +19,8 @@ pub struct Tree<'f> {
     facts: &'f [Fact],
     may: Vec<bool>,
     lacks: Vec<bool>,
+    /// The facts of each object, for a longer list.
+    index: Shared,
 }
 
 impl<'f> Model for Tree<'f> {
@@ -25,7 +30,9 @@ impl<'f> Model for Tree<'f> {
 
     ghost view = { λ tree. record { facts = tree.facts.now; may = tree.may.items; lacks = tree.lacks.items } };
 
-    ghost invariant = { λ tree. IsKept (record { facts = tree.facts.now; may = tree.may.items; lacks = tree.lacks.items }) };
+    ghost use Rattle.state_trees.specs.Indexes.{IsIndexed};
+
+    ghost invariant = { λ tree. IsKept (record { facts = tree.facts.now; may = tree.may.items; lacks = tree.lacks.items }) × IsIndexed tree.index tree.facts.now };
 }
 
 impl<'f> Tree<'f> {
@@ -41,6 +48,7 @@ impl<'f> Tree<'f> {
             facts,
             may: vec![in alloc; false; facts.len()]?,
             lacks: vec![in alloc; true; facts.len()]?,
+            index: index_of(alloc, facts),
         })
     }
 
@@ -50,8 +58,9 @@ impl<'f> Tree<'f> {
     {
         Ok(Tree {
             facts: self.facts,
-            may: self.may.clone()?,
-            lacks: self.lacks.clone()?,
+            may: Vec::from_slice(*self.may.allocator(), &self.may)?,
+            lacks: Vec::from_slice(*self.lacks.allocator(), &self.lacks)?,
+            index: share(&self.index),
         })
     }
 
@@ -63,6 +72,13 @@ impl<'f> Tree<'f> {
         self.facts
     }
 
+    /// Numbers of facts, among them those of all facts that an act may change or be forbidden by.
+    pub fn touched(&self, act: &Act) -> Numbers<'_>
+        ensures { HasTouched act.now self.now.facts result }
+    {
+        touched(&self.index, self.facts, act)
+    }
+
     /// What an act does to the facts of each path. Out of memory, the tree stays as it was.
     pub fn apply(&mut self, act: &Act) -> Result<(), AllocError>
         ensures ok { OnOk result (self.new ≡ state_behind act.now self.old) }
@@ -70,7 +86,8 @@ impl<'f> Tree<'f> {
     {
         let facts = self.facts;
         if changes(act) {
-            pass(&mut self.may, &mut self.lacks, facts, act);
+            let numbers = touched(&self.index, facts, act);
+            pass(&mut self.may, &mut self.lacks, facts, act, &numbers);
         }
         Ok(())
     }

@@ -1,16 +1,16 @@
-use Rattle.std.proofs.Common.{◌∙◌, ◌||◌, false, get_or, refl, arith}
-use Rattle.state_trees.proofs.Passes.{passed_next, passed_either}
+use Rattle.std.proofs.Common.{◌≡◌, ◌∙◌, ap, ℕ, Bool, List, ◌++◌, append-nil, length, take, drop, drop_of_length-le, take_all, arith}
+use Rattle.state_trees.specs.FactStates.{either_mark}
 use Rattle.state_trees.proofs.marks.raise.Goals as goal
 
-pub marks-preserved : goal.marks-preserved
-marks-preserved c =
-    passed_next (λ o m. m || o) c.marks.i c.args.other.now c.args.mine.now.items c.marks.mine.items c.marks.invariant
-    (omega (arith, c.args.mine.now.ok.0, c.requires, c.marks-test.true)) (omega (arith, c.args.mine.now.ok.0, c.requires, c.marks-test.true))
-    (get_or c.args.other.now c.marks.i false) false c.index.result.now c.index.result.now c.either.result
-    refl c.index.ensures c.either.ensures
+-- a vector whose elements are all written through a slice
+written_back : (n : ℕ) (new items : List Bool) → length new ≡ length items → n ≡ length items → take n (new ++ drop (length new) items) ≡ new
+written_back n new items same count =
+    ap (λ l. take n (new ++ l)) (drop_of_length-le items (omega arith)) ∙ ap (take n) (append-nil new) ∙ take_all n new (omega arith)
 
 pub returns : goal.returns
 returns c =
-    c.marks.invariant
-    ∙ passed_either c.marks.i c.args.other.now c.args.mine.now.items
-    (omega (arith, c.args.mine.now.ok.0, c.requires)) (omega (arith, c.args.mine.now.ok.0, c.marks-test.false))
+    let items = c.args.mine.now.items in
+    let same : length c.raise_each.new.mine ≡ length items = omega (arith, ap length c.as_mut_slice.ensures.value) in
+    written_back c.args.mine.now.len c.raise_each.new.mine items same (omega (arith, c.args.mine.now.ok.0))
+    ∙ c.raise_each.ensures
+    ∙ ap (λ l. either_mark l c.args.other.now) c.as_mut_slice.ensures.value

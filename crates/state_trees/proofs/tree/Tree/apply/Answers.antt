@@ -11,8 +11,8 @@ invariant_of-self c =
     let new : FactState = record { facts = facts; may = c.pass.new.may.items; lacks = c.pass.new.lacks.items } in
     let is : new ≡ state_behind c.args.act.now old =
     λ t. record { facts = facts; may = c.pass.ensures.may t; lacks = c.pass.ensures.lacks t } in
-    subst IsKept (sym is) (kept_behind c.args.act.now old c.self.invariant)
+    (subst IsKept (sym is) (kept_behind c.args.act.now old c.self.invariant.0), c.self.invariant.1)
 
 pub returns-else-changes-clause-ok : goal.returns-else-changes-clause-ok
 returns-else-changes-clause-ok c =
-    state_left c.args.act.now c.args.self.now (c.changes.ensures c.if-changes.false) (subst IsKept c.self.view_is c.self.invariant)
+    state_left c.args.act.now c.args.self.now (c.changes.ensures c.if-changes.false) (subst IsKept c.self.view_is c.self.invariant.0)

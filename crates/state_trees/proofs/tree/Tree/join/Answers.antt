@@ -13,4 +13,4 @@ invariant_of-self c =
     let lacks = c.raise-2.ensures ∙ ap (either_mark old.lacks) c.deref-4.ensures.value in
     let is : new ≡ joined old other = λ t. record { facts = facts; may = may t; lacks = lacks t } in
     let same = ap (λ (s : FactState). s.facts) c.other.view_is ∙ c.requires ∙ sym (ap (λ (s : FactState). s.facts) c.self.view_is) in
-    subst IsKept (sym is) (kept_joined old other c.self.invariant c.other.invariant same)
+    (subst IsKept (sym is) (kept_joined old other c.self.invariant.0 c.other.invariant.0 same), c.self.invariant.1)

@@ -10,4 +10,4 @@ invariant_of-result c =
     let lacks = c.in_ok-vec-2.ensures.items_if_clones_equal (λ y h. h) in
     let new : FactState = record { facts = facts; may = c.in_ok-vec.field-0.items; lacks = c.in_ok-vec-2.field-0.items } in
     let is : new ≡ none_hold facts = λ t. record { facts = facts; may = may t; lacks = lacks t } in
-    subst IsKept (sym is) (kept_none facts (omega (arith, c.if-facts.false)))
+    (subst IsKept (sym is) (kept_none facts (omega (arith, c.if-facts.false))), c.index_of.ensures)
