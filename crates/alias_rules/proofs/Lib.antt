@@ -4,3 +4,5 @@ pub mod Nodes
 pub mod Shallow
 -- subprograms by number, and reports of several points
 pub mod Subs
+-- lists in ascending order
+pub mod Ascending

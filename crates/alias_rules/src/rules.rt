@@ -1,13 +1,14 @@
 //! What the actuals of one call are reported for.
-ghost use Rattle.std.specs.Prelude.{◌≡◌, ◌&&◌, not, [], ◌∷◌, map, flat_map, OnOk, IfOk, if◌then◌else◌};
+ghost use Rattle.std.specs.Prelude.{◌≡◌, ◌&&◌, not, [], ◌∷◌, map, flat_map, IsTrue, OnOk, IfOk, if◌then◌else◌};
 ghost use Rattle.place_names.specs.Names.{overlaps};
 ghost use Rattle.type_table.specs.Types.{is_scalar};
-ghost use Rattle.flow_paths.specs.Effects.{is_in, read_by, written_by};
+ghost use Rattle.flow_paths.specs.Effects.{Ascends, is_in, read_by, written_by};
 ghost use Rattle.flow_paths.specs.Views.{is_in_mode, text_report};
 ghost use Rattle.flow_paths.specs.Aliases.{is_immutable, is_scalar_formal, may_overlap, pair_reports, overlap_reports, meets_global, global_reports};
 ghost use Rattle.flow_paths.specs.Reports.{report_of};
 ghost use Rattle.flow_paths.specs.Objects.{is_package_object};
 ghost use Rattle.alias_rules.specs.Told.{known, passed_of, is_met, Adds};
+ghost use Rattle.alias_rules.specs.Order.{AreOrdered};
 
 use crate::actuals::Passed;
 use flow_paths::{Effects, Report};
@@ -141,29 +142,36 @@ pub(crate) fn overlaps(
     Ok(())
 }
 
-/// Whether a list has an object.
-fn is_in(list: &[u32], g: u32) -> bool
+/// Whether a list has an object. An ordered one is looked up by halves.
+fn is_in(list: &[u32], ordered: bool, g: u32) -> bool
+    requires { IsTrue ordered → Ascends list.now }
     ensures { result ≡ is_in g list.now }
 {
-    list.iter().any(|x| g == *x)
+    if ordered {
+        list.binary_search(&g).is_ok()
+    } else {
+        list.iter().any(|x| g == *x)
+    }
 }
 
 /// Whether a callee reads an object.
-fn is_read(effects: &Effects, callee: u32, g: u32) -> bool
+fn is_read(effects: &Effects, ordered: bool, callee: u32, g: u32) -> bool
+    requires { AreOrdered ordered effects.now }
     ensures { result ≡ is_in g (read_by effects.now callee) }
 {
     match effects.read.as_slice().get(callee as usize) {
-        Some(list) => is_in(list.as_slice(), g),
+        Some(list) => is_in(list.as_slice(), ordered, g),
         None => false,
     }
 }
 
 /// Whether a callee writes an object.
-fn is_written(effects: &Effects, callee: u32, g: u32) -> bool
+fn is_written(effects: &Effects, ordered: bool, callee: u32, g: u32) -> bool
+    requires { AreOrdered ordered effects.now }
     ensures { result ≡ is_in g (written_by effects.now callee) }
 {
     match effects.written.as_slice().get(callee as usize) {
-        Some(list) => is_in(list.as_slice(), g),
+        Some(list) => is_in(list.as_slice(), ordered, g),
         None => false,
     }
 }
@@ -176,15 +184,16 @@ fn meets_global(laid: &Laid, read: bool, written: bool, x: u32) -> bool
 }
 
 /// Whether an actual overlaps a package object that the callee uses, and may not.
-fn overlaps_global(laid: &Laid, effects: &Effects, callee: u32, a: &Passed) -> bool
+fn overlaps_global(laid: &Laid, effects: &Effects, ordered: bool, callee: u32, a: &Passed) -> bool
+    requires { AreOrdered ordered effects.now }
     ensures { result ≡ is_met (known laid.now) effects.now callee a.now }
 {
     let g = a.name.root();
     if !is_package_object(laid, g) {
         return false;
     }
-    let read = is_read(effects, callee, g);
-    let written = is_written(effects, callee, g);
+    let read = is_read(effects, ordered, callee, g);
+    let written = is_written(effects, ordered, callee, g);
     meets_global(laid, read, written, a.formal)
 }
 
@@ -192,15 +201,17 @@ fn overlaps_global(laid: &Laid, effects: &Effects, callee: u32, a: &Passed) -> b
 pub(crate) fn globals(
     laid: &Laid,
     effects: &Effects,
+    ordered: bool,
     callee: u32,
     actuals: &[Passed],
     reports: &mut Listed<Report>,
 ) -> Result<(), AllocError>
+    requires { AreOrdered ordered effects.now }
     ensures { OnOk result (Adds reports.old reports.new (flat_map (global_reports (known laid.now) effects.now callee) (map passed_of actuals.now))) }
 {
     'actuals: for a in actuals {
         report_if(
-            overlaps_global(laid, effects, callee, a),
+            overlaps_global(laid, effects, ordered, callee, a),
             Rule::A2,
             a,
             reports,

@@ -8,8 +8,10 @@ ghost use Rattle.flow_paths.specs.Reports.{report_of};
 ghost use Rattle.laid_programs.specs.Programs.{program_of};
 ghost use Rattle.alias_rules.specs.Told.{known, formals_of, actuals_reports, Adds, point_reports, sub_reports, IsPointOf, ArePointsOf};
 ghost use Rattle.alias_rules.specs.Steps.{AreShallow};
+ghost use Rattle.alias_rules.specs.Order.{AreOrdered};
 
 use crate::actuals::named_actuals;
+use crate::order::are_ordered;
 use crate::rules::{globals, overlaps};
 use flow_paths::{Effects, Instr, Point, Report};
 use flow_typing::is_anonymous;
@@ -54,16 +56,18 @@ fn report_call(
     alloc: Global,
     laid: &Laid,
     effects: &Effects,
+    ordered: bool,
     callee: u32,
     actuals: usize,
     reports: &mut Listed<Report>,
 ) -> Result<(), AllocError>
-    requires { AreShallow (passed (formals_of laid.now callee) (typed_at laid.now.rows actuals)) }
+    requires order { AreOrdered ordered effects.now }
+    requires shallow { AreShallow (passed (formals_of laid.now callee) (typed_at laid.now.rows actuals)) }
     ensures { OnOk result (Adds reports.old reports.new (actuals_reports laid.now effects.now callee actuals)) }
 {
     let names = named_actuals(alloc, &laid.rows, formals(laid, callee), actuals)?;
     overlaps(laid, &names, reports)?;
-    globals(laid, effects, callee, &names, reports)?;
+    globals(laid, effects, ordered, callee, &names, reports)?;
     Ok(())
 }
 
@@ -72,10 +76,12 @@ fn report_point(
     alloc: Global,
     laid: &Laid,
     effects: &Effects,
+    ordered: bool,
     point: &Point,
     reports: &mut Listed<Report>,
 ) -> Result<(), AllocError>
-    requires { IsPointOf laid.now.subs point.now }
+    requires order { AreOrdered ordered effects.now }
+    requires point { IsPointOf laid.now.subs point.now }
     ensures { OnOk result (Adds reports.old reports.new (point_reports (known laid.now) effects.now laid.now.rows point.now)) }
 {
     match &point.instr {
@@ -87,7 +93,7 @@ fn report_point(
             if traverses(laid, *sub) {
                 return Err(AllocError);
             }
-            Ok(report_call(alloc, laid, effects, *sub, *actuals, reports)?)
+            Ok(report_call(alloc, laid, effects, ordered, *sub, *actuals, reports)?)
         }
         _ => Ok(()),
     }
@@ -98,14 +104,16 @@ fn report_points(
     alloc: Global,
     laid: &Laid,
     effects: &Effects,
+    ordered: bool,
     points: &[Point],
     reports: &mut Listed<Report>,
 ) -> Result<(), AllocError>
-    requires { ArePointsOf laid.now.subs points.now }
+    requires order { AreOrdered ordered effects.now }
+    requires points { ArePointsOf laid.now.subs points.now }
     ensures { OnOk result (Adds reports.old reports.new (flat_map (point_reports (known laid.now) effects.now laid.now.rows) points.now)) }
 {
     'points: for point in points {
-        report_point(alloc, laid, effects, point, reports)?;
+        report_point(alloc, laid, effects, ordered, point, reports)?;
     }
     Ok(())
 }
@@ -118,9 +126,17 @@ pub fn alias_reports(
 ) -> Result<Listed<Report>, AllocError>
     ensures { IfOk result (λ reports. map report_of reports ≡ alias_reports (program_of laid.now) effects.now) }
 {
+    let ordered = are_ordered(effects);
     let mut reports = Listed::new(alloc);
     'subs: for sub in laid.subs.as_slice() {
-        report_points(alloc, laid, effects, sub.points.as_slice(), &mut reports)?;
+        report_points(
+            alloc,
+            laid,
+            effects,
+            ordered,
+            sub.points.as_slice(),
+            &mut reports,
+        )?;
     }
     Ok(reports)
 }

@@ -33,7 +33,9 @@ use Rattle.path_facts.specs.Carries.{acts_of}
 use Rattle.path_facts.proofs.Globals.{exact_on_paths}
 use Rattle.path_reports.specs.CalledPoints.{called_by, called_points, AreListed}
 use Rattle.path_reports.specs.Told.{told_all, AreKept}
+use Rattle.path_reports.specs.Uses.{all_told}
 use Rattle.path_reports.proofs.ToldExact.{path_from, path_to}
+use Rattle.path_reports.proofs.CalledTold.{same_all}
 
 -- ---- the points of a program
 
@@ -171,10 +173,12 @@ reports_to objects effects points facts trees exact kept listed r q =
 -- all of them were put in
 pub all_gained : (printed : Name → List ℕ) (objects : List Object) (effects : Effects) (points : List Point) (facts : List Fact)
     (trees : List (Option FactState)) (old new : List Printed) → IsExact (path_points_of points) facts trees → AreKept trees
-    → AreListed facts (path_points_of points) → new ≡ put_told printed old (told_all (called_points objects effects points) trees)
+    → AreListed facts (path_points_of points) → new ≡ put_told printed old (all_told objects effects points trees)
     → Gains printed (PathReport (called_points objects effects points)) old new
 all_gained printed objects effects points facts trees old new exact kept listed is =
-    let reports = told_all (called_points objects effects points) trees in
+    let reports = all_told objects effects points trees in
+    let same = same_all objects effects points trees in
     gains_same printed (Has reports) (PathReport (called_points objects effects points)) old new
-    (reports_from objects effects points facts trees exact kept listed) (reports_to objects effects points facts trees exact kept listed)
+    (λ r h. reports_from objects effects points facts trees exact kept listed r ((same r).0 h))
+    (λ r q. (same r).1 (reports_to objects effects points facts trees exact kept listed r q))
     (subst (Gains printed (Has reports) old) (sym is) (gains_put printed reports old))

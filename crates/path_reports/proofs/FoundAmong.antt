@@ -105,13 +105,13 @@ pub record IsForbidden (test : Fact → Option Forbidden) (facts : List Fact) (y
   pub has : Has facts fact
   pub is : test fact ≡ Some y
 
-among_from : (test : Fact → Option Forbidden) (facts : List Fact) (y : Forbidden) → Has (found_among test facts) y → IsForbidden test facts y
+pub among_from : (test : Fact → Option Forbidden) (facts : List Fact) (y : Forbidden) → Has (found_among test facts) y → IsForbidden test facts y
 among_from test facts y h = elim (all_from [] (map test facts) y h) [
   | inl none ↦ absurd none
   | inr given ↦ (let f = Has-map_from test facts (Some y) given in record { fact = f.0; has = f.1; is = f.2 })
 ]
 
-among_to : (test : Fact → Option Forbidden) (facts : List Fact) (y : Forbidden) → IsForbidden test facts y → Has (found_among test facts) y
+pub among_to : (test : Fact → Option Forbidden) (facts : List Fact) (y : Forbidden) → IsForbidden test facts y → Has (found_among test facts) y
 among_to test facts y f = all_comes [] (map test facts) y (subst (Has (map test facts)) f.is (Has-map test facts f.fact f.has))
 
 -- ---- by the rules of moves, or by those of loans

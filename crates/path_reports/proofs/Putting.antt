@@ -6,23 +6,22 @@ use Rattle.spark_base.specs.declared.position.Pos.{Pos}
 use Rattle.place_names.specs.Names.{Name}
 use Rattle.place_names.specs.declared.act.Placed.{Placed}
 use Rattle.place_names.specs.Rules.{Forbidden}
-use Rattle.place_names.specs.Reports.{report_at}
+use Rattle.place_names.specs.Reports.{Report, report_at}
 use Rattle.fact_questions.specs.declared.found.Found.{Found}
 use Rattle.fact_questions.specs.Findings.{as_found}
-use Rattle.state_trees.specs.FactStates.{FactState, state_behind}
+use Rattle.state_trees.specs.FactStates.{FactState, may_hold, state_behind}
 use Rattle.report_lists.specs.PrintedReports.{Printed, printed_cmp}
 use Rattle.report_lists.specs.Gains.{told, put_told}
 use Rattle.report_lists.proofs.Gained.{put_told-append}
 use Rattle.typed_tree.specs.declared.object.Object.{Object}
 use Rattle.flow_paths.specs.declared.point.Point.{Point}
 use Rattle.flow_paths.specs.declared.report.Effects.{Effects}
-use Rattle.flow_paths.specs.Paths.{PathPoint}
 use Rattle.path_facts.specs.PointTrees.{tree_at}
 use Rattle.path_facts.proofs.Carried.{same_default}
-use Rattle.path_reports.specs.CalledPoints.{called_point, called_points}
 use Rattle.path_facts.specs.Carries.{state_along, acts_of}
 use Rattle.path_facts.proofs.Moves.{drop_past}
-use Rattle.path_reports.specs.Told.{found_at, told_along, told_where, told_all, report_found, IsKeptWhere}
+use Rattle.path_reports.specs.Told.{found_at, told_along, report_found, IsKeptWhere}
+use Rattle.path_reports.specs.Uses.{called_told, point_told, where_told, all_told}
 
 -- ---- what was found
 
@@ -83,46 +82,38 @@ told_along-append (p ∷ xs) ys s =
     ap (λ l. here ++ l) (told_along-append xs ys (state_behind p.act s))
     ∙ sym (append_assoc here (told_along xs (state_behind p.act s)) (told_along ys (state_along (acts_of xs) (state_behind p.act s))))
 
--- where there are no acts, nothing is put in
-pub none_put : (printed : Name → List ℕ) (own called : List Placed) (s : FactState) (set : List Printed) → own ++ called ≡ []
-    → set ≡ put_told printed set (told_along (own ++ called) s)
-none_put printed own called s set none = sym (ap (λ acts. put_told printed set (told_along acts s)) none)
-
--- first the acts of a point, then those of its call
-pub point_put : (printed : Name → List ℕ) (own called acts : List Placed) (s u : FactState) (set mid new : List Printed) → acts ≡ called
-    → u ≡ state_along (acts_of own) s → mid ≡ put_told printed set (told_along own s) → new ≡ put_told printed mid (told_along acts u)
-    → new ≡ put_told printed set (told_along (own ++ called) s)
-point_put printed own called acts s u set mid new same done first second =
-    second ∙ (λ i. put_told printed (first i) (told_along (same i) (done i)))
-    ∙ sym (put_told-append printed set (told_along own s) (told_along called (state_along (acts_of own) s)))
-    ∙ ap (put_told printed set) (sym (told_along-append own called s))
+-- first the acts of a point, then its call
+pub point_put : (printed : Name → List ℕ) (objects : List Object) (effects : Effects) (p : Point) (acts : List Placed) (s u : FactState)
+    (set mid new : List Printed) → acts ≡ p.acts → u ≡ state_along (acts_of acts) s → mid ≡ put_told printed set (told_along acts s)
+    → new ≡ put_told printed mid (called_told objects effects p.pos p.instr (may_hold u)) → new ≡ put_told printed set (point_told objects effects p s)
+point_put printed objects effects p acts s u set mid new own done first second =
+    let called : FactState → List Report = λ t. called_told objects effects p.pos p.instr (may_hold t) in
+    second ∙ (λ i. put_told printed (first i) (called (done i)))
+    ∙ sym (put_told-append printed set (told_along acts s) (called (state_along (acts_of acts) s)))
+    ∙ ap (λ l. put_told printed set (told_along l s ++ called (state_along (acts_of l) s))) own
 
 -- ---- points
 
-all_next : (points : List PathPoint) (trees : List (Option FactState)) (i : ℕ) (p : PathPoint) (t : Option FactState) → i < length points
-    → length trees ≡ length points
-    → told_all (drop i points) (drop i trees)
-    ≡ told_where (get_or points i p).acts (get_or trees i t) ++ told_all (drop (suc i) points) (drop (suc i) trees)
-all_next [] trees i p t h e = absurd (omega arith)
-all_next (x ∷ points) [] i p t h e = absurd (omega arith)
-all_next (x ∷ points) (y ∷ trees) zero p t h e = refl
-all_next (x ∷ points) (y ∷ trees) (suc i) p t h e = all_next points trees i p t (omega arith) (omega arith)
+all_next : (objects : List Object) (effects : Effects) (points : List Point) (trees : List (Option FactState)) (i : ℕ) (p : Point) (t : Option FactState)
+    → i < length points → length trees ≡ length points
+    → all_told objects effects (drop i points) (drop i trees)
+    ≡ where_told objects effects (get_or points i p) (get_or trees i t) ++ all_told objects effects (drop (suc i) points) (drop (suc i) trees)
+all_next objects effects [] trees i p t h e = absurd (omega arith)
+all_next objects effects (x ∷ points) [] i p t h e = absurd (omega arith)
+all_next objects effects (x ∷ points) (y ∷ trees) zero p t h e = refl
+all_next objects effects (x ∷ points) (y ∷ trees) (suc i) p t h e = all_next objects effects points trees i p t (omega arith) (omega arith)
 
-pub points_next : (printed : Name → List ℕ) (points : List PathPoint) (trees : List (Option FactState)) (i : ℕ) (x p : PathPoint) (y t : Option FactState)
-    (set new all : List Printed) → i < length points → length trees ≡ length points → x ≡ get_or points i p → y ≡ get_or trees i t
-    → new ≡ put_told printed set (told_where x.acts y) → put_told printed set (told_all (drop i points) (drop i trees)) ≡ all
-    → put_told printed new (told_all (drop (i + 1) points) (drop (i + 1) trees)) ≡ all
-points_next printed points trees i x p y t set new all h e is tree put before =
-    let rest = told_all (drop (suc i) points) (drop (suc i) trees) in
-    ap (λ n. put_told printed new (told_all (drop n points) (drop n trees))) (add-one i)
-    ∙ ap (λ s. put_told printed s rest) (put ∙ (λ j. put_told printed set (told_where (is j).acts (tree j))))
-    ∙ sym (put_told-append printed set (told_where (get_or points i p).acts (get_or trees i t)) rest)
-    ∙ ap (put_told printed set) (sym (all_next points trees i p t h e)) ∙ before
-
-pub points_done : (printed : Name → List ℕ) (points : List PathPoint) (trees : List (Option FactState)) (i : ℕ) (set all : List Printed)
-    → length points ≤ i → put_told printed set (told_all (drop i points) (drop i trees)) ≡ all → set ≡ all
-points_done printed points trees i set all h before =
-    sym (ap (λ l. put_told printed set (told_all l (drop i trees))) (drop_past points i h)) ∙ before
+pub points_next : (printed : Name → List ℕ) (objects : List Object) (effects : Effects) (points : List Point) (trees : List (Option FactState)) (i : ℕ)
+    (x p : Point) (y t : Option FactState) (set new all : List Printed) → i < length points → length trees ≡ length points → x ≡ get_or points i p
+    → y ≡ get_or trees i t → new ≡ put_told printed set (where_told objects effects x y)
+    → put_told printed set (all_told objects effects (drop i points) (drop i trees)) ≡ all
+    → put_told printed new (all_told objects effects (drop (i + 1) points) (drop (i + 1) trees)) ≡ all
+points_next printed objects effects points trees i x p y t set new all h e is tree put before =
+    let rest = all_told objects effects (drop (suc i) points) (drop (suc i) trees) in
+    ap (λ n. put_told printed new (all_told objects effects (drop n points) (drop n trees))) (add-one i)
+    ∙ ap (λ s. put_told printed s rest) (put ∙ (λ j. put_told printed set (where_told objects effects (is j) (tree j))))
+    ∙ sym (put_told-append printed set (where_told objects effects (get_or points i p) (get_or trees i t)) rest)
+    ∙ ap (put_told printed set) (sym (all_next objects effects points trees i p t h e)) ∙ before
 
 -- the trees behind one are left as they are where that one is taken out
 first_dropped : {A : Type 0} (xs : List A) (i : ℕ) (d : A) → get_or (drop i xs) 0 d ≡ get_or xs i d
@@ -168,17 +159,3 @@ kept_next trees i t d is h kept before q within = elim (below q i (omega arith))
   | inl less ↦ before q less
   | inr same ↦ kept_here trees i q t d is h kept same
 ]
-
--- a point with its called acts has the number of the point
-pub called_at : (objects : List Object) (effects : Effects) (points : List Point) (i : ℕ) (x d : Point) → x ≡ get_or points i d
-    → called_point objects effects x ≡ get_or (called_points objects effects points) i (called_point objects effects d)
-called_at objects effects points i x d is = ap (called_point objects effects) is ∙ at points i
-  where
-    at : (points : List Point) (i : ℕ) → called_point objects effects (get_or points i d) ≡ get_or (called_points objects effects points) i (called_point objects effects d)
-    at [] i = refl
-    at (p ∷ points) zero = refl
-    at (p ∷ points) (suc i) = at points i
-
-pub called_count : (objects : List Object) (effects : Effects) (points : List Point) → length (called_points objects effects points) ≡ length points
-called_count objects effects [] = refl
-called_count objects effects (p ∷ points) = ap suc (called_count objects effects points)

@@ -1,5 +1,5 @@
 -- what the public contract rests on
 pub mod CalledPoints
 -- what the functions inside promise each other
-pub mod Globals
 pub mod Told
+pub mod Uses

@@ -1,70 +1,29 @@
 //! The reports of a subprogram.
-ghost use Rattle.std.specs.Prelude.{◌≡◌, ◌+◌, ◌*◌, ◌≤◌, [], ◌++◌, length, vec_len, map, IsTrue, IfOk, OnOk};
+ghost use Rattle.std.specs.Prelude.{◌≡◌, ◌+◌, ◌*◌, ◌≤◌, length, vec_len, map, OnOk};
 ghost use Rattle.place_names.specs.Reports.{report_at};
-ghost use Rattle.report_lists.specs.Gains.{told, put_told, Gains};
+ghost use Rattle.report_lists.specs.Gains.{put_told, Gains};
 ghost use Rattle.flow_paths.specs.Paths.{PathReport};
 ghost use Rattle.flow_paths.specs.Printing.{printed_name};
 ghost use Rattle.state_trees.specs.FactStates.{IsKept};
 ghost use Rattle.path_facts.specs.PointTrees.{path_points_of, successors, AreWithin};
 ghost use Rattle.path_facts.specs.Carries.{state_along, acts_of};
-ghost use Rattle.path_reports.specs.CalledPoints.{called_point, called_points};
-ghost use Rattle.path_reports.specs.CalledPoints.{AreAscending, AreListed};
-ghost use Rattle.path_reports.specs.Told.{found_at, report_found, told_along, told_where, told_all};
-ghost use Rattle.path_reports.specs.Told.{IsKeptWhere, AreKept};
+ghost use Rattle.path_reports.specs.CalledPoints.{called_points, AreAscending, AreListed};
+ghost use Rattle.path_reports.specs.Told.{found_at, told_along, IsKeptWhere, AreKept};
+ghost use Rattle.path_reports.specs.Uses.{point_told, where_told, all_told};
 
-use crate::called::called_acts;
+use crate::called::put_called;
+use crate::printed::put_found;
 use borrow_observe::test_loans;
-use fact_questions::Found;
 use flow_paths::{Effects, Point};
 use move_rules::test_moves;
 use path_facts::{Steps, point_trees};
 use place_names::{Fact, Placed};
-use report_lists::{PrintedReport, ReportSet};
-use spark_base::Pos;
+use report_lists::ReportSet;
 use state_trees::Tree;
 use std::alloc::{AllocError, Global};
 use std::sync::ledger::Ledger;
 use type_table::Info;
-use typed_tree::{Object, print_name};
-
-/// What was found, as a report with the text of its name.
-fn printed_report(
-    alloc: Global,
-    table: &[Info],
-    objects: &[Object],
-    pos: Pos,
-    found: &Found,
-) -> Result<PrintedReport, AllocError>
-    ensures { IfOk result (λ report. report
-        ≡ told (printed_name table.now objects.now) (report_found pos found.now)) }
-{
-    let text = print_name(alloc, table, objects, &found.name)?;
-    Ok(PrintedReport {
-        pos,
-        rule: found.rule,
-        name: found.name.clone()?,
-        state: Some(found.state),
-        text,
-    })
-}
-
-/// Puts in what was found at a position.
-fn put_found(
-    alloc: Global,
-    table: &[Info],
-    objects: &[Object],
-    pos: Pos,
-    found: &[Found],
-    set: &mut ReportSet,
-) -> Result<(), AllocError>
-    ensures { OnOk result (set.new ≡ put_told (printed_name table.now objects.now) set.old
-        (map (report_found pos) found.now)) }
-{
-    'found: for one in found {
-        set.insert(printed_report(alloc, table, objects, pos, one)?)?;
-    }
-    Ok(())
-}
+use typed_tree::Object;
 
 /// Puts in what the facts that may hold forbid at an act.
 fn put_act(
@@ -105,16 +64,6 @@ fn put_acts(
     Ok(())
 }
 
-/// Whether neither list has an act.
-fn are_none(own: &[Placed], called: &[Placed]) -> bool
-    ensures { IsTrue result → own.now ++ called.now ≡ [] }
-{
-    match (own, called) {
-        ([], []) => true,
-        _ => false,
-    }
-}
-
 /// Puts in the reports of a point: of its own acts, and behind them of those of its call.
 fn put_point(
     alloc: Global,
@@ -127,16 +76,12 @@ fn put_point(
 ) -> Result<(), AllocError>
     requires { AreAscending effects.now }
     ensures set { OnOk result (set.new ≡ put_told (printed_name table.now objects.now) set.old
-        (told_along (called_point objects.now effects.now point.now).acts tree.entry)) }
+        (point_told objects.now effects.now point.now tree.entry)) }
     ensures kept { IsKept tree.entry }
 {
     let _list = tree.facts();
-    let called = called_acts(alloc, objects, effects, point)?;
-    if are_none(point.acts.as_slice(), &called) {
-        return Ok(());
-    }
     put_acts(alloc, table, objects, &mut tree, point.acts.as_slice(), set)?;
-    put_acts(alloc, table, objects, &mut tree, &called, set)?;
+    put_called(alloc, table, objects, effects, &tree, point, set)?;
     Ok(())
 }
 
@@ -153,7 +98,7 @@ fn put_where(
     requires { AreAscending effects.now }
     ensures kept { IsKeptWhere tree.entry }
     ensures set { OnOk result (set.new ≡ put_told (printed_name table.now objects.now) set.old
-        (told_where (called_point objects.now effects.now point.now).acts tree.entry)) }
+        (where_told objects.now effects.now point.now tree.entry)) }
 {
     match tree {
         Some(tree) => Ok(put_point(alloc, table, objects, effects, tree, point, set)?),
@@ -175,7 +120,7 @@ fn put_points(
     requires count { vec_len trees ≡ length points.now }
     ensures kept { OnOk result (AreKept trees.entry.items) }
     ensures set { OnOk result (set.new ≡ put_told (printed_name table.now objects.now) set.old
-        (told_all (called_points objects.now effects.now points.now) trees.entry.items)) }
+        (all_told objects.now effects.now points.now trees.entry.items)) }
 {
     'points: for p in 0..points.len() {
         put_where(

@@ -7,8 +7,8 @@ use Rattle.alias_rules.specs.Told.{sub_reports}
 use Rattle.alias_rules.proofs.Subs.{get_has, adds_all, reports_are}
 use Rattle.alias_rules.proofs.whole.alias_reports.Goals as goal
 
-pub report_points-requires : goal.report_points-requires
-report_points-requires c p h =
+pub report_points-requires-clause-points : goal.report_points-requires-clause-points
+report_points-requires-clause-points c p h =
     let subs = c.as_slice-sub-items.result.now in
     let there = get_has subs c.subs.sub-index c.sub-item.result c.subs-test.true in record {
       sub = c.sub-item.result;

@@ -7,11 +7,11 @@ use Rattle.alias_rules.proofs.Shallow.{shallow_call}
 use Rattle.alias_rules.proofs.Subs.{sub_there, point_there}
 use Rattle.alias_rules.proofs.whole.report_point.Goals as goal
 
-pub report_call-requires : goal.report_call-requires
-report_call-requires c =
+pub report_call-requires-clause-shallow : goal.report_call-requires-clause-shallow
+report_call-requires-clause-shallow c =
     let laid = c.args.laid.now in
     let w = c.in-Call-default-default-None in
-    let at = c.requires in
+    let at = c.requires.point in
     shallow_call (program_of laid) (flow_sub_of laid.rows at.sub) (flow_point_of laid.rows c.args.point.now) w.sub (typed_at laid.rows w.actuals) _ laid.right
     (sub_there laid at.sub at.there) (point_there laid at.sub c.args.point.now at.point)
     (ap (instruction_of (typed_at laid.rows) (typed_code_at laid.rows)) w.is)

@@ -2,8 +2,8 @@ use Rattle.std.proofs.Common.{◌≡◌, ℕ, ◌<◌, drop, length, vec_len}
 use Rattle.report_lists.specs.Gains.{put_told}
 use Rattle.flow_paths.specs.Printing.{printed_name}
 use Rattle.path_facts.specs.PointTrees.{tree_at}
-use Rattle.path_reports.specs.CalledPoints.{called_points}
-use Rattle.path_reports.specs.Told.{told_all, IsKeptWhere}
+use Rattle.path_reports.specs.Told.{IsKeptWhere}
+use Rattle.path_reports.specs.Uses.{all_told}
 use Rattle.path_reports.proofs.reports.put_points.Given as goal
 
 abbrev pub invariant-points : goal.invariant-points
@@ -11,5 +11,5 @@ invariant-points l =
     (vec_len l.trees ≡ length l.points)
     × (drop l.p l.trees.items ≡ drop l.p l.initial.trees.items)
     × ((q : ℕ) → q < l.p → IsKeptWhere (tree_at l.initial.trees.items q))
-    × (put_told (printed_name l.table l.objects) l.set (told_all (drop l.p (called_points l.objects l.effects l.points)) (drop l.p l.initial.trees.items))
-    ≡ put_told (printed_name l.table l.objects) l.initial.set (told_all (called_points l.objects l.effects l.points) l.initial.trees.items))
+    × (put_told (printed_name l.table l.objects) l.set (all_told l.objects l.effects (drop l.p l.points) (drop l.p l.initial.trees.items))
+    ≡ put_told (printed_name l.table l.objects) l.initial.set (all_told l.objects l.effects l.points l.initial.trees.items))

@@ -3,7 +3,7 @@ use Rattle.path_reports.proofs.Putting.{found_next, found_done}
 use Rattle.std.proofs.Common.{◌∙◌, ap}
 use Rattle.std.specs.BTreeSet.{insert_key}
 use Rattle.report_lists.specs.PrintedReports.{printed_cmp}
-use Rattle.path_reports.proofs.reports.put_found.Goals as goal
+use Rattle.path_reports.proofs.printed.put_found.Goals as goal
 
 pub found-preserved : goal.found-preserved
 found-preserved c =

@@ -2,7 +2,7 @@ use Rattle.std.proofs.Common.{◌≡◌, map, drop}
 use Rattle.report_lists.specs.Gains.{put_told}
 use Rattle.flow_paths.specs.Printing.{printed_name}
 use Rattle.path_reports.specs.Told.{report_found}
-use Rattle.path_reports.proofs.reports.put_found.Given as goal
+use Rattle.path_reports.proofs.printed.put_found.Given as goal
 
 abbrev pub invariant-found : goal.invariant-found
 invariant-found l =
