@@ -5,6 +5,7 @@ use Rattle.std.specs.Map.{lookup}
 use Rattle.std.specs.declared.rc.Rc.{Rc}
 use Rattle.std.proofs.lemmas.Bool.{eqb-true}
 use Rattle.indexmap.specs.IndexMap.{insert_entry}
+use Rattle.name_events.specs.declared.declaration.Declaration.{Declaration}
 use Rattle.name_events.specs.Declarations.{has_number, added_number, last_of}
 use Rattle.name_events.specs.Known.{Context}
 use Rattle.name_events.specs.KnownBehind.{context_found}
@@ -31,19 +32,19 @@ has_added keys numbers n m same =
         or_false false = refl
 
 -- One more context.
-pub given_pushed : {Z : Type 0} (entries : List (ℕ × Rc Given Z)) (number : ℕ) (given : Rc Given Z) (contexts : List Context) (context : Context) (n : ℕ)
-    → number ≡ context.of_package → GivenStands (Some given) context
-    → GivenStands (lookup (nat_eq n) entries) (context_numbered contexts n)
-    → GivenStands (lookup (nat_eq n) (insert_entry nat_eq entries number given)) (context_numbered (contexts ++ context ∷ []) n)
-given_pushed entries number given contexts context n at is before =
-    subst (λ k. GivenStands k (context_numbered (contexts ++ context ∷ []) n))
+pub given_pushed : {Z : Type 0} (all : List Declaration) (entries : List (ℕ × Rc Given Z)) (number : ℕ) (given : Rc Given Z) (contexts : List Context) (context : Context) (n : ℕ)
+    → number ≡ context.of_package → GivenStands all (Some given) context
+    → GivenStands all (lookup (nat_eq n) entries) (context_numbered contexts n)
+    → GivenStands all (lookup (nat_eq n) (insert_entry nat_eq entries number given)) (context_numbered (contexts ++ context ∷ []) n)
+given_pushed all entries number given contexts context n at is before =
+    subst (λ k. GivenStands all k (context_numbered (contexts ++ context ∷ []) n))
     (sym (lookup_inserted_by nat_eq (λ a b h. eqb-true a b h) entries number n given
     ∙ ap (λ k. if nat_eq n k then Some given else lookup (nat_eq n) entries) at))
-    (subst (λ o. GivenStands (if nat_eq n context.of_package then Some given else lookup (nat_eq n) entries) (context_found o))
+    (subst (λ o. GivenStands all (if nat_eq n context.of_package then Some given else lookup (nat_eq n) entries) (context_found o))
     (sym (last_of_from (λ c. nat_eq n c.of_package) contexts context None))
     (by (nat_eq n context.of_package)))
   where
-    by : (b : Bool) → GivenStands (if b then Some given else lookup (nat_eq n) entries)
+    by : (b : Bool) → GivenStands all (if b then Some given else lookup (nat_eq n) entries)
         (context_found (if b then Some context else last_of (λ c. nat_eq n c.of_package) contexts))
     by true = is
     by false = before

@@ -10,3 +10,6 @@ pub mod Occurrences
 pub mod Unbroken
 pub mod Files
 pub mod Given
+pub mod HolderLists
+pub mod Holders
+pub mod RegionSets

@@ -48,7 +48,7 @@ pub sighted-append : (so_far : Sighting) (xs ys : List Declaration) → sighted_
 sighted-append so_far [] ys = refl
 sighted-append so_far (x ∷ xs) ys = sighted-append (sighted so_far x) xs ys
 
-members-append : (now : Known) (w : Name) (ms ns : List ℕ) → visible_members now (ms ++ ns) w ≡ visible_members now ms w ++ visible_members now ns w
+pub members-append : (now : Known) (w : Name) (ms ns : List ℕ) → visible_members now (ms ++ ns) w ≡ visible_members now ms w ++ visible_members now ns w
 members-append now w [] ns = refl
 members-append now w (m ∷ ms) ns =
     ap (λ ds. option_to_list (visible_member now (slice_get now.declared m) w) ++ ds) (members-append now w ms ns)

@@ -8,7 +8,7 @@ use Rattle.indexmap.specs.IndexMap.{insert_entry}
 use Rattle.name_events.specs.declared.declaration.Declaration.{Declaration}
 use Rattle.name_events.specs.declared.declaration.OpenRegion.{OpenRegion}
 use Rattle.name_events.specs.Declarations.{Name, same, is_named, innermost, Search, or_else}
-use Rattle.name_resolve.specs.Tables.{symbol_of, Key, same_key, entry_at, searched, HasOnly, noted, noted_first}
+use Rattle.name_resolve.specs.Tables.{symbol_of, Key, same_key, entry_at, searched, HasOnly, Puts, noted, noted_first}
 use Rattle.name_resolve.proofs.Lists.{nat_eq-refl}
 
 -- Names that compare as the same are the same.
@@ -51,10 +51,6 @@ same_key_is : (a b : Key) → same_key a b ≡ true → a ≡ b
 same_key_is a b h =
     let both = both_true (nat_eq a.0 b.0) (nat_eq a.1 b.1) h in
     λ j. (eqb-true a.0 b.0 both.0 j, eqb-true a.1 b.1 both.1 j)
-
--- What a table has behind one more declaration.
-abbrev pub Puts : List (Key × Declaration) → List (Key × Declaration) → ℕ → Declaration → Type 0
-Puts old new s d = (r n : ℕ) → entry_at new r n ≡ (if nat_eq r d.region && nat_eq n s then Some d else entry_at old r n)
 
 pub inserted_puts : (old new : List (Key × Declaration)) (s : ℕ) (d : Declaration) → new ≡ insert_entry same_key old (d.region, s) d → Puts old new s d
 inserted_puts old new s d is r n =

@@ -1,8 +1,11 @@
 -- What the packages in use have of a name: nothing, one declaration, or several.
-use Rattle.std.specs.Prelude.{Bool, true, false, if◌then◌else◌, nat_eq, fold, List, Option, None, Some}
+use Rattle.std.specs.Prelude.{◌≡◌, ℕ, Bool, true, false, if◌then◌else◌, nat_eq, fold, List, Option, None, Some}
 use Rattle.name_events.specs.declared.declaration.Declaration.{Declaration}
+use Rattle.name_events.specs.Declarations.{has_number}
 use Rattle.name_resolve.specs.declared.sighting.Sighting.{Sighting}
 use Rattle.name_resolve.specs.declared.sighting.Sighting.TheVariants.{Nothing, One, Several}
+use Rattle.name_resolve.specs.declared.used.Holder.{Holder}
+use Rattle.name_resolve.specs.declared.used.Holder.TheVariants as holder
 
 -- What is found with one more declaration.
 abbrev pub sighted : Sighting → Declaration → Sighting
@@ -21,3 +24,10 @@ the_one Several = None
 abbrev pub is_any : Sighting → Bool
 is_any Nothing = false
 is_any _ = true
+
+-- Of regions of which some are in use: none is, only one is, or nothing is said.
+abbrev pub OnlyUsed : (ℕ → Bool) → List ℕ → Holder → Type 0
+OnlyUsed used regions holder.Nowhere = (region : ℕ) → has_number region regions ≡ true → used region ≡ false
+OnlyUsed used regions (holder.Only one) =
+    (used one ≡ true) × ((region : ℕ) → has_number region regions ≡ true → used region ≡ true → region ≡ one)
+OnlyUsed used regions holder.Several = Unit {0}

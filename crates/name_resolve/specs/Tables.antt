@@ -1,11 +1,13 @@
 -- What tables of names answer.
 use Rattle.std.specs.Prelude.{◌≡◌, ℕ, Bool, true, false, ◌&&◌, if◌then◌else◌, List, [], Option, None, Some, slice_get, nat_eq, nat_le, ◌++◌, ◌≤◌, length, position}
+use Rattle.std.specs.List.{list_any}
 use Rattle.std.specs.Option.{option_map, option_map_or}
 use Rattle.std.specs.Map.{lookup}
 use Rattle.name_events.specs.declared.declaration.Declaration.{Declaration}
 use Rattle.name_events.specs.declared.declaration.DeclarationForm.{DeclarationForm}
 use Rattle.name_events.specs.declared.declaration.DeclarationForm.TheVariants as form
-use Rattle.name_events.specs.Declarations.{Name, Entry, Search, same, is_named, declared_in, first_where, or_else, is_package}
+use Rattle.name_events.specs.declared.declaration.OpenRegion.{OpenRegion}
+use Rattle.name_events.specs.Declarations.{Name, Entry, has_number, Search, same, is_named, declared_in, first_where, or_else, is_package}
 use Rattle.name_events.specs.Predefined.{predefined_count}
 use Rattle.name_events.specs.Completions.{awaits}
 
@@ -23,6 +25,10 @@ same_key a b = nat_eq a.0 b.0 && nat_eq a.1 b.1
 -- The declaration of a symbol in a region.
 abbrev pub entry_at : List (Key × Declaration) → ℕ → ℕ → Option Declaration
 entry_at table region s = lookup (same_key (region, s)) table
+
+-- What a table has behind one more declaration of a symbol.
+abbrev pub Puts : List (Key × Declaration) → List (Key × Declaration) → ℕ → Declaration → Type 0
+Puts old new s d = (r n : ℕ) → entry_at new r n ≡ (if nat_eq r d.region && nat_eq n s then Some d else entry_at old r n)
 
 -- What the entries answer of a word.
 abbrev pub searched : List Name → List (Key × Declaration) → Search
@@ -76,3 +82,11 @@ listed_at lists region = or_empty (slice_get lists region)
 -- The packages in use in a region: in the predefined one those that the unit is given come first.
 abbrev pub in_use_at : List ℕ → List (List ℕ) → ℕ → List ℕ
 in_use_at given lists region = (if nat_eq region 0 then given else []) ++ listed_at lists region
+
+-- The region of a package, by its number.
+abbrev pub own_region_of : List Declaration → ℕ → Option ℕ
+own_region_of all n = option_map (λ d. d.own_region) (slice_get all n)
+
+-- Whether a region is that of a package in use in these regions.
+abbrev pub is_used : List ℕ → List (List ℕ) → List OpenRegion → ℕ → Bool
+is_used given sets around region = list_any (λ inner. has_number region (in_use_at given sets inner.region)) around

@@ -1,20 +1,23 @@
 //! What the context of a package gives to its body.
 ghost use Rattle.std.specs.Prelude.{◌≡◌, [], ◌∷◌, ◌++◌, List, OnOk, IfOk};
+ghost use Rattle.name_events.specs.declared.declaration.Declaration.{Declaration};
 ghost use Rattle.name_events.specs.Known.{Context};
 ghost use Rattle.name_events.specs.KnownBehind.{context_of};
-ghost use Rattle.name_resolve.specs.Stands.{ContextsStand, GivenStands, NumbersStand};
+ghost use Rattle.name_resolve.specs.Stands.{AreRegionsOf, ContextsStand, GivenStands, NumbersStand};
 
 use crate::numbers::Numbers;
-use indexmap::IndexMap;
+use indexmap::{IndexMap, IndexSet};
 use name_events::Declaration;
 use std::alloc::{AllocError, Global};
 use std::rc::Rc;
 
-/// What the context of a package gives to its body: what it has a `with` and a `use` of, by number.
+/// What the context of a package gives to its body: what it has a `with` and a `use` of, by number,
+/// and the regions of the packages that it has a `use` of.
 #[derive(Drop)]
 pub struct Given {
     pub withs: Numbers,
     pub uses: Vec<usize>,
+    pub regions: IndexSet<usize>,
 }
 
 /// The contexts of the packages so far, by the numbers of the packages. The bodies of a package
@@ -28,7 +31,7 @@ pub struct Contexts {
 impl Contexts {
     /// No contexts. It takes no memory.
     pub fn new(alloc: Global) -> Contexts
-        ensures { ContextsStand result [] }
+        ensures { (all : List Declaration) → ContextsStand all result [] }
     {
         Contexts {
             alloc,
@@ -38,9 +41,10 @@ impl Contexts {
 
     /// Adds the context of a package.
     pub fn add(&mut self, number: usize, given: Given) -> Result<(), AllocError>
-        ensures { OnOk result ((contexts : List Context) (context : Context)
+        ensures { OnOk result ((all : List Declaration) (contexts : List Context) (context : Context)
             → number ≡ context.of_package → NumbersStand given.withs context.withs → given.uses.items ≡ context.uses
-            → ContextsStand self.old contexts → ContextsStand self.new (contexts ++ context ∷ [])) }
+            → AreRegionsOf all context.uses given.regions.keys
+            → ContextsStand all self.old contexts → ContextsStand all self.new (contexts ++ context ∷ [])) }
     {
         let shared = Rc::new(self.alloc, given)?;
         self.given.insert(number, shared)?;
@@ -52,7 +56,7 @@ impl Contexts {
         &self,
         package_spec: Option<Declaration>,
     ) -> Result<Option<Rc<Given>>, AllocError>
-        ensures { IfOk result (λ given. (contexts : List Context) → ContextsStand self.now contexts → GivenStands given (context_of contexts package_spec)) }
+        ensures { IfOk result (λ given. (all : List Declaration) (contexts : List Context) → ContextsStand all self.now contexts → GivenStands all given (context_of contexts package_spec)) }
     {
         let Some(declaration) = package_spec else {
             return Ok(None);

@@ -1,14 +1,16 @@
 //! The declarations up to a point.
 ghost use Rattle.std.specs.Prelude.{◌≡◌, [], ◌∷◌, ◌++◌, List, ℕ, Some, OnOk, IfOk, filter, nat_eq, not, slice_get};
-ghost use Rattle.std.specs.Option.{option_map};
+ghost use Rattle.std.specs.Option.{option_map, option_map_or};
+ghost use Rattle.name_events.specs.declared.declaration.Declaration.{Declaration};
 ghost use Rattle.name_events.specs.Declarations.{Entry, Name, declared_in, has_number, added_number};
-ghost use Rattle.name_events.specs.Known.{Known, source_package, visible_member};
+ghost use Rattle.name_events.specs.Known.{Known, if_visible, source_package, visible_member};
 ghost use Rattle.name_events.specs.Faults.{is_library_procedure};
-ghost use Rattle.name_resolve.specs.Tables.{asks_completion, first_in, searched, symbol_of, FirstAnswers, HasOnly};
-ghost use Rattle.name_resolve.specs.Stands.{DeclarationsStand, EntriesStand, IndexStands, StandFor};
+ghost use Rattle.name_resolve.specs.Tables.{Key, asks_completion, first_in, listed_at, searched, symbol_of, FirstAnswers, HasOnly, Puts};
+ghost use Rattle.name_resolve.specs.Stands.{DeclarationsStand, EntriesStand, HoldersStand, IndexStands, StandFor};
 
 use crate::entry_index::EntryIndex;
 use crate::form::{awaits, either, is_procedure_body, is_visible};
+use crate::number_lists::NumberLists;
 use crate::table::Table;
 use crate::words::Words;
 use ada_tree::Word;
@@ -17,7 +19,8 @@ use name_events::Declaration;
 use std::alloc::{AllocError, Global};
 
 /// The declarations up to a point, and which of them have ended and are completed. In the tables
-/// and in what is pending a name is the symbol of its word.
+/// and in what is pending a name is the symbol of its word. The holders of a symbol are the regions
+/// that have a declaration of it in a visible part.
 pub struct Declarations {
     alloc: Global,
     pub words: Words,
@@ -27,6 +30,7 @@ pub struct Declarations {
     pub has_procedure: bool,
     pub pending: Vec<(usize, Declaration)>,
     pub ended: EntryIndex,
+    pub holders: NumberLists,
     pub completed: IndexSet<usize>,
 }
 
@@ -41,6 +45,7 @@ impl Drop for Declarations {
             has_procedure: _,
             pending: _,
             ended: _,
+            holders: _,
             completed: _,
         } = self;
     }
@@ -71,13 +76,31 @@ fn note_awaiting(
     Ok(())
 }
 
+/// Notes the region of a declaration that ends in a visible part.
+fn note_holder(
+    alloc: Global,
+    holders: &mut NumberLists,
+    symbol: usize,
+    declaration: Declaration,
+) -> Result<(), AllocError>
+    ensures { OnOk result ((old new : List (Key × Declaration)) → Puts old new symbol declaration → HoldersStand old holders.old → HoldersStand new holders.new) }
+{
+    if is_visible(declaration) {
+        holders.add(alloc, symbol, &[declaration.region])?;
+    }
+    Ok(())
+}
+
 /// Ends a declaration, if it is of that region.
 fn end_one(
+    alloc: Global,
     ended: &mut EntryIndex,
+    holders: &mut NumberLists,
     pending: &(usize, Declaration),
     region: usize,
 ) -> Result<(), AllocError>
-    ensures { OnOk result ((words : List Name) (entry : Entry) (before : List Entry)
+    ensures holders { OnOk result (HoldersStand ended.old.last holders.old → HoldersStand ended.new.last holders.new) }
+    ensures stands { OnOk result ((words : List Name) (entry : Entry) (before : List Entry)
         → symbol_of words entry.0 ≡ Some pending.now.0 → pending.now.1 ≡ entry.1
         → IndexStands words ended.old before
         → IndexStands words ended.new (before ++ filter (λ d. nat_eq region d.1.region) (entry ∷ []))) }
@@ -85,22 +108,26 @@ fn end_one(
     let (symbol, declaration) = *pending;
     if region == declaration.region {
         ended.note(symbol, declaration)?;
+        note_holder(alloc, holders, symbol, declaration)?;
     }
     Ok(())
 }
 
 /// Ends the declarations of a region.
 fn end_all(
+    alloc: Global,
     ended: &mut EntryIndex,
+    holders: &mut NumberLists,
     pending: &[(usize, Declaration)],
     region: usize,
 ) -> Result<(), AllocError>
-    ensures { OnOk result ((words : List Name) (waiting before : List Entry)
+    ensures holders { OnOk result (HoldersStand ended.old.last holders.old → HoldersStand ended.new.last holders.new) }
+    ensures stands { OnOk result ((words : List Name) (waiting before : List Entry)
         → StandFor words pending.now waiting → IndexStands words ended.old before
         → IndexStands words ended.new (before ++ filter (λ d. nat_eq region d.1.region) waiting)) }
 {
     'turns: for entry in pending {
-        end_one(ended, entry, region)?;
+        end_one(alloc, ended, holders, entry, region)?;
     }
     Ok(())
 }
@@ -126,6 +153,7 @@ impl Declarations {
             has_procedure: false,
             pending: Vec::new(alloc),
             ended: EntryIndex::new(alloc),
+            holders: NumberLists::new(alloc),
             completed: IndexSet::new(alloc),
         }
     }
@@ -172,6 +200,7 @@ impl Declarations {
         let symbol = self.symbol(word)?;
         self.enter(symbol, declaration)?;
         self.ended.note(symbol, declaration)?;
+        note_holder(self.alloc, &mut self.holders, symbol, declaration)?;
         Ok(())
     }
 
@@ -180,7 +209,13 @@ impl Declarations {
         ensures { OnOk result ((declared pending ended : List Entry) (completed : List ℕ) → EntriesStand self.old declared pending ended completed
             → EntriesStand self.new declared (filter (λ d. not (nat_eq region d.1.region)) pending) (ended ++ filter (λ d. nat_eq region d.1.region) pending) completed) }
     {
-        end_all(&mut self.ended, &self.pending, region)?;
+        end_all(
+            self.alloc,
+            &mut self.ended,
+            &mut self.holders,
+            &self.pending,
+            region,
+        )?;
         keep_others(&mut self.pending, region);
         Ok(())
     }
@@ -244,13 +279,32 @@ impl Declarations {
         self.ended.last.found(region, symbol)
     }
 
+    /// The regions that have a declaration of the name of this symbol in a visible part, if any name
+    /// has it.
+    pub fn holders_of(&self, symbol: Option<usize>) -> &[usize]
+        ensures { result.now ≡ option_map_or (listed_at self.now.holders) symbol [] }
+    {
+        match symbol {
+            None => &[],
+            Some(there) => self.holders.at(there),
+        }
+    }
+
+    /// The declaration of a name, by its symbol, in the visible part of the package with this region.
+    pub fn visible_in(&self, region: usize, symbol: Option<usize>) -> Option<Declaration>
+        ensures { (now : Known) (w : Name) → DeclarationsStand self.now now → symbol ≡ symbol_of self.now.words w
+            → result ≡ if_visible (declared_in now.ended region w) }
+    {
+        let found = self.ended_at(region, symbol)?;
+        if is_visible(found) { Some(found) } else { None }
+    }
+
     /// The declaration of a name, by its symbol, in the visible part of a package.
     pub fn visible_member(&self, number: usize, symbol: Option<usize>) -> Option<Declaration>
         ensures { (now : Known) (w : Name) → DeclarationsStand self.now now → symbol ≡ symbol_of self.now.words w
             → result ≡ visible_member now (slice_get now.declared number) w }
     {
         let holder = self.all.get(number)?;
-        let found = self.ended_at(holder.own_region, symbol)?;
-        if is_visible(found) { Some(found) } else { None }
+        self.visible_in(holder.own_region, symbol)
     }
 }

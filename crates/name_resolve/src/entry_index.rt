@@ -1,7 +1,7 @@
 //! Declarations as they are looked for.
 ghost use Rattle.std.specs.Prelude.{◌≡◌, [], ◌∷◌, ◌++◌, List, Some, OnOk};
 ghost use Rattle.name_events.specs.Declarations.{Entry, Name};
-ghost use Rattle.name_resolve.specs.Tables.{is_source_package, symbol_of};
+ghost use Rattle.name_resolve.specs.Tables.{is_source_package, symbol_of, Puts};
 ghost use Rattle.name_resolve.specs.Stands.{IndexStands};
 
 use crate::form::is_package;
@@ -40,7 +40,8 @@ impl EntryIndex {
 
     /// Adds a declaration, whose name has this symbol.
     pub fn note(&mut self, symbol: usize, declaration: Declaration) -> Result<(), AllocError>
-        ensures { OnOk result ((words : List Name) (word : Name) (entries : List Entry) → symbol_of words word ≡ Some symbol
+        ensures last { OnOk result (Puts self.old.last self.new.last symbol declaration) }
+        ensures stands { OnOk result ((words : List Name) (word : Name) (entries : List Entry) → symbol_of words word ≡ Some symbol
             → IndexStands words self.old entries → IndexStands words self.new (entries ++ (word, declaration) ∷ [])) }
     {
         self.last.note(symbol, declaration)?;

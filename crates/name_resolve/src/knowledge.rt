@@ -1,5 +1,6 @@
 //! What is known of names at a point of a text.
-ghost use Rattle.std.specs.Prelude.{◌≡◌, IfOk, ◌&&◌, ◌||◌, not, length, List, None, Some, if◌then◌else◌};
+ghost use Rattle.std.specs.Option.{option_map_or};
+ghost use Rattle.std.specs.Prelude.{◌≡◌, [], IfOk, ◌&&◌, ◌||◌, not, length, List, None, Some, if◌then◌else◌};
 ghost use Rattle.name_events.specs.declared.declaration.NameRule.TheVariants.{Unknown, NotVisible, TooEarly};
 ghost use Rattle.name_events.specs.Declarations.{Name, declared_in, has_number, is_visible, is_package};
 ghost use Rattle.name_events.specs.Completions.{completed_by, completes_form, may_complete};
@@ -10,7 +11,7 @@ ghost use Rattle.name_events.specs.Identified.{number_declared};
 ghost use Rattle.name_events.specs.Faults.{lacks_with};
 ghost use Rattle.name_resolve.specs.declared.sighting.Sighting.TheVariants.{Nothing};
 ghost use Rattle.name_resolve.specs.Sightings.{sighted_all};
-ghost use Rattle.name_resolve.specs.Tables.{symbol_of};
+ghost use Rattle.name_resolve.specs.Tables.{listed_at, symbol_of};
 ghost use Rattle.name_resolve.specs.Stands.{EachKnown, Stands};
 
 use crate::contexts::Contexts;
@@ -20,7 +21,8 @@ use crate::form::{
 };
 use crate::predefined::predefined;
 use crate::regions::Regions;
-use crate::sighting::{Sighting, see_regions};
+use crate::sighting::{Sighting, see_regions, sight_one};
+use crate::used::{Holder, Used};
 use crate::withs::Withs;
 use ada_tree::Word;
 use indexmap::IndexSet;
@@ -33,6 +35,7 @@ pub struct Knowledge {
     pub alloc: Global,
     pub declarations: Declarations,
     pub regions: Regions,
+    pub used: Used,
     pub withs: Withs,
     pub contexts: Contexts,
     pub own_package: Option<usize>,
@@ -47,6 +50,7 @@ impl Drop for Knowledge {
             alloc: _,
             declarations: _,
             regions: _,
+            used: _,
             withs: _,
             contexts: _,
             own_package: _,
@@ -66,6 +70,7 @@ impl Knowledge {
             alloc,
             declarations: predefined(alloc)?,
             regions: Regions::new(alloc),
+            used: Used::new(alloc),
             withs: Withs::new(alloc),
             contexts: Contexts::new(alloc),
             own_package: None,
@@ -85,8 +90,8 @@ impl Knowledge {
         ended.innermost(&self.regions.around, symbol)
     }
 
-    /// What the packages in use have of a name.
-    fn sight(&self, symbol: Option<usize>) -> Sighting
+    /// What the packages in use have of a name. It is looked for in each.
+    fn sight_each(&self, symbol: Option<usize>) -> Sighting
         ensures { (now : Known) (w : Name) → Stands self.now now → symbol ≡ symbol_of self.now.declarations.words w
             → result ≡ sighted_all Nothing (visible_members now (packages_in_use now) w) }
     {
@@ -98,6 +103,34 @@ impl Knowledge {
             &self.regions.around,
             symbol,
         )
+    }
+
+    /// What the packages in use have of a name, of which these regions have a declaration in a
+    /// visible part. Where only one of them is in use, it is looked for in that one.
+    fn sight_held(&self, holders: &[usize], symbol: Option<usize>) -> Sighting
+        ensures { (now : Known) (w : Name) → Stands self.now now → symbol ≡ symbol_of self.now.declarations.words w
+            → holders.now ≡ option_map_or (listed_at self.now.declarations.holders) symbol []
+            → result ≡ sighted_all Nothing (visible_members now (packages_in_use now) w) }
+    {
+        match self.used.only_used(&self.regions.around, holders) {
+            Holder::Nowhere => Sighting::Nothing,
+            Holder::Only(region) => sight_one(self.declarations.visible_in(region, symbol)),
+            Holder::Several => self.sight_each(symbol),
+        }
+    }
+
+    /// What the packages in use have of a name. It is looked for in those that have it, if these
+    /// are fewer.
+    fn sight(&self, symbol: Option<usize>) -> Sighting
+        ensures { (now : Known) (w : Name) → Stands self.now now → symbol ≡ symbol_of self.now.declarations.words w
+            → result ≡ sighted_all Nothing (visible_members now (packages_in_use now) w) }
+    {
+        let holders = self.declarations.holders_of(symbol);
+        if holders.len() < self.regions.count_in_use() {
+            self.sight_held(holders, symbol)
+        } else {
+            self.sight_each(symbol)
+        }
     }
 
     /// The declaration that an identifier denotes.

@@ -14,6 +14,7 @@ use crate::contexts::Given;
 use crate::declarations::Declarations;
 use crate::form::is_package;
 use crate::knowledge::Knowledge;
+use crate::region_sets::regions_of;
 use crate::regions::Regions;
 use crate::withs::Withs;
 use indexmap::IndexSet;
@@ -92,6 +93,7 @@ impl Knowledge {
     {
         self.regions.begin_unit(self.contexts.given_to(body_of)?)?;
         self.withs.begin_unit(self.contexts.given_to(body_of)?);
+        self.used.begin_unit(self.contexts.given_to(body_of)?)?;
         self.own_package = number_of(body_of);
         self.in_own_body = false;
         Ok(())
@@ -169,7 +171,13 @@ impl Knowledge {
         let number = self.declarations.all.len();
         let withs = self.withs.all()?;
         let uses = self.regions.context_uses()?;
-        self.contexts.add(number, Given { withs, uses })?;
+        let regions = regions_of(self.alloc, &self.declarations.all, &uses)?;
+        let given = Given {
+            withs,
+            uses,
+            regions,
+        };
+        self.contexts.add(number, given)?;
         self.own_package = Some(number);
         Ok(())
     }
@@ -331,6 +339,10 @@ impl Knowledge {
           using = [];
         })) }
     {
+        let region = self.regions.here().region;
+        let packages = self.regions.named.as_slice();
+        self.used
+            .end_use_clause(region, &self.declarations.all, packages)?;
         self.regions.end_use_clause()?;
         Ok(())
     }

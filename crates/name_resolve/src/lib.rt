@@ -8,8 +8,10 @@
 //! later. The rules and what a name denotes are definitions of `name_events`; `specs/Stands.antt`
 //! says how the tables here stand for the lists there. They keep each word once, and know it by a
 //! symbol. Time and memory are linear in the sources but for look-ups by hash, and for a name that
-//! no enclosing region has, which is looked for in each package in use. The bodies of a package
-//! share what its context gives to them.
+//! no enclosing region has. For that each region with a declaration of it in a visible part is asked
+//! whether it is one of a package in use, in each enclosing region; or each package in use is looked
+//! at, where these are no more, or where two of them have the name. The bodies of a package share
+//! what its context gives to them.
 #![tactic(auto)]
 
 mod contexts;
@@ -20,16 +22,18 @@ mod found;
 mod infos;
 mod knowledge;
 mod learn;
+mod number_lists;
 mod numbers;
 mod one_pass;
 mod predefined;
 mod refusal;
+mod region_sets;
 mod regions;
 mod rules;
 mod sighting;
 mod source_files;
 mod table;
-mod use_lists;
+mod used;
 mod withs;
 mod words;
 

@@ -7,7 +7,7 @@ ghost use Rattle.name_events.specs.KnownBehind.{turned_private};
 ghost use Rattle.name_resolve.specs.Stands.{given_uses, RegionsAre};
 
 use crate::contexts::Given;
-use crate::use_lists::UseLists;
+use crate::number_lists::NumberLists;
 use name_events::{OpenRegion, RegionPart};
 use std::alloc::{AllocError, Global};
 use std::rc::Rc;
@@ -23,7 +23,7 @@ pub struct Regions {
     pub count: usize,
     pub around: Vec<OpenRegion>,
     pub given: Option<Rc<Given>>,
-    pub uses: UseLists,
+    pub uses: NumberLists,
     pub named: Vec<usize>,
 }
 
@@ -51,7 +51,7 @@ impl Regions {
             count: PREDEFINED_REGIONS,
             around: Vec::new(alloc),
             given: None,
-            uses: UseLists::new(alloc),
+            uses: NumberLists::new(alloc),
             named: Vec::new(alloc),
         }
     }
@@ -135,6 +135,15 @@ impl Regions {
             None => &[],
             Some(given) => given.uses.as_slice(),
         }
+    }
+
+    /// How many packages are in use here, with those counted twice that two clauses name.
+    pub fn count_in_use(&self) -> usize {
+        let mut count = self.given_uses().len();
+        'turns: for inner in &self.around {
+            count = count.saturating_add(self.uses.at(inner.region).len());
+        }
+        count
     }
 
     /// A list of the packages that are in use by the context.

@@ -3,12 +3,13 @@ ghost use Rattle.std.specs.Prelude.{◌≡◌, ℕ, List, option_to_list, revers
 ghost use Rattle.std.specs.List.{flat_map};
 ghost use Rattle.name_events.specs.Declarations.{Name};
 ghost use Rattle.name_events.specs.Known.{Known, used_in, visible_member, visible_members};
+ghost use Rattle.name_resolve.specs.declared.sighting.Sighting.TheVariants.{Nothing};
 ghost use Rattle.name_resolve.specs.Sightings.{sighted, sighted_all};
 ghost use Rattle.name_resolve.specs.Tables.{in_use_at, symbol_of};
 ghost use Rattle.name_resolve.specs.Stands.{DeclarationsStand};
 
 use crate::declarations::Declarations;
-use crate::use_lists::UseLists;
+use crate::number_lists::NumberLists;
 use name_events::{Declaration, OpenRegion};
 
 /// What was found of a name so far.
@@ -36,6 +37,16 @@ fn sighted(so_far: Sighting, found: Declaration) -> Sighting
             }
         }
         Sighting::Several => Sighting::Several,
+    }
+}
+
+/// What was found in one package alone.
+pub fn sight_one(found: Option<Declaration>) -> Sighting
+    ensures { result ≡ sighted_all Nothing (option_to_list found) }
+{
+    match found {
+        None => Sighting::Nothing,
+        Some(declaration) => Sighting::One(declaration),
     }
 }
 
@@ -76,7 +87,7 @@ fn see_packages(
 fn see_region(
     declarations: &Declarations,
     given: &[usize],
-    uses: &UseLists,
+    uses: &NumberLists,
     so_far: Sighting,
     region: usize,
     symbol: Option<usize>,
@@ -97,7 +108,7 @@ fn see_region(
 pub fn see_regions(
     declarations: &Declarations,
     given: &[usize],
-    uses: &UseLists,
+    uses: &NumberLists,
     so_far: Sighting,
     around: &[OpenRegion],
     symbol: Option<usize>,

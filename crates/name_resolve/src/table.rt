@@ -2,7 +2,7 @@
 ghost use Rattle.std.specs.Prelude.{◌≡◌, ℕ, [], List, None, Some, OnOk, reverse};
 ghost use Rattle.std.specs.Option.{option_map_or};
 ghost use Rattle.name_events.specs.Declarations.{Name, innermost};
-ghost use Rattle.name_resolve.specs.Tables.{entry_at, noted, noted_first, searched, symbol_of, HasOnly};
+ghost use Rattle.name_resolve.specs.Tables.{entry_at, noted, noted_first, searched, symbol_of, HasOnly, Puts};
 
 use crate::words::Words;
 use ada_tree::Word;
@@ -67,6 +67,7 @@ impl Table {
 
     /// Adds a declaration to its region.
     pub fn note(&mut self, symbol: usize, declaration: Declaration) -> Result<(), AllocError>
+        ensures entries { OnOk result (Puts self.old self.new symbol declaration) }
         ensures searched { OnOk result ((words : List Name) (word : Name) → symbol_of words word ≡ Some symbol
             → (r : ℕ) (w : Name) → searched words self.new r w ≡ noted (searched words self.old) word declaration r w) }
         ensures only { OnOk result ((words : List Name) (word : Name) → symbol_of words word ≡ Some symbol

@@ -1,6 +1,7 @@
 //! What a unit has a `with` of.
 ghost use Rattle.std.specs.Prelude.{◌≡◌, [], ◌∷◌, ◌++◌, List, ℕ, IfOk, OnOk};
 ghost use Rattle.name_events.specs.Declarations.{has_number};
+ghost use Rattle.name_events.specs.declared.declaration.Declaration.{Declaration};
 ghost use Rattle.name_events.specs.Known.{Context};
 ghost use Rattle.name_resolve.specs.Stands.{given_found, given_withs, GivenStands, NumbersStand, WithsStand};
 
@@ -77,7 +78,7 @@ impl Withs {
     /// A unit begins, to which this is given. What the last one had is let go of, and its tables
     /// too: to clear these would take the time of the largest unit so far.
     pub fn begin_unit(&mut self, given: Option<Rc<Given>>)
-        ensures { (context : Context) → GivenStands given context → WithsStand self.new context.withs }
+        ensures { (all : List Declaration) (context : Context) → GivenStands all given context → WithsStand self.new context.withs }
     {
         self.given = given;
         self.own = Numbers::new(self.alloc);

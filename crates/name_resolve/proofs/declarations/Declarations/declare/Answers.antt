@@ -19,5 +19,6 @@ returns c declared pending ended completed s =
       pending = subst (λ ds. StandFor c.enter.new.self.words ds (pending ++ (w, c.args.declaration) ∷ [])) (sym c.in_ok-push.ensures.items)
           (stand_for_pushed _ _ pending w _ c.args.declaration has e.pending);
       ended = e.ended;
+      holders = e.holders;
       completed = e.completed;
     }

@@ -16,7 +16,8 @@ returns c declared pending ended completed s =
       procedure = s.procedure;
       pending = subst (λ ds. StandFor words ds (filter (λ entry. stay entry.1) pending)) (sym c.keep_others.ensures)
           (stand_for_filtered words stay c.args.self.now.pending.items pending s.pending);
-      ended = c.in_ok-end_all.ensures words pending ended
+      ended = c.in_ok-end_all.ensures.stands words pending ended
           (subst (λ ds. StandFor words ds pending) (sym c.deref.ensures.value) s.pending) s.ended;
+      holders = c.in_ok-end_all.ensures.holders s.holders;
       completed = s.completed;
     }

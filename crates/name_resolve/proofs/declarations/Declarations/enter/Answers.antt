@@ -9,7 +9,7 @@ returns-clause-stands c word declared pending ended completed has s =
     let w = c.args.self.now.words in
     let d = c.args.declaration in
     record {
-      declared = c.in_ok-note.ensures w word declared has s.declared;
+      declared = c.in_ok-note.ensures.stands w word declared has s.declared;
       awaiting = c.in_ok-note_awaiting.ensures.first w word declared has s.awaiting;
       awaiting_only = c.in_ok-note_awaiting.ensures.only w word has s.awaiting_only;
       all = c.in_ok-push.ensures.items ∙ ap (λ xs. xs ++ d ∷ []) s.all ∙ sym (map_push (λ entry. entry.1) declared (word, d));
@@ -17,5 +17,6 @@ returns-clause-stands c word declared pending ended completed has s =
           ∙ sym (any_push is_library_procedure declared (word, d));
       pending = s.pending;
       ended = s.ended;
+      holders = s.holders;
       completed = s.completed;
     }

@@ -1,6 +1,7 @@
 use Rattle.std.proofs.Common.{refl, ap, sym, ◌∙◌, subst, []}
 use Rattle.name_resolve.specs.Tables.{entry_at, searched}
 use Rattle.name_resolve.specs.Stands.{StandFor}
+use Rattle.name_resolve.proofs.HolderLists.{no_holders}
 use Rattle.name_resolve.proofs.Tables.{searched_none}
 use Rattle.name_resolve.proofs.declarations.Declarations.new.Goals as goal
 
@@ -13,5 +14,6 @@ returns c = record {
   procedure = refl;
   pending = subst (λ ds. StandFor c.new.result ds []) (sym c.new-5.ensures.items) tt;
   ended = c.new-6.ensures _;
-  completed = c.new-7.ensures.empty;
+  holders = no_holders _ _ (c.new-6.ensures []);
+  completed = c.new-8.ensures.empty;
 }

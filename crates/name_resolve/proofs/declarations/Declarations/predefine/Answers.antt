@@ -15,6 +15,7 @@ returns c declared pending ended completed s =
       all = e.all;
       procedure = e.procedure;
       pending = e.pending;
-      ended = c.in_ok-note.ensures c.enter.new.self.words w ended has e.ended;
+      ended = c.in_ok-note.ensures.stands c.enter.new.self.words w ended has e.ended;
+      holders = c.in_ok-note_holder.ensures _ _ c.in_ok-note.ensures.last e.holders;
       completed = e.completed;
     }

@@ -18,5 +18,6 @@ returns-clause-stands c declared pending ended completed s =
       procedure = s.procedure;
       pending = subst (λ words. StandFor words k.pending.items pending) is (stand_for_grown k.words w k.pending.items pending s.pending);
       ended = subst (λ words. IndexStands words k.ended ended) is (index_grown k.words w k.ended ended s.ended);
+      holders = s.holders;
       completed = s.completed;
     }

@@ -11,6 +11,7 @@ returns c now s = record {
       (λ j. now.withs ++ named_in_with now.ended (c.ended_in-found.ensures now s.declarations j) (map (λ id. id.name) (c.as_slice.ensures j)))
       (c.in_ok-add_named.ensures now now.withs s.declarations s.withs);
   contexts = s.contexts;
+  used = s.used;
   own_package = s.own_package;
   in_own_body = s.in_own_body;
   body_names = s.body_names;

@@ -6,6 +6,7 @@ returns c now s = record {
   regions = c.in_ok-turn_private.ensures _ _ _ _ s.regions;
   withs = s.withs;
   contexts = s.contexts;
+  used = s.used;
   own_package = s.own_package;
   in_own_body = s.in_own_body;
   body_names = s.body_names;

@@ -20,3 +20,10 @@ returns-clause-only c words word has =
     (inserted_puts c.args.self.now _ c.args.symbol d
     (c.in_ok-insert.ensures.entries ∙ ap (λ table. insert_entry same_key table (d.region, c.args.symbol) d) before))
     (symbol_within words word c.args.symbol has)
+
+pub returns-clause-entries : goal.returns-clause-entries
+returns-clause-entries c =
+    let before : c.self.inside.entries.entries ≡ c.args.self.now = cc c.self.view_is in
+    let d = c.args.declaration in
+    inserted_puts c.args.self.now _ c.args.symbol d
+    (c.in_ok-insert.ensures.entries ∙ ap (λ table. insert_entry same_key table (d.region, c.args.symbol) d) before)

@@ -1,7 +1,7 @@
 use Rattle.std.proofs.Common.{◌∙◌}
 use Rattle.std.proofs.lemmas.List.{map-append}
 use Rattle.name_resolve.proofs.Lists.{listed_pushed}
-use Rattle.name_resolve.proofs.use_lists.UseLists.reach.Goals as goal
+use Rattle.name_resolve.proofs.number_lists.NumberLists.reach.Goals as goal
 
 pub turns-preserved : goal.turns-preserved
 turns-preserved c r =

@@ -4,7 +4,7 @@ use Rattle.name_events.specs.Known.{used_in, visible_members}
 use Rattle.name_resolve.specs.declared.sighting.Sighting.TheVariants.{Nothing}
 use Rattle.name_resolve.specs.Sightings.{sighted_all}
 use Rattle.name_resolve.specs.Tables.{in_use_at}
-use Rattle.name_resolve.proofs.knowledge.Knowledge.sight.Goals as goal
+use Rattle.name_resolve.proofs.knowledge.Knowledge.sight_each.Goals as goal
 
 pub returns : goal.returns
 returns c now w s has =

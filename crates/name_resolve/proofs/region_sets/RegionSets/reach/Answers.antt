@@ -1,0 +1,8 @@
+use Rattle.std.proofs.Common.{◌∙◌}
+use Rattle.std.proofs.lemmas.List.{map-append}
+use Rattle.name_resolve.proofs.Lists.{listed_pushed}
+use Rattle.name_resolve.proofs.region_sets.RegionSets.reach.Goals as goal
+
+pub turns-preserved : goal.turns-preserved
+turns-preserved c r =
+    rw (c.in_ok-push.ensures.items, map-append, c.new.ensures.empty) (listed_pushed _ r ∙ c.turns.invariant r)
