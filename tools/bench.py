@@ -211,8 +211,8 @@ def value_of_many():
 
 
 def types_in_ring():
-    """5,000 private types, each made of the next one, and the last one of the first."""
-    count = 5_000
+    """50,000 private types, each made of the next one, and the last one of the first."""
+    count = 50_000
     lines = ["package P is"] + ["type A%d is private;" % i for i in range(count)] + ["private"]
     lines += ["type A%d is array(1..1)of A%d;" % (i, (i + 1) % count) for i in range(count)]
     return filled("\n".join(lines + ["end P;"]) + "\n")
@@ -280,6 +280,48 @@ def straight_line():
     lists = ["X%d" % i for i in range(500)]
     moves = ["X%d := X%d;" % ((i + 1) % 500, i % 500) for i in range(10_000)]
     return main_procedure([", ".join(lists) + " : List;"], moves)
+
+
+def package_of(declared, bodies):
+    """A package with so many procedures S0, S1, .. of these bodies, and a main procedure."""
+    lines = ["package P is"] + ["procedure S%d;" % i for i in range(len(bodies))] + ["end P;", "package body P is"] + declared
+    lines += ["procedure S%d is\n%s" % (i, body) for i, body in enumerate(bodies)]
+    lines += ["end P;", "with P; procedure Main is begin P.S0; end Main;"]
+    return filled("\n".join(lines) + "\n")
+
+
+CELLS = ["type Cell; type List is access Cell;", "type Cell is record Value : Integer; Next : List; end record;"]
+
+
+def moves_of_many():
+    """16 procedures with 512 lists each, so 512 facts, and 13,000 moves of one to the next."""
+    lists = ["A%d" % i for i in range(512)]
+    moves = ["%s:=%s;" % (lists[(i + 1) % 512], lists[i % 512]) for i in range(13_000)]
+    return package_of(CELLS, [",".join(lists) + ":List;\nbegin\n" + "\n".join(moves) + "\nend;"] * 16)
+
+
+def reads_of_many():
+    """10 procedures with 511 lists that were moved, and 40,500 reads beside them."""
+    lists = ["A%d" % i for i in range(511)]
+    body = "\n".join(["T:=%s;" % name for name in lists] + ["N:=" + "N+" * 8 + "N;"] * 4_500)
+    return package_of(CELLS, [",".join(lists) + ",T:List;N:Integer:=0;\nbegin\n" + body + "\nend;"] * 10)
+
+
+def calls_of_many():
+    """240,000 calls of a procedure that uses 10,000 package objects."""
+    objects = ["O%d:Integer:=0;" % i for i in range(10_000)]
+    used = "procedure C is begin\n" + "\n".join("O%d:=1;" % i for i in range(10_000)) + "\nend C;"
+    return package_of(objects + [used], ["begin\n" + "C;\n" * 15_000 + "end;"] * 16)
+
+
+def names_in_use():
+    """16,000 packages in use, and 99,900 occurrences of a name that only the last one of them has."""
+    names = ["P%d" % i for i in range(16_000)]
+    lines = ["package %s is X%d:Integer:=0;end %s;" % (name, i, name) for i, name in enumerate(names)]
+    used = ",".join(names)
+    lines += ["with %s;use %s;" % (used, used), "procedure Main is begin"]
+    lines += ["X15999:=" + "X15999+" * 997 + "X15999;"] * 100
+    return filled("\n".join(lines + ["end Main;"]) + "\n")
 
 
 def call_cycle():
@@ -353,6 +395,10 @@ def cases():
     yield "branches_in_loop", branches_in_loop(), 1, 60, "O4"
     yield "conditionals_in_row", conditionals_in_row(), 0, 1, None
     yield "straight_line", straight_line(), 0, 1, None
+    yield "moves_of_many", moves_of_many(), 0, 1, None
+    yield "reads_of_many", reads_of_many(), 0, 1, None
+    yield "calls_of_many", calls_of_many(), 0, 1, None
+    yield "names_in_use", names_in_use(), 0, 1, None
     yield "call_cycle", call_cycle(), 0, 1, None
     yield "lists_of_cells_1000", lists_of_cells(1_000), 0, 1, None
     yield "lists_of_cells_10000", lists_of_cells(10_000), 0, 1, None
