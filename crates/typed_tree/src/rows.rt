@@ -1,7 +1,7 @@
 //! Nodes in rows, which contracts see as the typed trees and the typed code that they stand for.
-ghost use Rattle.std.specs.Prelude.{◌≡◌, ◌<◌, [], map, length, IfOk, IsTrue};
+ghost use Rattle.std.specs.Prelude.{◌≡◌, ◌<◌, [], map, length, IfOk, IfSome, IsTrue};
 ghost use Rattle.std.specs.List.{All};
-ghost use Rattle.typed_tree.specs.Trees.{typed_list, typed_code_list};
+ghost use Rattle.typed_tree.specs.Trees.{NoMore, typed_list, typed_code_list};
 ghost use Rattle.typed_tree.specs.Nodes.{is_below, is_code_below, typed_of, typed_code_of, typed_at, typed_code_at, Grew, Holds, HoldsCode};
 
 use crate::code_node::TypedCodeNode;
@@ -9,10 +9,13 @@ use crate::node::TypedNode;
 use std::alloc::{AllocError, Global};
 use std::marker::Model;
 
-/// Typed expressions and statements, each by its number.
+/// Typed expressions and statements, each by its number. All lists have one end.
 pub struct TypedRows {
     nodes: Vec<TypedNode>,
     codes: Vec<TypedCodeNode>,
+    // where the last node stands that was added as the end of a list
+    end: usize,
+    code_end: usize,
 }
 
 impl Model for TypedRows {
@@ -31,7 +34,12 @@ impl Model for TypedRows {
 
 impl Drop for TypedRows {
     fn drop(self) {
-        let Self { nodes: _, codes: _ } = self;
+        let Self {
+            nodes: _,
+            codes: _,
+            end: _,
+            code_end: _,
+        } = self;
     }
 }
 
@@ -43,6 +51,8 @@ impl TypedRows {
         TypedRows {
             nodes: Vec::new(alloc),
             codes: Vec::new(alloc),
+            end: 0,
+            code_end: 0,
         }
     }
 
@@ -60,8 +70,34 @@ impl TypedRows {
         self.codes.len()
     }
 
-    /// Adds a tree that a node makes of those that are there, and gives its number. What was there
-    /// stays, also out of memory.
+    /// The end of a list that is there.
+    fn known_end(&self) -> Option<usize>
+        ensures { IfSome result (λ n. Holds self.now n NoMore) }
+    {
+        if self.end >= self.nodes.len() {
+            return None;
+        }
+        match self.node(self.end) {
+            TypedNode::NoMore => Some(self.end),
+            _ => None,
+        }
+    }
+
+    /// The end of a list of code that is there.
+    fn known_code_end(&self) -> Option<usize>
+        ensures { IfSome result (λ n. HoldsCode self.now n NoMore) }
+    {
+        if self.code_end >= self.codes.len() {
+            return None;
+        }
+        match self.code(self.code_end) {
+            TypedCodeNode::NoMore => Some(self.code_end),
+            _ => None,
+        }
+    }
+
+    /// Adds a tree that a node makes of those that are there, and gives its number: that of one that
+    /// is there for the end of a list. What was there stays, also out of memory.
     #[tactic(auto, using(crate::proofs::Grown::order_tree, crate::proofs::Grown::grew_tree, crate::proofs::Grown::end_tree, crate::proofs::Grown::grew_none))]
     pub fn push(&mut self, node: TypedNode) -> Result<usize, AllocError>
         requires { IsTrue (is_below (length self.old.0) node) }
@@ -69,12 +105,18 @@ impl TypedRows {
         ensures grew { Grew self.old self.new }
     {
         let number = self.nodes.len();
+        if matches!(node, TypedNode::NoMore) {
+            if let Some(end) = self.known_end() {
+                return Ok(end);
+            }
+            self.end = number;
+        }
         self.nodes.push(node)?;
         Ok(number)
     }
 
-    /// Adds code that a node makes of the trees and the code that are there, and gives its number.
-    /// What was there stays, also out of memory.
+    /// Adds code that a node makes of the trees and the code that are there, and gives its number:
+    /// that of code that is there for the end of a list. What was there stays, also out of memory.
     #[tactic(auto, using(crate::proofs::Grown::order_code, crate::proofs::Grown::grew_code, crate::proofs::Grown::end_code, crate::proofs::Grown::grew_none))]
     pub fn push_code(&mut self, node: TypedCodeNode) -> Result<usize, AllocError>
         requires { IsTrue (is_code_below (length self.old.0) (length self.old.1) node) }
@@ -82,6 +124,12 @@ impl TypedRows {
         ensures grew { Grew self.old self.new }
     {
         let number = self.codes.len();
+        if matches!(node, TypedCodeNode::NoMore) {
+            if let Some(end) = self.known_code_end() {
+                return Ok(end);
+            }
+            self.code_end = number;
+        }
         self.codes.push(node)?;
         Ok(number)
     }
