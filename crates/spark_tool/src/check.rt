@@ -24,6 +24,7 @@ use program_check::check_files;
 use rule_reports::{Code, report_lines};
 use spark_base::{FILES, Pos, SOURCE_BYTES};
 use std::alloc::{AllocError, Global};
+use std::mem::ManuallyDrop;
 
 /// The line of a refusal with this position and this code, if it isn't out of memory.
 fn refused(alloc: Global, names: &[String], found: Option<(Pos, Code)>) -> Result<Answer, Stop>
@@ -54,6 +55,15 @@ fn judged(alloc: Global, names: &[String], verdict: &Verdict) -> Result<Answer, 
     }
 }
 
+/// The same. Nothing of a program's size is needed behind its verdict, so what that holds isn't given
+/// back piece by piece.
+fn told(alloc: Global, names: &[String], verdict: Verdict) -> Result<Answer, AllocError>
+    ensures { IfOk result (λ answer. Tells (map string_bytes names.now) verdict (answer_of answer)) }
+{
+    let verdict = ManuallyDrop::new(verdict);
+    judged(alloc, names, &verdict)
+}
+
 /// The answer on the named files whose names have a meaning.
 fn check_resolved(alloc: Global, names: &[String], program: Resolved) -> Result<Answer, Stop>
     requires { name_fault (trees_of program.files.items) ≡ None }
@@ -62,7 +72,7 @@ fn check_resolved(alloc: Global, names: &[String], program: Resolved) -> Result<
     ensures memory { OnErr result (result ≡ Err Stop.Memory) }
 {
     match check_files(alloc, program) {
-        Ok(verdict) => Ok(judged(alloc, names, &verdict)?),
+        Ok(verdict) => Ok(told(alloc, names, verdict)?),
         Err(refusal) => Ok(refused(alloc, names, program_code(refusal))?),
     }
 }

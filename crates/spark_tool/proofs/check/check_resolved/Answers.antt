@@ -7,10 +7,10 @@ use Rattle.spark_tool.specs.Refusals.{IsRefused}
 use Rattle.spark_tool.proofs.Judged.{verdict_answers, refusal_answers}
 use Rattle.spark_tool.proofs.check.check_resolved.Goals as goal
 
-pub returns-in_ok-judged-in-Ok-clause-answer : goal.returns-in_ok-judged-in-Ok-clause-answer
-returns-in_ok-judged-in-Ok-clause-answer c texts read =
+pub returns-in_ok-told-in-Ok-clause-answer : goal.returns-in_ok-told-in-Ok-clause-answer
+returns-in_ok-told-in-Ok-clause-answer c texts read =
     verdict_answers (map string_bytes c.args.names.now) texts (trees_of c.args.program.files.items) c.in-Ok.verdict _ read c.requires c.in-Ok.ensures
-    c.in_ok-judged-in-Ok.ensures
+    c.in_ok-told-in-Ok.ensures
 
 pub returns-in_ok-refused-in-Err-clause-answer : goal.returns-in_ok-refused-in-Err-clause-answer
 returns-in_ok-refused-in-Err-clause-answer c texts read =
