@@ -150,8 +150,19 @@ fn fact(row: &FactRow) -> Result<Fact, TooDeep> {
     })
 }
 
-pub(crate) fn facts(alloc: Global, rows: &[FactRow]) -> Result<Vec<Fact>, Fail> {
+/// The first of the objects that no row names.
+pub(crate) const OTHER: u32 = 100;
+
+/// Up to which object such ones have facts before those of a row: none, or so many that trees keep
+/// an index of their facts.
+pub(crate) const ENDS: [u32; 2] = [OTHER, 140];
+
+/// The facts of a row, behind those that the objects from `OTHER` up to `end` were moved.
+pub(crate) fn facts(alloc: Global, end: u32, rows: &[FactRow]) -> Result<Vec<Fact>, Fail> {
     let mut made = Vec::new(alloc);
+    for other in OTHER..end {
+        made.push(Fact::Moved(PlaceName::new(other)))?;
+    }
     for row in rows {
         made.push(fact(row)?)?;
     }
@@ -174,16 +185,18 @@ pub(crate) fn tree_behind<'f>(
 }
 
 /// Whether a tree says this: a letter for each fact, `-` where it doesn't hold, `m` where it may
-/// hold and may not, `a` where it always holds.
+/// hold and may not, `a` where it always holds. None of the facts before these holds.
 pub(crate) fn shows(tree: &Tree<'_>, want: &str) -> bool {
     let want = want.as_bytes();
     let count = tree.facts().len();
-    if count != want.len() {
+    if count < want.len() {
         return false;
     }
+    let others = count - want.len();
     for i in 0..count {
         let fact = i as u32;
-        let holds = match want[i] {
+        let letter = if i < others { b'-' } else { want[i - others] };
+        let holds = match letter {
             b'a' => (true, true),
             b'm' => (true, false),
             _ => (false, false),

@@ -1,5 +1,7 @@
 //! What holds where paths meet.
-use crate::build::{ALL, ActRow, FactRow, Kind, NONE, WHOLE, act, facts, shows, tree_behind};
+use crate::build::{
+    ALL, ActRow, ENDS, FactRow, Kind, NONE, OTHER, WHOLE, act, facts, shows, tree_behind,
+};
 use place_names::{Fact, Loan, PlaceName, Sel, State};
 use state_trees::Tree;
 use std::alloc::Global;
@@ -59,12 +61,14 @@ fn meet<'f>(
 #[test]
 fn branches(rt: HostRuntime) -> Result<(), Fail> {
     let alloc = rt.alloc();
-    let facts = facts(alloc, FACTS)?;
-    for row in &ROWS {
-        let (tree, changed) = meet(alloc, &facts, row.0, row.1)?;
-        assert!(rt; changed == row.3 && shows(&tree, row.2));
-        let before = tree_behind(alloc, &facts, row.0)?;
-        assert!(rt; before.same(&tree) != changed);
+    for end in &ENDS {
+        let facts = facts(alloc, *end, FACTS)?;
+        for row in &ROWS {
+            let (tree, changed) = meet(alloc, &facts, row.0, row.1)?;
+            assert!(rt; changed == row.3 && shows(&tree, row.2));
+            let before = tree_behind(alloc, &facts, row.0)?;
+            assert!(rt; before.same(&tree) != changed);
+        }
     }
     Ok(())
 }
@@ -73,7 +77,7 @@ fn branches(rt: HostRuntime) -> Result<(), Fail> {
 #[test]
 fn behind_a_join(rt: HostRuntime) -> Result<(), Fail> {
     let alloc = rt.alloc();
-    let facts = facts(alloc, FACTS)?;
+    let facts = facts(alloc, OTHER, FACTS)?;
     let (mut tree, _changed) = meet(alloc, &facts, &[], &[(Kind::Move(WHOLE), 1, NONE)])?;
     let mut written = tree.copy()?;
     written.apply(&act(alloc, &(Kind::Write, 1, NONE))?)?;
@@ -86,7 +90,7 @@ fn behind_a_join(rt: HostRuntime) -> Result<(), Fail> {
 #[test]
 fn overlapping(rt: HostRuntime) -> Result<(), Fail> {
     let alloc = rt.alloc();
-    let facts = facts(alloc, FACTS)?;
+    let facts = facts(alloc, OTHER, FACTS)?;
     let tree = tree_behind(alloc, &facts, &[(Kind::Borrow(2), 1, NONE)])?;
     let mut below = PlaceName::new(1);
     below.push(Sel::Deref)?;

@@ -1,7 +1,7 @@
 //! What holds along single paths, and what is found at the act behind them.
 use crate::build::{
-    ALL, ActRow, ELEM, FIRST, FactRow, FoundRow, Kind, NONE, SECOND, WHOLE, act, are_found, facts,
-    shows, tree_behind,
+    ALL, ActRow, ELEM, ENDS, FIRST, FactRow, FoundRow, Kind, NONE, SECOND, WHOLE, act, are_found,
+    facts, shows, tree_behind,
 };
 use borrow_observe::test_loans;
 use move_rules::{Found, test_moves};
@@ -327,11 +327,13 @@ fn found_at(alloc: Global, tree: &Tree<'_>, row: &ActRow) -> Result<Vec<Found>, 
 #[test]
 fn paths(rt: HostRuntime) -> Result<(), Fail> {
     let alloc = rt.alloc();
-    for row in &ROWS {
-        let facts = facts(alloc, row.facts)?;
-        let tree = tree_behind(alloc, &facts, row.acts)?;
-        assert!(rt; shows(&tree, row.holds));
-        assert!(rt; are_found(&found_at(alloc, &tree, &row.then)?, row.found));
+    for end in &ENDS {
+        for row in &ROWS {
+            let facts = facts(alloc, *end, row.facts)?;
+            let tree = tree_behind(alloc, &facts, row.acts)?;
+            assert!(rt; shows(&tree, row.holds));
+            assert!(rt; are_found(&found_at(alloc, &tree, &row.then)?, row.found));
+        }
     }
     Ok(())
 }
