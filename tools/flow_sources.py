@@ -1,8 +1,8 @@
 #!/usr/bin/env python3
-"""Writes the sources in crates/flow_tests/data as terms of the proofs.
+"""Writes the sources in data/ of flow_tests and of machine_tests as terms of the proofs.
 
-    tools/flow_sources.py          writes crates/flow_tests/proofs/Sources.antt
-    tools/flow_sources.py --check  ends with 1 where it isn't what would be written
+    tools/flow_sources.py          writes proofs/Sources.antt of both crates
+    tools/flow_sources.py --check  ends with 1 where they aren't what would be written
 """
 import argparse
 import re
@@ -10,7 +10,7 @@ import sys
 
 import tree_terms
 
-CRATE = tree_terms.TOP / "crates" / "flow_tests"
+CRATES = tree_terms.TOP / "crates"
 HEAD = """-- The resolved trees of the sources in data/.
 --
 -- tools/flow_sources.py makes this.
@@ -18,9 +18,12 @@ HEAD = """-- The resolved trees of the sources in data/.
 
 
 class SourceLemmas(tree_terms.TypeLemmas):
-    """The imports of the terms."""
+    """The terms of the sources of a crate, with their imports."""
 
-    crate = "flow_tests"
+    def __init__(self, crate):
+        self.crate = crate
+        super().__init__()
+
     words = {
         ("flow_tests.proofs.ResolvedTrees" if module.startswith("type_tests") else module): words
         for module, words in tree_terms.TypeLemmas.words.items()
@@ -33,7 +36,7 @@ class SourceLemmas(tree_terms.TypeLemmas):
         return ["", "abbrev pub %s : Program" % path.stem] + lines
 
     def text(self):
-        lines = sum([self.term(path) for path in sorted((CRATE / "data").glob("*.adb"))], [])
+        lines = sum([self.term(path) for path in sorted((self.folder / "data").glob("*.adb"))], [])
         body = "\n".join(lines) + "\n"
         imports = self.imports(body)
         imports[0] = "use Rattle.std.specs.Prelude.{[], ◌∷◌}"
@@ -44,10 +47,13 @@ class SourceLemmas(tree_terms.TypeLemmas):
 def main():
     options = argparse.ArgumentParser()
     options.add_argument("--check", action="store_true")
-    path, text = CRATE / "proofs" / "Sources.antt", SourceLemmas().text()
-    if options.parse_args().check:
-        return 0 if path.exists() and path.read_text() == text else 1
-    path.write_text(text)
+    check = options.parse_args().check
+    for crate in "flow_tests", "machine_tests":
+        path, text = CRATES / crate / "proofs" / "Sources.antt", SourceLemmas(crate).text()
+        if not check:
+            path.write_text(text)
+        elif not path.exists() or path.read_text() != text:
+            return 1
     return 0
 
 

@@ -1,0 +1,4 @@
+pub mod Sources
+pub mod Running
+pub mod Rows
+pub mod Typed

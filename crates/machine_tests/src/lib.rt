@@ -1,0 +1,2 @@
+//! Tests of the definition of runs: what small programs write, and how they end.
+#![tactic(auto)]

@@ -1,0 +1,3 @@
+pub mod Division
+pub mod Numbers
+pub mod Found
