@@ -1,8 +1,8 @@
 -- Which words an expression gives, and which points of a program are typed (docs/RUN.md, "Words").
 --
 -- The words of a type have sorts: a value of Integer, one of an enumeration, or an access value that
--- designates objects of a type. A program that breaks no rule of typing is typed in this sense: each
--- place takes words of its own sorts, and no name leads out of what it names.
+-- designates objects of a type. In a typed program each place takes words of its own sorts, and no name
+-- leads out of what it names. That the rules of typing see to it isn't proved (docs/PROVED.md).
 use Rattle.std.specs.Prelude.{ℕ, zero, suc, Bool, true, false, ◌&&◌, ◌||◌, List, [], ◌∷◌, ◌++◌, flat_map, length, slice_get, nat_eq, nat_lt, Option, Some, None, is_some, if◌then◌else◌}
 use Rattle.std.specs.List.{list_all}
 use Rattle.resolved_tree.specs.declared.operator.Operator.{Operator}
