@@ -12,14 +12,14 @@ type Row = (u32, Rule, Option<State>, u32, &'static str);
 const COME: [(Row, usize); 10] = [
     ((9, Rule::O1, Some(State::Moved), 1, "X"), 7),
     ((8, Rule::O4, Some(State::Moved), 1, "X"), 4),
-    ((8, Rule::O1, Some(State::Borrowed), 1, "X"), 0),
-    ((8, Rule::O1, Some(State::Moved), 1, "X"), 2),
-    ((8, Rule::O1, Some(State::Moved), 2, "X"), 1),
+    ((8, Rule::O1, Some(State::Borrowed), 1, "X"), 2),
+    ((8, Rule::O1, Some(State::Moved), 1, "X"), 1),
+    ((8, Rule::O1, Some(State::Moved), 2, "X"), 0),
     ((8, Rule::O1, Some(State::Moved), 3, "b"), 3),
     ((9, Rule::O1, Some(State::Moved), 1, "X"), 7),
     ((8, Rule::V1, None, 1, "X"), 6),
     ((8, Rule::A1, None, 1, "X"), 5),
-    ((8, Rule::O1, Some(State::Moved), 1, "X"), 2),
+    ((8, Rule::O1, Some(State::Moved), 1, "X"), 1),
 ];
 
 fn printed(alloc: Global, row: &Row) -> Result<PrintedReport, AllocError> {

@@ -47,7 +47,7 @@ pub rule_cmp-equal : (a b : Rule) → rule_cmp a b ≡ Equal → a ≡ b
 rule_cmp-equal a b e = rule_rank-equal a b (nat_cmp-equal (rule_rank a) (rule_rank b) (sym (rule_cmp-ranks a b) ∙ e))
 
 abbrev ranked_words : List (Option State)
-ranked_words = None ∷ Some state.Borrowed ∷ Some state.Moved ∷ Some state.Observed ∷ []
+ranked_words = None ∷ Some state.Moved ∷ Some state.Borrowed ∷ Some state.Observed ∷ []
 
 word_at_rank : (a : Option State) → get_or ranked_words (word_rank a) None ≡ a
 word_at_rank None = refl

@@ -64,12 +64,12 @@ rule_rank V2 = 16
 rule_rank V3 = 17
 rule_rank V4 = 18
 
--- The rank of a word, in the order of its bytes: borrowed, moved, observed. Two reports of one rule
--- both have a word or both have none.
+-- The rank of a word: moved, borrowed, observed. Two reports of one rule both have a word or both
+-- have none.
 abbrev pub word_rank : Option State → ℕ
 word_rank None = 0
-word_rank (Some state.Borrowed) = 1
-word_rank (Some state.Moved) = 2
+word_rank (Some state.Moved) = 1
+word_rank (Some state.Borrowed) = 2
 word_rank (Some state.Observed) = 3
 
 -- Components go by their numbers, and stand before some element and what is designated.

@@ -11,13 +11,14 @@ pub enum Loan {
     Observed,
 }
 
-/// The word of a report: which kind of fact forbids the act. Words go in the order of their bytes.
+/// The word of a report: which kind of fact forbids the act. The variants stand in the order of
+/// reports.
 #[derive(Clone, Copy, Debug, PartialEq, Eq, PartialOrd, Ord)]
 pub enum State {
-    /// The place is borrowed.
-    Borrowed,
     /// The place was moved.
     Moved,
+    /// The place is borrowed.
+    Borrowed,
     /// The place is observed.
     Observed,
 }
@@ -28,8 +29,8 @@ impl State {
         ensures { result.now ≡ state_text self }
     {
         match self {
-            State::Borrowed => "borrowed",
             State::Moved => "moved",
+            State::Borrowed => "borrowed",
             State::Observed => "observed",
         }
     }
