@@ -8,8 +8,8 @@
     python3 tools/what_it_finds.py --program ./spark   ends with 1 where `spark check` answers otherwise
 
 The programs and the lines of `spark` are those of crates/spark_examples/data; what GNAT says and does is read
-from tools/what_it_finds.json, so that only --run-gnat needs GNAT. A new mistake is a new row of ROWS, and then
---run-gnat.
+from tools/what_it_finds.json, so that only --run-gnat needs GNAT. A new mistake is a new row of ROWS, a program that is
+right and breaks a rule one of RIGHT, one that `spark` accepts one of NOT_FOUND; after that comes --run-gnat.
 """
 import json
 import pathlib
@@ -35,18 +35,24 @@ RUNS = 10
 
 
 class Row(NamedTuple):
-    """A mistake: what it is, how it comes about, and the example that has it, with further files of its program."""
+    """A program: what it shows, how it comes about, its example, and further files of the program."""
 
     title: str
     text: str
     path: str
     others: list = []
+    # what does the same and is accepted, and how it is written
+    mended: str = ""
+    mend: str = ""
 
 
 HEAD = """
 # What `spark` finds, and what happens without it
 
 Each section has a program with a mistake, the lines that `spark check` prints for it, and what GNAT 12 says and does.
+Two further parts have [what it reports though nothing goes wrong](#what-it-reports-though-nothing-goes-wrong) and
+[what it doesn't find](#what-it-doesnt-find).
+
 All of these programs are Ada that GNAT accepts. Each was compiled with all warnings but the advice to write
 `constant` (`gcc -c -gnatc -gnatwa -gnatwK`); built with assertions and all checks, validity checks included
 (`gnatmake -gnata -gnatVa`); and built without checks (`gnatmake -gnatp`).
@@ -54,8 +60,16 @@ All of these programs are Ada that GNAT accepts. Each was compiled with all warn
 Both builds were run ten times, on Linux with the GNU C library and without input. What a program does after a
 mistake depends on the compiler, the library and the addresses of that run; the page says what was seen.
 
-The programs are files of `crates/spark_examples/data`. They stand here without their heads; the line numbers are those
-of the files, heads included. This page is made by `tools/what_it_finds.py`, which also says how to try it again.
+The programs are files of `crates/spark_examples/data`. They are shown here without their heads; the line numbers are
+those of the files, heads included. `tools/what_it_finds.py` makes this page, and says how to try it again.
+"""
+
+THOUGH_RIGHT = """
+## What it reports though nothing goes wrong
+
+The rules look at each control path, whatever is tested on it; they know no index of an array, and a loan lasts to the
+end of a scope. So they also forbid programs that are right. Each of these does what its author wants, but
+breaks a rule. Below it is a program that does the same and is accepted.
 """
 
 TAIL = """
@@ -70,25 +84,25 @@ ROWS = [
         "`Y := X` copies an address in Ada. The object is freed through one name, and read through the other.",
         "rules/O1_use_after_free.adb",
     ),
-    Row("An object is freed twice", "The same with a second free.", "rules/O14_double_free.adb"),
+    Row("An object is freed twice", "As above, with a second free.", "rules/O14_double_free.adb"),
     Row(
-        "One branch frees what is read behind it",
-        "A test shows it only where a run takes this branch. `spark` looks at each branch.",
+        "One branch frees what is read after it",
+        "A test shows it only if its run takes this branch. `spark` looks at each branch.",
         "rules/O1_freed_on_a_branch.adb",
     ),
     Row(
-        "A loop frees what its next turn uses",
-        "The first turn is right. The second one reads what the first one freed, and frees it again.",
+        "A loop frees what its next iteration uses",
+        "The first iteration is right. The second one reads what the first one freed, and frees it again.",
         "rules/O1_freed_in_a_loop.adb",
     ),
     Row(
         "An object is changed through a second name",
-        "Nothing is freed here, so no tool for memory finds it. The author took Count for a copy.",
+        "Nothing is freed here, so no tool that watches memory finds it. The author took Count for a copy.",
         "rules/O1_changed_by_a_second_name.adb",
     ),
     Row(
         "Two lists share their cells",
-        "M takes the list over, but L is used further. To drop the first cell of L frees a cell of M.",
+        "M takes the list over, but L is still used. Dropping the first cell of L frees a cell of M.",
         "rules/O10_two_lists_with_one_rest.adb",
     ),
     Row(
@@ -103,7 +117,7 @@ ROWS = [
     ),
     Row(
         "An observer outlives its source",
-        "C is given an object of an inner block, which frees it at its end.",
+        "C is assigned an object of an inner block, and the block frees it at its end.",
         "rules/V2_freed_in_the_inner_block.adb",
     ),
     Row(
@@ -113,7 +127,7 @@ ROWS = [
     ),
     Row(
         "A call frees a package object that is looked at",
-        "What a call does isn't seen where it stands. `spark` finds from the bodies what each subprogram reads and writes.",
+        "The call doesn't show what it does. `spark` finds from the bodies what each subprogram reads and writes.",
         "rules/O11_freed_while_observed.adb",
     ),
     Row(
@@ -123,28 +137,28 @@ ROWS = [
     ),
     Row(
         "Two actuals are one object",
-        "GNAT passes an array by its address, so what is written to To changes From. Right would be `5 4 3 2 1`.",
+        "GNAT passes an array by its address, so a write to To changes From. The right output is `5 4 3 2 1`.",
         "rules/A1_turned_onto_itself.adb",
     ),
     Row(
         "An actual is a package object that the callee changes",
-        "The formal By changes with Kept, under the hand of the procedure. Right would be `1 2 3 4 5`.",
+        "The formal By changes with Kept while the procedure runs. The right output is `1 2 3 4 5`.",
         "rules/A2_halved_by_itself.adb",
     ),
     Row(
         "A function changes a package object",
-        "Ada leaves open which operand is evaluated first, so the value of such an expression is open too.",
+        "Ada doesn't say which operand is evaluated first, so the value of such an expression isn't defined either.",
         "rules/V1_order_of_evaluation.adb",
     ),
     Row(
         "A procedure changes what it is given to read",
-        "The formal is of mode `in`, but Ada protects only the record itself, and not what it leads to.",
+        "The formal is of mode `in`, but Ada protects only the record itself, not what its access values designate.",
         "rules/V1_reader_that_writes.adb",
     ),
     Row(
         "A package is used wrongly in another file",
         """The specification and the body of the package, [queues.ads](../crates/spark_examples/data/queue/queues.ads) and
-        [queues.adb](../crates/spark_examples/data/queue/queues.adb), are right.""",
+        [queues.adb](../crates/spark_examples/data/queue/queues.adb), have no mistake.""",
         "queue/main.adb",
         QUEUE,
     ),
@@ -166,8 +180,60 @@ NOT_FOUND = [
         "R (2) was given no value. `spark` doesn't follow the values of objects.",
         "accepted/O1_no_value_yet.adb",
     ),
+    Row(
+        "An index is out of bounds",
+        """The last iteration writes to an element that isn't there. Ada has a check for it; without the check, the write
+        changes the component after the array. The right output is `6`.""",
+        "accepted/O3_index_out_of_bounds.adb",
+    ),
+    Row(
+        "A recursion doesn't end",
+        "Each call makes another one, until the stack is full.",
+        "accepted/O11_endless_recursion.adb",
+    ),
 ]
 
+RIGHT = [
+    Row(
+        "Two conditions that belong together",
+        """X is read only if it wasn't moved, since both branches test the same. `spark` doesn't follow values, so it looks at
+        the path through both branches, too.""",
+        "rules/O1_same_condition_twice.adb",
+        mended="accepted/O1_one_condition.adb",
+        mend="With one `if` the read and the move are on different paths.",
+    ),
+    Row(
+        "A branch that is never taken",
+        "No run moves X. Each branch counts as taken all the same, even with the condition `False`.",
+        "rules/O1_moved_under_if_false.adb",
+        mended="accepted/O1_new_value_under_if_false.adb",
+        mend="The branch gives X a value again. A branch that isn't wanted may also be taken out.",
+    ),
+    Row(
+        "An observer that isn't used any more",
+        "C observes X to the end of its scope, which here is the end of the procedure.",
+        "rules/O3_observer_used_no_more.adb",
+        mended="accepted/O3_observer_in_a_block.adb",
+        mend="The observer gets a block of its own, which ends before the write.",
+    ),
+    Row(
+        "Two elements of an array",
+        "All elements of an array are one place, so with R (1) every element counts as moved.",
+        "rules/O1_another_element.adb",
+        mended="accepted/O1_element_by_a_procedure.adb",
+        mend="""A procedure with an `in out` formal takes the element out and leaves null in its place. It returns with a value
+        in each formal, so nothing of the array is moved after the call.""",
+    ),
+    Row(
+        "The rest of a list that was moved",
+        "`Old := L` moves the whole list, so `L.Next` may no longer be used under this name.",
+        "rules/O4_old_head.adb",
+        mended="accepted/O4_rest_of_the_old_head.adb",
+        mend="The rest is moved out of Old, which owns the cell now.",
+    ),
+]
+
+ALL = ROWS + RIGHT + NOT_FOUND + [Row("", "", row.mended) for row in RIGHT]
 # What `spark` accepts, next to a row.
 MENDED = [Row("", "", "queue/mended.adb", QUEUE)]
 
@@ -235,7 +301,7 @@ def gnat_answers(row):
 
 def run_gnat():
     version = ran(TOP, "gcc", "--version").stdout.splitlines()[0]
-    answers = {row.path: gnat_answers(row) for row in ROWS + NOT_FOUND}
+    answers = {row.path: gnat_answers(row) for row in ALL}
     ANSWERS.write_text(json.dumps({"compiler": version, "programs": answers}, indent=1, sort_keys=True) + "\n")
 
 
@@ -255,7 +321,7 @@ def does(found):
     ends = " or ".join(re.sub(r" \((.*)\)$", r" (`\1`)", text) for text in found["endings"])
     if found["output"] == "" and ends != "ends normally":
         return ends
-    return "%s, and %s" % (output_text(found["output"]), ends)
+    return "%s and %s" % (output_text(found["output"]), ends)
 
 
 def lines_of(row, example):
@@ -264,17 +330,30 @@ def lines_of(row, example):
 
 def section(row, answers, level):
     example = errors_page.read_example(row.path)
+    answers = answers[row.path]
     said = answers["warnings"]
     parts = ["%s %s" % (level, row.title), errors_page.wrapped(row.text)]
     parts += [errors_page.filled(errors_page.link(row.path)), errors_page.program_of(example)]
     parts += ["`spark check` prints:", lines_of(row, example)]
-    parts.append("GNAT, when it compiles, %s" % ("says:\n\n```\n%s\n```" % "\n".join(said) if said else "says nothing."))
+    parts.append("GNAT compiles it and says%s" % (":\n\n```\n%s\n```" % "\n".join(said) if said else " nothing."))
     checked, unchecked = (does(answers[build]) for build in BUILDS)
     if checked == unchecked:
-        parts.append(errors_page.filled("Built with checks and without, it %s." % checked))
+        parts.append(errors_page.filled("Built with and without checks, it %s." % checked))
     else:
         parts.append(errors_page.filled("Built with checks it %s. Built without, it %s." % (checked, unchecked)))
     return "\n\n".join(parts)
+
+
+def right_section(row, answers):
+    """A program that is right and breaks a rule, and the one in its place, which has to do the same."""
+    mended = errors_page.read_example(row.mended)
+    assert (mended.status, mended.expected) == (0, ["accepted"]), row
+    assert not answers[row.mended]["warnings"], row
+    for build in BUILDS:
+        assert answers[row.mended][build] == answers[row.path][build], row
+    accepted = errors_page.filled("**Accepted:** " + errors_page.link(row.mended))
+    parts = [section(row, answers, "###"), accepted]
+    return "\n\n".join([*parts, errors_page.wrapped(row.mend), errors_page.program_of(mended), "It does the same."])
 
 
 def codes(example):
@@ -282,9 +361,9 @@ def codes(example):
     return ", ".join(found) or "accepted"
 
 
-def table(answers):
-    rows = ["| mistake | `spark` | GNAT compiles | with checks it | without it |", "|---|---|---|---|---|"]
-    for row in ROWS + NOT_FOUND:
+def table(rows_of, answers, what):
+    rows = ["| %s | `spark` | GNAT compiles | with checks it | without it |" % what, "|---|---|---|---|---|"]
+    for row in rows_of:
         found = answers[row.path]
         cells = ["[%s](#%s)" % (row.title, errors_page.slug(row.title)), codes(errors_page.read_example(row.path))]
         cells.append("with a warning" if found["warnings"] else "without a word")
@@ -303,10 +382,12 @@ def short(found):
 
 def made():
     answers = json.loads(ANSWERS.read_text())["programs"]
-    parts = [errors_page.wrapped(HEAD), table(answers)]
-    parts += [section(row, answers[row.path], "##") for row in ROWS]
+    parts = [errors_page.wrapped(HEAD), table(ROWS + NOT_FOUND, answers, "mistake")]
+    parts += [section(row, answers, "##") for row in ROWS]
+    parts += [errors_page.wrapped(THOUGH_RIGHT), table(RIGHT, answers, "program")]
+    parts += [right_section(row, answers) for row in RIGHT]
     parts += [errors_page.wrapped(TAIL)]
-    parts += [section(row, answers[row.path], "###") for row in NOT_FOUND]
+    parts += [section(row, answers, "###") for row in NOT_FOUND]
     return "\n\n".join(parts) + "\n"
 
 
@@ -334,7 +415,7 @@ def main():
             return 1
     elif len(words) == 2 and words[0] == "--program":
         program = str(pathlib.Path(words[1]).resolve())
-        rows = ROWS + NOT_FOUND + MENDED
+        rows = ALL + MENDED
         found = [text for text in (differs(program, row) for row in rows) if text]
         print("\n".join(found + ["%d programs, %d differ" % (len(rows), len(found))]))
         return 1 if found else 0
