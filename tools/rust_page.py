@@ -1,11 +1,12 @@
 #!/usr/bin/env python3
 """Compiles the programs of docs/FROM_RUST.md, and compares what the compilers say with the page.
 
-    python3 tools/rust_page.py [--program PATH]
+    python3 tools/rust_page.py [--program PATH [--only-spark]]
 
 The first line of a Rust program names the errors that rustc gives, or says that it is accepted. GNAT
 accepts each Ada program. With --program, as ./spark, the lines that `spark check main.adb` prints
-are compared with the first lines of the Ada program too. rustc and GNAT are needed.
+are compared with the first lines of the Ada program too. rustc and GNAT are needed, except with
+--only-spark, which looks at the Ada programs alone and compiles nothing.
 """
 import argparse
 import pathlib
@@ -50,10 +51,10 @@ def gnat_refusal(folder):
         return said if status != 0 else ""
 
 
-def ada_differs(folder, text, program):
+def ada_differs(folder, text, program, is_compiled):
     wanted = re.findall(r"^--  spark: (.*)$", text, re.M)
     (folder / "main.adb").write_text(text)
-    said = gnat_refusal(folder)
+    said = gnat_refusal(folder) if is_compiled else ""
     if said:
         return "GNAT: " + said
     if program:
@@ -66,14 +67,22 @@ def ada_differs(folder, text, program):
 def main():
     words = argparse.ArgumentParser()
     words.add_argument("--program")
+    words.add_argument("--only-spark", action="store_true")
     given = words.parse_args()
+    if given.only_spark and not given.program:
+        words.error("--only-spark needs --program")
     program = given.program and str(pathlib.Path(given.program).resolve())
     count, wrong = 0, 0
     with tempfile.TemporaryDirectory() as name:
         folder = pathlib.Path(name)
         for language, line, text in programs():
+            if language == "rust" and given.only_spark:
+                continue
             count += 1
-            differs = rust_differs(folder, text) if language == "rust" else ada_differs(folder, text, program)
+            if language == "rust":
+                differs = rust_differs(folder, text)
+            else:
+                differs = ada_differs(folder, text, program, not given.only_spark)
             if differs:
                 wrong += 1
                 print("docs/FROM_RUST.md:%d: %s" % (line, differs))
