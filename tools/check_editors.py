@@ -3,21 +3,27 @@
 
     python3 tools/check_editors.py
 
-Each matcher of lines (VS Code, GitHub, Vim) has to take each report and each refusal with the right
-file, line, column, code and text, and no other line. The man page has to render without a warning,
-and to name each command, status, code and limit of today. The completions are run, or read, by
-their shells. What isn't installed is left out, and a note says so. Status 1 where something is
-wrong; each fault is a line on standard error.
+Each matcher of lines (VS Code, GitHub, Vim, Emacs, GNAT Studio) has to take each report and each
+refusal with the right file, line, column, code and text, and no other line. The man page has to
+render without a warning, and to name each command, status, code, rule and limit of today. The
+completions are run, or read, by their shells. The scripts in the pipelines, the makefile and the
+hook are run with stand-ins for `rt`, `git` and `spark-show`, and have to give them the right words
+and to fail if they do. What isn't installed is left out, and a note says so. Status 1 if something
+is wrong; each fault is a line on standard error.
 """
 import collections
+import contextlib
+import importlib.util
 import json
 import os
 import pathlib
 import re
+import shlex
 import shutil
 import subprocess
 import sys
 import tempfile
+import types
 
 TOP = pathlib.Path(__file__).resolve().parent.parent
 EDITORS = TOP / "editors"
@@ -53,8 +59,8 @@ WORDS = [
     "not rooted in the borrower",
 ]
 
-# What other commands will write, and what the script `spark` says while it builds. None of this is
-# a report or a refusal.
+# What other commands will write, what the script `spark` says while it builds, and what spark-show
+# says below a line. None of this is a report or a refusal.
 OTHERS = [
     "main.adb:8:36: leak of cell 4",
     "a b.adb:8:36: X.all checked",
@@ -70,6 +76,10 @@ OTHERS = [
     "spark: proving ada_lexer, 2 of 14 (1 min 5 s)",
     "spark: the build failed; the end of its log:",
     "src/lib.rt:3:4: error: not proved",
+    "   14 |       Put_Line (Integer'Image (X.all));",
+    "      |                                ^",
+    "      = O1: a read of what is moved or borrowed (docs/ERRORS.md)",
+    "make: *** [spark.mk:11: spark] Error 1",
     "",
 ]
 
@@ -118,9 +128,10 @@ class Page:
         statuses = table(page, "status", "today")
         self.statuses = {status for status, today in statuses if today.startswith("yes")}
         refusals = table(page, "code", "text", "today")
+        self.rules = dict(table(page, "rule", "what it forbids"))
         self.texts = {code: text for code, text, _ in refusals}
         self.today = {code: text for code, text, today in refusals if today.startswith("yes")}
-        # (a limit that isn't one of today has "to come" behind its code)
+        # (a limit that isn't one of today has "to come" after its code)
         limits = table(page, "number", "beyond it")
         limits = [cell for cell, beyond in limits if "to come" not in beyond]
         self.limits = {number for cell in limits for number in re.findall(r"\d[\d,]*", cell)}
@@ -218,6 +229,77 @@ def check_patterns(wanted, others):
     lines = [*map(shown, wanted), *others]
     for who, pattern in patterns:
         compare(who, wanted, {line: by_pattern(pattern, line) for line in lines}, others)
+
+
+def check_emacs(wanted, others):
+    """The pattern of Emacs, read as one of Python."""
+    who = "editors/emacs/spark.el"
+    text = (EDITORS / "emacs/spark.el").read_text(encoding="utf-8")
+    found = re.search(r"""'\("((?:[^"\\]|\\.)*)" (\d) (\d) (\d)\)""", text)
+    if not found or text.count("(") - text.count(r"\\(") != text.count(")") - text.count(r"\\)"):
+        return fault(who + " has no pattern, or its parentheses don't match")
+    pattern = re.sub(r"\\(.)", r"\1", found[1])
+    # (in Emacs a group is \( \), and a bare parenthesis stands for itself)
+    signs = {r"\(": "(", r"\)": ")", "(": r"\(", ")": r"\)"}
+    pattern = re.compile(re.sub(r"\\?[()]", lambda sign: signs[sign[0]], pattern), re.M)
+    places = [int(found[at]) for at in (2, 3, 4)]
+    # (a pattern of Emacs can't look ahead, so it takes lines of `spark leaks` too, once that is there)
+    to_come = [line for line in others if re.search(r" (checked|excused)$", line)]
+    by_line = {shown(it): it for it in wanted}
+    for line in [*by_line, *others]:
+        taken = pattern.search(line)
+        got = taken and [taken[place] for place in places]
+        want = by_line.get(line)
+        if line not in to_come and got != (want and [want.file, str(want.line), str(want.column)]):
+            fault("%s: %r is taken as %s" % (who, line, got))
+
+
+def lines_of_gnat_studio(lines):
+    """What the plug-in of GNAT Studio lists for these lines, and the command that it ran."""
+    listed, commands = [], []
+
+    class Process:
+        def __init__(self, command, on_exit):
+            commands.append(command)
+            on_exit(self, 1, "\n".join(lines) + "\n")
+
+    sources = [types.SimpleNamespace(path=path) for path in ("/p/a.ads", "/p/a.adb", "/p/a.c")]
+    project = types.SimpleNamespace(sources=lambda recursive: sources)
+    editor = types.ModuleType("GPS")
+    editor.Process, editor.File = Process, str
+    editor.Project = types.SimpleNamespace(root=lambda: project)
+    editor.Console = lambda name: types.SimpleNamespace(write=lambda text: None)
+    add = lambda category, *place: listed.append(Line(*place[:3], *place[3].partition(" ")[::2]))
+    editor.Locations = types.SimpleNamespace(add=add, remove_category=lambda category: listed.clear())
+    helper = types.ModuleType("gps_utils")
+    helper.interactive = lambda **words: lambda function: function
+    with modules(GPS=editor, gps_utils=helper):
+        spec = importlib.util.spec_from_file_location("spark_plug_in", EDITORS / "gnatstudio/spark.py")
+        plug_in = importlib.util.module_from_spec(spec)
+        spec.loader.exec_module(plug_in)
+        plug_in.check()
+    return listed, commands
+
+
+@contextlib.contextmanager
+def modules(**stand_ins):
+    """Imports find these modules for a while."""
+    sys.modules.update(stand_ins)
+    try:
+        yield
+    finally:
+        for name in stand_ins:
+            del sys.modules[name]
+
+
+def check_gnat_studio(wanted, others):
+    who = "editors/gnatstudio/spark.py"
+    told, commands = lines_of_gnat_studio([*others, *map(shown, wanted), *others])
+    if told != wanted:
+        wrong = [pair for pair in zip(told, wanted) if pair[0] != pair[1]][:1]
+        fault("%s: %d lines are taken in place of %d; %s" % (who, len(told), len(wanted), wrong))
+    if commands != [["spark-show", "--order", "/p/a.ads", "/p/a.adb"]]:
+        fault("%s runs %s" % (who, commands))
 
 
 def error_format():
@@ -330,11 +412,12 @@ def check_man(tool):
     # (11 is that of the script, which the table doesn't have)
     same("status", tool.statuses | {"11"}, {tag for tag, _ in entries(page, "EXIT STATUS")})
     same("limit", tool.limits, {tag for tag, _ in entries(page, "LIMITS")})
-    refusals = entries(page, "REFUSALS")
-    same("code", set(tool.today), {tag for tag, _ in refusals})
-    for code, text in refusals:
-        if not text.startswith(tool.today.get(code, "")):
-            fault("editors/spark.1 has %r for %s in place of %r" % (text, code, tool.today[code]))
+    for what, section, texts in (("code", "REFUSALS", tool.today), ("rule", "RULES", tool.rules)):
+        told = entries(page, section)
+        same(what, set(texts), {tag for tag, _ in told})
+        for code, text in told:
+            if not text.startswith(texts.get(code, "")):
+                fault("editors/spark.1 has %r for %s in place of %r" % (text, code, texts[code]))
     renderers = ["man --warnings -E UTF-8 -l -Tutf8 -Z", "groff -ww -man -Tutf8 -Z"]
     renderers += ["mandoc -Tlint -Wwarning"]
     found = [words.split() for words in renderers if shutil.which(words.split()[0])]
@@ -384,7 +467,7 @@ def check_bash(tool):
             got = completed(folder, *words)
             if got != wanted:
                 texts = " ".join(["spark", *words]), sorted(got), sorted(wanted)
-                fault("editors/bash/spark.bash offers behind %r %s in place of %s" % texts)
+                fault("editors/bash/spark.bash offers after %r %s in place of %s" % texts)
 
 
 def check_shells(tool):
@@ -405,13 +488,139 @@ def check_shells(tool):
             fault("%s: %s" % (name, made.stderr.strip() or made.returncode))
 
 
+# ---- pipelines
+
+# The words of spark-show in a pipeline, after its own options.
+SOURCES = ["src/a.adb", "src/a.ads"]
+KEPT = ["--program", "spark-kept/bin/spark", "--order", "--sarif", "spark.sarif", *SOURCES]
+
+
+@contextlib.contextmanager
+def room_with_stand_ins():
+    """A folder with two sources, a program `git` and `spark-show`, and a copy of spark that is built."""
+    with tempfile.TemporaryDirectory() as room:
+        room = pathlib.Path(room)
+        (room / "src").mkdir()
+        for name in SOURCES:
+            (room / name).touch()
+        (room / "src/a.c").touch()
+        note = '#!/bin/sh\nfor word; do echo "$word"; done >>"$TOLD"\n'
+        files = {
+            "bin/spark-show": note + "exit 3\n",
+            "made/spark": '#!/bin/sh\ntest $# = 0 && exit 6\n',
+            "made/crates/spark/out/spark": "#!/bin/sh\n",
+            "made/tools/spark-show": 'import os, sys\nopen(os.environ["TOLD"], "a").write("\\n".join(sys.argv[1:]))\nsys.exit(3)\n',
+            "made/docs/ERRORS.md": "",
+            "bin/git": '#!/bin/sh\ncase $1 in clone) cp -R "$MADE" "$3" ;; *) test -d "$2" ;; esac\n',
+        }
+        for name, text in files.items():
+            (room / name).parent.mkdir(parents=True, exist_ok=True)
+            (room / name).write_text(text)
+            (room / name).chmod(0o755)
+        yield room
+
+
+def told_by(room, script, shell=("bash", "-e", "-o", "pipefail", "-c")):
+    """The status of a script in this folder, and the words that it gave to spark-show."""
+    told = room / "told"
+    told.unlink(missing_ok=True)
+    more = {"TOLD": str(told), "MADE": str(room / "made"), "SOURCES": "src/*.ad[bs]", "SPARK_COMMIT": "c", "SPARK_REPOSITORY": "r"}
+    environment = dict(os.environ, **more, PATH="%s:%s" % (room / "bin", os.environ["PATH"]))
+    done = subprocess.run([*shell, script], cwd=room, env=environment, stdin=subprocess.DEVNULL, capture_output=True)
+    return done.returncode, told.read_text().splitlines() if told.exists() else None
+
+
+def expect(who, got, wanted):
+    if got != wanted:
+        fault("%s gives the status and the words %s in place of %s" % (who, got, wanted))
+
+
+def read_yaml(name):
+    try:
+        import yaml
+    except ImportError:
+        NOTES.append("no PyYAML is installed, so %s wasn't read" % name)
+        return None
+    try:
+        return yaml.safe_load((EDITORS / name).read_text(encoding="utf-8"))
+    except yaml.YAMLError as error:
+        fault("editors/%s: %s" % (name, error))
+
+
+def check_github(room):
+    who = "editors/github/spark.yml"
+    flow = read_yaml("github/spark.yml")
+    if not flow:
+        return
+    if flow["permissions"].get("security-events") != "write" or flow["env"]["SOURCES"] != "src/*.ad[bs]":
+        fault(who + " lacks a permission or its sources")
+    steps = flow["jobs"]["check"]["steps"]
+    if not all(("uses" in step) != ("run" in step) for step in steps):
+        fault(who + " has a step that neither uses nor runs anything")
+    kept = [step["with"] for step in steps if step.get("uses", "").startswith("actions/cache/")]
+    if len(kept) != 2 or kept[0] != kept[1] or "env.SPARK_COMMIT" not in kept[0]["key"]:
+        fault(who + " doesn't look for what it keeps")
+    shutil.copytree(room / "made", room / "spark-source")
+    build, check = [step["run"] for step in steps if "run" in step]
+    expect(who, told_by(room, build), (0, None))
+    expect(who, told_by(room, check), (3, KEPT))
+
+
+def check_gitlab(room):
+    who = "editors/gitlab/spark.yml"
+    flow = read_yaml("gitlab/spark.yml")
+    if not flow:
+        return
+    job = flow["spark"]
+    if job["cache"]["key"] != "spark-$SPARK_COMMIT" or job["variables"]["SOURCES"] != "src/*.ad[bs]":
+        fault(who + " keeps the program by another key, or lacks its sources")
+    script = "\n".join(job["before_script"] + job["script"])
+    expect(who, told_by(room, script), (3, KEPT))
+    # with what was kept, nothing is fetched and built
+    shutil.rmtree(room / "made")
+    expect(who, told_by(room, script), (3, KEPT))
+
+
+def check_hook(room):
+    who = "editors/pre-commit/pre-commit-config.yaml"
+    hooks = read_yaml("pre-commit/pre-commit-config.yaml")
+    if not hooks:
+        return
+    (hook,) = hooks["repos"][0]["hooks"]
+    if hook["pass_filenames"] or hook["language"] != "system" or not re.search(hook["files"], "src/a.adb"):
+        fault(who + " would not run")
+    expect(who, told_by(room, shlex.join(shlex.split(hook["entry"]))), (3, ["--order", *SOURCES]))
+
+
+def check_make(room):
+    if not shutil.which("make"):
+        NOTES.append("no make is installed, so its file wasn't run")
+        return
+    words = "SPARK_SOURCES = $(wildcard src/*.ads src/*.adb)\ninclude %s\n" % (EDITORS / "make/spark.mk")
+    (room / "Makefile").write_text(words)
+    (room / "spark").touch()
+    expect("editors/make/spark.mk", told_by(room, "make -s spark"), (2, ["--order", "src/a.ads", "src/a.adb"]))
+
+
+def check_pipelines():
+    for check in (check_github, check_gitlab, check_hook, check_make):
+        with room_with_stand_ins() as room:
+            check(room)
+    words = [it["command"] for it in json.loads((EDITORS / "vscode/tasks.json").read_text())["tasks"] if it["type"] == "shell"]
+    with room_with_stand_ins() as room:
+        expect("editors/vscode/tasks.json", told_by(room, *words), (3, ["--order", *SOURCES]))
+
+
 def main():
     tool = Page()
     wanted, others = samples(tool)
     check_patterns(wanted, others)
     check_vim(wanted, others)
+    check_emacs(wanted, others)
+    check_gnat_studio(wanted, others)
     check_man(tool)
     check_shells(tool)
+    check_pipelines()
     for note in NOTES:
         print("check_editors: note: " + note)
     for text in FAULTS:
