@@ -9,11 +9,13 @@ that programs which a page quotes are those of their files; that counts of examp
 are right; that names of code in the pages about the code exist, and headings that the code cites; that
 TOOL.md, RULES.md and ERRORS.md have the same codes; that DEFINITIONS.md has a row for each sentence and each
 code, and that each definition named there is in its file; that prose is at most 100 columns wide, keeps to
-one word for one idea and cites nothing that isn't here; and that ERRORS.md and WHAT_IT_FINDS.md are what
-tools/errors_page.py and tools/what_it_finds.py make.
+one word for one idea and cites nothing that isn't here; that README.md names the kit that is installed; and
+that ERRORS.md and WHAT_IT_FINDS.md are what tools/errors_page.py and tools/what_it_finds.py make.
 """
 import pathlib
 import re
+import shutil
+import subprocess
 import sys
 
 sys.dont_write_bytecode = True
@@ -72,7 +74,7 @@ class Page:
 
 
 def kinds_of(lines):
-    """Of each line whether it is code, a table, a heading, blank or text."""
+    """For each line whether it is code, a table, a heading, blank or text."""
     kinds, fence = [], False
     for line in lines:
         if line.lstrip().startswith("```"):
@@ -222,6 +224,14 @@ def faults_of_codes(pages):
     for code, text in table:
         if '"%s"' % text not in source or not re.search(r"\b%s\b" % code, source):
             yield "docs/TOOL.md: crates/rule_reports/src/code.rt has no %s `%s`" % (code, text)
+
+
+def faults_of_kit(pages):
+    """README.md names the kit that is here, if one is."""
+    if shutil.which("rt"):
+        kit = subprocess.run(["rt", "version"], capture_output=True, text=True).stdout.strip()
+        if not kit or kit not in next(page.text for page in pages if page.name == "README.md"):
+            yield "README.md: `rt version` prints: %s" % kit
 
 
 # ---- sentences and their definitions
@@ -376,6 +386,7 @@ def faults(pages):
     yield from faults_of_quotes(pages)
     yield from faults_of_code(pages)
     yield from faults_of_codes(pages)
+    yield from faults_of_kit(pages)
     for maker in (errors_page, what_it_finds):
         if not maker.PAGE.is_file() or maker.PAGE.read_text() != maker.made():
             name = pathlib.Path(maker.__file__).name
@@ -399,7 +410,7 @@ def tokens_of(text):
 
 
 def filled(text, indent, first):
-    """The words in lines; a word that would begin a list or a heading stays behind the word before it."""
+    """The words in lines; a word that would begin a list or a heading stays on the line of the word before it."""
     lines, line = [], first
     for word in tokens_of(text):
         fits = len(line) + 1 + len(word) <= WIDTH or re.fullmatch(r"[-+*#>|]+|\d+[.)]", word)
