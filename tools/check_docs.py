@@ -9,16 +9,15 @@ that each sentence has its definitions, and each crate its room, as tools/check_
 that programs which a page quotes are those of their files; that counts of examples, wrong bodies and crates
 are right; that names of code in the pages about the code exist, and headings that the code cites; that
 TOOL.md, RULES.md and ERRORS.md have the same codes; that prose is at most 100 columns wide, keeps to one word
-for one idea and cites nothing that isn't here; that README.md names the kit that is installed; and that
-ERRORS.md and WHAT_IT_FINDS.md are what tools/errors_page.py and tools/what_it_finds.py make.
+for one idea and cites nothing that isn't here; that ERRORS.md and WHAT_IT_FINDS.md are what
+tools/errors_page.py and tools/what_it_finds.py make; and that crates.txt is what tools/crate_lines.py makes.
 """
 import pathlib
 import re
-import shutil
-import subprocess
 import sys
 
 sys.dont_write_bytecode = True
+import crate_lines
 import errors_page
 import what_it_finds
 import check_definitions
@@ -227,14 +226,6 @@ def faults_of_codes(pages):
             yield "docs/TOOL.md: crates/rule_reports/src/code.rt has no %s `%s`" % (code, text)
 
 
-def faults_of_kit(pages):
-    """README.md names the kit that is here, if one is."""
-    if shutil.which("rt"):
-        kit = subprocess.run(["rt", "version"], capture_output=True, text=True).stdout.strip()
-        if not kit or kit not in next(page.text for page in pages if page.name == "README.md"):
-            yield "README.md: `rt version` prints: %s" % kit
-
-
 def faults(pages):
     yield from faults_of_links(pages)
     yield from check_definitions.faults(pages)
@@ -243,7 +234,7 @@ def faults(pages):
     yield from faults_of_quotes(pages)
     yield from faults_of_code(pages)
     yield from faults_of_codes(pages)
-    yield from faults_of_kit(pages)
+    yield from crate_lines.faults()
     for maker in (errors_page, what_it_finds):
         if not maker.PAGE.is_file() or maker.PAGE.read_text() != maker.made():
             name = pathlib.Path(maker.__file__).name

@@ -1,0 +1,99 @@
+#!/usr/bin/env python3
+"""Writes the lines of crates.txt: each crate's has the libraries that its text names, and no others.
+
+    python3 tools/crate_lines.py                    ends with 1 where a line differs, and prints a line for each
+    python3 tools/crate_lines.py --write            writes the lines; comments and the order of crates stay
+
+A crate's text is its src/, specs/ and proofs/. Code names a library as `NAME::`, definitions and proofs as
+`Rattle.NAME.`. What the types of a library are made of needn't be named: the compiler finds it. So a crate is
+proved again only where a library changes that it uses, or that one of these uses.
+"""
+import pathlib
+import re
+import sys
+
+TOP = pathlib.Path(__file__).resolve().parent.parent
+LINES = TOP / "crates.txt"
+
+# Libraries that a crate needs and no text of it names: (crate, library) with the reason.
+UNNAMED = {}
+
+
+def bare(path):
+    """The text of a file without its comments."""
+    text = path.read_text(errors="replace")
+    if path.suffix == ".antt":
+        text = re.sub(r"\{-.*?-\}", "", text, flags=re.S)
+        return re.sub(r'(?m)(^|(?<=[ (){};.,@"]))--.*$', "", text)
+    return re.sub(r"(?m)//.*$", "", text)
+
+
+def names_of(crate):
+    """What the crate's text names before a `::` or behind `Rattle.`."""
+    found = set()
+    for part in ("src", "specs", "proofs"):
+        for path in sorted((TOP / "crates" / crate / part).glob("**/*")):
+            if path.suffix == ".rt":
+                found.update(re.findall(r"\b(\w+)\s*::", bare(path)))
+            elif path.suffix == ".antt":
+                found.update(re.findall(r"\bRattle[.·](\w+)[.·]", bare(path)))
+    return found
+
+
+def read(text):
+    """The crates of crates.txt in order, each with what stands before its libraries, and these."""
+    found = {}
+    for line in text.splitlines():
+        head, colon, rest = line.partition("#")[0].partition(":")
+        if colon:
+            found[head.split()[0]] = (head, rest.split())
+    return found
+
+
+def made(text):
+    """The text of crates.txt with the libraries that each crate names: those of the toolchain last."""
+    crates = read(text)
+    kit = sorted({library for _, line in crates.values() for library in line} - set(crates))
+    order = list(reversed(crates)) + kit
+    lines = []
+    for line in text.splitlines():
+        head, colon, rest = line.partition("#")[0].partition(":")
+        if colon:
+            crate = head.split()[0]
+            named = names_of(crate) | {library for at, library in UNNAMED if at == crate}
+            before = [library for library in crates[crate][1] if library in named]
+            more = [library for library in order if library in named - set(before) - {crate}]
+            line = " ".join([head + ":"] + before + more)
+        lines.append(line)
+    return "\n".join(lines) + "\n"
+
+
+def faults():
+    """A line for each crate whose libraries aren't those that it names."""
+    text = LINES.read_text()
+    now, wanted = read(text), read(made(text))
+    for crate, (_, libraries) in wanted.items():
+        listed = now[crate][1]
+        for library in [it for it in listed if it not in libraries]:
+            yield "crates.txt: %s has %s, which its text doesn't name" % (crate, library)
+        for library in [it for it in libraries if it not in listed]:
+            yield "crates.txt: %s lacks %s, which its text names" % (crate, library)
+    for crate, library in UNNAMED:
+        if crate not in now or library in names_of(crate):
+            yield "tools/crate_lines.py: %s is no crate, or names %s" % (crate, library)
+
+
+def main():
+    if sys.argv[1:] == ["--write"]:
+        LINES.write_text(made(LINES.read_text()))
+        return 0
+    if sys.argv[1:]:
+        print(__doc__)
+        return 2
+    found = list(faults())
+    print("\n".join(found + ["%d faults" % len(found)]))
+    return 1 if found else 0
+
+
+if __name__ == "__main__":
+    sys.exit(main())
