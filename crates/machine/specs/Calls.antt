@@ -1,12 +1,13 @@
 -- Leak checks, and what calls pass (docs/RUN.md, "Calls").
-use Rattle.std.specs.Prelude.{ℕ, ◌+◌, Bool, false, List, [], ◌∷◌, ◌++◌, flat_map, get_or, Option, Some, None, if◌then◌else◌}
+use Rattle.std.specs.Prelude.{ℕ, ◌+◌, Bool, false, List, [], ◌∷◌, ◌++◌, map, flat_map, get_or, Option, Some, None, if◌then◌else◌}
 use Rattle.spark_base.specs.declared.position.Pos.{Pos}
 use Rattle.place_names.specs.declared.act.Mode.TheVariants as mode
 use Rattle.typed_tree.specs.Trees.{TypedTree, More}
 use Rattle.flow_paths.specs.Objects.{Typing, object_at, is_anonymous, view_of, Passing, ByValue, Traversed}
 use Rattle.flow_paths.specs.Objects as objects
 use Rattle.flow_paths.specs.Names.{Written, written}
-use Rattle.machine.specs.Words.{Word, Cell, default, access_offsets}
+use Rattle.type_table.specs.Types.{parts}
+use Rattle.machine.specs.Words.{Word, Cell, default, offsets}
 use Rattle.machine.specs.Memory.{Memory, Slot, Place, no_slot, slots_at, words_of, moved_out, declared}
 use Rattle.machine.specs.Evaluate.{Now, Here, Evaluated, Done, followed_by, value, viewed, place_of, checked}
 use Rattle.machine.specs.States.{Return, Leak}
@@ -24,9 +25,9 @@ failed p s = failed_at p s.word s.gone
 abbrev pub checked_at : Pos → ℕ → List Slot → List ℕ → List Leak
 checked_at p at slots offsets = flat_map (λ o. failed p (get_or slots (at + o) no_slot)) offsets
 
--- The access parts of a place, part by part, each in the order of the indexes.
-abbrev pub leaks_at : Typing → Pos → Memory → Place → List Leak
-leaks_at s p m k = checked_at p k.at (slots_at s m k.base) (access_offsets s.table k.of)
+-- The checks of a place, one for each access part, with what failed of each in the order of the indexes.
+abbrev pub checks_at : Typing → Pos → Memory → Place → List (List Leak)
+checks_at s p m k = map (λ part. checked_at p k.at (slots_at s m k.base) (offsets s.table k.of part)) (parts s.table k.of)
 
 abbrev pub written_pos : Pos → Option Written → Pos
 written_pos p None = p
@@ -73,11 +74,11 @@ all_passed h (way ∷ ways) (x ∷ formals) (More e rest) now =
 all_passed h _ _ _ now = Done [] now
 
 -- The leak checks of the `out` actuals.
-abbrev pub out_leaks : Typing → Pos → Memory → List Passed → TypedTree → List Leak
-out_leaks s p m (To k ∷ passed) (More e rest) =
-    leaks_at s (written_pos p (written e)) m k ++ out_leaks s p m passed rest
-out_leaks s p m (_ ∷ passed) (More e rest) = out_leaks s p m passed rest
-out_leaks s p m _ _ = []
+abbrev pub out_checks : Typing → Pos → Memory → List Passed → TypedTree → List (List Leak)
+out_checks s p m (To k ∷ passed) (More e rest) =
+    checks_at s (written_pos p (written e)) m k ++ out_checks s p m passed rest
+out_checks s p m (_ ∷ passed) (More e rest) = out_checks s p m passed rest
+out_checks s p m _ _ = []
 
 -- ---- formals
 

@@ -29,7 +29,7 @@ pub record Peak : Type 0 where
   pub size : ℕ
   pub count : ℕ
 
--- The latest variable stands first, and the first cell.
+-- Each variable stands there once, and the first cell first.
 pub record Memory : Type 0 where
   pub variables : List Variable
   pub cells : List HeapCell
@@ -121,9 +121,9 @@ gone_at (o ∷ rest) slots = gone_at rest (at_number o as_gone slots)
 abbrev pub moved_out : Typing → Place → Memory → Memory
 moved_out s p m = with_slots s p (gone_at (access_offsets s.table p.of) (slots_of s m p)) m
 
+-- What was declared with this frame and object isn't there any more.
 abbrev pub declared : ℕ → ℕ → List Word → Memory → Memory
-declared frame x ws m =
-    record m { variables = record { frame = frame; object = x; slots = fresh ws } ∷ m.variables }
+declared frame x ws m = put (OfVariable frame x) (fresh ws) m
 
 abbrev pub undeclared : ℕ → ℕ → Memory → Memory
 undeclared frame x m = record m { variables = filter (λ v. not (is_variable frame x v)) m.variables }
@@ -166,7 +166,7 @@ as_freed c = record c { freed = true }
 abbrev pub freed : ℕ → Memory → Memory
 freed n m = record m { cells = with_cell n as_freed m.cells }
 
--- What a step that raises leaves: the memory before it, with the cells that it made, which count as
+-- What a step that raises or traps leaves: the memory before it, with the cells that it made, which count as
 -- freed.
 abbrev pub given_up : Memory → Memory → Memory
 given_up before m = record before {

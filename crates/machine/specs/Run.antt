@@ -5,7 +5,7 @@ use Rattle.flow_paths.specs.Points.{FlowPoint}
 use Rattle.flow_paths.specs.Laid.{FlowProgram}
 use Rattle.machine.specs.Memory.{Memory, HeapCell, Peak}
 use Rattle.machine.specs.Evaluate.{StorageError}
-use Rattle.machine.specs.States.{Frame, Leak, State, Ending, Raised, Spent, Outcome, Goes, Ends, no_sub, sub_of, frame_words, stack_words, frame_at_start}
+use Rattle.machine.specs.States.{Frame, Leak, State, Ending, Raised, Spent, Outcome, Goes, Ends, state_of, no_sub, sub_of, frame_words, stack_words, frame_at_start}
 use Rattle.machine.specs.Step.{turn, main_frame}
 
 abbrev pub no_point : FlowPoint
@@ -38,6 +38,7 @@ state_at_start program = record {
   at = 0;
   output = [];
   leaks = [];
+  checks = [];
   steps = 0;
 }
 
@@ -94,3 +95,7 @@ main_of (Some n) = n
 -- What a program with a main procedure does with this input in at most so many steps.
 unfoldable pub run : FlowProgram → List ℕ → ℕ → Run
 run program input n = ended (run_of program (main_of program.main) input n)
+
+-- The moments of a run: where it is after so many steps, or where it ended before.
+unfoldable pub moment : FlowProgram → List ℕ → ℕ → State
+moment program input n = state_of (run_of program (main_of program.main) input n)

@@ -38,13 +38,15 @@ pub record Leak : Type 0 where
   pub pos : Pos
 
 -- The innermost frame stands first, and that of the package objects last. Output and failed leak checks
--- stand in the order in which they came.
+-- stand in the order in which they came. Of the leak checks of the last step, as its point lists them,
+-- `checks` has what failed of each.
 pub record State : Type 0 where
   pub frames : List Frame
   pub memory : Memory
   pub at : ℕ
   pub output : List ℕ
   pub leaks : List Leak
+  pub checks : List (List Leak)
   pub steps : ℕ
 
 pub data Ending : Type 0 where
@@ -57,6 +59,10 @@ pub data Ending : Type 0 where
 pub data Outcome : Type 0 where
   Goes : State → Outcome
   Ends : Ending → State → Outcome
+
+abbrev pub state_of : Outcome → State
+state_of (Goes s) = s
+state_of (Ends e s) = s
 
 -- ---- frames
 

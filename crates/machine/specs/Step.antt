@@ -1,5 +1,5 @@
 -- What one step does, one case for each instruction (docs/RUN.md, "Steps").
-use Rattle.std.specs.Prelude.{ℕ, zero, suc, Bool, true, false, not, ◌&&◌, ◌||◌, ◌==◌, List, [], ◌∷◌, ◌++◌, map, reverse, take, drop, length, get_or, nat_le, Option, Some, None, ℤ, pos, negsuc, ◌+ℤ◌, unsigned_abs, int_le, int_lt, if◌then◌else◌}
+use Rattle.std.specs.Prelude.{ℕ, zero, suc, Bool, true, false, not, ◌&&◌, ◌||◌, ◌==◌, List, [], ◌∷◌, ◌++◌, map, flat_map, reverse, take, drop, length, get_or, nat_le, nat_lt, Option, Some, None, ℤ, pos, negsuc, ◌+ℤ◌, unsigned_abs, int_le, int_lt, if◌then◌else◌}
 use Rattle.std.specs.List.{position_or_len}
 use Rattle.spark_base.specs.declared.position.Pos.{Pos}
 use Rattle.type_table.specs.Types.{full}
@@ -18,7 +18,7 @@ use Rattle.run_values.specs.Items.{next_item}
 use Rattle.machine.specs.Words.{Word, Int, Enumerated, Null, Cell, fits_type}
 use Rattle.machine.specs.Memory.{Memory, Place, Base, OfVariable, OfCell, cell, words_of, moved_out, stored, declared, undeclared, without_frame, freed, given_up}
 use Rattle.machine.specs.Evaluate.{Exception, ConstraintError, ProgramError, StorageError, DataError, EndError, Trap, Touched, Twice, Now, Evaluated, Done, Raises, Traps, followed_by, Here, cell_place, variable_place, value, viewed, initial, place_of, text_of, checked, is_true, decides, value_of}
-use Rattle.machine.specs.Calls.{leaks_at, written_pos, Passed, all_passed, out_leaks, with_formals, returns_of}
+use Rattle.machine.specs.Calls.{checks_at, written_pos, Passed, all_passed, out_checks, with_formals, returns_of}
 use Rattle.machine.specs.States.{Waiting, Loop, Return, Frame, Leak, State, Normal, Raised, Trapped, Outcome, Goes, Ends, sub_of, frame_words, stack_words, frame_at_start}
 
 -- A step: the program with its input, the point, and the state before it, whose innermost frame is apart.
@@ -48,25 +48,25 @@ waiting t = drop (taken t.point.instr) t.frame.waits
 
 -- ---- how steps end
 
+-- No leak check of the step has been made yet.
 abbrev pub counted : State → State
-counted s = record s { steps = suc s.steps }
+counted s = record s { steps = suc s.steps; checks = [] }
 
--- A step that raises is counted, and leaves the state before it.
+-- A step that raises is counted, and leaves the state before it; one that traps does so too.
 abbrev pub raised : Turn → Exception → Memory → Outcome
 raised t e m =
     Ends (Raised e t.point.pos) (counted (record t.state { memory = given_up t.state.memory m }))
 
-abbrev pub trapped : Turn → Trap → Outcome
-trapped t trap = Ends (Trapped trap t.point.pos) (counted t.state)
+abbrev pub trapped : Turn → Trap → Memory → Outcome
+trapped t trap m =
+    Ends (Trapped trap t.point.pos) (counted (record t.state { memory = given_up t.state.memory m }))
 
 -- What the evaluation of a point leads to.
 abbrev pub evaluated : {A : Type 0} → Turn → Evaluated A → (A → Memory → Outcome) → Outcome
 evaluated t (Done a now) f = f a now.memory
 evaluated t (Raises e now) f = raised t e now.memory
-evaluated t (Traps trap now) f = trapped t trap
+evaluated t (Traps trap now) f = trapped t trap now.memory
 
--- The frames behind the innermost one, where a point has no successor: the package objects are declared,
--- and the main procedure begins.
 abbrev pub main_frame : FlowProgram → List Frame
 main_frame program = main_of program.main
   where
@@ -74,9 +74,15 @@ main_frame program = main_of program.main
     main_of None = []
     main_of (Some n) = frame_at_start n [] ∷ []
 
+-- Where a point of the package objects has no successor, they are declared, and the main procedure
+-- begins. In other frames, points of typed programs have the successors that they lead to.
+abbrev pub begun : FlowProgram → Frame → List Frame → List Frame
+begun program f [] = main_frame program ++ f ∷ []
+begun program f (g ∷ outer) = f ∷ g ∷ outer
+
 abbrev pub led : Turn → Frame → Option ℕ → List Frame
 led t f (Some n) = record f { next = n } ∷ t.outer
-led t f None = main_frame t.program ++ f ∷ t.outer
+led t f None = begun t.program f t.outer
 
 abbrev pub successor : Turn → ℕ → Option ℕ
 successor t k = nth k t.point.next
@@ -123,12 +129,13 @@ type_named e = type_in (written e)
     type_in None = integer
     type_in (Some m) = m.of
 
-abbrev pub leaking : List Leak → State → State
-leaking leaks s = record s { leaks = s.leaks ++ leaks }
+-- The leak checks of a step, each with what failed of it.
+abbrev pub leaking : List (List Leak) → State → State
+leaking checks s = record s { leaks = s.leaks ++ flat_map (λ leaks. leaks) checks; checks = checks }
 
-abbrev pub leaking_goes : List Leak → Outcome → Outcome
-leaking_goes leaks (Goes s) = Goes (leaking leaks s)
-leaking_goes leaks (Ends e s) = Ends e (leaking leaks s)
+abbrev pub leaking_goes : List (List Leak) → Outcome → Outcome
+leaking_goes checks (Goes s) = Goes (leaking checks s)
+leaking_goes checks (Ends e s) = Ends e (leaking checks s)
 
 abbrev pub target_pos : Turn → TypedTree → Pos
 target_pos t target = written_pos t.point.pos (written target)
@@ -138,7 +145,7 @@ abbrev pub assign : Turn → TypedTree → TypedTree → Outcome
 assign t target e =
     evaluated t (followed_by (taken_by t (type_named target) e (start t))
     (λ ws now. followed_by (place_of (here t) target now) (λ k now. Done (record { words = ws; place = k }) now)))
-    (λ (s : Stored) m. leaking_goes (leaks_at (typing t) (target_pos t target) m s.place)
+    (λ (s : Stored) m. leaking_goes (checks_at (typing t) (target_pos t target) m s.place)
     (goes t (stored (typing t) s.place s.words m) 0))
 
 -- ---- calls
@@ -154,7 +161,7 @@ call t sub actuals =
     entered t sub formals actuals passed m =
         let frames : List Frame = frame_at_start sub (returns_of formals passed) ∷ (behind t (waiting t) m 0).frames in
         if nat_le (frame_words t.program frames) stack_words
-        then leaking_goes (out_leaks (typing t) t.point.pos m passed actuals)
+        then leaking_goes (out_checks (typing t) t.point.pos m passed actuals)
         (Goes (record (behind t (waiting t) m 0) {
           frames = frames;
           memory = with_formals (typing t) (suc (length t.outer)) formals passed m;
@@ -231,16 +238,16 @@ release t e = evaluated t (place_of (here t) e (start t)) (λ k m. released t k 
   where
     released : Turn → Place → List Word → Memory → Outcome
     released t k (Cell n ∷ []) m =
-        if (cell m n).freed then trapped t Twice
+        if (cell m n).freed then trapped t Twice m
         else leaking_goes
-        (leaks_at (typing t) (written_pos t.point.pos (written e)) m (cell_place (designated (typing t).table k.of) n))
+        (checks_at (typing t) (written_pos t.point.pos (written e)) m (cell_place (designated (typing t).table k.of) n))
         (goes t (stored (typing t) k (Null ∷ []) (freed n m)) 0)
     released t k _ m = goes t m 0
 
 abbrev pub end_scope : Turn → ℕ → Outcome
 end_scope t x =
     let m : Memory = t.state.memory in
-    leaking_goes (leaks_at (typing t) t.point.pos m (variable_place (here t) x))
+    leaking_goes (checks_at (typing t) t.point.pos m (variable_place (here t) x))
     (goes t (undeclared (length t.outer) x m) 0)
 
 -- ---- choices
@@ -265,10 +272,15 @@ any_chosen v _ = false
 
 abbrev pub choice : List TypedCode → List Word → ℕ
 choice choices (w ∷ []) = position_or_len (any_chosen (value_of w)) choices
-choice choices _ = 0
+choice choices _ = length choices
+
+-- Constraint_Error is raised where none has it (Ada 2012, 5.4(13)).
+abbrev pub chosen : Turn → ℕ → ℕ → Memory → Outcome
+chosen t count k m = if nat_lt k count then goes t m k else raised t ConstraintError m
 
 abbrev pub choose : Turn → TypedTree → List TypedCode → Outcome
-choose t e choices = evaluated t (value (here t) e (start t)) (λ ws m. goes t m (choice choices ws))
+choose t e choices =
+    evaluated t (value (here t) e (start t)) (λ ws m. chosen t (length choices) (choice choices ws) m)
 
 -- An operand of a short circuit. Its value waits: the left one as one more, the right one in place of it.
 abbrev pub truth_waiting : List Word → Waiting
@@ -302,12 +314,17 @@ abbrev pub parameter_words : List Word → ℤ → List Word
 parameter_words (Enumerated n ∷ []) v = Enumerated (unsigned_abs v) ∷ []
 parameter_words _ v = Int v ∷ []
 
+abbrev pub without_loop : ℕ → List Loop → List Loop
+without_loop x [] = []
+without_loop x (l ∷ rest) = if l.parameter == x then rest else l ∷ without_loop x rest
+
+-- A loop that starts takes the place of one with its parameter.
 abbrev pub with_loop : Loop → State → State
 with_loop l s = record s { frames = on_first s.frames }
   where
     on_first : List Frame → List Frame
     on_first [] = []
-    on_first (f ∷ rest) = record f { loops = l ∷ f.loops } ∷ rest
+    on_first (f ∷ rest) = record f { loops = l ∷ without_loop l.parameter f.loops } ∷ rest
 
 -- Where there is a turn, both bounds are of the parameter's subtype.
 abbrev pub start_loop : Turn → ℕ → TypedTree → TypedTree → Outcome
@@ -332,10 +349,6 @@ loop_of x (l ∷ rest) = if l.parameter == x then l else loop_of x rest
 abbrev pub turned : ℕ → List Loop → List Loop
 turned x [] = []
 turned x (l ∷ rest) = if l.parameter == x then record l { first = false } ∷ rest else l ∷ turned x rest
-
-abbrev pub without_loop : ℕ → List Loop → List Loop
-without_loop x [] = []
-without_loop x (l ∷ rest) = if l.parameter == x then rest else l ∷ without_loop x rest
 
 -- The first turn has a bound, and each further one the next value, up to the other bound.
 abbrev pub next_value : Bool → Loop → ℤ → Option ℤ

@@ -1,9 +1,13 @@
 -- Which words an expression gives, and which points of a program are typed (docs/RUN.md, "Words").
 --
 -- The words of a type have sorts: a value of Integer, one of an enumeration, or an access value that
--- designates objects of a type. In a typed program each place takes words of its own sorts, and no name
--- leads out of what it names. That the rules of typing see to it isn't proved (docs/PROVED.md).
-use Rattle.std.specs.Prelude.{ℕ, zero, suc, Bool, true, false, ◌&&◌, ◌||◌, List, [], ◌∷◌, ◌++◌, flat_map, length, slice_get, nat_eq, nat_lt, Option, Some, None, is_some, if◌then◌else◌}
+-- designates objects of a type. In a typed program each place takes words of its own sorts, no name
+-- leads out of what it names, the type that is kept of a name is the one that its steps reach, numbers
+-- are values of Integer, what stands for each element of an array owns nothing but null, and points have
+-- as many successors as their instructions lead to. That the rules of typing see to it isn't proved
+-- (docs/PROVED.md).
+use Rattle.std.specs.Prelude.{ℕ, zero, suc, Bool, true, false, not, ◌&&◌, ◌||◌, List, [], ◌∷◌, ◌++◌, flat_map, length, slice_get, nat_eq, nat_lt, Option, Some, None, is_some, ℤ, if◌then◌else◌}
+use Rattle.std.specs.Ordering.{int_eq}
 use Rattle.std.specs.List.{list_all}
 use Rattle.resolved_tree.specs.declared.operator.Operator.{Operator}
 use Rattle.resolved_tree.specs.declared.operator.Operator.TheVariants as operator
@@ -12,7 +16,7 @@ use Rattle.resolved_tree.specs.declared.operator.UnaryOperator.TheVariants as un
 use Rattle.type_table.specs.declared.table.Component.{Component}
 use Rattle.type_table.specs.declared.table.Shape.{Shape}
 use Rattle.type_table.specs.declared.table.Shape.TheVariants as shape
-use Rattle.type_table.specs.Types.{Table, shape_found, shape_of, named, span}
+use Rattle.type_table.specs.Types.{Table, shape_found, shape_of, named, span, is_owning}
 use Rattle.type_table.specs.Entries.{integer}
 use Rattle.typed_tree.specs.Trees.{TypedTree, TypedCode, Number, Literal, Text, Name, Component as IntoComponent, Designated, Element, Call, EndOfFile, Parens, Image, Unary, Binary, Short, IsNull, Aggregate, Alike, New, NoMore, More}
 use Rattle.typed_tree.specs.Trees as typed
@@ -21,6 +25,7 @@ use Rattle.flow_paths.specs.Instructions as instruction
 use Rattle.flow_paths.specs.Objects.{Typing, object_at, sub_at}
 use Rattle.flow_paths.specs.Points.{FlowPoint}
 use Rattle.flow_paths.specs.Laid.{FlowSub, FlowProgram, flow_typing}
+use Rattle.run_values.specs.Arithmetic.{is_integer}
 use Rattle.machine.specs.Words.{component_type, element_type}
 use Rattle.machine.specs.Evaluate.{part_type}
 
@@ -132,9 +137,18 @@ abbrev pub is_array : Shape → Bool
 is_array (shape.Elements low high element) = true
 is_array _ = false
 
+-- The bounds are those of the array.
+abbrev pub has_bounds : ℤ → ℤ → Shape → Bool
+has_bounds low high (shape.Elements first last element) = int_eq low first && int_eq high last
+has_bounds low high _ = false
+
 abbrev pub designates : Shape → Option ℕ
 designates (shape.Access designated constant named) = Some designated
 designates _ = None
+
+abbrev pub is_null : TypedTree → Bool
+is_null typed.Null = true
+is_null _ = false
 
 abbrev pub tree_count : TypedTree → ℕ
 tree_count (More e rest) = suc (tree_count rest)
@@ -149,10 +163,10 @@ sorts_of_result table (Some t) = sorts table t
 unfoldable mutual
   -- an expression gives words of these sorts
   pub gives : Typing → List Sort → TypedTree → Bool
-  gives s want (Number v) = is_whole want
+  gives s want (Number v) = is_whole want && is_integer v
   gives s want (Literal n) = is_position want
   gives s want typed.Null = is_pointer want
-  gives s want (Name p x steps t) = leads s want (object_at s x).of steps
+  gives s want (Name p x steps t) = same_sorts s.table (sorts s.table t) want && leads s t (object_at s x).of steps
   gives s want (Call p sub actuals) = same_sorts s.table (sorts_of_result s.table (sub_at s sub).result) want
   gives s want EndOfFile = is_position want
   gives s want (Parens e) = gives s want e
@@ -166,52 +180,38 @@ unfoldable mutual
   gives s want (IsNull equal e) = is_position want && pointed s e
   gives s want (Aggregate t es) =
       same_sorts s.table (sorts s.table t) want && (nat_eq (tree_count es) (field_count (shape_of s.table t)) && parts_given s t 0 es)
+  -- of what stands for each element nothing owns but null
   gives s want (Alike t e) =
-      is_array (shape_of s.table t)
+      (is_array (shape_of s.table t) && (not (is_owning s.table (element_type s.table t)) || is_null e))
       && (same_sorts s.table (sorts s.table t) want && gives s (sorts s.table (element_type s.table t)) e)
   gives s want (New t v) = points_to s.table t want && given_first s (sorts s.table t) v
   gives s want _ = false
 
   -- an access value, of whatever it designates
   pub pointed : Typing → TypedTree → Bool
-  pointed s (Name p x steps t) = leads_to_pointer s (object_at s x).of steps
+  pointed s (Name p x steps t) = is_some (designates (shape_of s.table t)) && leads s t (object_at s x).of steps
   pointed s (Call p sub actuals) = is_pointer (sorts_of_result s.table (sub_at s sub).result)
   pointed s _ = false
 
-  -- the steps of a name lead from a type to words of these sorts
-  pub leads : Typing → List Sort → ℕ → TypedTree → Bool
-  leads s want t (IntoComponent i rest) =
-      nat_lt i (field_count (shape_of s.table t)) && (is_record (shape_of s.table t) && leads s want (component_type s.table t i) rest)
-  leads s want t (Element index low high rest) =
-      is_array (shape_of s.table t) && (gives s (Whole ∷ []) index && leads s want (element_type s.table t) rest)
-  leads s want t (Designated rest) = leads_on s want (designates (shape_of s.table t)) rest
-  leads s want t _ = same_sorts s.table (sorts s.table t) want
+  -- the steps of a name lead from a type to another one; the bounds of an index are those of its array
+  pub leads : Typing → ℕ → ℕ → TypedTree → Bool
+  leads s to t (IntoComponent i rest) =
+      nat_lt i (field_count (shape_of s.table t)) && (is_record (shape_of s.table t) && leads s to (component_type s.table t i) rest)
+  leads s to t (Element index low high rest) =
+      has_bounds low high (shape_of s.table t) && (gives s (Whole ∷ []) index && leads s to (element_type s.table t) rest)
+  leads s to t (Designated rest) = leads_on s to (designates (shape_of s.table t)) rest
+  leads s to t NoMore = nat_eq t to
+  leads s to t _ = false
 
-  pub leads_on : Typing → List Sort → Option ℕ → TypedTree → Bool
-  leads_on s want (Some t) (IntoComponent i rest) =
-      nat_lt i (field_count (shape_of s.table t)) && (is_record (shape_of s.table t) && leads s want (component_type s.table t i) rest)
-  leads_on s want (Some t) (Element index low high rest) =
-      is_array (shape_of s.table t) && (gives s (Whole ∷ []) index && leads s want (element_type s.table t) rest)
-  leads_on s want (Some t) (Designated rest) = leads_on s want (designates (shape_of s.table t)) rest
-  leads_on s want (Some t) _ = same_sorts s.table (sorts s.table t) want
-  leads_on s want None _ = false
-
-  pub leads_to_pointer : Typing → ℕ → TypedTree → Bool
-  leads_to_pointer s t (IntoComponent i rest) =
-      nat_lt i (field_count (shape_of s.table t)) && (is_record (shape_of s.table t) && leads_to_pointer s (component_type s.table t i) rest)
-  leads_to_pointer s t (Element index low high rest) =
-      is_array (shape_of s.table t) && (gives s (Whole ∷ []) index && leads_to_pointer s (element_type s.table t) rest)
-  leads_to_pointer s t (Designated rest) = pointer_on s (designates (shape_of s.table t)) rest
-  leads_to_pointer s t _ = is_some (designates (shape_of s.table t))
-
-  pub pointer_on : Typing → Option ℕ → TypedTree → Bool
-  pointer_on s (Some t) (IntoComponent i rest) =
-      nat_lt i (field_count (shape_of s.table t)) && (is_record (shape_of s.table t) && leads_to_pointer s (component_type s.table t i) rest)
-  pointer_on s (Some t) (Element index low high rest) =
-      is_array (shape_of s.table t) && (gives s (Whole ∷ []) index && leads_to_pointer s (element_type s.table t) rest)
-  pointer_on s (Some t) (Designated rest) = pointer_on s (designates (shape_of s.table t)) rest
-  pointer_on s (Some t) _ = is_some (designates (shape_of s.table t))
-  pointer_on s None _ = false
+  pub leads_on : Typing → ℕ → Option ℕ → TypedTree → Bool
+  leads_on s to (Some t) (IntoComponent i rest) =
+      nat_lt i (field_count (shape_of s.table t)) && (is_record (shape_of s.table t) && leads s to (component_type s.table t i) rest)
+  leads_on s to (Some t) (Element index low high rest) =
+      has_bounds low high (shape_of s.table t) && (gives s (Whole ∷ []) index && leads s to (element_type s.table t) rest)
+  leads_on s to (Some t) (Designated rest) = leads_on s to (designates (shape_of s.table t)) rest
+  leads_on s to (Some t) NoMore = nat_eq t to
+  leads_on s to (Some t) _ = false
+  leads_on s to None _ = false
 
   pub parts_given : Typing → ℕ → ℕ → TypedTree → Bool
   parts_given s t i (More e rest) = gives s (sorts s.table (part_type (shape_of s.table t) i)) e && parts_given s t (suc i) rest
@@ -238,9 +238,9 @@ abbrev pub named_type : TypedTree → ℕ
 named_type (Name p x steps t) = t
 named_type _ = integer
 
--- A target takes words of the sorts of its type.
+-- A name of a place.
 abbrev pub is_place : Typing → TypedTree → Bool
-is_place s (Name p x steps t) = leads s (sorts s.table t) (object_at s x).of steps
+is_place s (Name p x steps t) = leads s t (object_at s x).of steps
 is_place s _ = false
 
 abbrev pub actuals_given : Typing → List ℕ → TypedTree → Bool
@@ -272,8 +272,32 @@ is_typed_instruction s result (EndScope x) = true
 is_typed_instruction s result Finish = true
 is_typed_instruction s result Fall = true
 
+-- How many successors an instruction leads to.
+abbrev pub successors : Instruction → ℕ
+successors (Test e) = 2
+successors (Choose e choices) = length choices
+successors (Next x reversed low high) = 2
+successors (Evaluate t e (Some op)) = 2
+successors (LeaveLoop (More e rest)) = 2
+successors Finish = 0
+successors Fall = 0
+successors _ = 1
+
+abbrev pub is_typed_point : Typing → Option ℕ → FlowPoint → Bool
+is_typed_point s result p = is_typed_instruction s result p.instr && nat_eq (length p.next) (successors p.instr)
+
 abbrev pub is_typed_sub : Typing → FlowSub → Bool
-is_typed_sub s sub = list_all (λ (p : FlowPoint). is_typed_instruction s sub.result p.instr) sub.points
+is_typed_sub s sub = list_all (is_typed_point s sub.result) sub.points
+
+-- The package objects are declared one by one. The last one is followed by nothing.
+unfoldable pub is_elaboration : Typing → List FlowPoint → Bool
+is_elaboration s [] = true
+is_elaboration s (p ∷ []) = is_typed_instruction s None p.instr && nat_eq (length p.next) 0
+is_elaboration s (p ∷ (q ∷ rest)) = is_typed_point s None p && is_elaboration s (q ∷ rest)
+
+abbrev pub are_typed_subs : Typing → List FlowSub → Bool
+are_typed_subs s [] = true
+are_typed_subs s (first ∷ rest) = is_elaboration s first.points && list_all (is_typed_sub s) rest
 
 abbrev pub is_typed : FlowProgram → Bool
-is_typed program = list_all (is_typed_sub (flow_typing program)) program.subs
+is_typed program = are_typed_subs (flow_typing program) program.subs

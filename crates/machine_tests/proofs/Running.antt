@@ -9,12 +9,12 @@ use Rattle.machine.specs.Memory.{Peak}
 use Rattle.machine.specs.Evaluate.{evaluate, text_of}
 use Rattle.machine.specs.States.{Leak, Ending}
 use Rattle.machine.specs.Step.{any_chosen}
-use Rattle.machine.specs.Run.{Run, within, run}
-use Rattle.machine.specs.Typed.{sorts_within, sorts, gives, is_text}
+use Rattle.machine.specs.Run.{Run, within, run, moment}
+use Rattle.machine.specs.Typed.{sorts_within, sorts, gives, is_text, is_elaboration}
 
 -- The definitions that are computed where a lemma names this one.
 unfoldable pub running : Type 0
-unfolding laying default_within default offsets evaluate text_of any_chosen within run digits sorts_within sorts gives is_text
+unfolding laying default_within default offsets evaluate text_of any_chosen within run moment digits sorts_within sorts gives is_text is_elaboration
 running = Unit {0}
 
 -- The cells: how many were made, freed and leaked, and of each size the greatest count at once.
