@@ -1,21 +1,21 @@
 -- A move into a hand, and from a hand to a target, under the acts Move and Write.
-use Rattle.std.proofs.Common.{◌≡◌, ◌<◌, refl, sym, ap, ◌∙◌, subst, ◌⊎◌, inl, inr, ℕ, Bool, true, false, not, ◌&&◌, ◌||◌, ◌==◌, List, [], ◌∷◌, ◌++◌, map, length, nat_lt, lt-ltb, Option, Some, None, if◌then◌else◌}
+use Rattle.std.proofs.Common.{◌≡◌, ◌<◌, refl, sym, ap, ◌∙◌, subst, inl, inr, ℕ, Bool, true, false, not, ◌||◌, List, [], ◌∷◌, map, length, nat_lt, lt-ltb, Some, None, if◌then◌else◌}
 use Rattle.std.specs.List.{list_any, filter}
 use Rattle.place_names.specs.declared.selector.Sel.{Sel}
 use Rattle.spark_base.specs.Lists.{Has}
-use Rattle.spark_base.proofs.Lists.{Has-append_left, Has-append_right, Has-append_cases, Has-filter, Has-filter_passes, Has-map, Has-map_from}
-use Rattle.place_names.specs.Names.{Name, extend, overlaps, leads_to, covers, strict_prefixes}
+use Rattle.spark_base.proofs.Lists.{Has-append_left, Has-append_right, Has-filter_passes, Has-map}
+use Rattle.place_names.specs.Names.{extend, overlaps, leads_to, covers, strict_prefixes}
 use Rattle.place_names.specs.declared.act.Act.{Act}
 use Rattle.place_names.specs.declared.act.Act.TheVariants.{Move, Write}
 use Rattle.place_names.specs.declared.fact.Fact.{Fact}
-use Rattle.place_names.specs.declared.fact.Fact.TheVariants.{Moved, Lent}
-use Rattle.place_names.specs.Facts.{adds, removes, effect, is_moved_under}
+use Rattle.place_names.specs.declared.fact.Fact.TheVariants.{Moved}
+use Rattle.place_names.specs.Facts.{adds, removes, effect}
 use Rattle.place_names.specs.declared.rule.Rule.TheVariants.{O3, O4}
 use Rattle.place_names.specs.declared.rule.State.TheVariants as state
-use Rattle.place_names.specs.Rules.{Forbidden, forbids, breaks_O2, breaks_O3, breaks_O4, lent}
+use Rattle.place_names.specs.Rules.{Forbidden, breaks_O2, breaks_O3}
 use Rattle.place_names.proofs.Rules.{any_breaks_O2}
-use Rattle.owned_ways.specs.Ways.{Step, Root, OfVariable, OfHand, Loc, OfRoot, OfCell, Inside, Way, Object, Lost, Into, All, Word, Empty, Gone, Held, View, part, along, Below, Reaches, IsRooted, Under, Past, Owned, Covered, Known, IsMove, IsSame, base_of, number_of, sels_of, name_of, IsAt, Named, IsMoved, Excused, Spares, Allows, Sound}
-use Rattle.owned_ways.proofs.Locations.{past_under, both_true, named_under}
+use Rattle.owned_ways.specs.Ways.{Step, OfVariable, OfHand, Loc, OfCell, Way, Object, Lost, Into, All, Gone, View, part, along, Reaches, IsRooted, Under, Past, Owned, IsMove, IsSame, base_of, sels_of, name_of, Named, IsMoved, Excused, Spares, Allows, Sound}
+use Rattle.owned_ways.proofs.Locations.{past_under, both_true}
 use Rattle.owned_ways.proofs.Named.{longer, under_overlaps, under_leads, under_front, past_longer, covered_under}
 use Rattle.owned_ways.proofs.Moving.{Given, owned_after, covered_after, known_after}
 

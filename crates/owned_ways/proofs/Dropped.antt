@@ -1,10 +1,10 @@
 -- The end of a scope.
-use Rattle.std.proofs.Common.{◌≡◌, refl, sym, ap, ◌∙◌, subst, ◌⊎◌, inl, inr, ℕ, Bool, true, false, not, ◌==◌, eqb-true, List, [], ◌∷◌, ◌++◌, ◌<◌}
+use Rattle.std.proofs.Common.{◌≡◌, sym, ap, ◌∙◌, subst, inl, inr, ℕ, Bool, true, ◌==◌, eqb-true, List, [], ◌∷◌, ◌<◌}
 use Rattle.place_names.specs.declared.act.Act.TheVariants.{EndScope}
 use Rattle.place_names.specs.declared.fact.Fact.{Fact}
 use Rattle.place_names.specs.declared.fact.Fact.TheVariants.{Moved}
 use Rattle.place_names.specs.Facts.{effect}
-use Rattle.owned_ways.specs.Ways.{Step, Loc, OfRoot, OfCell, Inside, Way, Object, Lost, Into, All, Word, Empty, Gone, Held, View, part, Below, Reaches, IsRooted, IsDrop, Root, OfVariable, OfHand, base_of, object_of, number_of, name_of, IsAt, Named, IsMoved, Excused, Sound, Owned, Covered, Known}
+use Rattle.owned_ways.specs.Ways.{Loc, OfRoot, OfCell, Inside, Way, Object, Lost, Into, All, Empty, Gone, Held, View, part, Below, Reaches, IsRooted, IsDrop, Root, OfVariable, OfHand, base_of, number_of, name_of, Named, Sound, Owned, Covered}
 use Rattle.owned_ways.proofs.Locations.{below}
 use Rattle.owned_ways.proofs.Assigned.{kept_fact, is_false}
 

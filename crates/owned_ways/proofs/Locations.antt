@@ -1,7 +1,7 @@
 -- Locations and ways as such.
-use Rattle.std.proofs.Common.{◌≡◌, refl, sym, ap, ◌∙◌, subst, ◌⊎◌, inl, inr, ℕ, Bool, true, false, not, ◌&&◌, ◌==◌, eqb-true, eq-eqb, List, [], ◌∷◌, ◌++◌, length, zero, suc, ◌<◌, ◌≤◌, ◌+◌, arith}
+use Rattle.std.proofs.Common.{◌≡◌, refl, sym, ap, ◌∙◌, subst, ◌⊎◌, inl, inr, ℕ, Bool, true, false, ◌&&◌, ◌==◌, eqb-true, eq-eqb, List, [], ◌∷◌, length, suc, ◌<◌, ◌≤◌, ◌+◌, arith}
 use Rattle.std.specs.Bool.{Decides}
-use Rattle.owned_ways.specs.Ways.{Step, Component, Element, Root, OfVariable, OfHand, Loc, OfRoot, OfCell, Inside, Way, Object, Lost, Into, All, Word, Empty, Gone, Held, View, part, along, Below, Reaches, IsRooted, Under, Past}
+use Rattle.owned_ways.specs.Ways.{Step, Component, Element, Root, OfVariable, OfHand, Loc, OfRoot, OfCell, Inside, Way, Object, Lost, Into, All, View, part, along, Below, Reaches, IsRooted, Under, Past}
 
 pub both_parts : (a b : Bool) → a && b ≡ true → (a ≡ true) × (b ≡ true)
 both_parts true b e = (refl, e)

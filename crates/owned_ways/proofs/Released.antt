@@ -1,14 +1,14 @@
 -- Freeing a cell that a name reaches, and making one.
-use Rattle.std.proofs.Common.{◌≡◌, refl, sym, ap, ◌∙◌, subst, ◌⊎◌, inl, inr, ℕ, Bool, true, false, not, List, [], ◌∷◌, ◌++◌, Option, Some, None, zero, suc, ◌<◌, ◌≤◌, arith}
+use Rattle.std.proofs.Common.{◌≡◌, sym, ap, ◌∙◌, subst, ◌⊎◌, inl, inr, ℕ, List, [], ◌∷◌, suc, ◌<◌, ◌≤◌, arith}
 use Rattle.std.proofs.Math.Nat.{eq-or-lt_of_le}
 use Rattle.place_names.specs.Names.{covers}
 use Rattle.place_names.specs.declared.act.Act.TheVariants.{Free}
 use Rattle.place_names.specs.declared.fact.Fact.{Fact}
 use Rattle.place_names.specs.declared.fact.Fact.TheVariants.{Moved}
 use Rattle.place_names.specs.Facts.{effect}
-use Rattle.owned_ways.specs.Ways.{Step, Loc, OfRoot, OfCell, Inside, Way, Object, Lost, Into, All, Word, Empty, Gone, Held, View, part, along, Below, Reaches, IsRooted, Under, Past, Owned, Covered, Known, IsRelease, IsFresh, name_of, Named, IsMoved, Excused, Sound}
+use Rattle.owned_ways.specs.Ways.{Step, Loc, OfCell, Inside, Way, Object, Lost, Into, All, Empty, Gone, Held, View, part, Below, Reaches, IsRooted, Under, Owned, IsRelease, IsFresh, name_of, Named, Sound}
 use Rattle.owned_ways.proofs.Locations.{below, same_loc}
-use Rattle.owned_ways.proofs.Unique.{one_location, one_way}
+use Rattle.owned_ways.proofs.Unique.{one_location}
 use Rattle.owned_ways.proofs.Named.{covered_under}
 use Rattle.owned_ways.proofs.Assigned.{kept_fact, is_false}
 

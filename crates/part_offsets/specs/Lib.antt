@@ -1,0 +1,2 @@
+-- parts by steps, and where they stand
+pub mod Parts
