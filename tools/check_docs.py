@@ -9,8 +9,9 @@ that each sentence has its definitions, and each crate its room, as tools/check_
 that programs which a page quotes are those of their files; that counts of examples, wrong bodies and crates
 are right; that names of code in the pages about the code exist, and headings that the code cites; that
 TOOL.md, RULES.md and ERRORS.md have the same codes; that prose is at most 100 columns wide, keeps to one word
-for one idea and cites nothing that isn't here; that ERRORS.md and WHAT_IT_FINDS.md are what
-tools/errors_page.py and tools/what_it_finds.py make; and that crates.txt is what tools/crate_lines.py makes.
+for one idea and cites nothing that isn't here; that ERRORS.md, WHAT_IT_FINDS.md and LEFT_OUT.md are
+what tools/errors_page.py, tools/what_it_finds.py and tools/left_out_page.py make; and that crates.txt is
+what tools/crate_lines.py makes.
 """
 import pathlib
 import re
@@ -19,6 +20,7 @@ import sys
 sys.dont_write_bytecode = True
 import crate_lines
 import errors_page
+import left_out_page
 import what_it_finds
 import check_definitions
 
@@ -235,7 +237,7 @@ def faults(pages):
     yield from faults_of_code(pages)
     yield from faults_of_codes(pages)
     yield from crate_lines.faults()
-    for maker in (errors_page, what_it_finds):
+    for maker in (errors_page, what_it_finds, left_out_page):
         if not maker.PAGE.is_file() or maker.PAGE.read_text() != maker.made():
             name = pathlib.Path(maker.__file__).name
             yield "docs/%s: it isn't what tools/%s makes" % (maker.PAGE.name, name)
@@ -295,7 +297,7 @@ def main():
     paths = [TOP / "README.md"] + sorted((TOP / "docs").glob("*.md"))
     if sys.argv[1:2] == ["--wrap"]:
         for path in [pathlib.Path(name).resolve() for name in sys.argv[2:]] or paths:
-            if path not in (errors_page.PAGE, what_it_finds.PAGE):
+            if path not in (errors_page.PAGE, what_it_finds.PAGE, left_out_page.PAGE):
                 path.write_text(wrap(Page(path)))
     elif sys.argv[1:]:
         print(__doc__)

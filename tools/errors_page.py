@@ -798,6 +798,11 @@ def made():
     return "\n\n".join([wrapped(HEAD), titles] + [section(row) for row in ROWS]) + "\n"
 
 
+def title_of(code):
+    """The title of a code's section."""
+    return next(row.title for row in ROWS if row.code == code)
+
+
 def slug(heading):
     """The anchor of a heading."""
     return re.sub(r"[^\w\- ]", "", heading.strip().lower()).replace(" ", "-")

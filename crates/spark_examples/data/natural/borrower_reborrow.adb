@@ -1,0 +1,70 @@
+--  A sorted list, as it is written in SPARK.
+--> spark check borrower_reborrow.adb
+--> status 2
+--> err borrower_reborrow.adb:15:28: P1 syntax
+with Ada.Text_IO; use Ada.Text_IO;
+procedure Main with SPARK_Mode is
+   type Cell;
+   type List is access Cell;
+   type Cell is record
+      Value : Integer;
+      Next  : List;
+   end record;
+
+   --  Keeps the list sorted.
+   procedure Insert_Sorted (L : in out List; Value : Integer) is
+   begin
+      if L = null or else L.Value >= Value then
+         L := new Cell'(Value, L);
+         return;
+      end if;
+      declare
+         B : access Cell := L;
+      begin
+         while B.Next /= null and then B.Next.Value < Value loop
+            pragma Loop_Invariant (B /= null);
+            B := B.Next;
+         end loop;
+         B.Next := new Cell'(Value => Value, Next => B.Next);
+      end;
+   end Insert_Sorted;
+
+   procedure Increment_All (L : in out List; By : Integer := 1) is
+      B : access Cell := L;
+   begin
+      while B /= null loop
+         B.Value := B.Value + By;
+         B := B.Next;
+      end loop;
+   end Increment_All;
+
+   --  Cuts the list behind N cells.
+   procedure Truncate (L : access Cell; N : Positive) is
+      B : access Cell := L;
+   begin
+      for I in 2 .. N loop
+         exit when B = null;
+         B := B.Next;
+      end loop;
+      if B /= null then
+         B.Next := null;
+      end if;
+   end Truncate;
+
+   L : List;
+begin
+   Insert_Sorted (L, 3);
+   Insert_Sorted (L, 1);
+   Insert_Sorted (L, 2);
+   Increment_All (L);
+   Truncate (L, 2);
+   declare
+      C : access constant Cell := L;
+   begin
+      while C /= null loop
+         Put (Integer'Image (C.Value));
+         C := C.Next;
+      end loop;
+   end;
+   New_Line;
+end Main;

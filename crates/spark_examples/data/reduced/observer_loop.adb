@@ -1,0 +1,75 @@
+--  Sums along a list, with what `spark` reads alone.
+--> spark check observer_loop.adb
+--> status 0
+--> out accepted
+with Ada.Text_IO;
+package Sensors with SPARK_Mode is
+   type Kind is (Heat, Light, Sound);
+   subtype Level is Integer range 0 .. 1000;
+   type Reading;
+   type Readings is access Reading;
+   type Reading is record
+      K     : Kind;
+      Value : Level;
+      Next  : Readings;
+   end record;
+   procedure Add (R : in out Readings; K : Kind; Value : Integer);
+   function Maximum (R : Readings; K : Kind) return Integer;
+   function Count (R : Readings; K : Kind) return Natural;
+   procedure Report (R : Readings);
+end Sensors;
+package body Sensors with SPARK_Mode is
+   procedure Add (R : in out Readings; K : Kind; Value : Integer) is
+   begin
+      if Value >= 0 and Value <= 1000 then
+         R := new Reading'(K => K, Value => Value, Next => R);
+      end if;
+   end Add;
+
+   function Maximum (R : Readings; K : Kind) return Integer is
+      Cur  : access constant Reading := R;
+      Best : Integer := Integer'First;
+   begin
+      loop
+         exit when Cur = null;
+         if Cur.K = K then
+            if Cur.Value > Best then
+               Best := Cur.Value;
+            end if;
+         end if;
+         Cur := Cur.Next;
+      end loop;
+      return Best;
+   end Maximum;
+
+   function Count (R : Readings; K : Kind) return Natural is
+      Cur : access constant Reading := R;
+      N   : Natural := 0;
+   begin
+      while Cur /= null loop
+         if Cur.K = K then
+            N := N + 1;
+         end if;
+         Cur := Cur.Next;
+      end loop;
+      return N;
+   end Count;
+
+   procedure Report (R : Readings) is
+   begin
+      for K in Kind loop
+         Ada.Text_IO.Put_Line
+           (Kind'Image (K) & ":" & Natural'Image (Count (R, K)) & " max"
+            & Integer'Image (Maximum (R, K)));
+      end loop;
+   end Report;
+end Sensors;
+with Sensors; use Sensors;
+procedure Main is
+   R : Readings;
+begin
+   Add (R, Heat, 20);
+   Add (R, Light, 700);
+   Add (R, Heat, 25);
+   Report (R);
+end Main;

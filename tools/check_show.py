@@ -1,0 +1,352 @@
+#!/usr/bin/env python3
+"""Tries tools/spark-show on all examples, on the programs and on the table of what is left out.
+
+    python3 tools/check_show.py [--program PATH]
+
+Without --program it runs the script `spark`. Status 1 where something is wrong; each fault is a line.
+
+- The lines of `spark` come through byte for byte, with its status, and no other line looks like one.
+- Below each line stand the line of the source and a caret in its column, and the title of the code.
+- Of each `moved`, `borrowed` and `observed` a line where the name was given away or lent is told; for some
+  reports these lines are known.
+- At each refused source of the table the construct is named, and none is named at a plain mistake.
+- Each example and program is as its head says, those in `natural`, as they are written in SPARK, and in `reduced`,
+  changed for `spark`, among them.
+- `--order`, `--explain`, `--sarif` and a missing file do what is said of them.
+"""
+import argparse
+import importlib.machinery
+import importlib.util
+import json
+import pathlib
+import re
+import subprocess
+import sys
+import tempfile
+from concurrent.futures import ThreadPoolExecutor
+
+sys.dont_write_bytecode = True
+import errors_page
+import left_out_page
+
+TOP = pathlib.Path(__file__).resolve().parent.parent
+SHOW = TOP / "tools" / "spark-show"
+DATA = TOP / "crates" / "spark_examples" / "data"
+FAULTS, MET = [], set()
+
+# Examples of P1, P3 and N1 that are no construct of Ada, or none that the table has.
+PLAIN = """P1_cut_short P1_function_without_return P1_missing_semicolon P1_mixed_operators P1_mixed_short_circuit P1_no_statement
+P1_second_else P1_sign_behind_operator P1_two_relations N1_undeclared N1_use_of_procedure""".split()
+
+# The lines where the name was given away or lent, for some reports: those of loops, branches, exits and `return`, of
+# names that get a value between, and of parts.
+WHERE = {
+    "O10_two_lists_with_one_rest.adb:38:10": [36],
+    "O11_written_while_observed.adb:29:7": [27],
+    "O14_borrowed_part.adb:19:13": [17],
+    "O1_O3_O4_O14_on_one_path.adb:17:9": [16],
+    "O1_O3_O4_O14_on_one_path.adb:20:10": [16, 19],
+    "O1_after_an_exit.adb:17:9": [12],
+    "O1_facts_go_on.adb:15:9": [13],
+    "O1_freed_in_a_loop.adb:15:44": [16],
+    "O1_freed_in_a_loop.adb:16:14": [16],
+    "O1_moved_element.adb:19:12": [17],
+    "O1_moved_part.adb:17:9": [16],
+    "O1_second_turn_of_a_loop.adb:13:20": [14],
+    "O3_borrowed_by_a_traversal_call.adb:31:7": [29],
+    "O3_ring.adb:14:4": [14],
+    "O3_write_gives_nothing_back.adb:15:9": [13],
+    "O4_wrong_swap.adb:14:9": [13],
+    "O7_past_a_moved_part.adb:22:4": [19],
+    "O9_early_return.adb:19:10": [16],
+    "O9_package_object_freed.adb:19:4": [15],
+    "V2_freed_in_the_inner_block.adb:18:13": [17],
+    "main.adb:20:16": [18],
+    "main.adb:23:39": [14],
+}
+
+# The required properties of the objects that a log has, by the schema of SARIF 2.1.0.
+REQUIRED = {
+    "log": ["version", "runs"],
+    "run": ["tool"],
+    "tool": ["driver"],
+    "driver": ["name"],
+    "rule": ["id"],
+    "shortDescription": ["text"],
+    "result": ["message"],
+    "message": ["text"],
+    "invocation": ["executionSuccessful"],
+    "notification": ["message"],
+}
+
+
+def fault(text):
+    FAULTS.append(text)
+
+
+def loaded():
+    """The module spark-show."""
+    loader = importlib.machinery.SourceFileLoader("spark_show", str(SHOW))
+    module = importlib.util.module_from_spec(importlib.util.spec_from_loader("spark_show", loader))
+    loader.exec_module(module)
+    return module
+
+
+SPARK_SHOW = loaded()
+
+
+def run(folder, *words):
+    return subprocess.run([str(word) for word in words], cwd=folder, stdin=subprocess.DEVNULL, capture_output=True)
+
+
+def head(path):
+    """The files, the status and the lines of both outputs that the head of an example tells."""
+    files, status, out, err = [], None, [], []
+    for line in path.read_bytes().decode("latin-1").split("\n"):
+        if not line.startswith("--"):
+            break
+        key, _, rest = line.rstrip("\r").partition("--> ")[2].partition(" ")
+        if key == "spark":
+            files = rest.split(" ")[1:]
+        elif key == "status":
+            status = int(rest)
+        elif key in ("out", "err"):
+            (out if key == "out" else err).append(rest)
+    return files, status, out, err
+
+
+def examples():
+    """The examples that are checked as programs, with what their heads tell."""
+    for path in sorted(DATA.glob("*/*.adb")):
+        files, status, out, err = head(path)
+        if files and "check" in path.read_text("latin-1").split("\n--> spark ", 1)[1][:6]:
+            yield path, files, status, out, err
+
+
+def told(data):
+    """What spark-show adds, for each line of `spark`: a list of pairs."""
+    found = []
+    for line in data.decode("utf-8", "replace").splitlines():
+        if re.match(r"[^ ].*?:\d+:\d+: [A-Z]\d+ ", line):
+            found.append((line, []))
+        elif found:
+            found[-1][1].append(line)
+    return found
+
+
+def try_example(program, example):
+    """Runs an example through `spark` and through spark-show, and compares."""
+    path, files, status, out, err = example
+    plain = run(path.parent, program, "check", *files)
+    with tempfile.TemporaryDirectory() as folder:
+        log = pathlib.Path(folder, "log")
+        made = run(path.parent, SHOW, "--program", program, "--sarif", log, *files)
+        faults = ["--sarif: " + it for it in faults_of_results(json.loads(log.read_text()), files, status, err)]
+    if (plain.returncode, plain.stdout, plain.stderr.decode("latin-1").splitlines()) != (
+        status,
+        "".join(line + "\n" for line in out).encode(),
+        err,
+    ):
+        faults.append("spark doesn't answer as the head says")
+    if (made.returncode, made.stdout) != (plain.returncode, plain.stdout):
+        faults.append("another status or another standard output")
+    lines = plain.stderr.splitlines(keepends=True)
+    if [line for line in made.stderr.splitlines(keepends=True) if SPARK_SHOW.split(line.decode().rstrip("\n"), files)] != lines:
+        faults.append("the lines of spark don't come through")
+    for line, below in told(made.stderr):
+        faults += faults_below(path, files, line, below)
+        if path.parent.name == "natural" and not any("likely left out" in text for text in below):
+            faults.append("no construct is named")
+    return ["%s: %s" % (path.relative_to(DATA), it) for it in faults]
+
+
+def faults_below(path, files, line, below):
+    """What is wrong below a line of `spark`."""
+    it = SPARK_SHOW.split(line, files)
+    source = (path.parent / it.file).read_bytes().split(b"\n")
+    shown = [text for text in below if re.match(r" *\d* \| ", text)]
+    quoted = source[it.line - 1] if it.line <= len(source) else b""
+    if len(shown) != 2 or not shown[0].startswith("%5d | " % it.line):
+        yield "no line of the source below " + line
+    elif shown[0][8:].isascii() and len(shown[1]) - 8 != it.column:
+        yield "the caret isn't in its column: " + line
+    elif shown[0][8:].isascii() and shown[0][8:].replace(" ", "") != re.sub(rb"[ \r]", b"", quoted).decode():
+        yield "another line of the source below " + line
+    if not any("%s: %s" % (it.code, errors_page.title_of(it.code)) in text for text in below):
+        yield "no title below " + line
+    told_of = [text for text in below if re.search(r" lines? \d|earlier turn", text)]
+    if it.word in ("moved", "borrowed", "observed") and not told_of:
+        yield "no line where the name was given away or lent: " + line
+
+
+def try_examples(program):
+    all_examples = list(examples())
+    with ThreadPoolExecutor() as pool:
+        for found in pool.map(lambda it: try_example(program, it), all_examples):
+            for text in found:
+                fault(text)
+    for position in sorted(set(WHERE) - MET):
+        fault("no report at " + position)
+    return len(all_examples)
+
+
+def guessed(program, folder, source):
+    """What spark-show says is left out in a source."""
+    pathlib.Path(folder, "f.adb").write_text(source)
+    made = run(folder, SHOW, "--program", program, "f.adb")
+    found = re.search(r"likely left out: (.*) \(docs/LEFT_OUT.md\)", made.stderr.decode())
+    return found and found[1], made.stderr.decode()
+
+
+def try_constructs(program):
+    """Each construct of the table is named at its refused source, with what stands in its place."""
+
+    def one(it):
+        with tempfile.TemporaryDirectory() as folder:
+            name, said = guessed(program, folder, it.refused)
+        if name != it.name:
+            return "left_out.txt, %s: named is %s" % (it.name, name)
+        return None if "in its place: " + it.place in said else "left_out.txt, %s: not what is in its place" % it.name
+
+    with ThreadPoolExecutor() as pool:
+        for text in pool.map(one, left_out_page.constructs()):
+            if text:
+                fault(text)
+    for name in PLAIN:
+        path = next(DATA.glob("refusals/%s.adb" % name))
+        with tempfile.TemporaryDirectory() as folder:
+            found, _ = guessed(program, folder, path.read_text())
+        if found:
+            fault("%s: it is named %s" % (name, found))
+
+
+# ---- the words of spark-show
+
+
+def try_order(program):
+    """The files of a program in any order give what they give in the right one."""
+    queue = DATA / "queue"
+    right = run(queue, program, "check", "queues.ads", "queues.adb", "main.adb")
+    for files in (["main.adb", "queues.adb", "queues.ads"], ["queues.adb", "main.adb", "queues.ads"]):
+        made = run(queue, SHOW, "--program", program, "--order", *files)
+        lines = [line for line, _ in told(made.stderr)]
+        if (made.returncode, lines) != (right.returncode, right.stderr.decode().splitlines()):
+            fault("--order %s: %s" % (" ".join(files), made.stderr.decode()))
+    with tempfile.TemporaryDirectory() as name:
+        folder = pathlib.Path(name)
+        for file, text in (
+            ("a.ads", "with B; package A is X : B.T; end A;"),
+            ("a.adb", "package body A is procedure P is begin null; end P; end A;"),
+            ("b.ads", "with C; package B is subtype T is C.T; end B;"),
+            ("c.ads", "package C is type T is (One, Two); end C;"),
+            ("main.adb", "with A; procedure Main is begin null; end Main;"),
+        ):
+            (folder / file).write_text(text)
+        made = SPARK_SHOW.ordered([str(folder / it) for it in ("a.adb", "a.ads", "b.ads", "c.ads", "main.adb")])
+        names = [pathlib.Path(it).name for it in made]
+        if names != ["c.ads", "b.ads", "a.ads", "a.adb", "main.adb"]:
+            fault("--order gives %s" % names)
+
+
+def try_words(program):
+    """--explain, a missing file, a folder, and words that spark-show doesn't have."""
+    for row in errors_page.ROWS:
+        made = run(TOP, SHOW, "--explain", row.code)
+        if made.returncode or not made.stdout.decode().startswith("%s: %s\n\n" % (row.code, row.title)):
+            fault("--explain " + row.code)
+    for words, status, wanted in (
+        (["--explain", "Z9"], 6, "no code Z9"),
+        (["--program", program, "absent.adb"], 7, "there is no file absent.adb"),
+        (["--program", program, "tools"], 7, "tools is no file"),
+        (["--program", program, "-x"], 6, "usage: 1 to 64 files"),
+        (["--program", program, *["f.adb"] * 65], 6, "usage: 1 to 64 files"),
+        (["--wrong"], 6, "spark-show [--program PATH]"),
+        ([], 6, "spark-show [--program PATH]"),
+        (["--program", "/absent", "f.adb"], 6, "/absent"),
+    ):
+        made = run(TOP, SHOW, *words)
+        if made.returncode != status or wanted not in made.stderr.decode():
+            fault("spark-show %s: status %d, %s" % (" ".join(words), made.returncode, made.stderr.decode()))
+
+
+# ---- SARIF
+
+
+def lacking(kind, made):
+    """The required properties that an object of a log hasn't."""
+    return ["%s of %s" % (it, kind) for it in REQUIRED[kind] if it not in made]
+
+
+def faults_of_log(log):
+    """What a log lacks by the schema, and positions that don't count from 1."""
+    found = lacking("log", log)
+    for made in log["runs"]:
+        found += lacking("run", made) + lacking("tool", made["tool"]) + lacking("driver", made["tool"]["driver"])
+        rules = made["tool"]["driver"]["rules"]
+        for rule in rules:
+            found += lacking("rule", rule) + lacking("shortDescription", rule["shortDescription"])
+        for result in made["results"]:
+            found += lacking("result", result) + lacking("message", result["message"])
+            if rules[result["ruleIndex"]]["id"] != result["ruleId"]:
+                found.append("a rule with another index")
+            for place in result["locations"] + result.get("relatedLocations", []):
+                region = place["physicalLocation"]["region"]
+                if not place["physicalLocation"]["artifactLocation"]["uri"] or region["startLine"] < 1 or region.get("startColumn", 1) < 1:
+                    found.append("a location without its place")
+        for invocation in made["invocations"]:
+            found += lacking("invocation", invocation)
+            for it in invocation.get("toolExecutionNotifications", []):
+                found += lacking("notification", it)
+    return found
+
+
+def faults_of_results(log, files, status, err):
+    """What differs between a log and the lines of `spark`."""
+    yield from faults_of_log(log)
+    made = log["runs"][0]
+    found = []
+    for it in made["results"]:
+        place = it["locations"][0]["physicalLocation"]
+        found.append((place["artifactLocation"]["uri"], place["region"]["startLine"], it["message"]["text"]))
+        said = it["message"]["text"].split()[0]
+        position = "%s:%d:%d" % (found[-1][0], found[-1][1], place["region"]["startColumn"])
+        related = [each["physicalLocation"]["region"]["startLine"] for each in it.get("relatedLocations", [])]
+        if position in WHERE and said[0] == "O":
+            MET.add(position)
+        if position in MET and said[0] == "O" and WHERE[position] != related:
+            yield "%s: lines %s are told, and not %s" % (position, related, WHERE[position])
+    lines = [SPARK_SHOW.split(line, files) for line in err]
+    if found != [(it.file, it.line, "%s %s" % (it.code, it.said)) for it in lines]:
+        yield "other results"
+    if log["version"] != "2.1.0" or made["invocations"][0]["exitCode"] != status:
+        yield "another version or status"
+
+
+def try_absent(program):
+    """The log of a run that couldn't read a file."""
+    with tempfile.TemporaryDirectory() as folder:
+        log = pathlib.Path(folder, "log")
+        run(folder, SHOW, "--program", program, "--sarif", log, "absent.adb")
+        made = json.loads(log.read_text())
+    for text in faults_of_log(made):
+        fault("--sarif absent.adb: " + text)
+    if made["runs"][0]["invocations"][0]["executionSuccessful"]:
+        fault("--sarif absent.adb: it is called a success")
+
+
+def main():
+    words = argparse.ArgumentParser()
+    words.add_argument("--program", default=str(TOP / "spark"))
+    program = str(pathlib.Path(words.parse_args().program).resolve())
+    count = try_examples(program)
+    try_constructs(program)
+    try_order(program)
+    try_words(program)
+    try_absent(program)
+    constructs = len(left_out_page.constructs())
+    print("\n".join(FAULTS + ["%d programs and %d constructs, %d faults" % (count, constructs, len(FAULTS))]))
+    return 1 if FAULTS else 0
+
+
+if __name__ == "__main__":
+    sys.exit(main())
