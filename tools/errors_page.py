@@ -25,7 +25,9 @@ class Row(NamedTuple):
     code: str
     title: str
     meaning: str
-    mend: str
+    # what to do, and pieces of advice, each with the example in `accepted` that was mended so, or none
+    mend: str = ""
+    mended: list = []
     bad: str = ""
     good: str = ""
     # in place of a program, where one would be too large
@@ -45,11 +47,40 @@ Codes that begin with `O`, `A` or `V` are reports: the program breaks a rule of 
 codes are refusals: the source isn't checked for ownership at all (status 2). Faults of the command itself, as a wrong word
 or a file that can't be read, have no code; [TOOL.md](TOOL.md#statuses) has their statuses.
 
-Each section below has a program with the code, the line that `spark` prints for it, and the nearest program
-without it. The programs are files of `crates/spark_examples/data`. They stand here without their heads, the lines
+Each section below has a program with the code, the line that `spark` prints for it, the nearest program
+without it, and how to mend such a program; a link beside a piece of advice leads to a program that was mended so. The
+programs are files of `crates/spark_examples/data`, and all of them are tested. They stand here without their heads, the lines
 that say what is expected of them. The line numbers are those of the files, heads included.
 
 This page is made by `tools/errors_page.py`. Change the tool or the examples, not the page.
+
+## How to read a line
+
+```
+O1_moved_part.adb:17:9: O1 L.all.Next.all.Value: moved
+```
+
+A report has the position, the code of the rule, a name, and a word that says why the name may not be used so. A column is
+a byte, and a tab is one column.
+
+**The name** is the one that is used at the position, with each step of it. `.all` stands for what an access value
+designates, and is printed where the text leaves it out, too: here the text has `L.Next.Value`. `(?)` stands for some
+element of an array. No index is known, so all elements are one place: what is said of `R (1)` holds of `R (2)`, and both
+are printed `R(?)`. A name that is declared in a package has the package before it. Of O8 and O9 the name is the one
+that was moved, and the position is the end of the block or the return.
+
+**The word** doesn't say that the name itself was moved or lent. It may be a part of it, or what leads to it: here
+`L.Next` [was moved](../crates/spark_examples/data/rules/O1_moved_part.adb), which leads to the name.
+
+- `moved`: on some control path to this position another owner got it, and it was given no value since. Conditions
+  play no part.
+- `borrowed`: a borrower, an object of a type `access T`, has it until its block ends.
+- `observed`: an observer, an object of a type `access constant T`, looks at it until its block ends.
+
+A1 to V4 have [phrases](TOOL.md#lines) in place of these words. `tools/spark-show FILE...` prints the same lines as
+`spark check FILE...`, and below each one the line of the source and where the name was moved or lent.
+
+## The codes
 """
 
 ROWS = [
@@ -83,10 +114,10 @@ ROWS = [
             """,
         bad="refusals/L1_question_mark.adb",
         good="accepted/K1_value_by_assignment.adb",
-        mend="""
-            Remove the byte, or write the name or the text in ASCII. At the end of a line with an open string the byte
-            is a carriage return: close the string.
-            """,
+        mended=[
+            ("Remove the byte, or write the name or the text in ASCII", "K1_value_by_assignment"),
+            ("At the end of a line with an open string the byte is a carriage return: close the string", ""),
+        ],
     ),
     Row(
         code="L2",
@@ -97,7 +128,9 @@ ROWS = [
             """,
         bad="refusals/L2_double_underscore.adb",
         good="accepted/L2_single_underscores.adb",
-        mend="Leave single underscores between letters and digits, and no others.",
+        mended=[
+            ("Leave single underscores between letters and digits, and no others", "L2_single_underscores"),
+        ],
     ),
     Row(
         code="L3",
@@ -109,7 +142,9 @@ ROWS = [
             """,
         bad="refusals/L3_too_large.adb",
         good="accepted/L3_largest_number.adb",
-        mend="Write the value as a decimal integer. The largest value of an Integer is 2147483647.",
+        mended=[
+            ("Write the value as a decimal integer; the largest value of an Integer is 2147483647", "L3_largest_number"),
+        ],
     ),
     Row(
         code="L4",
@@ -118,9 +153,11 @@ ROWS = [
         bad="refusals/L4_open_string.adb",
         good="accepted/L4_quote_in_comment.adb",
         mend="""
-            Close the string on its line, or remove the quote. A quote within a string is written as two. A quote in a
-            comment begins no string.
+            A quote within a string is written as two. A quote in a comment begins no string.
             """,
+        mended=[
+            ("Close the string on its line, or remove the quote", "L4_quote_in_comment"),
+        ],
     ),
     Row(
         code="L5",
@@ -150,15 +187,18 @@ ROWS = [
         meaning="""
             This is the first token that no valid program could have here, after the tokens before it. The mistake is
             at this token or before it: a missing semicolon, say, is found at the token behind it. Where the file ends
-            too early the position is that of its end. Some constructs of Ada that the subset leaves out are found
-            here too, where no word tells them: `**`, `<>`, character literals.
+            too early the position is that of its end. Most constructs of Ada that the subset leaves out are refused here,
+            too, though they are right Ada: aspects, expression functions, defaults, subprograms within subprograms,
+            conditional expressions and [others](LEFT_OUT.md).
             """,
         bad="refusals/P1_no_statement.adb",
         good="accepted/P1_only_null.adb",
         mend="""
-            Look at the token, then at the one before it. [LANGUAGE.md](LANGUAGE.md#grammar) has the whole grammar, and
-            [examples](LANGUAGE.md#what-is-refused) of such tokens.
+            Look at the token, then at the one before it. Where the text is right Ada, [LEFT_OUT.md](LEFT_OUT.md) says what stands in its place, and `tools/spark-show` names what is likely meant. [LANGUAGE.md](LANGUAGE.md#grammar) has the whole grammar, and [examples](LANGUAGE.md#what-is-refused) of such tokens.
             """,
+        mended=[
+            ("Write what is missing", "P1_only_null"),
+        ],
     ),
     Row(
         code="P2",
@@ -169,22 +209,30 @@ ROWS = [
             """,
         bad="refusals/P2_nested_parentheses.adb",
         good="accepted/P2_63_parentheses.adb",
-        mend="Give a part of the expression a name of its own, or move inner statements into a procedure.",
+        mended=[
+            ("Give a part of the expression a name of its own", "P2_part_with_a_name"),
+            ("Open fewer constructs", "P2_63_parentheses"),
+            ("Move inner statements into a procedure", ""),
+        ],
     ),
     Row(
         code="P3",
         title="a construct of Ada that is left out",
         meaning="""
-            As P1, where the token is a word that belongs to something in Ada that this subset leaves out: exceptions,
-            tasks, generics, `goto`, renaming, `aliased`, `access all`, derived and limited types and others.
-            [LANGUAGE.md](LANGUAGE.md#what-is-refused) lists the words. The word alone decides the code, so a word such
+            As P1, where the token is a word that belongs to something in Ada that this subset
+            [leaves out](LEFT_OUT.md): exceptions, tasks, generics, `goto`, renaming, `aliased`, `access all`, derived
+            and limited types and others. [LANGUAGE.md](LANGUAGE.md#what-is-refused) lists the words. The word alone decides the code, so a word such
             as `new` in a wrong position is P3 too.
             """,
         bad="refusals/P3_raise.adb",
         good="accepted/P1_only_null.adb",
         mend="""
-            Do without the construct, or keep it in a unit of its own that isn't given to `spark`.
+            [LEFT_OUT.md](LEFT_OUT.md) has the constructs, each with what stands in its place. A unit that is left out of the command is missing then (N1 or N5).
             """,
+        mended=[
+            ("Do without the construct", "P1_only_null"),
+            ("Give a simpler body in place of one that needs it, as of [this one](../crates/spark_examples/data/refusals/P3_body_with_handler.adb): it keeps to the subset, and changes, keeps and frees the same objects", "P3_simpler_body"),
+        ],
     ),
     Row(
         code="N1",
@@ -198,9 +246,11 @@ ROWS = [
         bad="refusals/N1_undeclared.adb",
         good="accepted/N1_declared.adb",
         mend="""
-            Declare the name, or correct its spelling. A name from another file is known only where that file is given
-            too, before this one.
+            A name from another file is known only where that file is given too, before this one. Predefined types and units that `spark` doesn't know are in [LEFT_OUT.md](LEFT_OUT.md).
             """,
+        mended=[
+            ("Declare the name, or correct its spelling", "N1_declared"),
+        ],
     ),
     Row(
         code="N2",
@@ -213,7 +263,12 @@ ROWS = [
             """,
         bad="refusals/N2_declared_twice.adb",
         good="accepted/N2_two_names.adb",
-        mend="Give one of the two another name. Of two main programs, give each to a command of its own.",
+        mend="""
+            Of two main programs, give each to a command of its own.
+            """,
+        mended=[
+            ("Give one of the two another name", "N2_two_names"),
+        ],
     ),
     Row(
         code="N3",
@@ -225,10 +280,11 @@ ROWS = [
             """,
         bad="refusals/N3_no_with_clause.adb",
         good="accepted/N3_with_clause.adb",
-        mend="""
-            Add the `with` clause, move the declaration into the visible part, or write the package before the name:
-            `P.X`.
-            """,
+        mended=[
+            ("Add the `with` clause", "N3_with_clause"),
+            ("Move the declaration into the visible part", "N3_visible_part"),
+            ("Write the package before a name that two packages in use have", "N3_package_before_the_name"),
+        ],
     ),
     Row(
         code="N4",
@@ -241,9 +297,12 @@ ROWS = [
         bad="refusals/N4_used_before_declaration.adb",
         good="accepted/N4_declared_before_use.adb",
         mend="""
-            Move the declaration up, or name the files in the order in which they need each other: specifications first.
-            For two types that name each other, begin with an incomplete one: `type Cell;`.
+            Name the files in the order in which they need each other, specifications first: `tools/spark-show --order FILE...` does it.
             """,
+        mended=[
+            ("Move the declaration up", "N4_declared_before_use"),
+            ("Of two types that name each other, begin with an incomplete one: `type Cell;`", "K1_access_to_incomplete_type"),
+        ],
     ),
     Row(
         code="N5",
@@ -255,7 +314,9 @@ ROWS = [
             """,
         bad="refusals/N5_no_body.adb",
         good="accepted/N5_package_body.adb",
-        mend="Write the body or the full type, or name the file that has it in the same command.",
+        mended=[
+            ("Write the body or the full type, or name the file that has it in the same command, after the specification", "N5_package_body"),
+        ],
     ),
     Row(
         code="N6",
@@ -263,7 +324,10 @@ ROWS = [
         meaning="The name after `end` isn't that of the package, procedure or function that ends there.",
         bad="refusals/N6_other_closing_name.adb",
         good="accepted/N6_closing_name_in_other_case.adb",
-        mend="Correct the name, or leave it out.",
+        mended=[
+            ("Correct the name", "N6_closing_name_in_other_case"),
+            ("Leave it out", "N6_no_closing_name"),
+        ],
     ),
     Row(
         code="Y1",
@@ -275,9 +339,10 @@ ROWS = [
             """,
         bad="refusals/Y1_large_array.adb",
         good="accepted/Y1_largest_array.adb",
-        mend="""
-            Make the array shorter, or hold its parts by an access type: what is designated doesn't count.
-            """,
+        mended=[
+            ("Make the array shorter", "Y1_largest_array"),
+            ("Hold its parts by an access type: what is designated doesn't count", "Y1_parts_by_access"),
+        ],
     ),
     Row(
         code="Y2",
@@ -289,9 +354,10 @@ ROWS = [
             """,
         bad="refusals/Y2_65_access_parts.adb",
         good="accepted/Y2_64_access_parts.adb",
-        mend="""
-            Hold some of the parts in a record of their own that is designated, or make an array of them.
-            """,
+        mended=[
+            ("Hold some of the parts in a record of their own that is designated", "Y2_parts_in_a_record"),
+            ("Make an array of them", "Y2_array_of_parts"),
+        ],
     ),
     Row(
         code="Y3",
@@ -302,9 +368,9 @@ ROWS = [
             """,
         bad="refusals/Y3_no_elements.adb",
         good="accepted/Y3_one_element.adb",
-        mend="""
-            Correct the bounds, or leave the array out.
-            """,
+        mended=[
+            ("Correct the bounds", "Y3_one_element"),
+        ],
     ),
     Row(
         code="K1",
@@ -319,10 +385,11 @@ ROWS = [
             """,
         bad="refusals/K1_boolean_for_integer.adb",
         good="accepted/N1_declared.adb",
-        mend="""
-            Correct the name or the type. To compare two records, compare their components; to compare two access
-            objects, what they designate.
-            """,
+        mended=[
+            ("Correct the name or the type", "N1_declared"),
+            ("To compare two records, compare their components", "K1_components_compared"),
+            ("To compare what two access objects designate, compare that", "K1_designated_compared"),
+        ],
     ),
     Row(
         code="K2",
@@ -334,9 +401,9 @@ ROWS = [
             """,
         bad="refusals/K2_constant.adb",
         good="accepted/K2_variable.adb",
-        mend="""
-            Declare a variable and write that, or leave `constant` out.
-            """,
+        mended=[
+            ("Declare a variable and write that, or leave `constant` out", "K2_variable"),
+        ],
     ),
     Row(
         code="K3",
@@ -350,9 +417,12 @@ ROWS = [
         bad="refusals/K3_missing_actual.adb",
         good="accepted/K3_all_actuals.adb",
         mend="""
-            Compare with the declaration. Where actuals are mixed, which Ada allows, name all of them. What a function
-            would write, let a procedure write.
+            Compare with the declaration.
             """,
+        mended=[
+            ("Give each actual; where positions and names are mixed, which Ada allows, name all of them", "K3_all_actuals"),
+            ("What a function would write, let a procedure write", "V1_procedure_that_writes"),
+        ],
     ),
     Row(
         code="K4",
@@ -365,9 +435,10 @@ ROWS = [
             """,
         bad="refusals/K4_missing_choice.adb",
         good="accepted/K4_all_choices.adb",
-        mend="""
-            Add the choice, or `when others`. In an aggregate of a record, give each component by its name.
-            """,
+        mended=[
+            ("Add the choice, or `when others`", "K4_all_choices"),
+            ("In an aggregate of a record, give each component by its name", "K4_all_components"),
+        ],
     ),
     Row(
         code="K5",
@@ -379,9 +450,11 @@ ROWS = [
             """,
         bad="refusals/K5_parentheses.adb",
         good="accepted/K5_no_parentheses.adb",
-        mend="""
-            Remove the parentheses, declare a variable, or assign the value to an object first and pass its name.
-            """,
+        mended=[
+            ("Remove the parentheses", "K5_no_parentheses"),
+            ("Declare a variable", "K5_variable_of_access_type"),
+            ("Assign the value to an object first, and pass its name", "K5_name_as_actual"),
+        ],
     ),
     Row(
         code="K6",
@@ -396,9 +469,10 @@ ROWS = [
             """,
         bad="refusals/K6_no_initial_value.adb",
         good="accepted/K6_borrower.adb",
-        mend="""
-            Give the object a source, or declare it with a named access type.
-            """,
+        mended=[
+            ("Give the object a source", "K6_borrower"),
+            ("Declare it with a named access type", "K6_named_access_type"),
+        ],
     ),
     Row(
         code="K7",
@@ -412,10 +486,10 @@ ROWS = [
             """,
         bad="refusals/K7_variable_as_bound.adb",
         good="accepted/K7_constant_as_bound.adb",
-        mend="""
-            Use a constant with a static initial value. The smallest Integer is written as -2147483648, or as
-            Integer'First.
-            """,
+        mended=[
+            ("Use a constant with a static initial value", "K7_constant_as_bound"),
+            ("Write the smallest Integer as -2147483648, or as Integer'First", "K7_no_overflow"),
+        ],
     ),
     Row(
         code="K8",
@@ -427,9 +501,10 @@ ROWS = [
             """,
         bad="refusals/K8_function_call.adb",
         good="accepted/K8_function_call_in_body.adb",
-        mend="""
-            Give the object a simple value, or none, and assign to it in a procedure.
-            """,
+        mended=[
+            ("Give the object a simple value, or none", "K8_package_objects"),
+            ("Call the function in a body", "K8_function_call_in_body"),
+        ],
     ),
     Row(
         code="M1",
@@ -442,7 +517,10 @@ ROWS = [
             """,
         bad="refusals/M1_nine_steps.adb",
         good="accepted/M1_eight_steps.adb",
-        mend="Go by steps: with an observer or a borrower that walks along, or with a loop.",
+        mended=[
+            ("Go by steps: with a loop", "M1_loop"),
+            ("With an observer or a borrower that is along the way", "M1_observer"),
+        ],
     ),
     Row(
         code="G1",
@@ -479,10 +557,10 @@ ROWS = [
             """,
         bad="refusals/G2_nine_records.adb",
         good="accepted/G2_eight_records.adb",
-        mend="""
-            Move parts of the subprogram into procedures of their own, or hold the parts of a large record by one access
-            type.
-            """,
+        mended=[
+            ("Move parts of the subprogram into procedures of their own", "G2_two_procedures"),
+            ("Hold the parts of a large record by one access type", "G2_held_by_access_type"),
+        ],
     ),
     Row(
         code="O1",
@@ -496,10 +574,15 @@ ROWS = [
             """,
         bad="rules/O1_moved_on_a_branch.adb",
         good="accepted/O1_read_on_the_other_branch.adb",
-        mend="""
-            Read through the new owner or the borrower, read before the move or behind the block, or give X a new value
-            first.
-            """,
+        mended=[
+            ("Read through the new owner", "O1_read_by_new_owner"),
+            ("Read before the move", "O1_read_before_move"),
+            ("Read on the other branch alone", "O1_read_on_the_other_branch"),
+            ("Give X a new value first; a value for `X.all` is none", "O1_read_after_new_value"),
+            ("Of what is borrowed, read through the borrower, or after the end of its block", "O1_read_through_the_borrower"),
+            ("Of an element of an array, a value for one element doesn't help, since no index is known. Give the whole array a value", "O1_whole_array_after_move"),
+            ("Or let a procedure with an `in out` formal do both, the move and the new value", "O1_element_replaced_by_a_procedure"),
+        ],
     ),
     Row(
         code="O2",
@@ -510,23 +593,30 @@ ROWS = [
             """,
         bad="rules/O2_look_after_move.adb",
         good="accepted/O2_look_at_the_new_owner.adb",
-        mend="Compare the new owner or the borrower, or assign `null` to the name behind the move.",
+        mended=[
+            ("Compare the new owner", "O2_look_at_the_new_owner"),
+            ("Compare the borrower", "O2_look_at_the_borrower"),
+            ("Assign `null` to the name after the move", "O2_null_behind_the_move"),
+        ],
     ),
     Row(
         code="O3",
         title="a write through a moved name, or of what is lent",
         meaning="""
             `X.all` is written while X is moved, so the write would change an object that another name owns. X itself
-            may be written at any time: it has a value again then. With the words `borrowed` and `observed`, a borrower
+            may be written while it is moved, and has a value again then; while it is lent it may not. With the words `borrowed` and `observed`, a borrower
             or an observer has the object or a part of it until its block ends, and would see the change or look at an
             object that nobody owns any more.
             """,
         bad="rules/O3_observed.adb",
         good="accepted/O3_written_behind_the_observer.adb",
-        mend="""
-            Write through the new owner or the borrower, write behind the block, move the value back first, or give X a
-            new object.
-            """,
+        mended=[
+            ("Write through the new owner", "O3_through_the_new_owner"),
+            ("Write through the borrower", "O3_through_the_borrower"),
+            ("Write after the end of the block", "O3_written_behind_the_observer"),
+            ("Move the value back first", "O3_write_after_move_back"),
+            ("Give X a new object", "O3_whole_object_after_move"),
+        ],
     ),
     Row(
         code="O4",
@@ -537,11 +627,13 @@ ROWS = [
             """,
         bad="rules/O4_second_turn_of_a_loop.adb",
         good="accepted/O4_new_value_in_each_turn.adb",
-        mend="""
-            Assign from the present owner, or give X a new value between the two moves. To have the number twice,
-            allocate a second object and copy the number into it: `Z.all := Y.all;`. Of what is lent, end the block
-            first.
-            """,
+        mended=[
+            ("Assign from the present owner", "O4_from_the_new_owner"),
+            ("Give X a new value between the two moves", "O4_new_value_in_each_turn"),
+            ("To have the number twice, allocate a second object with a copy of it: `Z := new Integer'(Y.all);`", "O4_copied"),
+            ("Of what is lent, end the block first", "O4_moved_behind_the_block"),
+            ("Of an element of an array, a value for one element doesn't help, since no index is known. Let a procedure with an `in out` formal take it out", "O4_element_by_a_procedure"),
+        ],
     ),
     Row(
         code="O5",
@@ -553,7 +645,12 @@ ROWS = [
             """,
         bad="rules/O5_two_borrowers.adb",
         good="accepted/O5_one_after_the_other.adb",
-        mend="End the block of the first one before, borrow parts that don't overlap, or borrow from the borrower.",
+        mended=[
+            ("End the block of the first one before", "O5_one_after_the_other"),
+            ("Borrow parts that don't overlap", "O5_two_parts"),
+            ("Borrow from the borrower, in a block within its own", "O5_of_the_borrower"),
+            ("Of what was moved, borrow from the new owner", "O5_new_owner"),
+        ],
     ),
     Row(
         code="O6",
@@ -565,7 +662,11 @@ ROWS = [
             """,
         bad="rules/O6_borrowed.adb",
         good="accepted/O6_two_observers.adb",
-        mend="Observe the new owner or the borrower, or end the block of the borrower before.",
+        mended=[
+            ("Observe the borrower, in a block within its own", "O6_of_the_borrower"),
+            ("End the block of the borrower before", "O6_behind_the_block"),
+            ("Of what was moved, observe the new owner", "O6_new_owner"),
+        ],
     ),
     Row(
         code="O7",
@@ -576,7 +677,10 @@ ROWS = [
             """,
         bad="rules/O7_lent.adb",
         good="accepted/O7_lent_no_longer.adb",
-        mend="Give the part a value before, as `B.Left := null;`, or end the inner block first.",
+        mended=[
+            ("Give the part a value before, as `B.Left := null;`", "O7_part_given_a_value"),
+            ("End the inner block first", "O7_lent_no_longer"),
+        ],
     ),
     Row(
         code="O8",
@@ -588,7 +692,10 @@ ROWS = [
             """,
         bad="rules/O8_moved_part_at_the_end.adb",
         good="accepted/O8_part_given_a_value.adb",
-        mend="Give the part a value on each way out of the block.",
+        mended=[
+            ("Give the part a value on each way out of the block", "O8_part_given_a_value"),
+            ("Of an element of an array, let a procedure with an `in out` formal take it out and leave `null`, since a value for one element doesn't help", "O8_element_by_a_procedure"),
+        ],
     ),
     Row(
         code="O9",
@@ -600,7 +707,12 @@ ROWS = [
             """,
         bad="rules/O9_formal_moved.adb",
         good="accepted/O9_formal_given_back.adb",
-        mend="Give it a value on each way out, `null` at least; or observe it in place of moving it.",
+        mended=[
+            ("Give it a value on each way out, `null` at least", "O9_formal_given_back"),
+            ("Return before the move", "O9_return_before_the_move"),
+            ("Observe it in place of moving it", "O9_observed"),
+            ("Of an element of an array a value doesn't help, since no index is known ([reported](../crates/spark_examples/data/rules/O9_element_given_a_value.adb)). Let a procedure with an `in out` formal take it out and leave `null`", "O9_element_by_a_procedure"),
+        ],
     ),
     Row(
         code="O10",
@@ -609,14 +721,17 @@ ROWS = [
             What a call does with its actual is forbidden here, by the mode of the formal. Of an owning type: `in out`
             wants it neither moved nor lent; `in` of a procedure the same where it is of an access type, since the
             procedure may write through it; any other `in` wants it neither moved nor borrowed. `out` writes it. Of
-            another type, `in out` reads and writes it.
+            another type, `in out` reads and writes it. What was moved or is lent is the actual, a part of it, or what
+            leads to it.
             """,
         bad="rules/O10_in_observed.adb",
         good="accepted/O10_in_of_a_function.adb",
-        mend="""
-            Pass the new owner or the borrower, call before the move or behind the block, or let a function do what only
-            reads.
-            """,
+        mended=[
+            ("Pass the new owner", "O10_new_owner"),
+            ("Of a name with a moved part, give the part a value first", "O10_part_given_a_value"),
+            ("Call after the end of the block", "O10_out_behind_the_block"),
+            ("Let a function do what only reads", "O10_in_of_a_function"),
+        ],
     ),
     Row(
         code="O11",
@@ -628,7 +743,10 @@ ROWS = [
             """,
         bad="rules/O11_written_while_observed.adb",
         good="accepted/O11_read_while_observed.adb",
-        mend="Call it behind the block, or give the object its value back before the call.",
+        mended=[
+            ("Call it after the end of the block", "O11_called_behind_the_block"),
+            ("Give the object its value back before the call", "O11_used_behind_the_move_back"),
+        ],
     ),
     Row(
         code="O14",
@@ -640,7 +758,10 @@ ROWS = [
             """,
         bad="rules/O14_observed.adb",
         good="accepted/O14_freed_behind_the_block.adb",
-        mend="Free the new owner instead, or free behind the block.",
+        mended=[
+            ("Free the new owner instead", "O14_free_of_new_owner"),
+            ("Free after the end of the block", "O14_freed_behind_the_block"),
+        ],
     ),
     Row(
         code="A1",
@@ -652,7 +773,11 @@ ROWS = [
             """,
         bad="rules/A1_list_and_its_rest.adb",
         good="accepted/A1_two_lists.adb",
-        mend="Copy one of the two, or move it to an object of its own and back.",
+        mended=[
+            ("Move the part to an object of its own and give it `null`, then call: `R := L.Next; L.Next := null;`", "A1_part_taken_out"),
+            ("Exchange two elements of an array by three swaps with an object of its own", "A1_three_swaps"),
+            ("Of a scalar, let a formal have the mode `in`: it is copied", "A1_scalar_by_value"),
+        ],
     ),
     Row(
         code="A2",
@@ -664,7 +789,11 @@ ROWS = [
             """,
         bad="rules/A2_object_that_the_callee_writes.adb",
         good="accepted/A2_object_of_the_caller.adb",
-        mend="Pass a copy, or let the procedure take the object in one way alone.",
+        mended=[
+            ("Pass an object of the caller", "A2_object_of_the_caller"),
+            ("Pass a copy", "A2_copy"),
+            ("Let the procedure use the object under its own name alone, without the formal", "A2_without_the_formal"),
+        ],
     ),
     Row(
         code="V1",
@@ -678,7 +807,11 @@ ROWS = [
             """,
         bad="rules/V1_part_of_an_in_record.adb",
         good="accepted/V1_part_of_an_in_out_record.adb",
-        mend="Make the formal `in out`, the observer a borrower, or the function a procedure.",
+        mended=[
+            ("Make the formal `in out`", "V1_part_of_an_in_out_record"),
+            ("Make the observer a borrower", "O8_part_given_a_value"),
+            ("Make the function a procedure", "V1_procedure_that_writes"),
+        ],
     ),
     Row(
         code="V2",
@@ -688,7 +821,10 @@ ROWS = [
             """,
         bad="rules/V2_source_in_an_inner_block.adb",
         good="accepted/V2_source_in_the_same_block.adb",
-        mend="Declare the source no further in than the observer, or a second observer in the inner block.",
+        mended=[
+            ("Declare the source no further in than the observer", "V2_source_in_the_same_block"),
+            ("Declare a second observer in the inner block", "V2_second_observer"),
+        ],
     ),
     Row(
         code="V3",
@@ -700,7 +836,11 @@ ROWS = [
             """,
         bad="rules/V3_other_root.adb",
         good="accepted/V3_first_formal.adb",
-        mend="Return `null`, or a part of the first formal; what else is returned, return by a named access type.",
+        mended=[
+            ("Return the first formal or a part of it", "V3_first_formal"),
+            ("Return null", "V3_null"),
+            ("Return what else there is by a named access type", "V3_named_result"),
+        ],
     ),
     Row(
         code="V4",
@@ -711,7 +851,11 @@ ROWS = [
             """,
         bad="rules/V4_other_root.adb",
         good="accepted/V4_along_the_list.adb",
-        mend="Borrow the other object in a block of its own.",
+        mended=[
+            ("Assign from the borrower itself, or from a part of it", "V4_along_the_list"),
+            ("Borrow the other object in a block of its own", "V4_block_of_its_own"),
+            ("Assign what a traversal function gives for it", "V4_traversal_call"),
+        ],
     ),
 ]
 
@@ -741,9 +885,18 @@ def read_example(path):
 
 
 def wrapped(text):
-    """Text in paragraphs, wrapped; code stays as it is."""
+    """Text in paragraphs and lists, wrapped; code stays as it is."""
     paragraphs = textwrap.dedent(text).strip("\n").split("\n\n")
-    return "\n\n".join(p if p.startswith("```") else filled(p) for p in paragraphs)
+    return "\n\n".join(p if p.startswith("```") else filled_list(p) if p.startswith("- ") else filled(p) for p in paragraphs)
+
+
+def filled_list(paragraph):
+    return "\n".join(filled_item("- " + item) for item in paragraph[2:].split("\n- "))
+
+
+def filled_item(text):
+    text = " ".join(text.split())
+    return textwrap.fill(text, WIDTH, subsequent_indent="  ", break_long_words=False, break_on_hyphens=False)
 
 
 def filled(paragraph):
@@ -771,6 +924,16 @@ def shown(example):
     return "```\n%s\n```" % "\n".join(rows)
 
 
+def advice(row, text, name):
+    """A piece of advice as an item of a list, with the program that was mended so."""
+    path = "accepted/%s.adb" % name
+    if name:
+        example = read_example(path)
+        assert (example.status, example.expected) == (0, ["accepted"]), path
+        text += " (the program above)" if path == row.good else " ([program](../crates/spark_examples/data/%s))" % path
+    return filled_item("- %s." % text)
+
+
 def section(row):
     parts = ["## %s: %s" % (row.code, row.title), wrapped(row.meaning)]
     if row.made_by:
@@ -782,14 +945,15 @@ def section(row):
         assert (good.status, good.expected) == (0, ["accepted"]), row
         parts += [filled("**%s:** %s" % (verb.capitalize(), link(row.bad))), program_of(bad), shown(bad)]
         parts += [filled("**Accepted:** %s" % link(row.good)), program_of(good)]
-    parts.append(wrapped("**To mend it.** " + " ".join(row.mend.split())))
+    parts.append(filled(("**To mend it.** " + " ".join(row.mend.split())).strip()))
+    if row.mended:
+        parts.append("\n".join(advice(row, text, name) for text, name in row.mended))
     return "\n\n".join(parts)
 
 
 def item(row):
     """The code and the title of a row, as an item of a list with a link."""
-    text = "- [%s](#%s): %s" % (row.code, slug("%s: %s" % (row.code, row.title)), row.title)
-    return textwrap.fill(text, WIDTH, subsequent_indent="  ", break_long_words=False, break_on_hyphens=False)
+    return filled_item("- [%s](#%s): %s" % (row.code, slug("%s: %s" % (row.code, row.title)), row.title))
 
 
 def made():

@@ -42,8 +42,7 @@ class Construct(NamedTuple):
 HEAD = """
 # What of Ada is left out, and what stands in its place
 
-`spark` reads a subset of Ada 2012, and refuses a source with anything else at the first token that the subset doesn't
-have. Each row below is a construct of Ada, the code of its refusal ([ERRORS.md](ERRORS.md)), and what stands in its
+`spark` reads a subset of Ada 2012, and refuses a source with anything else. Each row below is a construct of Ada, the code of its refusal ([ERRORS.md](ERRORS.md)), and what stands in its
 place. The [table](../crates/spark_examples/data/tables/left_out.txt) has two sources for each row, one that is refused
 and one that is accepted; GNAT accepts both. `tools/spark-show` names the construct that is likely meant at a refusal.
 
