@@ -1,5 +1,7 @@
 """What tools/check_docs.py checks of DEFINITIONS.md and of the rooms in ARCHITECTURE.md.
 
+    python3 tools/check_definitions.py --labels     writes each link's label from its file, as after a crate is renamed
+
 A heading of DEFINITIONS.md links a section of another page, and the table below it has a row for each sentence of
 that section, with the definitions that carry it. A row begins with the sentence, or with how it begins and two dots.
 Where the first column is "sentence", each row of a table, each paragraph and each item of a list is a sentence, but
@@ -12,7 +14,9 @@ The tables below the rooms of ARCHITECTURE.md have each crate of crates.txt once
 """
 import pathlib
 import re
+import sys
 
+sys.dont_write_bytecode = True
 import errors_page
 
 TOP = pathlib.Path(__file__).resolve().parent.parent
@@ -133,6 +137,11 @@ def begins(key, sentence):
     return sentence.startswith(key[:-2].strip()) if key.endswith("..") else sentence == key
 
 
+def labelled(text):
+    """A text with the crate and the file as the label of each link to a file of a crate."""
+    return re.sub(r"\[[^\]]*\](\(\.\./crates/(\w+)/\w+/(\w+)\.\w+\))", r"[\2/\3]\1", text)
+
+
 def is_defined(name, path, texts):
     """Whether a file defines the name, or has it as a variant or a part of what it defines."""
     if path not in texts:
@@ -146,6 +155,8 @@ def faults_of_names(page, section, texts):
     """The definitions that the tables of a section of DEFINITIONS.md name are in the files that stand before them."""
     for row in (row for table in section.tables for row in table[2:]):
         named = list(re.finditer(r"\]\(([^)#]+)\): (`[^`]+`(?:, `[^`]+`)*)", row[1]))
+        if labelled(row[1]) != row[1]:
+            yield "%s: %s: a link's label isn't CRATE/FILE" % (page.name, row[0])
         if not named:
             yield "%s: %s: no definition" % (page.name, row[0])
         for group in named:
@@ -207,3 +218,11 @@ def faults_of_sections(page, name, stated, linked):
 def faults(pages):
     yield from faults_of_definitions(pages)
     yield from faults_of_rooms(pages)
+
+
+if __name__ == "__main__":
+    if sys.argv[1:] != ["--labels"]:
+        print(__doc__)
+        sys.exit(2)
+    PAGE = TOP / "docs" / "DEFINITIONS.md"
+    PAGE.write_text(labelled(PAGE.read_text()))
