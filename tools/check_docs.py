@@ -6,12 +6,12 @@
 
 Checked is that links lead to files and headings that exist; that each example is linked from some page;
 that each sentence has its definitions, and each crate its room, as tools/check_definitions.py says;
-that programs which a page quotes are those of their files; that counts of examples, wrong bodies and crates
-are right; that names of code in the pages about the code exist, and headings that the code cites; that
-TOOL.md, RULES.md and ERRORS.md have the same codes; that prose is at most 100 columns wide, keeps to one word
-for one idea and cites nothing that isn't here; that ERRORS.md, WHAT_IT_FINDS.md and LEFT_OUT.md are
-what tools/errors_page.py, tools/what_it_finds.py and tools/left_out_page.py make; and that crates.txt is
-what tools/crate_lines.py makes.
+that programs which a page quotes are those of their files, and recipes pieces of theirs; that counts of
+examples, wrong bodies and crates are right; that names of code in the pages about the code exist, and headings
+that the code cites; that TOOL.md, RULES.md and ERRORS.md have the same codes; that prose is at most 100 columns
+wide, keeps to one word for one idea and cites nothing that isn't here; that ERRORS.md, WHAT_IT_FINDS.md and
+LEFT_OUT.md are what tools/errors_page.py, tools/what_it_finds.py and tools/left_out_page.py make; and that
+crates.txt is what tools/crate_lines.py makes.
 """
 import pathlib
 import re
@@ -174,6 +174,15 @@ def faults_of_quotes(pages):
                 yield "%s: it lacks the line %s" % (name, expected)
 
 
+def faults_of_recipes(pages):
+    """Each piece of a program in FROM_SPARK.md is a piece of the recipe that its section names last."""
+    text = next(page.text for page in pages if page.name == "docs/FROM_SPARK.md")
+    for block in re.finditer(r"^```ada\n(.*?)^```$", text, re.M | re.S):
+        name = re.findall(r"data/recipes/(\w+\.adb)", text[: block.start()])[-1]
+        if block[1] not in (DATA / "recipes" / name).read_text():
+            yield "docs/FROM_SPARK.md:%d: it isn't a piece of %s" % (text.count("\n", 0, block.start()) + 1, name)
+
+
 def code_files():
     """The path from the top and the text of each file of code, definitions and proofs."""
     for path in sorted(TOP.glob("crates/*/*/**/*")):
@@ -234,6 +243,7 @@ def faults(pages):
     yield from faults_of_counts(pages)
     yield from faults_of_prose(pages)
     yield from faults_of_quotes(pages)
+    yield from faults_of_recipes(pages)
     yield from faults_of_code(pages)
     yield from faults_of_codes(pages)
     yield from crate_lines.faults()
