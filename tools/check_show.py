@@ -220,6 +220,44 @@ def try_constructs(program):
             fault("%s: it is named %s" % (name, found))
 
 
+def rows():
+    """The files and the refusal of each row of the tables that has one."""
+    for table in sorted(DATA.glob("tables/*.txt")):
+        files = []
+        for line in table.read_text().split("\n"):
+            if line.startswith("> "):
+                yield "%s: %s" % (table.name, line), files, line[2:]
+                files = []
+            elif line.startswith("== "):
+                files.append((line[3:], []))
+            elif files:
+                files[-1][1].append(line)
+            elif line and not line.startswith(("--", "$ ")):
+                files.append(("f.adb", [line]))
+
+
+def try_rows():
+    """What is said of the rows of the tables, many of them out of order, is said without a fault of spark-show."""
+    with tempfile.TemporaryDirectory() as name:
+        for what, files, wanted in rows():
+            paths = []
+            for file, lines in files:
+                path = pathlib.Path(name, str(len(paths)), file)
+                path.parent.mkdir(exist_ok=True)
+                path.write_bytes("\n".join(lines).encode())
+                paths.append(str(path))
+            named = dict(zip((file for file, _ in files), paths))
+            line = SPARK_SHOW.split(wanted, list(named))
+            if line is None:
+                continue
+            line.file = named[line.file]
+            try:
+                SPARK_SHOW.Reader(paths).meaning(line)
+                SPARK_SHOW.ordered(paths)
+            except Exception as error:
+                fault("%s: %r" % (what, error))
+
+
 # ---- the words of spark-show
 
 
@@ -340,6 +378,7 @@ def main():
     program = str(pathlib.Path(words.parse_args().program).resolve())
     count = try_examples(program)
     try_constructs(program)
+    try_rows()
     try_order(program)
     try_words(program)
     try_absent(program)

@@ -775,7 +775,7 @@ ROWS = [
         good="accepted/A1_two_lists.adb",
         mended=[
             ("Move the part to an object of its own and give it `null`, then call: `R := L.Next; L.Next := null;`", "A1_part_taken_out"),
-            ("Exchange two elements of an array by three swaps with an object of its own", "A1_three_swaps"),
+            ("Exchange two different elements of an array by three swaps with an object of its own", "A1_three_swaps"),
             ("Of a scalar, let a formal have the mode `in`: it is copied", "A1_scalar_by_value"),
         ],
     ),

@@ -18,9 +18,11 @@ package body Rows is
    procedure Exchange (R : in out Row; I, J : Positive) is
       Holder : Int_Ptr;
    begin
-      Swap (R (I), Holder);
-      Swap (R (J), Holder);
-      Swap (R (I), Holder);
+      if I /= J then
+         Swap (R (I), Holder);
+         Swap (R (J), Holder);
+         Swap (R (I), Holder);
+      end if;
    end Exchange;
 end Rows;
 with Ada.Text_IO;

@@ -10,7 +10,7 @@ package Lists is
       Next  : List;
    end record;
    procedure Remove (L : in out List; Value : Integer);
-   procedure Remove_Second (L : in out List; Value : Integer);
+   procedure Remove_After_Head (L : in out List; Value : Integer);
 end Lists;
 with Ada.Unchecked_Deallocation;
 package body Lists is
@@ -31,7 +31,7 @@ package body Lists is
    end Remove;
 
    --  Removes the first cell with this value but the head of the list.
-   procedure Remove_Second (L : in out List; Value : Integer) is
+   procedure Remove_After_Head (L : in out List; Value : Integer) is
       Before : access Cell := L;
       Old    : List;
    begin
@@ -44,7 +44,7 @@ package body Lists is
          end if;
          Before := Before.Next;
       end loop;
-   end Remove_Second;
+   end Remove_After_Head;
 end Lists;
 with Ada.Text_IO;
 with Lists; use Lists;
@@ -52,6 +52,6 @@ procedure Main is
    L : List := new Cell'(1, new Cell'(2, new Cell'(3, new Cell'(4, null))));
 begin
    Remove (L, 2);
-   Remove_Second (L, 3);
+   Remove_After_Head (L, 3);
    Ada.Text_IO.Put_Line (Integer'Image (L.Value) & Integer'Image (L.Next.Value));
 end Main;
