@@ -1,2 +1,3 @@
 -- what the public contract rests on
+pub mod Definitions
 pub mod Sizes

@@ -1,6 +1,7 @@
 //! The table of the types of a program.
 ghost use Rattle.std.specs.Prelude.{◌≡◌, ◌<◌, length, IfOk};
-ghost use Rattle.type_table.specs.Types.{named, full, shape_of, view_of, words, parts, is_owning};
+ghost use Rattle.type_table.specs.Types.{named, full, view_of, words, parts, is_owning};
+ghost use Rattle.type_shapes.specs.Definitions.{definition, settled, IsSame};
 ghost use Rattle.type_shapes.specs.Sizes.{AreSizes};
 
 use place_names::{Parts, PlaceTail};
@@ -24,23 +25,31 @@ pub struct TypeSize {
 pub struct TypeTable {
     infos: Listed<Info>,
     sizes: Vec<TypeSize>,
+    /// The definition of what leads to none.
+    none: Shape,
 }
 
 impl Model for TypeTable {
+    ghost use Rattle.std.specs.Prelude.{◌≡◌};
     ghost use Rattle.type_table.specs.Types.{Table};
 
     ghost Value = { Table };
 
     ghost view = { λ table. table.infos };
 
+    ghost use Rattle.type_shapes.specs.Definitions.{no_definition};
     ghost use Rattle.type_shapes.specs.Sizes.{AreSizes};
 
-    ghost invariant = { λ table. AreSizes table.infos table.sizes.items };
+    ghost invariant = { λ table. AreSizes table.infos table.sizes.items × (table.none ≡ no_definition) };
 }
 
 impl Drop for TypeTable {
     fn drop(self) {
-        let Self { infos: _, sizes: _ } = self;
+        let Self {
+            infos: _,
+            sizes: _,
+            none: _,
+        } = self;
     }
 }
 
@@ -50,7 +59,12 @@ impl TypeTable {
         requires { AreSizes infos sizes.items }
         ensures { result ≡ infos }
     {
-        TypeTable { infos, sizes }
+        let components = Listed::new(*sizes.allocator());
+        TypeTable {
+            infos,
+            sizes,
+            none: Shape::Fields { components },
+        }
     }
 
     /// What is known of each type.
@@ -113,12 +127,27 @@ impl TypeTable {
         }
     }
 
-    /// The definition of a type, where what is meant by it is in the table.
+    /// The definition of a type of the table: of a subtype without a constraint, that of what it is a
+    /// subtype of.
     pub fn shape(&self, t: u32) -> &Shape
-        requires { named self.now t < length self.now }
-        ensures { result.now ≡ shape_of self.now t }
+        requires { t < length self.now }
+        ensures definition { result.now ≡ definition self.now t }
+        ensures settled { ¬ IsSame result.now }
     {
-        &self.infos.as_slice()[self.named(t) as usize].shape
+        match self.infos.as_slice().get(self.named(t) as usize) {
+            Some(info) => self.settled(&info.shape),
+            None => &self.none,
+        }
+    }
+
+    /// A definition, where it is one.
+    fn settled<'t>(&'t self, shape: &'t Shape) -> &'t Shape
+        ensures { result.now ≡ settled shape.now }
+    {
+        match shape {
+            Shape::Same { .. } => &self.none,
+            _ => shape,
+        }
     }
 
     /// The full view of a type.

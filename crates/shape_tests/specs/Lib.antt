@@ -1,0 +1,2 @@
+-- what the functions inside promise each other
+pub mod Tables

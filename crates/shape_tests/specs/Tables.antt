@@ -1,0 +1,16 @@
+-- A table of three types, each with one word.
+use Rattle.std.specs.Prelude.{false, [], ◌∷◌, None, pos}
+use Rattle.type_table.specs.declared.table.Shape.{Shape}
+use Rattle.type_table.specs.declared.table.Shape.TheVariants as shape
+use Rattle.type_table.specs.declared.table.Info.{Info}
+use Rattle.type_table.specs.Types.{Table}
+use Rattle.type_shapes.specs.declared.table.TypeSize.{TypeSize}
+
+abbrev pub one_word : TypeSize
+one_word = record { words = 1; owning = false; parts = [] }
+
+abbrev pub info_of : Shape → Info
+info_of s = record { shape = s; base = 0; parent = None; seen_in = None; completed = None }
+
+abbrev pub three_types : Table
+three_types = info_of (shape.Whole (pos 1) (pos 9)) ∷ info_of (shape.Same 0) ∷ info_of (shape.Same 1) ∷ []
