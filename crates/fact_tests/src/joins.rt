@@ -1,4 +1,6 @@
 //! What holds where paths meet.
+ghost use Rattle.std.specs.Prelude.{◌≡◌, IfOk};
+
 use crate::build::{
     ALL, ActRow, ENDS, FactRow, Kind, NONE, OTHER, WHOLE, act, facts, shows, tree_behind,
 };
@@ -51,7 +53,9 @@ fn meet<'f>(
     facts: &'f [Fact],
     left: &[ActRow],
     right: &[ActRow],
-) -> Result<(Tree<'f>, bool), Fail> {
+) -> Result<(Tree<'f>, bool), Fail>
+    ensures { IfOk result (λ met. met.0.facts ≡ facts.now) }
+{
     let mut tree = tree_behind(alloc, facts, left)?;
     let other = tree_behind(alloc, facts, right)?;
     let changed = tree.join(&other)?;

@@ -108,9 +108,10 @@ impl<'f> Tree<'f> {
         Ok(true)
     }
 
-    /// Whether another tree has the same marks.
+    /// Whether another tree says the same of the same list.
     pub fn same(&self, other: &Tree<'_>) -> bool
-        ensures { IsTrue result ↔ ((self.now.may ≡ other.now.may) × (self.now.lacks ≡ other.now.lacks)) }
+        requires { other.now.facts ≡ self.now.facts }
+        ensures { IsTrue result ↔ (self.now ≡ other.now) }
     {
         is_same(&self.may, &other.may) && is_same(&self.lacks, &other.lacks)
     }
