@@ -1,0 +1,31 @@
+-- parts of parts, and changes of contents as steps of owners
+pub mod Joined
+pub mod Contents
+-- what the functions of memory change
+pub mod Memories
+pub mod Steps
+pub mod Defaults
+pub mod Ends
+pub mod Fresh
+pub mod Frees
+-- these changes keep states sound
+pub mod Moments
+-- names, scalar expressions, and expressions that may own
+pub mod Walks
+pub mod Scalars
+pub mod Stays
+pub mod Numbers
+pub mod Joining
+pub mod Filling
+pub mod Evaluated
+-- an assignment; what evaluations leave as it is; what a step that raises leaves
+pub mod Stored
+pub mod Fading
+pub mod Raised
+-- words stay typed
+pub mod Keeping
+pub mod Lasting
+-- sound states are well owned; instructions; the run
+pub mod Owners
+pub mod Instructions
+pub mod Main

@@ -1,0 +1,137 @@
+-- An assignment: the source is evaluated, the place of the target found, the leak checks made, and the value stored.
+use Rattle.std.proofs.Common.{◌≡◌, refl, sym, ap, ◌∙◌, subst, inl, ℕ, Bool, true, false, List, [], ◌∷◌, ◌++◌, length, append_assoc}
+use Rattle.spark_base.specs.declared.position.Pos.{Pos}
+use Rattle.place_names.specs.declared.act.Act.{Act}
+use Rattle.place_names.specs.declared.act.Act.TheVariants as act
+use Rattle.place_names.specs.declared.fact.Fact.{Fact}
+use Rattle.place_names.specs.Facts.{effect}
+use Rattle.type_table.specs.declared.table.Shape.TheVariants as shape
+use Rattle.type_table.specs.Types.{shape_of, words}
+use Rattle.typed_tree.specs.Trees.{TypedTree, Name}
+use Rattle.flow_paths.specs.Objects.{object_at}
+use Rattle.flow_paths.specs.Names.{has_call, name_of}
+use Rattle.flow_paths.specs.Acts.{acts_in, stored_acts}
+use Rattle.machine.specs.Words as machine
+use Rattle.machine.specs.Memory.{Memory, Place, stored}
+use Rattle.machine.specs.Evaluate.{Here, Now, AsValue, Evaluated, Done, Raises, Traps, followed_by, evaluate, steps_of, checked, variable_place, walked, place_of}
+use Rattle.machine.specs.Evaluate as run
+use Rattle.machine.specs.Step.{Stored}
+use Rattle.machine.specs.States.{Waiting, Leak}
+use Rattle.machine.specs.Owners.{is_in_formal}
+use Rattle.owned_ways.specs.Ways.{OfVariable, Way, Object, Named, Allows, after, AllowsAll, Sound}
+use Rattle.owned_ways.specs.Ways as ways
+use Rattle.owned_ways.proofs.Assigned.{write_clean, named_rooted}
+use Rattle.part_offsets.specs.Parts.{IsSettled}
+use Rattle.soundness.specs.Seen.{seen, home}
+use Rattle.soundness.specs.Changes.{leaks_at}
+use Rattle.soundness.specs.Typed.{OwnsByShape, Kept}
+use Rattle.soundness.specs.Needed.{Leads, Gives, IndexLaw}
+use Rattle.soundness.proofs.Moments.{stored_sound}
+use Rattle.soundness.proofs.Walks.{way_along, Walked}
+use Rattle.soundness.proofs.Scalars.{after_append, allows_both, acts, acts_append, number_along, named_along}
+use Rattle.soundness.proofs.Stays.{Quiet, Goes, steps_quiet, name_quiet}
+use Rattle.soundness.proofs.Lasting.{put_away}
+use Rattle.soundness.proofs.Evaluated.{regrouped, Keeps, Ready, Given, live_trunk, checked_given, evaluated}
+
+module _ (h : Here) (settled : IsSettled h.typing.table) (leaks : List Leak) (waits : List (List machine.Word)) (other : Way → Type 0)
+    (alone : (w : Way) → other w → ⊥) (keeps : Keeps h.typing)
+    (no_formals : (x : ℕ) → is_in_formal h.typing x ≡ false) (index_law : IndexLaw) (own_law : OwnsByShape h.typing.table)
+    (all_named : (t d : ℕ) (c n : Bool) → shape_of h.typing.table t ≡ shape.Access d c n → n ≡ true) where
+  -- What it comes to: a state that is sound and typed once the value is stored behind its leak checks, or an exception.
+  abbrev pub Assigns : List Waiting → List Fact → Evaluated Stored → Type 0
+  Assigns hands facts (Done st n) =
+      ((pos : Pos) → Sound (home h.typing h.frame) other
+      (seen h.typing (stored h.typing st.place st.words n.memory) hands (leaks ++ leaks_at h.typing pos n.memory st.place)) facts)
+      × Kept h.typing (stored h.typing st.place st.words n.memory) hands
+  Assigns hands facts (Raises e n) = Unit {0}
+  Assigns hands facts (Traps t n) = ⊥
+
+  -- the place is found, with the value in hand
+  found : (m : Memory) (hands : List Waiting) (facts : List Fact) (x t : ℕ) (steps : TypedTree) (ws : List machine.Word)
+      → Ready h settled leaks waits other alone keeps no_formals index_law own_law all_named m (record { of = t; words = ws } ∷ hands) facts
+      → length ws ≡ words h.typing.table t → Leads h.typing (object_at h.typing x).of steps t
+      → (way : List run.Step) → Goes h.typing.table (object_at h.typing x).of t steps way → Allows facts (act.Write (name_of x steps))
+      → (y : Evaluated Place) → Walked h.typing settled (record { of = t; words = ws } ∷ hands) leaks m waits (way_along way (Object (OfVariable (home h.typing h.frame x) x))) t y
+      → Assigns hands (effect (act.Write (name_of x steps)) facts) (followed_by y (λ k now. Done (record { words = ws; place = k }) now))
+  found m hands facts x t steps ws ready long lead way goes allowed (Done k n) (l, same, spot, reaches, of) = (
+    λ pos. (
+        let w : Way = way_along way (Object (OfVariable (home h.typing h.frame x) x)) in
+        let named : Named (home h.typing h.frame) w = named_along (home h.typing h.frame) way (Object (OfVariable (home h.typing h.frame x) x)) refl in
+        let called : ways.name_of w ≡ name_of x steps = (λ j. record {
+          root = number_along way (Object (OfVariable (home h.typing h.frame x) x)) j;
+          sels = goes.sels (Object (OfVariable (home h.typing h.frame x) x)) j;
+        }) in
+        subst (λ z. Sound (home h.typing h.frame) other (seen h.typing (stored h.typing k ws z.memory) hands (leaks ++ leaks_at h.typing pos z.memory k)) (effect (act.Write (name_of x steps)) facts))
+        (sym same)
+        (subst (λ z. Sound (home h.typing h.frame) other (seen h.typing (stored h.typing k ws m) hands (leaks ++ leaks_at h.typing pos m k)) (effect (act.Write z) facts)) called
+        (stored_sound h.typing settled (home h.typing h.frame) other m (record { of = t; words = ws }) hands leaks facts k l w pos ready.sound (λ z v u o. alone v o)
+        ready.kept spot named reaches
+        (live_trunk h settled leaks waits other alone keeps no_formals index_law own_law all_named m (record { of = t; words = ws } ∷ hands) ready.sound.owned w l
+        (named_rooted (home h.typing h.frame) w named) reaches)
+        (long ∙ ap (words h.typing.table) (sym of)) (inl (ap (shape_of h.typing.table) (sym of)))))),
+    subst (λ z. Kept h.typing (stored h.typing k ws z.memory) hands) (sym same)
+        (put_away h.typing settled m (record { of = t; words = ws }) hands k l ready.kept spot (long ∙ ap (words h.typing.table) (sym of))
+        (inl (ap (shape_of h.typing.table) (sym of)))),
+  )
+  found m hands facts x t steps ws ready long lead way goes allowed (Raises e n) is = tt
+  found m hands facts x t steps ws ready long lead way goes allowed (Traps e n) none = none
+
+  then_found : {A : Type 0} (now : Now) (P : A → Type 0) (hands : List Waiting) (facts : List Fact) (y : Evaluated A) (f : A → Now → Evaluated Stored)
+      → Quiet now P y → ((a : A) → P a → Assigns hands facts (f a now)) → Assigns hands facts (followed_by y f)
+  then_found now P hands facts (Done a n) f (same, p) next = subst (λ z. Assigns hands facts (f a z)) (sym same) (next a p)
+  then_found now P hands facts (Raises e n) f is next = tt
+  then_found now P hands facts (Traps t n) f none next = none
+
+  -- the value is there
+  then_placed : (p : Pos) (x t : ℕ) (steps : TypedTree) (hands : List Waiting) (facts : List Fact) → Leads h.typing (object_at h.typing x).of steps t
+      → has_call steps ≡ false → AllowsAll facts (acts (acts_in h.typing steps) ++ act.Write (name_of x steps) ∷ []) → (y : Evaluated (List machine.Word))
+      → Given h settled leaks waits other alone keeps no_formals index_law own_law all_named t hands facts y
+      → Assigns hands (effect (act.Write (name_of x steps)) (after (acts (acts_in h.typing steps)) facts))
+      (followed_by y (λ ws now. followed_by (place_of h (Name p x steps t) now) (λ k now. Done (record { words = ws; place = k }) now)))
+  then_placed p x t steps hands facts lead calls allowed (Done ws n) (ready, long, same) =
+      let now : Now = record { memory = n.memory; waits = waits } in
+      let v : Waiting = record { of = t; words = ws } in
+      let each = allows_both facts (acts (acts_in h.typing steps)) (act.Write (name_of x steps) ∷ []) allowed in
+      let live = live_trunk h settled leaks waits other alone keeps no_formals index_law own_law all_named n.memory (v ∷ hands) ready.sound.owned in
+      let inner = steps_quiet h settled (v ∷ hands) leaks n.memory waits other facts ready.kept ready.sound alone live index_law own_law all_named
+      (object_at h.typing x).of t steps lead calls each.0 in
+      let writes : Allows facts (act.Write (name_of x steps)) = subst (λ z. Allows z (act.Write (name_of x steps))) inner.1 each.1.0 in
+      subst (λ z. Assigns hands (effect (act.Write (name_of x steps)) (after (acts (acts_in h.typing steps)) facts))
+      (followed_by (place_of h (Name p x steps t) (record { memory = n.memory; waits = z })) (λ k now. Done (record { words = ws; place = k }) now))) (sym same)
+      (subst (λ z. Assigns hands (effect (act.Write (name_of x steps)) z)
+      (followed_by (place_of h (Name p x steps t) now) (λ k now. Done (record { words = ws; place = k }) now))) (sym inner.1)
+      (subst (λ z. Assigns hands (effect (act.Write (name_of x steps)) facts) z)
+      (sym (regrouped (steps_of h steps now) (λ way now. walked h.typing way (variable_place h x) now) (λ k now. Done (record { words = ws; place = k }) now)))
+      (then_found now (λ way. Goes h.typing.table (object_at h.typing x).of t steps way) hands (effect (act.Write (name_of x steps)) facts) (steps_of h steps now)
+      (λ way now. followed_by (walked h.typing way (variable_place h x) now) (λ k now. Done (record { words = ws; place = k }) now)) inner.0
+      (λ way goes. found n.memory hands facts x t steps ws ready long lead way goes writes (walked h.typing way (variable_place h x) now)
+      (name_quiet h settled (v ∷ hands) leaks n.memory waits other facts ready.kept ready.sound alone live index_law own_law all_named x steps t way goes
+      (λ w named same u past moved. write_clean (home h.typing h.frame) facts w (subst (λ z. Allows facts (act.Write z)) (sym same) writes) u past moved))))))
+  then_placed p x t steps hands facts lead calls allowed (Raises e n) given = tt
+  then_placed p x t steps hands facts lead calls allowed (Traps e n) none = none
+
+  -- k := e, for a target that isn't a borrower or observer
+  pub assigned : (p : Pos) (x t : ℕ) (steps e : TypedTree) → Gives h.typing t e → Leads h.typing (object_at h.typing x).of steps t
+      → has_call e ≡ false → has_call steps ≡ false → (m : Memory) (hands : List Waiting) (facts : List Fact)
+      → Ready h settled leaks waits other alone keeps no_formals index_law own_law all_named m hands facts
+      → AllowsAll facts (acts (stored_acts h.typing (Name p x steps t) e))
+      → Assigns hands (after (acts (stored_acts h.typing (Name p x steps t) e)) facts)
+      (followed_by (followed_by (evaluate h AsValue e (record { memory = m; waits = waits })) (checked h t))
+      (λ ws now. followed_by (place_of h (Name p x steps t) now) (λ k now. Done (record { words = ws; place = k }) now)))
+  assigned p x t steps e gives lead calls calls' m hands facts ready allowed =
+      let a : List Act = acts (acts_in h.typing e) in
+      let b : List Act = acts (acts_in h.typing steps) in
+      let whole : acts (stored_acts h.typing (Name p x steps t) e) ≡ a ++ (b ++ act.Write (name_of x steps) ∷ []) =
+      acts_append (acts_in h.typing e ++ acts_in h.typing steps) (record { pos = p; act = act.Write (name_of x steps) } ∷ [])
+      ∙ ap (λ z. z ++ (act.Write (name_of x steps) ∷ [])) (acts_append (acts_in h.typing e) (acts_in h.typing steps))
+      ∙ append_assoc a b (act.Write (name_of x steps) ∷ []) in
+      let each = allows_both facts a (b ++ act.Write (name_of x steps) ∷ []) (subst (AllowsAll facts) whole allowed) in
+      let given = checked_given h settled leaks waits other alone keeps no_formals index_law own_law all_named t t hands (after a facts)
+      (evaluate h AsValue e (record { memory = m; waits = waits }))
+      (evaluated h settled leaks waits other alone keeps no_formals index_law own_law all_named e t gives calls m hands facts ready each.0) in
+      let behind : after (acts (stored_acts h.typing (Name p x steps t) e)) facts ≡ effect (act.Write (name_of x steps)) (after b (after a facts)) =
+      ap (λ z. after z facts) whole ∙ after_append a (b ++ act.Write (name_of x steps) ∷ []) facts
+      ∙ after_append b (act.Write (name_of x steps) ∷ []) (after a facts) in
+      subst (λ z. Assigns hands z (followed_by (followed_by (evaluate h AsValue e (record { memory = m; waits = waits })) (checked h t))
+      (λ ws now. followed_by (place_of h (Name p x steps t) now) (λ k now. Done (record { words = ws; place = k }) now)))) (sym behind)
+      (then_placed p x t steps hands (after a facts) lead calls' each.1 (followed_by (evaluate h AsValue e (record { memory = m; waits = waits })) (checked h t)) given)

@@ -1,0 +1,9 @@
+-- a memory as owners see it, and how steps change it
+pub mod Seen
+pub mod Changes
+-- words have the types of what they stand in
+pub mod Typed
+-- what is asked of programs
+pub mod Needed
+-- what holds at each moment
+pub mod Sound

@@ -1,0 +1,168 @@
+-- What holds at each moment of a run of an accepted program.
+use Rattle.std.specs.Prelude.{◌≡◌, ◌⊎◌, ℕ, Bool, true, false, List, [], ◌∷◌, ◌++◌, length, Option, Some, None}
+use Rattle.spark_base.specs.Lists.{Has}
+use Rattle.place_names.specs.declared.fact.Fact.{Fact}
+use Rattle.place_names.specs.Names.{has_elem}
+use Rattle.type_table.specs.Types.{full, Table}
+use Rattle.typed_tree.specs.Programs.{TypedProgram}
+use Rattle.flow_paths.specs.declared.report.Effects.{Effects}
+use Rattle.flow_paths.specs.Instructions.{Instruction, Call}
+use Rattle.flow_paths.specs.Objects.{Typing, object_at, is_anonymous, is_formal}
+use Rattle.flow_paths.specs.Points.{NamedPoint, FlowPoint}
+use Rattle.flow_paths.specs.Laid.{FlowSub, FlowProgram, NamedSub, flow_typing, flow_program, flow_named}
+use Rattle.flow_paths.specs.Paths.{ControlPath, facts_before}
+use Rattle.flow_paths.specs.Effects.{path_points, AreEffects}
+use Rattle.flow_paths.specs.Reports.{AreReports}
+use Rattle.flow_paths.specs.Scopes.{is_within}
+use Rattle.machine.specs.Words.{access_offsets}
+use Rattle.machine.specs.Memory.{Variable}
+use Rattle.machine.specs.States.{Frame, State, Ending, Trapped, Outcome, Goes, Ends, sub_of}
+use Rattle.machine.specs.Owners.{WellOwned, waiting_in}
+use Rattle.machine.specs.Run.{step, main_of, run_of, moment}
+use Rattle.owned_ways.specs.Ways.{Root, Way, Object, Into, All, View, Told, IsMoved, along, Step}
+use Rattle.owned_ways.specs.Ways as ways
+use Rattle.part_offsets.specs.Parts.{IsSettled}
+use Rattle.soundness.specs.Seen.{seen, home}
+use Rattle.soundness.specs.Typed.{Kept}
+use Rattle.soundness.specs.Needed.{AreFine}
+
+-- ---- the program
+
+-- An accepted program, and what is known of it: no reports, its effects, types that are made of finitely
+-- many others, and the laws of typing.
+pub record Accepted (table : Table) (typed : TypedProgram) (effects : Effects) : Type 0 where
+  pub no_reports : AreReports (flow_program table typed) effects []
+  pub effects_are : AreEffects (flow_program table typed) effects
+  pub settled : IsSettled (flow_program table typed).table
+  pub fine : AreFine (flow_program table typed)
+
+-- The class of programs of the first half: no anonymous access type, no formal, and no call of a
+-- subprogram of the program.
+abbrev pub calls_nothing : Instruction → Bool
+calls_nothing (Call sub actuals result) = false
+calls_nothing _ = true
+
+pub record IsFirstClass (program : FlowProgram) : Type 0 where
+  pub no_views : (x : ℕ) → is_anonymous (full program.table (object_at (flow_typing program) x).of) ≡ false
+  pub no_calls : (sub : FlowSub) → Has program.subs sub → (p : FlowPoint) → Has sub.points p → calls_nothing p.instr ≡ true
+  pub no_formals : (x : ℕ) → is_formal (flow_typing program) x ≡ false
+
+-- ---- frames
+
+-- A frame with the points that it has executed, the latest first. Frames are counted from that of the
+-- package objects. `returns` has, for each formal that is copied back, the way to its place.
+pub record Stage : Type 0 where
+  pub frame : Frame
+  pub depth : ℕ
+  pub before : List ℕ
+  pub returns : List Way
+
+abbrev pub facts_of : FlowProgram → Effects → Stage → List Fact
+facts_of program effects g = facts_before (path_points program effects (sub_of program g.frame.sub)) g.before
+
+-- What is moved in an older frame, or taken by a call in progress.
+abbrev pub Elsewhere : FlowProgram → Effects → List Stage → Way → Type 0
+Elsewhere program effects older w =
+    (g : Stage) × Has older g
+    × (IsMoved (home (flow_typing program) g.depth) (facts_of program effects g) w
+    ⊎ ((to : Way) × Has g.returns to × (p : List Step) × (w ≡ along to p)))
+
+-- The frames of a state, each with its executed points.
+abbrev pub AreStages : List Stage → List Frame → Type 0
+AreStages [] [] = Unit {0}
+AreStages (g ∷ older) (f ∷ outer) = (g.frame ≡ f) × (g.depth ≡ length outer) × AreStages older outer
+AreStages _ _ = ⊥
+
+-- ---- views, which programs of the first class have none of
+
+-- A borrower, an observer or an `in` formal with a value has one way of owners to the cell that it holds.
+abbrev pub Views : Type 0
+Views = Root → Option Way
+
+-- A name rooted in one is just that way, gone on.
+abbrev pub expand_root : Option Way → Root → Way
+expand_root None r = Object r
+expand_root (Some w) r = w
+
+abbrev pub expand : Views → Way → Way
+expand env (Object r) = Object r
+expand env (ways.Lost n) = ways.Lost n
+expand env (Into w i) = Into (expand env w) i
+expand env (All (Object r)) = expand_root (env r) r
+expand env (All (Into w i)) = All (expand env (Into w i))
+expand env (All (All w)) = All (expand env (All w))
+expand env (All (ways.Lost n)) = All (ways.Lost n)
+
+-- ---- what holds
+
+-- What is in hand between two steps is what waits in the frames.
+abbrev pub view_of : Typing → State → View
+view_of s state = seen s state.memory (waiting_in state) state.leaks
+
+-- A fact without `Elem` says that a place of the frame was moved.
+abbrev pub IsDefinite : (ℕ → ℕ) → List Fact → Way → Type 0
+IsDefinite at_home facts w = IsMoved at_home facts w × (has_elem (ways.sels_of w) ≡ false)
+
+-- An object has words that may own.
+abbrev pub MayOwn : Typing → ℕ → Type 0
+MayOwn s x = (o : ℕ) × Has (access_offsets s.table (object_at s x).of) o
+
+-- A variable of the innermost frame that may own is in scope.
+abbrev pub InScope : Typing → ℕ → List ℕ → List Variable → Type 0
+InScope s depth scope variables =
+    (v : Variable) → Has variables v → v.frame ≡ depth → MayOwn s v.object → is_within v.object scope ≡ true
+
+-- The subprogram of the layout that a frame runs, and the point there, with its scope, that it is at.
+abbrev pub IsNamedSub : List NamedSub → ℕ → NamedSub → Type 0
+IsNamedSub subs n sub = (front : List NamedSub) × (rest : List NamedSub) × (subs ≡ front ++ sub ∷ rest) × (length front ≡ n)
+
+abbrev pub IsAtPoint : List NamedPoint → ℕ → NamedPoint → Type 0
+IsAtPoint points n p = (front : List NamedPoint) × (rest : List NamedPoint) × (points ≡ front ++ p ∷ rest) × (length front ≡ n)
+
+-- The innermost frame, those around it, and what holds of both.
+pub record IsSound (table : Table) (typed : TypedProgram) (effects : Effects) (state : State) : Type 0 where
+  pub top : Stage
+  pub older : List Stage
+  pub stages : AreStages (top ∷ older) state.frames
+  -- the executed points of the innermost frame form a control path to its next point
+  pub path : ControlPath (path_points (flow_program table typed) effects (sub_of (flow_program table typed) top.frame.sub)) top.before top.frame.next
+  -- the state is well owned, and what ways find gone is moved by a fact of the frame, or elsewhere
+  pub sound : ways.Sound (home (flow_typing (flow_program table typed)) top.depth) (Elsewhere (flow_program table typed) effects older)
+      (view_of (flow_typing (flow_program table typed)) state) (facts_of (flow_program table typed) effects top)
+  -- what a fact without `Elem` calls moved is gone
+  pub told : Told (view_of (flow_typing (flow_program table typed)) state)
+      (IsDefinite (home (flow_typing (flow_program table typed)) top.depth) (facts_of (flow_program table typed) effects top))
+  -- words have the types of what they stand in
+  pub kept : Kept (flow_typing (flow_program table typed)) state.memory (waiting_in state)
+  -- variables that may own are in scope
+  pub named : NamedSub
+  pub of_sub : IsNamedSub (flow_named table typed) top.frame.sub named
+  pub point : NamedPoint
+  pub at_point : IsAtPoint named.points top.frame.next point
+  pub scope : InScope (flow_typing (flow_program table typed)) top.depth point.scope state.memory.variables
+
+-- ---- what is to be proved
+
+abbrev pub IsTrap : Ending → Type 0
+IsTrap (Trapped t p) = Unit {0}
+IsTrap _ = ⊥
+
+-- A step of a sound state leads to a sound state, or ends without a trap in a well owned state.
+abbrev pub LeadsOn : Table → TypedProgram → Effects → Outcome → Type 0
+LeadsOn table typed effects (Goes state) = IsSound table typed effects state
+LeadsOn table typed effects (Ends e state) = (IsTrap e → ⊥) × WellOwned (flow_typing (flow_program table typed)) state
+
+-- So does each step.
+abbrev pub StepsLeadOn : Table → TypedProgram → Effects → List ℕ → Type 0
+StepsLeadOn table typed effects input =
+    (state : State) → IsSound table typed effects state → LeadsOn table typed effects (step (flow_program table typed) input state)
+
+abbrev pub ending_of : Outcome → Option Ending
+ending_of (Goes s) = None
+ending_of (Ends e s) = Some e
+
+-- Of an accepted program: each moment of its run is well owned, and none is a trap.
+pub record RunIsSound (table : Table) (typed : TypedProgram) (input : List ℕ) : Type 0 where
+  pub owned : (n : ℕ) → WellOwned (flow_typing (flow_program table typed)) (moment (flow_program table typed) input n)
+  pub no_trap : (n : ℕ) (e : Ending) → ending_of (run_of (flow_program table typed) (main_of (flow_program table typed).main) input n) ≡ Some e
+      → IsTrap e → ⊥

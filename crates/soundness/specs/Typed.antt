@@ -1,0 +1,53 @@
+-- What a memory keeps, and where a place of the machine stands.
+use Rattle.std.specs.Prelude.{◌≡◌, ◌⊎◌, ℕ, ◌≤◌, Bool, true, List, length, get_or}
+use Rattle.type_table.specs.declared.table.Shape.TheVariants as shape
+use Rattle.type_table.specs.Types.{Table, shape_of, words, full, is_scalar, is_owning, owns_of}
+use Rattle.flow_paths.specs.Objects.{Typing, object_at}
+use Rattle.machine.specs.Words as machine
+use Rattle.machine.specs.Memory.{Memory, Base, OfVariable, OfCell, Place, variable_slots, cell, no_slot}
+use Rattle.machine.specs.States.{Waiting}
+use Rattle.owned_ways.specs.Ways.{Step, Loc, OfRoot}
+use Rattle.owned_ways.specs.Ways as ways
+use Rattle.part_offsets.specs.Parts.{type_in, offset_in, has_part}
+use Rattle.soundness.specs.Seen.{Content, content, trunk, steps_in}
+
+-- Two types with one definition, or two scalar types.
+abbrev pub Matches : Table → ℕ → ℕ → Type 0
+Matches table t u = (shape_of table t ≡ shape_of table u) ⊎ ((is_scalar (full table t) ≡ true) × (is_scalar (full table u) ≡ true))
+
+abbrev pub IsCell : Typing → Memory → ℕ → ℕ → Type 0
+IsCell s m d n = (1 ≤ n) × (n ≤ length m.cells) × Matches s.table d (cell m n).of
+
+-- Whether a type owns goes by its definition.
+abbrev pub OwnsByShape : Table → Type 0
+OwnsByShape table = (t : ℕ) → is_owning table t ≡ owns_of (is_owning table) (shape_of table t)
+
+-- Access values designate cells of their types.
+abbrev pub Points : Typing → Memory → Content → Type 0
+Points s m c =
+    (p : List Step) (d : ℕ) (constant named : Bool) (n : ℕ) → has_part s.table c.of p ≡ true
+    → shape_of s.table (type_in s.table c.of p) ≡ shape.Access d constant named
+    → (get_or c.slots (offset_in s.table c.of p) no_slot).word ≡ machine.Cell n → IsCell s m d n
+
+pub record Kept (s : Typing) (m : Memory) (hands : List Waiting) : Type 0 where
+  pub variables : (f x : ℕ) → length (variable_slots s f x m.variables) ≡ words s.table (object_at s x).of
+  pub cells : (n : ℕ) → 1 ≤ n → n ≤ length m.cells → length (cell m n).slots ≡ words s.table (cell m n).of
+  pub points : (l : Loc) → Points s m (content s m hands l)
+
+-- ---- places
+
+abbrev pub loc_of : Base → Loc
+loc_of (OfVariable f x) = OfRoot (ways.OfVariable f x)
+loc_of (OfCell n) = ways.OfCell n
+
+abbrev pub IsMade : Memory → Base → Type 0
+IsMade m (OfVariable f x) = Unit {0}
+IsMade m (OfCell n) = (1 ≤ n) × (n ≤ length m.cells)
+
+-- A place of the machine is a location.
+pub record Spot (s : Typing) (m : Memory) (hands : List Waiting) (k : Place) (l : Loc) : Type 0 where
+  pub base : trunk l ≡ loc_of k.base
+  pub made : IsMade m k.base
+  pub at : k.at ≡ offset_in s.table (content s m hands (trunk l)).of (steps_in l)
+  pub there : has_part s.table (content s m hands (trunk l)).of (steps_in l) ≡ true
+  pub of : Matches s.table k.of (type_in s.table (content s m hands (trunk l)).of (steps_in l))
