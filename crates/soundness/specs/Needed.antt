@@ -122,7 +122,7 @@ abbrev pub IsPlace : Typing → TypedTree → ℕ → Type 0
 IsPlace s (Name p x steps t) u = Leads s (object_at s x).of steps t × (t ≡ u)
 IsPlace s e u = ⊥
 
--- The text of a step, without calls (their actuals come with R9).
+-- The text of a step. Of calls nothing is asked yet.
 abbrev pub IsFine : Typing → Option ℕ → Instruction → Type 0
 IsFine s result (Declare x v) = FirstSource s (object_at s x).of v
 IsFine s result (Assign target e) = (t : ℕ) × IsPlace s target t × Source s t e
