@@ -452,7 +452,7 @@ module _ (h : Here) (settled : IsSettled h.typing.table) (leaks : List Leak) (wa
         scalar_given m hands facts facts want ready refl scalar (evaluate h AsValue EndOfFile (record { memory = m; waits = waits })) (refl, refl)
     evaluated typed.Null want one calls m hands facts ready allowed =
         (blank_ready m hands facts want (machine.Null ∷ []) (λ k h. elim h [ inl e ↦ cc | inr none ↦ none ]) ready, sym one, refl)
-    evaluated (Parens e) want (scalar, stays) calls m hands facts ready allowed = by_quiet (Parens e) want scalar stays calls m hands facts ready allowed
+    evaluated (Parens e) want gives calls m hands facts ready allowed = evaluated e want gives calls m hands facts ready allowed
     evaluated (Unary op e) want (scalar, stays) calls m hands facts ready allowed = by_quiet (Unary op e) want scalar stays calls m hands facts ready allowed
     evaluated (Binary op a b) want (scalar, stays, stays') calls m hands facts ready allowed =
         by_quiet (Binary op a b) want scalar (stays, stays') calls m hands facts ready allowed

@@ -72,7 +72,7 @@ unfoldable mutual
   Gives s want (Number v) = is_scalar (full s.table want) ≡ true
   Gives s want (Literal n) = is_scalar (full s.table want) ≡ true
   Gives s want EndOfFile = is_scalar (full s.table want) ≡ true
-  Gives s want (Parens e) = (is_scalar (full s.table want) ≡ true) × Stays s e
+  Gives s want (Parens e) = Gives s want e
   Gives s want (Unary op e) = (is_scalar (full s.table want) ≡ true) × Stays s e
   Gives s want (Binary op a b) = (is_scalar (full s.table want) ≡ true) × Stays s a × Stays s b
   Gives s want (Short op p a q b) = (is_scalar (full s.table want) ≡ true) × Stays s a × Stays s b
@@ -102,11 +102,12 @@ FirstWrites s (More e rest) = (rest ≡ NoMore) × Writes s e
 FirstWrites s NoMore = Unit {0}
 FirstWrites s e = ⊥
 
--- A source that is looked at where it stands, for an object or result of an anonymous access type.
+-- A source that is looked at where it stands, for an object or result of an anonymous access type: what
+-- both types designate agrees.
 abbrev pub IsView : Typing → ℕ → TypedTree → Type 0
 IsView s want (Name p x steps t) =
-    (d : ℕ) × (c : Bool) × (n : Bool) × (e : Bool) × (m : Bool) × Leads s (object_at s x).of steps t
-    × (shape_of s.table t ≡ shape.Access d c n) × (shape_of s.table want ≡ shape.Access d e m)
+    (d : ℕ) × (k : ℕ) × (c : Bool) × (n : Bool) × (e : Bool) × (m : Bool) × Leads s (object_at s x).of steps t
+    × (shape_of s.table t ≡ shape.Access d c n) × (shape_of s.table want ≡ shape.Access k e m) × Matches s.table d k
 IsView s want e = Unit {0}
 
 abbrev pub Source : Typing → ℕ → TypedTree → Type 0
