@@ -1,11 +1,12 @@
 //! How what is known of the declarations so far is asked and added to.
-ghost use Rattle.std.specs.Prelude.{◌≡◌, ◌<◌, length, set};
+ghost use Rattle.std.specs.Prelude.{◌≡◌, ◌<◌, List, Option, length, set};
 ghost use Rattle.resolved_tree.specs.Nodes.{code_at};
 ghost use Rattle.type_table.specs.Types.{info};
 ghost use Rattle.type_table.specs.Entries.{entry_of, marked};
-ghost use Rattle.type_table.specs.Gathered.{with_entry, with_info, with_type, own_info, indicated, with_indication, is_subprogram};
+ghost use Rattle.type_table.specs.Gathered.{awaited_info, with_entry, with_info, with_type, own_info, indicated, with_indication, is_subprogram};
 ghost use Rattle.type_names.specs.Here.{here};
 ghost use Rattle.type_names.specs.ComponentNames.{FindAllComponents};
+ghost use Rattle.type_names.specs.Occurrences.{Entries};
 ghost use Rattle.type_gather.specs.Gathering.{context};
 
 use crate::gathering::Gathering;
@@ -42,6 +43,34 @@ fn indexed_with(
         index_type(alloc, indexes, t, &info.shape);
     }
     with_element(table, t, info)
+}
+
+/// Says that a type waits for its full type, with the shape that it has already.
+fn await_full(info: &mut Info, number: u32, seen_in: Option<u32>, completed: Option<Pos>)
+    ensures { info.new ≡ record (own_info info.old.shape number) { seen_in = seen_in; completed = completed } }
+{
+    info.base = number;
+    info.parent = None;
+    info.seen_in = seen_in;
+    info.completed = completed;
+}
+
+/// A table where the type with this number, if it is there, waits for its full type.
+fn with_awaited(
+    table: Listed<Info>,
+    number: u32,
+    seen_in: Option<u32>,
+    completed: Option<Pos>,
+) -> Listed<Info>
+    ensures table { result ≡ set table number (record (own_info (info table number).shape number) { seen_in = seen_in; completed = completed }) }
+    ensures found { (indexes : List (Option Entries)) → FindAllComponents indexes table → FindAllComponents indexes result }
+{
+    let mut types = table.into_vec();
+    let t = number as usize;
+    if t < types.len() {
+        await_full(&mut types[t], number, seen_in, completed);
+    }
+    Listed::from_vec(types)
 }
 
 /// What is known of a type that is no subtype.
@@ -104,6 +133,16 @@ impl Gathering {
         ensures { context self.new ≡ with_type number info (context self.old) }
     {
         self.with_info(number, info);
+        self.with_entry(number, Entry::Type);
+    }
+
+    /// Says that a declaration is a type whose full type is declared later.
+    pub fn with_awaited(&mut self, number: u32, seen_in: Option<u32>, completed: Option<Pos>)
+        ensures { let awaited = record (awaited_info (context self.old) number) { seen_in = seen_in; completed = completed } in
+            context self.new ≡ with_type number awaited (context self.old) }
+    {
+        let table = mem::replace(&mut self.known.table, Listed::new(self.alloc));
+        self.known.table = with_awaited(table, number, seen_in, completed);
         self.with_entry(number, Entry::Type);
     }
 

@@ -3,8 +3,9 @@
 //! `gather` takes the rows of a program's code and the numbers of its units, and gives what is
 //! `Known`: for each declaration its `Entry`, and for each type its `Info`, both by the number of
 //! the declaration. It goes through the units in the order of their text, so that a declaration
-//! needs those before it alone. What each declaration adds, `type_table/specs/Gathered.antt`
-//! states, one definition for one function here; what is known before the first unit,
+//! needs those before it, and twice, so that a type that is incomplete or private is its full type
+//! also where it is used before that. What each declaration adds, `type_table/specs/Gathered.antt`
+//! states, one definition for one function here; what is known before the first unit, and both turns,
 //! `type_table/specs/Whole.antt`. Nothing is refused: a declaration that breaks a rule of typing
 //! gets what the definitions say, and is reported by who looks for faults.
 //!

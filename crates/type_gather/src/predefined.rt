@@ -92,14 +92,22 @@ fn no_type(alloc: Global) -> Info
     own_info(shape, 0)
 }
 
-/// What is known before the first unit of so many declarations, the predefined ones included.
-pub fn at_first(alloc: Global, count: usize) -> Result<Known, AllocError>
-    ensures { IfOk result (λ known. known ≡ at_first count) }
+/// What so many declarations are before the first unit, the predefined ones included.
+pub fn entries_at_first(alloc: Global, count: usize) -> Result<Listed<Entry>, AllocError>
+    ensures { IfOk result (λ entries. entries ≡ (at_first count).entries) }
 {
     let mut entries = predefined_entries(alloc)?;
     'entries: for _entry in 0..count.saturating_sub(15) {
         entries.push(Entry::Nothing)?;
     }
+    Ok(entries)
+}
+
+/// What is known before the first unit of so many declarations, the predefined ones included.
+pub fn at_first(alloc: Global, count: usize) -> Result<Known, AllocError>
+    ensures { IfOk result (λ known. known ≡ at_first count) }
+{
+    let entries = entries_at_first(alloc, count)?;
     let mut table = predefined_types(alloc)?;
     'types: for _type in 0..count.saturating_sub(4) {
         table.push(no_type(alloc))?;

@@ -1,13 +1,53 @@
 //! The declarations of a program.
 ghost use Rattle.std.specs.Prelude.{◌≡◌, ◌<◌, All, IfOk, length, map};
 ghost use Rattle.resolved_tree.specs.Nodes.{code_at};
-ghost use Rattle.type_table.specs.Whole.{known_of};
+ghost use Rattle.type_table.specs.Whole.{at_first, gather_units, known_of, outside};
+ghost use Rattle.type_names.specs.ComponentNames.{FindAllComponents};
 
 use crate::gathering::Gathering;
-use crate::predefined::at_first;
+use crate::predefined::{at_first, entries_at_first};
 use resolved_tree::Rows;
 use std::alloc::{AllocError, Global};
+use type_names::WordIndex;
 use type_table::Known;
+
+/// All units, one after the other, from what is known before them.
+fn turn(
+    alloc: Global,
+    rows: &Rows,
+    units: &[usize],
+    known: Known,
+    components: Vec<Option<WordIndex>>,
+) -> Result<Gathering, AllocError>
+    requires there { All (λ u. u < length rows.now.1) units.now }
+    requires found { FindAllComponents components.items known.table }
+    ensures { IfOk result (λ made. made.known ≡ (gather_units (map (code_at rows.now) units.now) (outside known)).known) }
+{
+    let mut gathering = Gathering {
+        alloc,
+        known,
+        components,
+        home: None,
+        within: None,
+        sub: None,
+    };
+    'units: for unit in units {
+        gathering.gather(rows, *unit)?;
+    }
+    Ok(gathering)
+}
+
+/// What is known before the first unit, but for the types, which are known already.
+fn afresh(alloc: Global, known: Known, count: usize) -> Result<Known, AllocError>
+    ensures { IfOk result (λ made. made ≡ record (at_first count) { table = known.table }) }
+{
+    let Known { entries, table } = known;
+    drop(entries);
+    Ok(Known {
+        entries: entries_at_first(alloc, count)?,
+        table,
+    })
+}
 
 /// What all declarations of a program are: `rows` has its code, `units` are the numbers of its
 /// units in the order of their text, and `count` is how many declarations it has, the predefined
@@ -22,17 +62,18 @@ pub fn gather(
     requires { All (λ u. u < length rows.now.1) units.now }
     ensures { IfOk result (λ made. made ≡ known_of (record { count = count; units = map (code_at rows.now) units.now })) }
 {
-    let mut gathering = Gathering {
-        alloc,
-        known: at_first(alloc, count)?,
-        components: Vec::new(alloc),
-        home: None,
-        within: None,
-        sub: None,
-    };
-    'units: for unit in units {
-        gathering.gather(rows, *unit)?;
-    }
+    let before = at_first(alloc, count)?;
+    let first = turn(alloc, rows, units, before, Vec::new(alloc))?;
+    let Gathering {
+        alloc: _,
+        known,
+        components,
+        home: _,
+        within: _,
+        sub: _,
+    } = first;
+    let before = afresh(alloc, known, count)?;
+    let second = turn(alloc, rows, units, before, components)?;
     let Gathering {
         alloc: _,
         known,
@@ -40,6 +81,6 @@ pub fn gather(
         home: _,
         within: _,
         sub: _,
-    } = gathering;
+    } = second;
     Ok(known)
 }

@@ -8,7 +8,6 @@ ghost use Rattle.type_gather.specs.Gathering.{context};
 use crate::bounds::constrained_shape;
 use crate::declared::{declared_number, declared_pos, declared_text, texts};
 use crate::gathering::Gathering;
-use crate::known::own_info;
 use resolved_tree::{CodeNode, Mark, Rows};
 use spark_base::{Listed, Pos};
 use std::alloc::{AllocError, Global};
@@ -208,12 +207,7 @@ impl Gathering {
         ensures { context self.new ≡ gather (Incomplete (code_at rows.now name)) (context self.old) }
     {
         let number = declared_number(rows, name);
-        let shape = Shape::Fields {
-            components: Listed::new(self.alloc),
-        };
-        let mut info = own_info(shape, number);
-        info.completed = Some(declared_pos(rows, name));
-        self.with_type(number, info);
+        self.with_awaited(number, None, Some(declared_pos(rows, name)));
     }
 
     /// A private type.
@@ -223,12 +217,7 @@ impl Gathering {
         ensures { context self.new ≡ gather (Private (code_at rows.now name)) (context self.old) }
     {
         let number = declared_number(rows, name);
-        let shape = Shape::Fields {
-            components: Listed::new(self.alloc),
-        };
-        let mut info = own_info(shape, number);
-        info.seen_in = self.home;
-        self.with_type(number, info);
+        self.with_awaited(number, self.home, None);
     }
 
     /// A full type.

@@ -1,5 +1,5 @@
 -- What each type of a program is: made by a declaration of a full type, or small.
-use Rattle.std.proofs.Common.{◌≡◌, ◌⊎◌, inl, inr, refl, ap, ◌∙◌, arith, ℕ, ◌+◌, ◌<◌, ◌≤◌, Bool, true, false, ◌&&◌, ◌||◌, List, [], ◌∷◌, ◌++◌, length, get_or, set, nat_eq, IsTrue, if◌then◌else◌, ℤ}
+use Rattle.std.proofs.Common.{◌≡◌, ◌⊎◌, inl, inr, refl, sym, ap, ◌∙◌, arith, ℕ, ◌+◌, ◌<◌, ◌≤◌, Bool, true, false, ◌&&◌, ◌||◌, List, [], ◌∷◌, ◌++◌, length, get_or, set, nat_eq, IsTrue, if◌then◌else◌, ℤ}
 use Rattle.std.proofs.lemmas.Bool.{cases_eq, cases_lt}
 use Rattle.std.proofs.lemmas.List.{get_or-set_same, get_or-set_other, get_or_past, length-set}
 use Rattle.resolved_tree.specs.Trees.{Code, Anonymous, Enumeration, Incomplete, Private, TypeDecl, Subtype, ConstrainedSubtype, Objects, Numbers, Instance, Formals, Front, SubDecl, SubBody, Package, PackageBody, If, Branch, Case, When, Loop, While, For, Block, More}
@@ -9,10 +9,10 @@ use Rattle.type_table.specs.declared.table.Info.{Info}
 use Rattle.type_table.specs.declared.table.Made.{Made}
 use Rattle.type_table.specs.declared.judgement.View.{View}
 use Rattle.type_table.specs.declared.judgement.View.TheVariants as view
-use Rattle.type_table.specs.Types.{Table, no_type, full as view_at, base}
+use Rattle.type_table.specs.Types.{Table, info, no_type, full as view_at, base}
 use Rattle.type_table.specs.Entries.{entry_of, marked}
 use Rattle.type_table.specs.Names.{Context}
-use Rattle.type_table.specs.Gathered.{gather, each, with_type, with_indication, with_definition, with_literals, initial_value, constant_value, with_object, with_number, with_formal, with_formal_group, with_formals, with_result, with_front, with_body_front, own_info, full_info, constrained_shape, bound_pair, is_subprogram, front_number, declared_number, in_visible, in_hidden, in_subprogram}
+use Rattle.type_table.specs.Gathered.{awaited_info, gather, each, with_type, with_indication, with_definition, with_literals, initial_value, constant_value, with_object, with_number, with_formal, with_formal_group, with_formals, with_result, with_front, with_body_front, own_info, full_info, constrained_shape, bound_pair, is_subprogram, front_number, declared_number, in_visible, in_hidden, in_subprogram}
 use Rattle.type_table.specs.Whole.{made}
 
 or_true : (a : Bool) → IsTrue (a || true)
@@ -62,6 +62,11 @@ is_small (shape.Fields (c ∷ rest)) = false
 is_small (shape.Elements low high t) = false
 is_small (shape.Same t) = true
 
+found : (table : Table) (t : ℕ) → get_or table t no_type ≡ info table t
+found [] t = refl
+found (i ∷ rest) zero = refl
+found (i ∷ rest) (suc t) = found rest t
+
 module _ (full_type : ℕ → Bool) where
   -- Each type is a full one or small.
   abbrev pub Covered : Table → Type 0
@@ -93,6 +98,10 @@ module _ (full_type : ℕ → Bool) where
   indication_covered d (Anonymous p constant m) c covered =
       set_covered c.known.table d (own_info (shape.Access (marked c.known m) constant false) d) covered (or_true (full_type d))
   indication_covered d _ c covered = covered
+
+  -- A type whose full type is declared later has the shape that it has already.
+  awaited_covered : (d : ℕ) (c : Context) → Covered c.known.table → IsTrue (full_type d || is_small (awaited_info c d).shape)
+  awaited_covered d c covered = ap (λ i. full_type d || is_small i.shape) (sym (found c.known.table d)) ∙ covered d
 
   literals_covered : (t n : ℕ) (literals : Code) (c : Context) → Covered c.known.table → Covered (with_literals t n literals c).known.table
   literals_covered t n (More d rest) c covered = literals_covered t (n + 1) rest _ covered
@@ -139,9 +148,9 @@ module _ (full_type : ℕ → Bool) where
       → Covered c.known.table → Covered (gather code c).known.table
   unfolding gather made
   code_covered (Incomplete d) c other full covered =
-      set_covered c.known.table (declared_number d) _ covered (or_true (full_type (declared_number d)))
+      set_covered c.known.table (declared_number d) _ covered (awaited_covered (declared_number d) c covered)
   code_covered (Private d) c other full covered =
-      set_covered c.known.table (declared_number d) _ covered (or_true (full_type (declared_number d)))
+      set_covered c.known.table (declared_number d) _ covered (awaited_covered (declared_number d) c covered)
   code_covered (TypeDecl d def end) c other full covered =
       let made_so : IsTrue (nat_eq (declared_number d) (declared_number d) || false) =
       or_left (nat_eq (declared_number d) (declared_number d)) false (same_number (declared_number d)) in

@@ -14,7 +14,7 @@ use Rattle.type_table.specs.Faults.{demand, first}
 use Rattle.type_table.specs.Names.{Context}
 use Rattle.type_table.specs.Gathered.{gather}
 use Rattle.type_table.specs.Declarations.{holds_shape, holds_parent, some_within, some_part}
-use Rattle.type_table.specs.Whole.{made, is_unsound, all_short, has_elements, size_faults, made_faults, at_first, outside, gather_units, known_of, sentence_faults, all_made, type_sizes, decided, type_fault}
+use Rattle.type_table.specs.Whole.{made, is_unsound, all_short, has_elements, size_faults, made_faults, at_first, outside, gather_units, known_from, known_of, sentence_faults, all_made, type_sizes, decided, type_fault}
 use Rattle.type_settled.proofs.Unsound.{never_shape, never_parent}
 use Rattle.type_sizes.specs.Limits.{IsWithin, AreWithin}
 use Rattle.type_sizes.specs.Formed.{all_formed}
@@ -233,6 +233,9 @@ within_limits p formed none =
     let sentences : sentence_faults known p.units ≡ [] =
     no_first (sentence_faults known p.units) (no_sentence (first (type_sizes known p.units)) (first (sentence_faults known p.units)) none) in
     let sound : (t : ℕ) → is_unsound all t ≡ false = none_unsound all (all_units_sound known p.units formed sentences) in
-    all_within known.table (full_in all)
-    (units_covered (full_in all) p.units (outside (at_first p.count)) (outside known) (λ t is. is) (first_covered (full_in all) p.count))
+    let turn_covered : (table : Table) → Covered (full_in all) table → Covered (full_in all) (known_from p table).table =
+    λ table. units_covered (full_in all) p.units (outside (record (at_first p.count) { table = table })) (outside known) (λ t is. is) in
+    let first : Covered (full_in all) (known_from p (at_first p.count).table).table =
+    turn_covered (at_first p.count).table (first_covered (full_in all) p.count) in
+    all_within known.table (full_in all) (turn_covered (known_from p (at_first p.count).table).table first)
     (full_within known.table all sound all sizes)

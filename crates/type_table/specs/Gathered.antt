@@ -1,6 +1,6 @@
 -- What the declarations of a program are, gathered in the order of the text: each needs those before
--- it alone (docs/LANGUAGE.md, "Types"; Ada 2012, 3 and 6.1). A full type takes the place of the
--- incomplete or private type that it completes.
+-- it, and the full types of those that are completed later (docs/LANGUAGE.md, "Types"; Ada 2012, 3
+-- and 6.1). A full type takes the place of the incomplete or private type that it completes.
 use Rattle.std.specs.Prelude.{ℕ, ◌+◌, ◌-◌, Bool, true, false, ◌&&◌, List, [], ◌∷◌, ◌++◌, length, set, nat_eq, Option, Some, None, is_none, ℤ, pos, negsuc, if◌then◌else◌}
 use Rattle.spark_base.specs.declared.position.Pos.{Pos}
 use Rattle.place_names.specs.declared.act.Mode.{Mode}
@@ -81,6 +81,10 @@ indicates_type known (Anonymous p constant m) = denotes_type known m.decl
 indicates_type known _ = true
 
 -- ---- types
+
+-- A type whose full type is declared later has the shape that the table has.
+abbrev pub awaited_info : Context → ℕ → Info
+awaited_info c d = own_info (info c.known.table d).shape d
 
 -- Whether a bound of a range is static, and of the type that is demanded.
 abbrev pub is_bound : Context → ℕ → Tree → Bool
@@ -341,9 +345,9 @@ in_no_package c = record c { home = None; within = None }
 unfoldable pub gather : Code → Context → Context
 gather (Incomplete d) c =
     with_type (declared_number d)
-    (record (own_info (shape.Fields []) (declared_number d)) { completed = Some (declared_pos d) }) c
+    (record (awaited_info c (declared_number d)) { completed = Some (declared_pos d) }) c
 gather (Private d) c =
-    with_type (declared_number d) (record (own_info (shape.Fields []) (declared_number d)) { seen_in = c.home }) c
+    with_type (declared_number d) (record (awaited_info c (declared_number d)) { seen_in = c.home }) c
 gather (TypeDecl d def end) c =
     with_definition (declared_number d) def (with_type (declared_number d) (full_info c (declared_number d) def end) c)
 gather (Subtype d m) c =

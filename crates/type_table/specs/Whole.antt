@@ -120,9 +120,14 @@ abbrev pub gather_units : List Code → Context → Context
 gather_units [] c = c
 gather_units (u ∷ rest) c = gather_units rest (gather u c)
 
--- All that is known behind the program.
+-- All that is known behind the units of a program, where this table is known before them.
+abbrev pub known_from : Program → Table → Known
+known_from p table = (gather_units p.units (outside (record (at_first p.count) { table = table }))).known
+
+-- All that is known behind the program. Its units are gathered twice: where the first turn meets the
+-- use of a type that is incomplete or private there, the second one knows its full type.
 unfoldable pub known_of : Program → Known
-known_of p = (gather_units p.units (outside (at_first p.count))).known
+known_of p = known_from p (known_from p (at_first p.count).table).table
 
 -- The main procedure has no formals.
 abbrev pub is_formless : Code → Bool

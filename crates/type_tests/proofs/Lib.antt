@@ -11,3 +11,5 @@ pub mod WrongValues
 pub mod WrongSizes
 -- sources that break none
 pub mod TypedSources
+-- types that are used before their full definition
+pub mod FullTypes

@@ -1,0 +1,1 @@
+package P is end P; package body P is type Inner; type Link is access Inner; procedure R (L : in Link) is Y : Integer := 0; begin for I in L.E .. L.F loop Y := Y + I; end loop; end R; type Inner is record E, F : Boolean; end record; end P;

@@ -1,0 +1,1 @@
+package P is end P; package body P is type Inner; type Link is access Inner; procedure R (L : in Link) is Y : Boolean := True; begin for I in L.E .. L.F loop Y := Y and I; end loop; end R; type Inner is record E, F : Boolean; end record; end P;

@@ -1,0 +1,1 @@
+package P is type T is private; procedure Q; private subtype S is T range T'First .. T'Last; type T is (A, B); end P; package body P is procedure Q is Y : S := A; begin case Y is when A => null; end case; end Q; end P;

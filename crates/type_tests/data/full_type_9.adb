@@ -1,0 +1,1 @@
+package P is type T is private; procedure Q (B : Boolean); private C : constant Boolean := T'First = T'Last; type T is (A, B); end P; package body P is procedure Q (B : Boolean) is begin case B is when C => null; when False => null; end case; end Q; end P;
