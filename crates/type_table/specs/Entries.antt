@@ -29,8 +29,8 @@ abbrev pub is_type : Entry → Bool
 is_type entry.Type = true
 is_type _ = false
 
--- What a mark denotes. Where that is no type, the mark's own fault stands before all that comes of
--- it, and Integer stands for it.
+-- What a mark denotes. Where that is no type, Integer stands for it. The mark's own fault stands
+-- before all that comes of it, but for a mark in a full type that stands behind the use of the type.
 abbrev pub type_of_entry : ℕ → Entry → ℕ
 type_of_entry d entry.Type = d
 type_of_entry d _ = integer

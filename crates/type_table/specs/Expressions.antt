@@ -2,7 +2,8 @@
 -- 2012, 4 and 6.4).
 --
 -- Each fault stands at the first token of the expression or name that it is about. What follows from
--- a broken sentence may be listed too: it stands behind.
+-- a broken sentence may be listed too: it stands behind, but where the sentence is broken in a full
+-- type that stands behind the use of the type.
 use Rattle.std.specs.Prelude.{ℕ, ◌+◌, Bool, true, false, not, ◌&&◌, ◌||◌, List, [], ◌∷◌, ◌++◌, map, length, get_or, nat_eq, nat_le, Option, Some, None, is_some, if◌then◌else◌}
 use Rattle.spark_base.specs.declared.position.Pos.{Pos}
 use Rattle.place_names.specs.declared.act.Mode.{Mode}
