@@ -2,7 +2,7 @@
 ghost use Rattle.std.specs.Prelude.{◌≡◌, ◌<◌, length};
 ghost use Rattle.resolved_tree.specs.Nodes.{tree_at};
 ghost use Rattle.type_table.specs.Faults.{noted};
-ghost use Rattle.type_table.specs.Expressions.{around_variable, traversed_place, traversed_name, traversed_other, around_traversed, formal, around_formal, around_role};
+ghost use Rattle.type_table.specs.Expressions.{around_variable, traversed_fits, traversed_value, traversed_name, traversed_other, traversed_anonymous, is_object_name, around_traversed, formal, around_formal, around_role};
 ghost use Rattle.type_expressions.specs.Around.{context};
 
 use crate::checker::Checker;
@@ -10,9 +10,9 @@ use ada_tree::Word;
 use place_names::Mode;
 use resolved_tree::Node;
 use spark_base::Pos;
-use type_names::{is_access, is_anonymous};
+use type_names::{is_access, is_anonymous, is_object};
 use type_settled::demand;
-use type_table::{Fault, Reading, Role, Where};
+use type_table::{Fault, Own, Reading, Role, Where};
 
 impl<'p> Checker<'p> {
     /// With the faults around an expression where a variable is demanded.
@@ -35,21 +35,33 @@ impl<'p> Checker<'p> {
         }
     }
 
-    /// With the faults of the name of an object that is traversed.
-    #[tactic(auto, using(crate::proofs::Noted::noted_append))]
-    fn traversed_place(&self, found: Option<Fault>, want: u32, pos: Pos, t: u32) -> Option<Fault>
-        ensures { result ≡ noted found (traversed_place (context self.now) want pos t) }
+    /// Whether another expression than a name may be of an access type: `null` and an allocator have
+    /// the anonymous one that their place demands.
+    fn traversed_fits(&self, want: u32, e: usize) -> bool
+        requires { e < length self.now.rows.now.0 }
+        ensures { result ≡ traversed_fits (context self.now) want (tree_at self.now.rows.now e) }
     {
         let reader = self.reader();
-        if is_anonymous(reader.full(want)) {
-            let found = demand(found, 1, pos, is_access(reader.seen(t)));
-            demand(found, 6, pos, reader.traverses(want, t))
-        } else {
-            demand(found, 1, pos, reader.base(t) == reader.base(want))
+        match self.rows.node(e) {
+            Node::Null { .. } => true,
+            Node::New { mark, .. } => reader.allocates(want, *mark),
+            Node::Aggregate { .. } | Node::Others { .. } => false,
+            Node::Parens { inner, .. } => self.traversed_fits(want, *inner),
+            _ => reader.reading_access(reader.own_type(e)),
         }
     }
 
-    /// With the faults of a name that is traversed.
+    /// With the faults of a name that is traversed and isn't that of an object.
+    #[tactic(auto, using(crate::proofs::Noted::noted_append))]
+    fn traversed_value(&self, found: Option<Fault>, pos: Pos, own: Own) -> Option<Fault>
+        ensures { result ≡ noted found (traversed_value (context self.now) pos own) }
+    {
+        let found = demand(found, 1, pos, self.reader().reading_access(own));
+        let found = demand(found, 5, pos, !self.own_owning(own));
+        demand(found, 6, pos, false)
+    }
+
+    /// With the faults of a name that is traversed by a formal of an anonymous type.
     #[tactic(auto, using(crate::proofs::Noted::noted_append))]
     fn traversed_name(
         &self,
@@ -60,34 +72,51 @@ impl<'p> Checker<'p> {
     ) -> Option<Fault>
         ensures { result ≡ noted found (traversed_name (context self.now) want pos reading) }
     {
+        let reader = self.reader();
         match reading {
             Reading::Off => found,
-            Reading::Place { of } => self.traversed_place(found, want, pos, of),
-            _ => {
-                let reader = self.reader();
-                let found = demand(found, 1, pos, reader.reading_access(reader.own_of(reading)));
-                demand(found, 6, pos, false)
+            Reading::Place { of } => {
+                let found = demand(found, 1, pos, is_access(reader.seen(of)));
+                demand(found, 6, pos, reader.traverses(want, of))
             }
+            _ => self.traversed_value(found, pos, reader.own_of(reading)),
         }
     }
 
-    /// With the faults of another traversed actual than a name, but that it is none.
-    fn traversed_other(
-        &self,
-        found: Option<Fault>,
-        anonymous: bool,
-        want: u32,
-        e: usize,
-    ) -> Option<Fault>
+    /// With the faults of another expression than a name, which is traversed by such a formal.
+    #[tactic(auto, using(crate::proofs::Noted::noted_append))]
+    fn traversed_other(&self, found: Option<Fault>, want: u32, e: usize) -> Option<Fault>
         requires { e < length self.now.rows.now.0 }
-        ensures { result ≡ noted found (traversed_other (context self.now) anonymous want (tree_at self.now.rows.now e)) }
+        ensures { result ≡ noted found (traversed_other (context self.now) want (tree_at self.now.rows.now e)) }
     {
-        if anonymous {
-            let reader = self.reader();
-            let holds = reader.reading_access(reader.own_type(e));
-            demand(found, 1, reader.position(e), holds)
-        } else {
-            self.around(found, Where::Actual, want, e)
+        let pos = self.reader().position(e);
+        let found = demand(found, 1, pos, self.traversed_fits(want, e));
+        demand(found, 6, pos, false)
+    }
+
+    /// With the faults around what is traversed by a formal of an anonymous type.
+    #[tactic(auto, using(crate::proofs::Noted::noted_append))]
+    fn traversed_anonymous(&self, found: Option<Fault>, want: u32, e: usize) -> Option<Fault>
+        requires { e < length self.now.rows.now.0 }
+        ensures { result ≡ noted found (traversed_anonymous (context self.now) want (tree_at self.now.rows.now e)) }
+    {
+        match self.rows.node(e) {
+            Node::Named { pos, decl, rest } => {
+                let reading = self.reader().reading_of(*decl, *rest);
+                self.traversed_name(found, want, *pos, reading)
+            }
+            _ => self.traversed_other(found, want, e),
+        }
+    }
+
+    /// Whether an expression is the name of an object.
+    fn is_object_name(&self, e: usize) -> bool
+        requires { e < length self.now.rows.now.0 }
+        ensures { result ≡ is_object_name (context self.now) (tree_at self.now.rows.now e) }
+    {
+        match self.rows.node(e) {
+            Node::Named { decl, rest, .. } => is_object(self.reader().reading_of(*decl, *rest)),
+            _ => false,
         }
     }
 
@@ -100,15 +129,11 @@ impl<'p> Checker<'p> {
         ensures { result ≡ noted found (around_traversed (context self.now) want (tree_at self.now.rows.now e)) }
     {
         let reader = self.reader();
-        match self.rows.node(e) {
-            Node::Named { pos, decl, rest } => {
-                self.traversed_name(found, want, *pos, reader.reading_of(*decl, *rest))
-            }
-            _ => {
-                let anonymous = is_anonymous(reader.full(want));
-                let found = self.traversed_other(found, anonymous, want, e);
-                demand(found, 6, reader.position(e), false)
-            }
+        if is_anonymous(reader.full(want)) {
+            self.traversed_anonymous(found, want, e)
+        } else {
+            let found = self.around(found, Where::Actual, want, e);
+            demand(found, 6, reader.position(e), self.is_object_name(e))
         }
     }
 

@@ -90,16 +90,15 @@ impl<'p> Checker<'p> {
     pub fn around_parens(
         &self,
         found: Option<Fault>,
-        passed: bool,
         pos: Pos,
         want: u32,
         e: usize,
     ) -> Option<Fault>
         requires { e < length self.now.rows.now.0 }
-        ensures { result ≡ noted found (around_parens (context self.now) passed pos want (tree_at self.now.rows.now e)) }
+        ensures { result ≡ noted found (around_parens (context self.now) pos want (tree_at self.now.rows.now e)) }
     {
         let own = self.reader().own_type(e);
-        let found = demand(found, 5, pos, passed || !self.own_owning(own));
+        let found = demand(found, 5, pos, !self.own_owning(own));
         if is_demanding(own) {
             self.around(found, Where::InParens, want, e)
         } else {

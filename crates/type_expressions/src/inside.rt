@@ -3,7 +3,7 @@ ghost use Rattle.std.specs.Prelude.{◌≡◌, ◌<◌, length};
 ghost use Rattle.resolved_tree.specs.Nodes.{tree_at};
 ghost use Rattle.type_table.specs.Entries.{integer};
 ghost use Rattle.type_table.specs.Faults.{noted};
-ghost use Rattle.type_table.specs.Expressions.{passes_parens, inside, arguments, within_suffix, behind, faults, name_faults, loose_faults};
+ghost use Rattle.type_table.specs.Expressions.{inside, arguments, within_suffix, behind, faults, name_faults, loose_faults};
 ghost use Rattle.type_expressions.specs.Around.{context};
 ghost use Rattle.type_expressions.specs.Arguments.{argument};
 
@@ -11,21 +11,11 @@ use crate::checker::Checker;
 use ada_tree::Word;
 use resolved_tree::{Node, Operator, UnaryOperator};
 use spark_base::Pos;
-use type_names::{
-    INTEGER, element_type, fits_others, is_anonymous, operand_type, role_of, unary_type,
-};
+use type_names::{INTEGER, element_type, fits_others, operand_type, role_of, unary_type};
 use type_settled::demand;
 use type_table::{Fault, Role, Way, Where};
 
 impl<'p> Checker<'p> {
-    /// Whether parentheses around an expression break K6 alone: where an anonymous access type is
-    /// demanded of it.
-    fn passes_parens(&self, loose: bool, t: u32) -> bool
-        ensures { result ≡ passes_parens (context self.now) loose t }
-    {
-        loose && is_anonymous(self.reader().full(t))
-    }
-
     /// With the faults within an expression of which `want` is demanded, or nothing where it has a
     /// type of its own. `loose` says that a traversal call may stand here.
     #[cycle(inside)]
@@ -42,8 +32,7 @@ impl<'p> Checker<'p> {
                 self.behind(found, self.reader().way_of(*decl), *rest)
             }
             Node::Parens { pos, inner } => {
-                let passed = self.passes_parens(loose, want);
-                let found = self.around_parens(found, passed, *pos, want, *inner);
+                let found = self.around_parens(found, *pos, want, *inner);
                 self.inside(found, false, want, *inner)
             }
             Node::Unary {

@@ -13,7 +13,7 @@ use Rattle.type_table.specs.Faults.{demand, K7}
 use Rattle.type_table.specs.Entries.{entry_of, integer, marked, denotes_type, is_type, is_complete}
 use Rattle.type_table.specs.Names.{Context, seen, step, along, reading_of}
 use Rattle.type_table.specs.Statics.{is_static, value, is_alone}
-use Rattle.type_table.specs.Expressions.{inside, arguments, within_suffix, behind, own_type, compares, around, around_role, around_parens, around_operands, passes_parens, is_loose, role_type, role_of, way_of, onward, reading_faults, given_names, call_arguments, fits_aggregate, fits_others, element_type, mark_faults, unary_type, operand_type}
+use Rattle.type_table.specs.Expressions.{inside, arguments, within_suffix, behind, own_type, compares, around, around_role, around_parens, around_operands, is_loose, role_type, role_of, way_of, onward, reading_faults, given_names, call_arguments, fits_aggregate, fits_others, element_type, mark_faults, unary_type, operand_type}
 use Rattle.type_table.specs.Statements.{scalar_mark, static_faults, known_value, range_of_faults, ranged, no_suffix}
 use Rattle.type_table.specs.Declarations.{bound_faults, index_range, definition_faults, type_faults, subtype_faults, integer_mark, lies_within, holds_itself}
 use Rattle.type_table.specs.Gathered.{declared_pos, declared_number}
@@ -35,7 +35,7 @@ module _ (k : Known) (h w : Option ℕ) (st : Bool) (s r : Option ℕ) (l m : Bo
     inside_same : (loose : Bool) (t : ℕ) (e : Tree) → inside c loose t e ≡ inside d loose t e
     inside_same loose t (Named p n rest) =
         λ j. reading_faults c p n loose (given_names (call_arguments rest)) (reading_of c n rest) ++ behind_same (way_of k n (entry_of k n)) rest j
-    inside_same loose t (Parens p e) = λ j. around_parens c (passes_parens c loose t) p t e ++ inside_same false t e j
+    inside_same loose t (Parens p e) = λ j. around_parens c p t e ++ inside_same false t e j
     inside_same loose t (Unary p op e) =
         λ j. if is_alone op e then [] else around c stands.Elsewhere (unary_type op) e ++ inside_same false (unary_type op) e j
     inside_same loose t (Binary p op a b) =

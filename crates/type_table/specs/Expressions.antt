@@ -397,25 +397,39 @@ reading_access c (own.Of t) = is_access (seen c t)
 reading_access c own.Text = false
 reading_access c _ = true
 
-abbrev pub traversed_place : Context → ℕ → Pos → ℕ → List Fault
-traversed_place c want p t =
-    if is_anonymous (full c.known.table want)
-    then demand 1 p (is_access (seen c t)) ++ demand 6 p (traverses c want t)
-    else demand 1 p (nat_eq (base c.known.table t) (base c.known.table want))
+-- `null` and an allocator have the type that their place demands, an anonymous access type.
+abbrev pub traversed_fits : Context → ℕ → Tree → Bool
+traversed_fits c want (Null p) = true
+traversed_fits c want (New p m v) = allocates c want m
+traversed_fits c want (Aggregate p args) = false
+traversed_fits c want (Others p e) = false
+traversed_fits c want (Parens p e) = traversed_fits c want e
+traversed_fits c want e = reading_access c (own_type c e)
 
--- Whatever is no name breaks K6.
+-- A call of an owning type breaks K5, and so do parentheses within the actual. Whatever is no name breaks K6.
+abbrev pub traversed_value : Context → Pos → Own → List Fault
+traversed_value c p own = demand 1 p (reading_access c own) ++ (demand 5 p (not (own_owning c.known own)) ++ K6 p)
+
 abbrev pub traversed_name : Context → ℕ → Pos → Reading → List Fault
 traversed_name c want p reading.Off = []
-traversed_name c want p (reading.Place t) = traversed_place c want p t
-traversed_name c want p r = demand 1 p (reading_access c (own_of c.known r)) ++ K6 p
+traversed_name c want p (reading.Place t) = demand 1 p (is_access (seen c t)) ++ demand 6 p (traverses c want t)
+traversed_name c want p r = traversed_value c p (own_of c.known r)
 
-abbrev pub traversed_other : Context → Bool → ℕ → Tree → List Fault
-traversed_other c true want e = demand 1 (position e) (reading_access c (own_type c e))
-traversed_other c false want e = around c stands.Actual want e
+abbrev pub traversed_other : Context → ℕ → Tree → List Fault
+traversed_other c want e = demand 1 (position e) (traversed_fits c want e) ++ K6 (position e)
+
+abbrev pub traversed_anonymous : Context → ℕ → Tree → List Fault
+traversed_anonymous c want (Named p d rest) = traversed_name c want p (reading_of c d rest)
+traversed_anonymous c want e = traversed_other c want e
+
+abbrev pub is_object_name : Context → Tree → Bool
+is_object_name c (Named p d rest) = is_object (reading_of c d rest)
+is_object_name c _ = false
 
 abbrev pub around_traversed : Context → ℕ → Tree → List Fault
-around_traversed c want (Named p d rest) = traversed_name c want p (reading_of c d rest)
-around_traversed c want e = traversed_other c (is_anonymous (full c.known.table want)) want e ++ K6 (position e)
+around_traversed c want e =
+    if is_anonymous (full c.known.table want) then traversed_anonymous c want e
+    else around c stands.Actual want e ++ demand 6 (position e) (is_object_name c e)
 
 abbrev pub around_formal : Context → FormalInfo → Tree → List Fault
 around_formal c f e =
@@ -451,10 +465,6 @@ abbrev pub is_loose : Context → Role → ℕ → Given → Bool
 is_loose c (role.Actuals f) i w = (formal c f i w).traversed
 is_loose c _ i w = false
 
--- Where an anonymous access type is demanded of it, parentheses around it break K6 alone.
-abbrev pub passes_parens : Context → Bool → ℕ → Bool
-passes_parens c loose t = loose && is_anonymous (full c.known.table t)
-
 -- An operand of `&`.
 abbrev pub around_string : Context → Tree → List Fault
 around_string c e = demand 1 (position e) (is_string (own_type c e) || is_unknown (own_type c e))
@@ -478,9 +488,9 @@ onward c s (way.Along t) = way.Along (next_type (step c s t))
 onward c s (way.Giving r) = way.Giving r
 
 -- Around what stands in parentheses, and around the operands of an operator.
-abbrev pub around_parens : Context → Bool → Pos → ℕ → Tree → List Fault
-around_parens c passed p want e =
-    demand 5 p (passed || not (own_owning c.known (own_type c e)))
+abbrev pub around_parens : Context → Pos → ℕ → Tree → List Fault
+around_parens c p want e =
+    demand 5 p (not (own_owning c.known (own_type c e)))
     ++ (if is_demanding (own_type c e) then around c stands.InParens want e else [])
 
 abbrev pub around_operands : Context → Pos → Operator → Tree → Tree → List Fault
@@ -497,8 +507,7 @@ unfoldable mutual
   inside c loose want (Number p n) = demand 7 p (nat_le n 2147483647)
   inside c loose want (Named p d rest) =
       reading_faults c p d loose (given_names (call_arguments rest)) (reading_of c d rest) ++ behind c (way_of c.known d (entry_of c.known d)) rest
-  inside c loose want (Parens p e) =
-      around_parens c (passes_parens c loose want) p want e ++ inside c false want e
+  inside c loose want (Parens p e) = around_parens c p want e ++ inside c false want e
   inside c loose want (Unary p op e) =
       if is_alone op e then [] else around c stands.Elsewhere (unary_type op) e ++ inside c false (unary_type op) e
   inside c loose want (Binary p op a b) =

@@ -2,7 +2,7 @@
 use Rattle.std.specs.Prelude.{ℕ, Bool, true, false, not, ◌&&◌, ◌||◌, List, [], ◌∷◌, ◌++◌, flat_map, map, codes, Option, Some, None, is_none, is_some, ℤ, pos, ◌+ℤ◌, int_le, if◌then◌else◌}
 use Rattle.spark_base.specs.declared.position.Pos.{Pos}
 use Rattle.resolved_tree.specs.declared.node.Mark.{Mark}
-use Rattle.resolved_tree.specs.Trees.{Tree, Null, Named, Parens, Aggregate, Others, New, Applied, Argument, NoMore, More, position, Code, Bounds, Marked, Constrained, RangeOf, Value, Interval, OthersChoice}
+use Rattle.resolved_tree.specs.Trees.{Tree, Null, Named, Parens, New, Applied, Argument, NoMore, More, position, Code, Bounds, Marked, Constrained, RangeOf, Value, Interval, OthersChoice}
 use Rattle.type_table.specs.declared.table.Kind.{Kind}
 use Rattle.type_table.specs.declared.table.Kind.TheVariants as kind
 use Rattle.type_table.specs.declared.table.Predefined.{Predefined}
@@ -27,67 +27,59 @@ use Rattle.type_table.specs.Faults.{demand, K1, K2, K3, K6}
 use Rattle.type_table.specs.Entries.{entry_of, integer, boolean, denotes_type, marked, is_complete, is_type}
 use Rattle.type_table.specs.Names.{Context, seen, reading_of, is_end}
 use Rattle.type_table.specs.Statics.{is_static, value}
-use Rattle.type_table.specs.Expressions.{Given, is_unknown, own_type, own_of, around_variable, around_string, inside, arguments, behind, way_of, faults, name_faults, loose_faults, is_access, scalar_own, is_demanding, is_variable, is_anonymous, to_constant, designated, allocates, reading_access, is_traversal_call, is_traversal, profile_of, result_type, associates, given_names}
+use Rattle.type_table.specs.Expressions.{Given, is_unknown, own_type, own_of, around_variable, around_string, inside, arguments, behind, way_of, faults, name_faults, loose_faults, is_access, scalar_own, is_demanding, is_variable, is_anonymous, to_constant, designated, allocates, is_traversal_call, is_traversal, profile_of, result_type, associates, given_names}
 
 -- ---- sources of anonymous access objects
 
--- The source names an access value with the designated type that is demanded, or calls a traversal function; it is of no
--- access-to-constant type where the place is access-to-variable.
+-- A type by itself isn't known, or is an access type with the designated type that is demanded.
+abbrev pub designates : Context → ℕ → Own → Bool
+designates c want own.Unknown = true
+designates c want (own.Of t) =
+    is_access (seen c t) && is_same c.known.table (designated (full c.known.table t)) (designated (full c.known.table want))
+designates c want _ = false
+
+-- What is assigned to an object of an anonymous access type, or returned as one, has this type. `null` and an allocator have the
+-- type that their place demands.
+abbrev pub source_fits : Context → ℕ → Tree → Bool
+source_fits c want (Null p) = true
+source_fits c want (New p m v) = allocates c want m
+source_fits c want (Parens p e) = source_fits c want e
+source_fits c want e = designates c want (own_type c e)
+
+-- A borrower or observer names an object, or calls a traversal function; what it is of is no access-to-constant type where the
+-- place is access-to-variable.
 abbrev pub is_source : Known → Reading → Bool
 is_source known (reading.Place t) = true
 is_source known r = is_traversal_call known r
 
-abbrev pub source_type : Context → Pos → ℕ → Own → List Fault
-source_type c p want (own.Of t) =
-    demand 1 p (is_same c.known.table (designated (full c.known.table t)) (designated (full c.known.table want)))
-    ++ demand 6 p (to_constant (full c.known.table want) || not (to_constant (full c.known.table t)))
-source_type c p want _ = []
+abbrev pub keeps_constant : Known → ℕ → Own → Bool
+keeps_constant known want (own.Of t) = to_constant (full known.table want) || not (to_constant (full known.table t))
+keeps_constant known want _ = true
 
-abbrev pub source_name : Context → Pos → ℕ → Reading → List Fault
-source_name c p want reading.Off = []
-source_name c p want r =
-    if not (reading_access c (own_of c.known r)) then K1 p
-    else if is_source c.known r then source_type c p want (own_of c.known r) else K6 p
-
-abbrev pub source_fits : Context → ℕ → Tree → Bool
-source_fits c want (Null p) = true
-source_fits c want (New p m v) = allocates c want m
-source_fits c want (Aggregate p args) = false
-source_fits c want (Others p e) = false
-source_fits c want (Parens p e) = source_fits c want e
-source_fits c want e = reading_access c (own_type c e)
+abbrev pub source_name : Context → ℕ → Pos → Reading → List Fault
+source_name c want p reading.Off = []
+source_name c want p r =
+    demand 1 p (designates c want (own_of c.known r))
+    ++ demand 6 p (is_source c.known r && keeps_constant c.known want (own_of c.known r))
 
 abbrev pub other_source : Context → ℕ → Tree → List Fault
 other_source c want e = demand 1 (position e) (source_fits c want e) ++ (K6 (position e) ++ inside c false want e)
 
 abbrev pub source_faults : Context → ℕ → Tree → List Fault
-source_faults c want (Named p d rest) = source_name c p want (reading_of c d rest) ++ loose_faults c (Named p d rest)
+source_faults c want (Named p d rest) = source_name c want p (reading_of c d rest) ++ loose_faults c (Named p d rest)
 source_faults c want e = other_source c want e
 
 abbrev pub return_source : Context → ℕ → Tree → List Fault
 return_source c want (Null p) = []
 return_source c want e = source_faults c want e
 
--- A formal of an anonymous access type is no borrower or observer.
-abbrev pub formal_own : Context → ℕ → Own → Bool
-formal_own c want own.Unknown = true
-formal_own c want (own.Of t) =
-    is_access (seen c t) && is_same c.known.table (designated (full c.known.table t)) (designated (full c.known.table want))
-formal_own c want _ = false
-
-abbrev pub formal_fits : Context → ℕ → Tree → Bool
-formal_fits c want (Null p) = true
-formal_fits c want (New p m v) = allocates c want m
-formal_fits c want (Parens p e) = formal_fits c want e
-formal_fits c want e = formal_own c want (own_type c e)
-
 abbrev pub is_name : Tree → Bool
 is_name (Named p d rest) = true
 is_name _ = false
 
--- It may be a traversal call.
+-- A formal of an anonymous access type is no borrower or observer. A traversal call may stand here.
 abbrev pub formal_source : Context → ℕ → Tree → List Fault
-formal_source c want e = demand 1 (position e) (formal_fits c want e) ++ inside c (is_name e) want e
+formal_source c want e = demand 1 (position e) (source_fits c want e) ++ inside c (is_name e) want e
 
 -- ---- assignments
 

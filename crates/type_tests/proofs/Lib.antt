@@ -6,6 +6,7 @@ pub mod ResolvedTrees
 pub mod WrongTypes
 pub mod WrongPlaces
 pub mod WrongOwners
+pub mod AnonymousSources
 pub mod WrongValues
 -- Y1 to Y3
 pub mod WrongSizes

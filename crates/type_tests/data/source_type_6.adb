@@ -1,0 +1,1 @@
+package P is type Cell is record V : Integer; end record; type List is access Cell; type Ptr is access Integer; function G return List; function H return Ptr; end P; package body P is function G return List is begin return null; end G; function H return Ptr is begin return null; end H; procedure Q (X : List; Y : Ptr) is B : access constant Cell := X; begin B := H; end Q; end P;
