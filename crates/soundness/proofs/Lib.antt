@@ -25,6 +25,8 @@ pub mod Raised
 -- words stay typed
 pub mod Keeping
 pub mod Lasting
+-- the acts of points on control paths
+pub mod Paths
 -- sound states are well owned; instructions; the run
 pub mod Owners
 pub mod Instructions
