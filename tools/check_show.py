@@ -172,6 +172,8 @@ def faults_below(path, files, line, below):
         yield "the caret isn't in its column: " + line
     elif shown[0][8:].isascii() and shown[0][8:].replace(" ", "") != re.sub(rb"[ \r]", b"", quoted).decode():
         yield "another line of the source below " + line
+    if any("spark-show has a fault" in text for text in below):
+        yield "a fault below " + line
     if not any("%s: %s" % (it.code, errors_page.title_of(it.code)) in text for text in below):
         yield "no title below " + line
     told_of = [text for text in below if re.search(r" lines? \d|earlier turn", text)]
@@ -372,10 +374,18 @@ def try_absent(program):
         fault("--sarif absent.adb: it is called a success")
 
 
+def executable(program):
+    """The program itself in place of the script `spark`, which would look for newer sources at each run."""
+    if program == TOP / "spark":
+        run(TOP, program)
+        program = TOP / "crates" / "spark" / "out" / "spark"
+    return str(program)
+
+
 def main():
     words = argparse.ArgumentParser()
     words.add_argument("--program", default=str(TOP / "spark"))
-    program = str(pathlib.Path(words.parse_args().program).resolve())
+    program = executable(pathlib.Path(words.parse_args().program).resolve())
     count = try_examples(program)
     try_constructs(program)
     try_rows()
