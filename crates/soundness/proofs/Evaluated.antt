@@ -151,7 +151,7 @@ module _ (h : Here) (settled : IsSettled h.typing.table) (leaks : List Leak) (wa
   spared w v u o = alone v o
 
   -- a scalar value
-  scalar_given : (m : Memory) (hands : List Waiting) (facts facts' : List Fact) (want : ℕ) → Ready m hands facts → facts ≡ facts'
+  pub scalar_given : (m : Memory) (hands : List Waiting) (facts facts' : List Fact) (want : ℕ) → Ready m hands facts → facts ≡ facts'
       → is_scalar (full h.typing.table want) ≡ true → (x : Evaluated (List machine.Word))
       → Quiet (record { memory = m; waits = waits }) One x → Given want hands facts' x
   scalar_given m hands facts facts' want ready same scalar (Done ws n) (is, one) = (

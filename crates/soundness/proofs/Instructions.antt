@@ -1,5 +1,5 @@
 -- What instructions lead to, as outcomes of the machine: declarations, assignments, releases, the ends of scopes, conditions, input and output.
-use Rattle.std.proofs.Common.{◌≡◌, refl, sym, ap, ◌∙◌, subst, ◌⊎◌, inl, inr, ℕ, suc, ◌+◌, Bool, true, false, not, ◌&&◌, ◌||◌, List, [], ◌∷◌, ◌++◌, map, flat_map, reverse, take, drop, length, get_or, nat_lt, arith, append-nil, ℤ, Option, Some, None, if◌then◌else◌}
+use Rattle.std.proofs.Common.{◌≡◌, refl, sym, ap, ◌∙◌, subst, ◌⊎◌, inl, inr, ℕ, suc, ◌+◌, Bool, true, false, not, ◌&&◌, ◌||◌, List, [], ◌∷◌, ◌++◌, map, flat_map, reverse, take, drop, length, get_or, nat_lt, int_le, arith, append-nil, ℤ, Option, Some, None, if◌then◌else◌}
 use Rattle.std.specs.Prelude as int
 use Rattle.spark_base.specs.Lists.{Has}
 use Rattle.spark_base.specs.declared.position.Pos.{Pos}
@@ -34,7 +34,7 @@ use Rattle.machine.specs.Memory.{Memory, Place, Slot, cell, freed, no_slot, slot
 use Rattle.machine.specs.Evaluate.{Here, Now, AsValue, AsView, Evaluated, Done, Raises, Traps, followed_by, evaluate, initial, checked, value, viewed, place_of, cell_place, variable_place, walked, steps_of, text_of}
 use Rattle.machine.specs.Evaluate as run
 use Rattle.machine.specs.Calls.{checks_at, checked_at}
-use Rattle.machine.specs.States.{Waiting, Frame, Leak, State, Outcome, Goes, Ends}
+use Rattle.machine.specs.States.{Waiting, Loop, Frame, Leak, State, Outcome, Goes, Ends}
 use Rattle.machine.specs.Step.{Turn, release, counted, typing, here, start, waiting, Stored, first_value, taken_by, declare, assign, end_scope, goes, behind, begun, led, successor, main_frame, leaking_goes, target_pos}
 use Rattle.machine.specs.Step as steps
 use Rattle.machine.specs.Owners.{is_in_formal, waiting_in, WellOwned}
@@ -59,14 +59,14 @@ use Rattle.soundness.proofs.Owners.{strip}
 use Rattle.soundness.proofs.Fading.{FadesTo, still, then_fades, if_fades, checked_fades, fades}
 use Rattle.soundness.proofs.Raised.{raised_owned}
 use Rattle.soundness.proofs.Keeping.{cell_has}
-use Rattle.soundness.proofs.Steps.{alike, plain_shape}
+use Rattle.soundness.proofs.Steps.{alike, no_leaf, plain_shape}
 use Rattle.soundness.proofs.Defaults.{none_default}
 use Rattle.soundness.proofs.Moments.{stored_sound, number_part, declared_sound, ended_sound}
 use Rattle.soundness.proofs.Scalars.{acts, acts_append, after_append, allows_both, number_along, named_along}
 use Rattle.soundness.proofs.Stays.{Quiet, Any, One, quiet_then, quiet, Goes as GoesAlong, steps_quiet, name_quiet}
 use Rattle.soundness.proofs.Numbers.{index_law}
 use Rattle.soundness.proofs.Lasting.{put_away, keeps, lengths, stored_kept, freed_kept, declared_kept, removed_kept}
-use Rattle.soundness.proofs.Evaluated.{live_trunk, Ready, Given, blank_ready, checked_given, evaluated}
+use Rattle.soundness.proofs.Evaluated.{live_trunk, Ready, Given, scalar_given, blank_ready, checked_given, evaluated}
 use Rattle.soundness.proofs.Stored.{Assigns, assigned}
 
 -- ---- without calls nothing waits
@@ -883,3 +883,88 @@ module _ (t : Turn) (settled : IsSettled (typing t).table) (own_law : OwnsByShap
           at_number = λ k m v end next fits. rw (next, fits) refl;
           at_outside = λ k m v end next out. rw (next, out) refl;
         }) scalar lead calls facts holds allowed
+
+    -- ---- the start of a loop
+
+    -- what waits doesn't go by the loops that have started
+    loop_waits : (l : Loop) (state : State) → waiting_in (steps.with_loop l state) ≡ waiting_in state
+    loop_waits l state = by_frames state.frames
+      where
+        by_frames : (fs : List Frame) → waiting_in (steps.with_loop l (record state { frames = fs })) ≡ flat_map waits_of fs
+        by_frames [] = refl
+        by_frames (f ∷ rest) = refl
+
+    abbrev Both : steps.Bounds → Type 0
+    Both b = One b.low × One b.high
+
+    -- what a start does with its bounds: it raises, or the parameter is declared
+    pub record Starts (x : ℕ) (f : steps.Bounds → Memory → Outcome) : Type 0 where
+      pub fails : steps.Bounds → Bool
+      pub loop : steps.Bounds → Loop
+      pub at_fault : (b : steps.Bounds) (m : Memory) → fails b ≡ true → f b m ≡ steps.raised t run.ConstraintError m
+      pub at_turn : (b : steps.Bounds) (m : Memory) → fails b ≡ false
+          → f b m ≡ Goes (steps.with_loop (loop b) (behind t (waiting t) (declared depth x b.low m) 0))
+
+    module _ (x : ℕ) (f : steps.Bounds → Memory → Outcome) (starts : Starts x f) (scalar : is_scalar (full s.table (object_at s x).of) ≡ true)
+        (facts : List Fact) (holds : Holds facts t.state) where
+      begun_there : (b : steps.Bounds) → Both b
+          → Leads_on facts (Goes (steps.with_loop (starts.loop b) (behind t (waiting t) (declared depth x b.low t.state.memory) 0)))
+      begun_there b both =
+          let m : Memory = t.state.memory in
+          let u : ℕ = (object_at s x).of in
+          let value_of : Waiting = record { of = u; words = b.low } in
+          let given = scalar_given (here t) settled t.state.leaks [] other alone (keeps s settled own_law) no_formals index_law own_law all_named
+          m hands facts facts u (record { sound = holds.0; kept = holds.1 }) refl scalar (Done b.low now) (refl, both.0) in
+          let blank : (p : List ways.Step) → word_in s.table (content s m (value_of ∷ hands) (OfRoot (OfVariable depth x))) p ≡ Empty =
+          λ p. word_no s.table (content s m (value_of ∷ hands) (OfRoot (OfVariable depth x))) p (no_leaf s.table settled u scalar p) in
+          let sound = declared_sound s settled (home s depth) other m value_of hands t.state.leaks facts depth x
+          given.0.sound (λ z v u o. alone v o) given.0.kept blank (no_formals x) given.1 (alike s.table settled u u (inl refl)) in
+          let kept = declared_kept s settled m depth x value_of hands given.0.kept given.1 (inl refl) in
+          let waits = loop_waits (starts.loop b) (behind t (waiting t) (declared depth x b.low m) 0) ∙ hands_behind (declared depth x b.low m) 0 in (
+            subst (λ z. Sound (home s depth) other (seen s (declared depth x b.low m) z t.state.leaks) facts) (sym waits) sound,
+            subst (Kept s (declared depth x b.low m)) (sym waits) kept,
+          )
+
+      then_started : (y : Evaluated steps.Bounds) → Quiet now Both y → Leads_on facts (steps.evaluated t y f)
+      then_started (Done b n) (same, both) =
+          subst (λ (z : Now). Leads_on facts (f b z.memory)) (sym same) (elim (bool_cases (starts.fails b)) [
+            | inl e ↦ subst (Leads_on facts) (sym (starts.at_fault b t.state.memory e)) ((λ trap. trap), raises facts holds t.state.memory)
+            | inr e ↦ (
+                let on = begun_there b both in
+                subst (Leads_on facts) (sym (starts.at_turn b t.state.memory e)) (on.0, on.1))
+          ])
+      then_started (Raises e n) is = ((λ trap. trap), raises facts holds n.memory)
+      then_started (Traps e n) never = absurd never
+
+    started_by : (x : ℕ) (f : steps.Bounds → Memory → Outcome) (low high : TypedTree) → Starts x f → is_scalar (full s.table (object_at s x).of) ≡ true
+        → Stays s low → Stays s high → has_call low ≡ false → has_call high ≡ false → (facts : List Fact) → Holds facts t.state
+        → AllowsAll facts (acts (acts_in s low ++ acts_in s high))
+        → Leads_on (after (acts (acts_in s low ++ acts_in s high)) facts) (steps.evaluated t (steps.bounds t low high (start t)) f)
+    started_by x f low high starts scalar stays stays' calls calls' facts holds allowed =
+        let each = allows_both facts (acts (acts_in s low)) (acts (acts_in s high)) (subst (AllowsAll facts) (acts_append (acts_in s low) (acts_in s high)) allowed) in
+        let live = live_trunk (here t) settled t.state.leaks [] other alone (keeps s settled own_law) no_formals index_law own_law all_named t.state.memory hands holds.0.owned in
+        let first_bound = quiet (here t) settled hands t.state.leaks t.state.memory [] other facts holds.1 holds.0 alone live index_law own_law all_named AsValue low stays calls each.0 in
+        let second_bound = quiet (here t) settled hands t.state.leaks t.state.memory [] other facts holds.1 holds.0 alone live index_law own_law all_named AsValue high stays' calls'
+        (subst (λ z. AllowsAll z (acts (acts_in s high))) first_bound.1 each.1) in
+        let all : after (acts (acts_in s low ++ acts_in s high)) facts ≡ facts =
+        ap (λ z. after z facts) (acts_append (acts_in s low) (acts_in s high)) ∙ after_append (acts (acts_in s low)) (acts (acts_in s high)) facts
+        ∙ ap (after (acts (acts_in s high))) first_bound.1 ∙ second_bound.1 in
+        let q : Quiet now Both (steps.bounds t low high now) =
+        quiet_then now One Both (value (here t) low now) (λ a n. followed_by (value (here t) high n) (λ b n. Done (record { low = a; high = b }) n)) first_bound.0
+        (λ a one. quiet_then now One Both (value (here t) high now) (λ b n. Done (record { low = a; high = b }) n) second_bound.0 (λ b other_one. (refl, (one, other_one)))) in
+        subst (λ z. Leads_on z (steps.evaluated t (steps.bounds t low high (start t)) f)) (sym all)
+        (subst (λ z. Leads_on facts (steps.evaluated t (steps.bounds t low high z) f)) (sym start_is)
+        (then_started x f starts scalar facts holds (steps.bounds t low high now) q))
+
+    pub start_leads : (x : ℕ) (low high : TypedTree) → is_scalar (full s.table (object_at s x).of) ≡ true
+        → Stays s low → Stays s high → has_call low ≡ false → has_call high ≡ false → (facts : List Fact) → Holds facts t.state
+        → AllowsAll facts (acts (acts_in s low ++ acts_in s high))
+        → Leads_on (after (acts (acts_in s low ++ acts_in s high)) facts) (steps.start_loop t x low high)
+    start_leads x low high scalar stays stays' calls calls' facts holds allowed =
+        started_by x _ low high (record {
+          fails = λ b. int_le (steps.number b.low) (steps.number b.high)
+              && not (fits_type s.table (object_at s x).of b.low && fits_type s.table (object_at s x).of b.high);
+          loop = λ b. record { parameter = x; low = steps.number b.low; high = steps.number b.high; first = true };
+          at_fault = λ b m e. rw e refl;
+          at_turn = λ b m e. rw e refl;
+        }) scalar stays stays' calls calls' facts holds allowed
