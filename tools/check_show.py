@@ -38,6 +38,9 @@ FAULTS, MET = [], set()
 PLAIN = """P1_cut_short P1_function_without_return P1_missing_semicolon P1_mixed_operators P1_mixed_short_circuit P1_no_statement
 P1_second_else P1_sign_behind_operator P1_two_relations N1_undeclared N1_use_of_procedure""".split()
 
+# A program with a report.
+EXAMPLE = str(DATA / "rules" / "O1_use_after_free.adb")
+
 # The lines where the name was given away or lent, for some reports: those of loops, branches, exits and `return`, of
 # names that get a value between, and of parts.
 WHERE = {
@@ -294,12 +297,21 @@ def try_words(program):
         made = run(TOP, SHOW, "--explain", row.code)
         if made.returncode or not made.stdout.decode().startswith("%s: %s\n\n" % (row.code, row.title)):
             fault("--explain " + row.code)
+    if not run(TOP, SHOW, "--help").stdout.decode().startswith("Runs `spark check`"):
+        fault("spark-show --help")
+    with open("/dev/full", "wb") as full:
+        made = subprocess.run([SHOW, "--program", program, EXAMPLE], cwd=TOP, stderr=full, stdout=subprocess.DEVNULL)
+    if made.returncode != 8:
+        fault("spark-show: status %d where nothing can be written" % made.returncode)
     for words, status, wanted in (
         (["--explain", "Z9"], 6, "no code Z9"),
         (["--program", program, "absent.adb"], 7, "there is no file absent.adb"),
         (["--program", program, "tools"], 7, "tools is no file"),
-        (["--program", program, "-x"], 6, "usage: 1 to 64 files"),
-        (["--program", program, *["f.adb"] * 65], 6, "usage: 1 to 64 files"),
+        (["--program", program, "-x"], 6, "-x: usage: 1 to 64 files"),
+        (["-x"], 6, "-x: usage: 1 to 64 files"),
+        (["f.adb", "--order"], 6, "options stand before the files"),
+        (["--program", program, "--sarif", "absent/log", EXAMPLE], 8, "absent/log: No such file"),
+        (["--program", program, *["f.adb"] * 65], 6, "65 files: usage: 1 to 64 files"),
         (["--wrong"], 6, "spark-show [--program PATH]"),
         ([], 6, "spark-show [--program PATH]"),
         (["--program", "/absent", "f.adb"], 6, "/absent"),
