@@ -266,7 +266,7 @@ module _ (h : Here) where
     fades u (New t e) n = allocated_fades t (machine.default h.typing.table t) n
     fades u e n = still h.typing n.memory
 
-    steps_fade : (e : TypedTree) (n : Now) → FadesTo n.memory (steps_of h e n)
+    pub steps_fade : (e : TypedTree) (n : Now) → FadesTo n.memory (steps_of h e n)
     steps_fade (IntoComponent i rest) n =
         then_fades n.memory (steps_of h rest n) (λ way n. Done (run.ToComponent i ∷ way) n) (steps_fade rest n) (λ way n. still h.typing n.memory)
     steps_fade (Designated rest) n =

@@ -1,5 +1,5 @@
 -- What instructions lead to, as outcomes of the machine: declarations, assignments, releases, the ends of scopes, conditions, input and output.
-use Rattle.std.proofs.Common.{◌≡◌, refl, sym, ap, ◌∙◌, subst, ◌⊎◌, inl, inr, ℕ, suc, ◌+◌, Bool, true, false, not, ◌&&◌, ◌||◌, List, [], ◌∷◌, ◌++◌, map, flat_map, reverse, take, drop, length, get_or, nat_lt, int_le, arith, append-nil, ℤ, Option, Some, None, if◌then◌else◌}
+use Rattle.std.proofs.Common.{◌≡◌, refl, sym, ap, ◌∙◌, subst, ◌⊎◌, inl, inr, ℕ, suc, Bool, true, false, not, ◌&&◌, ◌||◌, List, [], ◌∷◌, ◌++◌, map, flat_map, reverse, take, drop, length, get_or, nat_lt, arith, append-nil, ℤ, Option, Some, None, if◌then◌else◌}
 use Rattle.std.specs.Prelude as int
 use Rattle.spark_base.specs.Lists.{Has}
 use Rattle.spark_base.specs.declared.position.Pos.{Pos}
@@ -7,43 +7,37 @@ use Rattle.place_names.specs.declared.act.Act.{Act}
 use Rattle.place_names.specs.declared.act.Act.TheVariants as act
 use Rattle.place_names.specs.declared.fact.Fact.{Fact}
 use Rattle.place_names.specs.declared.fact.Fact.TheVariants.{Moved}
-use Rattle.place_names.specs.declared.rule.Rule.TheVariants.{O14}
-use Rattle.place_names.specs.declared.rule.State.TheVariants as rule_state
-use Rattle.place_names.specs.Names.{Name as PlaceName, covers, leads_to}
-use Rattle.place_names.specs.Rules.{Forbidden, breaks_O3}
+use Rattle.place_names.specs.Names.{Name as PlaceName}
+use Rattle.place_names.specs.Rules.{breaks_O3}
 use Rattle.place_names.specs.declared.act.Mode.TheVariants as mode
 use Rattle.place_names.specs.Facts.{effect}
 use Rattle.type_table.specs.declared.table.Shape.{Shape}
 use Rattle.type_table.specs.declared.table.Shape.TheVariants as shape
-use Rattle.type_table.specs.Types.{shape_of, words, words_of as words_of_shape, parts, parts_of, is_scalar, full, view_of as view_of_shape}
-use Rattle.typed_tree.specs.Trees.{TypedTree, TypedCode, Number, Literal, Text, Name, Component as IntoComponent, Designated, Element, Call, EndOfFile, Parens, Image, Unary, Binary, Short, IsNull, Aggregate, Alike, New, NoMore, More}
-use Rattle.typed_tree.specs.Trees as typed
+use Rattle.type_table.specs.Types.{shape_of, words, words_of as words_of_shape, parts, is_scalar, full, view_of as view_of_shape}
+use Rattle.typed_tree.specs.Trees.{TypedTree, TypedCode, Text, Name, Parens, Image, Binary, NoMore, More}
 use Rattle.flow_paths.specs.Instructions.{Skip, Fall}
 use Rattle.flow_paths.specs.Objects.{Typing, object_at, is_anonymous, is_borrowing, is_observing, is_borrower, is_observer, is_variable, designated, designated_of}
-use Rattle.flow_paths.specs.Names.{has_call, name_of, waiting as waits_in, whole, first, written, source}
+use Rattle.flow_paths.specs.Names.{has_call, name_of, whole, first, written, source}
 use Rattle.flow_paths.specs.Scopes.{taken}
 use Rattle.flow_paths.specs.Acts.{acts_in, stored_acts, declared_acts, assigned_to, source_acts, index_acts, reborrow, observe, target_pos as acts_target_pos}
-use Rattle.flow_paths.specs.Laid.{FlowProgram}
 use Rattle.run_values.specs.declared.items.Item.{Item}
 use Rattle.run_values.specs.declared.items.Item.TheVariants as item
 use Rattle.run_values.specs.Items.{next_item}
-use Rattle.place_names.specs.declared.selector.Sel.{Sel}
 use Rattle.machine.specs.Words.{default, fits_type}
 use Rattle.machine.specs.Words as machine
 use Rattle.machine.specs.Memory.{Memory, Place, Slot, cell, freed, no_slot, slots_at, variable_slots, words_of, declared, undeclared, stored, given_up}
 use Rattle.machine.specs.Evaluate.{Here, Now, AsValue, AsView, Evaluated, Done, Raises, Traps, followed_by, evaluate, initial, checked, value, viewed, place_of, cell_place, variable_place, walked, steps_of, text_of}
 use Rattle.machine.specs.Evaluate as run
 use Rattle.machine.specs.Calls.{checks_at, checked_at}
-use Rattle.machine.specs.States.{Waiting, Loop, Frame, Leak, State, Outcome, Goes, Ends}
+use Rattle.machine.specs.States.{Waiting, Leak, State, Outcome, Goes, Ends}
 use Rattle.machine.specs.Step.{Turn, release, counted, typing, here, start, waiting, Stored, first_value, taken_by, declare, assign, end_scope, goes, behind, begun, led, successor, main_frame, leaking_goes, target_pos}
 use Rattle.machine.specs.Step as steps
 use Rattle.machine.specs.Owners.{is_in_formal, waiting_in, WellOwned}
 use Rattle.owned_ways.specs.Ways.{Root, OfVariable, Loc, OfRoot, OfCell, Inside, Way, Object, Lost, Into, All, Word, Empty, Gone, Held, View, Reaches, Below, IsRooted, Under, Named, IsMoved, Excused, Allows, part, along, after, AllowsAll, Sound}
 use Rattle.owned_ways.specs.Ways as ways
 use Rattle.owned_ways.proofs.Locations.{past_under, under_itself, reaches_along, named_along as rooted_along, depth as depth_of}
-use Rattle.owned_ways.proofs.Named.{under_leads, covered_under}
-use Rattle.owned_ways.proofs.Unique.{one_location, one_way}
-use Rattle.owned_ways.proofs.Assigned.{write_clean, test_fails, either_left, kept_fact, is_false, named_rooted}
+use Rattle.owned_ways.proofs.Unique.{one_way}
+use Rattle.owned_ways.proofs.Assigned.{write_clean, is_false, named_rooted}
 use Rattle.part_offsets.specs.Parts.{type_in, offset_in, has_part, owns_one, is_leaf, IsSettled}
 use Rattle.part_offsets.proofs.Ranges.{leaf_end, leaf_part}
 use Rattle.soundness.specs.Seen.{Content, content, word_in, owner_at, owner_word, trunk, steps_in, seen, home}
@@ -59,80 +53,17 @@ use Rattle.soundness.proofs.Owners.{strip}
 use Rattle.soundness.proofs.Fading.{FadesTo, still, then_fades, if_fades, checked_fades, fades}
 use Rattle.soundness.proofs.Raised.{raised_owned}
 use Rattle.soundness.proofs.Keeping.{cell_has}
-use Rattle.soundness.proofs.Steps.{alike, no_leaf, plain_shape}
+use Rattle.soundness.proofs.Steps.{alike, plain_shape}
 use Rattle.soundness.proofs.Defaults.{none_default}
 use Rattle.soundness.proofs.Moments.{stored_sound, number_part, declared_sound, ended_sound}
 use Rattle.soundness.proofs.Scalars.{acts, acts_append, after_append, allows_both, number_along, named_along}
 use Rattle.soundness.proofs.Stays.{Quiet, Any, One, quiet_then, quiet, Goes as GoesAlong, steps_quiet, name_quiet}
 use Rattle.soundness.proofs.Numbers.{index_law}
 use Rattle.soundness.proofs.Lasting.{put_away, keeps, lengths, stored_kept, freed_kept, declared_kept, removed_kept}
-use Rattle.soundness.proofs.Evaluated.{live_trunk, Ready, Given, scalar_given, blank_ready, checked_given, evaluated}
+use Rattle.soundness.proofs.Evaluated.{live_trunk, Ready, Given, blank_ready, checked_given, evaluated}
 use Rattle.soundness.proofs.Stored.{Assigns, assigned}
-
--- ---- without calls nothing waits
-
-no_sum : (a b : ℕ) → a ≡ 0 → b ≡ 0 → a + b ≡ 0
-no_sum a b x y = omega (arith, x, y)
-
-or_both : (a b : Bool) → a || b ≡ false → (a ≡ false) × (b ≡ false)
-or_both true b e = cc
-or_both false b e = (refl, e)
-
-pub no_waits : (e : TypedTree) → has_call e ≡ false → waits_in e ≡ 0
-unfolding has_call waits_in
-no_waits (Call p sub actuals) none = cc
-no_waits (Name p x steps t) none = no_waits steps none
-no_waits (IntoComponent i rest) none = no_waits rest none
-no_waits (Designated rest) none = no_waits rest none
-no_waits (Element index low high rest) none =
-    let both = or_both (has_call index) (has_call rest) none in no_sum (waits_in index) (waits_in rest) (no_waits index both.0) (no_waits rest both.1)
-no_waits (Image t e) none = no_waits e none
-no_waits (Parens e) none = no_waits e none
-no_waits (Unary op e) none = no_waits e none
-no_waits (Binary op a b) none =
-    let both = or_both (has_call a) (has_call b) none in no_sum (waits_in a) (waits_in b) (no_waits a both.0) (no_waits b both.1)
-no_waits (Short op p a q b) none =
-    let both = or_both (has_call a) (has_call b) none in
-    ap (λ c. if c then 1 else waits_in a + waits_in b) both.1 ∙ no_sum (waits_in a) (waits_in b) (no_waits a both.0) (no_waits b both.1)
-no_waits (IsNull equal e) none = no_waits e none
-no_waits (Aggregate t parts) none = no_waits parts none
-no_waits (Alike t e) none = no_waits e none
-no_waits (New t v) none = no_waits v none
-no_waits (More e rest) none =
-    let both = or_both (has_call e) (has_call rest) none in no_sum (waits_in e) (waits_in rest) (no_waits e both.0) (no_waits rest both.1)
-no_waits (Number v) none = refl
-no_waits (Literal n) none = refl
-no_waits (Text b) none = refl
-no_waits typed.Null none = refl
-no_waits EndOfFile none = refl
-no_waits NoMore none = refl
-
-take_none : {A : Type 0} (xs : List A) → take 0 xs ≡ []
-take_none [] = refl
-take_none (x ∷ xs) = refl
-
-drop_none : {A : Type 0} (xs : List A) → drop 0 xs ≡ xs
-drop_none [] = refl
-drop_none (x ∷ xs) = refl
-
--- ---- what waits
-
-abbrev waits_of : Frame → List Waiting
-waits_of f = f.waits
-
--- the main procedure begins without any
-main_waits : (program : FlowProgram) (x : Option ℕ) (rest : List Frame)
-    → flat_map waits_of (main_frame (record program { main = x }) ++ rest) ≡ flat_map waits_of rest
-main_waits program None rest = refl
-main_waits program (Some n) rest = refl
-
-begun_waits : (program : FlowProgram) (f : Frame) (outer : List Frame) → flat_map waits_of (begun program f outer) ≡ f.waits ++ flat_map waits_of outer
-begun_waits program f [] = main_waits program program.main (f ∷ [])
-begun_waits program f (g ∷ outer) = refl
-
-led_waits : (t : Turn) (f : Frame) (n : Option ℕ) → flat_map waits_of (led t f n) ≡ f.waits ++ flat_map waits_of t.outer
-led_waits t f (Some n) = refl
-led_waits t f None = begun_waits t.program f t.outer
+use Rattle.soundness.proofs.Waits.{or_both, take_none, drop_none, waits_of, led_waits}
+use Rattle.soundness.proofs.Freeing.{free_way, freed_nothing, plain_parts, switched}
 
 -- ---- without anonymous access types there are no borrowers and observers
 
@@ -162,60 +93,6 @@ module _ (s : Typing) (all_named : (u d : ℕ) (c n : Bool) → shape_of s.table
   pub not_observer : (x : ℕ) → is_observer s x ≡ false
   not_observer x = ap (λ b. is_variable (object_at s x).kind && b) (no_view (object_at s x).of (shape_of s.table (object_at s x).of) refl).1 ∙ no_and (is_variable (object_at s x).kind)
 
--- ---- a release of null
-
--- no fact of the name, or of one on the way to it, says that it was moved
-pub free_way : (at_home : ℕ → ℕ) (facts : List Fact) (w : Way) → Allows facts (act.Free (ways.name_of w)) → (v : Way) → Under v w → IsMoved at_home facts v → ⊥
-free_way at_home facts w allowed v u h =
-    test_fails Forbidden (record { rule = O14; name = ways.name_of w; word = rule_state.Moved }) (leads_to (ways.name_of v) (ways.name_of w) || false)
-    (either_left (leads_to (ways.name_of v) (ways.name_of w)) false (under_leads v w u)) (allowed (Moved (ways.name_of v)) h.1)
-
--- a way through a place without a number ends there
-module _ (view : View) (k : Way) (at : Loc) (target : Reaches view k at) (empty : (p : List ways.Step) → view.word (part at p) ≡ Empty) where
-  ends_there : (w : Way) (l : Loc) → Reaches view w l → Under k w → Below at l
-  ends_there (Object x) l r u = ([], one_location view (Object x) l at r (subst (λ z. Reaches view z at) u target))
-  ends_there (Lost x) l r u = ([], one_location view (Lost x) l at r (subst (λ z. Reaches view z at) u target))
-  ends_there (Into w i) l (m, r, e) u = elim u [
-    | inl same ↦ ([], one_location view (Into w i) l at (m, r, e) (subst (λ z. Reaches view z at) same target))
-    | inr u ↦ (let b = ends_there w m r u in (i ∷ b.0, e ∙ ap (λ y. Inside y i) b.1))
-  ]
-  ends_there (All w) l (m, c, r, h, e) u = elim u [
-    | inl same ↦ ([], one_location view (All w) l at (m, c, r, h, e) (subst (λ z. Reaches view z at) same target))
-    | inr u ↦ (
-        let b = ends_there w m r u in
-        let no_number : Held c ≡ Empty = sym h ∙ ap view.word b.1 ∙ empty b.0 in cc)
-  ]
-
-pub freed_nothing : (at_home : ℕ → ℕ) (other : Way → Type 0) (view : View) (k : Way) (at : Loc) (facts : List Fact) → Sound at_home other view facts
-    → Named at_home k → Reaches view k at → ((p : List ways.Step) → view.word (part at p) ≡ Empty) → Sound at_home other view (effect (act.Free (ways.name_of k)) facts)
-freed_nothing at_home other view k at facts sound named target empty = record {
-  owned = sound.owned;
-  covered = sound.covered;
-  known = λ w l rooted r h. elim (sound.known w l rooted r h) [
-    | inr rest ↦ inr rest
-    | inl moved ↦ inl (
-      moved.0,
-      kept_fact (act.Free (ways.name_of k)) facts (Moved (ways.name_of w)) moved.1
-          (is_false (covers (ways.name_of k) (ways.name_of w)) (λ e. (
-          let b = ends_there view k at target empty w l r (covered_under at_home k w named moved.0 e) in
-          let gone : Gone ≡ Empty = sym h ∙ ap view.word b.1 ∙ empty b.0 in cc))),
-    )
-  ];
-}
-
--- a scalar type has no access parts
-plain_parts : (f : ℕ → List (List Sel)) (sh : Shape) → is_scalar (view_of_shape sh) ≡ true → parts_of f sh ≡ []
-plain_parts f (shape.Whole a b) e = refl
-plain_parts f (shape.Listed l a b) e = refl
-plain_parts f (shape.Access d c n) e = cc
-plain_parts f (shape.Fields cs) e = cc
-plain_parts f (shape.Elements a b el) e = cc
-plain_parts f (shape.Same of) e = cc
-
-switched : (b : Bool) (x y : Forbidden) → (if b then Some x else None) ≡ None → (if b then Some y else None) ≡ None
-switched true x y e = cc
-switched false x y e = refl
-
 -- ---- outcomes
 
 module _ (t : Turn) (settled : IsSettled (typing t).table) (own_law : OwnsByShape (typing t).table) (other : Way → Type 0)
@@ -240,7 +117,7 @@ module _ (t : Turn) (settled : IsSettled (typing t).table) (own_law : OwnsByShap
   Leads_on facts (Ends e state) = (IsTrap e → ⊥) × WellOwned s state
 
   -- where the step raises
-  raises : (facts : List Fact) → Holds facts t.state → (m : Memory) → WellOwned s (counted (record t.state { memory = given_up t.state.memory m }))
+  pub raises : (facts : List Fact) → Holds facts t.state → (m : Memory) → WellOwned s (counted (record t.state { memory = given_up t.state.memory m }))
   raises facts holds m = raised_owned s settled t.state holds.0.owned holds.0.covered m
 
   abbrev Raises_well : Type 0
@@ -254,13 +131,13 @@ module _ (t : Turn) (settled : IsSettled (typing t).table) (own_law : OwnsByShap
   Assigns_here facts x = Assigns (here t) settled t.state.leaks [] other alone (keeps s settled own_law) no_formals index_law own_law all_named hands facts x
 
   module _ (none : taken t.point.instr ≡ 0) where
-    start_is : start t ≡ record { memory = t.state.memory; waits = [] }
+    pub start_is : start t ≡ record { memory = t.state.memory; waits = [] }
     start_is =
         (λ j. record { memory = t.state.memory; waits = map (λ (v : Waiting). v.words) (reverse (take (none j) t.frame.waits)) })
         ∙ ap (λ z. record { memory = t.state.memory; waits = map (λ (v : Waiting). v.words) (reverse z) }) (take_none t.frame.waits)
 
     -- what waits, waits on
-    hands_behind : (m : Memory) (k : ℕ) → waiting_in (behind t (waiting t) m k) ≡ hands
+    pub hands_behind : (m : Memory) (k : ℕ) → waiting_in (behind t (waiting t) m k) ≡ hands
     hands_behind m k =
         led_waits t (record t.frame { waits = waiting t }) (successor t k)
         ∙ ap (λ n. drop n t.frame.waits ++ flat_map waits_of t.outer) none
@@ -288,7 +165,7 @@ module _ (t : Turn) (settled : IsSettled (typing t).table) (own_law : OwnsByShap
     now = record { memory = t.state.memory; waits = [] }
 
     -- the source of a place
-    source_given : (u : ℕ) (e : TypedTree) → Source s u e → has_call e ≡ false → (facts : List Fact)
+    pub source_given : (u : ℕ) (e : TypedTree) → Source s u e → has_call e ≡ false → (facts : List Fact)
         → Holds facts t.state → AllowsAll facts (acts (acts_in s e)) → Given_here u (after (acts (acts_in s e)) facts) (taken_by t u e now)
     source_given u e (inl (view, is)) calls facts holds allowed = (let no : true ≡ false = sym view ∙ not_anonymous s all_named u in cc)
     source_given u e (inr gives) calls facts holds allowed =
@@ -749,6 +626,11 @@ module _ (t : Turn) (settled : IsSettled (typing t).table) (own_law : OwnsByShap
           output = t.state.output ++ bytes ++ (if line then 10 ∷ [] else []);
         })))) (sym start_is) (then_written facts holds line (text_of (here t) e now) q.0))
 
+    -- a line that ends without a text
+    pub line_leads : (line : Bool) (facts : List Fact) → Holds facts t.state → Leads_on facts (steps.output t NoMore line)
+    unfolding text_of
+    line_leads line facts holds = then_written facts holds line (Done [] (start t)) (start_is, tt)
+
     -- ---- input
 
     -- what an input does at the place, by the next item
@@ -883,88 +765,3 @@ module _ (t : Turn) (settled : IsSettled (typing t).table) (own_law : OwnsByShap
           at_number = λ k m v end next fits. rw (next, fits) refl;
           at_outside = λ k m v end next out. rw (next, out) refl;
         }) scalar lead calls facts holds allowed
-
-    -- ---- the start of a loop
-
-    -- what waits doesn't go by the loops that have started
-    loop_waits : (l : Loop) (state : State) → waiting_in (steps.with_loop l state) ≡ waiting_in state
-    loop_waits l state = by_frames state.frames
-      where
-        by_frames : (fs : List Frame) → waiting_in (steps.with_loop l (record state { frames = fs })) ≡ flat_map waits_of fs
-        by_frames [] = refl
-        by_frames (f ∷ rest) = refl
-
-    abbrev Both : steps.Bounds → Type 0
-    Both b = One b.low × One b.high
-
-    -- what a start does with its bounds: it raises, or the parameter is declared
-    pub record Starts (x : ℕ) (f : steps.Bounds → Memory → Outcome) : Type 0 where
-      pub fails : steps.Bounds → Bool
-      pub loop : steps.Bounds → Loop
-      pub at_fault : (b : steps.Bounds) (m : Memory) → fails b ≡ true → f b m ≡ steps.raised t run.ConstraintError m
-      pub at_turn : (b : steps.Bounds) (m : Memory) → fails b ≡ false
-          → f b m ≡ Goes (steps.with_loop (loop b) (behind t (waiting t) (declared depth x b.low m) 0))
-
-    module _ (x : ℕ) (f : steps.Bounds → Memory → Outcome) (starts : Starts x f) (scalar : is_scalar (full s.table (object_at s x).of) ≡ true)
-        (facts : List Fact) (holds : Holds facts t.state) where
-      begun_there : (b : steps.Bounds) → Both b
-          → Leads_on facts (Goes (steps.with_loop (starts.loop b) (behind t (waiting t) (declared depth x b.low t.state.memory) 0)))
-      begun_there b both =
-          let m : Memory = t.state.memory in
-          let u : ℕ = (object_at s x).of in
-          let value_of : Waiting = record { of = u; words = b.low } in
-          let given = scalar_given (here t) settled t.state.leaks [] other alone (keeps s settled own_law) no_formals index_law own_law all_named
-          m hands facts facts u (record { sound = holds.0; kept = holds.1 }) refl scalar (Done b.low now) (refl, both.0) in
-          let blank : (p : List ways.Step) → word_in s.table (content s m (value_of ∷ hands) (OfRoot (OfVariable depth x))) p ≡ Empty =
-          λ p. word_no s.table (content s m (value_of ∷ hands) (OfRoot (OfVariable depth x))) p (no_leaf s.table settled u scalar p) in
-          let sound = declared_sound s settled (home s depth) other m value_of hands t.state.leaks facts depth x
-          given.0.sound (λ z v u o. alone v o) given.0.kept blank (no_formals x) given.1 (alike s.table settled u u (inl refl)) in
-          let kept = declared_kept s settled m depth x value_of hands given.0.kept given.1 (inl refl) in
-          let waits = loop_waits (starts.loop b) (behind t (waiting t) (declared depth x b.low m) 0) ∙ hands_behind (declared depth x b.low m) 0 in (
-            subst (λ z. Sound (home s depth) other (seen s (declared depth x b.low m) z t.state.leaks) facts) (sym waits) sound,
-            subst (Kept s (declared depth x b.low m)) (sym waits) kept,
-          )
-
-      then_started : (y : Evaluated steps.Bounds) → Quiet now Both y → Leads_on facts (steps.evaluated t y f)
-      then_started (Done b n) (same, both) =
-          subst (λ (z : Now). Leads_on facts (f b z.memory)) (sym same) (elim (bool_cases (starts.fails b)) [
-            | inl e ↦ subst (Leads_on facts) (sym (starts.at_fault b t.state.memory e)) ((λ trap. trap), raises facts holds t.state.memory)
-            | inr e ↦ (
-                let on = begun_there b both in
-                subst (Leads_on facts) (sym (starts.at_turn b t.state.memory e)) (on.0, on.1))
-          ])
-      then_started (Raises e n) is = ((λ trap. trap), raises facts holds n.memory)
-      then_started (Traps e n) never = absurd never
-
-    started_by : (x : ℕ) (f : steps.Bounds → Memory → Outcome) (low high : TypedTree) → Starts x f → is_scalar (full s.table (object_at s x).of) ≡ true
-        → Stays s low → Stays s high → has_call low ≡ false → has_call high ≡ false → (facts : List Fact) → Holds facts t.state
-        → AllowsAll facts (acts (acts_in s low ++ acts_in s high))
-        → Leads_on (after (acts (acts_in s low ++ acts_in s high)) facts) (steps.evaluated t (steps.bounds t low high (start t)) f)
-    started_by x f low high starts scalar stays stays' calls calls' facts holds allowed =
-        let each = allows_both facts (acts (acts_in s low)) (acts (acts_in s high)) (subst (AllowsAll facts) (acts_append (acts_in s low) (acts_in s high)) allowed) in
-        let live = live_trunk (here t) settled t.state.leaks [] other alone (keeps s settled own_law) no_formals index_law own_law all_named t.state.memory hands holds.0.owned in
-        let first_bound = quiet (here t) settled hands t.state.leaks t.state.memory [] other facts holds.1 holds.0 alone live index_law own_law all_named AsValue low stays calls each.0 in
-        let second_bound = quiet (here t) settled hands t.state.leaks t.state.memory [] other facts holds.1 holds.0 alone live index_law own_law all_named AsValue high stays' calls'
-        (subst (λ z. AllowsAll z (acts (acts_in s high))) first_bound.1 each.1) in
-        let all : after (acts (acts_in s low ++ acts_in s high)) facts ≡ facts =
-        ap (λ z. after z facts) (acts_append (acts_in s low) (acts_in s high)) ∙ after_append (acts (acts_in s low)) (acts (acts_in s high)) facts
-        ∙ ap (after (acts (acts_in s high))) first_bound.1 ∙ second_bound.1 in
-        let q : Quiet now Both (steps.bounds t low high now) =
-        quiet_then now One Both (value (here t) low now) (λ a n. followed_by (value (here t) high n) (λ b n. Done (record { low = a; high = b }) n)) first_bound.0
-        (λ a one. quiet_then now One Both (value (here t) high now) (λ b n. Done (record { low = a; high = b }) n) second_bound.0 (λ b other_one. (refl, (one, other_one)))) in
-        subst (λ z. Leads_on z (steps.evaluated t (steps.bounds t low high (start t)) f)) (sym all)
-        (subst (λ z. Leads_on facts (steps.evaluated t (steps.bounds t low high z) f)) (sym start_is)
-        (then_started x f starts scalar facts holds (steps.bounds t low high now) q))
-
-    pub start_leads : (x : ℕ) (low high : TypedTree) → is_scalar (full s.table (object_at s x).of) ≡ true
-        → Stays s low → Stays s high → has_call low ≡ false → has_call high ≡ false → (facts : List Fact) → Holds facts t.state
-        → AllowsAll facts (acts (acts_in s low ++ acts_in s high))
-        → Leads_on (after (acts (acts_in s low ++ acts_in s high)) facts) (steps.start_loop t x low high)
-    start_leads x low high scalar stays stays' calls calls' facts holds allowed =
-        started_by x _ low high (record {
-          fails = λ b. int_le (steps.number b.low) (steps.number b.high)
-              && not (fits_type s.table (object_at s x).of b.low && fits_type s.table (object_at s x).of b.high);
-          loop = λ b. record { parameter = x; low = steps.number b.low; high = steps.number b.high; first = true };
-          at_fault = λ b m e. rw e refl;
-          at_turn = λ b m e. rw e refl;
-        }) scalar stays stays' calls calls' facts holds allowed

@@ -27,7 +27,20 @@ pub mod Keeping
 pub mod Lasting
 -- the acts of points on control paths
 pub mod Paths
--- sound states are well owned; instructions; the run
+-- sound states are well owned; instructions
 pub mod Owners
+pub mod Waits
+pub mod Freeing
 pub mod Instructions
+pub mod Loops
+pub mod Operands
+pub mod Endings
+-- where steps go on, with which variables; points by number
+pub mod Scoped
+pub mod Following
+pub mod Points
+pub mod Successors
+-- the state before the first step; each step; the run
+pub mod Beginning
+pub mod Stepping
 pub mod Main

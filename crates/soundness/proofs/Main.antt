@@ -10,7 +10,10 @@ use Rattle.machine.specs.Owners.{WellOwned}
 use Rattle.machine.specs.Run.{step, then_on, within, state_at_start, run_of, main_of, moment}
 use Rattle.part_offsets.specs.Parts.{IsSettled}
 use Rattle.soundness.specs.Sound.{IsSound, IsTrap, LeadsOn, StepsLeadOn, ending_of, RunIsSound}
+use Rattle.soundness.specs.Ready.{IsReady}
 use Rattle.soundness.proofs.Owners.{well_owned}
+use Rattle.soundness.proofs.Beginning.{sound_start}
+use Rattle.soundness.proofs.Stepping.{sound_step}
 
 -- a sound state is well owned
 pub sound_owned : (table : Table) (typed : TypedProgram) (effects : Effects) (state : State) → IsSettled (flow_program table typed).table
@@ -59,3 +62,8 @@ module _ (table : Table) (typed : TypedProgram) (effects : Effects) (input : Lis
       no_trap_at : (o : Outcome) → LeadsOn table typed effects o → (e : Ending) → ending_of o ≡ Some e → IsTrap e → ⊥
       no_trap_at (Goes t) leads e is trap = cc
       no_trap_at (Ends f t) leads e is trap = (let same : f ≡ e = cc in leads.0 (subst IsTrap (sym same) trap))
+
+-- Of a program that is ready, each moment of its run is well owned, and none is a trap.
+pub ready_sound : (table : Table) (typed : TypedProgram) (effects : Effects) (input : List ℕ) → IsReady table typed effects → RunIsSound table typed input
+ready_sound table typed effects input ready =
+    run_sound table typed effects input ready.accepted.settled (sound_step table typed effects input ready) (sound_start table typed effects ready)

@@ -7,3 +7,5 @@ pub mod Typed
 pub mod Needed
 -- what holds at each moment
 pub mod Sound
+-- what is asked of a program so that it does
+pub mod Ready

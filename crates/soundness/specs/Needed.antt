@@ -2,13 +2,13 @@
 --
 -- Nothing is asked of numbers, positions, operators or conditions but that the names in them stay within
 -- what they name: a step that is given another word than it wants raises an exception at worst.
-use Rattle.std.specs.Prelude.{◌≡◌, ◌⊎◌, ◌<◌, ℕ, suc, Bool, true, false, length, ◌&&◌, ◌||◌, ℤ, ◌-ℤ◌, int_le, unsigned_abs, Option, Some}
+use Rattle.std.specs.Prelude.{◌≡◌, ◌⊎◌, ◌<◌, ℕ, suc, Bool, true, false, length, ◌&&◌, ◌||◌, ℤ, ◌-ℤ◌, int_le, unsigned_abs, Option, Some, None}
 use Rattle.spark_base.specs.Lists.{Has}
 use Rattle.type_table.specs.declared.table.Shape.TheVariants as shape
 use Rattle.type_table.specs.Types.{shape_of, fields, span, words, full, is_owning, is_scalar}
 use Rattle.typed_tree.specs.Trees.{TypedTree, Number, Literal, Text, Name, Component as IntoComponent, Designated, Element, Call, EndOfFile, Parens, Image, Unary, Binary, Short, IsNull, Aggregate, Alike, New, NoMore, More}
 use Rattle.typed_tree.specs.Trees as typed
-use Rattle.flow_paths.specs.Instructions.{Instruction, Declare, Assign, Output, Input, Release, Test, Choose, Start, Next, Evaluate, LeaveLoop}
+use Rattle.flow_paths.specs.Instructions.{Instruction, Declare, Assign, Output, Input, Release, Test, Choose, Start, Next, Evaluate, LeaveLoop, Hold}
 use Rattle.flow_paths.specs.Objects.{Typing, object_at, sub_at, is_anonymous}
 use Rattle.flow_paths.specs.Points.{FlowPoint}
 use Rattle.flow_paths.specs.Laid.{FlowSub, FlowProgram, flow_typing}
@@ -123,6 +123,17 @@ abbrev pub IsPlace : Typing → TypedTree → ℕ → Type 0
 IsPlace s (Name p x steps t) u = Leads s (object_at s x).of steps t × (t ≡ u)
 IsPlace s e u = ⊥
 
+-- No condition or one.
+abbrev pub FirstStays : Typing → TypedTree → Type 0
+FirstStays s (More e rest) = (rest ≡ NoMore) × Stays s e
+FirstStays s NoMore = Unit {0}
+FirstStays s e = ⊥
+
+-- A procedure returns no value, and a function one of its type.
+abbrev pub Returns : Typing → Option ℕ → TypedTree → Type 0
+Returns s None v = v ≡ NoMore
+Returns s (Some t) v = (e : TypedTree) × (v ≡ More e NoMore) × Source s t e
+
 -- The text of a step. Of calls nothing is asked yet.
 abbrev pub IsFine : Typing → Option ℕ → Instruction → Type 0
 IsFine s result (Declare x v) = FirstSource s (object_at s x).of v
@@ -135,7 +146,8 @@ IsFine s result (Choose e choices) = Stays s e
 IsFine s result (Start x reversed low high) = (is_scalar (full s.table (object_at s x).of) ≡ true) × Stays s low × Stays s high
 IsFine s result (Next x reversed low high) = is_scalar (full s.table (object_at s x).of) ≡ true
 IsFine s result (Evaluate t e left) = Stays s e
-IsFine s result (LeaveLoop (More e rest)) = (rest ≡ NoMore) × Stays s e
+IsFine s result (LeaveLoop e) = FirstStays s e
+IsFine s result (Hold v) = Returns s result v
 IsFine s result _ = Unit {0}
 
 abbrev pub AreFine : FlowProgram → Type 0

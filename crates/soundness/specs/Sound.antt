@@ -1,28 +1,29 @@
 -- What holds at each moment of a run of an accepted program.
-use Rattle.std.specs.Prelude.{◌≡◌, ◌⊎◌, ℕ, Bool, true, false, List, [], ◌∷◌, ◌++◌, length, Option, Some, None}
+use Rattle.std.specs.Prelude.{◌≡◌, ◌⊎◌, ◌<◌, ℕ, Bool, true, false, not, ◌&&◌, List, [], ◌∷◌, ◌++◌, length, Option, Some, None}
 use Rattle.spark_base.specs.Lists.{Has}
 use Rattle.place_names.specs.declared.fact.Fact.{Fact}
 use Rattle.place_names.specs.Names.{has_elem}
-use Rattle.type_table.specs.Types.{full, Table}
+use Rattle.type_table.specs.declared.table.Shape.TheVariants as shape
+use Rattle.type_table.specs.Types.{Table, shape_of}
 use Rattle.typed_tree.specs.Programs.{TypedProgram}
 use Rattle.flow_paths.specs.declared.report.Effects.{Effects}
-use Rattle.flow_paths.specs.Instructions.{Instruction, Call}
-use Rattle.flow_paths.specs.Objects.{Typing, object_at, is_anonymous, is_formal}
+use Rattle.flow_paths.specs.Instructions.{Instruction, Declare, Assign, Call, Output, Input, Release, Test, Choose, Start, Evaluate, LeaveLoop, Hold}
+use Rattle.flow_paths.specs.Objects.{Typing, is_formal}
+use Rattle.flow_paths.specs.Names.{has_call}
 use Rattle.flow_paths.specs.Points.{NamedPoint, FlowPoint}
 use Rattle.flow_paths.specs.Laid.{FlowSub, FlowProgram, NamedSub, flow_typing, flow_program, flow_named}
 use Rattle.flow_paths.specs.Paths.{ControlPath, facts_before}
 use Rattle.flow_paths.specs.Effects.{path_points, AreEffects}
 use Rattle.flow_paths.specs.Reports.{AreReports}
 use Rattle.flow_paths.specs.Scopes.{is_within}
-use Rattle.machine.specs.Words.{access_offsets}
-use Rattle.machine.specs.Memory.{Variable}
+use Rattle.machine.specs.Memory.{Memory}
 use Rattle.machine.specs.States.{Frame, State, Ending, Trapped, Outcome, Goes, Ends, sub_of}
 use Rattle.machine.specs.Owners.{WellOwned, waiting_in}
 use Rattle.machine.specs.Run.{step, main_of, run_of, moment}
-use Rattle.owned_ways.specs.Ways.{Root, Way, Object, Into, All, View, Told, IsMoved, along, Step}
+use Rattle.owned_ways.specs.Ways.{Root, Loc, OfRoot, Way, Object, Into, All, Held, View, Told, IsMoved, along, Step}
 use Rattle.owned_ways.specs.Ways as ways
 use Rattle.part_offsets.specs.Parts.{IsSettled}
-use Rattle.soundness.specs.Seen.{seen, home}
+use Rattle.soundness.specs.Seen.{content, word_in, seen, home}
 use Rattle.soundness.specs.Typed.{Kept}
 use Rattle.soundness.specs.Needed.{AreFine}
 
@@ -37,13 +38,24 @@ pub record Accepted (table : Table) (typed : TypedProgram) (effects : Effects) :
   pub fine : AreFine (flow_program table typed)
 
 -- The class of programs of the first half: no anonymous access type, no formal, and no call of a
--- subprogram of the program.
+-- subprogram of the program. An operand is evaluated at a point of its own only beside a call.
 abbrev pub calls_nothing : Instruction → Bool
 calls_nothing (Call sub actuals result) = false
+calls_nothing (Evaluate temporary e left) = false
+calls_nothing (Declare x v) = not (has_call v)
+calls_nothing (Assign target e) = not (has_call target) && not (has_call e)
+calls_nothing (Output text line) = not (has_call text)
+calls_nothing (Input target) = not (has_call target)
+calls_nothing (Release e) = not (has_call e)
+calls_nothing (Test e) = not (has_call e)
+calls_nothing (Choose e choices) = not (has_call e)
+calls_nothing (Start x reversed low high) = not (has_call low) && not (has_call high)
+calls_nothing (LeaveLoop e) = not (has_call e)
+calls_nothing (Hold v) = not (has_call v)
 calls_nothing _ = true
 
 pub record IsFirstClass (program : FlowProgram) : Type 0 where
-  pub no_views : (x : ℕ) → is_anonymous (full program.table (object_at (flow_typing program) x).of) ≡ false
+  pub all_named : (t d : ℕ) (constant named : Bool) → shape_of program.table t ≡ shape.Access d constant named → named ≡ true
   pub no_calls : (sub : FlowSub) → Has program.subs sub → (p : FlowPoint) → Has sub.points p → calls_nothing p.instr ≡ true
   pub no_formals : (x : ℕ) → is_formal (flow_typing program) x ≡ false
 
@@ -72,6 +84,16 @@ abbrev pub AreStages : List Stage → List Frame → Type 0
 AreStages [] [] = Unit {0}
 AreStages (g ∷ older) (f ∷ outer) = (g.frame ≡ f) × (g.depth ≡ length outer) × AreStages older outer
 AreStages _ _ = ⊥
+
+-- The frames of a program that calls nothing: that of the package objects, at first alone, and then with
+-- that of the main procedure. Nothing waits between two steps, and nothing is copied back.
+abbrev pub IsPlain : Stage → Type 0
+IsPlain g = (g.frame.waits ≡ []) × (g.frame.returns ≡ []) × (g.returns ≡ [])
+
+abbrev pub AreFirst : FlowProgram → List Stage → Type 0
+AreFirst program (g ∷ []) = (g.frame.sub ≡ 0) × IsPlain g
+AreFirst program (g ∷ (e ∷ [])) = (program.main ≡ Some g.frame.sub) × IsPlain g × (e.frame.sub ≡ 0) × IsPlain e
+AreFirst program _ = ⊥
 
 -- ---- views, which programs of the first class have none of
 
@@ -103,14 +125,11 @@ view_of s state = seen s state.memory (waiting_in state) state.leaks
 abbrev pub IsDefinite : (ℕ → ℕ) → List Fact → Way → Type 0
 IsDefinite at_home facts w = IsMoved at_home facts w × (has_elem (ways.sels_of w) ≡ false)
 
--- An object has words that may own.
-abbrev pub MayOwn : Typing → ℕ → Type 0
-MayOwn s x = (o : ℕ) × Has (access_offsets s.table (object_at s x).of) o
-
--- A variable of the innermost frame that may own is in scope.
-abbrev pub InScope : Typing → ℕ → List ℕ → List Variable → Type 0
-InScope s depth scope variables =
-    (v : Variable) → Has variables v → v.frame ≡ depth → MayOwn s v.object → is_within v.object scope ≡ true
+-- A variable that owns a cell is one of an older frame, or it is in scope in the innermost one.
+abbrev pub InScope : Typing → Memory → ℕ → List ℕ → Type 0
+InScope s m depth scope =
+    (f x : ℕ) (p : List Step) (n : ℕ) → word_in s.table (content s m [] (OfRoot (ways.OfVariable f x))) p ≡ Held n
+    → (f < depth) ⊎ ((f ≡ depth) × (is_within x scope ≡ true))
 
 -- The subprogram of the layout that a frame runs, and the point there, with its scope, that it is at.
 abbrev pub IsNamedSub : List NamedSub → ℕ → NamedSub → Type 0
@@ -124,22 +143,27 @@ pub record IsSound (table : Table) (typed : TypedProgram) (effects : Effects) (s
   pub top : Stage
   pub older : List Stage
   pub stages : AreStages (top ∷ older) state.frames
+  pub first : AreFirst (flow_program table typed) (top ∷ older)
   -- the executed points of the innermost frame form a control path to its next point
   pub path : ControlPath (path_points (flow_program table typed) effects (sub_of (flow_program table typed) top.frame.sub)) top.before top.frame.next
   -- the state is well owned, and what ways find gone is moved by a fact of the frame, or elsewhere
   pub sound : ways.Sound (home (flow_typing (flow_program table typed)) top.depth) (Elsewhere (flow_program table typed) effects older)
       (view_of (flow_typing (flow_program table typed)) state) (facts_of (flow_program table typed) effects top)
-  -- what a fact without `Elem` calls moved is gone
-  pub told : Told (view_of (flow_typing (flow_program table typed)) state)
-      (IsDefinite (home (flow_typing (flow_program table typed)) top.depth) (facts_of (flow_program table typed) effects top))
   -- words have the types of what they stand in
   pub kept : Kept (flow_typing (flow_program table typed)) state.memory (waiting_in state)
-  -- variables that may own are in scope
+  -- variables that own are in scope
   pub named : NamedSub
   pub of_sub : IsNamedSub (flow_named table typed) top.frame.sub named
   pub point : NamedPoint
   pub at_point : IsAtPoint named.points top.frame.next point
-  pub scope : InScope (flow_typing (flow_program table typed)) top.depth point.scope state.memory.variables
+  pub scope : InScope (flow_typing (flow_program table typed)) state.memory top.depth point.scope
+
+-- What excused leak checks need beside: what a fact without `Elem` calls moved is gone. (That steps keep
+-- this isn't shown yet, so it is no part of what is sound.)
+abbrev pub AreExact : (table : Table) (typed : TypedProgram) (effects : Effects) (state : State) → IsSound table typed effects state → Type 0
+AreExact table typed effects state sound =
+    Told (view_of (flow_typing (flow_program table typed)) state)
+    (IsDefinite (home (flow_typing (flow_program table typed)) sound.top.depth) (facts_of (flow_program table typed) effects sound.top))
 
 -- ---- what is to be proved
 

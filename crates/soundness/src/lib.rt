@@ -9,8 +9,10 @@
 //! The functions of the machine's memory do what the steps of `owned_ways` do (`proofs/Steps.antt`,
 //! `Ends`, `Fresh`, `Frees`), and keep states sound (`Moments`) and words typed (`Lasting`). Names
 //! lead where their ways reach, without a trap (`Walks`, `Stays`), and so do expressions without
-//! calls (`Evaluated`). Then instructions lead from sound states to sound states
-//! (`Instructions`), sound states are well owned (`Owners`), and where each step leads on, so does
-//! a run (`Main`). That each step does isn't put together yet: docs/SOUNDNESS.md has what is open.
+//! calls (`Evaluated`). Then instructions lead from sound states to sound states (`Instructions`,
+//! `Loops`, `Operands`, `Endings`), and go on at successors with what owns in scope (`Following`).
+//! Sound states are well owned (`Owners`). Of a program that is ready (`specs/Ready.antt`), the state
+//! at the start is sound (`Beginning`), each step leads on (`Stepping`), and so does the run (`Main`).
+//! That accepted programs are ready isn't shown yet: docs/SOUNDNESS.md has what is open.
 //! Nothing here runs.
 #![tactic(auto)]

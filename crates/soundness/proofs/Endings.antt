@@ -1,0 +1,191 @@
+-- What the end of the main procedure leads to, and the step from the last package object to the main procedure.
+use Rattle.std.proofs.Common.{◌≡◌, refl, sym, ap, ◌∙◌, subst, ◌⊎◌, inl, inr, ℕ, suc, ◌<◌, Bool, true, false, not, ◌&&◌, ◌==◌, List, [], ◌∷◌, ◌++◌, cond, eqb-true, if◌then◌else◌}
+use Rattle.std.specs.Prelude.{filter}
+use Rattle.spark_base.specs.Lists.{Has}
+use Rattle.place_names.specs.declared.fact.Fact.{Fact}
+use Rattle.place_names.specs.declared.fact.Fact.TheVariants.{Moved}
+use Rattle.place_names.specs.Names.{Name}
+use Rattle.type_table.specs.declared.table.Shape.TheVariants as shape
+use Rattle.type_table.specs.Types.{shape_of}
+use Rattle.flow_paths.specs.Objects.{Typing, object_at}
+use Rattle.flow_paths.specs.Laid.{FlowProgram}
+use Rattle.flow_paths.specs.Points.{FlowPoint}
+use Rattle.machine.specs.Words.{default}
+use Rattle.machine.specs.Memory.{Memory, Variable, fresh, is_variable, variable_slots, without_frame}
+use Rattle.machine.specs.States.{Waiting, Frame, Leak, State, Normal, Ends}
+use Rattle.machine.specs.Step.{Turn, typing, finish}
+use Rattle.machine.specs.Owners.{is_in_formal, waiting_in, WellOwned}
+use Rattle.owned_ways.specs.Ways.{Step, OfVariable, OfHand, Loc, OfRoot, OfCell, Inside, Way, Object, Lost, Into, All, Held, View, Reaches, Owned, Covered, Sound, name_of}
+use Rattle.owned_ways.proofs.Locations.{both_parts, same_loc}
+use Rattle.part_offsets.specs.Parts.{IsSettled}
+use Rattle.soundness.specs.Seen.{content, trunk, steps_in, word_in, seen, home}
+use Rattle.soundness.specs.Typed.{OwnsByShape}
+use Rattle.soundness.proofs.Joined.{trunk_trunk, not_inside}
+use Rattle.soundness.proofs.Contents.{bool_cases}
+use Rattle.soundness.proofs.Defaults.{none_default, blank_word}
+use Rattle.soundness.proofs.Memories.{found_later}
+use Rattle.soundness.proofs.Owners.{well_owned}
+use Rattle.soundness.proofs.Instructions.{Holds, Leads_on}
+
+-- ---- the variables of a frame are removed
+
+module _ (s : Typing) (f : ℕ) where
+  others_frame : (y g : ℕ) (v : Variable) → v.frame == f ≡ true → (g ≡ f → ⊥) → is_variable g y v ≡ false
+  others_frame y g v e ne = is_false (is_variable g y v) (λ h. (
+      let both = both_parts (v.frame == g) (v.object == y) h in
+      ne (sym (eqb-true v.frame g both.0) ∙ eqb-true v.frame f e)))
+    where
+      is_false : (b : Bool) → (b ≡ true → ⊥) → b ≡ false
+      is_false true e = absurd (e refl)
+      is_false false e = refl
+
+  abbrev rest_of : List Variable → List Variable
+  rest_of vs = filter (λ v. not (v.frame == f)) vs
+
+  frame_other : (g y : ℕ) → (g ≡ f → ⊥) → (vs : List Variable) → variable_slots s g y (rest_of vs) ≡ variable_slots s g y vs
+  frame_other g y ne [] = refl
+  frame_other g y ne (v ∷ rest) = elim (bool_cases (v.frame == f)) [
+    | inl e ↦ ap (λ b. variable_slots s g y (cond (not b) (v ∷ rest_of rest) (rest_of rest))) e
+        ∙ frame_other g y ne rest
+        ∙ sym (found_later s g y v rest (others_frame y g v e ne))
+    | inr e ↦ ap (λ b. variable_slots s g y (cond (not b) (v ∷ rest_of rest) (rest_of rest))) e
+        ∙ ap (λ z. if is_variable g y v then v.slots else z) (frame_other g y ne rest)
+  ]
+
+  frame_same : (x : ℕ) (vs : List Variable) → variable_slots s f x (rest_of vs) ≡ fresh (default s.table (object_at s x).of)
+  frame_same x [] = refl
+  frame_same x (v ∷ rest) = elim (bool_cases (v.frame == f)) [
+    | inl e ↦ ap (λ b. variable_slots s f x (cond (not b) (v ∷ rest_of rest) (rest_of rest))) e ∙ frame_same x rest
+    | inr e ↦ ap (λ b. variable_slots s f x (cond (not b) (v ∷ rest_of rest) (rest_of rest))) e
+        ∙ ap (λ b. if b && (v.object == x) then v.slots else variable_slots s f x (rest_of rest)) e
+        ∙ frame_same x rest
+  ]
+
+-- ---- two views with the same numbers
+
+-- What holds a number in the one view holds it in the other one.
+pub record SameNumbers (a b : View) : Type 0 where
+  pub on : (l : Loc) (n : ℕ) → a.word l ≡ Held n → b.word l ≡ Held n
+  pub back : (l : Loc) (n : ℕ) → b.word l ≡ Held n → a.word l ≡ Held n
+  pub made : b.made ≡ a.made
+  pub freed : (n : ℕ) → b.freed n ≡ a.freed n
+  pub leaked : (n : ℕ) → b.leaked n ≡ a.leaked n
+
+module _ (a b : View) (same : SameNumbers a b) where
+  pub numbers_owned : Owned a → Owned b
+  numbers_owned owned = record {
+    unique = λ l m n x y. owned.unique l m n (same.back l n x) (same.back m n y);
+    live = λ l n x. same.freed n ∙ owned.live l n (same.back l n x);
+    within = λ l n x. subst (λ z. n < z) (sym same.made) (owned.within l n (same.back l n x));
+    kept = λ l n x. same.leaked n ∙ owned.kept l n (same.back l n x);
+    counted = λ n x. subst (λ z. n < z) (sym same.made) (owned.counted n (sym (same.leaked n) ∙ x));
+  }
+
+  reaches_on : (w : Way) (l : Loc) → Reaches a w l → Reaches b w l
+  reaches_on (Object r) l e = e
+  reaches_on (Lost n) l (lost, e) = (same.leaked n ∙ lost, e)
+  reaches_on (Into w i) l (k, r, e) = (k, reaches_on w k r, e)
+  reaches_on (All w) l (k, n, r, h, e) = (k, n, reaches_on w k r, same.on k n h, e)
+
+  pub numbers_covered : Covered a → Covered b
+  numbers_covered covered n less free =
+      let way = covered n (subst (λ z. n < z) same.made less) (sym (same.freed n) ∙ free) in
+      (way.0, reaches_on way.0 (OfCell n) way.1)
+
+-- ---- the end of the main procedure
+
+module _ (s : Typing) (m : Memory) (f : ℕ) (hands : List Waiting) (leaks : List Leak)
+    (nothing : (x : ℕ) (p : List Step) (n : ℕ) → word_in s.table (content s m hands (OfRoot (OfVariable f x))) p ≡ Held n → ⊥) where
+  abbrev left : Memory
+  left = without_frame f m
+
+  left_blank : (x : ℕ) (p : List Step) (n : ℕ) → word_in s.table (content s left hands (OfRoot (OfVariable f x))) p ≡ Held n → ⊥
+  left_blank x p n h =
+      let none = blank_word s.table (content s left hands (OfRoot (OfVariable f x))) (default s.table (object_at s x).of)
+      (frame_same s f x m.variables) (none_default s.table (object_at s x).of) p in
+      let no_number = sym none ∙ h in cc
+
+  -- the number of a trunk, before and after
+  abbrev Both : Loc → List Step → ℕ → Type 0
+  Both l p n =
+      (word_in s.table (content s m hands l) p ≡ Held n → word_in s.table (content s left hands l) p ≡ Held n)
+      × (word_in s.table (content s left hands l) p ≡ Held n → word_in s.table (content s m hands l) p ≡ Held n)
+
+  by_trunk : (l : Loc) (p : List Step) (n : ℕ) → trunk l ≡ l → Both l p n
+  by_trunk (OfRoot (OfVariable g y)) p n t = elim (frames_differ g) [
+    | inl e ↦ subst (λ z. Both (OfRoot (OfVariable z y)) p n) (sym e)
+        ((λ h. absurd (nothing y p n h)), (λ h. absurd (left_blank y p n h)))
+    | inr ne ↦ (
+        let same = ap (λ z. word_in s.table (record { of = (object_at s y).of; slots = z; owns = not (is_in_formal s y) }) p) (frame_other s f g y ne m.variables) in
+        ((λ h. same ∙ h), (λ h. sym same ∙ h)))
+  ]
+    where
+      frames_differ : (g : ℕ) → (g ≡ f) ⊎ (g ≡ f → ⊥)
+      frames_differ g = elim (same_loc (OfCell g) (OfCell f)) [ inl e ↦ inl cc | inr ne ↦ inr (λ e. ne (ap OfCell e)) ]
+  by_trunk (OfRoot (OfHand h)) p n t = ((λ e. e), (λ e. e))
+  by_trunk (OfCell c) p n t = ((λ e. e), (λ e. e))
+  by_trunk (Inside l i) p n t = absurd (not_inside l l i t)
+
+  pub frame_ends : SameNumbers (seen s m hands leaks) (seen s left hands leaks)
+  frame_ends = record {
+    on = λ l n h. (by_trunk (trunk l) (steps_in l) n (trunk_trunk l)).0 h;
+    back = λ l n h. (by_trunk (trunk l) (steps_in l) n (trunk_trunk l)).1 h;
+    made = refl;
+    freed = λ n. refl;
+    leaked = λ n. refl;
+  }
+
+-- The main procedure with which the run began ends. Nothing waits, and its variables own nothing.
+module _ (program : FlowProgram) (input : List ℕ) (point : FlowPoint) (state : State) (frame below : Frame) where
+  abbrev ending : Turn
+  ending = record { program = program; input = input; point = point; state = state; frame = frame; outer = below ∷ [] }
+
+  module _ (settled : IsSettled (typing ending).table) (own_law : OwnsByShape (typing ending).table) (other : Way → Type 0)
+      (alone : (w : Way) → other w → ⊥) (no_formals : (x : ℕ) → is_in_formal (typing ending) x ≡ false)
+      (all_named : (u d : ℕ) (c n : Bool) → shape_of (typing ending).table u ≡ shape.Access d c n → n ≡ true)
+      (frames : state.frames ≡ frame ∷ below ∷ []) (no_returns : frame.returns ≡ []) (no_waits : frame.waits ≡ []) where
+    abbrev s : Typing
+    s = typing ending
+
+    abbrev hands : List Waiting
+    hands = waiting_in state
+
+    abbrev at_end : State
+    at_end = record state { frames = below ∷ []; memory = without_frame 1 state.memory; steps = suc state.steps; checks = [] }
+
+    hands_end : waiting_in at_end ≡ hands
+    hands_end = sym (ap waits_in frames ∙ ap (λ z. z ++ (below.waits ++ [])) no_waits)
+      where
+        waits_in : List Frame → List Waiting
+        waits_in fs = waiting_in (record state { frames = fs })
+
+    pub finish_is : finish ending ≡ Ends Normal at_end
+    finish_is = rw no_returns refl
+
+    pub finish_leads : (facts before : List Fact)
+        → Holds ending settled own_law other alone no_formals all_named frames before state
+        → ((x : ℕ) (p : List Step) (n : ℕ) → word_in s.table (content s state.memory hands (OfRoot (OfVariable 1 x))) p ≡ Held n → ⊥)
+        → Leads_on ending settled own_law other alone no_formals all_named frames facts (finish ending)
+    finish_leads facts before holds nothing =
+        subst (Leads_on ending settled own_law other alone no_formals all_named frames facts) (sym finish_is) ((λ trap. trap), owned)
+      where
+        same : SameNumbers (seen s state.memory hands state.leaks) (seen s (without_frame 1 state.memory) hands state.leaks)
+        same = frame_ends s state.memory 1 hands state.leaks nothing
+
+        owned : WellOwned s at_end
+        owned =
+            well_owned s settled at_end
+            (subst (λ z. Owned (seen s (without_frame 1 state.memory) z state.leaks)) (sym hands_end) (numbers_owned _ _ same holds.0.owned))
+            (subst (λ z. Covered (seen s (without_frame 1 state.memory) z state.leaks)) (sym hands_end) (numbers_covered _ _ same holds.0.covered))
+
+-- ---- the main procedure begins
+
+-- Where the package objects are declared and nothing is moved, nothing is gone, and the main procedure
+-- begins without facts.
+pub main_begins : (s : Typing) (other others : Way → Type 0) (view : View) (facts : List Fact) → Sound (home s 0) other view facts
+    → ((w : Way) → other w → ⊥) → ((name : Name) → Has facts (Moved name) → ⊥) → Sound (home s 1) others view []
+main_begins s other others view facts sound alone none = record {
+  owned = sound.owned;
+  covered = sound.covered;
+  known = λ w l rooted r gone. absurd (elim (sound.known w l rooted r gone) [ inl moved ↦ none (name_of w) moved.1 | inr elsewhere ↦ alone w elsewhere ]);
+}

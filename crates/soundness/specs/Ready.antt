@@ -1,0 +1,96 @@
+-- What is asked of an accepted program so that its runs are sound: what typing, the layout and the rules
+-- see to. Nothing here speaks of a run.
+use Rattle.std.specs.Prelude.{◌≡◌, ◌⊎◌, ℕ, true, false, List, [], ◌∷◌, length, get_or, Some, None}
+use Rattle.spark_base.specs.Lists.{Has}
+use Rattle.place_names.specs.declared.act.Placed.{Placed}
+use Rattle.place_names.specs.declared.fact.Fact.TheVariants.{Moved}
+use Rattle.place_names.specs.Facts.{adds}
+use Rattle.place_names.specs.Names.{Name as PlaceName}
+use Rattle.type_table.specs.Types.{Table}
+use Rattle.typed_tree.specs.Trees.{TypedTree, Name}
+use Rattle.typed_tree.specs.Programs.{TypedSub, TypedProgram}
+use Rattle.flow_paths.specs.declared.report.Effects.{Effects}
+use Rattle.flow_paths.specs.Instructions.{Instruction, Declare, Assign, Input, Release, EndScope, Finish}
+use Rattle.flow_paths.specs.Objects.{is_package_object}
+use Rattle.flow_paths.specs.Points.{NamedPoint, FlowPoint}
+use Rattle.flow_paths.specs.Laid.{FlowSub, FlowProgram, NamedSub, typing_of, flow_typing, flow_program, flow_named}
+use Rattle.flow_paths.specs.Paths.{ControlPath, facts_before}
+use Rattle.flow_paths.specs.Effects.{path_points}
+use Rattle.flow_paths.specs.Scopes.{is_ready, is_within, is_settled}
+use Rattle.machine.specs.States.{sub_of}
+use Rattle.machine.specs.Typed.{successors}
+use Rattle.machine.specs.Run.{no_point}
+use Rattle.soundness.specs.Typed.{OwnsByShape}
+use Rattle.soundness.specs.Sound.{Accepted, IsFirstClass, IsNamedSub}
+
+-- ---- scopes
+
+-- The object that a name is rooted in.
+abbrev pub root_of : TypedTree → List ℕ
+root_of (Name p x steps t) = x ∷ []
+root_of e = []
+
+-- The objects whose names an instruction stores at.
+abbrev pub stored_at : Instruction → List ℕ
+stored_at (Assign target e) = root_of target
+stored_at (Input target) = root_of target
+stored_at (Release e) = root_of e
+stored_at _ = []
+
+-- There are no temporaries, which hold the values of calls. Code is settled. At each point: the object
+-- that is declared isn't in scope, and the one whose scope ends is the last one in scope (`is_ready`);
+-- what is stored at is in scope or belongs to a package; the objects of packages have no end of scope;
+-- and where a procedure ends nothing is in scope.
+pub record AreScoped (table : Table) (typed : TypedProgram) : Type 0 where
+  pub objects : (flow_program table typed).objects ≡ typed.objects
+  pub bodies : (sub : TypedSub) → Has typed.subs sub → is_settled (typing_of table typed) sub.body ≡ true
+  pub ready : (sub : NamedSub) → Has (flow_named table typed) sub → (p : NamedPoint) → Has sub.points p → is_ready p p.instr ≡ true
+  pub stored : (sub : NamedSub) → Has (flow_named table typed) sub → (p : NamedPoint) → Has sub.points p → (x : ℕ) → Has (stored_at p.instr) x
+      → (is_package_object (flow_typing (flow_program table typed)) x ≡ true) ⊎ (is_within x p.scope ≡ true)
+  pub ends : (sub : NamedSub) → Has (flow_named table typed) sub → (p : NamedPoint) → Has sub.points p → (x : ℕ) → p.instr ≡ EndScope x
+      → is_package_object (flow_typing (flow_program table typed)) x ≡ false
+  pub finishes : (sub : NamedSub) → Has (flow_named table typed) sub → (p : NamedPoint) → Has sub.points p → p.instr ≡ Finish → p.scope ≡ []
+
+-- On each control path: where an object is declared, no fact says that a place in it was moved, neither
+-- before its initial value is evaluated nor then.
+abbrev pub AreNew : FlowProgram → Effects → Type 0
+AreNew program effects =
+    (sub : FlowSub) → Has program.subs sub → (before : List ℕ) (last : ℕ) → ControlPath (path_points program effects sub) before last
+    → (x : ℕ) (v : TypedTree) → (get_or sub.points last no_point).instr ≡ Declare x v
+    → (name : PlaceName) → name.root ≡ x
+    → (Has (facts_before (path_points program effects sub) before) (Moved name) → ⊥)
+    × (Has (facts_before (path_points program effects sub) (last ∷ before)) (Moved name) → ⊥)
+
+-- ---- the package objects and the main procedure
+
+-- The package objects are declared one by one, and nothing is moved for them.
+pub record AreElaborated (program : FlowProgram) : Type 0 where
+  pub declared : (p : FlowPoint) → Has (sub_of program 0).points p → (x : ℕ) × (v : TypedTree) × (p.instr ≡ Declare x v)
+  pub unmoved : (p : FlowPoint) → Has (sub_of program 0).points p → (a : Placed) → Has p.acts a → (name : PlaceName) → Has (adds a.act) (Moved name) → ⊥
+
+-- The main procedure is there and has a first point. Each of its points has the successors that its
+-- instruction leads to.
+pub record HasMain (table : Table) (typed : TypedProgram) (main : ℕ) : Type 0 where
+  pub is : (flow_program table typed).main ≡ Some main
+  pub named : NamedSub
+  pub stands : IsNamedSub (flow_named table typed) main named
+  pub procedure : (sub : NamedSub) → IsNamedSub (flow_named table typed) main sub → sub.sub.result ≡ None
+  pub point : NamedPoint
+  pub points : List NamedPoint
+  pub begins : named.points ≡ point ∷ points
+  pub leads : (p : FlowPoint) → Has (sub_of (flow_program table typed) main).points p → length p.next ≡ successors p.instr
+
+-- ---- all of it
+
+-- An accepted program of the first class, of which this holds.
+pub record IsReady (table : Table) (typed : TypedProgram) (effects : Effects) : Type 0 where
+  pub accepted : Accepted table typed effects
+  pub owns : OwnsByShape (flow_program table typed).table
+  pub first_class : IsFirstClass (flow_program table typed)
+  pub scoped : AreScoped table typed
+  pub new : AreNew (flow_program table typed) effects
+  pub elaborated : AreElaborated (flow_program table typed)
+  pub packages : NamedSub
+  pub stands : IsNamedSub (flow_named table typed) 0 packages
+  pub main : ℕ
+  pub main_there : HasMain table typed main
