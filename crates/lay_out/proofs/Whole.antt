@@ -1,7 +1,9 @@
 -- The program that is laid out.
 use Rattle.std.proofs.Common.{◌≡◌, ℕ, List, [], ◌∷◌, ◌++◌, map, refl, sym, ap, ◌∙◌, Option, Some, None}
 use Rattle.spark_base.specs.declared.position.Pos.{Pos}
+use Rattle.ada_tree.specs.declared.unit.SourceUnit.{SourceUnit}
 use Rattle.type_table.specs.Types.{Table}
+use Rattle.type_rules.specs.Programs.{program_of}
 use Rattle.typed_tree.specs.declared.object.Object.{Object}
 use Rattle.typed_tree.specs.Nodes.{TypedNodes, typed_code_at}
 use Rattle.typed_tree.specs.Programs.{TypedSub, TypedProgram}
@@ -9,6 +11,7 @@ use Rattle.typed_statements.specs.declared.subs.Subprogram.{Subprogram}
 use Rattle.typed_statements.specs.Bodies.{sub_at}
 use Rattle.typed_programs.specs.declared.parts.ProgramParts.{ProgramParts}
 use Rattle.typed_check.specs.declared.typed.Typed.{Typed}
+use Rattle.typed_check.specs.Typed.{IsTyped}
 use Rattle.flow_paths.specs.declared.point.LaidSub.{LaidSub}
 use Rattle.flow_paths.specs.declared.refusal.LayFault.TheVariants as fault
 use Rattle.flow_paths.specs.Objects.{Typing, Signature}
@@ -93,9 +96,14 @@ module _ (typed : Typed) (table : Table) (parts : ProgramParts) (objects : List 
       (objects_are ∙ ap (λ (q : ProgramParts). q.objects ++ map waiting_object made.types.items) parts_are)
 
   pub is_layout : lay_fault (flow_program typed.table (source typed)) ≡ None
+      → (files : List (List SourceUnit)) → IsTyped files typed.table (parts_of typed)
       → IsLayout (program_with table parts.rows objects parts.scopes made.subs parts.main)
-  is_layout none = record {
+  is_layout none files is = record {
+    code = program_of files;
+    no_fault = is.no_fault;
+    types = table_is ∙ is.types;
     source = source typed;
+    typed = is.program.1;
     laid = laid_program ∙ ap (λ (t : Table). flow_program t (source typed)) (sym table_is);
     within = ap lay_fault laid_program ∙ none;
   }

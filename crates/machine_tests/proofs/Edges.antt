@@ -70,7 +70,7 @@ other_type = refl
 
 -- Type 1 designates Integer; type 2 is an array of two of type 1.
 abbrev info : Shape → Info
-info s = record { shape = s; base = 0; parent = None; seen_in = None; completed = None }
+info s = record { shape = s; base = 0; parent = None; seen_in = None; completed = None; bounded = true }
 
 abbrev pointers : Typing
 pointers = record {

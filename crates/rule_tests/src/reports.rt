@@ -36,6 +36,7 @@ fn info(shape: Shape, number: u32) -> Info {
         parent: None,
         seen_in: None,
         completed: None,
+        bounded: true,
     }
 }
 

@@ -1,5 +1,5 @@
 -- A table of three types, each with one word.
-use Rattle.std.specs.Prelude.{false, [], ◌∷◌, None, pos}
+use Rattle.std.specs.Prelude.{false, true, [], ◌∷◌, None, pos}
 use Rattle.type_table.specs.declared.table.Shape.{Shape}
 use Rattle.type_table.specs.declared.table.Shape.TheVariants as shape
 use Rattle.type_table.specs.declared.table.Info.{Info}
@@ -10,7 +10,7 @@ abbrev pub one_word : TypeSize
 one_word = record { words = 1; owning = false; parts = [] }
 
 abbrev pub info_of : Shape → Info
-info_of s = record { shape = s; base = 0; parent = None; seen_in = None; completed = None }
+info_of s = record { shape = s; base = 0; parent = None; seen_in = None; completed = None; bounded = true }
 
 abbrev pub three_types : Table
 three_types = info_of (shape.Whole (pos 1) (pos 9)) ∷ info_of (shape.Same 0) ∷ info_of (shape.Same 1) ∷ []

@@ -30,6 +30,7 @@ fn info(shape: Shape) -> Info
         parent: None,
         seen_in: None,
         completed: None,
+        bounded: true,
     }
 }
 

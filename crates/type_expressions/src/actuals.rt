@@ -75,6 +75,7 @@ impl<'p> Checker<'p> {
         let reader = self.reader();
         match reading {
             Reading::Off => found,
+            Reading::Place { of } if reader.is_untyped(of) => found,
             Reading::Place { of } => {
                 let found = demand(found, 1, pos, is_access(reader.seen(of)));
                 demand(found, 6, pos, reader.traverses(want, of))

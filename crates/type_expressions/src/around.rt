@@ -9,8 +9,7 @@ use crate::checker::Checker;
 use resolved_tree::{Mark, Node, Operator};
 use spark_base::Pos;
 use type_names::{
-    has_value, is_arithmetic, is_demanding, is_join, is_logical, is_object, is_string, is_unknown,
-    operand_type,
+    has_value, is_arithmetic, is_demanding, is_join, is_logical, is_object, is_string, operand_type,
 };
 use type_settled::demand;
 use type_table::{Fault, Where};
@@ -61,7 +60,7 @@ impl<'p> Checker<'p> {
     {
         let reader = self.reader();
         let pos = reader.position(e);
-        let found = demand(found, 1, pos, reader.fits(want, e));
+        let found = demand(found, 1, pos, reader.suits(want, e));
         demand(
             found,
             5,
@@ -81,7 +80,7 @@ impl<'p> Checker<'p> {
             found,
             1,
             reader.position(e),
-            is_string(own) || is_unknown(own),
+            is_string(own) || reader.is_unknown(own),
         )
     }
 

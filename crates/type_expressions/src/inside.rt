@@ -11,7 +11,7 @@ use crate::checker::Checker;
 use ada_tree::Word;
 use resolved_tree::{Node, Operator, UnaryOperator};
 use spark_base::Pos;
-use type_names::{INTEGER, element_type, fits_others, operand_type, role_of, unary_type};
+use type_names::{INTEGER, operand_type, role_of, unary_type};
 use type_settled::demand;
 use type_table::{Fault, Role, Way, Where};
 
@@ -57,15 +57,15 @@ impl<'p> Checker<'p> {
                 self.inside(found, false, operand_type(*operator), *right)
             }
             Node::Aggregate { pos, args } => {
-                let holds = self.reader().fits_aggregate(want, *args);
+                let holds = self.reader().aggregates(want, *args);
                 let found = demand(found, 4, *pos, holds);
-                self.arguments(found, Role::Parts { of: want }, *args)
+                self.arguments(found, self.reader().parts_role(want), *args)
             }
             Node::Others { pos, value } => {
-                let view = self.reader().seen(want);
-                let found = demand(found, 4, *pos, fits_others(view));
-                let found = self.around(found, Where::AfterOthers, element_type(view), *value);
-                self.inside(found, false, element_type(view), *value)
+                let of = self.reader().repeated_type(want);
+                let found = demand(found, 4, *pos, self.reader().repeats(want));
+                let found = self.around(found, Where::AfterOthers, of, *value);
+                self.inside(found, false, of, *value)
             }
             Node::New { mark, value, .. } => {
                 let found = self.mark_faults(found, *mark);

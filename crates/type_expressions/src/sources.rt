@@ -22,8 +22,12 @@ impl<'p> Checker<'p> {
         match own {
             Own::Unknown => true,
             Own::Of { of } => {
-                is_access(reader.seen(of))
-                    && reader.is_same(designated(reader.full(of)), designated(reader.full(want)))
+                reader.is_untyped(of)
+                    || (is_access(reader.seen(of))
+                        && reader.is_same(
+                            designated(reader.full(of)),
+                            designated(reader.full(want)),
+                        ))
             }
             _ => false,
         }

@@ -1,7 +1,7 @@
 //! Bounds of ranges.
 ghost use Rattle.std.specs.Prelude.{◌≡◌, ◌<◌, length, Some, None, if◌then◌else◌};
 ghost use Rattle.resolved_tree.specs.Nodes.{code_at, tree_at};
-ghost use Rattle.type_table.specs.Gathered.{is_bound, bound_pair, whole_bounds, array_bounds, natural_of, constrained_shape};
+ghost use Rattle.type_table.specs.Gathered.{are_static_bounds, array_bounds, bound_pair, constrained_shape, is_asked, is_bound, is_bounded_range, is_whole, natural_of, whole_bounds};
 ghost use Rattle.type_table.specs.Statics.{value};
 ghost use Rattle.type_table.specs.Statements.{known_value};
 ghost use Rattle.type_gather.specs.Gathering.{context};
@@ -10,7 +10,7 @@ use crate::gathering::Gathering;
 use resolved_tree::{CodeNode, Rows};
 use spark_base::Listed;
 use std::alloc::Global;
-use type_names::{INTEGER, is_sound};
+use type_names::{INTEGER, UNTYPED, is_sound};
 use type_table::{Shape, Static, View};
 
 /// The number of a value.
@@ -31,6 +31,13 @@ fn whole_bounds(view: View) -> (i32, i32)
         View::Whole { low, high } => (low, high),
         _ => (1, 1),
     }
+}
+
+/// Whether it is a subtype of Integer.
+fn is_whole(view: View) -> bool
+    ensures { result ≡ is_whole view }
+{
+    matches!(view, View::Whole { .. })
 }
 
 /// A position in an enumeration, from a value.
@@ -80,6 +87,41 @@ impl Gathering {
         match (self.bound(rows, base, low), self.bound(rows, base, high)) {
             (Some(first), Some(last)) => (first, last),
             _ => (1, 1),
+        }
+    }
+
+    /// Whether the bounds of a range are static and of its type.
+    pub fn are_static_bounds(&self, rows: &Rows, base: u32, low: usize, high: usize) -> bool
+        requires low { low < length rows.now.0 }
+        requires high { high < length rows.now.0 }
+        ensures { result ≡ are_static_bounds (context self.now) base (tree_at rows.now low) (tree_at rows.now high) }
+    {
+        self.bound(rows, base, low).is_some() && self.bound(rows, base, high).is_some()
+    }
+
+    /// Whether it is asked which fault is told. Else the bounds of each range count as known.
+    pub fn is_asked(&self, rows: &Rows) -> bool
+        ensures { result ≡ is_asked (context self.now) }
+    {
+        self.reader(rows).is_untyped(UNTYPED)
+    }
+
+    /// Whether the bounds of the index of an array are known.
+    pub fn is_bounded_range(&self, rows: &Rows, range: usize) -> bool
+        requires { range < length rows.now.1 }
+        ensures { result ≡ is_bounded_range (context self.now) (code_at rows.now range) }
+    {
+        match rows.code(range) {
+            CodeNode::Bounds { low, high } => self.are_static_bounds(rows, INTEGER, *low, *high),
+            CodeNode::Constrained { low, high, .. } => {
+                self.are_static_bounds(rows, INTEGER, *low, *high)
+            }
+            CodeNode::Marked { mark } => {
+                let reader = self.reader(rows);
+                let of = reader.marked(*mark);
+                is_whole(reader.full(of)) && reader.is_bounded(of)
+            }
+            _ => false,
         }
     }
 

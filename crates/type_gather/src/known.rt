@@ -53,6 +53,7 @@ fn await_full(info: &mut Info, number: u32, seen_in: Option<u32>, completed: Opt
     info.parent = None;
     info.seen_in = seen_in;
     info.completed = completed;
+    info.bounded = true;
 }
 
 /// A table where the type with this number, if it is there, waits for its full type.
@@ -83,6 +84,7 @@ pub fn own_info(shape: Shape, number: u32) -> Info
         parent: None,
         seen_in: None,
         completed: None,
+        bounded: true,
     }
 }
 

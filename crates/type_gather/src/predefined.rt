@@ -1,13 +1,13 @@
 //! What is known before the first unit: the predefined types, and what is declared within Ada.
-ghost use Rattle.std.specs.Prelude.{◌≡◌, ◌++◌, ◌-◌, replicate, IfOk, pos, negsuc};
+ghost use Rattle.std.specs.Prelude.{◌≡◌, ◌++◌, ◌-◌, false, replicate, [], IfOk, pos, negsuc};
 ghost use Rattle.type_table.specs.Types.{no_type};
-ghost use Rattle.type_table.specs.Whole.{at_first, predefined_entries, predefined_types, whole};
+ghost use Rattle.type_table.specs.Whole.{at_first, no_mark, predefined_entries, predefined_types, whole};
 
 use crate::known::own_info;
 use ada_tree::Word;
 use spark_base::Listed;
 use std::alloc::{AllocError, Global};
-use type_names::{BOOLEAN, INTEGER};
+use type_names::{BOOLEAN, INTEGER, UNTYPED};
 use type_table::{Entry, Info, Known, Predefined, Shape};
 
 /// Integer, or a predefined subtype of it, with this low bound.
@@ -21,9 +21,36 @@ fn whole(low: i32) -> Info
     own_info(shape, INTEGER)
 }
 
-/// The predefined types.
-fn predefined_types(alloc: Global) -> Result<Listed<Info>, AllocError>
-    ensures { IfOk result (λ table. table ≡ predefined_types) }
+/// A record without components: the definition of what is no type.
+fn no_components(alloc: Global) -> Shape
+    ensures { result ≡ Shape.Fields [] }
+{
+    Shape::Fields {
+        components: Listed::new(alloc),
+    }
+}
+
+/// What stands for a type where a mark denotes none: Integer, or where it is asked which fault is
+/// told, no type that is known.
+fn no_mark(alloc: Global, asked: bool) -> Info
+    ensures { result ≡ no_mark asked }
+{
+    if asked {
+        return own_info(no_components(alloc), UNTYPED);
+    }
+    Info {
+        shape: Shape::Same { of: INTEGER },
+        base: INTEGER,
+        parent: Some(INTEGER),
+        seen_in: None,
+        completed: None,
+        bounded: true,
+    }
+}
+
+/// The predefined types, and what stands for one where a mark denotes none.
+fn predefined_types(alloc: Global, asked: bool) -> Result<Listed<Info>, AllocError>
+    ensures { IfOk result (λ table. table ≡ predefined_types asked) }
 {
     let mut literals = Listed::new(alloc);
     literals.push(Word::new(alloc, b"False")?)?;
@@ -38,6 +65,7 @@ fn predefined_types(alloc: Global) -> Result<Listed<Info>, AllocError>
     table.push(whole(0))?;
     table.push(whole(1))?;
     table.push(own_info(boolean, BOOLEAN))?;
+    table.push(no_mark(alloc, asked))?;
     Ok(table)
 }
 
@@ -86,15 +114,12 @@ fn predefined_entries(alloc: Global) -> Result<Listed<Entry>, AllocError>
 fn no_type(alloc: Global) -> Info
     ensures { result ≡ no_type }
 {
-    let shape = Shape::Fields {
-        components: Listed::new(alloc),
-    };
-    own_info(shape, 0)
+    own_info(no_components(alloc), 0)
 }
 
 /// What so many declarations are before the first unit, the predefined ones included.
 pub fn entries_at_first(alloc: Global, count: usize) -> Result<Listed<Entry>, AllocError>
-    ensures { IfOk result (λ entries. entries ≡ (at_first count).entries) }
+    ensures { IfOk result (λ entries. entries ≡ (at_first false count).entries) }
 {
     let mut entries = predefined_entries(alloc)?;
     'entries: for _entry in 0..count.saturating_sub(15) {
@@ -104,12 +129,12 @@ pub fn entries_at_first(alloc: Global, count: usize) -> Result<Listed<Entry>, Al
 }
 
 /// What is known before the first unit of so many declarations, the predefined ones included.
-pub fn at_first(alloc: Global, count: usize) -> Result<Known, AllocError>
-    ensures { IfOk result (λ known. known ≡ at_first count) }
+pub fn at_first(alloc: Global, asked: bool, count: usize) -> Result<Known, AllocError>
+    ensures { IfOk result (λ known. known ≡ at_first asked count) }
 {
     let entries = entries_at_first(alloc, count)?;
-    let mut table = predefined_types(alloc)?;
-    'types: for _type in 0..count.saturating_sub(4) {
+    let mut table = predefined_types(alloc, asked)?;
+    'types: for _type in 0..count.saturating_sub(5) {
         table.push(no_type(alloc))?;
     }
     Ok(Known { entries, table })

@@ -1,7 +1,7 @@
 //! The declarations of a program.
-ghost use Rattle.std.specs.Prelude.{◌≡◌, ◌<◌, All, IfOk, length, map};
+ghost use Rattle.std.specs.Prelude.{◌≡◌, ◌<◌, false, All, IfOk, length, map};
 ghost use Rattle.resolved_tree.specs.Nodes.{code_at};
-ghost use Rattle.type_table.specs.Whole.{at_first, gather_units, known_of, outside};
+ghost use Rattle.type_table.specs.Whole.{at_first, gather_units, known_with, outside};
 ghost use Rattle.type_names.specs.ComponentNames.{FindAllComponents};
 
 use crate::gathering::Gathering;
@@ -39,7 +39,7 @@ fn turn(
 
 /// What is known before the first unit, but for the types, which are known already.
 fn afresh(alloc: Global, known: Known, count: usize) -> Result<Known, AllocError>
-    ensures { IfOk result (λ made. made ≡ record (at_first count) { table = known.table }) }
+    ensures { IfOk result (λ made. made ≡ record (at_first false count) { table = known.table }) }
 {
     let Known { entries, table } = known;
     drop(entries);
@@ -51,18 +51,19 @@ fn afresh(alloc: Global, known: Known, count: usize) -> Result<Known, AllocError
 
 /// What all declarations of a program are: `rows` has its code, `units` are the numbers of its
 /// units in the order of their text, and `count` is how many declarations it has, the predefined
-/// ones included. The only error is out of memory.
-#[tactic(auto, unfolding(type_table::specs::Whole::known_of))]
+/// ones included. Where it is `asked` which fault is told, a mark that denotes no type stands for no
+/// type that is known. The only error is out of memory.
 pub fn gather(
     alloc: Global,
     rows: &Rows,
     units: &[usize],
     count: usize,
+    asked: bool,
 ) -> Result<Known, AllocError>
     requires { All (λ u. u < length rows.now.1) units.now }
-    ensures { IfOk result (λ made. made ≡ known_of (record { count = count; units = map (code_at rows.now) units.now })) }
+    ensures { IfOk result (λ made. made ≡ known_with asked (record { count = count; units = map (code_at rows.now) units.now })) }
 {
-    let before = at_first(alloc, count)?;
+    let before = at_first(alloc, asked, count)?;
     let first = turn(alloc, rows, units, before, Vec::new(alloc))?;
     let Gathering {
         alloc: _,

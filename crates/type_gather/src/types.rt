@@ -2,7 +2,7 @@
 ghost use Rattle.std.specs.Prelude.{◌≡◌, ◌<◌, ◌-◌, ◌++◌, length, IfOk, OnOk};
 ghost use Rattle.resolved_tree.specs.Nodes.{code_at, tree_at};
 ghost use Rattle.resolved_tree.specs.Trees.{Incomplete, Private, TypeDecl, Subtype, ConstrainedSubtype, Array};
-ghost use Rattle.type_table.specs.Gathered.{component_group, component_groups, component_list, completion, defined, full_info, gather, subtype_info, texts, with_definition, with_literals};
+ghost use Rattle.type_table.specs.Gathered.{component_group, component_groups, component_list, completion, defined, full_info, gather, has_bounds, subtype_info, texts, with_definition, with_literals};
 ghost use Rattle.type_gather.specs.Gathering.{context};
 
 use crate::bounds::constrained_shape;
@@ -131,6 +131,18 @@ impl Gathering {
         }
     }
 
+    /// Whether the bounds in a definition are known, where it has some.
+    fn has_bounds(&self, rows: &Rows, definition: usize) -> bool
+        requires { definition < length rows.now.1 }
+        ensures { result ≡ has_bounds (context self.now) (code_at rows.now definition) }
+    {
+        match rows.code(definition) {
+            CodeNode::Array { range, .. } => !self.is_asked(rows)
+                || self.is_bounded_range(rows, *range),
+            _ => true,
+        }
+    }
+
     /// Says what the literals of an enumeration are.
     fn with_literals(&mut self, rows: &Rows, of: u32, literals: usize) -> Result<(), AllocError>
         requires { literals < length rows.now.1 }
@@ -184,12 +196,13 @@ impl Gathering {
             parent: None,
             seen_in: self.seen_in(number),
             completed: completion(self.completed(number), end),
+            bounded: self.has_bounds(rows, definition),
         })
     }
 
     /// What is known of a subtype.
-    fn subtype_info(&self, rows: &Rows, parent: u32, shape: Shape) -> Info
-        ensures { result ≡ subtype_info self.now.known parent shape }
+    fn subtype_info(&self, rows: &Rows, parent: u32, shape: Shape, bounded: bool) -> Info
+        ensures { result ≡ subtype_info self.now.known parent shape bounded }
     {
         Info {
             shape,
@@ -197,6 +210,7 @@ impl Gathering {
             parent: Some(parent),
             seen_in: None,
             completed: None,
+            bounded,
         }
     }
 
@@ -249,7 +263,7 @@ impl Gathering {
         let reader = self.reader(rows);
         let parent = reader.marked(mark);
         let of = reader.named(parent);
-        let info = self.subtype_info(rows, parent, Shape::Same { of });
+        let info = self.subtype_info(rows, parent, Shape::Same { of }, true);
         self.with_type(number, info);
     }
 
@@ -272,9 +286,11 @@ impl Gathering {
         let reader = self.reader(rows);
         let parent = reader.marked(mark);
         let view = reader.full(parent);
-        let (first, last) = self.bound_pair(rows, reader.base(parent), low, high);
+        let base = reader.base(parent);
+        let (first, last) = self.bound_pair(rows, base, low, high);
         let shape = constrained_shape(self.alloc, view, first, last);
-        let info = self.subtype_info(rows, parent, shape);
+        let bounded = !self.is_asked(rows) || self.are_static_bounds(rows, base, low, high);
+        let info = self.subtype_info(rows, parent, shape, bounded);
         self.with_type(number, info);
     }
 }

@@ -2,10 +2,10 @@
 //! (Ada 2012, 4.3.1 and 6.4.1).
 ghost use Rattle.std.specs.Prelude.{◌≡◌, ◌<◌, length, map, nat_eq, IfOk};
 ghost use Rattle.resolved_tree.specs.Nodes.{tree_at};
-ghost use Rattle.type_table.specs.Types.{fields, is_nil};
+ghost use Rattle.type_table.specs.Types.{fields, is_bounded, is_nil};
 ghost use Rattle.type_table.specs.Entries.{entry_of};
 ghost use Rattle.type_table.specs.Names.{seen};
-ghost use Rattle.type_table.specs.Expressions.{given_names, all_by_position, count_of, each_once, associates, meant, no_formal, no_component, formal, part, call_arguments, formal_names, profile_of, fits_aggregate};
+ghost use Rattle.type_table.specs.Expressions.{given_names, all_by_position, count_of, each_once, associates, meant, no_formal, no_component, formal, part, call_arguments, formal_names, profile_of, fits_aggregate, aggregates, repeats, repeated_type, parts_role};
 ghost use Rattle.type_names.specs.Here.{here};
 ghost use Rattle.type_names.specs.Formals.{demanded, is_given};
 ghost use Rattle.type_names.specs.Occurrences.{each_single};
@@ -13,14 +13,14 @@ ghost use Rattle.type_names.specs.Occurrences.{each_single};
 use crate::formal::Formal;
 use crate::look_up::INTEGER;
 use crate::reader::Reader;
-use crate::views::span;
+use crate::views::{element_type, fits_others, span};
 use crate::word_index::{FEW, WordIndex};
 use crate::words::same_word;
 use ada_tree::Word;
 use place_names::Mode;
 use resolved_tree::Node;
 use std::alloc::{AllocError, Global};
-use type_table::{Component, FormalInfo, View};
+use type_table::{Component, FormalInfo, Role, View};
 
 impl<'p> Reader<'p> {
     /// Whether each argument of a list stands by its position.
@@ -164,17 +164,56 @@ impl<'p> Reader<'p> {
         true
     }
 
-    /// Whether an aggregate has what the type that is demanded consists of.
+    /// Whether an aggregate has what the type that is demanded consists of. An array whose bounds
+    /// aren't known has no count of elements.
     pub fn fits_aggregate(&self, want: u32, list: usize) -> bool
         requires { list < length self.now.rows.now.0 }
-        ensures { result ≡ fits_aggregate (seen (here self.now) want) (fields self.now.known.now.table want) (given_names (tree_at self.now.rows.now list)) }
+        ensures { result ≡ fits_aggregate (is_bounded self.now.known.now.table want) (seen (here self.now) want) (fields self.now.known.now.table want) (given_names (tree_at self.now.rows.now list)) }
     {
         match self.seen(want) {
             View::Fields => self.fits_components(self.fields(want), list),
             View::Elements { low, high, .. } => {
-                self.by_position(list) && self.has_length(list, span(low, high))
+                self.by_position(list)
+                    && (!self.is_bounded(want) || self.has_length(list, span(low, high)))
             }
             _ => true,
+        }
+    }
+
+    /// The same, or the type that is demanded isn't known.
+    pub fn aggregates(&self, want: u32, list: usize) -> bool
+        requires { list < length self.now.rows.now.0 }
+        ensures { result ≡ aggregates (here self.now) want (given_names (tree_at self.now.rows.now list)) }
+    {
+        self.is_untyped(want) || self.fits_aggregate(want, list)
+    }
+
+    /// Whether `(others => value)` may be of a type.
+    pub fn repeats(&self, want: u32) -> bool
+        ensures { result ≡ repeats (here self.now) want }
+    {
+        self.is_untyped(want) || fits_others(self.seen(want))
+    }
+
+    /// The type of that value.
+    pub fn repeated_type(&self, want: u32) -> u32
+        ensures { result ≡ repeated_type (here self.now) want }
+    {
+        if self.is_untyped(want) {
+            want
+        } else {
+            element_type(self.seen(want))
+        }
+    }
+
+    /// What the arguments of an aggregate of a type are for.
+    pub fn parts_role(&self, want: u32) -> Role
+        ensures { result ≡ parts_role (here self.now) want }
+    {
+        if self.is_untyped(want) {
+            Role::Every { of: want }
+        } else {
+            Role::Parts { of: want }
         }
     }
 

@@ -35,9 +35,9 @@ mod words;
 pub use component_index::{component_indexes, index_type};
 pub use formal::Formal;
 pub use formal_index::formal_indexes;
-pub use look_up::{BOOLEAN, INTEGER, is_before};
+pub use look_up::{BOOLEAN, INTEGER, UNTYPED, is_before};
 pub use operators::{is_arithmetic, is_equality, is_join, is_logical, operand_type, unary_type};
-pub use own_types::{is_demanding, is_object, is_string, is_unknown};
+pub use own_types::{is_demanding, is_object, is_string};
 pub use reader::Reader;
 pub use static_values::{ill_typed, is_sound, value_as};
 pub use views::{

@@ -1,6 +1,6 @@
 //! What types and declarations are, by their numbers.
 ghost use Rattle.std.specs.Prelude.{◌≡◌};
-ghost use Rattle.type_table.specs.Types.{named, base, fields, full, is_same, info};
+ghost use Rattle.type_table.specs.Types.{named, base, fields, full, is_same, is_untyped, is_bounded, info};
 ghost use Rattle.type_table.specs.Entries.{entry_of, is_type, type_of_mark, marked, denotes_type, complete_at, is_complete};
 ghost use Rattle.type_table.specs.Faults.{is_before};
 ghost use Rattle.type_table.specs.Names.{is_within, seen};
@@ -17,6 +17,8 @@ use type_table::{Component, Entry, FormalInfo, Shape, View};
 pub const INTEGER: u32 = 0;
 /// The declaration of Boolean.
 pub const BOOLEAN: u32 = 3;
+/// What stands for a type where a mark denotes none: a declaration that isn't one.
+pub const UNTYPED: u32 = 4;
 
 impl<'p> Reader<'p> {
     /// The type that is meant by a subtype without a constraint.
@@ -62,11 +64,30 @@ impl<'p> Reader<'p> {
         }
     }
 
-    /// Whether two types are one type with the same bounds.
+    /// Whether a type isn't known: it stands where a mark denotes none, or is a subtype of that.
+    pub fn is_untyped(&self, t: u32) -> bool
+        ensures { result ≡ is_untyped self.now.known.now.table t }
+    {
+        self.base(t) == UNTYPED
+    }
+
+    /// Whether the bounds in the definition of a type are known, where it has some.
+    pub fn is_bounded(&self, t: u32) -> bool
+        ensures { result ≡ is_bounded self.now.known.now.table t }
+    {
+        match self.known.table.as_slice().get(self.named(t) as usize) {
+            Some(info) => info.bounded,
+            None => true,
+        }
+    }
+
+    /// Whether two types are one type with the same bounds, or one of them isn't known.
     pub fn is_same(&self, s: u32, t: u32) -> bool
         ensures { result ≡ is_same self.now.known.now.table s t }
     {
-        self.base(s) == self.base(t) && same_bounds(self.full(s), self.full(t))
+        self.is_untyped(s)
+            || self.is_untyped(t)
+            || (self.base(s) == self.base(t) && same_bounds(self.full(s), self.full(t)))
     }
 
     /// The definition of a type as it is seen here: that of a private type is seen in the private
@@ -126,13 +147,13 @@ impl<'p> Reader<'p> {
         )
     }
 
-    /// The type that a mark denotes, or Integer.
+    /// The type that a mark denotes, or none that is known.
     pub fn type_of_mark(&self, mark: Option<u32>) -> u32
         ensures { result ≡ type_of_mark self.now.known.now mark }
     {
         match mark {
             Some(d) if self.is_type(d) => d,
-            _ => INTEGER,
+            _ => UNTYPED,
         }
     }
 

@@ -2,11 +2,11 @@
 ghost use Rattle.std.specs.Prelude.{◌≡◌, ◌<◌, length, IfSome};
 ghost use Rattle.resolved_tree.specs.Nodes.{tree_at};
 ghost use Rattle.type_table.specs.Types.{fields};
-ghost use Rattle.type_table.specs.Names.{component, seen, selected, is_index, through, step, is_end, ended, along, is_call, is_imaged, scalar_attribute, of_type, reading_of};
+ghost use Rattle.type_table.specs.Names.{component, seen, selected, is_index, through, reached, step, is_end, ended, along, is_call, is_imaged, scalar_attribute, of_type, reading_of};
 ghost use Rattle.type_names.specs.Here.{here};
 ghost use Rattle.type_names.specs.ComponentNames.{component_number};
 
-use crate::look_up::INTEGER;
+use crate::look_up::{INTEGER, UNTYPED};
 use crate::reader::Reader;
 use crate::views::{array_attribute, component_number, dereferenced, indexed};
 use ada_tree::Word;
@@ -84,6 +84,17 @@ impl<'p> Reader<'p> {
         }
     }
 
+    /// Where something leads from a type: to no known one where that type isn't known.
+    fn reached(&self, t: u32, next: Next) -> Next
+        ensures { result ≡ reached self.now.known.now.table t next }
+    {
+        if self.is_untyped(t) {
+            Next::Goes { of: UNTYPED }
+        } else {
+            next
+        }
+    }
+
     /// Where one selector, index, dereference or attribute leads from a type.
     #[tactic(auto, unfolding(type_table::specs::Names::step))]
     pub fn step(&self, suffix: usize, t: u32) -> Next
@@ -91,13 +102,19 @@ impl<'p> Reader<'p> {
         ensures { result ≡ step (here self.now) (tree_at self.now.rows.now suffix) t }
     {
         match self.rows.node(suffix) {
-            Node::Selected { selector } => self.selected(self.through(t), selector),
+            Node::Selected { selector } => {
+                let through = self.through(t);
+                self.reached(through, self.selected(through, selector))
+            }
             Node::Applied { args } => {
                 let is_index = self.is_index(*args);
-                indexed(is_index, self.seen(self.through(t)))
+                let through = self.through(t);
+                self.reached(through, indexed(is_index, self.seen(through)))
             }
-            Node::All => dereferenced(self.seen(t)),
-            Node::Attr { attribute } => array_attribute(*attribute, self.seen(t)),
+            Node::All => self.reached(t, dereferenced(self.seen(t))),
+            Node::Attr { attribute } => {
+                self.reached(t, array_attribute(*attribute, self.seen(t)))
+            }
             _ => Next::Stops,
         }
     }

@@ -2,7 +2,7 @@
 ghost use Rattle.std.specs.Prelude.{◌≡◌, ◌<◌, length};
 ghost use Rattle.resolved_tree.specs.Nodes.{tree_at};
 ghost use Rattle.type_table.specs.Entries.{entry_of};
-ghost use Rattle.type_table.specs.Expressions.{own_of, own_type, is_of, is_object, is_unknown, is_demanding, is_string, is_access_place, is_access_name, is_null, scalar_own, one_type, compares, is_variable_kind, is_variable, is_traversal_call, allocates, fits, traverses, reading_access};
+ghost use Rattle.type_table.specs.Expressions.{own_of, own_type, is_of, is_object, is_unknown, is_demanding, is_string, is_access_place, is_access_name, is_null, scalar_own, one_type, compares, is_variable_kind, is_variable, is_traversal_call, allocates, fits, suits, traverses, reading_access};
 ghost use Rattle.type_names.specs.Here.{here};
 
 use crate::look_up::{BOOLEAN, INTEGER};
@@ -48,14 +48,15 @@ impl<'p> Reader<'p> {
         }
     }
 
-    /// Whether an expression with a type of its own has the type that is demanded.
+    /// Whether an expression with a type of its own has the type that is demanded, or its type isn't
+    /// known.
     pub fn is_of(&self, want: u32, own: Own) -> bool
         ensures { result ≡ is_of self.now.known.now want own }
     {
         match own {
             Own::Unknown | Own::Demanding => true,
             Own::Text => false,
-            Own::Of { of } => self.base(of) == self.base(want),
+            Own::Of { of } => self.is_untyped(of) || self.base(of) == self.base(want),
         }
     }
 
@@ -66,6 +67,14 @@ impl<'p> Reader<'p> {
         is_access(self.seen(want))
             && (!self.denotes_type(mark.decl)
                 || self.is_same(self.marked(mark), designated(self.full(want))))
+    }
+
+    /// Whether an expression has the type that its position demands, or that type isn't known.
+    pub fn suits(&self, want: u32, e: usize) -> bool
+        requires { e < length self.now.rows.now.0 }
+        ensures { result ≡ suits (here self.now) want (tree_at self.now.rows.now e) }
+    {
+        self.is_untyped(want) || self.fits(want, e)
     }
 
     /// Whether an expression has the type that its position demands.
@@ -82,6 +91,17 @@ impl<'p> Reader<'p> {
         }
     }
 
+    /// Whether a type by itself isn't known.
+    pub fn is_unknown(&self, own: Own) -> bool
+        ensures { result ≡ is_unknown self.now.known.now own }
+    {
+        match own {
+            Own::Unknown => true,
+            Own::Of { of } => self.is_untyped(of),
+            _ => false,
+        }
+    }
+
     /// Whether a type by itself is scalar.
     pub fn scalar_own(&self, own: Own) -> bool
         ensures { result ≡ scalar_own (here self.now) own }
@@ -89,7 +109,7 @@ impl<'p> Reader<'p> {
         match own {
             Own::Unknown => true,
             Own::Demanding | Own::Text => false,
-            Own::Of { of } => is_scalar(self.seen(of)),
+            Own::Of { of } => self.is_untyped(of) || is_scalar(self.seen(of)),
         }
     }
 
@@ -98,7 +118,9 @@ impl<'p> Reader<'p> {
         ensures { result ≡ one_type self.now.known.now a b }
     {
         match (a, b) {
-            (Own::Of { of: s }, Own::Of { of: t }) => self.base(s) == self.base(t),
+            (Own::Of { of: s }, Own::Of { of: t }) => {
+                self.is_untyped(s) || self.is_untyped(t) || self.base(s) == self.base(t)
+            }
             _ => true,
         }
     }
@@ -112,7 +134,7 @@ impl<'p> Reader<'p> {
             return false;
         };
         match self.reading_of(*decl, *rest) {
-            Reading::Place { of } => is_access(self.seen(of)),
+            Reading::Place { of } => self.is_untyped(of) || is_access(self.seen(of)),
             Reading::Off => true,
             _ => false,
         }
@@ -189,13 +211,6 @@ impl<'p> Reader<'p> {
             _ => true,
         }
     }
-}
-
-/// Whether a type isn't known.
-pub fn is_unknown(own: Own) -> bool
-    ensures { result ≡ is_unknown own }
-{
-    matches!(own, Own::Unknown)
 }
 
 /// Whether it is that of the place.

@@ -1,5 +1,5 @@
 -- What a refusal says of the faults of a program.
-use Rattle.std.proofs.Common.{◌≡◌, ℕ, List, length, Option, None, Some, Result, refl, sym, ap, ◌∙◌, subst}
+use Rattle.std.proofs.Common.{◌≡◌, ℕ, true, List, length, Option, None, Some, Result, refl, sym, ap, ◌∙◌, subst}
 use Rattle.std.specs.List.{flat_map}
 use Rattle.std.specs.Coded.{Coded, code_by, coded×, coded_list, coded_ℕ}
 use Rattle.ada_tree.specs.declared.unit.SourceUnit.{SourceUnit}
@@ -16,7 +16,7 @@ use Rattle.type_table.specs.declared.refusal.TypeRefusal.{TypeRefusal}
 use Rattle.type_table.specs.declared.refusal.TypeRefusal.TheVariants.{TooLarge, TooManyParts, NoElements, WrongType, NotVariable, WrongProfile, BadChoices, OwningPlace, AnonymousPlace, NotStatic, PackageValue, Memory}
 use Rattle.type_table.specs.Faults.{first, noted}
 use Rattle.type_table.specs.Refusals.{Judges, Says, refusal_of, size_refusal, sentence_refusal}
-use Rattle.type_table.specs.Whole.{TypeFault, Size, Sentence, all_made, decided, fault_known, known_of, made_faults, sentence_faults, type_fault, type_sizes}
+use Rattle.type_table.specs.Whole.{TypeFault, Size, Sentence, all_made, decided, fault_known, known_of, known_with, told, made_faults, sentence_faults, type_fault, type_sizes}
 use Rattle.type_rules.specs.Programs.{program_of, sentence_fault}
 
 says : (r : TypeRefusal) (fault : TypeFault) → r ≡ refusal_of fault → Says r (Some fault)
@@ -74,15 +74,60 @@ program_is files units count numbers lowered counted numbered =
     ap (with_units count) (lowered ∙ ap (λ (n : List Identified). lowered_files n files) numbered)
     ∙ ap (λ (n : ℕ). with_units n (lowered_files (identified files) files)) counted
 
-pub files_judged : {A : Type 0} (r : Result A TypeRefusal) (files : List (List SourceUnit)) (known settled : Known) (units : List Code) (count : ℕ)
-    (numbers : List Identified) → Judges r (fault_known settled units) → settled ≡ known → known ≡ known_of (with_units count units)
-    → units ≡ lowered_files numbers files → count ≡ length (decl_infos files) → numbers ≡ identified files → Judges r (type_fault (program_of files))
+-- A program that breaks no sentence, with what follows from it,
+pub files_pass : (files : List (List SourceUnit)) (known : Known) (units : List Code) (count : ℕ) (numbers : List Identified)
+    → fault_known known units ≡ None → known ≡ known_of (with_units count units)
+    → units ≡ lowered_files numbers files → count ≡ length (decl_infos files) → numbers ≡ identified files → type_fault (program_of files) ≡ None
 unfolding type_fault
-files_judged {A} r files known settled units count numbers judged same gathered lowered counted numbered =
+files_pass files known units count numbers judged gathered lowered counted numbered =
     let program : with_units count units ≡ program_of files = program_is files units count numbers lowered counted numbered in
-    let here : Judges r (type_fault (with_units count units)) =
-    subst (λ (k : Known). Judges r (fault_known k units)) (same ∙ gathered) judged in
-    subst (λ (p : Program). Judges r (type_fault p)) program here
+    let causes = fault_known (known_with true (with_units count units)) units in
+    let here : type_fault (with_units count units) ≡ None =
+    ap (λ (k : Known). told (fault_known k units) causes) (sym gathered) ∙ ap (λ (f : Option TypeFault). told f causes) judged in
+    subst (λ (p : Program). type_fault p ≡ None) program here
+
+-- and what is told of one that does.
+pub files_told : (r : TypeRefusal) (files : List (List SourceUnit)) (units : List Code) (count : ℕ) (numbers : List Identified)
+    → Says r (type_fault (with_units count units)) → units ≡ lowered_files numbers files → count ≡ length (decl_infos files) → numbers ≡ identified files
+    → Says r (type_fault (program_of files))
+files_told r files units count numbers says lowered counted numbered =
+    subst (λ (p : Program). Says r (type_fault p)) (program_is files units count numbers lowered counted numbered) says
+
+pub said_of : (r : TypeRefusal) (known : Known) (units : List Code) (count : ℕ) → Says r (fault_known known units)
+    → known ≡ known_of (with_units count units) → Says r (fault_known (known_of (with_units count units)) units)
+said_of r known units count says gathered = subst (λ (k : Known). Says r (fault_known k units)) gathered says
+
+-- ---- what is told
+
+nothing_named : (r : TypeRefusal) → Says r None → r ≡ Memory
+nothing_named (TooLarge p) says = absurd says
+nothing_named (TooManyParts p) says = absurd says
+nothing_named (NoElements p) says = absurd says
+nothing_named (WrongType p) says = absurd says
+nothing_named (NotVariable p) says = absurd says
+nothing_named (WrongProfile p) says = absurd says
+nothing_named (BadChoices p) says = absurd says
+nothing_named (OwningPlace p) says = absurd says
+nothing_named (AnonymousPlace p) says = absurd says
+nothing_named (NotStatic p) says = absurd says
+nothing_named (PackageValue p) says = absurd says
+nothing_named Memory says = refl
+
+memory_says : (r : TypeRefusal) (found : Option TypeFault) → r ≡ Memory → Says r found
+memory_says r found is = subst (λ (z : TypeRefusal). Says z found) (sym is) tt
+
+-- The first fault is told again, where nothing else is found.
+pub first_told : (r : TypeRefusal) (found causes : Option TypeFault) → Says r found → causes ≡ None → Says r (told found causes)
+first_told r None None says none = says
+first_told r None (Some g) says none = cc
+first_told r (Some f) None says none = says
+first_told r (Some f) (Some g) says none = cc
+
+-- Else what is found.
+pub other_told : (r other : TypeRefusal) (found causes : Option TypeFault) → (r ≡ Memory → ⊥) → Says r found → Says other causes → Says other (told found causes)
+other_told r other None causes named said says = absurd (named (nothing_named r said))
+other_told r other (Some f) None named said says = memory_says other (Some f) (nothing_named other says)
+other_told r other (Some f) (Some g) named said says = says
 
 -- the code of the files
 pub lowered_is : (files found : List (List SourceUnit)) (rows : Rows) (units : List ℕ) (numbers : List Identified)

@@ -1,10 +1,10 @@
 //! The first broken sentence on types.
-ghost use Rattle.std.specs.Prelude.{◌≡◌, ◌<◌, All, IfOk, length, map};
+ghost use Rattle.std.specs.Prelude.{◌≡◌, ◌<◌, true, All, IfOk, length, map};
 ghost use Rattle.name_resolve.specs.Inputs.{trees_of};
 ghost use Rattle.resolved_tree.specs.Nodes.{code_at, HoldsAllCode};
 ghost use Rattle.type_expressions.specs.Around.{context};
-ghost use Rattle.type_table.specs.Refusals.{Judges};
-ghost use Rattle.type_table.specs.Whole.{fault_known, known_of, outside, type_fault};
+ghost use Rattle.type_table.specs.Refusals.{Judges, Says};
+ghost use Rattle.type_table.specs.Whole.{fault_known, known_of, known_with, outside, type_fault};
 ghost use Rattle.type_rules.specs.Programs.{program_of, sentence_fault};
 
 use crate::refused::{sentence_refusal, size_refusal};
@@ -35,6 +35,7 @@ pub fn lowered(
 
 /// What is settled of the declarations and types of a program. `rows` has its code, `units` are the
 /// numbers of its units, and `count` is how many declarations it has, the predefined ones included.
+#[tactic(auto, unfolding(type_table::specs::Whole::known_of))]
 pub fn settled(
     alloc: Global,
     rows: &Rows,
@@ -44,9 +45,49 @@ pub fn settled(
     requires { All (λ u. u < length rows.now.1) units.now }
     ensures { IfOk result (λ made. made.known ≡ known_of (record { count = count; units = map (code_at rows.now) units.now })) }
 {
-    let known = gather(alloc, rows, units, count)?;
+    let known = gather(alloc, rows, units, count, false)?;
     let settled = Settled::new(alloc, known)?;
     Ok(settled)
+}
+
+/// The first fault of a program that doesn't follow from a mark that denotes no type, or from bounds
+/// that aren't static.
+fn check_causes(
+    alloc: Global,
+    rows: &Rows,
+    units: &[usize],
+    count: usize,
+) -> Result<(), TypeRefusal>
+    requires { All (λ u. u < length rows.now.1) units.now }
+    ensures { let program = record { count = count; units = map (code_at rows.now) units.now } in
+        Judges result (fault_known (known_with true program) program.units) }
+{
+    let known = gather(alloc, rows, units, count, true)?;
+    let settled = Settled::new(alloc, known)?;
+    check_units(alloc, rows, &settled, units)
+}
+
+/// The refusal of a program that breaks a sentence on types: what only follows from a fault isn't
+/// told before that. `refusal` says the first fault with what follows.
+pub fn told(
+    alloc: Global,
+    rows: &Rows,
+    units: &[usize],
+    count: usize,
+    refusal: TypeRefusal,
+) -> TypeRefusal
+    requires units { All (λ u. u < length rows.now.1) units.now }
+    requires said { let program = record { count = count; units = map (code_at rows.now) units.now } in
+        Says refusal (fault_known (known_of program) program.units) }
+    ensures { Says result (type_fault (record { count = count; units = map (code_at rows.now) units.now })) }
+{
+    if matches!(refusal, TypeRefusal::Memory) {
+        return refusal;
+    }
+    match check_causes(alloc, rows, units, count) {
+        Ok(()) => refusal,
+        Err(other) => other,
+    }
 }
 
 /// Whether the units of a program break a sentence on types: the first one, Y1 to Y3 before K1 to
@@ -81,8 +122,12 @@ pub fn check_types(alloc: Global, resolved: &Resolved) -> Result<(), TypeRefusal
     let lowered = lowered(alloc, resolved, &mut rows)?;
     let units = lowered.as_slice();
     let decls = resolved.decls.as_slice();
-    let settled = settled(alloc, &rows, units, decls.len())?;
-    check_units(alloc, &rows, &settled, units)
+    let count = decls.len();
+    let settled = settled(alloc, &rows, units, count)?;
+    match check_units(alloc, &rows, &settled, units) {
+        Ok(()) => Ok(()),
+        Err(refusal) => Err(told(alloc, &rows, units, count, refusal)),
+    }
 }
 
 /// The first broken sentence of units, Y1 to Y3 before K1 to K8.

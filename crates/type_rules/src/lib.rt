@@ -5,7 +5,8 @@
 //! types for Y1 to Y3 (`type_settled`) and over all code for K1 to K8 (`type_statements`). The
 //! definitions of both are those of `type_table`; `docs/LANGUAGE.md`, "Types", says them in words.
 //! `lowered`, `settled` and `check_units` are its three steps, for callers that go on with what
-//! they make.
+//! they make. A program with a fault is looked at once more, by `told`: where a mark denotes no type,
+//! or bounds aren't static, nothing is told there that follows from it.
 //! Time and memory: each pass visits each tree a bounded number of times; `docs/COSTS.md` names
 //! what isn't linear.
 #![tactic(auto)]
@@ -13,4 +14,4 @@
 mod check;
 mod refused;
 
-pub use check::{check_types, check_units, lowered, settled};
+pub use check::{check_types, check_units, lowered, settled, told};

@@ -8,12 +8,12 @@ use Rattle.type_table.specs.declared.judgement.Role.{Role}
 use Rattle.type_table.specs.declared.judgement.Role.TheVariants as role
 use Rattle.type_table.specs.declared.judgement.Way.{Way}
 use Rattle.type_table.specs.declared.judgement.Where.TheVariants as stands
-use Rattle.type_table.specs.Types.{info, fields, is_nil}
+use Rattle.type_table.specs.Types.{info, is_nil}
 use Rattle.type_table.specs.Faults.{demand, K7}
 use Rattle.type_table.specs.Entries.{entry_of, integer, marked, denotes_type, is_type, is_complete}
 use Rattle.type_table.specs.Names.{Context, seen, step, along, reading_of}
 use Rattle.type_table.specs.Statics.{is_static, value, is_alone}
-use Rattle.type_table.specs.Expressions.{inside, arguments, within_suffix, behind, own_type, compares, around, around_role, around_parens, around_operands, is_loose, role_type, role_of, way_of, onward, reading_faults, given_names, call_arguments, fits_aggregate, fits_others, element_type, mark_faults, unary_type, operand_type}
+use Rattle.type_table.specs.Expressions.{inside, arguments, within_suffix, behind, own_type, compares, around, around_role, around_parens, around_operands, is_loose, role_type, role_of, way_of, onward, reading_faults, given_names, call_arguments, aggregates, repeats, repeated_type, parts_role, mark_faults, unary_type, operand_type}
 use Rattle.type_table.specs.Statements.{scalar_mark, static_faults, known_value, range_of_faults, ranged, no_suffix}
 use Rattle.type_table.specs.Declarations.{bound_faults, index_range, definition_faults, type_faults, subtype_faults, integer_mark, lies_within, holds_itself}
 use Rattle.type_table.specs.Gathered.{declared_pos, declared_number}
@@ -41,10 +41,10 @@ module _ (k : Known) (h w : Option ℕ) (st : Bool) (s r : Option ℕ) (l m : Bo
     inside_same loose t (Binary p op a b) =
         λ j. around_operands c p op a b ++ (inside_same false (operand_type op) a j ++ inside_same false (operand_type op) b j)
     inside_same loose t (Aggregate p args) =
-        λ j. demand 4 p (fits_aggregate (seen c t) (fields k.table t) (given_names args)) ++ arguments_same (role.Parts t) 0 args j
+        λ j. demand 4 p (aggregates c t (given_names args)) ++ arguments_same (parts_role c t) 0 args j
     inside_same loose t (Others p e) =
-        λ j. demand 4 p (fits_others (seen c t))
-        ++ (around c stands.AfterOthers (element_type (seen c t)) e ++ inside_same false (element_type (seen c t)) e j)
+        λ j. demand 4 p (repeats c t)
+        ++ (around c stands.AfterOthers (repeated_type c t) e ++ inside_same false (repeated_type c t) e j)
     inside_same loose t (New p mark v) = λ j. mark_faults k mark ++ arguments_same (role.Allocated (marked k mark)) 0 v j
     inside_same loose t _ = refl
 

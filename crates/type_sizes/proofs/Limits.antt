@@ -14,7 +14,7 @@ use Rattle.type_table.specs.Faults.{demand, first}
 use Rattle.type_table.specs.Names.{Context}
 use Rattle.type_table.specs.Gathered.{gather}
 use Rattle.type_table.specs.Declarations.{holds_shape, holds_parent, some_within, some_part}
-use Rattle.type_table.specs.Whole.{made, is_unsound, all_short, has_elements, size_faults, made_faults, at_first, outside, gather_units, known_from, known_of, sentence_faults, all_made, type_sizes, decided, type_fault}
+use Rattle.type_table.specs.Whole.{made, is_unsound, all_short, has_elements, size_faults, made_faults, at_first, outside, gather_units, known_from, known_of, sentence_faults, all_made, type_sizes, TypeFault, told, decided, fault_known, known_with, type_fault}
 use Rattle.type_settled.proofs.Unsound.{never_shape, never_parent}
 use Rattle.type_sizes.specs.Limits.{IsWithin, AreWithin}
 use Rattle.type_sizes.specs.Formed.{all_formed}
@@ -197,14 +197,15 @@ or_true true = refl
 or_true false = refl
 
 module _ (full_type : ℕ → Bool) where
-  first_covered : (count : ℕ) → Covered full_type (at_first count).table
+  first_covered : (count : ℕ) → Covered full_type (at_first false count).table
   first_covered count zero = or_true (full_type 0)
   first_covered count (suc zero) = or_true (full_type 1)
   first_covered count (suc (suc zero)) = or_true (full_type 2)
   first_covered count (suc (suc (suc zero))) = or_true (full_type 3)
-  first_covered count (suc (suc (suc (suc t)))) =
-      ap (λ i. full_type (suc (suc (suc (suc t)))) || is_small i.shape) (none_there (count - 4) t)
-      ∙ or_true (full_type (suc (suc (suc (suc t)))))
+  first_covered count (suc (suc (suc (suc zero)))) = or_true (full_type 4)
+  first_covered count (suc (suc (suc (suc (suc t))))) =
+      ap (λ i. full_type (suc (suc (suc (suc (suc t))))) || is_small i.shape) (none_there (count - 5) t)
+      ∙ or_true (full_type (suc (suc (suc (suc (suc t))))))
 
   units_covered : (units : List Code) (c other : Context) → ((t : ℕ) → IsTrue (full_in (flat_map (made other) units) t) → IsTrue (full_type t))
       → Covered full_type c.known.table → Covered full_type (gather_units units c).known.table
@@ -222,11 +223,17 @@ no_sentence found None none = refl
 no_sentence None (Some f) none = cc
 no_sentence (Some g) (Some f) none = cc
 
+no_fault : (found later : Option TypeFault) → told found later ≡ None → found ≡ None
+no_fault None later none = refl
+no_fault (Some f) None none = cc
+no_fault (Some f) (Some g) none = cc
+
 -- The law.
 pub within_limits : (p : Program) → IsTrue (all_formed p.units) → type_fault p ≡ None → AreWithin (known_of p).table
 unfolding type_fault known_of type_sizes all_made
-within_limits p formed none =
+within_limits p formed untold =
     let known : Known = known_of p in
+    let none : fault_known known p.units ≡ None = no_fault (fault_known known p.units) (fault_known (known_with true p) p.units) untold in
     let all : List Made = all_made known p.units in
     let sizes : type_sizes known p.units ≡ [] =
     no_first (type_sizes known p.units) (no_size (first (type_sizes known p.units)) (first (sentence_faults known p.units)) none) in
@@ -234,8 +241,8 @@ within_limits p formed none =
     no_first (sentence_faults known p.units) (no_sentence (first (type_sizes known p.units)) (first (sentence_faults known p.units)) none) in
     let sound : (t : ℕ) → is_unsound all t ≡ false = none_unsound all (all_units_sound known p.units formed sentences) in
     let turn_covered : (table : Table) → Covered (full_in all) table → Covered (full_in all) (known_from p table).table =
-    λ table. units_covered (full_in all) p.units (outside (record (at_first p.count) { table = table })) (outside known) (λ t is. is) in
-    let first : Covered (full_in all) (known_from p (at_first p.count).table).table =
-    turn_covered (at_first p.count).table (first_covered (full_in all) p.count) in
-    all_within known.table (full_in all) (turn_covered (known_from p (at_first p.count).table).table first)
+    λ table. units_covered (full_in all) p.units (outside (record (at_first false p.count) { table = table })) (outside known) (λ t is. is) in
+    let first : Covered (full_in all) (known_from p (at_first false p.count).table).table =
+    turn_covered (at_first false p.count).table (first_covered (full_in all) p.count) in
+    all_within known.table (full_in all) (turn_covered (known_from p (at_first false p.count).table).table first)
     (full_within known.table all sound all sizes)

@@ -16,7 +16,7 @@ cover_between c a b = record { at = position a; low = choice_value c a; high = c
 
 -- Nothing is said of the choices where the expression isn't known to be scalar.
 abbrev pub is_passed : Context → Tree → Bool
-is_passed c e = is_unknown (own_type c e) || is_demanding (own_type c e) || not (scalar_own c (own_type c e))
+is_passed c e = is_unknown c.known (own_type c e) || is_demanding (own_type c e) || not (scalar_own c (own_type c e))
 
 -- What is broken by choices that are all taken.
 abbrev pub taken_faults : Context → Pos → Tree → Choices → List Fault

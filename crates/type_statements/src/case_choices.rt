@@ -214,11 +214,11 @@ fn leaves_gap(
 
 /// Whether what an expression is by itself is known to be scalar.
 fn is_scalar_own(reader: &Reader<'_>, own: Own) -> bool
-    ensures { result ≡ not (is_unknown own || is_demanding own || not (scalar_own (here reader.now) own)) }
+    ensures { result ≡ not (is_unknown (here reader.now).known own || is_demanding own || not (scalar_own (here reader.now) own)) }
 {
     match own {
-        Own::Unknown | Own::Demanding => false,
-        _ => reader.scalar_own(own),
+        Own::Of { of } => !reader.is_untyped(of) && reader.scalar_own(own),
+        _ => false,
     }
 }
 

@@ -57,7 +57,7 @@ fn ranged(reader: &Reader<'_>, decl: u32, reading: Reading) -> bool
     ensures { result ≡ ranged (here reader.now) (entry_of (here reader.now).known decl) decl reading }
 {
     match reading {
-        Reading::Place { of } => is_array(reader.seen(of)),
+        Reading::Place { of } => reader.is_untyped(of) || is_array(reader.seen(of)),
         Reading::Off => reader.is_type(decl) && is_array(reader.seen(decl)),
         _ => false,
     }

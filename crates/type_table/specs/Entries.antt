@@ -8,7 +8,7 @@ use Rattle.resolved_tree.specs.declared.node.Mark.{Mark}
 use Rattle.type_table.specs.declared.table.Entry.{Entry}
 use Rattle.type_table.specs.declared.table.Entry.TheVariants as entry
 use Rattle.type_table.specs.declared.table.Known.{Known}
-use Rattle.type_table.specs.Types.{info}
+use Rattle.type_table.specs.Types.{info, untyped}
 use Rattle.type_table.specs.Faults.{is_before}
 
 abbrev pub entry_of : Known → ℕ → Entry
@@ -29,14 +29,14 @@ abbrev pub is_type : Entry → Bool
 is_type entry.Type = true
 is_type _ = false
 
--- What a mark denotes. Where that is no type, Integer stands for it. The mark's own fault stands
--- before all that comes of it, but for a mark in a full type that stands behind the use of the type.
+-- What a mark denotes. Where that is no type, the mark breaks K1, maybe behind what uses it: it may
+-- stand in a full type.
 abbrev pub type_of_entry : ℕ → Entry → ℕ
 type_of_entry d entry.Type = d
-type_of_entry d _ = integer
+type_of_entry d _ = untyped
 
 abbrev pub type_of_mark : Known → Option ℕ → ℕ
-type_of_mark known None = integer
+type_of_mark known None = untyped
 type_of_mark known (Some d) = type_of_entry d (entry_of known d)
 
 abbrev pub marked : Known → Mark → ℕ

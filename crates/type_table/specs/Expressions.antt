@@ -2,8 +2,9 @@
 -- 2012, 4 and 6.4).
 --
 -- Each fault stands at the first token of the expression or name that it is about. What follows from
--- a broken sentence may be listed too: it stands behind, but where the sentence is broken in a full
--- type that stands behind the use of the type.
+-- a broken sentence may be listed too, where it stands behind. A mark in a full type may stand behind
+-- the use of that type: where it denotes no type, and it is asked which fault is told, nothing that
+-- follows from it is listed.
 use Rattle.std.specs.Prelude.{ℕ, ◌+◌, Bool, true, false, not, ◌&&◌, ◌||◌, List, [], ◌∷◌, ◌++◌, map, length, get_or, nat_eq, nat_le, Option, Some, None, is_some, if◌then◌else◌}
 use Rattle.spark_base.specs.declared.position.Pos.{Pos}
 use Rattle.place_names.specs.declared.act.Mode.{Mode}
@@ -37,7 +38,7 @@ use Rattle.type_table.specs.declared.judgement.Role.{Role}
 use Rattle.type_table.specs.declared.judgement.Role.TheVariants as role
 use Rattle.type_table.specs.declared.judgement.Way.{Way}
 use Rattle.type_table.specs.declared.judgement.Way.TheVariants as way
-use Rattle.type_table.specs.Types.{full, fields, base, span, is_owning, is_same, is_scalar, has_value, is_nil}
+use Rattle.type_table.specs.Types.{full, fields, base, span, is_owning, is_same, is_scalar, is_untyped, is_bounded, has_value, is_nil}
 use Rattle.type_table.specs.Faults.{demand, K1, K2, K6}
 use Rattle.type_table.specs.Entries.{entry_of, integer, boolean, denotes_type, marked, is_complete, same_word}
 use Rattle.type_table.specs.Statics.{is_alone}
@@ -134,12 +135,12 @@ is_composite view.Fields = true
 is_composite (view.Elements low high element) = true
 is_composite _ = false
 
--- An expression of a type of its own has the type that is demanded.
+-- An expression of a type of its own has the type that is demanded, or its type isn't known.
 abbrev pub is_of : Known → ℕ → Own → Bool
 is_of known want own.Unknown = true
 is_of known want own.Demanding = true
 is_of known want own.Text = false
-is_of known want (own.Of t) = nat_eq (base known.table t) (base known.table want)
+is_of known want (own.Of t) = is_untyped known.table t || nat_eq (base known.table t) (base known.table want)
 
 abbrev pub is_number : Tree → Bool
 is_number (Number p n) = true
@@ -149,9 +150,10 @@ abbrev pub is_object : Reading → Bool
 is_object (reading.Place t) = true
 is_object _ = false
 
-abbrev pub is_unknown : Own → Bool
-is_unknown own.Unknown = true
-is_unknown _ = false
+abbrev pub is_unknown : Known → Own → Bool
+is_unknown known own.Unknown = true
+is_unknown known (own.Of t) = is_untyped known.table t
+is_unknown known _ = false
 
 abbrev pub is_demanding : Own → Bool
 is_demanding own.Demanding = true
@@ -173,7 +175,7 @@ own_owning known _ = false
 
 -- Two operands of `=` or `/=`, one of them `null`: the other is a name of an object of an access type.
 abbrev pub is_access_place : Context → Reading → Bool
-is_access_place c (reading.Place t) = is_access (seen c t)
+is_access_place c (reading.Place t) = is_untyped c.known.table t || is_access (seen c t)
 is_access_place c reading.Off = true
 is_access_place c _ = false
 
@@ -189,10 +191,11 @@ abbrev pub scalar_own : Context → Own → Bool
 scalar_own c own.Unknown = true
 scalar_own c own.Demanding = false
 scalar_own c own.Text = false
-scalar_own c (own.Of t) = is_scalar (seen c t)
+scalar_own c (own.Of t) = is_untyped c.known.table t || is_scalar (seen c t)
 
 abbrev pub one_type : Known → Own → Own → Bool
-one_type known (own.Of s) (own.Of t) = nat_eq (base known.table s) (base known.table t)
+one_type known (own.Of s) (own.Of t) =
+    is_untyped known.table s || (is_untyped known.table t || nat_eq (base known.table s) (base known.table t))
 one_type known _ _ = true
 
 unfoldable pub compares : Context → Operator → Tree → Tree → Bool
@@ -312,15 +315,26 @@ reading_faults c p d loose given (reading.Call f) = demand 8 p (not c.starts)
 reading_faults c p d loose given (reading.Image t) = demand 1 p (is_complete c.known d p)
 reading_faults c p d loose given reading.EndOfFile = demand 3 p (is_nil given)
 
--- The sentences on an aggregate as a whole.
-abbrev pub fits_aggregate : View → List Component → List Given → Bool
-fits_aggregate view.Fields cs given = associates (map (λ c. c.name) cs) given
-fits_aggregate (view.Elements low high e) cs given = all_by_position given && nat_eq (length given) (span low high)
-fits_aggregate _ cs given = true
+-- The sentences on an aggregate as a whole. An array whose bounds aren't known has no count of
+-- elements.
+abbrev pub fits_aggregate : Bool → View → List Component → List Given → Bool
+fits_aggregate bounded view.Fields cs given = associates (map (λ c. c.name) cs) given
+fits_aggregate bounded (view.Elements low high e) cs given =
+    all_by_position given && (not bounded || nat_eq (length given) (span low high))
+fits_aggregate bounded _ cs given = true
 
 abbrev pub fits_others : View → Bool
 fits_others view.Fields = false
 fits_others _ = true
+
+-- That of a type that isn't known may have any parts.
+abbrev pub aggregates : Context → ℕ → List Given → Bool
+aggregates c want given =
+    is_untyped c.known.table want
+    || fits_aggregate (is_bounded c.known.table want) (seen c want) (fields c.known.table want) given
+
+abbrev pub repeats : Context → ℕ → Bool
+repeats c want = is_untyped c.known.table want || fits_others (seen c want)
 
 abbrev pub no_component : Component
 no_component = record { name = []; of = integer }
@@ -334,6 +348,13 @@ part_type _ cs i w = integer
 abbrev pub element_type : View → ℕ
 element_type (view.Elements low high e) = e
 element_type _ = integer
+
+-- What stands for the parts of a type that isn't known has no known type either.
+abbrev pub repeated_type : Context → ℕ → ℕ
+repeated_type c want = if is_untyped c.known.table want then want else element_type (seen c want)
+
+abbrev pub parts_role : Context → ℕ → Role
+parts_role c want = if is_untyped c.known.table want then role.Every want else role.Parts want
 
 abbrev pub is_in : Mode → Bool
 is_in mode.In = true
@@ -372,10 +393,14 @@ allowed c at (Named p d rest) = if is_object (reading_of c d rest) then takes_na
 allowed c at (Parens p e) = false
 allowed c at e = true
 
+-- A type that isn't known demands nothing.
+abbrev pub suits : Context → ℕ → Tree → Bool
+suits c want e = is_untyped c.known.table want || fits c want e
+
 -- The sentences on an expression where a type is demanded, at its first token.
 abbrev pub around : Context → Where → ℕ → Tree → List Fault
 around c at want e =
-    demand 1 (position e) (fits c want e)
+    demand 1 (position e) (suits c want e)
     ++ demand 5 (position e) (not (is_owning c.known.table want) || allowed c at e)
 
 -- A variable is demanded: an `out` or `in out` actual, that of Get or of a deallocation.
@@ -412,7 +437,8 @@ traversed_value c p own = demand 1 p (reading_access c own) ++ (demand 5 p (not 
 
 abbrev pub traversed_name : Context → ℕ → Pos → Reading → List Fault
 traversed_name c want p reading.Off = []
-traversed_name c want p (reading.Place t) = demand 1 p (is_access (seen c t)) ++ demand 6 p (traverses c want t)
+traversed_name c want p (reading.Place t) =
+    if is_untyped c.known.table t then [] else demand 1 p (is_access (seen c t)) ++ demand 6 p (traverses c want t)
 traversed_name c want p r = traversed_value c p (own_of c.known r)
 
 abbrev pub traversed_other : Context → ℕ → Tree → List Fault
@@ -467,7 +493,7 @@ is_loose c _ i w = false
 
 -- An operand of `&`.
 abbrev pub around_string : Context → Tree → List Fault
-around_string c e = demand 1 (position e) (is_string (own_type c e) || is_unknown (own_type c e))
+around_string c e = demand 1 (position e) (is_string (own_type c e) || is_unknown c.known (own_type c e))
 
 abbrev pub way_of : Known → ℕ → Entry → Way
 way_of known d (entry.Object o) = way.Along o.of
@@ -513,10 +539,10 @@ unfoldable mutual
   inside c loose want (Binary p op a b) =
       around_operands c p op a b ++ (inside c false (operand_type op) a ++ inside c false (operand_type op) b)
   inside c loose want (Aggregate p args) =
-      demand 4 p (fits_aggregate (seen c want) (fields c.known.table want) (given_names args)) ++ arguments c (role.Parts want) 0 args
+      demand 4 p (aggregates c want (given_names args)) ++ arguments c (parts_role c want) 0 args
   inside c loose want (Others p e) =
-      demand 4 p (fits_others (seen c want))
-      ++ (around c stands.AfterOthers (element_type (seen c want)) e ++ inside c false (element_type (seen c want)) e)
+      demand 4 p (repeats c want)
+      ++ (around c stands.AfterOthers (repeated_type c want) e ++ inside c false (repeated_type c want) e)
   inside c loose want (New p m v) = mark_faults c.known m ++ arguments c (role.Allocated (marked c.known m)) 0 v
   inside c loose want _ = []
 

@@ -1,7 +1,7 @@
 -- What the declarations of a program are, gathered in the order of the text: each needs those before
 -- it, and the full types of those that are completed later (docs/LANGUAGE.md, "Types"; Ada 2012, 3
 -- and 6.1). A full type takes the place of the incomplete or private type that it completes.
-use Rattle.std.specs.Prelude.{ℕ, ◌+◌, ◌-◌, Bool, true, false, ◌&&◌, List, [], ◌∷◌, ◌++◌, length, set, nat_eq, Option, Some, None, is_none, ℤ, pos, negsuc, if◌then◌else◌}
+use Rattle.std.specs.Prelude.{ℕ, ◌+◌, ◌-◌, Bool, true, false, not, ◌&&◌, ◌||◌, List, [], ◌∷◌, ◌++◌, length, set, nat_eq, Option, Some, None, is_none, ℤ, pos, negsuc, if◌then◌else◌}
 use Rattle.spark_base.specs.declared.position.Pos.{Pos}
 use Rattle.place_names.specs.declared.act.Mode.{Mode}
 use Rattle.resolved_tree.specs.Trees.{Tree, Named, Argument, NoMore, More, nowhere, Code, Declared, Plain, Anonymous, Bounds, Marked, Constrained, Enumeration, Record, Components, Array, Access, Incomplete, Private, TypeDecl, Subtype, ConstrainedSubtype, Objects, Numbers, Instance, Formals, Front, SubDecl, SubBody, Package, PackageBody, If, Branch, Case, When, Loop, While, For, Block}
@@ -20,7 +20,7 @@ use Rattle.type_table.specs.declared.table.Entry.TheVariants as entry
 use Rattle.type_table.specs.declared.table.Known.{Known}
 use Rattle.type_table.specs.declared.judgement.View.{View}
 use Rattle.type_table.specs.declared.judgement.View.TheVariants as view
-use Rattle.type_table.specs.Types.{info, full, base, is_scalar}
+use Rattle.type_table.specs.Types.{info, full, base, is_scalar, is_bounded, is_untyped, untyped}
 use Rattle.type_table.specs.Entries.{entry_of, integer, marked, denotes_type, same_word}
 use Rattle.type_table.specs.Names.{Context}
 use Rattle.type_table.specs.Statics.{is_static, value, is_sound, value_as}
@@ -62,7 +62,7 @@ abbrev pub with_type : ℕ → Info → Context → Context
 with_type d i c = with_entry d entry.Type (with_info d i c)
 
 abbrev pub own_info : Shape → ℕ → Info
-own_info s d = record { shape = s; base = d; parent = None; seen_in = None; completed = None }
+own_info s d = record { shape = s; base = d; parent = None; seen_in = None; completed = None; bounded = true }
 
 -- The type of an object or a result: that of its mark, or the anonymous one of its own declaration.
 abbrev pub indicated : Known → ℕ → Code → ℕ
@@ -90,10 +90,13 @@ awaited_info c d = own_info (info c.known.table d).shape d
 abbrev pub is_bound : Context → ℕ → Tree → Bool
 is_bound c b e = is_static c e && is_sound b (value c e)
 
+abbrev pub are_static_bounds : Context → ℕ → Tree → Tree → Bool
+are_static_bounds c b low high = is_bound c b low && is_bound c b high
+
 -- The bounds of a range of a type. Where they break K1 or K7, the range has one value.
 abbrev pub bound_pair : Context → ℕ → Tree → Tree → ℤ × ℤ
 bound_pair c b low high =
-    if is_bound c b low && is_bound c b high
+    if are_static_bounds c b low high
     then (known_value (value c low), known_value (value c high)) else (pos 1, pos 1)
 
 abbrev pub whole_bounds : View → ℤ × ℤ
@@ -105,6 +108,18 @@ array_bounds c (Bounds low high) = bound_pair c integer low high
 array_bounds c (Constrained m low high) = bound_pair c integer low high
 array_bounds c (Marked m) = whole_bounds (full c.known.table (marked c.known m))
 array_bounds c _ = (pos 1, pos 1)
+
+abbrev pub is_whole : View → Bool
+is_whole (view.Whole low high) = true
+is_whole _ = false
+
+-- Whether the bounds of an array are known: they break neither K1 nor K7, nor do those of the subtype
+-- in a mark.
+abbrev pub is_bounded_range : Context → Code → Bool
+is_bounded_range c (Bounds low high) = are_static_bounds c integer low high
+is_bounded_range c (Constrained m low high) = are_static_bounds c integer low high
+is_bounded_range c (Marked m) = is_whole (full c.known.table (marked c.known m)) && is_bounded c.known.table (marked c.known m)
+is_bounded_range c _ = false
 
 -- The components of a list of identifiers with one mark.
 abbrev pub component_group : ℕ → Code → List Component
@@ -125,6 +140,14 @@ defined c (Record components) = shape.Fields (component_list c.known components)
 defined c (Array range m) = shape.Elements (array_bounds c range).0 (array_bounds c range).1 (marked c.known m)
 defined c (Access m) = shape.Access (marked c.known m) false true
 defined c _ = shape.Fields []
+
+-- Whether it is asked which fault is told. Else the bounds of each range count as known.
+abbrev pub is_asked : Context → Bool
+is_asked c = is_untyped c.known.table untyped
+
+abbrev pub has_bounds : Context → Code → Bool
+has_bounds c (Array range m) = not (is_asked c) || is_bounded_range c range
+has_bounds c _ = true
 
 abbrev pub with_literals : ℕ → ℕ → Code → Context → Context
 with_literals t n (More d rest) c = with_literals t (n + 1) rest (with_entry (declared_number d) (entry.Literal t n) c)
@@ -147,6 +170,7 @@ full_info c d def end = record {
   parent = None;
   seen_in = (info c.known.table d).seen_in;
   completed = completion (info c.known.table d).completed end;
+  bounded = has_bounds c def;
 }
 
 abbrev pub natural_of : ℤ → ℕ
@@ -159,13 +183,14 @@ constrained_shape (view.Whole low high) b = shape.Whole b.0 b.1
 constrained_shape (view.Listed low high) b = shape.Listed [] (natural_of b.0) (natural_of b.1)
 constrained_shape _ b = shape.Whole b.0 b.1
 
-abbrev pub subtype_info : Known → ℕ → Shape → Info
-subtype_info known parent s = record {
+abbrev pub subtype_info : Known → ℕ → Shape → Bool → Info
+subtype_info known parent s bounded = record {
   shape = s;
   base = base known.table parent;
   parent = Some parent;
   seen_in = None;
   completed = None;
+  bounded = bounded;
 }
 
 -- What a subtype without a constraint is the same as.
@@ -353,11 +378,12 @@ gather (TypeDecl d def end) c =
 gather (Subtype d m) c =
     with_type (declared_number d)
     (subtype_info c.known (marked c.known m)
-    (shape.Same (meant_by (info c.known.table (marked c.known m)).shape (marked c.known m)))) c
+    (shape.Same (meant_by (info c.known.table (marked c.known m)).shape (marked c.known m))) true) c
 gather (ConstrainedSubtype d m low high) c =
     with_type (declared_number d)
     (subtype_info c.known (marked c.known m)
-    (constrained_shape (full c.known.table (marked c.known m)) (bound_pair c (base c.known.table (marked c.known m)) low high))) c
+    (constrained_shape (full c.known.table (marked c.known m)) (bound_pair c (base c.known.table (marked c.known m)) low high))
+    (not (is_asked c) || are_static_bounds c (base c.known.table (marked c.known m)) low high)) c
 gather (Objects ids constant i v) c = each (with_object constant i (constant_value c constant v)) ids c
 gather (Numbers ids e) c = each (with_number (initial_value c e)) ids c
 gather (Instance d m args) c = with_entry (declared_number d) (entry.Instance (instance_type args)) c

@@ -16,7 +16,7 @@ use Rattle.type_table.specs.declared.judgement.Next.{Next}
 use Rattle.type_table.specs.declared.judgement.Next.TheVariants.{Goes, Gives, Stops}
 use Rattle.type_table.specs.declared.judgement.Reading.{Reading}
 use Rattle.type_table.specs.declared.judgement.Reading.TheVariants as reading
-use Rattle.type_table.specs.Types.{view_of, fields, base, named}
+use Rattle.type_table.specs.Types.{Table, view_of, fields, base, named, untyped, is_untyped}
 use Rattle.type_table.specs.Entries.{entry_of, integer, same_word}
 
 -- Where an expression stands.
@@ -90,11 +90,18 @@ abbrev pub through : View → ℕ → ℕ
 through (view.Access designated constant named) t = designated
 through _ t = t
 
+-- Behind a place whose type isn't known stands another such place.
+abbrev pub reached : Table → ℕ → Next → Next
+reached table t next = if is_untyped table t then Goes untyped else next
+
 unfoldable pub step : Context → Tree → ℕ → Next
-step c (Selected w) t = selected w (seen c (through (seen c t) t)) (fields c.known.table (through (seen c t) t))
-step c (Applied args) t = indexed (is_index args) (seen c (through (seen c t) t))
-step c All t = dereferenced (seen c t)
-step c (Attr a) t = array_attribute a (seen c t)
+step c (Selected w) t =
+    reached c.known.table (through (seen c t) t)
+    (selected w (seen c (through (seen c t) t)) (fields c.known.table (through (seen c t) t)))
+step c (Applied args) t =
+    reached c.known.table (through (seen c t) t) (indexed (is_index args) (seen c (through (seen c t) t)))
+step c All t = reached c.known.table t (dereferenced (seen c t))
+step c (Attr a) t = reached c.known.table t (array_attribute a (seen c t))
 step c _ t = Stops
 
 -- ---- names

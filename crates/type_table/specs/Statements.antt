@@ -22,7 +22,7 @@ use Rattle.type_table.specs.declared.judgement.Own.{Own}
 use Rattle.type_table.specs.declared.judgement.Own.TheVariants as own
 use Rattle.type_table.specs.declared.judgement.Where.TheVariants as stands
 use Rattle.type_table.specs.declared.judgement.Role.TheVariants as role
-use Rattle.type_table.specs.Types.{full, base, is_scalar, is_same, is_nil}
+use Rattle.type_table.specs.Types.{full, base, is_scalar, is_same, is_untyped, is_nil}
 use Rattle.type_table.specs.Faults.{demand, K1, K2, K3, K6}
 use Rattle.type_table.specs.Entries.{entry_of, integer, boolean, denotes_type, marked, is_complete, is_type}
 use Rattle.type_table.specs.Names.{Context, seen, reading_of, is_end}
@@ -35,7 +35,8 @@ use Rattle.type_table.specs.Expressions.{Given, is_unknown, own_type, own_of, ar
 abbrev pub designates : Context → ℕ → Own → Bool
 designates c want own.Unknown = true
 designates c want (own.Of t) =
-    is_access (seen c t) && is_same c.known.table (designated (full c.known.table t)) (designated (full c.known.table want))
+    is_untyped c.known.table t
+    || (is_access (seen c t) && is_same c.known.table (designated (full c.known.table t)) (designated (full c.known.table want)))
 designates c want _ = false
 
 -- What is assigned to an object of an anonymous access type, or returned as one, has this type. `null` and an allocator have the
@@ -209,7 +210,7 @@ is_array _ = false
 
 abbrev pub ranged : Context → Entry → ℕ → Reading → Bool
 ranged c entry.Type d reading.Off = is_array (seen c d)
-ranged c _ d (reading.Place t) = is_array (seen c t)
+ranged c _ d (reading.Place t) = is_untyped c.known.table t || is_array (seen c t)
 ranged c _ d _ = false
 
 abbrev pub no_suffix : Tree → Bool
@@ -346,6 +347,6 @@ leaves_gap c e choices =
 
 abbrev pub coverage : Context → Pos → Tree → List Code → List Fault
 coverage c p e choices =
-    if is_unknown (own_type c e) || is_demanding (own_type c e) || not (scalar_own c (own_type c e)) then []
+    if is_unknown c.known (own_type c e) || is_demanding (own_type c e) || not (scalar_own c (own_type c e)) then []
     else doubled [] (flat_map (cover_of c (type_or_integer (own_type c e))) choices)
     ++ demand 4 p (any_others choices || not (all_sound c (type_or_integer (own_type c e)) choices) || not (leaves_gap c e choices))

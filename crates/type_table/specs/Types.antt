@@ -18,7 +18,7 @@ abbrev pub Table : Type 0
 Table = List Info
 
 abbrev pub no_type : Info
-no_type = record { shape = shape.Fields []; base = 0; parent = None; seen_in = None; completed = None }
+no_type = record { shape = shape.Fields []; base = 0; parent = None; seen_in = None; completed = None; bounded = true }
 
 abbrev pub is_nil : {A : Type 0} → List A → Bool
 is_nil [] = true
@@ -60,6 +60,20 @@ base_found (Some i) = i.base
 -- The type that a type is a subtype of.
 abbrev pub base : Table → ℕ → ℕ
 base table t = base_found (slice_get table t)
+
+-- What stands for a type where a mark denotes none: a declaration that isn't one, the literal False. It
+-- is a subtype of Integer, or where it is asked which fault is told, a type that isn't known: no sentence
+-- is broken by what has it.
+abbrev pub untyped : ℕ
+untyped = 4
+
+-- A type that isn't known: that one, or a subtype of it.
+abbrev pub is_untyped : Table → ℕ → Bool
+is_untyped table t = nat_eq (base table t) untyped
+
+-- The bounds in the definition of a type are known, where it has some.
+abbrev pub is_bounded : Table → ℕ → Bool
+is_bounded table t = (info table (named table t)).bounded
 
 abbrev pub components_of : Shape → List Component
 components_of (shape.Fields components) = components
@@ -157,9 +171,10 @@ same_bounds (view.Whole a b) (view.Whole c d) = int_eq a c && int_eq b d
 same_bounds (view.Listed a b) (view.Listed c d) = nat_eq a c && nat_eq b d
 same_bounds _ _ = true
 
--- Two types are one type with the same bounds.
+-- Two types are one type with the same bounds, or one of them isn't known.
 abbrev pub is_same : Table → ℕ → ℕ → Bool
-is_same table s t = nat_eq (base table s) (base table t) && same_bounds (full table s) (full table t)
+is_same table s t =
+    is_untyped table s || (is_untyped table t || (nat_eq (base table s) (base table t) && same_bounds (full table s) (full table t)))
 
 -- A scalar subtype whose low bound is above its high bound has no value.
 abbrev pub has_value : View → Bool

@@ -13,7 +13,7 @@ use Rattle.type_table.specs.declared.table.Entry.TheVariants as entry
 use Rattle.type_table.specs.declared.judgement.Fault.{Fault}
 use Rattle.type_table.specs.declared.judgement.View.{View}
 use Rattle.type_table.specs.declared.judgement.View.TheVariants as view
-use Rattle.type_table.specs.Types.{Table, full, words, parts, no_type, is_nil}
+use Rattle.type_table.specs.Types.{Table, full, words, parts, no_type, untyped, is_nil}
 use Rattle.type_table.specs.Faults.{demand, first}
 use Rattle.type_table.specs.Entries.{integer, boolean}
 use Rattle.type_table.specs.Names.{Context}
@@ -85,12 +85,27 @@ whole low = record {
   parent = None;
   seen_in = None;
   completed = None;
+  bounded = true;
 }
 
-abbrev pub predefined_types : List Info
-predefined_types =
+-- What stands for a type where a mark denotes none: Integer, or where it is asked which fault is told,
+-- no type that is known.
+abbrev pub no_mark : Bool → Info
+no_mark false = record {
+  shape = shape.Same integer;
+  base = integer;
+  parent = Some integer;
+  seen_in = None;
+  completed = None;
+  bounded = true;
+}
+no_mark true = own_info (shape.Fields []) untyped
+
+abbrev pub predefined_types : Bool → List Info
+predefined_types asked =
     whole (negsuc 2147483647) ∷ whole (pos 0) ∷ whole (pos 1)
-    ∷ own_info (shape.Listed (codes "False" ∷ codes "True" ∷ []) 0 1) boolean ∷ []
+    ∷ own_info (shape.Listed (codes "False" ∷ codes "True" ∷ []) 0 1) boolean
+    ∷ no_mark asked ∷ []
 
 abbrev pub predefined_entries : List Entry
 predefined_entries =
@@ -100,10 +115,10 @@ predefined_entries =
     ∷ entry.Predefined predefined.Get ∷ entry.Predefined predefined.Deallocation ∷ []
 
 -- With as many declarations as there are, the predefined ones included.
-abbrev pub at_first : ℕ → Known
-at_first count = record {
+abbrev pub at_first : Bool → ℕ → Known
+at_first asked count = record {
   entries = predefined_entries ++ replicate (count - 15) entry.Nothing;
-  table = predefined_types ++ replicate (count - 4) no_type;
+  table = predefined_types asked ++ replicate (count - 5) no_type;
 }
 
 abbrev pub outside : Known → Context
@@ -122,12 +137,15 @@ gather_units (u ∷ rest) c = gather_units rest (gather u c)
 
 -- All that is known behind the units of a program, where this table is known before them.
 abbrev pub known_from : Program → Table → Known
-known_from p table = (gather_units p.units (outside (record (at_first p.count) { table = table }))).known
+known_from p table = (gather_units p.units (outside (record (at_first false p.count) { table = table }))).known
 
 -- All that is known behind the program. Its units are gathered twice: where the first turn meets the
 -- use of a type that is incomplete or private there, the second one knows its full type.
+abbrev pub known_with : Bool → Program → Known
+known_with asked p = known_from p (known_from p (at_first asked p.count).table).table
+
 unfoldable pub known_of : Program → Known
-known_of p = known_from p (known_from p (at_first p.count).table).table
+known_of p = known_with false p
 
 -- The main procedure has no formals.
 abbrev pub is_formless : Code → Bool
@@ -165,7 +183,13 @@ decided None None = None
 abbrev pub fault_known : Known → List Code → Option TypeFault
 fault_known known units = decided (first (type_sizes known units)) (first (sentence_faults known units))
 
+-- Of a program that breaks a sentence, the first fault is told that doesn't follow from another one.
+abbrev pub told : Option TypeFault → Option TypeFault → Option TypeFault
+told None found = None
+told (Some f) None = Some f
+told (Some f) (Some g) = Some g
+
 -- The first position where Y1, Y2 or Y3 applies, or else the first where a sentence is broken; at
 -- one position the lower number decides.
 unfoldable pub type_fault : Program → Option TypeFault
-type_fault p = fault_known (known_of p) p.units
+type_fault p = told (fault_known (known_of p) p.units) (fault_known (known_with true p) p.units)

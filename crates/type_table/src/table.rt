@@ -66,6 +66,9 @@ pub struct Info {
     /// Where it was declared incomplete: the end of its full type, or its identifier where none
     /// has come (Ada 2012, 3.10.1).
     pub completed: Option<Pos>,
+    /// Whether the bounds in its definition are known, where it has some: those of an array or of a
+    /// scalar subtype that are static and of the type that is demanded.
+    pub bounded: bool,
 }
 
 /// A static value (Ada 2012, 4.9): its type and its number or position. That of an expression which
@@ -119,7 +122,7 @@ pub struct FormalInfo {
     pub name: Word,
     /// Its mode.
     pub mode: Mode,
-    /// Its type: Integer where its mark denotes none.
+    /// Its type: none that is known where its mark denotes none.
     pub of: u32,
     /// Whether its mark denotes a type.
     pub typed: bool,

@@ -14,3 +14,7 @@ pub mod WrongSizes
 pub mod TypedSources
 -- types that are used before their full definition
 pub mod FullTypes
+-- what follows from a fault
+pub mod UnknownTypes
+-- laws of types that aren't known
+pub mod UnknownLaws

@@ -1,14 +1,14 @@
 -- What is known of files that break no sentence on types.
-use Rattle.std.proofs.Common.{◌≡◌, refl, sym, ap, ◌∙◌, subst, ℕ, List, length, Option, None, Result, Ok, Err}
+use Rattle.std.proofs.Common.{◌≡◌, true, refl, sym, ap, ◌∙◌, subst, ℕ, List, length, Option, None, Result, Ok, Err}
 use Rattle.ada_tree.specs.declared.unit.SourceUnit.{SourceUnit}
 use Rattle.name_events.specs.Denotes.{decl_infos}
 use Rattle.name_events.specs.Identified.{identified}
-use Rattle.resolved_tree.specs.Trees.{Code}
+use Rattle.resolved_tree.specs.Trees.{Code, Program}
 use Rattle.type_table.specs.declared.table.Known.{Known}
 use Rattle.type_table.specs.declared.refusal.TypeRefusal.{TypeRefusal}
 use Rattle.type_table.specs.Refusals.{Judges}
 use Rattle.type_table.specs.Types.{Table}
-use Rattle.type_table.specs.Whole.{TypeFault, fault_known, known_of, type_fault}
+use Rattle.type_table.specs.Whole.{TypeFault, fault_known, known_of, known_with, told, type_fault}
 use Rattle.type_rules.specs.Programs.{program_of}
 use Rattle.type_rules.proofs.Faults.{with_units, program_is}
 use Rattle.type_sizes.specs.Limits.{AreWithin}
@@ -32,7 +32,10 @@ module _ (files : List (List SourceUnit)) (known : Known) (units : List Code) (c
 
   pub no_fault : type_fault (program_of files) ≡ None
   unfolding type_fault
-  no_fault = sym (λ j. fault_known (known_is j) (lowered j)) ∙ judged
+  no_fault =
+      let program : Program = program_of files in
+      sym (λ j. told (fault_known (known_is j) (lowered j)) (fault_known (known_with true program) program.units))
+      ∙ ap (λ (f : Option TypeFault). told f (fault_known (known_with true program) program.units)) judged
 
   pub within : AreWithin known.table
   within =

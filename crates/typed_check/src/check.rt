@@ -10,7 +10,7 @@ use crate::typed::Typed;
 use name_resolve::Resolved;
 use resolved_tree::Rows;
 use std::alloc::Global;
-use type_rules::{check_units, lowered, settled};
+use type_rules::{check_units, lowered, settled, told};
 use type_sizes::type_table;
 use type_table::TypeRefusal;
 use typed_programs::{ProgramParts, typed_program};
@@ -40,7 +40,7 @@ pub fn type_check(alloc: Global, resolved: Resolved) -> Result<Typed, TypeRefusa
     let units = lowered.as_slice();
     let settled = settled(alloc, &rows, units, count)?;
     if let Err(refusal) = check_units(alloc, &rows, &settled, units) {
-        return Err(refusal);
+        return Err(told(alloc, &rows, units, count, refusal));
     }
     let parts = typed_program(alloc, &rows, settled.known(), units)?;
     let table = type_table(alloc, settled)?;

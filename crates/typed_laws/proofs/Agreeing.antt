@@ -28,6 +28,11 @@ whole_number v = by (is_integer v) refl
 
 -- ---- lists of faults
 
+-- what holds where a type isn't known, or else
+pub of_known : (b a : Bool) → b ≡ false → b || a ≡ true → a ≡ true
+of_known false a is e = e
+of_known true a is e = cc
+
 pub nil_left : (a b : List Fault) → a ++ b ≡ [] → a ≡ []
 nil_left [] b e = refl
 nil_left (x ∷ a) b e = cc

@@ -1,5 +1,5 @@
 -- Each form of expression has the type that its place takes, where its parts have.
-use Rattle.std.proofs.Common.{◌≡◌, refl, sym, ap, ◌∙◌, subst, inl, ℕ, Bool, true, false, not, ◌||◌, List, [], ◌++◌, pos, negsuc, Option, Some, None, if◌then◌else◌}
+use Rattle.std.proofs.Common.{◌≡◌, refl, sym, ap, ◌∙◌, subst, inl, ℕ, Bool, true, false, not, nat_eq, ◌&&◌, ◌||◌, List, [], ◌++◌, pos, negsuc, Option, Some, None, if◌then◌else◌}
 use Rattle.std.proofs.lemmas.Bool.{eqb-true}
 use Rattle.spark_base.specs.declared.position.Pos.{Pos}
 use Rattle.resolved_tree.specs.declared.operator.UnaryOperator.{UnaryOperator}
@@ -19,19 +19,19 @@ use Rattle.type_table.specs.declared.judgement.Own.{Own}
 use Rattle.type_table.specs.declared.judgement.Own.TheVariants as own
 use Rattle.type_table.specs.declared.judgement.Where.{Where}
 use Rattle.type_table.specs.declared.judgement.Where.TheVariants as stands
-use Rattle.type_table.specs.Types.{Table, is_owning, is_scalar, base, shape_of, view_of}
+use Rattle.type_table.specs.Types.{Table, is_owning, is_scalar, is_same, is_untyped, same_bounds, base, full, shape_of, view_of}
 use Rattle.type_table.specs.Entries.{entry_of, integer, boolean, is_type, denotes_type, type_of_mark, type_of_entry}
 use Rattle.type_table.specs.Faults.{demand}
 use Rattle.type_table.specs.Statics.{is_alone}
 use Rattle.type_table.specs.Names.{Context, seen, reading_of}
-use Rattle.type_table.specs.Expressions.{Given, own_of, own_type, fits, inside, around, is_parens, allowed, is_of, is_access, own_owning, unary_type, operand_type, is_arithmetic, designated, reading_faults, given_names, call_arguments}
+use Rattle.type_table.specs.Expressions.{Given, own_of, own_type, fits, suits, inside, around, is_parens, allowed, is_of, is_access, own_owning, unary_type, operand_type, is_arithmetic, designated, reading_faults, given_names, call_arguments}
 use Rattle.typed_tree.specs.Trees.{TypedTree}
 use Rattle.typed_tree.specs.Trees as typed
 use Rattle.typed_tree.specs.declared.object.Object.{Object}
 use Rattle.typed_tree.specs.Expressions.{Site, typed_expression}
 use Rattle.flow_paths.specs.Objects.{Signature}
 use Rattle.typed_laws.specs.Fine.{counts, lists, Has, Laws, Denotes}
-use Rattle.typed_laws.proofs.Agreeing.{whole_number, nil_left, nil_right, holds, either_left, either_right, not_true, retyped}
+use Rattle.typed_laws.proofs.Agreeing.{of_known, and_left, whole_number, nil_left, nil_right, holds, either_left, either_right, not_true, retyped}
 use Rattle.typed_laws.proofs.Steps.{typing, seen_access}
 use Rattle.typed_laws.proofs.Named.{Fine, AreFineSuffixes, named_has}
 
@@ -117,8 +117,9 @@ module _ (s : Site) (objects : List Object) (subs : List Signature) (made : ℕ 
   pub placed : (e : Tree) (at : Where) (want : ℕ) → Good e → made want → around s.context at want e ≡ [] → inside s.context false want e ≡ []
       → Typed want (typed_expression s want e)
   placed e at want good m none within =
-      let fit = holds 1 (position e) (fits s.context want e) (nil_left (demand 1 (position e) (fits s.context want e)) _ none) in
-      let rule = holds 5 (position e) (not (is_owning table want) || allowed s.context at e) (nil_right (demand 1 (position e) (fits s.context want e)) _ none) in
+      let suit = holds 1 (position e) (suits s.context want e) (nil_left (demand 1 (position e) (suits s.context want e)) _ none) in
+      let fit = of_known (is_untyped table want) (fits s.context want e) (laws.certain want m) suit in
+      let rule = holds 5 (position e) (not (is_owning table want) || allowed s.context at e) (nil_right (demand 1 (position e) (suits s.context want e)) _ none) in
       good.by_place want m fit within (owning_plain s.context at e (is_owning table want) rule)
 
   -- One that has a type of its own.
@@ -136,7 +137,17 @@ module _ (s : Site) (objects : List Object) (subs : List Signature) (made : ℕ 
           let f : is_of s.context.known want (own.Of t) ≡ true = subst (λ z. is_of s.context.known want z ≡ true) is fit in
           let has = on want t is none in
           retyped (typing s objects subs made laws) laws.owns (typed_expression s want e) t want
-          (laws.same t want has.0 m (eqb-true (base table t) (base table want) f)) has.1
+          (laws.same t want has.0 m
+          (eqb-true (base table t) (base table want)
+          (of_known (is_untyped table t) (nat_eq (base table t) (base table want)) (laws.certain t has.0) f))) has.1
+
+  -- Types that are the same have one base.
+  pub one_base : (t u : ℕ) → made t → made u → is_same table t u ≡ true → base table t ≡ base table u
+  one_base t u m n same =
+      let bases = nat_eq (base table t) (base table u) && same_bounds (full table t) (full table u) in
+      let first = of_known (is_untyped table t) (is_untyped table u || bases) (laws.certain t m) same in
+      let last = of_known (is_untyped table u) bases (laws.certain u n) first in
+      eqb-true (base table t) (base table u) (and_left (nat_eq (base table t) (base table u)) _ last)
 
   number_own : (p : Pos) (n want t : ℕ) → own_type s.context (Number p n) ≡ own.Of t → made t × Typed t (typed_expression s want (Number p n))
   unfolding own_type typed_expression Has

@@ -12,20 +12,20 @@ use Rattle.type_table.specs.declared.judgement.Own.TheVariants as own
 use Rattle.type_table.specs.declared.judgement.Where.TheVariants as stands
 use Rattle.type_table.specs.declared.judgement.Role.TheVariants as role
 use Rattle.type_table.specs.declared.judgement.Way.TheVariants as way
-use Rattle.type_table.specs.Types.{is_owning, base, shape_of}
+use Rattle.type_table.specs.Types.{is_owning, is_untyped, base, shape_of}
 use Rattle.type_table.specs.Entries.{entry_of, integer, boolean}
 use Rattle.type_table.specs.Faults.{demand}
 use Rattle.type_table.specs.Names.{seen, step, led_on, along, is_end, indexed, is_index, through, of_entry, reading_of}
-use Rattle.type_table.specs.Expressions.{own_of, own_type, fits, inside, around, arguments, behind, within_suffix, next_type, is_parens, profile_of, result_type, way_of}
+use Rattle.type_table.specs.Expressions.{own_of, own_type, fits, suits, inside, around, arguments, behind, within_suffix, next_type, is_parens, profile_of, result_type, way_of}
 use Rattle.typed_tree.specs.Trees.{TypedTree}
 use Rattle.typed_tree.specs.declared.object.Object.{Object}
 use Rattle.typed_tree.specs.Expressions.{Site, object_number, sub_number, typed_expression, typed_first, typed_steps, typed_step, typed_name, object_type, value_of_type}
 use Rattle.flow_paths.specs.Objects.{Signature, object_at, sub_at}
 use Rattle.typed_laws.specs.Fine.{counts, lists, Has, Leads, Laws, Denotes}
-use Rattle.typed_laws.proofs.Agreeing.{whole_number, nil_left, nil_right, holds, agree_lists, scalar_owns, either_left}
+use Rattle.typed_laws.proofs.Agreeing.{of_known, whole_number, nil_left, nil_right, holds, agree_lists, scalar_owns, either_left}
 use Rattle.typed_laws.proofs.Readings.{no_place, place_along, call_of, value_of, seen_scalar}
 use Rattle.std.proofs.lemmas.Bool.{eqb-true}
-use Rattle.typed_laws.proofs.Steps.{typing, HasIndex, step_leads}
+use Rattle.typed_laws.proofs.Steps.{typing, HasIndex, known_next, step_leads, through_made}
 
 module _ (s : Site) (objects : List Object) (subs : List Signature) (made : ℕ → Type 0) (laws : Laws s.context.known made) where
   -- What is proved of an expression.
@@ -58,7 +58,8 @@ module _ (s : Site) (objects : List Object) (subs : List Signature) (made : ℕ 
   index_given (Argument None e NoMore) fine one none =
       let here = nil_left (around s.context stands.Elsewhere integer e) _ none in
       let more = nil_right (around s.context stands.Elsewhere integer e) _ none in
-      let fit = holds 1 (position e) (fits s.context integer e) (nil_left (demand 1 (position e) (fits s.context integer e)) _ here) in
+      let suit = holds 1 (position e) (suits s.context integer e) (nil_left (demand 1 (position e) (suits s.context integer e)) _ here) in
+      let fit = of_known (is_untyped s.context.known.table integer) (fits s.context integer e) (laws.certain integer laws.integers) suit in
       fine.0.by_place integer laws.integers fit (nil_left (inside s.context false integer e) _ more) (λ owns. let never = scalar_owns s.context.known.table integer laws.owns (either_left _ _ laws.whole) in cc)
   index_given args fine one none = cc
 
@@ -66,12 +67,15 @@ module _ (s : Site) (objects : List Object) (subs : List Signature) (made : ℕ 
   led w true v e = refl
   led w false v e = cc
 
-  suffix_given : (t v : ℕ) (a : Tree) → IsFineSuffix a → step s.context a t ≡ Goes v → within_suffix s.context (way.Along t) a ≡ []
+  suffix_given : (t v : ℕ) (a : Tree) → made t → IsFineSuffix a → step s.context a t ≡ Goes v → within_suffix s.context (way.Along t) a ≡ []
       → HasIndex s objects subs made laws a
   unfolding step within_suffix
-  suffix_given t v (Applied args) fine goes none =
-      index_given args fine (led (seen s.context (through (seen s.context t) t)) (is_index args) v goes) none
-  suffix_given t v a fine goes none = tt
+  suffix_given t v (Applied args) m fine goes none =
+      let q = through (seen s.context t) t in
+      let mq = through_made s objects subs made laws t (seen s.context t) refl m in
+      let next = known_next (is_untyped s.context.known.table q) (indexed (is_index args) (seen s.context q)) v (laws.certain q mq) goes in
+      index_given args fine (led (seen s.context q) (is_index args) v next) none
+  suffix_given t v a m fine goes none = tt
 
   led_place : (rest : Tree) (n : Next) (u : ℕ) → led_on (λ v. along s.context v rest) rest n ≡ reading.Place u
       → (v : ℕ) × (n ≡ Goes v) × (along s.context v rest ≡ reading.Place u)
@@ -87,7 +91,7 @@ module _ (s : Site) (objects : List Object) (subs : List Signature) (made : ℕ 
       let on = led_place rest (step s.context a t) u is in
       let v = on.0 in
       let goes = on.1 in
-      let index = suffix_given t v a fine.0 goes (nil_left (within_suffix s.context (way.Along t) a) _ none) in
+      let index = suffix_given t v a m fine.0 goes (nil_left (within_suffix s.context (way.Along t) a) _ none) in
       let one = step_leads s objects subs made laws t v a m goes in
       let next : next_type (step s.context a t) ≡ v = ap next_type goes in
       let later : behind s.context (way.Along v) rest ≡ [] =

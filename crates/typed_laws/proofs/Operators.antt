@@ -1,5 +1,5 @@
 -- Operators, and comparisons with null.
-use Rattle.std.proofs.Common.{◌≡◌, refl, sym, ap, ◌∙◌, subst, inl, inr, ℕ, Bool, true, false, ◌&&◌, ◌||◌, List, [], ◌++◌, if◌then◌else◌}
+use Rattle.std.proofs.Common.{◌≡◌, refl, sym, ap, ◌∙◌, subst, inl, inr, ℕ, Bool, true, false, ◌&&◌, ◌||◌, nat_eq, List, [], ◌++◌, if◌then◌else◌}
 use Rattle.std.proofs.lemmas.Bool.{eqb-true}
 use Rattle.spark_base.specs.declared.position.Pos.{Pos}
 use Rattle.resolved_tree.specs.declared.operator.Operator.{Operator}
@@ -14,18 +14,18 @@ use Rattle.type_table.specs.declared.judgement.Reading.TheVariants as reading
 use Rattle.type_table.specs.declared.judgement.Own.{Own}
 use Rattle.type_table.specs.declared.judgement.Own.TheVariants as own
 use Rattle.type_table.specs.declared.judgement.Where.TheVariants as stands
-use Rattle.type_table.specs.Types.{is_scalar, base, shape_of, full}
+use Rattle.type_table.specs.Types.{is_scalar, is_untyped, base, shape_of, full}
 use Rattle.type_table.specs.Entries.{integer, boolean}
 use Rattle.type_table.specs.Faults.{demand}
 use Rattle.type_table.specs.Names.{seen, reading_of}
-use Rattle.type_table.specs.Expressions.{own_of, own_type, inside, around, operand_type, is_arithmetic, is_logical, is_join, operator_gives, compares, scalar_own, one_type, is_null, is_access_name, is_access_place}
+use Rattle.type_table.specs.Expressions.{own_of, own_type, inside, around, operand_type, is_arithmetic, is_logical, is_join, operator_gives, compares, scalar_own, one_type, is_access, is_null, is_access_name, is_access_place}
 use Rattle.typed_tree.specs.Trees.{TypedTree}
 use Rattle.typed_tree.specs.Trees as typed
 use Rattle.typed_tree.specs.declared.object.Object.{Object}
 use Rattle.typed_tree.specs.Expressions.{Site, typed_expression, compared}
 use Rattle.flow_paths.specs.Objects.{Signature}
 use Rattle.typed_laws.specs.Fine.{is_plain, Has, Pointed, Laws, operator_type}
-use Rattle.typed_laws.proofs.Agreeing.{nil_left, nil_right, holds, either_left, either_right, retyped}
+use Rattle.typed_laws.proofs.Agreeing.{of_known, nil_left, nil_right, holds, either_left, either_right, retyped}
 use Rattle.typed_laws.proofs.Readings.{seen_scalar}
 use Rattle.typed_laws.proofs.Steps.{typing, seen_access}
 use Rattle.typed_laws.proofs.Cases.{Typed, Good, placed, from_own, operand_made, shape_view, is_access_view}
@@ -134,7 +134,8 @@ module _ (s : Site) (objects : List Object) (subs : List Signature) (made : ℕ 
       by (own.Of t) is =
           let f : scalar_own s.context (own.Of t) ≡ true = subst (λ z. scalar_own s.context z ≡ true) is scalar in
           let has = good.by_own want t is none in
-          record { t = t; is = is; is_made = has.0; scalar = scalar_full t f; has = has.1 }
+          let scalar = of_known (is_untyped s.context.known.table t) (is_scalar (seen s.context t)) (laws.certain t has.0) f in
+          record { t = t; is = is; is_made = has.0; scalar = scalar_full t scalar; has = has.1 }
 
   compared_has : (op : Operator) (a b : Tree) (t : ℕ) → Good_ a → Good_ b → is_plain op ≡ true → is_arithmetic op || is_logical op ≡ false → operator_gives op ≡ own.Of t
       → scalar_own s.context (own_type s.context a) && scalar_own s.context (own_type s.context b) && one_type s.context.known (own_type s.context a) (own_type s.context b) ≡ true
@@ -146,7 +147,10 @@ module _ (s : Site) (objects : List Object) (subs : List Signature) (made : ℕ 
       let right = operand (operand_type op) b gb tests.1 (nil_right (within op a) _ none) in
       let one : one_type s.context.known (own.Of left.t) (own.Of right.t) ≡ true =
       subst (λ z. one_type s.context.known z (own.Of right.t) ≡ true) left.is (subst (λ z. one_type s.context.known (own_type s.context a) z ≡ true) right.is tests.2) in
-      let base_same = eqb-true (base s.context.known.table left.t) (base s.context.known.table right.t) one in
+      let bases = nat_eq (base s.context.known.table left.t) (base s.context.known.table right.t) in
+      let first = of_known (is_untyped s.context.known.table left.t) (is_untyped s.context.known.table right.t || bases) (laws.certain left.t left.is_made) one in
+      let last = of_known (is_untyped s.context.known.table right.t) bases (laws.certain right.t right.is_made) first in
+      let base_same = eqb-true (base s.context.known.table left.t) (base s.context.known.table right.t) last in
       let agree = laws.same right.t left.t right.is_made left.is_made (sym base_same) in
       let same = gives_type op t gives in (
         subst made same (operand_made s objects subs made laws op).0,
@@ -168,8 +172,9 @@ module _ (s : Site) (objects : List Object) (subs : List Signature) (made : ℕ 
       → (own_of s.context.known r ≡ own.Unknown → ⊥) → is_access_place s.context r ≡ true → Pointed (typing s objects subs made laws) (typed_name s p d r steps actuals imaged)
   unfolding Has
   pointed_name p d (reading.Place t) steps actuals imaged on off is =
-      let found = is_access_view (seen s.context t) is in
       let has = on t refl in
+      let found = is_access_view (seen s.context t)
+      (of_known (is_untyped s.context.known.table t) (is_access (seen s.context t)) (laws.certain t has.0) is) in
       (has.1.0, found.0, found.1, found.2, seen_access s.context t found.0 found.1 found.2 found.3)
   pointed_name p d reading.Off steps actuals imaged on off is = absurd (off refl)
   pointed_name p d r steps actuals imaged on off is = cc

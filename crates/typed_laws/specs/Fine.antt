@@ -12,7 +12,7 @@ use Rattle.type_table.specs.declared.table.ObjectInfo.{ObjectInfo}
 use Rattle.type_table.specs.declared.table.Shape.{Shape}
 use Rattle.type_table.specs.declared.table.Shape.TheVariants as shape
 use Rattle.type_table.specs.declared.table.Known.{Known}
-use Rattle.type_table.specs.Types.{Table, shape_of, fields, base, full, is_owning, is_scalar, owns_of}
+use Rattle.type_table.specs.Types.{Table, shape_of, fields, base, full, is_owning, is_scalar, is_untyped, is_bounded, owns_of}
 use Rattle.type_table.specs.Entries.{entry_of, integer, boolean, same_word}
 use Rattle.type_table.specs.Expressions.{is_arithmetic, is_logical, operand_type, unary_type, profile_of}
 use Rattle.typed_tree.specs.Trees.{TypedTree}
@@ -127,6 +127,9 @@ pub record Laws (known : Known) (made : ℕ → Type 0) : Type 0 where
   pub object : (d : ℕ) (o : ObjectInfo) → entry_of known d ≡ entry.Object o → made o.of
   pub literal : (d t n : ℕ) → entry_of known d ≡ entry.Literal t n → made t × (lists (shape_of known.table t) ≡ true)
   pub typed : (d : ℕ) → entry_of known d ≡ entry.Type → made d
+  -- which type is meant is known, and so are the bounds of an array
+  pub certain : (t : ℕ) → made t → is_untyped known.table t ≡ false
+  pub bounded : (t : ℕ) → made t → is_bounded known.table t ≡ true
   pub result : (d t : ℕ) → (profile_of (entry_of known d)).result ≡ Some t → made t
   -- no two components of a record have one name, in any case of letters
   pub names : (t k : ℕ) (v : List ℕ) → k < length (fields known.table t) → same_word (get_or (fields known.table t) k no_component).name v ≡ true

@@ -12,7 +12,7 @@ use Rattle.typed_tree.specs.Programs.{text_io}
 use Rattle.typed_tree.specs.Printed.{printed}
 
 abbrev info : Shape → Info
-info s = record { shape = s; base = 0; parent = None; seen_in = None; completed = None }
+info s = record { shape = s; base = 0; parent = None; seen_in = None; completed = None; bounded = true }
 
 -- Integer, a row of them, a cell, a list, and a subtype of the cell
 abbrev table : List Info

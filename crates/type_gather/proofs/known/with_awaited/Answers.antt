@@ -1,4 +1,4 @@
-use Rattle.std.proofs.Common.{◌≡◌, ◌≤◌, length, set, None, sym, ap, subst, refl, arith, ◌∙◌}
+use Rattle.std.proofs.Common.{◌≡◌, ◌≤◌, true, length, set, None, sym, ap, subst, refl, arith, ◌∙◌}
 use Rattle.std.proofs.lemmas.List.{set_past}
 use Rattle.type_table.specs.declared.table.Info.{Info}
 use Rattle.type_table.specs.declared.table.Shape.{Shape}
@@ -19,6 +19,7 @@ returns-clause-table c =
       parent = None;
       seen_in = c.args.seen_in;
       completed = c.args.completed;
+      bounded = true;
     } in
     let items = c.into_vec-types.result.items in
     let here : c.if-t-len.types.items ≡ set table t (awaited (info table t).shape) = elim c.if-t-len.branch [

@@ -4,4 +4,4 @@ use Rattle.type_table.specs.Whole.{predefined_types}
 use Rattle.type_gather.proofs.predefined.at_first.Given as goal
 
 abbrev pub invariant-types : goal.invariant-types
-invariant-types l = l.table ≡ predefined_types ++ replicate l._type no_type
+invariant-types l = l.table ≡ predefined_types l.asked ++ replicate l._type no_type

@@ -1,4 +1,4 @@
-use Rattle.std.proofs.Common.{◌≡◌, refl, sym, ap, ◌∙◌, subst, ℕ, List, length, map, None, Result, Err}
+use Rattle.std.proofs.Common.{◌≡◌, refl, sym, ap, ◌∙◌, subst, List, length, map, None}
 use Rattle.std.proofs.Math.Logic.{∥∥₁_elim}
 use Rattle.std.specs.Coded.{Coded-set, coded_ℕ}
 use Rattle.ada_tree.specs.declared.unit.SourceUnit.{SourceUnit}
@@ -8,31 +8,29 @@ use Rattle.name_resolve.specs.Inputs.{trees_of}
 use Rattle.resolved_tree.specs.Nodes.{code_at}
 use Rattle.resolved_tree.specs.Trees.{Code}
 use Rattle.type_table.specs.declared.table.Known.{Known}
-use Rattle.type_table.specs.declared.refusal.TypeRefusal.{TypeRefusal}
 use Rattle.type_table.specs.Types.{Table}
 use Rattle.type_table.specs.Whole.{fault_known}
 use Rattle.type_rules.specs.Programs.{program_of}
-use Rattle.type_rules.proofs.Faults.{files_judged}
+use Rattle.type_rules.proofs.Faults.{files_told, said_of}
 use Rattle.type_sizes.specs.Limits.{AreWithin}
 use Rattle.typed_tree.specs.Programs.{typed_program}
 use Rattle.typed_programs.specs.Parts.{HoldsProgram}
 use Rattle.typed_check.proofs.Checked.{passed, no_fault, within, typed}
 use Rattle.typed_check.proofs.check.type_check.Goals as goal
 
-err : TypeRefusal → Result ℕ TypeRefusal
-err refusal = Err refusal
+pub told-requires-said : goal.told-requires-said
+told-requires-said c =
+    said_of c.in-Err.refusal c.in_ok-settled.settled.known (map (code_at c.lowered.new.rows) c.as_slice-units.result.now) _ c.in-Err.ensures c.in_ok-settled.ensures
 
 pub returns-in-Err-clause-judges : goal.returns-in-Err-clause-judges
-unfolding err
 returns-in-Err-clause-judges c =
     let files : List (List SourceUnit) = trees_of c.args.resolved.files.items in
-    let known : Known = c.in_ok-settled.settled.known in
     let units : List Code = map (code_at c.lowered.new.rows) c.as_slice-units.result.now in
     let lowered : units ≡ (program_of files).units =
     ap (map (code_at c.lowered.new.rows)) c.as_slice-units.ensures.value ∙ c.in_ok-lowered.ensures.1 in
     let counted : length c.as_slice-decls.result.now ≡ length (decl_infos files) =
     ∥∥₁_elim c.args.resolved.decls_are (Coded-set coded_ℕ _ _) (λ is. ap length (c.as_slice-decls.ensures.value ∙ is)) in
-    files_judged (err c.in-Err.refusal) files known known units _ (identified files) c.in-Err.ensures refl c.in_ok-settled.ensures lowered counted refl
+    files_told c.told.result files units _ (identified files) c.told.ensures lowered counted refl
 
 pub type_table-requires : goal.type_table-requires
 type_table-requires c =

@@ -1,0 +1,1 @@
+package P is end P; package body P is type Inner; type Link is access Inner; N : Integer; procedure R (L : Link) is B : Boolean; begin B := L.F; end R; type Inner is record E : N; F : Integer; end record; end P;

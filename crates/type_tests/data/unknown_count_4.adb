@@ -1,0 +1,1 @@
+package P is type T is private; private N : Integer; X : T := (1, 2, 3); type T is array (Boolean) of Integer; end P;

@@ -1,0 +1,1 @@
+package P is end P; package body P is type Inner; type Link is access Inner; N : Integer; procedure R (L : Link) is B : Boolean; begin B := L.E; end R; subtype S is N range 1 .. 2; type Inner is record E : S; end record; end P;
