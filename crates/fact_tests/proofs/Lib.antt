@@ -1,0 +1,2 @@
+-- what holds after small paths, and what is found there
+pub mod Rows
