@@ -16,7 +16,7 @@ use Rattle.resolved_tree.specs.declared.operator.UnaryOperator.TheVariants as un
 use Rattle.type_table.specs.declared.table.Component.{Component}
 use Rattle.type_table.specs.declared.table.Shape.{Shape}
 use Rattle.type_table.specs.declared.table.Shape.TheVariants as shape
-use Rattle.type_table.specs.Types.{Table, shape_found, shape_of, named, span, is_owning}
+use Rattle.type_table.specs.Types.{Table, shape_found, shape_of, meant_type, span, is_owning}
 use Rattle.type_table.specs.Entries.{integer}
 use Rattle.typed_tree.specs.Trees.{TypedTree, TypedCode, Number, Literal, Text, Name, Component as IntoComponent, Designated, Element, Call, EndOfFile, Parens, Image, Unary, Binary, Short, IsNull, Aggregate, Alike, New, NoMore, More}
 use Rattle.typed_tree.specs.Trees as typed
@@ -62,7 +62,7 @@ same_kind (shape.Listed k a b) (shape.Listed l c d) = true
 same_kind _ _ = false
 
 abbrev pub same_designated : Table → ℕ → ℕ → Bool
-same_designated table a b = nat_eq (named table a) (named table b) || same_kind (shape_of table a) (shape_of table b)
+same_designated table a b = nat_eq (meant_type table a) (meant_type table b) || same_kind (shape_of table a) (shape_of table b)
 
 abbrev pub same_sort : Table → Sort → Sort → Bool
 same_sort table Whole Whole = true

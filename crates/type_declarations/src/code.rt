@@ -4,7 +4,7 @@ ghost use Rattle.resolved_tree.specs.Nodes.{code_at, tree_at};
 ghost use Rattle.resolved_tree.specs.Trees.{code_items};
 ghost use Rattle.type_table.specs.Faults.{noted};
 ghost use Rattle.type_table.specs.Expressions.{own_type};
-ghost use Rattle.type_table.specs.Statements.{coverage, is_single, type_or_integer};
+ghost use Rattle.type_table.specs.Statements.{coverage, is_one_choice, type_or_integer};
 ghost use Rattle.type_table.specs.Declarations.{alternative_faults, alternatives_faults, choices_faults, choices_of, code_faults, is_last, selector_faults};
 ghost use Rattle.type_table.specs.Gathered.{declared_number, in_hidden, in_visible};
 ghost use Rattle.type_names.specs.Here.{here};
@@ -35,7 +35,7 @@ fn is_last(reader: &Reader<'_>, list: usize) -> bool
 #[tactic(auto, using(crate::proofs::Lists::one_item))]
 fn is_one_choice(reader: &Reader<'_>, choices: usize) -> bool
     requires { choices < length reader.now.rows.now.1 }
-    ensures { result ≡ is_single (code_items (code_at reader.now.rows.now choices)) }
+    ensures { result ≡ is_one_choice (code_items (code_at reader.now.rows.now choices)) }
 {
     match reader.rows.code(choices) {
         CodeNode::More { rest, .. } => has_none(reader, *rest),

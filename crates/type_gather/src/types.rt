@@ -262,7 +262,7 @@ impl Gathering {
         let number = declared_number(rows, name);
         let reader = self.reader(rows);
         let parent = reader.marked(mark);
-        let of = reader.named(parent);
+        let of = reader.meant_type(parent);
         let info = self.subtype_info(rows, parent, Shape::Same { of }, true);
         self.with_type(number, info);
     }

@@ -4,7 +4,7 @@ use Rattle.std.proofs.lemmas.List.{length-map}
 use Rattle.type_table.specs.declared.table.Component.{Component}
 use Rattle.type_table.specs.declared.judgement.Next.{Next}
 use Rattle.type_table.specs.declared.judgement.Next.TheVariants.{Goes, Stops}
-use Rattle.type_table.specs.Types.{Table, fields, named}
+use Rattle.type_table.specs.Types.{Table, fields, meant_type}
 use Rattle.type_table.specs.Entries.{same_word}
 use Rattle.type_table.specs.Names.{component}
 use Rattle.type_names.specs.declared.word_index.Occurrence.{Occurrence}
@@ -40,10 +40,10 @@ number_of w cs =
     none_before k = omega arith
 
 pub first_found : (table : Table) (indexes : List (Option Entries)) (t n : ℕ) (index : Entries) (w : List ℕ) (o : Option Occurrence)
-    → FindAllComponents indexes table → n ≡ named table t → slice_get indexes n ≡ Some (Some index) → o ≡ occurs index w
+    → FindAllComponents indexes table → n ≡ meant_type table t → slice_get indexes n ≡ Some (Some index) → o ≡ occurs index w
     → number_found (length (fields table t)) o ≡ component_number w (fields table t)
 first_found table indexes t n index w o all is there found =
-    ap (number_found (length (fields table t))) (found ∙ all (named table t) index (ap (slice_get indexes) (sym is) ∙ there) w)
+    ap (number_found (length (fields table t))) (found ∙ all (meant_type table t) index (ap (slice_get indexes) (sym is) ∙ there) w)
     ∙ number_of w (fields table t)
 
 -- What an argument by name is for.

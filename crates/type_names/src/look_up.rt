@@ -1,6 +1,6 @@
 //! What types and declarations are, by their numbers.
 ghost use Rattle.std.specs.Prelude.{◌≡◌};
-ghost use Rattle.type_table.specs.Types.{named, base, fields, full, is_same, is_untyped, is_bounded, info};
+ghost use Rattle.type_table.specs.Types.{meant_type, base, fields, full, is_same, is_untyped, is_bounded, info};
 ghost use Rattle.type_table.specs.Entries.{entry_of, is_type, type_of_mark, marked, denotes_type, complete_at, is_complete};
 ghost use Rattle.type_table.specs.Faults.{is_before};
 ghost use Rattle.type_table.specs.Names.{is_within, seen};
@@ -22,8 +22,8 @@ pub const UNTYPED: u32 = 4;
 
 impl<'p> Reader<'p> {
     /// The type that is meant by a subtype without a constraint.
-    pub fn named(&self, t: u32) -> u32
-        ensures { result ≡ named self.now.known.now.table t }
+    pub fn meant_type(&self, t: u32) -> u32
+        ensures { result ≡ meant_type self.now.known.now.table t }
     {
         match self.known.table.as_slice().get(t as usize) {
             Some(info) => match &info.shape {
@@ -48,7 +48,7 @@ impl<'p> Reader<'p> {
     pub fn full(&self, t: u32) -> View
         ensures { result ≡ full self.now.known.now.table t }
     {
-        match self.known.table.as_slice().get(self.named(t) as usize) {
+        match self.known.table.as_slice().get(self.meant_type(t) as usize) {
             Some(info) => view_of(&info.shape),
             None => View::Fields,
         }
@@ -58,7 +58,7 @@ impl<'p> Reader<'p> {
     pub fn fields(&self, t: u32) -> &'p [Component]
         ensures { result.now ≡ fields self.now.known.now.table t }
     {
-        match self.known.table.as_slice().get(self.named(t) as usize) {
+        match self.known.table.as_slice().get(self.meant_type(t) as usize) {
             Some(info) => components_of(&info.shape),
             None => &[],
         }
@@ -75,7 +75,7 @@ impl<'p> Reader<'p> {
     pub fn is_bounded(&self, t: u32) -> bool
         ensures { result ≡ is_bounded self.now.known.now.table t }
     {
-        match self.known.table.as_slice().get(self.named(t) as usize) {
+        match self.known.table.as_slice().get(self.meant_type(t) as usize) {
             Some(info) => info.bounded,
             None => true,
         }
@@ -96,7 +96,7 @@ impl<'p> Reader<'p> {
     pub fn seen(&self, t: u32) -> View
         ensures { result ≡ seen (here self.now) t }
     {
-        match self.known.table.as_slice().get(self.named(t) as usize) {
+        match self.known.table.as_slice().get(self.meant_type(t) as usize) {
             Some(info) if self.is_within(info.seen_in) => view_of(&info.shape),
             Some(_) | None => View::Hidden,
         }

@@ -2,7 +2,7 @@
 ghost use Rattle.std.specs.Prelude.{◌≡◌, ◌<◌, length, IfSome};
 ghost use Rattle.resolved_tree.specs.Nodes.{tree_at};
 ghost use Rattle.type_table.specs.Types.{fields};
-ghost use Rattle.type_table.specs.Names.{component, seen, selected, is_index, through, reached, step, is_end, ended, along, is_call, is_imaged, scalar_attribute, of_type, reading_of};
+ghost use Rattle.type_table.specs.Names.{component, seen, selected_component, is_index, through, reached, step, is_end, ended, along, is_call, is_imaged, scalar_attribute, of_type, reading_of};
 ghost use Rattle.type_names.specs.Here.{here};
 ghost use Rattle.type_names.specs.ComponentNames.{component_number};
 
@@ -19,7 +19,7 @@ impl<'p> Reader<'p> {
     pub(crate) fn indexed_component(&self, t: u32, word: &Word) -> Option<usize>
         ensures { IfSome result (λ n. n ≡ component_number word.now (fields self.now.known.now.table t)) }
     {
-        let Some(Some(index)) = self.components.get(self.named(t) as usize) else {
+        let Some(Some(index)) = self.components.get(self.meant_type(t) as usize) else {
             return None;
         };
         match index.occurrence(self.alloc, word) {
@@ -50,8 +50,8 @@ impl<'p> Reader<'p> {
     }
 
     /// The component of a type with an identifier.
-    fn selected(&self, t: u32, word: &Word) -> Next
-        ensures { result ≡ selected word.now (seen (here self.now) t) (fields self.now.known.now.table t) }
+    fn selected_component(&self, t: u32, word: &Word) -> Next
+        ensures { result ≡ selected_component word.now (seen (here self.now) t) (fields self.now.known.now.table t) }
     {
         match self.seen(t) {
             View::Fields => self.component(t, word),
@@ -104,7 +104,7 @@ impl<'p> Reader<'p> {
         match self.rows.node(suffix) {
             Node::Selected { selector } => {
                 let through = self.through(t);
-                self.reached(through, self.selected(through, selector))
+                self.reached(through, self.selected_component(through, selector))
             }
             Node::Applied { args } => {
                 let is_index = self.is_index(*args);

@@ -4,7 +4,7 @@ ghost use Rattle.resolved_tree.specs.Nodes.{tree_at};
 ghost use Rattle.type_table.specs.Types.{full, is_scalar};
 ghost use Rattle.type_table.specs.Entries.{entry_of, integer, boolean};
 ghost use Rattle.type_table.specs.Names.{reading_of};
-ghost use Rattle.type_table.specs.Statics.{fits, static, ill_typed, truth, is_truth, nonzero, int_mod, operate, both, decided, two, one, one_sound, is_sound, value_as, is_alone, name_is_static, name_value, is_static, value};
+ghost use Rattle.type_table.specs.Statics.{as_integer, static, ill_typed, truth, is_truth, nonzero, int_mod, operate, both, left_decides, two, one, one_sound, is_sound, value_as, is_alone, name_is_static, name_value, is_static, value};
 ghost use Rattle.type_names.specs.Here.{here};
 
 use crate::look_up::{BOOLEAN, INTEGER};
@@ -74,7 +74,7 @@ impl<'p> Reader<'p> {
         ensures { result ≡ value (here self.now) (tree_at self.now.rows.now e) }
     {
         match self.rows.node(e) {
-            Node::Number { value, .. } => stated(INTEGER, fits(i64::from(*value))),
+            Node::Number { value, .. } => stated(INTEGER, as_integer(i64::from(*value))),
             Node::Named { decl, rest, .. } => self.name_value(*decl, *rest),
             Node::Parens { inner, .. } => self.value(*inner),
             Node::Unary {
@@ -113,7 +113,7 @@ impl<'p> Reader<'p> {
             return object.value;
         }
         match self.reading_of(d, rest) {
-            Reading::Value { of, value } => stated(of, fits(value)),
+            Reading::Value { of, value } => stated(of, as_integer(value)),
             _ => ill_typed(),
         }
     }
@@ -131,8 +131,8 @@ impl<'p> Reader<'p> {
 }
 
 /// A number, where it is one of Integer.
-fn fits(v: i64) -> Option<i32>
-    ensures { result ≡ fits v }
+fn as_integer(v: i64) -> Option<i32>
+    ensures { result ≡ as_integer v }
 {
     if -2_147_483_648 <= v && v <= 2_147_483_647 {
         Some(v as i32)
@@ -189,53 +189,53 @@ fn boolean(holds: bool) -> Option<Static>
 
 /// The sum of two numbers of Integer.
 fn sum(a: i32, b: i32) -> Option<i32>
-    ensures { result ≡ fits (a +ℤ b) }
+    ensures { result ≡ as_integer (a +ℤ b) }
 {
-    fits(i64::from(a) + i64::from(b))
+    as_integer(i64::from(a) + i64::from(b))
 }
 
 /// Their difference.
 fn difference(a: i32, b: i32) -> Option<i32>
-    ensures { result ≡ fits (a -ℤ b) }
+    ensures { result ≡ as_integer (a -ℤ b) }
 {
-    fits(i64::from(a) - i64::from(b))
+    as_integer(i64::from(a) - i64::from(b))
 }
 
 /// Their product.
 fn product(a: i32, b: i32) -> Option<i32>
-    ensures { result ≡ fits (a *ℤ b) }
+    ensures { result ≡ as_integer (a *ℤ b) }
 {
-    fits(i64::from(a) * i64::from(b))
+    as_integer(i64::from(a) * i64::from(b))
 }
 
 /// Their quotient, toward zero.
 fn quotient(a: i32, b: i32) -> Option<i32>
-    ensures { result ≡ nonzero b (fits (int_div a b)) }
+    ensures { result ≡ nonzero b (as_integer (int_div a b)) }
 {
     if b == 0 {
         return None;
     }
-    fits(i64::from(a) / i64::from(b))
+    as_integer(i64::from(a) / i64::from(b))
 }
 
 /// The remainder with the sign of the dividend.
 fn remainder(a: i32, b: i32) -> Option<i32>
-    ensures { result ≡ nonzero b (fits (int_rem a b)) }
+    ensures { result ≡ nonzero b (as_integer (int_rem a b)) }
 {
     if b == 0 {
         return None;
     }
-    fits(i64::from(a) % i64::from(b))
+    as_integer(i64::from(a) % i64::from(b))
 }
 
 /// The remainder with the sign of the divisor.
 fn modulus(a: i32, b: i32) -> Option<i32>
-    ensures { result ≡ nonzero b (fits (int_mod a b)) }
+    ensures { result ≡ nonzero b (as_integer (int_mod a b)) }
 {
     if b == 0 {
         return None;
     }
-    fits(with_sign_of(i64::from(a) % i64::from(b), i64::from(b)))
+    as_integer(with_sign_of(i64::from(a) % i64::from(b), i64::from(b)))
 }
 
 /// A remainder as it is, or one divisor further, where it hasn't the sign of the divisor.
@@ -305,8 +305,8 @@ fn both(operator: Operator, a: Static, b: Static) -> Option<Static>
 }
 
 /// Whether the left operand of a short circuit decides it.
-fn decided(operator: Operator, a: Static) -> bool
-    ensures { result ≡ decided operator a }
+fn left_decides(operator: Operator, a: Static) -> bool
+    ensures { result ≡ left_decides operator a }
 {
     match operator {
         Operator::AndThen => a.base == BOOLEAN && !is_truth(a.value),
@@ -322,10 +322,10 @@ fn two(operator: Operator, a: Option<Static>, b: Option<Static>) -> Option<Stati
 {
     let a = a?;
     match b {
-        None if decided(operator, a) => Some(a),
+        None if left_decides(operator, a) => Some(a),
         None => None,
         Some(b) if !(a.sound && b.sound) => ill_typed(),
-        Some(_) if decided(operator, a) => Some(a),
+        Some(_) if left_decides(operator, a) => Some(a),
         Some(b) => both(operator, a, b),
     }
 }
@@ -350,8 +350,8 @@ fn one_sound(operator: UnaryOperator, a: Static) -> Option<Static>
         UnaryOperator::Not => logical_value(a.base == BOOLEAN, !is_truth(a.value)),
         UnaryOperator::Plus if whole => Some(a),
         UnaryOperator::Plus => ill_typed(),
-        UnaryOperator::Minus => whole_value(whole, fits(-i64::from(a.value))),
-        UnaryOperator::Abs => whole_value(whole, fits(i64::from(a.value).abs())),
+        UnaryOperator::Minus => whole_value(whole, as_integer(-i64::from(a.value))),
+        UnaryOperator::Abs => whole_value(whole, as_integer(i64::from(a.value).abs())),
     }
 }
 

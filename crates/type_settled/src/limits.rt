@@ -1,7 +1,7 @@
 //! The first type that exceeds a limit.
 ghost use Rattle.std.specs.Prelude.{◌≡◌, ◌<◌, ◌&&◌, ℕ, List, All, IfOk, flat_map, length, min, nat_le};
 ghost use Rattle.type_table.specs.declared.table.Made.{Made};
-ghost use Rattle.type_table.specs.Types.{named, full, words, parts};
+ghost use Rattle.type_table.specs.Types.{meant_type, full, words, parts};
 ghost use Rattle.type_table.specs.Faults.{noted};
 ghost use Rattle.type_table.specs.Whole.{is_unsound, has_elements, made_faults, size_faults};
 ghost use Rattle.type_settled.specs.Measures.{reach, marked, AreEnough};
@@ -48,8 +48,8 @@ fn unsound(alloc: Global, made: &[Made]) -> Result<Vec<bool>, AllocError>
 }
 
 /// The type that is meant by a subtype without a constraint.
-fn named(table: &[Info], t: u32) -> u32
-    ensures { result ≡ named table.now t }
+fn meant_type(table: &[Info], t: u32) -> u32
+    ensures { result ≡ meant_type table.now t }
 {
     match table.get(t as usize) {
         Some(info) => match &info.shape {
@@ -64,7 +64,7 @@ fn named(table: &[Info], t: u32) -> u32
 fn has_elements(table: &[Info], t: u32) -> bool
     ensures { result ≡ has_elements (full table.now t) }
 {
-    match table.get(named(table, t) as usize) {
+    match table.get(meant_type(table, t) as usize) {
         Some(info) => match info.shape {
             Shape::Elements {
                 low,

@@ -1,6 +1,6 @@
 //! The table of the types of a program.
 ghost use Rattle.std.specs.Prelude.{◌≡◌, ◌<◌, length, IfOk};
-ghost use Rattle.type_table.specs.Types.{named, full, view_of, words, parts, is_owning};
+ghost use Rattle.type_table.specs.Types.{meant_type, full, view_of, words, parts, is_owning};
 ghost use Rattle.type_shapes.specs.Definitions.{definition, settled, IsSame};
 ghost use Rattle.type_shapes.specs.Sizes.{AreSizes};
 
@@ -115,8 +115,8 @@ impl TypeTable {
     }
 
     /// The type that is meant by a subtype without a constraint.
-    fn named(&self, t: u32) -> u32
-        ensures { result ≡ named self.now t }
+    fn meant_type(&self, t: u32) -> u32
+        ensures { result ≡ meant_type self.now t }
     {
         match self.infos.as_slice().get(t as usize) {
             Some(info) => match &info.shape {
@@ -134,7 +134,7 @@ impl TypeTable {
         ensures definition { result.now ≡ definition self.now t }
         ensures settled { ¬ IsSame result.now }
     {
-        match self.infos.as_slice().get(self.named(t) as usize) {
+        match self.infos.as_slice().get(self.meant_type(t) as usize) {
             Some(info) => self.settled(&info.shape),
             None => &self.none,
         }
@@ -154,7 +154,7 @@ impl TypeTable {
     pub fn view(&self, t: u32) -> View
         ensures { result ≡ full self.now t }
     {
-        match self.infos.as_slice().get(self.named(t) as usize) {
+        match self.infos.as_slice().get(self.meant_type(t) as usize) {
             Some(info) => view_of(&info.shape),
             None => View::Fields,
         }

@@ -10,7 +10,7 @@ use Rattle.type_table.specs.Types.{is_nil}
 use Rattle.type_table.specs.Faults.{noted, first, precedes}
 use Rattle.type_table.specs.Entries.{boolean}
 use Rattle.type_table.specs.Expressions.{faults, own_type}
-use Rattle.type_table.specs.Statements.{range_faults, coverage, type_or_integer, is_single}
+use Rattle.type_table.specs.Statements.{range_faults, coverage, type_or_integer, is_one_choice}
 use Rattle.type_table.specs.Gathered.{declared_number, front_number}
 use Rattle.type_table.specs.Declarations.{type_faults, subtype_faults, body_faults, selector_faults, choices_of, choices_faults, is_last, code_faults, alternatives_faults, alternative_faults}
 use Rattle.type_table.specs.Whole.{made, made_here, is_unsound, unit_faults, main_faults, sentence_faults, all_made, outside}
@@ -133,7 +133,7 @@ module _ (k : Known) (st : Bool) where
         → alternative_faults (context k h w st s l) t last code ≡ [] → IsTrue (all_sound (made (context k h w st r m) code))
     when_sound (When choices stmts) t last h w s r l m formed none =
         code_sound stmts h w s r l m formed
-        (none_back (choices_faults (context k h w st s l) t (is_single (code_items choices) && last) choices)
+        (none_back (choices_faults (context k h w st s l) t (is_one_choice (code_items choices) && last) choices)
         (code_faults (context k h w st s l) stmts) none)
     when_sound NoMore t last h w s r l m formed none = refl
     when_sound _ t last h w s r l m formed none = cc

@@ -25,7 +25,7 @@ use Rattle.type_table.specs.Entries.{entry_of, integer, boolean, denotes_type, m
 use Rattle.type_table.specs.Names.{Context, seen}
 use Rattle.type_table.specs.Statics.{value}
 use Rattle.type_table.specs.Expressions.{Given, faults, inside, own_type, mark_faults, is_access, is_anonymous, to_constant, designated, is_traversal, profile_of, result_type, associates, given_names, scalar_own, is_in}
-use Rattle.type_table.specs.Statements.{source_faults, static_faults, scalar_mark, range_faults, range_of_faults, target_faults, assign_faults, call_faults, condition, returned, sub_profile, choice_faults, is_single as is_one_choice, coverage, type_or_integer, bounds_of, known_value, name_object, name_name}
+use Rattle.type_table.specs.Statements.{source_faults, static_faults, scalar_mark, range_faults, range_of_faults, target_faults, assign_faults, call_faults, condition, returned, sub_profile, choice_faults, is_one_choice, coverage, type_or_integer, bounds_of, known_value, name_object, name_name}
 use Rattle.type_table.specs.Gathered.{indicated, indicates_type, profile_from, formal_infos, anonymous_result, front_number, is_anonymous_indication, instance_type, actual_type, declared_pos, declared_number, in_subprogram, in_visible, in_hidden}
 
 -- ---- marks and indications

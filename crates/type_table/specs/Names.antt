@@ -16,7 +16,7 @@ use Rattle.type_table.specs.declared.judgement.Next.{Next}
 use Rattle.type_table.specs.declared.judgement.Next.TheVariants.{Goes, Gives, Stops}
 use Rattle.type_table.specs.declared.judgement.Reading.{Reading}
 use Rattle.type_table.specs.declared.judgement.Reading.TheVariants as reading
-use Rattle.type_table.specs.Types.{Table, view_of, fields, base, named, untyped, is_untyped}
+use Rattle.type_table.specs.Types.{Table, view_of, fields, base, meant_type, untyped, is_untyped}
 use Rattle.type_table.specs.Entries.{entry_of, integer, same_word}
 
 -- Where an expression stands.
@@ -48,7 +48,7 @@ seen_info here (Some i) = if is_within i.seen_in here then view_of i.shape else 
 -- The definition of a type as it is seen here. That of a private type is seen in the private part
 -- and the body of its package alone (Ada 2012, 7.3).
 unfoldable pub seen : Context → ℕ → View
-seen c t = seen_info c.within (slice_get c.known.table (named c.known.table t))
+seen c t = seen_info c.within (slice_get c.known.table (meant_type c.known.table t))
 
 -- ---- what stands behind a name
 
@@ -57,9 +57,9 @@ abbrev pub component : List ℕ → List Component → Next
 component w [] = Stops
 component w (c ∷ rest) = if same_word w c.name then Goes c.of else component w rest
 
-abbrev pub selected : List ℕ → View → List Component → Next
-selected w view.Fields cs = component w cs
-selected w _ cs = Stops
+abbrev pub selected_component : List ℕ → View → List Component → Next
+selected_component w view.Fields cs = component w cs
+selected_component w _ cs = Stops
 
 -- An index is one argument by position.
 abbrev pub is_index : Tree → Bool
@@ -97,7 +97,7 @@ reached table t next = if is_untyped table t then Goes untyped else next
 unfoldable pub step : Context → Tree → ℕ → Next
 step c (Selected w) t =
     reached c.known.table (through (seen c t) t)
-    (selected w (seen c (through (seen c t) t)) (fields c.known.table (through (seen c t) t)))
+    (selected_component w (seen c (through (seen c t) t)) (fields c.known.table (through (seen c t) t)))
 step c (Applied args) t =
     reached c.known.table (through (seen c t) t) (indexed (is_index args) (seen c (through (seen c t) t)))
 step c All t = reached c.known.table t (dereferenced (seen c t))
@@ -130,9 +130,9 @@ is_call NoMore = true
 is_call (More (Applied args) NoMore) = true
 is_call _ = false
 
-abbrev pub called : Bool → Reading → Reading
-called true r = r
-called false r = reading.Off
+abbrev pub reading_if : Bool → Reading → Reading
+reading_if true r = r
+reading_if false r = reading.Off
 
 abbrev pub is_imaged : Tree → Bool
 is_imaged (More (Applied args) NoMore) = is_index args
@@ -141,7 +141,7 @@ is_imaged _ = false
 abbrev pub scalar_attribute : ℕ → Attribute → ℤ → ℤ → Tree → Reading
 scalar_attribute b attribute.First low high rest = if is_end rest then reading.Value b low else reading.Off
 scalar_attribute b attribute.Last low high rest = if is_end rest then reading.Value b high else reading.Off
-scalar_attribute b attribute.Image low high rest = called (is_imaged rest) (reading.Image b)
+scalar_attribute b attribute.Image low high rest = reading_if (is_imaged rest) (reading.Image b)
 scalar_attribute b _ low high rest = reading.Off
 
 abbrev pub ended_at : Next → Tree → Reading
@@ -159,10 +159,10 @@ of_type c t _ = reading.Off
 
 abbrev pub of_function : ℕ → Option ℕ → Tree → Reading
 of_function f None rest = reading.Off
-of_function f (Some result) rest = called (is_call rest) (reading.Call f)
+of_function f (Some result) rest = reading_if (is_call rest) (reading.Call f)
 
 abbrev pub of_predefined : Predefined → Tree → Reading
-of_predefined predefined.EndOfFile rest = called (is_call rest) reading.EndOfFile
+of_predefined predefined.EndOfFile rest = reading_if (is_call rest) reading.EndOfFile
 of_predefined _ rest = reading.Off
 
 abbrev pub of_entry : Context → ℕ → Entry → Tree → Reading

@@ -335,9 +335,9 @@ has_subtype c _ = false
 abbrev pub chosen_type : Context → Tree → ℕ
 chosen_type c e = if has_subtype c e then type_or_integer (own_type c e) else base c.known.table (type_or_integer (own_type c e))
 
-abbrev pub is_single : List Code → Bool
-is_single (k ∷ []) = true
-is_single _ = false
+abbrev pub is_one_choice : List Code → Bool
+is_one_choice (k ∷ []) = true
+is_one_choice _ = false
 
 -- The sentences on all choices of a case. Where the expression or a choice breaks a sentence of its own, nothing is said of gaps.
 abbrev pub leaves_gap : Context → Tree → List Code → Bool

@@ -15,8 +15,8 @@ use Rattle.type_table.specs.Entries.{entry_of, integer, boolean}
 use Rattle.type_table.specs.Names.{Context, reading_of}
 
 -- The values of Integer.
-abbrev pub fits : ℤ → Option ℤ
-fits v = if int_le (negsuc 2147483647) v && int_le v (pos 2147483647) then Some v else None
+abbrev pub as_integer : ℤ → Option ℤ
+as_integer v = if int_le (negsuc 2147483647) v && int_le v (pos 2147483647) then Some v else None
 
 abbrev pub static : ℕ → Option ℤ → Option Static
 static t None = None
@@ -52,12 +52,12 @@ operate whole logical operator.Less t a b = static boolean (Some (truth (int_lt 
 operate whole logical operator.LessEqual t a b = static boolean (Some (truth (int_le a b)))
 operate whole logical operator.Greater t a b = static boolean (Some (truth (int_lt b a)))
 operate whole logical operator.GreaterEqual t a b = static boolean (Some (truth (int_le b a)))
-operate true logical operator.Add t a b = static integer (fits (a +ℤ b))
-operate true logical operator.Subtract t a b = static integer (fits (a -ℤ b))
-operate true logical operator.Multiply t a b = static integer (fits (a *ℤ b))
-operate true logical operator.Divide t a b = static integer (nonzero b (fits (int_div a b)))
-operate true logical operator.Modulo t a b = static integer (nonzero b (fits (int_mod a b)))
-operate true logical operator.Remainder t a b = static integer (nonzero b (fits (int_rem a b)))
+operate true logical operator.Add t a b = static integer (as_integer (a +ℤ b))
+operate true logical operator.Subtract t a b = static integer (as_integer (a -ℤ b))
+operate true logical operator.Multiply t a b = static integer (as_integer (a *ℤ b))
+operate true logical operator.Divide t a b = static integer (nonzero b (as_integer (int_div a b)))
+operate true logical operator.Modulo t a b = static integer (nonzero b (as_integer (int_mod a b)))
+operate true logical operator.Remainder t a b = static integer (nonzero b (as_integer (int_rem a b)))
 operate whole true operator.And t a b = static boolean (Some (truth (is_truth a && is_truth b)))
 operate whole true operator.Or t a b = static boolean (Some (truth (is_truth a || is_truth b)))
 operate whole true operator.Xor t a b = static boolean (Some (truth (is_truth a && not (is_truth b) || not (is_truth a) && is_truth b)))
@@ -72,23 +72,23 @@ both op a b =
     else ill_typed
 
 -- A short circuit that its left operand decides has no value of its right operand.
-abbrev pub decided : Operator → Static → Bool
-decided operator.AndThen a = nat_eq a.base boolean && not (is_truth a.value)
-decided operator.OrElse a = nat_eq a.base boolean && is_truth a.value
-decided _ a = false
+abbrev pub left_decides : Operator → Static → Bool
+left_decides operator.AndThen a = nat_eq a.base boolean && not (is_truth a.value)
+left_decides operator.OrElse a = nat_eq a.base boolean && is_truth a.value
+left_decides _ a = false
 
 -- A short circuit may have a value though its right operand has none.
 abbrev pub two : Operator → Option Static → Option Static → Option Static
 two op None b = None
-two op (Some a) None = if decided op a then Some a else None
+two op (Some a) None = if left_decides op a then Some a else None
 two op (Some a) (Some b) =
-    if not (a.sound && b.sound) then ill_typed else if decided op a then Some a else both op a b
+    if not (a.sound && b.sound) then ill_typed else if left_decides op a then Some a else both op a b
 
 abbrev pub one_sound : UnaryOperator → Static → Option Static
 one_sound unary.Not a = if nat_eq a.base boolean then static boolean (Some (truth (not (is_truth a.value)))) else ill_typed
 one_sound unary.Plus a = if nat_eq a.base integer then Some a else ill_typed
-one_sound unary.Minus a = if nat_eq a.base integer then static integer (fits (neg_ℤ a.value)) else ill_typed
-one_sound unary.Abs a = if nat_eq a.base integer then static integer (fits (pos (unsigned_abs a.value))) else ill_typed
+one_sound unary.Minus a = if nat_eq a.base integer then static integer (as_integer (neg_ℤ a.value)) else ill_typed
+one_sound unary.Abs a = if nat_eq a.base integer then static integer (as_integer (pos (unsigned_abs a.value))) else ill_typed
 
 abbrev pub one : UnaryOperator → Static → Option Static
 one op a = if a.sound then one_sound op a else ill_typed
@@ -107,7 +107,7 @@ name_is_static _ _ _ _ = false
 
 abbrev pub name_value : Entry → Reading → Option Static
 name_value (entry.Object o) r = o.value
-name_value e (reading.Value t v) = static t (fits v)
+name_value e (reading.Value t v) = static t (as_integer v)
 name_value e _ = ill_typed
 
 -- Built of literals, static constants, First and Last of scalar subtypes, and operators.
@@ -122,7 +122,7 @@ is_static c _ = false
 
 -- The value of a static expression: none where it raises or leaves Integer on the way.
 unfoldable pub value : Context → Tree → Option Static
-value c (Number p n) = static integer (fits (pos n))
+value c (Number p n) = static integer (as_integer (pos n))
 value c (Named p d rest) = name_value (entry_of c.known d) (reading_of c d rest)
 value c (Parens p e) = value c e
 value c (Unary p op e) = if is_alone op e then static integer (Some (negsuc 2147483647)) else option_and_then (one op) (value c e)

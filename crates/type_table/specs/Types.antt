@@ -37,13 +37,13 @@ abbrev pub same_as : ℕ → Shape → ℕ
 same_as t (shape.Same of) = of
 same_as t _ = t
 
-abbrev pub named_found : ℕ → Option Info → ℕ
-named_found t None = t
-named_found t (Some i) = same_as t i.shape
+abbrev pub meant_type_found : ℕ → Option Info → ℕ
+meant_type_found t None = t
+meant_type_found t (Some i) = same_as t i.shape
 
 -- The type that is meant by a subtype without a constraint.
-abbrev pub named : Table → ℕ → ℕ
-named table t = named_found t (slice_get table t)
+abbrev pub meant_type : Table → ℕ → ℕ
+meant_type table t = meant_type_found t (slice_get table t)
 
 abbrev pub shape_found : Option Info → Shape
 shape_found None = shape.Fields []
@@ -51,7 +51,7 @@ shape_found (Some i) = i.shape
 
 -- The definition of a type.
 abbrev pub shape_of : Table → ℕ → Shape
-shape_of table t = shape_found (slice_get table (named table t))
+shape_of table t = shape_found (slice_get table (meant_type table t))
 
 abbrev pub base_found : Option Info → ℕ
 base_found None = 0
@@ -73,7 +73,7 @@ is_untyped table t = nat_eq (base table t) untyped
 
 -- The bounds in the definition of a type are known, where it has some.
 abbrev pub is_bounded : Table → ℕ → Bool
-is_bounded table t = (info table (named table t)).bounded
+is_bounded table t = (info table (meant_type table t)).bounded
 
 abbrev pub components_of : Shape → List Component
 components_of (shape.Fields components) = components

@@ -18,7 +18,7 @@ use Rattle.type_table.specs.declared.table.Known.{Known}
 use Rattle.type_table.specs.Types.{base, fields, full, same_bounds, has_value, is_bounded, is_owning, is_same, is_scalar, is_untyped, untyped}
 use Rattle.type_table.specs.Faults.{demand, K1}
 use Rattle.type_table.specs.Entries.{entry_of, is_type, denotes_type, type_of_mark, type_of_entry, marked, is_complete}
-use Rattle.type_table.specs.Names.{Context, seen, through, selected, indexed, is_index, dereferenced, array_attribute, led_on, step, along}
+use Rattle.type_table.specs.Names.{Context, seen, through, selected_component, indexed, is_index, dereferenced, array_attribute, led_on, step, along}
 use Rattle.type_table.specs.Expressions.{Given, all_by_position, given_names, allowed, around, arguments, designated, fits, fits_aggregate, inside, is_access, is_access_place, is_of, mark_faults, one_type, scalar_own, traversed_name, traverses}
 use Rattle.type_table.specs.Statements.{designates}
 use Rattle.type_table.specs.Declarations.{access_mark}
@@ -106,7 +106,7 @@ AreSteps _ = ⊥
 pub selector_leads : (c : Context) (t : ℕ) (w : List ℕ) → is_untyped c.known.table (through (seen c t) t) ≡ true → step c (Selected w) t ≡ Goes untyped
 unfolding step
 selector_leads c t w is =
-    ap (λ b. if b then Goes untyped else selected w (seen c (through (seen c t) t)) (fields c.known.table (through (seen c t) t))) is
+    ap (λ b. if b then Goes untyped else selected_component w (seen c (through (seen c t) t)) (fields c.known.table (through (seen c t) t))) is
 
 pub index_leads : (c : Context) (t : ℕ) (args : Tree) → is_untyped c.known.table (through (seen c t) t) ≡ true → step c (Applied args) t ≡ Goes untyped
 unfolding step

@@ -1,6 +1,6 @@
 //! Values of scalar types.
 ghost use Rattle.std.specs.Prelude.{◌≡◌, IfOk};
-ghost use Rattle.type_table.specs.Statics.{fits};
+ghost use Rattle.type_table.specs.Statics.{as_integer};
 ghost use Rattle.type_table.specs.Gathered.{natural_of};
 ghost use Rattle.typed_tree.specs.Nodes.{Grew, Holds};
 ghost use Rattle.typed_tree.specs.Expressions.{number, value_of_type, within_integer};
@@ -11,7 +11,7 @@ use typed_tree::{TypedNode, TypedRows};
 
 /// A number of Integer: 0 where it is none.
 fn within_integer(value: i64) -> i32
-    ensures { result ≡ within_integer (fits value) }
+    ensures { result ≡ within_integer (as_integer value) }
 {
     match i32::try_from(value) {
         Ok(number) => number,

@@ -4,10 +4,10 @@ use Rattle.spark_base.specs.declared.position.Pos.{Pos}
 use Rattle.type_table.specs.declared.table.Shape.{Shape}
 use Rattle.type_table.specs.declared.table.Shape.TheVariants as shape
 use Rattle.type_table.specs.declared.judgement.Fault.{Fault}
-use Rattle.type_table.specs.Types.{Table, named, shape_found, shape_of, is_owning, owns_of}
+use Rattle.type_table.specs.Types.{Table, meant_type, shape_found, shape_of, is_owning, owns_of}
 use Rattle.type_table.specs.Faults.{demand}
 use Rattle.type_table.specs.Expressions.{unary_type}
-use Rattle.type_table.specs.Statics.{fits}
+use Rattle.type_table.specs.Statics.{as_integer}
 use Rattle.typed_tree.specs.Trees.{TypedTree}
 use Rattle.typed_tree.specs.Trees as typed
 use Rattle.typed_tree.specs.Expressions.{within_integer}
@@ -19,7 +19,7 @@ use Rattle.typed_laws.specs.Fine.{Agree, counts, lists, Has, operator_type}
 -- ---- numbers
 
 -- what stands for a number is a value of Integer
-pub whole_number : (v : ℤ) → is_integer (within_integer (fits v)) ≡ true
+pub whole_number : (v : ℤ) → is_integer (within_integer (as_integer v)) ≡ true
 whole_number v = by (is_integer v) refl
   where
     by : (b : Bool) → is_integer v ≡ b → is_integer (within_integer (if b then Some v else None)) ≡ true
@@ -96,7 +96,7 @@ kind_trans (shape.Elements y z el) b c e f = cc
 kind_trans (shape.Same of) b c e f = cc
 
 -- one type has one definition
-pub one_shape : (table : Table) (t u : ℕ) → named table t ≡ named table u → shape_of table t ≡ shape_of table u
+pub one_shape : (table : Table) (t u : ℕ) → meant_type table t ≡ meant_type table u → shape_of table t ≡ shape_of table u
 one_shape table t u e = ap (λ z. shape_found (slice_get table z)) e
 
 pub agree_trans : (table : Table) (t u v : ℕ) → Agree table t u → Agree table u v → Agree table t v

@@ -2,7 +2,7 @@
 use Rattle.std.proofs.Common.{◌≡◌, refl, sym, ap, ◌∙◌, subst, ◌⊎◌, inl, inr, ℕ, Bool, true, false, List, [], nat_eq, ℤ, Some, None}
 use Rattle.spark_base.specs.declared.position.Pos.{Pos}
 use Rattle.resolved_tree.specs.Trees.{Tree, Applied, Argument, NoMore, More, position}
-use Rattle.type_table.specs.Types.{named}
+use Rattle.type_table.specs.Types.{meant_type}
 use Rattle.type_table.specs.declared.judgement.View.{View}
 use Rattle.type_table.specs.declared.judgement.Next.{Next}
 use Rattle.type_table.specs.declared.judgement.Next.TheVariants.{Goes, Gives, Stops}
@@ -155,7 +155,7 @@ module _ (s : Site) (objects : List Object) (subs : List Signature) (made : ℕ 
         (
           subst (λ z. Leads (typing s objects subs made laws) (object_at (typing s objects subs made laws) (object_number s d)).of (typed_steps s z rest) u) (sym from)
               (subst (λ z. Leads (typing s objects subs made laws) z (typed_steps s o.of rest) u) (sym (denotes.0 o found.1)) leads.1),
-          inl (ap (named s.context.known.table) same),
+          inl (ap (meant_type s.context.known.table) same),
         ),
       )
   named_has p d t rest (reading.Value u x) actuals imaged denotes fine is has none =
@@ -175,7 +175,7 @@ module _ (s : Site) (objects : List Object) (subs : List Signature) (made : ℕ 
         (
           found.1,
           subst (λ z. (sub_at (typing s objects subs made laws) (sub_number s z)).result ≡ Some found.1) (sym found.0) (denotes.1 found.1 found.2),
-          inl (ap (named s.context.known.table) same),
+          inl (ap (meant_type s.context.known.table) same),
         ),
       )
   named_has p d t rest reading.EndOfFile actuals imaged denotes fine is has none =

@@ -5,7 +5,7 @@ use Rattle.spark_base.specs.declared.position.Pos.{Pos}
 use Rattle.resolved_tree.specs.declared.operator.Operator.{Operator}
 use Rattle.resolved_tree.specs.declared.operator.Operator.TheVariants as operator
 use Rattle.resolved_tree.specs.Trees.{Tree, Named, Binary, position}
-use Rattle.type_table.specs.Types.{named}
+use Rattle.type_table.specs.Types.{meant_type}
 use Rattle.type_table.specs.declared.judgement.Fault.{Fault}
 use Rattle.typed_tree.specs.declared.node.ShortCircuit.{ShortCircuit}
 use Rattle.typed_tree.specs.declared.node.ShortCircuit.TheVariants as short
@@ -98,7 +98,7 @@ module _ (s : Site) (objects : List Object) (subs : List Signature) (made : ℕ 
       let same = gives_type op t gives in
       let m = (operand_made s objects subs made laws op).0 in
       let both = both_placed (operand_type op) a b m ga gb none in
-      (subst made same m, (join, inl (ap (named s.context.known.table) same), operand_type op, takes, scalar_operand op, both.0, both.1))
+      (subst made same m, (join, inl (ap (meant_type s.context.known.table) same), operand_type op, takes, scalar_operand op, both.0, both.1))
 
   short_has : (op : Operator) (kind : ShortCircuit) (p q : Pos) (a b : Tree) (t : ℕ) → Good_ a → Good_ b → operand_type op ≡ boolean → operator_gives op ≡ own.Of t
       → (around s.context stands.Elsewhere (operand_type op) a ++ around s.context stands.Elsewhere (operand_type op) b) ++ (within op a ++ within op b) ≡ []
@@ -108,7 +108,7 @@ module _ (s : Site) (objects : List Object) (subs : List Signature) (made : ℕ 
       let same = gives_type op t gives in
       let m = (operand_made s objects subs made laws op).0 in
       let both = both_placed (operand_type op) a b m ga gb none in
-      (subst made same m, (inl (ap (named s.context.known.table) (sym is ∙ same)), subst (λ z. Has_ z (of op a)) is both.0, subst (λ z. Has_ z (of op b)) is both.1))
+      (subst made same m, (inl (ap (meant_type s.context.known.table) (sym is ∙ same)), subst (λ z. Has_ z (of op a)) is both.0, subst (λ z. Has_ z (of op b)) is both.1))
 
   -- an operand of a comparison
   record Compared (want : ℕ) (e : Tree) : Type 0 where
@@ -156,7 +156,7 @@ module _ (s : Site) (objects : List Object) (subs : List Signature) (made : ℕ 
         subst made same (operand_made s objects subs made laws op).0,
         (
           join,
-          inl (ap (named s.context.known.table) same),
+          inl (ap (meant_type s.context.known.table) same),
           left.t,
           subst (λ z. Takes z (operand_type op) left.t) (sym kind) tt,
           left.scalar,
@@ -199,8 +199,8 @@ module _ (s : Site) (objects : List Object) (subs : List Signature) (made : ℕ 
       by : (x z : Bool) → (if x then is_access_name s.context b else if z then is_access_name s.context a
           else scalar_own s.context (own_type s.context a) && scalar_own s.context (own_type s.context b) && one_type s.context.known (own_type s.context a) (own_type s.context b)) ≡ true
           → made t × Has_ t (compared op equal x z (of op a) (of op b))
-      by true z h = (subst made same laws.booleans, (inl (ap (named s.context.known.table) same), pointed (operand_type op) b gb h (nil_right (within op a) _ none)))
-      by false true h = (subst made same laws.booleans, (inl (ap (named s.context.known.table) same), pointed (operand_type op) a ga h (nil_left (within op a) _ none)))
+      by true z h = (subst made same laws.booleans, (inl (ap (meant_type s.context.known.table) same), pointed (operand_type op) b gb h (nil_right (within op a) _ none)))
+      by false true h = (subst made same laws.booleans, (inl (ap (meant_type s.context.known.table) same), pointed (operand_type op) a ga h (nil_left (within op a) _ none)))
       by false false h = compared_has op a b t ga gb join kind gives h none
 
   -- ---- all operators

@@ -10,7 +10,7 @@ use Rattle.resolved_tree.specs.declared.operator.UnaryOperator.{UnaryOperator}
 use Rattle.resolved_tree.specs.declared.operator.UnaryOperator.TheVariants as unary
 use Rattle.type_table.specs.declared.table.Shape.{Shape}
 use Rattle.type_table.specs.declared.table.Shape.TheVariants as shape
-use Rattle.type_table.specs.Types.{Table, named, shape_of, fields, components_of, view_of, is_scalar, is_owning}
+use Rattle.type_table.specs.Types.{Table, meant_type, shape_of, fields, components_of, view_of, is_scalar, is_owning}
 use Rattle.type_table.specs.Entries.{integer, boolean}
 use Rattle.type_table.specs.Expressions.{unary_type, operand_type, is_arithmetic, is_logical}
 use Rattle.typed_tree.specs.Trees.{TypedTree, Number, Literal, Text, Name, Component as IntoComponent, Designated, Element, Call, EndOfFile, Parens, Image, Unary, Binary, Short, IsNull, Aggregate, Alike, New, NoMore, More}
@@ -31,7 +31,7 @@ nat_same n = eq-eqb n n refl
 sort_same : (table : Table) (a : Sort) → same_sort table a a ≡ true
 sort_same table Whole = refl
 sort_same table Position = refl
-sort_same table (Pointer d) = either_left _ _ (nat_same (named table d))
+sort_same table (Pointer d) = either_left _ _ (nat_same (meant_type table d))
 
 sorts_same : (table : Table) (a : List Sort) → same_sorts table a a ≡ true
 sorts_same table [] = refl
@@ -129,7 +129,7 @@ module _ (y : Typing) (law : (t : ℕ) → sorts y.table t ≡ sorts_of (sorts y
   number_is t e = whole_is t (agree_counts y.table integer t e whole)
 
   same_target : (d t : ℕ) → Agree y.table d t → same_designated y.table d t ≡ true
-  same_target d t (inl e) = either_left _ _ (subst (λ z. nat_eq (named y.table d) z ≡ true) e (nat_same (named y.table d)))
+  same_target d t (inl e) = either_left _ _ (subst (λ z. nat_eq (meant_type y.table d) z ≡ true) e (nat_same (meant_type y.table d)))
   same_target d t (inr e) = either_right _ _ e
 
   unary_sorts : (op : UnaryOperator) (t : ℕ) (g : Bool) → Agree y.table (unary_type op) t → g ≡ true

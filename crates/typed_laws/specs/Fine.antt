@@ -5,7 +5,7 @@ use Rattle.type_table.specs.Expressions.{by_name, no_component}
 use Rattle.std.specs.Prelude.{List, ◌≡◌, ◌⊎◌, ◌<◌, ℕ, suc, Bool, true, false, ◌||◌, length, get_or, ℤ, Some, if◌then◌else◌}
 use Rattle.resolved_tree.specs.declared.operator.Operator.{Operator}
 use Rattle.resolved_tree.specs.declared.operator.Operator.TheVariants as operator
-use Rattle.type_table.specs.Types.{named}
+use Rattle.type_table.specs.Types.{meant_type}
 use Rattle.resolved_tree.specs.Trees.{Tree, Number, Text, Null, Named, Parens, Unary, Binary, Aggregate, Others, New, Selected, All, Applied, Attr, Argument, NoMore, More}
 use Rattle.type_table.specs.declared.table.Entry.TheVariants as entry
 use Rattle.type_table.specs.declared.table.ObjectInfo.{ObjectInfo}
@@ -36,7 +36,7 @@ lists _ = false
 
 -- One type, or two scalar types of one sort.
 abbrev pub Agree : Table → ℕ → ℕ → Type 0
-Agree table t u = (named table t ≡ named table u) ⊎ (same_kind (shape_of table t) (shape_of table u) ≡ true)
+Agree table t u = (meant_type table t ≡ meant_type table u) ⊎ (same_kind (shape_of table t) (shape_of table u) ≡ true)
 
 -- ---- expressions
 

@@ -19,7 +19,7 @@ use Rattle.type_table.specs.declared.judgement.Role.TheVariants as role
 use Rattle.type_table.specs.Types.{fields}
 use Rattle.type_table.specs.Entries.{entry_of, integer, marked, same_word}
 use Rattle.type_table.specs.Names.{Context, seen, step, through, reading_of}
-use Rattle.type_table.specs.Statics.{is_alone, fits}
+use Rattle.type_table.specs.Statics.{is_alone, as_integer}
 use Rattle.type_table.specs.Expressions.{Given, given_names, all_by_position, role_type, operand_type, unary_type, element_type, profile_of, formal_names, is_null, next_type}
 use Rattle.type_table.specs.Gathered.{natural_of}
 use Rattle.typed_tree.specs.declared.node.ShortCircuit.TheVariants as short
@@ -49,7 +49,7 @@ within_integer (Some v) = v
 within_integer None = pos 0
 
 abbrev pub number : ℤ → TypedTree
-number v = typed.Number (within_integer (fits v))
+number v = typed.Number (within_integer (as_integer v))
 
 -- A value of a type without bounds of its own: that of Integer or an enumeration.
 abbrev pub value_of_type : ℕ → ℤ → TypedTree

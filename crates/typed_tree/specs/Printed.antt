@@ -6,7 +6,7 @@ use Rattle.place_names.specs.Names.{Name}
 use Rattle.type_table.specs.declared.table.Shape.{Shape}
 use Rattle.type_table.specs.declared.table.Shape.TheVariants as shape
 use Rattle.type_table.specs.declared.table.Info.{Info}
-use Rattle.type_table.specs.Types.{Table, named}
+use Rattle.type_table.specs.Types.{Table, meant_type}
 use Rattle.type_table.specs.Entries.{integer}
 use Rattle.type_table.specs.Expressions.{no_component}
 use Rattle.typed_tree.specs.declared.object.Object.{Object}
@@ -33,10 +33,10 @@ text_found None s = []
 text_found (Some i) s = part_text i.shape s
 
 abbrev pub selected_type : Table → ℕ → Sel → ℕ
-selected_type table t s = type_found (slice_get table (named table t)) s
+selected_type table t s = type_found (slice_get table (meant_type table t)) s
 
 abbrev pub selected_text : Table → ℕ → Sel → List ℕ
-selected_text table t s = text_found (slice_get table (named table t)) s
+selected_text table t s = text_found (slice_get table (meant_type table t)) s
 
 abbrev pub selectors_text : Table → ℕ → List Sel → List ℕ
 selectors_text table t [] = []

@@ -1,6 +1,6 @@
 //! Names as text.
 ghost use Rattle.std.specs.Prelude.{◌≡◌, ◌++◌, IfOk, OnOk};
-ghost use Rattle.type_table.specs.Types.{named};
+ghost use Rattle.type_table.specs.Types.{meant_type};
 ghost use Rattle.typed_tree.specs.Printed.{package_text, part_text, part_type, printed, selected_text, selected_type, selectors_text};
 
 use crate::object::Object;
@@ -13,8 +13,8 @@ use type_table::{Info, Shape};
 const INTEGER: u32 = 0;
 
 /// The type that is meant by a subtype without a constraint.
-fn named(table: &[Info], t: u32) -> u32
-    ensures { result ≡ named table.now t }
+fn meant_type(table: &[Info], t: u32) -> u32
+    ensures { result ≡ meant_type table.now t }
 {
     match table.get(t as usize) {
         Some(info) => match &info.shape {
@@ -65,7 +65,7 @@ fn part_text(shape: &Shape, sel: Sel, text: &mut Vec<u8>) -> Result<(), AllocErr
 fn selected_type(table: &[Info], of: u32, sel: Sel) -> u32
     ensures { result ≡ selected_type table.now of sel }
 {
-    match table.get(named(table, of) as usize) {
+    match table.get(meant_type(table, of) as usize) {
         Some(info) => part_type(&info.shape, sel),
         None => INTEGER,
     }
@@ -75,7 +75,7 @@ fn selected_type(table: &[Info], of: u32, sel: Sel) -> u32
 fn selected_text(table: &[Info], of: u32, sel: Sel, text: &mut Vec<u8>) -> Result<(), AllocError>
     ensures { OnOk result (text.new.items ≡ text.old.items ++ selected_text table.now of sel) }
 {
-    match table.get(named(table, of) as usize) {
+    match table.get(meant_type(table, of) as usize) {
         Some(info) => part_text(&info.shape, sel, text),
         None => Ok(()),
     }

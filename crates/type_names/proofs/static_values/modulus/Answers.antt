@@ -1,7 +1,7 @@
 use Rattle.std.proofs.Common.{◌∙◌, sym, ap}
 use Rattle.std.proofs.lemmas.Int.{to_z-of_z}
 use mir.Syntax.{w64}
-use Rattle.type_table.specs.Statics.{fits}
+use Rattle.type_table.specs.Statics.{as_integer}
 use Rattle.type_names.proofs.Wide.{widened, wider, remainder_is, nonzero_is}
 use Rattle.type_names.proofs.static_values.modulus.Goals as goal
 
@@ -14,4 +14,4 @@ returns c =
     let e = to_z-of_z w64 c.args.b (wider c.args.b c.ranges.b) in
     let f = to_z-of_z w64 c.with_sign_of.result (record { sfits = c.with_sign_of.type_inv }) in
     let g = rw (a, b, d, r, e) at c.with_sign_of.ensures in
-    c.fits.ensures ∙ ap fits (f ∙ g) ∙ sym (nonzero_is c.args.b _ c.if-b-eq0.false)
+    c.as_integer.ensures ∙ ap as_integer (f ∙ g) ∙ sym (nonzero_is c.args.b _ c.if-b-eq0.false)

@@ -1,5 +1,5 @@
 use Rattle.std.proofs.Common.{◌∙◌, ap}
-use Rattle.type_table.specs.Statics.{fits}
+use Rattle.type_table.specs.Statics.{as_integer}
 use Rattle.type_names.proofs.Wide.{widened, product_is}
 use Rattle.type_names.proofs.static_values.product.Goals as goal
 
@@ -7,5 +7,5 @@ pub returns : goal.returns
 returns c =
     let a = widened c.args.a c.from.result c.ranges.a c.from.ensures in
     let b = widened c.args.b c.from-2.result c.ranges.b c.from-2.ensures in
-    let h = rw (a, b) at c.fits.ensures in
-    h ∙ ap fits (product_is c.args.a c.args.b c.ranges.a c.ranges.b)
+    let h = rw (a, b) at c.as_integer.ensures in
+    h ∙ ap as_integer (product_is c.args.a c.args.b c.ranges.a c.ranges.b)
