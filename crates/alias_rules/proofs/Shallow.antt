@@ -12,7 +12,7 @@ use Rattle.place_names.specs.declared.act.Act.TheVariants as act
 use Rattle.place_names.specs.declared.act.Mode.{Mode}
 use Rattle.place_names.specs.declared.act.Mode.TheVariants as mode
 use Rattle.place_names.specs.declared.act.Placed.{Placed}
-use Rattle.type_table.specs.Types.{Table, is_owning, parts}
+use Rattle.type_definitions.specs.Types.{Table, is_owning, parts}
 use Rattle.typed_tree.specs.Trees.{TypedTree, Number, Literal, Null, Text, Name, Component, Designated, Element, Call as CallOf, EndOfFile, Parens, Image, Unary, Binary, Short, IsNull, Aggregate, Alike, New, NoMore, More}
 use Rattle.typed_tree.specs.Programs.{TypedSub, TypedProgram}
 use Rattle.flow_paths.specs.Instructions.{Call}
@@ -23,7 +23,7 @@ use Rattle.flow_paths.specs.Points.{FlowPoint, flow_point}
 use Rattle.flow_paths.specs.Laid.{FlowSub, FlowProgram, NamedSub, sub_temporaries, named_subs, all_named, flow_sub, numbered, frame_of, number_in, kept_roots, sub_facts, signature, typing_of, flow_typing, flow_named, flow_program}
 use Rattle.flow_paths.specs.Limits.{act_name, is_deep, NameAt, name_at, act_names, point_names, program_names, earliest, deep_name, fault_of, lay_fault, name_pos}
 use Rattle.flow_paths.specs.Aliases.{Passed, passed_as, passed}
-use Rattle.laid_programs.specs.Layouts.{IsLayout}
+use Rattle.laid_program.specs.Layouts.{IsLayout}
 use Rattle.alias_rules.specs.Steps.{AreShallow}
 
 -- ---- a program within the limits

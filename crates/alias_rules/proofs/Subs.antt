@@ -16,8 +16,8 @@ use Rattle.flow_paths.specs.Stands.{flow_point_of, flow_sub_of}
 use Rattle.flow_paths.specs.Laid.{FlowSub, flow_typing}
 use Rattle.flow_paths.specs.Aliases.{call_reports, alias_reports}
 use Rattle.flow_paths.specs.Reports.{report_of}
-use Rattle.laid_programs.specs.declared.laid.Laid.{Laid}
-use Rattle.laid_programs.specs.Programs.{program_of}
+use Rattle.laid_program.specs.declared.laid.Laid.{Laid}
+use Rattle.laid_program.specs.Programs.{program_of}
 use Rattle.alias_rules.specs.Told.{Adds, sub_reports}
 
 -- ---- signatures by number

@@ -14,8 +14,8 @@ use Rattle.flow_paths.specs.Effects.{is_in, read_by, written_by}
 use Rattle.flow_paths.specs.Aliases as aliases
 use Rattle.flow_paths.specs.Aliases.{passed, meets_global, passed_reports, call_reports}
 use Rattle.flow_paths.specs.Reports.{report_of}
-use Rattle.laid_programs.specs.declared.laid.Laid.{Laid}
-use Rattle.laid_programs.specs.Programs.{program_of}
+use Rattle.laid_program.specs.declared.laid.Laid.{Laid}
+use Rattle.laid_program.specs.Programs.{program_of}
 use Rattle.alias_rules.specs.declared.actuals.Passed.{Passed}
 
 abbrev pub passed_of : Passed → aliases.Passed

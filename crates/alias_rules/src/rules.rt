@@ -1,7 +1,7 @@
 //! What the actuals of one call are reported for.
 ghost use Rattle.std.specs.Prelude.{◌≡◌, ◌&&◌, not, [], ◌∷◌, map, flat_map, IsTrue, OnOk, IfOk, if◌then◌else◌};
 ghost use Rattle.place_names.specs.Names.{overlaps};
-ghost use Rattle.type_table.specs.Types.{is_scalar};
+ghost use Rattle.type_definitions.specs.Types.{is_scalar};
 ghost use Rattle.flow_paths.specs.Effects.{Ascends, is_in, read_by, written_by};
 ghost use Rattle.flow_paths.specs.Views.{is_in_mode, text_report};
 ghost use Rattle.flow_paths.specs.Aliases.{is_immutable, is_scalar_formal, may_overlap, pair_reports, overlap_reports, meets_global, global_reports};
@@ -12,12 +12,12 @@ ghost use Rattle.alias_rules.specs.Order.{AreOrdered};
 
 use crate::actuals::Passed;
 use flow_paths::{Effects, Report};
-use flow_typing::{ProgramTyping, is_variable_access};
-use laid_programs::Laid;
+use laid_program::Laid;
 use place_names::{Mode, Rule};
+use program_typing::{ProgramTyping, is_variable_access};
 use spark_base::Listed;
 use std::alloc::AllocError;
-use type_table::View;
+use type_definitions::View;
 
 /// What is known of objects and types.
 fn typing(laid: &Laid) -> ProgramTyping<'_>

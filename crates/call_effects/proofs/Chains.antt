@@ -15,8 +15,8 @@ use Rattle.flow_paths.specs.Instructions.{instruction_of}
 use Rattle.flow_paths.specs.Stands.{flow_point_of, flow_sub_of}
 use Rattle.flow_paths.specs.Laid.{FlowSub, flow_typing}
 use Rattle.flow_paths.specs.Effects.{calls, sub_calls, flow_sub_at, CallChain, ends, calls_on, is_in, is_global, Ascends}
-use Rattle.laid_programs.specs.declared.laid.Laid.{Laid}
-use Rattle.laid_programs.specs.Programs.{program_of}
+use Rattle.laid_program.specs.declared.laid.Laid.{Laid}
+use Rattle.laid_program.specs.Programs.{program_of}
 use Rattle.call_effects.specs.Uses.{points_use, own_uses, Uses, points_at, laid_uses, laid_calls, instr_calls}
 use Rattle.call_effects.specs.Rows.{row, AreEmpty}
 use Rattle.call_effects.specs.Spreads.{flow_of, found, SearchedFor, AreUpTo, Spreading, AreUsers, AreUsersOf, AreCallers, AreOrdered, AreListed, ListsMore}

@@ -11,8 +11,8 @@ use Rattle.flow_paths.specs.Stands.{flow_sub_of}
 use Rattle.flow_paths.specs.Objects.{Typing, object_at, is_package_object, is_state}
 use Rattle.flow_paths.specs.Laid.{flow_typing}
 use Rattle.flow_paths.specs.Effects.{is_global, AreEffects}
-use Rattle.laid_programs.specs.declared.laid.Laid.{Laid}
-use Rattle.laid_programs.specs.Programs.{program_of}
+use Rattle.laid_program.specs.declared.laid.Laid.{Laid}
+use Rattle.laid_program.specs.Programs.{program_of}
 use Rattle.call_effects.specs.Uses.{Uses}
 use Rattle.call_effects.specs.Rows.{row}
 use Rattle.call_effects.specs.Spreads.{AreWhole}

@@ -8,8 +8,8 @@ use Rattle.label_flow.specs.Flows.{Flow}
 use Rattle.label_flow.specs.Searches.{Searched}
 use Rattle.flow_paths.specs.Laid.{FlowProgram}
 use Rattle.flow_paths.specs.Effects.{is_in, Ascends}
-use Rattle.laid_programs.specs.declared.laid.Laid.{Laid}
-use Rattle.laid_programs.specs.Programs.{program_of}
+use Rattle.laid_program.specs.declared.laid.Laid.{Laid}
+use Rattle.laid_program.specs.Programs.{program_of}
 use Rattle.call_effects.specs.Uses.{points_at, laid_uses, laid_calls, Uses}
 use Rattle.call_effects.specs.Rows.{row, AreMarked}
 

@@ -3,7 +3,7 @@ ghost use Rattle.std.specs.Prelude.{◌≡◌, ℕ, ◌+◌, ◌<◌, ◌≤◌,
 ghost use Rattle.spark_base.specs.Lists.{Has};
 ghost use Rattle.flow_paths.specs.Laid.{flow_typing};
 ghost use Rattle.flow_paths.specs.Effects.{AreEffects, is_global};
-ghost use Rattle.laid_programs.specs.Programs.{program_of};
+ghost use Rattle.laid_program.specs.Programs.{program_of};
 ghost use Rattle.call_effects.specs.Uses.{AreAsked};
 ghost use Rattle.call_effects.specs.Spreads.{AreCallers, AreOrdered, ListsMore, AreWhole};
 
@@ -11,8 +11,8 @@ use crate::rows::empty_lists;
 use crate::spread::spread;
 use crate::uses::{asked, callers, users};
 use flow_paths::Effects;
-use flow_typing::ProgramTyping;
-use laid_programs::Laid;
+use laid_program::Laid;
+use program_typing::ProgramTyping;
 use spark_base::Listed;
 use std::alloc::{AllocError, Global};
 

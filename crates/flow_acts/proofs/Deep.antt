@@ -11,7 +11,7 @@ use Rattle.spark_base.specs.declared.position.Pos.{Pos}
 use Rattle.spark_base.specs.declared.limits.TheConstants.{SELECTORS}
 use Rattle.place_names.specs.declared.selector.Sel.{Sel}
 use Rattle.place_names.specs.Names.{Name, extend}
-use Rattle.type_table.specs.Types.{is_owning, parts}
+use Rattle.type_definitions.specs.Types.{is_owning, parts}
 use Rattle.flow_paths.specs.Limits.{is_deep, act_name, act_names, name_at, name_pos, NameAt}
 use Rattle.flow_paths.specs.Objects.{Typing}
 use Rattle.flow_paths.specs.Acts.{used}

@@ -18,7 +18,7 @@ use Rattle.typed_tree.specs.Trees.{TypedTree}
 use Rattle.flow_paths.specs.declared.point.LeakSpot.{LeakSpot}
 use Rattle.flow_paths.specs.Instructions.{Instruction}
 use Rattle.flow_paths.specs.Instructions as instruction
-use Rattle.type_table.specs.Types.{parts}
+use Rattle.type_definitions.specs.Types.{parts}
 use Rattle.flow_paths.specs.Names.{Written, written}
 use Rattle.flow_paths.specs.Objects.{Typing, Passing, ByValue, Traversed, Place}
 use Rattle.flow_paths.specs.Acts.{Frame, acts_of, actual_act, actual_spots, call_spots, leaks_of, spot, spots_at}

@@ -5,7 +5,7 @@ use Rattle.flow_paths.specs.declared.instr.Instr.{Instr}
 use Rattle.flow_paths.specs.Instructions.{Instruction, instruction_of}
 use Rattle.flow_paths.specs.Objects.{Typing}
 use Rattle.flow_paths.specs.Acts.{Frame}
-use Rattle.flow_typing.specs.Typings.{typing}
+use Rattle.program_typing.specs.Typings.{typing}
 use Rattle.flow_acts.specs.declared.writer.ActWriter.{ActWriter}
 
 abbrev pub site : ActWriter → Typing

@@ -2,7 +2,7 @@
 use Rattle.std.specs.Prelude.{ℕ, Bool, List, [], ◌∷◌, map, length, Option, if◌then◌else◌}
 use Rattle.place_names.specs.declared.selector.Sel.TheVariants as sel
 use Rattle.place_names.specs.Names.{Name as PlaceName, extend}
-use Rattle.type_table.specs.Types.{parts}
+use Rattle.type_definitions.specs.Types.{parts}
 use Rattle.typed_tree.specs.Trees.{TypedTree}
 use Rattle.flow_paths.specs.declared.point.LeakSpot.{LeakSpot}
 use Rattle.flow_paths.specs.Objects.{designated}

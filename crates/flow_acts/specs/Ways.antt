@@ -5,8 +5,8 @@ use Rattle.typed_tree.specs.Trees.{TypedTree}
 use Rattle.flow_paths.specs.Objects as objects
 use Rattle.flow_paths.specs.Objects.{Typing}
 use Rattle.flow_paths.specs.Acts.{acts_in, index_acts}
-use Rattle.flow_typing.specs.declared.passing.Passing.{Passing}
-use Rattle.flow_typing.specs.Passings.{passing_of}
+use Rattle.program_typing.specs.declared.passing.Passing.{Passing}
+use Rattle.program_typing.specs.Passings.{passing_of}
 
 -- How some actuals are passed.
 abbrev pub ways_of : List Passing → List objects.Passing

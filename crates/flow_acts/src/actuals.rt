@@ -2,14 +2,14 @@
 ghost use Rattle.std.specs.Prelude.{◌≡◌, ◌++◌, OnOk};
 ghost use Rattle.flow_paths.specs.Objects.{passings, sub_at};
 ghost use Rattle.flow_paths.specs.Acts.{actual_act, actual_acts, actual_values};
-ghost use Rattle.flow_typing.specs.Passings.{passing_of};
+ghost use Rattle.program_typing.specs.Passings.{passing_of};
 ghost use Rattle.flow_acts.specs.Ways.{value_acts, ways_of};
 ghost use Rattle.flow_acts.specs.Frames.{site};
 ghost use Rattle.flow_acts.specs.Plans.{tree, Plans};
 
 use crate::plan::{Doing, Planned};
 use crate::writer::ActWriter;
-use flow_typing::Passing;
+use program_typing::Passing;
 use std::alloc::AllocError;
 use typed_tree::TypedNode;
 

@@ -1,11 +1,11 @@
 //! Where the first name that is too deep stands.
 ghost use Rattle.std.specs.Prelude.{◌≡◌, ◌++◌, ℕ, IfOk, List, OnOk, Option, false, flat_map, map};
 ghost use Rattle.place_names.specs.Names.{object};
-ghost use Rattle.type_table.specs.Types.{parts};
+ghost use Rattle.type_definitions.specs.Types.{parts};
 ghost use Rattle.flow_paths.specs.Objects.{object_at, passings, sub_at};
 ghost use Rattle.flow_paths.specs.Acts.{actual_spots, call_spots, leaks_of, spot};
 ghost use Rattle.flow_paths.specs.Limits.{act_names, earlier, name_pos, source_pos};
-ghost use Rattle.flow_typing.specs.Passings.{passing_of};
+ghost use Rattle.program_typing.specs.Passings.{passing_of};
 ghost use Rattle.flow_acts.specs.DeepPlaces.{first_deep, first_of, instruction_names, spot_names};
 ghost use Rattle.flow_acts.specs.Depths.{deep_spots, is_deep_act};
 ghost use Rattle.flow_acts.specs.Frames.{frame, instruction, site};
@@ -20,8 +20,8 @@ use crate::leaks::has_deep_spot;
 use crate::plan::{Doing, NameNode, Planned};
 use crate::writer::ActWriter;
 use flow_paths::Instr;
-use flow_typing::Passing;
 use place_names::{Mode, PlaceName};
+use program_typing::Passing;
 use spark_base::{Listed, Pos};
 use std::alloc::AllocError;
 use std::cmp::Ordering;

@@ -9,8 +9,8 @@ ghost use Rattle.flow_acts.specs.Plans.{tree, Plans};
 use crate::plan::{Doing, Planned};
 use crate::writer::ActWriter;
 use flow_paths::Instr;
-use flow_typing::is_borrowing;
 use place_names::Mode;
+use program_typing::is_borrowing;
 use spark_base::Pos;
 use std::alloc::AllocError;
 

@@ -1,13 +1,13 @@
 //! The leak checks of instructions.
 ghost use Rattle.std.specs.Prelude.{◌≡◌, ◌+◌, ◌++◌, ◌∷◌, [], ℕ, Err, IfOk, IsTrue, List, OnOk, Option, false, length, map};
-ghost use Rattle.type_table.specs.Types.{parts};
+ghost use Rattle.type_definitions.specs.Types.{parts};
 ghost use Rattle.place_names.specs.Names.{Name as PlaceName, object};
 ghost use Rattle.place_names.specs.declared.act.Act.{Act};
 ghost use Rattle.flow_paths.specs.Names.{written};
 ghost use Rattle.flow_paths.specs.Limits.{is_deep};
 ghost use Rattle.flow_paths.specs.Objects.{object_at, passings, sub_at};
 ghost use Rattle.flow_paths.specs.Acts.{actual_act, actual_spots, call_spots, leaks_of, naming, spot};
-ghost use Rattle.flow_typing.specs.Passings.{passing_of};
+ghost use Rattle.program_typing.specs.Passings.{passing_of};
 ghost use Rattle.flow_acts.specs.declared.fault.ActFault.TheVariants.{TooDeep as Deep};
 ghost use Rattle.flow_acts.specs.Depths.{deep_spots};
 ghost use Rattle.flow_acts.specs.Frames.{frame, instruction, site};
@@ -20,8 +20,8 @@ use crate::names::{extended, is_deep};
 use crate::plan::{NameNode, Planned};
 use crate::writer::ActWriter;
 use flow_paths::{Instr, LeakSpot};
-use flow_typing::Passing;
 use place_names::{Mode, PlaceName, PlaceTail, Sel};
+use program_typing::Passing;
 use spark_base::{Listed, Pos};
 use std::alloc::AllocError;
 use typed_tree::TypedNode;

@@ -1,7 +1,7 @@
 //! Where acts are written.
 
 use crate::call_rows::CallRows;
-use flow_typing::ProgramTyping;
+use program_typing::ProgramTyping;
 use std::alloc::Global;
 
 /// The typed rows of a program, and what is known of its types, objects and subprograms.

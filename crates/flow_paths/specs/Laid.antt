@@ -10,8 +10,8 @@ use Rattle.place_names.specs.declared.act.Placed.{Placed}
 use Rattle.place_names.specs.declared.act.Mode.TheVariants as mode
 use Rattle.place_names.specs.declared.fact.Fact.{Fact}
 use Rattle.place_names.specs.Facts.{place, adds, is_same_fact}
-use Rattle.type_table.specs.Types.{Table, words}
-use Rattle.type_table.specs.Entries.{integer, boolean}
+use Rattle.type_definitions.specs.Types.{Table, words}
+use Rattle.type_definitions.specs.Entries.{integer, boolean}
 use Rattle.typed_tree.specs.declared.object.Object.{Object}
 use Rattle.typed_tree.specs.declared.object.ObjectKind.TheVariants as object_kind
 use Rattle.typed_tree.specs.Trees.{TypedCode, Declare, If, Branch, Case, When, Loop, While, For, Block, More}

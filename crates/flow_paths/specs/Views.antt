@@ -13,7 +13,7 @@ use Rattle.place_names.specs.declared.act.Placed.{Placed}
 use Rattle.place_names.specs.declared.rule.Rule.{Rule}
 use Rattle.place_names.specs.declared.rule.Rule.TheVariants as rule
 use Rattle.place_names.specs.Reports.{Report}
-use Rattle.type_table.specs.Types.{is_nil}
+use Rattle.type_definitions.specs.Types.{is_nil}
 use Rattle.flow_paths.specs.declared.report.Effects.{Effects}
 use Rattle.flow_paths.specs.Instructions.{Instruction, Assign, Call}
 use Rattle.flow_paths.specs.Objects.{Typing, object_at, view_of, is_borrower, is_observer, is_formal, is_package_object, is_named_access, traverses}

@@ -9,15 +9,15 @@ use Rattle.place_names.specs.declared.selector.Sel.{Sel}
 use Rattle.place_names.specs.Names.{Name}
 use Rattle.resolved_tree.specs.Trees.{Program}
 use Rattle.flow_tests.proofs.ResolvedTrees.{at}
-use Rattle.type_table.specs.Types.{words_within, parts_within, words, parts, owns_within, is_owning}
-use Rattle.type_table.specs.Entries.{is_complete}
-use Rattle.type_table.specs.Names.{seen, step, along, reading_of}
-use Rattle.type_table.specs.Statics.{is_static, value}
-use Rattle.type_table.specs.Expressions.{own_type, compares, inside, arguments, within_suffix, behind}
-use Rattle.type_table.specs.Statements.{range_faults, has_gap}
-use Rattle.type_table.specs.Gathered.{gather}
-use Rattle.type_table.specs.Declarations.{some_part, code_faults, alternatives_faults, alternative_faults}
-use Rattle.type_table.specs.Whole.{made, known_of}
+use Rattle.type_definitions.specs.Types.{words_within, parts_within, words, parts, owns_within, is_owning}
+use Rattle.type_definitions.specs.Entries.{is_complete}
+use Rattle.type_definitions.specs.Names.{seen, step, along, reading_of}
+use Rattle.type_definitions.specs.Statics.{is_static, value}
+use Rattle.type_definitions.specs.Expressions.{own_type, compares, inside, arguments, within_suffix, behind}
+use Rattle.type_definitions.specs.Statements.{range_faults, has_gap}
+use Rattle.type_definitions.specs.Gathered.{gather}
+use Rattle.type_definitions.specs.Declarations.{some_part, code_faults, alternatives_faults, alternative_faults}
+use Rattle.type_definitions.specs.Whole.{made, known_of}
 use Rattle.typed_tree.specs.Expressions.{characters, typed_expression}
 use Rattle.typed_tree.specs.Statements.{scope_count, statements}
 use Rattle.typed_tree.specs.Programs.{scopes_in, objects_in, bodies_in, subs_in, typed_program}

@@ -6,15 +6,15 @@ use Rattle.spark_base.specs.declared.limits.TheConstants.{POINTS}
 use Rattle.typed_tree.specs.Nodes.{TypedNodes, typed_code_at}
 use Rattle.typed_statements.specs.declared.subs.Subprogram.{Subprogram}
 use Rattle.flow_paths.specs.declared.point.Point.{Point}
-use Rattle.flow_numbers.specs.Prepared.{Maker}
-use Rattle.flow_numbers.specs.Programs.{maker, package_numbers, roots_in, sub_numbers}
-use Rattle.flow_layout.specs.declared.layout.Layout.{Layout}
-use Rattle.flow_layout.specs.Bare.{Bare, Laying, bares, dress}
-use Rattle.flow_layout.specs.BareSubs.{bare_package, bare_sub}
-use Rattle.flow_layout.specs.Layouts.{code_in, laying, made_in}
-use Rattle.flow_layout.specs.Spans.{ends_of}
-use Rattle.flow_layout.proofs.Dressed.{package_laid as package_dressed, sub_laid as sub_dressed}
-use Rattle.program_layout.specs.Subs.{package_laid, sub_in, sub_laid, ArePackagePoints, AreSubPoints}
+use Rattle.numbered_points.specs.Prepared.{Maker}
+use Rattle.numbered_points.specs.Programs.{maker, package_numbers, roots_in, sub_numbers}
+use Rattle.bare_points.specs.declared.layout.Layout.{Layout}
+use Rattle.bare_points.specs.Bare.{Bare, Laying, bares, dress}
+use Rattle.bare_points.specs.BareSubs.{bare_package, bare_sub}
+use Rattle.bare_points.specs.Layouts.{code_in, laying, made_in}
+use Rattle.bare_points.specs.Spans.{ends_of}
+use Rattle.bare_points.proofs.Dressed.{package_laid as package_dressed, sub_laid as sub_dressed}
+use Rattle.sub_layout.specs.Subs.{package_laid, sub_in, sub_laid, ArePackagePoints, AreSubPoints}
 use Rattle.lay_out.specs.declared.sub_writer.SubWriter.{SubWriter}
 use Rattle.lay_out.specs.Subs.{site, IsReady}
 

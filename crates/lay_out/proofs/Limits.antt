@@ -7,8 +7,8 @@ use Rattle.flow_paths.specs.declared.refusal.LayFault.{LayFault}
 use Rattle.flow_paths.specs.declared.refusal.LayFault.TheVariants as fault
 use Rattle.flow_paths.specs.Laid.{FlowSub}
 use Rattle.flow_paths.specs.Limits.{beyond}
-use Rattle.program_layout.specs.declared.fault.SubFault.{SubFault}
-use Rattle.program_layout.specs.declared.fault.SubFault.TheVariants as sub_fault
+use Rattle.sub_layout.specs.declared.fault.SubFault.{SubFault}
+use Rattle.sub_layout.specs.declared.fault.SubFault.TheVariants as sub_fault
 use Rattle.lay_out.specs.declared.refusal.LayRefusal.{LayRefusal}
 use Rattle.lay_out.specs.declared.refusal.LayRefusal.TheVariants as refusal
 use Rattle.lay_out.specs.Refusals.{Says}

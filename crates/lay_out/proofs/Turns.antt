@@ -8,7 +8,7 @@ use Rattle.typed_statements.specs.Bodies.{sub_at}
 use Rattle.flow_paths.specs.Objects.{Typing}
 use Rattle.flow_paths.specs.Laid.{FlowSub}
 use Rattle.flow_paths.specs.Limits.{beyond}
-use Rattle.flow_numbers.specs.Programs.{NumberedSub, numbered_sub, numbered_subs}
+use Rattle.numbered_points.specs.Programs.{NumberedSub, numbered_sub, numbered_subs}
 use Rattle.lay_out.specs.declared.refusal.LayRefusal.{LayRefusal}
 use Rattle.lay_out.specs.Refusals.{Says}
 use Rattle.lay_out.specs.Subs.{next_temporary, subs_of, types_of}

@@ -2,26 +2,26 @@
 use Rattle.std.proofs.Common.{◌≡◌, ℕ, List, [], ◌∷◌, ◌++◌, map, refl, sym, ap, ◌∙◌, Option, Some, None}
 use Rattle.spark_base.specs.declared.position.Pos.{Pos}
 use Rattle.ada_tree.specs.declared.unit.SourceUnit.{SourceUnit}
-use Rattle.type_table.specs.Types.{Table}
-use Rattle.type_rules.specs.Programs.{program_of}
+use Rattle.type_definitions.specs.Types.{Table}
+use Rattle.typing_steps.specs.Programs.{program_of}
 use Rattle.typed_tree.specs.declared.object.Object.{Object}
 use Rattle.typed_tree.specs.Nodes.{TypedNodes, typed_code_at}
 use Rattle.typed_tree.specs.Programs.{TypedSub, TypedProgram}
 use Rattle.typed_statements.specs.declared.subs.Subprogram.{Subprogram}
 use Rattle.typed_statements.specs.Bodies.{sub_at}
 use Rattle.typed_programs.specs.declared.parts.ProgramParts.{ProgramParts}
-use Rattle.typed_check.specs.declared.typed.Typed.{Typed}
-use Rattle.typed_check.specs.Typed.{IsTyped}
+use Rattle.type_rules.specs.declared.typed.Typed.{Typed}
+use Rattle.type_rules.specs.Typed.{IsTyped}
 use Rattle.flow_paths.specs.declared.point.LaidSub.{LaidSub}
 use Rattle.flow_paths.specs.declared.refusal.LayFault.TheVariants as fault
 use Rattle.flow_paths.specs.Objects.{Typing, Signature}
 use Rattle.flow_paths.specs.Laid.{FlowProgram, flow_program, signature, typing_of}
 use Rattle.flow_paths.specs.Limits.{beyond, deep_name, fault_of, lay_fault}
 use Rattle.flow_paths.specs.Stands.{flow_sub_of}
-use Rattle.flow_numbers.specs.Programs.{all_numbered, program_numbers, waiting_object}
-use Rattle.flow_numbers.proofs.Program.{program_same}
-use Rattle.name_depths.specs.Bodies.{IsProgram}
-use Rattle.laid_programs.specs.Layouts.{IsLayout, program_with}
+use Rattle.numbered_points.specs.Programs.{all_numbered, program_numbers, waiting_object}
+use Rattle.numbered_points.proofs.Program.{program_same}
+use Rattle.deep_names.specs.Bodies.{IsProgram}
+use Rattle.laid_program.specs.Layouts.{IsLayout, program_with}
 use Rattle.lay_out.specs.Known.{signature_of}
 use Rattle.lay_out.specs.declared.laid_subs.LaidSubs.{LaidSubs}
 use Rattle.lay_out.specs.Parts.{parts_of}

@@ -1,6 +1,6 @@
 -- What is known of the parts of a typed program, by number.
 use Rattle.std.specs.Prelude.{ℕ, Bool, ◌||◌}
-use Rattle.type_table.specs.Types.{full, is_owning}
+use Rattle.type_definitions.specs.Types.{full, is_owning}
 use Rattle.typed_statements.specs.declared.subs.Subprogram.{Subprogram}
 use Rattle.flow_paths.specs.Objects.{Typing, Signature, is_anonymous}
 

@@ -1,6 +1,6 @@
 -- The parts of a typed program.
 use Rattle.typed_programs.specs.declared.parts.ProgramParts.{ProgramParts}
-use Rattle.typed_check.specs.declared.typed.Typed.{Typed}
+use Rattle.type_rules.specs.declared.typed.Typed.{Typed}
 
 abbrev pub parts_of : Typed → ProgramParts
 parts_of typed = record {

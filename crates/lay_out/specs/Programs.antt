@@ -2,11 +2,11 @@
 use Rattle.std.specs.Prelude.{◌≡◌, List, map}
 use Rattle.typed_tree.specs.Programs.{TypedProgram}
 use Rattle.typed_programs.specs.Parts.{program_of}
-use Rattle.typed_check.specs.declared.typed.Typed.{Typed}
+use Rattle.type_rules.specs.declared.typed.Typed.{Typed}
 use Rattle.flow_paths.specs.Objects.{Typing}
 use Rattle.flow_paths.specs.Laid.{typing_of}
 use Rattle.flow_paths.specs.Stands.{flow_sub_of}
-use Rattle.flow_numbers.specs.Programs.{NumberedSub, all_numbered}
+use Rattle.numbered_points.specs.Programs.{NumberedSub, all_numbered}
 use Rattle.lay_out.specs.declared.laid_subs.LaidSubs.{LaidSubs}
 use Rattle.lay_out.specs.Parts.{parts_of}
 use Rattle.lay_out.specs.Subs.{subs_of, types_of}

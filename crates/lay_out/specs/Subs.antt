@@ -8,13 +8,13 @@ use Rattle.flow_paths.specs.Objects.{Typing, has_scope_end}
 use Rattle.flow_paths.specs.Laid.{FlowSub}
 use Rattle.flow_paths.specs.Stands.{flow_sub_of}
 use Rattle.flow_paths.specs.declared.refusal.LayFault.{LayFault}
-use Rattle.flow_numbers.specs.Programs.{NumberedSub}
-use Rattle.flow_layout.specs.Spans.{ends_of}
-use Rattle.flow_layout.specs.Sized.{ArePreps, AreSpans}
+use Rattle.numbered_points.specs.Programs.{NumberedSub}
+use Rattle.bare_points.specs.Spans.{ends_of}
+use Rattle.bare_points.specs.Sized.{ArePreps, AreSpans}
 use Rattle.flow_acts.specs.Frames as frames
-use Rattle.program_layout.specs.declared.fault.SubFault.{SubFault}
-use Rattle.program_layout.specs.declared.fault.SubFault.TheVariants as sub_fault
-use Rattle.program_layout.specs.Words.{AreWords}
+use Rattle.sub_layout.specs.declared.fault.SubFault.{SubFault}
+use Rattle.sub_layout.specs.declared.fault.SubFault.TheVariants as sub_fault
+use Rattle.sub_layout.specs.Words.{AreWords}
 use Rattle.lay_out.specs.declared.refusal.LayRefusal.{LayRefusal}
 use Rattle.lay_out.specs.declared.refusal.LayRefusal.TheVariants as refusal
 use Rattle.lay_out.specs.Refusals.{Says}

@@ -1,10 +1,10 @@
 //! What is known of the parts of a typed program, by number.
 ghost use Rattle.std.specs.Prelude.{◌≡◌, ℕ, false, get_or, map, IfOk};
 ghost use Rattle.flow_paths.specs.Objects.{has_scope_end};
-ghost use Rattle.flow_typing.specs.Typings.{typing};
+ghost use Rattle.program_typing.specs.Typings.{typing};
 ghost use Rattle.lay_out.specs.Known.{has_end, signature_of};
 
-use flow_typing::{ProgramTyping, Signature, is_anonymous};
+use program_typing::{ProgramTyping, Signature, is_anonymous};
 use spark_base::Listed;
 use std::alloc::{AllocError, Global};
 use typed_statements::Subprogram;

@@ -7,7 +7,7 @@
 //! are looked at before any point is made, and a subprogram whose points are too many is told
 //! before one of them is made. One subprogram is laid out behind the other, and the temporaries of
 //! each have the numbers behind those of the ones before. Time is linear in the code, in the points
-//! and in what they do to places, but for what `program_layout` and `flow_layout` say of facts,
+//! and in what they do to places, but for what `sub_layout` and `bare_points` say of facts,
 //! blocks and loops.
 #![tactic(auto)]
 

@@ -4,19 +4,19 @@ ghost use Rattle.std.specs.List.{All as Each};
 ghost use Rattle.spark_base.specs.declared.limits.TheConstants as limits;
 ghost use Rattle.flow_paths.specs.Limits.{beyond};
 ghost use Rattle.flow_paths.specs.Stands.{flow_sub_of};
-ghost use Rattle.flow_numbers.specs.Programs.{all_numbered, numbered_subs};
-ghost use Rattle.program_layout.specs.Subs.{package_laid, sub_in, sub_laid, ArePackagePoints, AreSubPoints};
+ghost use Rattle.numbered_points.specs.Programs.{all_numbered, numbered_subs};
+ghost use Rattle.sub_layout.specs.Subs.{package_laid, sub_in, sub_laid, ArePackagePoints, AreSubPoints};
 ghost use Rattle.lay_out.specs.Refusals.{Judges};
 ghost use Rattle.lay_out.specs.Subs.{flow_subs, next_temporary, refusal_by, site, subs_in, subs_of, types_of, IsReady, Refuses};
 
 use crate::laid_subs::LaidSubs;
 use crate::refusal::LayRefusal;
+use bare_points::{Layout, Sizes};
 use flow_acts::ActWriter;
-use flow_layout::{Layout, Sizes};
 use flow_paths::{LaidSub, Point};
-use program_layout::{SubFault, lay_package, lay_sub};
 use spark_base::Pos;
 use std::alloc::AllocError;
+use sub_layout::{SubFault, lay_package, lay_sub};
 use typed_statements::Subprogram;
 
 /// What subprograms are laid out by.

@@ -6,7 +6,7 @@ use Rattle.typed_tree.specs.Trees.{TypedTree, More}
 use Rattle.flow_paths.specs.Objects.{Typing, object_at, is_anonymous, view_of, Passing, ByValue, Traversed}
 use Rattle.flow_paths.specs.Objects as objects
 use Rattle.flow_paths.specs.Names.{Written, written}
-use Rattle.type_table.specs.Types.{parts}
+use Rattle.type_definitions.specs.Types.{parts}
 use Rattle.machine.specs.Words.{Word, Cell, default, offsets}
 use Rattle.machine.specs.Memory.{Memory, Slot, Place, no_slot, slots_at, words_of, moved_out, declared}
 use Rattle.machine.specs.Evaluate.{Now, Here, Evaluated, Done, followed_by, value, viewed, place_of, checked}

@@ -6,12 +6,12 @@ use Rattle.std.specs.Prelude.{ℕ, suc, ◌+◌, ◌*◌, Bool, true, false, not
 use Rattle.std.specs.Char.{to_ascii_uppercase}
 use Rattle.resolved_tree.specs.declared.operator.Operator.{Operator}
 use Rattle.resolved_tree.specs.declared.operator.UnaryOperator.{UnaryOperator}
-use Rattle.type_table.specs.declared.table.Shape.{Shape}
-use Rattle.type_table.specs.declared.table.Shape.TheVariants as shape
-use Rattle.type_table.specs.declared.table.Static.{Static}
-use Rattle.type_table.specs.Types.{Table, base, shape_of, words, is_owning}
-use Rattle.type_table.specs.Entries.{integer, boolean}
-use Rattle.type_table.specs.Statics.{operate, one}
+use Rattle.type_definitions.specs.declared.table.Shape.{Shape}
+use Rattle.type_definitions.specs.declared.table.Shape.TheVariants as shape
+use Rattle.type_definitions.specs.declared.table.Static.{Static}
+use Rattle.type_definitions.specs.Types.{Table, base, shape_of, words, is_owning}
+use Rattle.type_definitions.specs.Entries.{integer, boolean}
+use Rattle.type_definitions.specs.Statics.{operate, one}
 use Rattle.typed_tree.specs.declared.node.ShortCircuit.{ShortCircuit}
 use Rattle.typed_tree.specs.declared.node.ShortCircuit.TheVariants as short
 use Rattle.typed_tree.specs.Trees.{TypedTree, Number, Literal, Text, Name, Component as IntoComponent, Designated, Element, Call, EndOfFile, Parens, Image, Unary, Binary, Short, IsNull, Aggregate, Alike, New, NoMore, More}

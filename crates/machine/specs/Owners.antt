@@ -3,7 +3,7 @@ use Rattle.std.specs.Prelude.{◌≡◌, ◌≤◌, ◌⊎◌, ℕ, Bool, true, 
 use Rattle.spark_base.specs.Lists.{Has}
 use Rattle.place_names.specs.declared.act.Mode.{Mode}
 use Rattle.place_names.specs.declared.act.Mode.TheVariants as mode
-use Rattle.type_table.specs.Entries.{integer}
+use Rattle.type_definitions.specs.Entries.{integer}
 use Rattle.flow_paths.specs.Objects.{Typing, object_at, is_formal}
 use Rattle.machine.specs.Words.{Cell, access_offsets}
 use Rattle.machine.specs.Memory.{Slot, OfVariable, fresh, no_slot, cell, slots_at}

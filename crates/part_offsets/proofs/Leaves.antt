@@ -4,10 +4,10 @@ use Rattle.spark_base.specs.Lists.{Has}
 use Rattle.spark_base.proofs.Lists.{Has-append_left, Has-append_right, Has-append_cases, Has-map, Has-map_from}
 use Rattle.place_names.specs.declared.selector.Sel.{Sel}
 use Rattle.place_names.specs.declared.selector.Sel.TheVariants.{Field, Elem, Deref}
-use Rattle.type_table.specs.declared.table.Component.{Component as Part}
-use Rattle.type_table.specs.declared.table.Shape.{Shape}
-use Rattle.type_table.specs.declared.table.Shape.TheVariants as shape
-use Rattle.type_table.specs.Types.{Table, shape_of, components_of, fields, words, parts, parts_of, numbered}
+use Rattle.type_definitions.specs.declared.table.Component.{Component as Part}
+use Rattle.type_definitions.specs.declared.table.Shape.{Shape}
+use Rattle.type_definitions.specs.declared.table.Shape.TheVariants as shape
+use Rattle.type_definitions.specs.Types.{Table, shape_of, components_of, fields, words, parts, parts_of, numbered}
 use Rattle.owned_ways.specs.Ways.{Step, Component, Element}
 use Rattle.machine.specs.Words.{no_component, words_before, component_type, element_of, count_of, element_type, element_count, in_each, offsets, access_offsets}
 use Rattle.part_offsets.specs.Parts.{type_in, offset_in, has_part, owns_one, is_leaf, sels_along, IsSettled}

@@ -17,8 +17,8 @@ use Rattle.flow_paths.specs.Paths.{PathReport}
 use Rattle.flow_paths.specs.Printing.{printed_name}
 use Rattle.flow_paths.specs.Reports.{ProgramReport, on_actuals, on_views, on_paths, AreReports}
 use Rattle.path_reports.proofs.CalledPaths.{called_path_points}
-use Rattle.laid_programs.specs.declared.laid.Laid.{Laid}
-use Rattle.laid_programs.specs.Programs.{program_of}
+use Rattle.laid_program.specs.declared.laid.Laid.{Laid}
+use Rattle.laid_program.specs.Programs.{program_of}
 use Rattle.path_check.specs.Told.{reports_in, AreOfActuals, AreOfViews}
 use Rattle.path_check.specs.Paths.{OnPaths}
 

@@ -14,14 +14,14 @@ use Rattle.flow_paths.specs.Laid.{FlowProgram}
 use Rattle.flow_paths.specs.Stands.{flow_point_of, flow_sub_of}
 use Rattle.flow_paths.specs.Effects.{AreEffects}
 use Rattle.flow_paths.specs.Paths.{path_point, acts_at}
-use Rattle.path_facts.specs.PointTrees.{path_points_of, AreWithin}
-use Rattle.path_facts.proofs.Carried.{points_counted}
+use Rattle.point_states.specs.PointTrees.{path_points_of, AreWithin}
+use Rattle.point_states.proofs.Carried.{points_counted}
 use Rattle.path_reports.specs.CalledPoints.{AreAscending, AreListed}
-use Rattle.laid_programs.specs.declared.laid.Laid.{Laid}
-use Rattle.laid_programs.specs.Programs.{program_of}
-use Rattle.laid_programs.proofs.Successors.{AreNumbers}
-use Rattle.laid_programs.proofs.FactLists.{AreAdded}
-use Rattle.laid_programs.proofs.Kept.{layout_numbers, layout_added}
+use Rattle.laid_program.specs.declared.laid.Laid.{Laid}
+use Rattle.laid_program.specs.Programs.{program_of}
+use Rattle.laid_program.proofs.Successors.{AreNumbers}
+use Rattle.laid_program.proofs.FactLists.{AreAdded}
+use Rattle.laid_program.proofs.Kept.{layout_numbers, layout_added}
 
 pub ascending : (program : FlowProgram) (effects : Effects) → AreEffects program effects → AreAscending effects
 ascending program effects e = record { read = e.read_order; written = e.written_order }

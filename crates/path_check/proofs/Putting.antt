@@ -8,7 +8,7 @@ use Rattle.place_names.specs.Reports.{Report}
 use Rattle.report_lists.specs.PrintedReports.{Printed, printed_cmp}
 use Rattle.report_lists.specs.Gains.{told, put_told, Gains}
 use Rattle.report_lists.proofs.Gained.{gains_same, gains_both}
-use Rattle.type_table.specs.Types.{Table}
+use Rattle.type_definitions.specs.Types.{Table}
 use Rattle.typed_tree.specs.declared.object.Object.{Object}
 use Rattle.flow_paths.specs.declared.point.Point.{Point}
 use Rattle.flow_paths.specs.declared.report.Report.{Report as Listed}
@@ -17,7 +17,7 @@ use Rattle.flow_paths.specs.declared.point.LaidSub.{LaidSub}
 use Rattle.flow_paths.specs.Printing.{printed_name}
 use Rattle.flow_paths.specs.Reports.{report_of}
 use Rattle.flow_paths.specs.Paths.{PathReport}
-use Rattle.path_facts.proofs.Moves.{drop_past}
+use Rattle.point_states.proofs.Moves.{drop_past}
 use Rattle.path_reports.specs.CalledPoints.{called_points}
 use Rattle.path_reports.proofs.Putting.{dropped}
 use Rattle.path_check.specs.Told.{reports_in}

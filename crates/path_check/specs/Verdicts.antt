@@ -3,10 +3,10 @@ use Rattle.std.specs.Prelude.{◌≡◌, ◌≢◌, ℕ, ◌+◌, ◌*◌, List,
 use Rattle.flow_paths.specs.declared.report.Effects.{Effects}
 use Rattle.flow_paths.specs.declared.point.LaidSub.{LaidSub}
 use Rattle.flow_paths.specs.Reports.{AreReports}
-use Rattle.path_facts.specs.PointTrees.{path_points_of, successors}
-use Rattle.laid_programs.specs.declared.laid.Laid.{Laid}
-use Rattle.laid_programs.specs.declared.names.Names.{Names}
-use Rattle.laid_programs.specs.Programs.{program_of}
+use Rattle.point_states.specs.PointTrees.{path_points_of, successors}
+use Rattle.laid_program.specs.declared.laid.Laid.{Laid}
+use Rattle.laid_program.specs.declared.names.Names.{Names}
+use Rattle.laid_program.specs.Programs.{program_of}
 use Rattle.path_check.specs.declared.verdict.Verdict.{Verdict}
 use Rattle.path_check.specs.declared.verdict.Verdict.TheVariants as verdict
 use Rattle.path_check.specs.Told.{reports_in}

@@ -2,10 +2,10 @@
 ghost use Rattle.std.specs.Prelude.{◌≡◌, []};
 ghost use Rattle.flow_paths.specs.Effects.{AreEffects};
 ghost use Rattle.flow_paths.specs.Reports.{AreReports};
-ghost use Rattle.laid_programs.specs.Programs.{program_of};
+ghost use Rattle.laid_program.specs.Programs.{program_of};
 
 use flow_paths::Effects;
-use laid_programs::Laid;
+use laid_program::Laid;
 
 /// A program that is laid out and has no reports, with what its subprograms read and write. It is
 /// dropped by a function of its own: who owns one needn't prove again how its parts are dropped.

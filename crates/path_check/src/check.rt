@@ -7,7 +7,7 @@ ghost use Rattle.flow_paths.specs.Effects.{AreEffects};
 ghost use Rattle.flow_paths.specs.Printing.{printed_name};
 ghost use Rattle.flow_paths.specs.Reports.{report_of, AreReports};
 ghost use Rattle.path_reports.specs.CalledPoints.{AreAscending};
-ghost use Rattle.laid_programs.specs.Programs.{program_of};
+ghost use Rattle.laid_program.specs.Programs.{program_of};
 ghost use Rattle.path_check.specs.Told.{reports_in, AreOfActuals, AreOfViews};
 ghost use Rattle.path_check.specs.Verdicts.{IsVerdict, all_steps};
 ghost use Rattle.path_check.specs.Paths.{OnPaths};
@@ -15,14 +15,14 @@ ghost use Rattle.path_check.specs.Paths.{OnPaths};
 use crate::accepted::AcceptedProgram;
 use crate::verdict::Verdict;
 use flow_paths::{Effects, Report};
-use laid_programs::Laid;
-use path_facts::Steps;
+use laid_program::Laid;
 use path_reports::path_reports;
+use point_states::Steps;
 use report_lists::{PrintedReport, ReportSet};
 use spark_base::Listed;
 use std::alloc::{AllocError, Global};
 use std::sync::ledger::Ledger;
-use type_table::Info;
+use type_definitions::Info;
 use typed_tree::{Object, print_name};
 
 /// A report with the text of its name.

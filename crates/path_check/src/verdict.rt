@@ -2,7 +2,7 @@
 
 use crate::accepted::AcceptedProgram;
 use flow_paths::Report;
-use laid_programs::Names;
+use laid_program::Names;
 use spark_base::Listed;
 
 /// Whether a program is accepted.

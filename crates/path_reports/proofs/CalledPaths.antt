@@ -28,9 +28,9 @@ use Rattle.flow_paths.specs.Stands.{flow_point_of, flow_sub_of}
 use Rattle.flow_paths.specs.Effects.{is_in, global_act, globals_from, read_by, written_by, called_acts, all_acts, path_points}
 use Rattle.flow_paths.specs.Paths.{acts_at, PathReport}
 use Rattle.state_trees.specs.FactStates.{FactState}
-use Rattle.path_facts.specs.PointTrees.{path_points_of, IsExact}
-use Rattle.path_facts.specs.Carries.{acts_of}
-use Rattle.path_facts.proofs.Globals.{exact_on_paths}
+use Rattle.point_states.specs.PointTrees.{path_points_of, IsExact}
+use Rattle.point_states.specs.Carries.{acts_of}
+use Rattle.point_states.proofs.Globals.{exact_on_paths}
 use Rattle.path_reports.specs.CalledPoints.{called_by, called_points, AreListed}
 use Rattle.path_reports.specs.Told.{told_all, AreKept}
 use Rattle.path_reports.specs.Uses.{all_told}

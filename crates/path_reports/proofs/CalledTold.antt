@@ -24,7 +24,7 @@ use Rattle.flow_paths.specs.declared.instr.Instr.TheVariants as instr
 use Rattle.flow_paths.specs.declared.point.Point.{Point}
 use Rattle.flow_paths.specs.Acts.{placed}
 use Rattle.flow_paths.specs.Effects.{is_in, read_by, written_by, globals_from}
-use Rattle.path_facts.specs.Carries.{state_along, acts_of}
+use Rattle.point_states.specs.Carries.{state_along, acts_of}
 use Rattle.path_reports.specs.CalledPoints.{called_by, called_point, called_points}
 use Rattle.path_reports.specs.Uses.{breaks_at, breaks_call, use_forbids, uses_told, called_told, point_told, where_told, all_told}
 use Rattle.path_reports.specs.Told.{found_at, told_along, told_where, told_all}

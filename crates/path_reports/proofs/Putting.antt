@@ -16,10 +16,10 @@ use Rattle.report_lists.proofs.Gained.{put_told-append}
 use Rattle.typed_tree.specs.declared.object.Object.{Object}
 use Rattle.flow_paths.specs.declared.point.Point.{Point}
 use Rattle.flow_paths.specs.declared.report.Effects.{Effects}
-use Rattle.path_facts.specs.PointTrees.{tree_at}
-use Rattle.path_facts.proofs.Carried.{same_default}
-use Rattle.path_facts.specs.Carries.{state_along, acts_of}
-use Rattle.path_facts.proofs.Moves.{drop_past}
+use Rattle.point_states.specs.PointTrees.{tree_at}
+use Rattle.point_states.proofs.Carried.{same_default}
+use Rattle.point_states.specs.Carries.{state_along, acts_of}
+use Rattle.point_states.proofs.Moves.{drop_past}
 use Rattle.path_reports.specs.Told.{found_at, told_along, report_found, IsKeptWhere}
 use Rattle.path_reports.specs.Uses.{called_told, point_told, where_told, all_told}
 

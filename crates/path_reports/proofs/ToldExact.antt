@@ -14,11 +14,11 @@ use Rattle.state_trees.specs.FactStates.{FactState, may_hold, marked, says, stat
 use Rattle.state_trees.proofs.Kept.{kept_behind}
 use Rattle.state_trees.proofs.FactByFact.{at-may_behind}
 use Rattle.flow_paths.specs.Paths.{PathPoint, path_point, ControlPath, acts_at, acts_along, facts_before, facts_within, IsReached, PathReport}
-use Rattle.path_facts.specs.PointTrees.{fact_at, tree_at, IsExactAt, IsExact}
-use Rattle.path_facts.specs.Carries.{state_along, acts_of}
-use Rattle.path_facts.proofs.Moves.{along_facts}
-use Rattle.path_facts.proofs.Numbers.{has_number, marked_number, number_marked}
-use Rattle.path_facts.proofs.Listed.{behind_listed, path_listed}
+use Rattle.point_states.specs.PointTrees.{fact_at, tree_at, IsExactAt, IsExact}
+use Rattle.point_states.specs.Carries.{state_along, acts_of}
+use Rattle.point_states.proofs.Moves.{along_facts}
+use Rattle.point_states.proofs.Numbers.{has_number, marked_number, number_marked}
+use Rattle.point_states.proofs.Listed.{behind_listed, path_listed}
 use Rattle.path_reports.specs.CalledPoints.{AreListed}
 use Rattle.path_reports.specs.Told.{found_at, told_along, told_where, told_all, IsKeptWhere, AreKept}
 use Rattle.path_reports.proofs.FoundAmong.{found_from, found_to}

@@ -11,7 +11,7 @@ use Rattle.state_trees.specs.FactStates.{FactState, state_behind, IsKept}
 use Rattle.move_rules.specs.MoveRules.{moves_found}
 use Rattle.borrow_observe.specs.LoanRules.{loans_found}
 use Rattle.flow_paths.specs.Paths.{PathPoint}
-use Rattle.path_facts.specs.PointTrees.{tree_at}
+use Rattle.point_states.specs.PointTrees.{tree_at}
 
 -- What the facts that may hold forbid at an act, by the rules of moves and by those of loans.
 abbrev pub found_at : Act → FactState → List Forbidden

@@ -16,7 +16,7 @@ use Rattle.flow_paths.specs.declared.point.Point.{Point}
 use Rattle.flow_paths.specs.declared.report.Effects.{Effects}
 use Rattle.flow_paths.specs.Effects.{is_in, read_by, written_by}
 use Rattle.state_trees.specs.FactStates.{FactState, may_hold}
-use Rattle.path_facts.specs.Carries.{state_along, acts_of}
+use Rattle.point_states.specs.Carries.{state_along, acts_of}
 use Rattle.path_reports.specs.Told.{told_along}
 
 -- A fact breaks a rule at a call that uses an object. Object 0 is Ada.Text_IO, which has no act, and the

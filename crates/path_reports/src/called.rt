@@ -18,7 +18,7 @@ use report_lists::ReportSet;
 use spark_base::{Listed, Pos};
 use state_trees::Tree;
 use std::alloc::{AllocError, Global};
-use type_table::Info;
+use type_definitions::Info;
 use typed_tree::Object;
 
 /// Whether an ascending list has an object. It is looked up by halves.

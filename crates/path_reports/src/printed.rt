@@ -8,7 +8,7 @@ use fact_questions::Found;
 use report_lists::{PrintedReport, ReportSet};
 use spark_base::Pos;
 use std::alloc::{AllocError, Global};
-use type_table::Info;
+use type_definitions::Info;
 use typed_tree::{Object, print_name};
 
 /// What was found, as a report with the text of its name.

@@ -5,8 +5,8 @@ ghost use Rattle.report_lists.specs.Gains.{put_told, Gains};
 ghost use Rattle.flow_paths.specs.Paths.{PathReport};
 ghost use Rattle.flow_paths.specs.Printing.{printed_name};
 ghost use Rattle.state_trees.specs.FactStates.{IsKept};
-ghost use Rattle.path_facts.specs.PointTrees.{path_points_of, successors, AreWithin};
-ghost use Rattle.path_facts.specs.Carries.{state_along, acts_of};
+ghost use Rattle.point_states.specs.PointTrees.{path_points_of, successors, AreWithin};
+ghost use Rattle.point_states.specs.Carries.{state_along, acts_of};
 ghost use Rattle.path_reports.specs.CalledPoints.{called_points, AreAscending, AreListed};
 ghost use Rattle.path_reports.specs.Told.{found_at, told_along, IsKeptWhere, AreKept};
 ghost use Rattle.path_reports.specs.Uses.{point_told, where_told, all_told};
@@ -16,13 +16,13 @@ use crate::printed::put_found;
 use borrow_observe::test_loans;
 use flow_paths::{Effects, Point};
 use move_rules::test_moves;
-use path_facts::{Steps, point_trees};
 use place_names::{Fact, Placed};
+use point_states::{Steps, point_trees};
 use report_lists::ReportSet;
 use state_trees::Tree;
 use std::alloc::{AllocError, Global};
 use std::sync::ledger::Ledger;
-use type_table::Info;
+use type_definitions::Info;
 use typed_tree::Object;
 
 /// Puts in what the facts that may hold forbid at an act.

@@ -2,20 +2,20 @@
 use Rattle.std.proofs.Common.{◌≡◌, refl, ap, subst, List, [], ◌∷◌, map, None, Result, Ok, Err}
 use Rattle.ada_tree.specs.declared.unit.SourceUnit.{SourceUnit}
 use Rattle.place_names.specs.Reports.{Report}
-use Rattle.type_table.specs.Types.{Table}
-use Rattle.type_table.specs.Whole.{known_of, type_fault}
-use Rattle.type_rules.specs.Programs as files
+use Rattle.type_definitions.specs.Types.{Table}
+use Rattle.type_definitions.specs.Whole.{known_of, type_fault}
+use Rattle.typing_steps.specs.Programs as files
 use Rattle.typed_tree.specs.Programs.{TypedProgram, typed_program}
 use Rattle.typed_programs.specs.declared.parts.ProgramParts.{ProgramParts}
 use Rattle.typed_programs.specs.Parts.{HoldsProgram}
-use Rattle.typed_check.specs.Typed.{IsTyped}
+use Rattle.type_rules.specs.Typed.{IsTyped}
 use Rattle.flow_paths.specs.declared.report.Effects.{Effects}
 use Rattle.flow_paths.specs.Effects.{AreEffects}
 use Rattle.flow_paths.specs.Laid.{FlowProgram, flow_program}
 use Rattle.flow_paths.specs.Limits.{lay_fault}
 use Rattle.flow_paths.specs.Reports.{report_of}
-use Rattle.laid_programs.specs.declared.laid.Laid.{Laid}
-use Rattle.laid_programs.specs.Programs.{program_of}
+use Rattle.laid_program.specs.declared.laid.Laid.{Laid}
+use Rattle.laid_program.specs.Programs.{program_of}
 use Rattle.path_check.specs.Told.{reports_in}
 use Rattle.path_check.specs.Verdicts.{IsVerdict}
 use Rattle.path_check.specs.declared.verdict.Verdict.{Verdict}

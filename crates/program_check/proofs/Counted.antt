@@ -7,9 +7,9 @@ use Rattle.flow_paths.specs.declared.point.Point.{Point}
 use Rattle.flow_paths.specs.declared.point.LaidSub.{LaidSub}
 use Rattle.flow_paths.specs.Points.{FlowPoint}
 use Rattle.flow_paths.specs.Stands.{flow_point_of, flow_sub_of}
-use Rattle.path_facts.specs.PointTrees.{path_points_of, successors}
-use Rattle.laid_programs.specs.declared.laid.Laid.{Laid}
-use Rattle.laid_programs.specs.Programs.{program_of}
+use Rattle.point_states.specs.PointTrees.{path_points_of, successors}
+use Rattle.laid_program.specs.declared.laid.Laid.{Laid}
+use Rattle.laid_program.specs.Programs.{program_of}
 use Rattle.path_check.specs.Verdicts as code
 use Rattle.path_check.specs.Verdicts.{all_steps}
 use Rattle.program_check.specs.Steps.{successors_of, sub_steps, program_steps}

@@ -3,7 +3,7 @@ use Rattle.std.proofs.Common.{◌≡◌, ◌<◌, ℕ, zero, suc, refl, sym, ap,
 use Rattle.flow_paths.specs.declared.report.Effects.{Effects}
 use Rattle.flow_paths.specs.Laid.{FlowProgram}
 use Rattle.flow_paths.specs.Effects.{AreEffects}
-use Rattle.flow_facts.proofs.Ascending.{ascending_once}
+use Rattle.sub_summary.proofs.Ascending.{ascending_once}
 
 -- ---- lists of lists
 

@@ -2,20 +2,20 @@
 use Rattle.std.specs.Prelude.{◌≡◌, ◌≢◌, List, [], None, Result, Ok, Err}
 use Rattle.ada_tree.specs.declared.unit.SourceUnit.{SourceUnit}
 use Rattle.place_names.specs.Reports.{Report}
-use Rattle.type_table.specs.Refusals as types
-use Rattle.type_table.specs.Whole.{type_fault}
-use Rattle.type_rules.specs.Programs as files
+use Rattle.type_definitions.specs.Refusals as types
+use Rattle.type_definitions.specs.Whole.{type_fault}
+use Rattle.typing_steps.specs.Programs as files
 use Rattle.flow_paths.specs.declared.report.Effects.{Effects}
 use Rattle.flow_paths.specs.Effects.{AreEffects}
 use Rattle.flow_paths.specs.Limits.{lay_fault}
 use Rattle.flow_paths.specs.Reports.{AreReports}
-use Rattle.laid_programs.specs.Programs.{program_of}
+use Rattle.laid_program.specs.Programs.{program_of}
 use Rattle.lay_out.specs.Refusals as limits
 use Rattle.path_check.specs.Told.{reports_in}
 use Rattle.path_check.specs.declared.accepted.AcceptedProgram.{AcceptedProgram}
 use Rattle.path_check.specs.declared.verdict.Verdict.{Verdict}
 use Rattle.path_check.specs.declared.verdict.Verdict.TheVariants as verdict
-use Rattle.laid_programs.specs.declared.names.Names.{Names}
+use Rattle.laid_program.specs.declared.names.Names.{Names}
 use Rattle.program_check.specs.declared.refusal.ProgramRefusal.{ProgramRefusal}
 use Rattle.program_check.specs.declared.refusal.ProgramRefusal.TheVariants.{Mistyped, Beyond, Memory}
 use Rattle.program_check.specs.Sources.{flow_of}

@@ -3,8 +3,8 @@ use Rattle.std.specs.Prelude.{ℕ, List}
 use Rattle.ada_tree.specs.declared.unit.SourceUnit.{SourceUnit}
 use Rattle.place_names.specs.Names.{Name}
 use Rattle.resolved_tree.specs.Trees.{Program}
-use Rattle.type_table.specs.Whole.{known_of}
-use Rattle.type_rules.specs.Programs as files
+use Rattle.type_definitions.specs.Whole.{known_of}
+use Rattle.typing_steps.specs.Programs as files
 use Rattle.typed_tree.specs.Programs.{typed_program}
 use Rattle.flow_paths.specs.Laid.{FlowProgram, flow_program}
 use Rattle.flow_paths.specs.Printing.{printed_name}

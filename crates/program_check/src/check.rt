@@ -1,7 +1,7 @@
 //! The verdict on a program.
 ghost use Rattle.std.specs.Prelude.{◌≡◌, ◌+◌, ◌<◌, ◌≤◌, IfOk};
 ghost use Rattle.name_resolve.specs.Inputs.{trees_of};
-ghost use Rattle.laid_programs.specs.Programs.{program_of};
+ghost use Rattle.laid_program.specs.Programs.{program_of};
 ghost use Rattle.program_check.specs.Sources.{flow_of};
 ghost use Rattle.program_check.specs.Answers.{Answers};
 ghost use Rattle.program_check.specs.Steps.{program_steps};
@@ -10,16 +10,16 @@ ghost use Rattle.program_check.specs.Judged.{IsJudged, LaysOut};
 use crate::refusal::ProgramRefusal;
 use alias_rules::alias_reports;
 use call_effects::effects;
-use laid_programs::Laid;
+use laid_program::Laid;
 use lay_out::lay_out;
 use name_resolve::Resolved;
 use path_check::{Verdict, check_paths};
-use path_facts::Steps;
+use point_states::Steps;
 use std::alloc::{AllocError, Global};
 use std::marker::Brand;
 use std::sync::ledger::{Blank, Ledger};
 use traversal_funcs::view_reports;
-use typed_check::type_check;
+use type_rules::type_check;
 
 /// The program of the files, laid out.
 fn laid(alloc: Global, resolved: Resolved) -> Result<Laid, ProgramRefusal>

@@ -4,7 +4,7 @@ ghost use Rattle.program_check.specs.declared.refusal.ProgramRefusal.TheVariants
 
 use lay_out::LayRefusal;
 use std::alloc::AllocError;
-use type_table::TypeRefusal;
+use type_definitions::TypeRefusal;
 
 /// Why a program isn't checked.
 #[derive(Clone, Copy)]

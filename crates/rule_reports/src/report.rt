@@ -8,7 +8,7 @@ use crate::refusal::any_position;
 use flow_paths::Report;
 use place_names::{Rule, State};
 use std::alloc::{AllocError, Global};
-use type_table::Info;
+use type_definitions::Info;
 use typed_tree::{Object, print_name};
 
 /// What the rules that look at the text without paths say. A report of another rule has a word.

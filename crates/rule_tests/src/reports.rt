@@ -7,7 +7,7 @@ use rule_reports::{report_line, report_lines};
 use spark_base::{Listed, Pos};
 use std::alloc::{AllocError, Global};
 use std::test::Fail;
-use type_table::{Component, Info, Shape};
+use type_definitions::{Component, Info, Shape};
 use typed_tree::{Object, ObjectKind};
 
 /// type Cell; type Ptr is access Cell; type Row is array (1 .. 3) of Ptr; subtype Link is Ptr;

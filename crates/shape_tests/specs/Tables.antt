@@ -1,10 +1,10 @@
 -- A table of three types, each with one word.
 use Rattle.std.specs.Prelude.{false, true, [], ◌∷◌, None, pos}
-use Rattle.type_table.specs.declared.table.Shape.{Shape}
-use Rattle.type_table.specs.declared.table.Shape.TheVariants as shape
-use Rattle.type_table.specs.declared.table.Info.{Info}
-use Rattle.type_table.specs.Types.{Table}
-use Rattle.type_shapes.specs.declared.table.TypeSize.{TypeSize}
+use Rattle.type_definitions.specs.declared.table.Shape.{Shape}
+use Rattle.type_definitions.specs.declared.table.Shape.TheVariants as shape
+use Rattle.type_definitions.specs.declared.table.Info.{Info}
+use Rattle.type_definitions.specs.Types.{Table}
+use Rattle.type_table.specs.declared.table.TypeSize.{TypeSize}
 
 abbrev pub one_word : TypeSize
 one_word = record { words = 1; owning = false; parts = [] }

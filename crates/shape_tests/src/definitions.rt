@@ -6,8 +6,8 @@ use place_names::Parts;
 use spark_base::Listed;
 use std::alloc::{AllocError, Global};
 use std::test::Fail;
-use type_shapes::{TypeSize, TypeTable};
-use type_table::{Info, Shape};
+use type_definitions::{Info, Shape};
+use type_table::{TypeSize, TypeTable};
 
 /// The size of a type with one word.
 fn one_word() -> TypeSize

@@ -6,7 +6,7 @@ use Rattle.std.proofs.lemmas.Grind.{flat_map-append}
 use Rattle.spark_base.specs.Lists.{Has}
 use Rattle.spark_base.specs.declared.position.Pos.{Pos}
 use Rattle.place_names.specs.declared.selector.Sel.{Sel}
-use Rattle.type_table.specs.Types.{Table, words, parts}
+use Rattle.type_definitions.specs.Types.{Table, words, parts}
 use Rattle.flow_paths.specs.Objects.{Typing}
 use Rattle.machine.specs.Words.{access_offsets, offsets}
 use Rattle.machine.specs.Words as machine

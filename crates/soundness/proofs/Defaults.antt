@@ -3,11 +3,11 @@ use Rattle.std.proofs.Common.{◌≡◌, refl, ap, ◌∙◌, inl, inr, ℕ, zer
 use Rattle.std.specs.Prelude.{slice_get}
 use Rattle.spark_base.specs.Lists.{Has}
 use Rattle.spark_base.proofs.Lists.{Has-append_cases}
-use Rattle.type_table.specs.declared.table.Component.{Component as Part}
-use Rattle.type_table.specs.declared.table.Shape.{Shape}
-use Rattle.type_table.specs.declared.table.Shape.TheVariants as shape
-use Rattle.type_table.specs.Types.{Table, shape_found, span}
-use Rattle.type_table.specs.Entries.{integer}
+use Rattle.type_definitions.specs.declared.table.Component.{Component as Part}
+use Rattle.type_definitions.specs.declared.table.Shape.{Shape}
+use Rattle.type_definitions.specs.declared.table.Shape.TheVariants as shape
+use Rattle.type_definitions.specs.Types.{Table, shape_found, span}
+use Rattle.type_definitions.specs.Entries.{integer}
 use Rattle.machine.specs.Words.{Word, Int, Enumerated, Null, Cell, repeated, default_of, default_within, default}
 use Rattle.machine.specs.Memory.{fresh, no_slot}
 use Rattle.owned_ways.specs.Ways as ways

@@ -3,8 +3,8 @@ use Rattle.std.proofs.Common.{◌≡◌, refl, sym, ap, ◌∙◌, subst, inl, i
 use Rattle.std.specs.Prelude.{nat_le}
 use Rattle.std.proofs.lemmas.List.{get_or-take, get_or-drop}
 use Rattle.std.proofs.lemmas.Bool.{cases_lt}
-use Rattle.type_table.specs.Types.{shape_of, words, is_owning}
-use Rattle.type_table.specs.declared.table.Static.{Static}
+use Rattle.type_definitions.specs.Types.{shape_of, words, is_owning}
+use Rattle.type_definitions.specs.declared.table.Static.{Static}
 use Rattle.resolved_tree.specs.declared.operator.Operator.{Operator}
 use Rattle.resolved_tree.specs.declared.operator.UnaryOperator.{UnaryOperator}
 use Rattle.typed_tree.specs.Trees.{TypedTree, Number, Literal, Name, Component as IntoComponent, Designated, Element, Call, EndOfFile, Parens, Unary, Binary, Short, IsNull, Aggregate, Alike, New, More}

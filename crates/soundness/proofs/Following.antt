@@ -1,7 +1,7 @@
 -- Where instructions go on: to a successor, with the same frames around, and with variables that own in scope.
 use Rattle.std.proofs.Common.{◌≡◌, refl, sym, ap, ◌∙◌, subst, inl, inr, ℕ, zero, suc, ◌<◌, Bool, true, false, not, ◌&&◌, List, [], ◌∷◌, ◌++◌, drop, length, get_or, nat_lt, ltb-true, int_le, arith, ℤ, Option, Some, None, if◌then◌else◌}
 use Rattle.spark_base.specs.declared.position.Pos.{Pos}
-use Rattle.type_table.specs.Types.{full}
+use Rattle.type_definitions.specs.Types.{full}
 use Rattle.typed_tree.specs.Trees.{TypedTree, TypedCode, Text, Name, Parens, Image, Binary, More}
 use Rattle.flow_paths.specs.Objects.{Typing, object_at, is_anonymous, designated}
 use Rattle.flow_paths.specs.Names.{first}

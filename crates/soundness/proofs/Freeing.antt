@@ -9,9 +9,9 @@ use Rattle.place_names.specs.declared.rule.State.TheVariants as rule_state
 use Rattle.place_names.specs.Names.{covers, leads_to}
 use Rattle.place_names.specs.Rules.{Forbidden}
 use Rattle.place_names.specs.Facts.{effect}
-use Rattle.type_table.specs.declared.table.Shape.{Shape}
-use Rattle.type_table.specs.declared.table.Shape.TheVariants as shape
-use Rattle.type_table.specs.Types.{parts_of, is_scalar, view_of as view_of_shape}
+use Rattle.type_definitions.specs.declared.table.Shape.{Shape}
+use Rattle.type_definitions.specs.declared.table.Shape.TheVariants as shape
+use Rattle.type_definitions.specs.Types.{parts_of, is_scalar, view_of as view_of_shape}
 use Rattle.owned_ways.specs.Ways.{Loc, Inside, Way, Object, Lost, Into, All, Empty, Gone, Held, View, Reaches, Below, Under, Named, IsMoved, Allows, part, Sound}
 use Rattle.owned_ways.specs.Ways as ways
 use Rattle.owned_ways.proofs.Named.{under_leads, covered_under}

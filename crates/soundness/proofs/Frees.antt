@@ -3,7 +3,7 @@ use Rattle.std.proofs.Common.{◌≡◌, refl, sym, ap, ◌∙◌, subst, ◌⊎
 use Rattle.place_names.specs.declared.act.Act.TheVariants.{Free}
 use Rattle.place_names.specs.declared.fact.Fact.{Fact}
 use Rattle.place_names.specs.Facts.{effect}
-use Rattle.type_table.specs.Types.{shape_of, words}
+use Rattle.type_definitions.specs.Types.{shape_of, words}
 use Rattle.flow_paths.specs.Objects.{Typing}
 use Rattle.machine.specs.Words as machine
 use Rattle.machine.specs.Memory.{Slot, Memory, Place, HeapCell, fresh, cell, no_cell, slots_at, freed, as_freed, with_cell, stored}

@@ -11,9 +11,9 @@ use Rattle.place_names.specs.Names.{Name as PlaceName}
 use Rattle.place_names.specs.Rules.{breaks_O3}
 use Rattle.place_names.specs.declared.act.Mode.TheVariants as mode
 use Rattle.place_names.specs.Facts.{effect}
-use Rattle.type_table.specs.declared.table.Shape.{Shape}
-use Rattle.type_table.specs.declared.table.Shape.TheVariants as shape
-use Rattle.type_table.specs.Types.{shape_of, words, words_of as words_of_shape, parts, is_scalar, full, view_of as view_of_shape}
+use Rattle.type_definitions.specs.declared.table.Shape.{Shape}
+use Rattle.type_definitions.specs.declared.table.Shape.TheVariants as shape
+use Rattle.type_definitions.specs.Types.{shape_of, words, words_of as words_of_shape, parts, is_scalar, full, view_of as view_of_shape}
 use Rattle.typed_tree.specs.Trees.{TypedTree, TypedCode, Text, Name, Parens, Image, Binary, NoMore, More}
 use Rattle.flow_paths.specs.Instructions.{Skip, Fall}
 use Rattle.flow_paths.specs.Objects.{Typing, object_at, is_anonymous, is_borrowing, is_observing, is_borrower, is_observer, is_variable, designated, designated_of}

@@ -2,7 +2,7 @@
 use Rattle.std.proofs.Common.{◌≡◌, refl, sym, ap, ◌∙◌, subst, ◌⊎◌, inl, inr, ℕ, suc, ◌+◌, ◌<◌, ◌≤◌, true, false, List, [], ◌∷◌, ◌++◌, length, get_or, arith, length-append}
 use Rattle.std.proofs.lemmas.List.{length-map, get_or_past, get_or_append_left, get_or-append-add}
 use Rattle.place_names.specs.declared.fact.Fact.{Fact}
-use Rattle.type_table.specs.Types.{words}
+use Rattle.type_definitions.specs.Types.{words}
 use Rattle.flow_paths.specs.Objects.{Typing}
 use Rattle.machine.specs.Words as machine
 use Rattle.machine.specs.Memory.{Memory, cell, fresh, no_slot}

@@ -3,9 +3,9 @@ use Rattle.std.proofs.Common.{◌≡◌, refl, sym, ap, ◌∙◌, subst, ◌⊎
 use Rattle.std.proofs.lemmas.List.{get_or_past, get_or_append_left, get_or-append-add}
 use Rattle.spark_base.specs.Lists.{Has}
 use Rattle.spark_base.proofs.Lists.{ends}
-use Rattle.type_table.specs.declared.table.Shape.{Shape}
-use Rattle.type_table.specs.declared.table.Shape.TheVariants as shape
-use Rattle.type_table.specs.Types.{shape_of, components_of, span, words, words_of as shape_words, full, view_of, is_scalar}
+use Rattle.type_definitions.specs.declared.table.Shape.{Shape}
+use Rattle.type_definitions.specs.declared.table.Shape.TheVariants as shape
+use Rattle.type_definitions.specs.Types.{shape_of, components_of, span, words, words_of as shape_words, full, view_of, is_scalar}
 use Rattle.flow_paths.specs.Objects.{Typing}
 use Rattle.machine.specs.Words as machine
 use Rattle.machine.specs.Typed.{is_array}

@@ -2,10 +2,10 @@
 use Rattle.std.proofs.Common.{◌≡◌, refl, sym, ap, ◌∙◌, subst, ◌⊎◌, inl, inr, ℕ, zero, suc, ◌+◌, ◌-◌, ◌*◌, ◌<◌, ◌≤◌, Bool, true, false, not, ◌||◌, List, [], ◌∷◌, ◌++◌, map, flat_map, sum, take, drop, length, get_or, slice_get, nat_lt, ltb-true, arith, append-nil, length-append, length-drop}
 use Rattle.std.proofs.lemmas.List.{length-map, length-take-le}
 use Rattle.std.proofs.lemmas.Bool.{cases_lt}
-use Rattle.type_table.specs.declared.table.Component.{Component as Part}
-use Rattle.type_table.specs.declared.table.Shape.{Shape}
-use Rattle.type_table.specs.declared.table.Shape.TheVariants as shape
-use Rattle.type_table.specs.Types.{Table, shape_of, shape_found, components_of, fields, span, words, words_within, words_of as shape_words, is_owning, any_owns, owns_of, is_scalar, full, view_of}
+use Rattle.type_definitions.specs.declared.table.Component.{Component as Part}
+use Rattle.type_definitions.specs.declared.table.Shape.{Shape}
+use Rattle.type_definitions.specs.declared.table.Shape.TheVariants as shape
+use Rattle.type_definitions.specs.Types.{Table, shape_of, shape_found, components_of, fields, span, words, words_within, words_of as shape_words, is_owning, any_owns, owns_of, is_scalar, full, view_of}
 use Rattle.flow_paths.specs.Objects.{Typing, object_at}
 use Rattle.machine.specs.Words.{default, default_within, default_of, access_offsets, no_component, element_count, element_of, count_of}
 use Rattle.machine.specs.Words as machine

@@ -1,8 +1,8 @@
 -- What the start of a loop leads to, and its turns: the parameter has the next value, or leaves scope.
 use Rattle.std.proofs.Common.{◌≡◌, refl, sym, ap, ◌∙◌, subst, inl, inr, ℕ, ◌+◌, Bool, true, false, not, ◌&&◌, List, [], ◌∷◌, ◌++◌, flat_map, take, drop, length, int_le, ℤ, unsigned_abs, Option, Some, None}
 use Rattle.place_names.specs.declared.fact.Fact.{Fact}
-use Rattle.type_table.specs.declared.table.Shape.TheVariants as shape
-use Rattle.type_table.specs.Types.{shape_of, words, is_scalar, full}
+use Rattle.type_definitions.specs.declared.table.Shape.TheVariants as shape
+use Rattle.type_definitions.specs.Types.{shape_of, words, is_scalar, full}
 use Rattle.typed_tree.specs.Trees.{TypedTree}
 use Rattle.flow_paths.specs.Objects.{Typing, object_at}
 use Rattle.flow_paths.specs.Names.{has_call}

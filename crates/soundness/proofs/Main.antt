@@ -1,6 +1,6 @@
 -- Where each step of a sound state leads on, each moment of the run is well owned, and none is a trap.
 use Rattle.std.proofs.Common.{◌≡◌, sym, subst, ℕ, zero, suc, Bool, true, false, nat_le, List, [], ◌∷◌, Some, if◌then◌else◌}
-use Rattle.type_table.specs.Types.{Table}
+use Rattle.type_definitions.specs.Types.{Table}
 use Rattle.typed_tree.specs.Programs.{TypedProgram}
 use Rattle.flow_paths.specs.declared.report.Effects.{Effects}
 use Rattle.flow_paths.specs.Laid.{FlowProgram, flow_typing, flow_program}

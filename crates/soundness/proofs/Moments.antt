@@ -6,7 +6,7 @@ use Rattle.place_names.specs.declared.act.Act.TheVariants.{Move, Write, EndScope
 use Rattle.place_names.specs.declared.fact.Fact.{Fact}
 use Rattle.place_names.specs.Names.{extend}
 use Rattle.place_names.specs.Facts.{effect}
-use Rattle.type_table.specs.Types.{words, parts}
+use Rattle.type_definitions.specs.Types.{words, parts}
 use Rattle.flow_paths.specs.Objects.{Typing, object_at}
 use Rattle.machine.specs.Words.{access_offsets}
 use Rattle.machine.specs.Words as machine

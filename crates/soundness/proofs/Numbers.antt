@@ -1,7 +1,7 @@
 -- An index within the bounds of its array has fewer elements before it than the array has.
 use Rattle.std.proofs.Common.{◌≡◌, refl, ap, ◌+◌, ◌<◌, Bool, true, false, ◌&&◌, ℤ, ◌-ℤ◌, int_le, unsigned_abs, arith, if◌then◌else◌}
 use Rattle.std.proofs.lemmas.Int.{ints}
-use Rattle.type_table.specs.Types.{span}
+use Rattle.type_definitions.specs.Types.{span}
 use Rattle.soundness.specs.Needed.{IndexLaw}
 
 both_true : (a b : Bool) → a && b ≡ true → (a ≡ true) × (b ≡ true)

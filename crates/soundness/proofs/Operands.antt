@@ -1,9 +1,9 @@
 -- What the operand of a short circuit leads to, whose value waits, and what a return leads to.
 use Rattle.std.proofs.Common.{◌≡◌, refl, sym, ap, ◌∙◌, subst, ℕ, Bool, true, false, List, [], ◌∷◌, ◌++◌, flat_map, drop, length, get_or, Some, None, if◌then◌else◌}
 use Rattle.place_names.specs.declared.fact.Fact.{Fact}
-use Rattle.type_table.specs.declared.table.Shape.TheVariants as shape
-use Rattle.type_table.specs.Entries.{boolean}
-use Rattle.type_table.specs.Types.{shape_of, is_scalar, full}
+use Rattle.type_definitions.specs.declared.table.Shape.TheVariants as shape
+use Rattle.type_definitions.specs.Entries.{boolean}
+use Rattle.type_definitions.specs.Types.{shape_of, is_scalar, full}
 use Rattle.typed_tree.specs.declared.node.ShortCircuit.{ShortCircuit}
 use Rattle.typed_tree.specs.Trees.{TypedTree, NoMore, More}
 use Rattle.flow_paths.specs.Instructions.{Hold}

@@ -8,10 +8,10 @@ use Rattle.place_names.specs.Facts.{effect}
 use Rattle.resolved_tree.specs.declared.operator.Operator.{Operator}
 use Rattle.resolved_tree.specs.declared.operator.UnaryOperator.{UnaryOperator}
 use Rattle.place_names.specs.declared.act.Placed.{Placed}
-use Rattle.type_table.specs.declared.table.Static.{Static}
-use Rattle.type_table.specs.declared.table.Shape.{Shape}
-use Rattle.type_table.specs.declared.table.Shape.TheVariants as shape
-use Rattle.type_table.specs.Types.{Table, shape_of, span, words, full, is_owning, is_scalar, parts, view_of, owns_of}
+use Rattle.type_definitions.specs.declared.table.Static.{Static}
+use Rattle.type_definitions.specs.declared.table.Shape.{Shape}
+use Rattle.type_definitions.specs.declared.table.Shape.TheVariants as shape
+use Rattle.type_definitions.specs.Types.{Table, shape_of, span, words, full, is_owning, is_scalar, parts, view_of, owns_of}
 use Rattle.typed_tree.specs.Trees.{TypedTree, Number, Literal, Text, Name, Component as IntoComponent, Designated, Element, Call, EndOfFile, Parens, Image, Unary, Binary, Short, IsNull, Aggregate, Alike, New, NoMore, More}
 use Rattle.typed_tree.specs.Trees as typed
 use Rattle.flow_paths.specs.Objects.{object_at}

@@ -5,8 +5,8 @@ use Rattle.place_names.specs.declared.act.Act.{Act}
 use Rattle.place_names.specs.declared.act.Act.TheVariants as act
 use Rattle.place_names.specs.declared.fact.Fact.{Fact}
 use Rattle.place_names.specs.Facts.{effect}
-use Rattle.type_table.specs.declared.table.Shape.TheVariants as shape
-use Rattle.type_table.specs.Types.{shape_of, words}
+use Rattle.type_definitions.specs.declared.table.Shape.TheVariants as shape
+use Rattle.type_definitions.specs.Types.{shape_of, words}
 use Rattle.typed_tree.specs.Trees.{TypedTree, Name}
 use Rattle.flow_paths.specs.Objects.{object_at}
 use Rattle.flow_paths.specs.Names.{has_call, name_of}

@@ -2,7 +2,7 @@
 use Rattle.std.specs.Prelude.{◌≡◌, ◌⊎◌, ℕ, ◌+◌, ◌<◌, ◌≤◌, ◌==◌, Bool, true, false, List, ◌++◌, length, get_or}
 use Rattle.std.specs.List.{list_any}
 use Rattle.spark_base.specs.declared.position.Pos.{Pos}
-use Rattle.type_table.specs.Types.{Table, words}
+use Rattle.type_definitions.specs.Types.{Table, words}
 use Rattle.flow_paths.specs.Objects.{Typing}
 use Rattle.machine.specs.Words.{access_offsets}
 use Rattle.machine.specs.Memory.{Slot, Memory, Place, fresh, no_slot, slots_at}

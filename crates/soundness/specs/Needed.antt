@@ -4,8 +4,8 @@
 -- what they name: a step that is given another word than it wants raises an exception at worst.
 use Rattle.std.specs.Prelude.{◌≡◌, ◌⊎◌, ◌<◌, ℕ, suc, Bool, true, false, length, ◌&&◌, ◌||◌, ℤ, ◌-ℤ◌, int_le, unsigned_abs, Option, Some, None}
 use Rattle.spark_base.specs.Lists.{Has}
-use Rattle.type_table.specs.declared.table.Shape.TheVariants as shape
-use Rattle.type_table.specs.Types.{shape_of, fields, span, words, full, is_owning, is_scalar}
+use Rattle.type_definitions.specs.declared.table.Shape.TheVariants as shape
+use Rattle.type_definitions.specs.Types.{shape_of, fields, span, words, full, is_owning, is_scalar}
 use Rattle.typed_tree.specs.Trees.{TypedTree, Number, Literal, Text, Name, Component as IntoComponent, Designated, Element, Call, EndOfFile, Parens, Image, Unary, Binary, Short, IsNull, Aggregate, Alike, New, NoMore, More}
 use Rattle.typed_tree.specs.Trees as typed
 use Rattle.flow_paths.specs.Instructions.{Instruction, Declare, Assign, Output, Input, Release, Test, Choose, Start, Next, Evaluate, LeaveLoop, Hold}

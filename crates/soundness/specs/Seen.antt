@@ -4,7 +4,7 @@
 -- stands first; hands are numbered from the last one on, so that a new one changes no number.
 use Rattle.std.specs.Prelude.{ℕ, suc, Bool, true, false, not, ◌&&◌, ◌==◌, List, [], ◌∷◌, length, get_or, if◌then◌else◌}
 use Rattle.std.specs.List.{list_any}
-use Rattle.type_table.specs.Types.{Table}
+use Rattle.type_definitions.specs.Types.{Table}
 use Rattle.flow_paths.specs.Objects.{Typing, object_at, is_package_object}
 use Rattle.machine.specs.Words as machine
 use Rattle.machine.specs.Memory.{Slot, Memory, fresh, variable_slots, cell, no_slot}

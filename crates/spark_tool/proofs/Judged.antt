@@ -5,13 +5,13 @@ use Rattle.ada_tree.specs.declared.unit.SourceUnit.{SourceUnit}
 use Rattle.name_events.specs.Faults.{name_fault}
 use Rattle.place_names.specs.Names.{Name}
 use Rattle.place_names.specs.Reports.{Report}
-use Rattle.type_table.specs.declared.refusal.TypeRefusal.{TypeRefusal}
-use Rattle.type_table.specs.declared.refusal.TypeRefusal.TheVariants as untyped
-use Rattle.type_table.specs.Refusals as types
-use Rattle.type_table.specs.Types.{Table}
-use Rattle.type_table.specs.Whole.{TypeFault, type_fault}
+use Rattle.type_definitions.specs.declared.refusal.TypeRefusal.{TypeRefusal}
+use Rattle.type_definitions.specs.declared.refusal.TypeRefusal.TheVariants as untyped
+use Rattle.type_definitions.specs.Refusals as types
+use Rattle.type_definitions.specs.Types.{Table}
+use Rattle.type_definitions.specs.Whole.{TypeFault, type_fault}
 use Rattle.typed_tree.specs.declared.object.Object.{Object}
-use Rattle.type_rules.specs.Programs as files
+use Rattle.typing_steps.specs.Programs as files
 use Rattle.flow_paths.specs.declared.refusal.LayFault.{LayFault}
 use Rattle.flow_paths.specs.declared.refusal.LayFault.TheVariants as limit
 use Rattle.flow_paths.specs.Limits.{lay_fault}

@@ -9,9 +9,9 @@ use Rattle.ada_tree.specs.declared.unit.SourceUnit.{SourceUnit}
 use Rattle.ada_tree.specs.Refusals as grammar
 use Rattle.name_events.specs.declared.declaration.NameRule.{NameRule}
 use Rattle.name_events.specs.Faults.{name_fault}
-use Rattle.type_table.specs.Whole.{TypeFault, type_fault}
-use Rattle.type_table.specs.Refusals.{refusal_of}
-use Rattle.type_rules.specs.Programs.{program_of}
+use Rattle.type_definitions.specs.Whole.{TypeFault, type_fault}
+use Rattle.type_definitions.specs.Refusals.{refusal_of}
+use Rattle.typing_steps.specs.Programs.{program_of}
 use Rattle.ada_grammar.proofs.OneRefused.{one_refused_of, tree_not_refused_of}
 use Rattle.place_names.specs.Reports.{Report}
 use Rattle.place_names.proofs.Reports.{report_list-unique}

@@ -11,11 +11,11 @@ use Rattle.ada_tree.specs.Refusals as grammar
 use Rattle.name_events.specs.declared.declaration.NameRule.{NameRule}
 use Rattle.name_events.specs.declared.declaration.NameRule.TheVariants as rule
 use Rattle.name_events.specs.Faults.{name_fault}
-use Rattle.type_table.specs.declared.refusal.TypeRefusal.{TypeRefusal}
-use Rattle.type_table.specs.declared.refusal.TypeRefusal.TheVariants as untyped
-use Rattle.type_table.specs.Whole.{TypeFault, type_fault}
-use Rattle.type_table.specs.Refusals.{refusal_of}
-use Rattle.type_rules.specs.Programs.{program_of}
+use Rattle.type_definitions.specs.declared.refusal.TypeRefusal.{TypeRefusal}
+use Rattle.type_definitions.specs.declared.refusal.TypeRefusal.TheVariants as untyped
+use Rattle.type_definitions.specs.Whole.{TypeFault, type_fault}
+use Rattle.type_definitions.specs.Refusals.{refusal_of}
+use Rattle.typing_steps.specs.Programs.{program_of}
 use Rattle.place_names.specs.Names.{Name}
 use Rattle.place_names.specs.Reports.{Report}
 use Rattle.flow_paths.specs.declared.refusal.LayFault.{LayFault}

@@ -11,7 +11,7 @@ use name_resolve::NameRefusal;
 use program_check::ProgramRefusal;
 use rule_reports::Code;
 use spark_base::Pos;
-use type_table::TypeRefusal;
+use type_definitions::TypeRefusal;
 
 /// The position and the code of a lexical fault, or nothing where it is out of memory.
 fn lexical_code(fault: LexRefusal) -> Option<(Pos, Code)>

@@ -7,7 +7,7 @@ use Rattle.place_names.specs.Names.{Name, extend}
 use Rattle.place_names.specs.declared.act.Act.{Act}
 use Rattle.place_names.specs.declared.act.Act.TheVariants as act
 use Rattle.place_names.proofs.Names.{both_parts, both_true}
-use Rattle.type_table.specs.Types.{is_nil}
+use Rattle.type_definitions.specs.Types.{is_nil}
 use Rattle.typed_tree.specs.Nodes.{TypedNodes}
 use Rattle.flow_paths.specs.declared.point.LaidSub.{LaidSub}
 use Rattle.flow_paths.specs.Objects.{Typing, object_at, view_of, is_borrower, is_observer, is_formal, is_named_access}

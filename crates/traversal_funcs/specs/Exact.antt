@@ -9,7 +9,7 @@ use Rattle.flow_paths.specs.Objects.{Typing, traverses}
 use Rattle.flow_paths.specs.Acts.{gives_variable}
 use Rattle.flow_paths.specs.Laid.{FlowSub, FlowProgram}
 use Rattle.flow_paths.specs.Views.{ViewReport, traversed_of}
-use Rattle.flow_typing.specs.Typings.{typing}
+use Rattle.program_typing.specs.Typings.{typing}
 use Rattle.traversal_funcs.specs.declared.lending.Lending.{Lending}
 use Rattle.traversal_funcs.specs.declared.questions.Question.TheVariants as question
 use Rattle.traversal_funcs.specs.declared.views.Traversed.{Traversed}

@@ -4,7 +4,7 @@ use Rattle.std.specs.List.{list_any}
 use Rattle.spark_base.specs.Lists.{Has}
 use Rattle.label_flow.specs.Flows.{Flow, Reaches}
 use Rattle.flow_paths.specs.Objects.{Typing}
-use Rattle.flow_typing.specs.Typings.{typing}
+use Rattle.program_typing.specs.Typings.{typing}
 use Rattle.traversal_funcs.specs.declared.lending.Lending.{Lending}
 use Rattle.traversal_funcs.specs.declared.questions.Question.{Question}
 use Rattle.traversal_funcs.specs.declared.roots.Rooted.{Rooted}

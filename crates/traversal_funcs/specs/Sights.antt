@@ -2,7 +2,7 @@
 use Rattle.std.specs.Prelude.{ℕ, Bool, false, not, ◌&&◌, ◌||◌, ◌==◌, Option, Some, None, if◌then◌else◌}
 use Rattle.flow_paths.specs.Objects.{Typing, object_at, view_of, is_borrower, is_observer, is_formal, is_named_access}
 use Rattle.flow_paths.specs.Views.{is_outer, is_in_mode}
-use Rattle.flow_typing.specs.Typings.{typing}
+use Rattle.program_typing.specs.Typings.{typing}
 use Rattle.traversal_funcs.specs.declared.views.Traversed.{Traversed}
 use Rattle.traversal_funcs.specs.declared.views.Views.{Views}
 use Rattle.traversal_funcs.specs.Searches.{has_root}

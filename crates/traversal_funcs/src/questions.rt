@@ -1,10 +1,10 @@
 //! What is asked of the roots of an object.
 ghost use Rattle.std.specs.Prelude.{◌≡◌};
 ghost use Rattle.flow_paths.specs.Views.{is_outer, holds_loans};
-ghost use Rattle.flow_typing.specs.Typings.{typing};
+ghost use Rattle.program_typing.specs.Typings.{typing};
 ghost use Rattle.traversal_funcs.specs.Questions.{asks, is_answer};
 
-use flow_typing::ProgramTyping;
+use program_typing::ProgramTyping;
 
 /// What is asked of a root.
 #[derive(Clone, Copy)]

@@ -1,14 +1,14 @@
 //! Which objects have a root that is asked for.
 ghost use Rattle.std.specs.Prelude.{◌≡◌, ◌∷◌, [], ◌++◌, OnOk, IfOk};
-ghost use Rattle.flow_typing.specs.Typings.{typing};
+ghost use Rattle.program_typing.specs.Typings.{typing};
 ghost use Rattle.traversal_funcs.specs.Lendings.{AreHolders};
 ghost use Rattle.traversal_funcs.specs.Searches.{Came, Spread, starts_of, has_root, IsRooted};
 
 use crate::holders::{Holders, holders_at};
 use crate::lending::Lending;
 use crate::questions::Question;
-use flow_typing::ProgramTyping;
 use indexmap::IndexSet;
+use program_typing::ProgramTyping;
 use std::alloc::{AllocError, Global};
 
 /// Which objects have a root that a question asks for: those that are such themselves, and those

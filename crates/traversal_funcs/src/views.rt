@@ -4,8 +4,8 @@ ghost use Rattle.traversal_funcs.specs.Sights.{is_only, is_constant, in_function
 
 use crate::questions::is_outer;
 use crate::roots::Rooted;
-use flow_typing::{ProgramTyping, is_named_access};
 use place_names::Mode;
+use program_typing::{ProgramTyping, is_named_access};
 use typed_tree::TypedRows;
 
 /// The traversed formal of a traversal function: which objects have it as a root, and which have

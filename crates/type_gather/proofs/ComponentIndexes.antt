@@ -2,10 +2,10 @@
 use Rattle.std.proofs.Common.{◌≡◌, ◌≢◌, ◌<◌, ℕ, zero, suc, List, [], ◌∷◌, length, set, get_or, slice_get, Some, refl, sym, ap, subst, ◌∙◌, get_or-set_same}
 use Rattle.std.proofs.lemmas.List.{length-set}
 use Rattle.std.proofs.lemmas.Option.{slice_get-get_or}
-use Rattle.type_table.specs.declared.table.Info.{Info}
-use Rattle.type_table.specs.declared.table.Shape.{Shape}
-use Rattle.type_table.specs.Types.{Table, components_of, info, shape_found}
-use Rattle.type_names.specs.ComponentNames.{SameBut, own_components}
+use Rattle.type_definitions.specs.declared.table.Info.{Info}
+use Rattle.type_definitions.specs.declared.table.Shape.{Shape}
+use Rattle.type_definitions.specs.Types.{Table, components_of, info, shape_found}
+use Rattle.expression_types.specs.ComponentNames.{SameBut, own_components}
 
 others_kept : {A : Type 0} (all : List A) (t n : ℕ) (a : A) → n ≢ t → slice_get (set all t a) n ≡ slice_get all n
 others_kept [] t n a ne = refl

@@ -1,7 +1,7 @@
 -- What a gathering stands for, in the words of typing, and the groups of code that it tells apart.
 use Rattle.std.specs.Prelude.{Bool, true, false, not, ◌||◌}
 use Rattle.resolved_tree.specs.Trees.{Code, Incomplete, Private, TypeDecl, Subtype, ConstrainedSubtype, Objects, Numbers, Instance, SubDecl, SubBody, Package, PackageBody}
-use Rattle.type_table.specs.Names.{Context}
+use Rattle.type_definitions.specs.Names.{Context}
 use Rattle.type_gather.specs.declared.gathering.Gathering.{Gathering}
 
 -- What is known so far, and where the declarations stand.

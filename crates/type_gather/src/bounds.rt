@@ -1,17 +1,17 @@
 //! Bounds of ranges.
 ghost use Rattle.std.specs.Prelude.{◌≡◌, ◌<◌, length, Some, None, if◌then◌else◌};
 ghost use Rattle.resolved_tree.specs.Nodes.{code_at, tree_at};
-ghost use Rattle.type_table.specs.Gathered.{are_static_bounds, array_bounds, bound_pair, constrained_shape, is_asked, is_bound, is_bounded_range, is_whole, natural_of, whole_bounds};
-ghost use Rattle.type_table.specs.Statics.{value};
-ghost use Rattle.type_table.specs.Statements.{known_value};
+ghost use Rattle.type_definitions.specs.Gathered.{are_static_bounds, array_bounds, bound_pair, constrained_shape, is_asked, is_bound, is_bounded_range, is_whole, natural_of, whole_bounds};
+ghost use Rattle.type_definitions.specs.Statics.{value};
+ghost use Rattle.type_definitions.specs.Statements.{known_value};
 ghost use Rattle.type_gather.specs.Gathering.{context};
 
 use crate::gathering::Gathering;
+use expression_types::{INTEGER, UNTYPED, is_sound};
 use resolved_tree::{CodeNode, Rows};
 use spark_base::Listed;
 use std::alloc::Global;
-use type_names::{INTEGER, UNTYPED, is_sound};
-use type_table::{Shape, Static, View};
+use type_definitions::{Shape, Static, View};
 
 /// The number of a value.
 fn known_value(value: Option<Static>) -> i32

@@ -1,7 +1,7 @@
 //! Identifiers that are declared.
 ghost use Rattle.std.specs.Prelude.{◌≡◌, ◌<◌, ◌+◌, length, IfOk};
 ghost use Rattle.resolved_tree.specs.Nodes.{code_at};
-ghost use Rattle.type_table.specs.Gathered.{declared_number, declared_pos, declared_text, texts};
+ghost use Rattle.type_definitions.specs.Gathered.{declared_number, declared_pos, declared_text, texts};
 
 use ada_tree::Word;
 use resolved_tree::{CodeNode, Rows};

@@ -1,9 +1,9 @@
 //! What is known of the declarations so far, and where the next one stands.
-ghost use Rattle.type_names.specs.ComponentNames.{FindAllComponents};
+ghost use Rattle.expression_types.specs.ComponentNames.{FindAllComponents};
 
+use expression_types::WordIndex;
 use std::alloc::Global;
-use type_names::WordIndex;
-use type_table::Known;
+use type_definitions::Known;
 
 /// What is known of the declarations so far, and where the next one stands.
 #[derive(Drop)]

@@ -1,11 +1,11 @@
 //! Instances of Unchecked_Deallocation (Ada 2012, 13.11.2).
 ghost use Rattle.std.specs.Prelude.{◌≡◌, ◌<◌, ◌+◌, length};
 ghost use Rattle.resolved_tree.specs.Nodes.{tree_at};
-ghost use Rattle.type_table.specs.Gathered.{actual_type, instance_actual, instance_type, is_for_name};
+ghost use Rattle.type_definitions.specs.Gathered.{actual_type, instance_actual, instance_type, is_for_name};
 
 use ada_tree::Word;
+use expression_types::{INTEGER, same_word};
 use resolved_tree::{Node, Rows};
-use type_names::{INTEGER, same_word};
 
 /// The type that an actual names.
 fn actual_type(rows: &Rows, actual: usize) -> u32

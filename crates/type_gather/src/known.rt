@@ -1,21 +1,21 @@
 //! How what is known of the declarations so far is asked and added to.
 ghost use Rattle.std.specs.Prelude.{◌≡◌, ◌<◌, List, Option, length, set};
 ghost use Rattle.resolved_tree.specs.Nodes.{code_at};
-ghost use Rattle.type_table.specs.Types.{info};
-ghost use Rattle.type_table.specs.Entries.{entry_of, marked};
-ghost use Rattle.type_table.specs.Gathered.{awaited_info, with_entry, with_info, with_type, own_info, indicated, with_indication, is_subprogram};
-ghost use Rattle.type_names.specs.Here.{here};
-ghost use Rattle.type_names.specs.ComponentNames.{FindAllComponents};
-ghost use Rattle.type_names.specs.Occurrences.{Entries};
+ghost use Rattle.type_definitions.specs.Types.{info};
+ghost use Rattle.type_definitions.specs.Entries.{entry_of, marked};
+ghost use Rattle.type_definitions.specs.Gathered.{awaited_info, with_entry, with_info, with_type, own_info, indicated, with_indication, is_subprogram};
+ghost use Rattle.expression_types.specs.Here.{here};
+ghost use Rattle.expression_types.specs.ComponentNames.{FindAllComponents};
+ghost use Rattle.expression_types.specs.Occurrences.{Entries};
 ghost use Rattle.type_gather.specs.Gathering.{context};
 
 use crate::gathering::Gathering;
+use expression_types::{INTEGER, Reader, WordIndex, index_type};
 use resolved_tree::{CodeNode, Mark, Rows};
 use spark_base::{Listed, Pos};
 use std::alloc::Global;
 use std::mem;
-use type_names::{INTEGER, Reader, WordIndex, index_type};
-use type_table::{Entry, Info, Shape};
+use type_definitions::{Entry, Info, Shape};
 
 /// A list with another element at an index, where there is one.
 fn with_element<T: Drop>(list: Listed<T>, index: usize, element: T) -> Listed<T>

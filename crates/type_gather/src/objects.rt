@@ -2,15 +2,15 @@
 ghost use Rattle.std.specs.Prelude.{◌≡◌, ◌<◌, length};
 ghost use Rattle.resolved_tree.specs.Nodes.{code_at, tree_at};
 ghost use Rattle.resolved_tree.specs.Trees.{Objects, Numbers};
-ghost use Rattle.type_table.specs.Gathered.{constant_value, each, gather, initial_value, number_info, object_info, object_kind, parameter_type, with_number, with_object};
-ghost use Rattle.type_table.specs.Statements.{type_or_integer};
+ghost use Rattle.type_definitions.specs.Gathered.{constant_value, each, gather, initial_value, number_info, object_info, object_kind, parameter_type, with_number, with_object};
+ghost use Rattle.type_definitions.specs.Statements.{type_or_integer};
 ghost use Rattle.type_gather.specs.Gathering.{context};
 
 use crate::declared::declared_number;
 use crate::gathering::Gathering;
+use expression_types::{INTEGER, is_scalar, value_as};
 use resolved_tree::{CodeNode, Node, Rows};
-use type_names::{INTEGER, is_scalar, value_as};
-use type_table::{Entry, InitialValue, Kind, ObjectInfo, Own};
+use type_definitions::{Entry, InitialValue, Kind, ObjectInfo, Own};
 
 /// Whether an object is a variable or a constant.
 fn object_kind(constant: bool) -> Kind

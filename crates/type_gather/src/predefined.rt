@@ -1,14 +1,14 @@
 //! What is known before the first unit: the predefined types, and what is declared within Ada.
 ghost use Rattle.std.specs.Prelude.{◌≡◌, ◌++◌, ◌-◌, false, replicate, [], IfOk, pos, negsuc};
-ghost use Rattle.type_table.specs.Types.{no_type};
-ghost use Rattle.type_table.specs.Whole.{at_first, no_mark, predefined_entries, predefined_types, whole};
+ghost use Rattle.type_definitions.specs.Types.{no_type};
+ghost use Rattle.type_definitions.specs.Whole.{at_first, no_mark, predefined_entries, predefined_types, whole};
 
 use crate::known::own_info;
 use ada_tree::Word;
+use expression_types::{BOOLEAN, INTEGER, UNTYPED};
 use spark_base::Listed;
 use std::alloc::{AllocError, Global};
-use type_names::{BOOLEAN, INTEGER, UNTYPED};
-use type_table::{Entry, Info, Known, Predefined, Shape};
+use type_definitions::{Entry, Info, Known, Predefined, Shape};
 
 /// Integer, or a predefined subtype of it, with this low bound.
 fn whole(low: i32) -> Info

@@ -1,15 +1,15 @@
 //! The declarations of a program.
 ghost use Rattle.std.specs.Prelude.{◌≡◌, ◌<◌, false, All, IfOk, length, map};
 ghost use Rattle.resolved_tree.specs.Nodes.{code_at};
-ghost use Rattle.type_table.specs.Whole.{at_first, gather_units, known_with, outside};
-ghost use Rattle.type_names.specs.ComponentNames.{FindAllComponents};
+ghost use Rattle.type_definitions.specs.Whole.{at_first, gather_units, known_with, outside};
+ghost use Rattle.expression_types.specs.ComponentNames.{FindAllComponents};
 
 use crate::gathering::Gathering;
 use crate::predefined::{at_first, entries_at_first};
+use expression_types::WordIndex;
 use resolved_tree::Rows;
 use std::alloc::{AllocError, Global};
-use type_names::WordIndex;
-use type_table::Known;
+use type_definitions::Known;
 
 /// All units, one after the other, from what is known before them.
 fn turn(

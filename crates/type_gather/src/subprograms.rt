@@ -1,7 +1,7 @@
 //! Subprograms and their formals (Ada 2012, 6.1).
 ghost use Rattle.std.specs.Prelude.{◌≡◌, ◌<◌, ◌++◌, length, IfOk, OnOk};
 ghost use Rattle.resolved_tree.specs.Nodes.{code_at};
-ghost use Rattle.type_table.specs.Gathered.{anonymous_result, declared_number, declared_text, each, formal_group, formal_groups, formal_infos, front_number, indicated, indicates_type, is_anonymous_indication, plain_object, profile_from, result_indicated, with_body_front, with_formal, with_formal_group, with_formals, with_front, with_profile, with_result};
+ghost use Rattle.type_definitions.specs.Gathered.{anonymous_result, declared_number, declared_text, each, formal_group, formal_groups, formal_infos, front_number, indicated, indicates_type, is_anonymous_indication, plain_object, profile_from, result_indicated, with_body_front, with_formal, with_formal_group, with_formals, with_front, with_profile, with_result};
 ghost use Rattle.type_gather.specs.Gathering.{context};
 
 use crate::declared::{declared_number, declared_text};
@@ -10,7 +10,7 @@ use place_names::Mode;
 use resolved_tree::{CodeNode, Rows};
 use spark_base::Listed;
 use std::alloc::AllocError;
-use type_table::{Entry, FormalInfo, Kind, ObjectInfo, Profile};
+use type_definitions::{Entry, FormalInfo, Kind, ObjectInfo, Profile};
 
 /// What an object is that is no static constant, and that is no object of a package.
 pub fn plain_object(of: u32, kind: Kind) -> ObjectInfo

@@ -2,7 +2,7 @@
 ghost use Rattle.std.specs.Prelude.{◌≡◌, ◌<◌, ◌-◌, ◌++◌, length, IfOk, OnOk};
 ghost use Rattle.resolved_tree.specs.Nodes.{code_at, tree_at};
 ghost use Rattle.resolved_tree.specs.Trees.{Incomplete, Private, TypeDecl, Subtype, ConstrainedSubtype, Array};
-ghost use Rattle.type_table.specs.Gathered.{component_group, component_groups, component_list, completion, defined, full_info, gather, has_bounds, subtype_info, texts, with_definition, with_literals};
+ghost use Rattle.type_definitions.specs.Gathered.{component_group, component_groups, component_list, completion, defined, full_info, gather, has_bounds, subtype_info, texts, with_definition, with_literals};
 ghost use Rattle.type_gather.specs.Gathering.{context};
 
 use crate::bounds::constrained_shape;
@@ -11,7 +11,7 @@ use crate::gathering::Gathering;
 use resolved_tree::{CodeNode, Mark, Rows};
 use spark_base::{Listed, Pos};
 use std::alloc::{AllocError, Global};
-use type_table::{Component, Entry, Info, Shape};
+use type_definitions::{Component, Entry, Info, Shape};
 
 /// Adds the components of a list of identifiers with one type.
 fn component_group(
@@ -215,7 +215,7 @@ impl Gathering {
     }
 
     /// An incomplete type.
-    #[tactic(auto, unfolding(type_table::specs::Gathered::gather))]
+    #[tactic(auto, unfolding(type_definitions::specs::Gathered::gather))]
     pub fn incomplete(&mut self, rows: &Rows, name: usize)
         requires { name < length rows.now.1 }
         ensures { context self.new ≡ gather (Incomplete (code_at rows.now name)) (context self.old) }
@@ -225,7 +225,7 @@ impl Gathering {
     }
 
     /// A private type.
-    #[tactic(auto, unfolding(type_table::specs::Gathered::gather))]
+    #[tactic(auto, unfolding(type_definitions::specs::Gathered::gather))]
     pub fn private_type(&mut self, rows: &Rows, name: usize)
         requires { name < length rows.now.1 }
         ensures { context self.new ≡ gather (Private (code_at rows.now name)) (context self.old) }
@@ -235,7 +235,7 @@ impl Gathering {
     }
 
     /// A full type.
-    #[tactic(auto, unfolding(type_table::specs::Gathered::gather))]
+    #[tactic(auto, unfolding(type_definitions::specs::Gathered::gather))]
     pub fn full_type(
         &mut self,
         rows: &Rows,
@@ -254,7 +254,7 @@ impl Gathering {
     }
 
     /// A subtype without a constraint.
-    #[tactic(auto, unfolding(type_table::specs::Gathered::gather))]
+    #[tactic(auto, unfolding(type_definitions::specs::Gathered::gather))]
     pub fn subtype(&mut self, rows: &Rows, name: usize, mark: Mark)
         requires { name < length rows.now.1 }
         ensures { context self.new ≡ gather (Subtype (code_at rows.now name) mark) (context self.old) }
@@ -268,7 +268,7 @@ impl Gathering {
     }
 
     /// A subtype with bounds of its own.
-    #[tactic(auto, unfolding(type_table::specs::Gathered::gather))]
+    #[tactic(auto, unfolding(type_definitions::specs::Gathered::gather))]
     pub fn constrained_subtype(
         &mut self,
         rows: &Rows,

@@ -2,7 +2,7 @@
 ghost use Rattle.std.specs.Prelude.{◌≡◌, ◌<◌, length, IsTrue, OnOk};
 ghost use Rattle.resolved_tree.specs.Nodes.{code_at, tree_at};
 ghost use Rattle.resolved_tree.specs.Trees.{Package};
-ghost use Rattle.type_table.specs.Gathered.{declared_number, gather, in_hidden, in_no_package, in_subprogram, instance_type, parameter_type, plain_object, with_body_front, with_entry};
+ghost use Rattle.type_definitions.specs.Gathered.{declared_number, gather, in_hidden, in_no_package, in_subprogram, instance_type, parameter_type, plain_object, with_body_front, with_entry};
 ghost use Rattle.type_gather.specs.Gathering.{context, declares_nothing, declares_object, declares_type, declares_unit};
 
 use crate::declared::declared_number;
@@ -11,7 +11,7 @@ use crate::instance::instance_type;
 use crate::subprograms::{front_number, plain_object};
 use resolved_tree::{CodeNode, Rows};
 use std::alloc::AllocError;
-use type_table::{Entry, Kind};
+use type_definitions::{Entry, Kind};
 
 impl Gathering {
     /// A declaration of a type or a subtype.
@@ -62,7 +62,7 @@ impl Gathering {
     }
 
     /// A declaration of objects, of named numbers, or an instance.
-    #[tactic(auto, unfolding(type_table::specs::Gathered::gather))]
+    #[tactic(auto, unfolding(type_definitions::specs::Gathered::gather))]
     fn object_declaration(&mut self, rows: &Rows, code: usize)
         requires { code < length rows.now.1 }
         ensures { IsTrue (declares_object (code_at rows.now code)) → context self.new ≡ gather (code_at rows.now code) (context self.old) }
@@ -109,7 +109,7 @@ impl Gathering {
 
     /// A specification of a package.
     #[cycle(walk)]
-    #[tactic(auto, unfolding(type_table::specs::Gathered::gather))]
+    #[tactic(auto, unfolding(type_definitions::specs::Gathered::gather))]
     fn package(
         &mut self,
         rows: &Rows,
@@ -145,7 +145,7 @@ impl Gathering {
 
     /// A declaration or body of a subprogram or a package.
     #[cycle(walk)]
-    #[tactic(auto, unfolding(type_table::specs::Gathered::gather))]
+    #[tactic(auto, unfolding(type_definitions::specs::Gathered::gather))]
     fn unit(&mut self, rows: &Rows, code: usize) -> Result<(), AllocError>
         requires { code < length rows.now.1 }
         ensures { OnOk result (IsTrue (declares_unit (code_at rows.now code)) → context self.new ≡ gather (code_at rows.now code) (context self.old)) }
@@ -207,7 +207,7 @@ impl Gathering {
 
     /// A statement, a part of one, or a list.
     #[cycle(walk)]
-    #[tactic(auto, unfolding(type_table::specs::Gathered::gather))]
+    #[tactic(auto, unfolding(type_definitions::specs::Gathered::gather))]
     fn statement(&mut self, rows: &Rows, code: usize) -> Result<(), AllocError>
         requires { code < length rows.now.1 }
         ensures { OnOk result (IsTrue (declares_nothing (code_at rows.now code)) → context self.new ≡ gather (code_at rows.now code) (context self.old)) }
@@ -261,7 +261,7 @@ impl Gathering {
 
     /// All of some code. A list is gone along, so that the depth of calls is that of nesting.
     #[cycle(walk)]
-    #[tactic(auto, unfolding(type_table::specs::Gathered::gather))]
+    #[tactic(auto, unfolding(type_definitions::specs::Gathered::gather))]
     pub fn gather(&mut self, rows: &Rows, code: usize) -> Result<(), AllocError>
         requires { code < length rows.now.1 }
         ensures { OnOk result (context self.new ≡ gather (code_at rows.now code) (context self.old)) }

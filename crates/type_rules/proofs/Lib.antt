@@ -1,1 +1,3 @@
-pub mod Faults
+-- laws
+pub mod Formed
+pub mod Checked

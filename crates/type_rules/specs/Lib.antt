@@ -1,1 +1,2 @@
-pub mod Programs
+-- what the public contract rests on
+pub mod Typed

@@ -1,17 +1,15 @@
-//! The first broken sentence on types of a program, or that it breaks none.
+//! From files whose names have a meaning to the typed program and its types, or the first broken
+//! sentence on types.
 //!
-//! `check_types` takes files whose names have a meaning. It makes the small trees of their code
-//! (`tree_lowering`), gathers what their declarations are (`type_gather`), and then goes over all
-//! types for Y1 to Y3 (`type_settled`) and over all code for K1 to K8 (`type_statements`). The
-//! definitions of both are those of `type_table`; `docs/LANGUAGE.md`, "Types", says them in words.
-//! `lowered`, `settled` and `check_units` are its three steps, for callers that go on with what
-//! they make. A program with a fault is looked at once more, by `told`: where a mark denotes no type,
-//! or bounds aren't static, nothing is told there that follows from it.
-//! Time and memory: each pass visits each tree a bounded number of times; `docs/COSTS.md` names
-//! what isn't linear.
+//! `type_check` takes the files and makes a `Typed`, which no longer has the trees of the grammar.
+//! Its parts are those of the definitions: `specs/Typed.antt` states it, over `type_definitions`,
+//! `typed_tree` and `typing_steps`; `docs/LANGUAGE.md`, "Types" and "Typed programs", says it in
+//! words. Refused is what breaks one of Y1 to Y3 or K1 to K8. Each step visits each tree a bounded
+//! number of times; `docs/COSTS.md` names what isn't linear.
 #![tactic(auto)]
 
 mod check;
-mod refused;
+mod typed;
 
-pub use check::{check_types, check_units, lowered, settled, told};
+pub use check::type_check;
+pub use typed::Typed;

@@ -3,10 +3,10 @@ use Rattle.std.proofs.Common.{◌≡◌, ℕ, ◌+◌, Bool, not, ◌&&◌, List
 use Rattle.std.specs.Prelude.{nat_le}
 use Rattle.place_names.specs.declared.selector.Sel.{Sel}
 use Rattle.spark_base.specs.declared.position.Pos.{Pos}
-use Rattle.type_table.specs.declared.judgement.Fault.{Fault}
-use Rattle.type_table.specs.Types.{Table, words, parts, full, is_nil, is_owning}
-use Rattle.type_table.specs.Faults.{noted, demand}
-use Rattle.type_table.specs.Whole.{all_short, has_elements, size_faults}
+use Rattle.type_definitions.specs.declared.judgement.Fault.{Fault}
+use Rattle.type_definitions.specs.Types.{Table, words, parts, full, is_nil, is_owning}
+use Rattle.type_definitions.specs.Faults.{noted, demand}
+use Rattle.type_definitions.specs.Whole.{all_short, has_elements, size_faults}
 use Rattle.type_settled.specs.declared.measure.Measure.{Measure}
 use Rattle.type_settled.specs.Measures.{reach, nothing, measured, IsMeasured}
 use Rattle.type_settled.proofs.Noted.{noted_append}

@@ -1,7 +1,7 @@
 -- What is in a type at some depth is in it at a depth of at most as many types as there are.
 use Rattle.std.proofs.Common.{◌≡◌, ◌⊎◌, inl, inr, ℕ, zero, suc, ◌+◌, ◌<◌, ◌≤◌, Bool, true, false, ◌||◌, refl, sym, ap, ◌∙◌, arith, length, subst, true≢false}
 use Rattle.std.proofs.lemmas.Bool.{cases_lt}
-use Rattle.type_table.specs.Types.{Table, info}
+use Rattle.type_definitions.specs.Types.{Table, info}
 use Rattle.type_settled.specs.Reach.{has_some}
 use Rattle.type_settled.proofs.Reached.{holds_more, past_none}
 

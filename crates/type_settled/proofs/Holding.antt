@@ -1,8 +1,8 @@
 -- Types that a type has in itself, at a depth of one more.
 use Rattle.std.proofs.Common.{◌≡◌, refl, ℕ, suc, ◌+◌, Bool, true, false, ◌||◌, nat_eq, arith}
 use Rattle.std.specs.Prelude.{slice_get}
-use Rattle.type_table.specs.Types.{Table, base, info, shape_found}
-use Rattle.type_table.specs.Declarations.{holds_parent, holds_shape}
+use Rattle.type_definitions.specs.Types.{Table, base, info, shape_found}
+use Rattle.type_definitions.specs.Declarations.{holds_parent, holds_shape}
 use Rattle.type_settled.specs.Holding.{has, has_below}
 
 or_assoc : (a b c : Bool) → ((a || b) || c) ≡ (a || (b || c))

@@ -4,12 +4,12 @@ use Rattle.std.specs.Prelude.{slice_get}
 use Rattle.std.proofs.lemmas.Bool.{cases_eq, cases_lt}
 use Rattle.std.proofs.lemmas.List.{get_or-set_same, get_or-set_other, set_past}
 use Rattle.std.proofs.lemmas.Option.{slice_get-get_or}
-use Rattle.type_table.specs.declared.table.Component.{Component}
-use Rattle.type_table.specs.declared.table.Shape.{Shape}
-use Rattle.type_table.specs.declared.table.Shape.TheVariants as shape
-use Rattle.type_table.specs.declared.table.Info.{Info}
-use Rattle.type_table.specs.Types.{Table, base, info, info_found}
-use Rattle.type_table.specs.Declarations.{any_of, holds_shape, holds_parent, holds_itself}
+use Rattle.type_definitions.specs.declared.table.Component.{Component}
+use Rattle.type_definitions.specs.declared.table.Shape.{Shape}
+use Rattle.type_definitions.specs.declared.table.Shape.TheVariants as shape
+use Rattle.type_definitions.specs.declared.table.Info.{Info}
+use Rattle.type_definitions.specs.Types.{Table, base, info, info_found}
+use Rattle.type_definitions.specs.Declarations.{any_of, holds_shape, holds_parent, holds_itself}
 use Rattle.type_settled.specs.Measures.{marked}
 use Rattle.type_settled.specs.Reach.{holds, has_some}
 use Rattle.type_settled.specs.Rings.{IsPart, Inside, here, deeper, AreParts, root, is_linked, HaveRoots, AreInRoots, LooksAt, AreInRings}

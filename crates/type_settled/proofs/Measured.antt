@@ -6,12 +6,12 @@ use Rattle.std.proofs.lemmas.Option.{slice_get_past}
 use Rattle.std.proofs.lemmas.List.Sums.{sum_by-cons}
 use Rattle.place_names.specs.declared.selector.Sel.{Sel}
 use Rattle.place_names.specs.declared.selector.Sel.TheVariants.{Field, Elem}
-use Rattle.type_table.specs.declared.table.Component.{Component}
-use Rattle.type_table.specs.declared.table.Shape.{Shape}
-use Rattle.type_table.specs.declared.table.Shape.TheVariants as shape
-use Rattle.type_table.specs.declared.table.Info.{Info}
-use Rattle.type_table.specs.Types.{Table, info, info_found, shape_found, span, words_of, words_within, numbered, parts_of, parts_within}
-use Rattle.type_table.specs.Declarations.{any_of, holds_shape, holds_parent}
+use Rattle.type_definitions.specs.declared.table.Component.{Component}
+use Rattle.type_definitions.specs.declared.table.Shape.{Shape}
+use Rattle.type_definitions.specs.declared.table.Shape.TheVariants as shape
+use Rattle.type_definitions.specs.declared.table.Info.{Info}
+use Rattle.type_definitions.specs.Types.{Table, info, info_found, shape_found, span, words_of, words_within, numbered, parts_of, parts_within}
+use Rattle.type_definitions.specs.Declarations.{any_of, holds_shape, holds_parent}
 use Rattle.type_settled.specs.declared.measure.Measure.{Measure}
 use Rattle.type_settled.specs.Measures.{reach, some_below, measured, nothing, deeper, component_of, joined, fields_of, shape_measure, parent_unsound, info_measure, part_of}
 

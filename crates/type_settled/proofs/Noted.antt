@@ -2,9 +2,9 @@
 use Rattle.std.proofs.Common.{◌≡◌, ◌<◌, ◌+◌, ℕ, suc, arith, length, drop, get_or, List, [], ◌∷◌, ◌++◌, Option, Some, None, Bool, true, false, refl, sym, ap, ◌∙◌, if◌then◌else◌}
 use Rattle.std.specs.Prelude.{flat_map}
 use Rattle.std.proofs.Math.Seq.{drop-cons}
-use Rattle.type_table.specs.declared.judgement.Fault.{Fault}
+use Rattle.type_definitions.specs.declared.judgement.Fault.{Fault}
 use Rattle.spark_base.specs.declared.position.Pos.{Pos}
-use Rattle.type_table.specs.Faults.{noted, precedes, demand}
+use Rattle.type_definitions.specs.Faults.{noted, precedes, demand}
 
 pub noted_append : (found : Option Fault) (a b : List Fault) → noted found (a ++ b) ≡ noted (noted found a) b
 noted_append found [] b = refl

@@ -1,12 +1,12 @@
 -- The types that have a named access type in them are the owning ones.
 use Rattle.std.proofs.Common.{◌≡◌, ℕ, zero, suc, Bool, true, false, ◌||◌, List, [], ◌∷◌, map, refl, sym, ap, ◌∙◌, arith, length, get_or, nat_lt, Option, Some, None}
 use Rattle.std.specs.Prelude.{slice_get}
-use Rattle.type_table.specs.declared.table.Component.{Component}
-use Rattle.type_table.specs.declared.table.Shape.{Shape}
-use Rattle.type_table.specs.declared.table.Shape.TheVariants as shape
-use Rattle.type_table.specs.declared.table.Info.{Info}
-use Rattle.type_table.specs.Types.{Table, info, info_found, shape_found, any_owns, owns_of, owns_within, is_owning}
-use Rattle.type_table.specs.Declarations.{any_of, holds_shape}
+use Rattle.type_definitions.specs.declared.table.Component.{Component}
+use Rattle.type_definitions.specs.declared.table.Shape.{Shape}
+use Rattle.type_definitions.specs.declared.table.Shape.TheVariants as shape
+use Rattle.type_definitions.specs.declared.table.Info.{Info}
+use Rattle.type_definitions.specs.Types.{Table, info, info_found, shape_found, any_owns, owns_of, owns_within, is_owning}
+use Rattle.type_definitions.specs.Declarations.{any_of, holds_shape}
 use Rattle.type_settled.specs.declared.measure.Measure.{Measure}
 use Rattle.type_settled.specs.Measures.{nothing, marked, IsMeasured}
 use Rattle.type_settled.specs.Owners.{is_named, AreOwners}

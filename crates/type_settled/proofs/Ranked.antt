@@ -4,12 +4,12 @@ use Rattle.std.specs.Prelude.{slice_get}
 use Rattle.std.proofs.lemmas.Bool.{cases_eq, cases_lt}
 use Rattle.std.proofs.lemmas.List.{length-replicate, get_or-replicate, get_or-set_other, get_or_past}
 use Rattle.std.proofs.lemmas.Option.{slice_get-get_or, slice_get_past}
-use Rattle.type_table.specs.declared.table.Component.{Component}
-use Rattle.type_table.specs.declared.table.Shape.{Shape}
-use Rattle.type_table.specs.declared.table.Shape.TheVariants as shape
-use Rattle.type_table.specs.declared.table.Info.{Info}
-use Rattle.type_table.specs.Types.{Table, base, base_found, info, info_found, shape_found}
-use Rattle.type_table.specs.Declarations.{any_of, holds_shape, holds_parent, some_part, holds_itself}
+use Rattle.type_definitions.specs.declared.table.Component.{Component}
+use Rattle.type_definitions.specs.declared.table.Shape.{Shape}
+use Rattle.type_definitions.specs.declared.table.Shape.TheVariants as shape
+use Rattle.type_definitions.specs.declared.table.Info.{Info}
+use Rattle.type_definitions.specs.Types.{Table, base, base_found, info, info_found, shape_found}
+use Rattle.type_definitions.specs.Declarations.{any_of, holds_shape, holds_parent, some_part, holds_itself}
 use Rattle.type_settled.specs.Holding.{has, has_below, AreLone}
 use Rattle.type_settled.specs.Orders.{all_ready, shape_ready, parent_ready, is_ready}
 use Rattle.type_settled.specs.Ranks.{rank, is_lower, IsRanked, AreRanks}

@@ -1,6 +1,6 @@
 -- One more round measures one level deeper.
 use Rattle.std.proofs.Common.{◌≡◌, ℕ, zero, suc, ◌+◌, ◌-◌, ◌≤◌, Bool, List, [], ◌∷◌, map, refl, sym, ap, ◌∙◌, arith, get_or, length}
-use Rattle.type_table.specs.Types.{Table, info}
+use Rattle.type_definitions.specs.Types.{Table, info}
 use Rattle.type_settled.specs.declared.measure.Measure.{Measure}
 use Rattle.type_settled.specs.Measures.{nothing, measured, marked, info_measure, part_of, part_in}
 use Rattle.type_settled.proofs.Measured.{measured_step, measured_zero}

@@ -4,16 +4,16 @@ use Rattle.std.specs.Prelude.{slice_get}
 use Rattle.std.proofs.Math.Seq.{drop-cons}
 use Rattle.std.proofs.lemmas.Bool.{cases_eq}
 use Rattle.std.proofs.lemmas.List.{get_or-set_same, get_or-set_other}
-use Rattle.type_table.specs.declared.table.Component.{Component}
-use Rattle.type_table.specs.declared.table.Shape.{Shape}
-use Rattle.type_table.specs.declared.table.Shape.TheVariants as shape
-use Rattle.type_table.specs.declared.table.Info.{Info}
-use Rattle.type_table.specs.declared.table.Made.{Made}
-use Rattle.type_table.specs.declared.judgement.Fault.{Fault}
-use Rattle.type_table.specs.Types.{Table, base, info, info_found, shape_found}
-use Rattle.type_table.specs.Faults.{noted}
-use Rattle.type_table.specs.Declarations.{any_of, holds_shape, holds_parent, some_within, some_part, holds_itself}
-use Rattle.type_table.specs.Whole.{is_unsound, size_faults, made_faults}
+use Rattle.type_definitions.specs.declared.table.Component.{Component}
+use Rattle.type_definitions.specs.declared.table.Shape.{Shape}
+use Rattle.type_definitions.specs.declared.table.Shape.TheVariants as shape
+use Rattle.type_definitions.specs.declared.table.Info.{Info}
+use Rattle.type_definitions.specs.declared.table.Made.{Made}
+use Rattle.type_definitions.specs.declared.judgement.Fault.{Fault}
+use Rattle.type_definitions.specs.Types.{Table, base, info, info_found, shape_found}
+use Rattle.type_definitions.specs.Faults.{noted}
+use Rattle.type_definitions.specs.Declarations.{any_of, holds_shape, holds_parent, some_within, some_part, holds_itself}
+use Rattle.type_definitions.specs.Whole.{is_unsound, size_faults, made_faults}
 use Rattle.type_settled.specs.declared.measure.Measure.{Measure}
 use Rattle.type_settled.specs.declared.measures.Measures.{Measures}
 use Rattle.type_settled.specs.declared.order.Order.{Order}

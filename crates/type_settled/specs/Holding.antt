@@ -1,7 +1,7 @@
 -- Which types a type has in itself.
 use Rattle.std.specs.Prelude.{◌≡◌, ℕ, Bool, true, false, ◌||◌, List, get_or, nat_eq, slice_get}
-use Rattle.type_table.specs.Types.{Table, base, info, shape_found}
-use Rattle.type_table.specs.Declarations.{holds_itself, holds_parent, holds_shape, some_within}
+use Rattle.type_definitions.specs.Types.{Table, base, info, shape_found}
+use Rattle.type_definitions.specs.Declarations.{holds_itself, holds_parent, holds_shape, some_within}
 
 -- A type is this one, or has it in itself at a depth of at most n.
 abbrev pub has : Table → ℕ → ℕ → ℕ → Bool

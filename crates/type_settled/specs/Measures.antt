@@ -2,12 +2,12 @@
 -- as far as a limit needs it (docs/LANGUAGE.md, "Types").
 use Rattle.std.specs.Prelude.{◌≡◌, ℕ, zero, suc, ◌+◌, ◌*◌, Bool, true, false, ◌||◌, List, [], ◌∷◌, length, min, max, nat_eq, get_or, IsTrue, Option, Some, None, if◌then◌else◌}
 use Rattle.place_names.specs.declared.selector.Sel.{Sel}
-use Rattle.type_table.specs.declared.table.Component.{Component}
-use Rattle.type_table.specs.declared.table.Shape.{Shape}
-use Rattle.type_table.specs.declared.table.Shape.TheVariants as shape
-use Rattle.type_table.specs.declared.table.Info.{Info}
-use Rattle.type_table.specs.Types.{Table, info, span, words_within, parts_within}
-use Rattle.type_table.specs.Declarations.{holds_shape, holds_parent}
+use Rattle.type_definitions.specs.declared.table.Component.{Component}
+use Rattle.type_definitions.specs.declared.table.Shape.{Shape}
+use Rattle.type_definitions.specs.declared.table.Shape.TheVariants as shape
+use Rattle.type_definitions.specs.declared.table.Info.{Info}
+use Rattle.type_definitions.specs.Types.{Table, info, span, words_within, parts_within}
+use Rattle.type_definitions.specs.Declarations.{holds_shape, holds_parent}
 use Rattle.type_settled.specs.declared.measure.Measure.{Measure}
 use Rattle.type_settled.specs.declared.measures.Measures.{Measures}
 

@@ -1,10 +1,10 @@
 -- Types that are measured one after the other, each behind its parts.
 use Rattle.std.specs.Prelude.{◌≡◌, ◌≤◌, ℕ, Bool, true, ◌&&◌, List, [], ◌∷◌, length, get_or, IsTrue, Option, Some, None}
-use Rattle.type_table.specs.declared.table.Component.{Component}
-use Rattle.type_table.specs.declared.table.Shape.{Shape}
-use Rattle.type_table.specs.declared.table.Shape.TheVariants as shape
-use Rattle.type_table.specs.declared.table.Info.{Info}
-use Rattle.type_table.specs.Types.{Table}
+use Rattle.type_definitions.specs.declared.table.Component.{Component}
+use Rattle.type_definitions.specs.declared.table.Shape.{Shape}
+use Rattle.type_definitions.specs.declared.table.Shape.TheVariants as shape
+use Rattle.type_definitions.specs.declared.table.Info.{Info}
+use Rattle.type_definitions.specs.Types.{Table}
 use Rattle.type_settled.specs.declared.order.Order.{Order}
 use Rattle.type_settled.specs.Measures.{nothing, measured}
 

@@ -1,8 +1,8 @@
 -- The types that have a named access type in them.
 use Rattle.std.specs.Prelude.{◌≡◌, ℕ, Bool, false, ◌||◌, List}
-use Rattle.type_table.specs.declared.table.Shape.{Shape}
-use Rattle.type_table.specs.declared.table.Shape.TheVariants as shape
-use Rattle.type_table.specs.Types.{Table, info, is_owning}
+use Rattle.type_definitions.specs.declared.table.Shape.{Shape}
+use Rattle.type_definitions.specs.declared.table.Shape.TheVariants as shape
+use Rattle.type_definitions.specs.Types.{Table, info, is_owning}
 use Rattle.type_settled.specs.Measures.{marked}
 
 abbrev pub is_named : Shape → Bool

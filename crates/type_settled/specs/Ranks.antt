@@ -1,6 +1,6 @@
 -- Ranks of types: none is made of a type with a greater one.
 use Rattle.std.specs.Prelude.{◌<◌, ◌+◌, ℕ, Bool, List, length, get_or, nat_lt, IsTrue}
-use Rattle.type_table.specs.Types.{Table, base, info}
+use Rattle.type_definitions.specs.Types.{Table, base, info}
 use Rattle.type_settled.specs.Orders.{is_ready}
 
 abbrev pub rank : List ℕ → ℕ → ℕ

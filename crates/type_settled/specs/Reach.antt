@@ -1,8 +1,8 @@
 -- The types that have a marked type in them.
 use Rattle.std.specs.Prelude.{◌≡◌, ◌<◌, ◌≤◌, ◌+◌, ℕ, zero, suc, Bool, false, ◌||◌, ◌&&◌, List, length, IsTrue}
-use Rattle.type_table.specs.declared.table.Info.{Info}
-use Rattle.type_table.specs.Types.{Table, info}
-use Rattle.type_table.specs.Declarations.{holds_shape, holds_parent}
+use Rattle.type_definitions.specs.declared.table.Info.{Info}
+use Rattle.type_definitions.specs.Types.{Table, info}
+use Rattle.type_definitions.specs.Declarations.{holds_shape, holds_parent}
 use Rattle.type_settled.specs.declared.reach.Found.{Found}
 use Rattle.type_settled.specs.Measures.{marked}
 

@@ -1,8 +1,8 @@
 -- Rings: types that are made of one another, and so have themselves in them.
 use Rattle.std.specs.Prelude.{◌≡◌, ◌||◌, ◌<◌, ℕ, Bool, true, List, length, get_or, nat_eq, IsTrue}
-use Rattle.type_table.specs.declared.table.Component.{Component}
-use Rattle.type_table.specs.Types.{Table, info}
-use Rattle.type_table.specs.Declarations.{holds_itself}
+use Rattle.type_definitions.specs.declared.table.Component.{Component}
+use Rattle.type_definitions.specs.Types.{Table, info}
+use Rattle.type_definitions.specs.Declarations.{holds_itself}
 use Rattle.type_settled.specs.Measures.{marked}
 use Rattle.type_settled.specs.Reach.{holds}
 

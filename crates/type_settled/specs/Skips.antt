@@ -1,6 +1,6 @@
 -- The types that are looked at.
 use Rattle.std.specs.Prelude.{◌||◌, Bool, true, not, List, set, if◌then◌else◌}
-use Rattle.type_table.specs.declared.table.Made.{Made}
+use Rattle.type_definitions.specs.declared.table.Made.{Made}
 use Rattle.type_settled.specs.declared.measure.Measure.{Measure}
 use Rattle.type_settled.specs.Measures.{marked}
 

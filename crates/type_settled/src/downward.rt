@@ -1,12 +1,12 @@
 //! The types of rings that are in the root of their ring, found for all rings at once.
 ghost use Rattle.std.specs.Prelude.{◌≡◌, IfOk};
-ghost use Rattle.type_table.specs.Types.{info};
+ghost use Rattle.type_definitions.specs.Types.{info};
 ghost use Rattle.type_settled.specs.Rings.{AreInRoots, AreParts, IsPart, LooksAt};
 
 use crate::measure::is_marked;
 use crate::roots::{is_linked, mark, root};
 use std::alloc::{AllocError, Global};
-use type_table::{Component, Info, Shape};
+use type_definitions::{Component, Info, Shape};
 
 /// The types that are found so far.
 #[derive(Drop)]

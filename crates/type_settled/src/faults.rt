@@ -1,9 +1,9 @@
 //! The first fault so far.
 ghost use Rattle.std.specs.Prelude.{◌≡◌, Bool, IsTrue};
-ghost use Rattle.type_table.specs.Faults.{is_before, precedes, noted, demand};
+ghost use Rattle.type_definitions.specs.Faults.{is_before, precedes, noted, demand};
 
 use spark_base::Pos;
-use type_table::Fault;
+use type_definitions::Fault;
 
 /// Whether one position is before another.
 fn is_before(p: Pos, q: Pos) -> bool

@@ -5,7 +5,7 @@
 //! record that has many, and of the formals of each subprogram that has many, where there is memory
 //! for it. `sizes` looks at the types that declarations make: one may have at most 65,536 words, at
 //! most 64 access parts of at most 16 selectors, and an array type has an element. The definitions
-//! are those of `type_table`; `specs/Measures.antt` says what is measured of each type, where a
+//! are those of `type_definitions`; `specs/Measures.antt` says what is measured of each type, where a
 //! count stops at one more than its limit; `docs/LANGUAGE.md`, "Types", says it in words (Ada 2012,
 //! 3.2 and 3.5 to 3.10).
 //!

@@ -1,9 +1,9 @@
 //! The first type that exceeds a limit.
 ghost use Rattle.std.specs.Prelude.{◌≡◌, ◌<◌, ◌&&◌, ℕ, List, All, IfOk, flat_map, length, min, nat_le};
-ghost use Rattle.type_table.specs.declared.table.Made.{Made};
-ghost use Rattle.type_table.specs.Types.{meant_type, full, words, parts};
-ghost use Rattle.type_table.specs.Faults.{noted};
-ghost use Rattle.type_table.specs.Whole.{is_unsound, has_elements, made_faults, size_faults};
+ghost use Rattle.type_definitions.specs.declared.table.Made.{Made};
+ghost use Rattle.type_definitions.specs.Types.{meant_type, full, words, parts};
+ghost use Rattle.type_definitions.specs.Faults.{noted};
+ghost use Rattle.type_definitions.specs.Whole.{is_unsound, has_elements, made_faults, size_faults};
 ghost use Rattle.type_settled.specs.Measures.{reach, marked, AreEnough};
 ghost use Rattle.type_settled.specs.Skips.{marked_with, skips};
 
@@ -13,7 +13,7 @@ use crate::measures::{Measures, measure_in, measured};
 use crate::settled::Settled;
 use spark_base::{ACCESS_PARTS, Pos, SELECTORS, TYPE_WORDS};
 use std::alloc::{AllocError, Global};
-use type_table::{Fault, Info, Made, Shape};
+use type_definitions::{Fault, Info, Made, Shape};
 
 /// One more than the greatest number of these types.
 fn end(made: &[Made]) -> usize

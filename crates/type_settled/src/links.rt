@@ -2,7 +2,7 @@
 
 use crate::chains::Chains;
 use std::alloc::{AllocError, Global};
-use type_table::{Component, Info, Shape};
+use type_definitions::{Component, Info, Shape};
 
 /// The direction of links.
 #[derive(Clone, Copy)]

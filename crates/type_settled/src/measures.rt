@@ -9,7 +9,7 @@ use crate::reach::reached;
 use crate::rounds::rounds;
 use crate::visits::measured_in_order;
 use std::alloc::{AllocError, Global};
-use type_table::Info;
+use type_definitions::Info;
 
 /// What is measured of all types. Where a type isn't done, it is known that it is unsound or that
 /// an unsound type is in it.

@@ -1,13 +1,13 @@
 //! Types that have themselves in them.
 ghost use Rattle.std.specs.Prelude.{◌≡◌, ◌<◌, map, nat_eq, IfOk, IfSome};
-ghost use Rattle.type_table.specs.Types.{base};
-ghost use Rattle.type_table.specs.Declarations.{any_of, holds_itself, holds_parent, holds_shape};
+ghost use Rattle.type_definitions.specs.Types.{base};
+ghost use Rattle.type_definitions.specs.Declarations.{any_of, holds_itself, holds_parent, holds_shape};
 ghost use Rattle.type_settled.specs.Holding.{has, has_below};
 
 use crate::measure::is_marked;
 use crate::reach::reached;
 use std::alloc::{AllocError, Global};
-use type_table::{Component, Info, Shape};
+use type_definitions::{Component, Info, Shape};
 
 /// The type that a type is a subtype of.
 fn base(table: &[Info], t: u32) -> u32
@@ -83,7 +83,7 @@ fn holds_within(table: &[Info], depth: usize, part: u32, of: u32) -> bool
 }
 
 /// Whether a type has itself in it, looked for without memory.
-#[tactic(auto, unfolding(type_table::specs::Declarations::some_part))]
+#[tactic(auto, unfolding(type_definitions::specs::Declarations::some_part))]
 fn is_found_in(table: &[Info], t: u32) -> bool
     ensures { result ≡ holds_itself table.now t }
 {

@@ -5,7 +5,7 @@ ghost use Rattle.type_settled.specs.Orders.{is_done, all_ready, shape_ready, par
 
 use crate::measure::{Measure, info_measure};
 use std::alloc::{AllocError, Global};
-use type_table::{Component, Info, Shape};
+use type_definitions::{Component, Info, Shape};
 
 /// The types that are measured so far.
 #[derive(Drop)]

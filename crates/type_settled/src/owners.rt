@@ -1,13 +1,13 @@
 //! The types that have a named access type in them.
 ghost use Rattle.std.specs.Prelude.{◌≡◌, IfOk, map, nat_lt};
-ghost use Rattle.type_table.specs.Types.{info};
+ghost use Rattle.type_definitions.specs.Types.{info};
 ghost use Rattle.type_settled.specs.Owners.{AreOwners, is_named};
 
 use crate::measure::Measure;
 use crate::reach::reached;
 use crate::rounds::rounds;
 use std::alloc::{AllocError, Global};
-use type_table::{Info, Shape};
+use type_definitions::{Info, Shape};
 
 /// Whether a definition is that of a named access type.
 fn is_named(shape: &Shape) -> bool

@@ -1,9 +1,9 @@
 //! What a type is made of, or a subtype of.
 ghost use Rattle.std.specs.Prelude.{◌≡◌, true, nat_eq};
-ghost use Rattle.type_table.specs.Declarations.{any_of, holds_parent, holds_shape};
+ghost use Rattle.type_definitions.specs.Declarations.{any_of, holds_parent, holds_shape};
 ghost use Rattle.type_settled.specs.Reach.{holds};
 
-use type_table::{Component, Info, Shape};
+use type_definitions::{Component, Info, Shape};
 
 /// Whether some component has this type.
 fn any_is(components: &[Component], part: usize) -> bool

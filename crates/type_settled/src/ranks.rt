@@ -7,7 +7,7 @@ ghost use Rattle.type_settled.specs.Ranks.{AreRanks, is_lower, rank};
 use crate::links::{Way, links};
 use crate::walk::Walk;
 use std::alloc::{AllocError, Global};
-use type_table::{Component, Info, Shape};
+use type_definitions::{Component, Info, Shape};
 
 /// The types, each behind those that are made of it, except where two are made of one another.
 fn left_upwards(alloc: Global, table: &[Info]) -> Result<Vec<usize>, AllocError> {

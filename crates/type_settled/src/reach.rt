@@ -1,6 +1,6 @@
 //! The types that have a marked type in them, found for all types at once.
 ghost use Rattle.std.specs.Prelude.{◌≡◌, ◌<◌, ◌∷◌, ℕ, false, length, get_or, IfOk, IfSome, IsTrue};
-ghost use Rattle.type_table.specs.Declarations.{any_of, holds_parent, holds_shape};
+ghost use Rattle.type_definitions.specs.Declarations.{any_of, holds_parent, holds_shape};
 ghost use Rattle.type_settled.specs.Measures.{marked};
 ghost use Rattle.type_settled.specs.Reach.{AreFound, IsClosed, IsFound, holds, is_in};
 
@@ -8,7 +8,7 @@ use crate::chains::Chains;
 use crate::links::{Way, links};
 use crate::measure::is_marked;
 use std::alloc::{AllocError, Global};
-use type_table::{Component, Info, Shape};
+use type_definitions::{Component, Info, Shape};
 
 /// The types that are found so far.
 #[derive(Drop)]

@@ -7,7 +7,7 @@ use crate::measure::is_marked;
 use crate::roots::{mark, ring_roots, roots};
 use crate::upward::upward;
 use std::alloc::{AllocError, Global};
-use type_table::Info;
+use type_definitions::Info;
 
 /// Whether a type but the first may be in a ring.
 fn has_rings(lone: &[bool]) -> bool {

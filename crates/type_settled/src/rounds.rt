@@ -4,7 +4,7 @@ ghost use Rattle.type_settled.specs.Measures.{marked, nothing, part_in, info_mea
 
 use crate::measure::{Measure, info_measure};
 use std::alloc::{AllocError, Global};
-use type_table::Info;
+use type_definitions::Info;
 
 /// Measures all types by what was measured of their parts in the round before.
 fn round(

@@ -1,9 +1,9 @@
 //! Whether types are owning, and whether they have themselves in them.
 ghost use Rattle.std.specs.Prelude.{◌≡◌, IfOk};
-ghost use Rattle.type_table.specs.Types.{is_owning};
-ghost use Rattle.type_table.specs.Declarations.{holds_itself};
-ghost use Rattle.type_names.specs.ComponentNames.{FindAllComponents};
-ghost use Rattle.type_names.specs.FormalNames.{FindAllFormals};
+ghost use Rattle.type_definitions.specs.Types.{is_owning};
+ghost use Rattle.type_definitions.specs.Declarations.{holds_itself};
+ghost use Rattle.expression_types.specs.ComponentNames.{FindAllComponents};
+ghost use Rattle.expression_types.specs.FormalNames.{FindAllFormals};
 ghost use Rattle.type_settled.specs.Holding.{AreLone};
 ghost use Rattle.type_settled.specs.Owners.{AreOwners};
 ghost use Rattle.type_settled.specs.Rings.{AreInRings};
@@ -13,11 +13,11 @@ use crate::nesting::is_in_itself;
 use crate::owners::{is_named_access, owners};
 use crate::ranks::{lone, ranks};
 use crate::rings::in_rings;
+use expression_types::{WordIndex, component_indexes, formal_indexes};
 use spark_base::Listed;
 use std::alloc::{AllocError, Global};
 use std::mem;
-use type_names::{WordIndex, component_indexes, formal_indexes};
-use type_table::Known;
+use type_definitions::Known;
 
 /// All that is known of the declarations, where components and formals are found by name, which
 /// types are owning, which don't have themselves in them, and which do. It is dropped by a function

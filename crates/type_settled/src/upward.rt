@@ -8,7 +8,7 @@ use crate::measure::is_marked;
 use crate::parts::is_part;
 use crate::roots::{is_linked, mark, root};
 use std::alloc::{AllocError, Global};
-use type_table::Info;
+use type_definitions::Info;
 
 /// Finds a type, where it is made of a type of its ring that has the root in it, or is the root.
 /// Says whether it is found now and wasn't before.

@@ -5,7 +5,7 @@ ghost use Rattle.type_settled.specs.Orders.{IsOrdered};
 
 use crate::order::{Order, begin, is_done, settle};
 use std::alloc::{AllocError, Global};
-use type_table::{Component, Info, Shape};
+use type_definitions::{Component, Info, Shape};
 
 /// The types that are to be measured, the next one last.
 #[derive(Drop)]

@@ -4,9 +4,9 @@ use Rattle.std.specs.Prelude.{nat_le}
 use Rattle.std.proofs.Math.Seq.{drop-cons}
 use Rattle.place_names.specs.declared.selector.Sel.{Sel}
 use Rattle.place_names.specs.declared.selector.Sel.TheVariants.{Field}
-use Rattle.type_table.specs.declared.table.Component.{Component}
-use Rattle.type_table.specs.Types.{numbered}
-use Rattle.type_table.specs.Whole.{all_short}
+use Rattle.type_definitions.specs.declared.table.Component.{Component}
+use Rattle.type_definitions.specs.Types.{numbered}
+use Rattle.type_definitions.specs.Whole.{all_short}
 
 and_first : (a b : Bool) → IsTrue (a && b) → IsTrue a
 and_first a b p = grind arith

@@ -3,20 +3,20 @@ use Rattle.std.proofs.Common.{◌≡◌, refl, ℕ, ◌+◌, Bool, false, not, �
 use Rattle.std.specs.Prelude.{int_lt, is_none}
 use Rattle.resolved_tree.specs.declared.node.Mark.{Mark}
 use Rattle.resolved_tree.specs.Trees.{Tree, Named, Argument, Parens, Unary, Binary, Aggregate, Others, New, Applied, More, Code, Array, Bounds, Marked, Constrained, RangeOf, position}
-use Rattle.type_table.specs.declared.table.Known.{Known}
-use Rattle.type_table.specs.declared.judgement.Role.{Role}
-use Rattle.type_table.specs.declared.judgement.Role.TheVariants as role
-use Rattle.type_table.specs.declared.judgement.Way.{Way}
-use Rattle.type_table.specs.declared.judgement.Where.TheVariants as stands
-use Rattle.type_table.specs.Types.{info, is_nil}
-use Rattle.type_table.specs.Faults.{demand, K7}
-use Rattle.type_table.specs.Entries.{entry_of, integer, marked, denotes_type, is_type, is_complete}
-use Rattle.type_table.specs.Names.{Context, seen, step, along, reading_of}
-use Rattle.type_table.specs.Statics.{is_static, value, is_alone}
-use Rattle.type_table.specs.Expressions.{inside, arguments, within_suffix, behind, own_type, compares, around, around_role, around_parens, around_operands, is_loose, role_type, role_of, way_of, onward, reading_faults, given_names, call_arguments, aggregates, repeats, repeated_type, parts_role, mark_faults, unary_type, operand_type}
-use Rattle.type_table.specs.Statements.{scalar_mark, static_faults, known_value, range_of_faults, ranged, no_suffix}
-use Rattle.type_table.specs.Declarations.{bound_faults, index_range, definition_faults, type_faults, subtype_faults, integer_mark, lies_within, holds_itself}
-use Rattle.type_table.specs.Gathered.{declared_pos, declared_number}
+use Rattle.type_definitions.specs.declared.table.Known.{Known}
+use Rattle.type_definitions.specs.declared.judgement.Role.{Role}
+use Rattle.type_definitions.specs.declared.judgement.Role.TheVariants as role
+use Rattle.type_definitions.specs.declared.judgement.Way.{Way}
+use Rattle.type_definitions.specs.declared.judgement.Where.TheVariants as stands
+use Rattle.type_definitions.specs.Types.{info, is_nil}
+use Rattle.type_definitions.specs.Faults.{demand, K7}
+use Rattle.type_definitions.specs.Entries.{entry_of, integer, marked, denotes_type, is_type, is_complete}
+use Rattle.type_definitions.specs.Names.{Context, seen, step, along, reading_of}
+use Rattle.type_definitions.specs.Statics.{is_static, value, is_alone}
+use Rattle.type_definitions.specs.Expressions.{inside, arguments, within_suffix, behind, own_type, compares, around, around_role, around_parens, around_operands, is_loose, role_type, role_of, way_of, onward, reading_faults, given_names, call_arguments, aggregates, repeats, repeated_type, parts_role, mark_faults, unary_type, operand_type}
+use Rattle.type_definitions.specs.Statements.{scalar_mark, static_faults, known_value, range_of_faults, ranged, no_suffix}
+use Rattle.type_definitions.specs.Declarations.{bound_faults, index_range, definition_faults, type_faults, subtype_faults, integer_mark, lies_within, holds_itself}
+use Rattle.type_definitions.specs.Gathered.{declared_pos, declared_number}
 
 -- A context in this body, which may be in a loop.
 abbrev pub context : Known → Option ℕ → Option ℕ → Bool → Option ℕ → Bool → Context

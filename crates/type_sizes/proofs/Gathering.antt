@@ -3,17 +3,17 @@ use Rattle.std.proofs.Common.{◌≡◌, ◌⊎◌, inl, inr, refl, sym, ap, ◌
 use Rattle.std.proofs.lemmas.Bool.{cases_eq, cases_lt}
 use Rattle.std.proofs.lemmas.List.{get_or-set_same, get_or-set_other, get_or_past, length-set}
 use Rattle.resolved_tree.specs.Trees.{Code, Anonymous, Enumeration, Incomplete, Private, TypeDecl, Subtype, ConstrainedSubtype, Objects, Numbers, Instance, Formals, Front, SubDecl, SubBody, Package, PackageBody, If, Branch, Case, When, Loop, While, For, Block, More}
-use Rattle.type_table.specs.declared.table.Shape.{Shape}
-use Rattle.type_table.specs.declared.table.Shape.TheVariants as shape
-use Rattle.type_table.specs.declared.table.Info.{Info}
-use Rattle.type_table.specs.declared.table.Made.{Made}
-use Rattle.type_table.specs.declared.judgement.View.{View}
-use Rattle.type_table.specs.declared.judgement.View.TheVariants as view
-use Rattle.type_table.specs.Types.{Table, info, no_type, full as view_at, base}
-use Rattle.type_table.specs.Entries.{entry_of, marked}
-use Rattle.type_table.specs.Names.{Context}
-use Rattle.type_table.specs.Gathered.{awaited_info, gather, each, with_type, with_indication, with_definition, with_literals, initial_value, constant_value, with_object, with_number, with_formal, with_formal_group, with_formals, with_result, with_front, with_body_front, own_info, full_info, constrained_shape, bound_pair, is_subprogram, front_number, declared_number, in_visible, in_hidden, in_subprogram}
-use Rattle.type_table.specs.Whole.{made}
+use Rattle.type_definitions.specs.declared.table.Shape.{Shape}
+use Rattle.type_definitions.specs.declared.table.Shape.TheVariants as shape
+use Rattle.type_definitions.specs.declared.table.Info.{Info}
+use Rattle.type_definitions.specs.declared.table.Made.{Made}
+use Rattle.type_definitions.specs.declared.judgement.View.{View}
+use Rattle.type_definitions.specs.declared.judgement.View.TheVariants as view
+use Rattle.type_definitions.specs.Types.{Table, info, no_type, full as view_at, base}
+use Rattle.type_definitions.specs.Entries.{entry_of, marked}
+use Rattle.type_definitions.specs.Names.{Context}
+use Rattle.type_definitions.specs.Gathered.{awaited_info, gather, each, with_type, with_indication, with_definition, with_literals, initial_value, constant_value, with_object, with_number, with_formal, with_formal_group, with_formals, with_result, with_front, with_body_front, own_info, full_info, constrained_shape, bound_pair, is_subprogram, front_number, declared_number, in_visible, in_hidden, in_subprogram}
+use Rattle.type_definitions.specs.Whole.{made}
 
 or_true : (a : Bool) → IsTrue (a || true)
 or_true true = refl

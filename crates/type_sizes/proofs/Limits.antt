@@ -4,17 +4,17 @@ use Rattle.std.specs.Prelude.{slice_get, nat_le, flat_map}
 use Rattle.spark_base.specs.declared.position.Pos.{Pos}
 use Rattle.place_names.specs.declared.selector.Sel.{Sel}
 use Rattle.resolved_tree.specs.Trees.{Code, Program}
-use Rattle.type_table.specs.declared.table.Shape.{Shape}
-use Rattle.type_table.specs.declared.table.Shape.TheVariants as shape
-use Rattle.type_table.specs.declared.table.Known.{Known}
-use Rattle.type_table.specs.declared.table.Made.{Made}
-use Rattle.type_table.specs.declared.judgement.Fault.{Fault}
-use Rattle.type_table.specs.Types.{Table, info, shape_found, no_type, full, words, words_of, words_within, parts, parts_of, parts_within}
-use Rattle.type_table.specs.Faults.{demand, first}
-use Rattle.type_table.specs.Names.{Context}
-use Rattle.type_table.specs.Gathered.{gather}
-use Rattle.type_table.specs.Declarations.{holds_shape, holds_parent, some_within, some_part}
-use Rattle.type_table.specs.Whole.{made, is_unsound, all_short, has_elements, size_faults, made_faults, at_first, outside, gather_units, known_from, known_of, sentence_faults, all_made, type_sizes, TypeFault, told, decided, fault_known, known_with, type_fault}
+use Rattle.type_definitions.specs.declared.table.Shape.{Shape}
+use Rattle.type_definitions.specs.declared.table.Shape.TheVariants as shape
+use Rattle.type_definitions.specs.declared.table.Known.{Known}
+use Rattle.type_definitions.specs.declared.table.Made.{Made}
+use Rattle.type_definitions.specs.declared.judgement.Fault.{Fault}
+use Rattle.type_definitions.specs.Types.{Table, info, shape_found, no_type, full, words, words_of, words_within, parts, parts_of, parts_within}
+use Rattle.type_definitions.specs.Faults.{demand, first}
+use Rattle.type_definitions.specs.Names.{Context}
+use Rattle.type_definitions.specs.Gathered.{gather}
+use Rattle.type_definitions.specs.Declarations.{holds_shape, holds_parent, some_within, some_part}
+use Rattle.type_definitions.specs.Whole.{made, is_unsound, all_short, has_elements, size_faults, made_faults, at_first, outside, gather_units, known_from, known_of, sentence_faults, all_made, type_sizes, TypeFault, told, decided, fault_known, known_with, type_fault}
 use Rattle.type_settled.proofs.Unsound.{never_shape, never_parent}
 use Rattle.type_sizes.specs.Limits.{IsWithin, AreWithin}
 use Rattle.type_sizes.specs.Formed.{all_formed}

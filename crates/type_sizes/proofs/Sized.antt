@@ -5,12 +5,12 @@ use Rattle.std.proofs.lemmas.Grind.{common_steps}
 use Rattle.std.proofs.lemmas.Bool.{cases_eq, cases_lt}
 use Rattle.std.proofs.lemmas.List.{length-replicate, get_or-replicate, get_or-set_same, get_or-set_other, get_or_past}
 use Rattle.std.proofs.lemmas.Option.{slice_get-get_or, slice_get_past}
-use Rattle.type_table.specs.declared.table.Shape.{Shape}
-use Rattle.type_table.specs.declared.table.Info.{Info}
-use Rattle.type_table.specs.Types.{Table, info, info_found, shape_found, words, words_of, words_within, parts, parts_of, parts_within}
-use Rattle.type_table.specs.Whole.{all_short}
-use Rattle.type_shapes.specs.declared.table.TypeSize.{TypeSize}
-use Rattle.type_shapes.specs.Sizes.{no_size, size_of, AreSizes}
+use Rattle.type_definitions.specs.declared.table.Shape.{Shape}
+use Rattle.type_definitions.specs.declared.table.Info.{Info}
+use Rattle.type_definitions.specs.Types.{Table, info, info_found, shape_found, words, words_of, words_within, parts, parts_of, parts_within}
+use Rattle.type_definitions.specs.Whole.{all_short}
+use Rattle.type_table.specs.declared.table.TypeSize.{TypeSize}
+use Rattle.type_table.specs.Sizes.{no_size, size_of, AreSizes}
 use Rattle.type_settled.specs.Orders.{shape_ready, parent_ready, is_ready, is_done}
 use Rattle.type_settled.proofs.Depths.{words_same, parts_same}
 use Rattle.type_settled.proofs.Measured.{shape_info}

@@ -2,18 +2,18 @@
 use Rattle.std.proofs.Common.{◌≡◌, refl, ap, ◌∙◌, arith, ℕ, Bool, true, false, not, ◌&&◌, ◌||◌, List, [], ◌∷◌, ◌++◌, nat_eq, IsTrue, Option, Some, None, if◌then◌else◌}
 use Rattle.std.specs.Prelude.{flat_map}
 use Rattle.resolved_tree.specs.Trees.{Code, TypeDecl, Subtype, ConstrainedSubtype, SubBody, Package, PackageBody, If, Branch, Case, When, Loop, While, For, Block, NoMore, More, code_items}
-use Rattle.type_table.specs.declared.table.Known.{Known}
-use Rattle.type_table.specs.declared.table.Made.{Made}
-use Rattle.type_table.specs.declared.judgement.Fault.{Fault}
-use Rattle.type_table.specs.declared.judgement.Where.TheVariants as stands
-use Rattle.type_table.specs.Types.{is_nil}
-use Rattle.type_table.specs.Faults.{noted, first, precedes}
-use Rattle.type_table.specs.Entries.{boolean}
-use Rattle.type_table.specs.Expressions.{faults, own_type}
-use Rattle.type_table.specs.Statements.{range_faults, coverage, type_or_integer, is_one_choice}
-use Rattle.type_table.specs.Gathered.{declared_number, front_number}
-use Rattle.type_table.specs.Declarations.{type_faults, subtype_faults, body_faults, selector_faults, choices_of, choices_faults, is_last, code_faults, alternatives_faults, alternative_faults}
-use Rattle.type_table.specs.Whole.{made, made_here, is_unsound, unit_faults, main_faults, sentence_faults, all_made, outside}
+use Rattle.type_definitions.specs.declared.table.Known.{Known}
+use Rattle.type_definitions.specs.declared.table.Made.{Made}
+use Rattle.type_definitions.specs.declared.judgement.Fault.{Fault}
+use Rattle.type_definitions.specs.declared.judgement.Where.TheVariants as stands
+use Rattle.type_definitions.specs.Types.{is_nil}
+use Rattle.type_definitions.specs.Faults.{noted, first, precedes}
+use Rattle.type_definitions.specs.Entries.{boolean}
+use Rattle.type_definitions.specs.Expressions.{faults, own_type}
+use Rattle.type_definitions.specs.Statements.{range_faults, coverage, type_or_integer, is_one_choice}
+use Rattle.type_definitions.specs.Gathered.{declared_number, front_number}
+use Rattle.type_definitions.specs.Declarations.{type_faults, subtype_faults, body_faults, selector_faults, choices_of, choices_faults, is_last, code_faults, alternatives_faults, alternative_faults}
+use Rattle.type_definitions.specs.Whole.{made, made_here, is_unsound, unit_faults, main_faults, sentence_faults, all_made, outside}
 use Rattle.type_sizes.specs.Formed.{is_formed, are_alternatives, is_alternative, all_formed}
 use Rattle.type_sizes.proofs.Contexts.{context, type_same, subtype_same}
 

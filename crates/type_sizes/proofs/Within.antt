@@ -5,11 +5,11 @@ use Rattle.std.proofs.Math.Nat.{mul-le-mul_left}
 use Rattle.std.proofs.lemmas.List.Sums.{sum_by-cons}
 use Rattle.place_names.specs.declared.selector.Sel.{Sel}
 use Rattle.place_names.specs.declared.selector.Sel.TheVariants.{Field, Elem}
-use Rattle.type_table.specs.declared.table.Component.{Component}
-use Rattle.type_table.specs.declared.table.Shape.{Shape}
-use Rattle.type_table.specs.declared.table.Shape.TheVariants as shape
-use Rattle.type_table.specs.Types.{Table, shape_found, span, words, words_of, words_within, numbered, parts, parts_of, parts_within}
-use Rattle.type_table.specs.Whole.{all_short}
+use Rattle.type_definitions.specs.declared.table.Component.{Component}
+use Rattle.type_definitions.specs.declared.table.Shape.{Shape}
+use Rattle.type_definitions.specs.declared.table.Shape.TheVariants as shape
+use Rattle.type_definitions.specs.Types.{Table, shape_found, span, words, words_of, words_within, numbered, parts, parts_of, parts_within}
+use Rattle.type_definitions.specs.Whole.{all_short}
 use Rattle.type_settled.specs.Measures.{reach}
 use Rattle.type_settled.proofs.Capped.{short_reach}
 use Rattle.type_settled.proofs.Measured.{reach_map, reach_append}

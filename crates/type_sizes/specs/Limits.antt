@@ -1,7 +1,7 @@
 -- Types within the limits (docs/LANGUAGE.md, "Types").
 use Rattle.std.specs.Prelude.{◌≤◌, ℕ, length, IsTrue}
-use Rattle.type_table.specs.Types.{Table, words, parts}
-use Rattle.type_table.specs.Whole.{all_short}
+use Rattle.type_definitions.specs.Types.{Table, words, parts}
+use Rattle.type_definitions.specs.Whole.{all_short}
 
 -- A type has at most 65,536 words, and at most 64 access parts of at most 16 selectors.
 pub record IsWithin (table : Table) (t : ℕ) : Type 0 where

@@ -1,11 +1,11 @@
 -- What types are made of, by those that they are made of.
 use Rattle.std.specs.Prelude.{◌≡◌, ◌≤◌, ℕ, not, List, length, get_or, IsTrue}
 use Rattle.place_names.specs.declared.selector.Sel.{Sel}
-use Rattle.type_table.specs.declared.table.Shape.{Shape}
-use Rattle.type_table.specs.Types.{Table, is_nil, words_of, words_within, parts_of, parts_within}
-use Rattle.type_table.specs.Whole.{all_short}
-use Rattle.type_shapes.specs.declared.table.TypeSize.{TypeSize}
-use Rattle.type_shapes.specs.Sizes.{no_size}
+use Rattle.type_definitions.specs.declared.table.Shape.{Shape}
+use Rattle.type_definitions.specs.Types.{Table, is_nil, words_of, words_within, parts_of, parts_within}
+use Rattle.type_definitions.specs.Whole.{all_short}
+use Rattle.type_table.specs.declared.table.TypeSize.{TypeSize}
+use Rattle.type_table.specs.Sizes.{no_size}
 use Rattle.type_settled.specs.Orders.{is_done}
 use Rattle.type_sizes.specs.declared.sizes.Sizes.{Sizes}
 

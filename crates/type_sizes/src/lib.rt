@@ -1,8 +1,8 @@
 //! The table of the types of a program: the words and the access parts of each.
 //!
-//! `type_table` makes the `TypeTable` of `type_shapes` from all that is known of the declarations,
+//! `sized_table` makes the `TypeTable` of `type_table` from all that is known of the declarations,
 //! where each type is within the limits (`specs/Limits.antt`), as in a program that breaks no rule
-//! (`proofs/Limits.antt`). The definitions are those of `type_table`; `docs/LANGUAGE.md`, "Types",
+//! (`proofs/Limits.antt`). The definitions are those of `type_definitions`; `docs/LANGUAGE.md`, "Types",
 //! says them in words (Ada 2012, 3.2 and 3.5 to 3.10). The only error is out of memory.
 //!
 //! Each type is made behind what it is made of, in time linear in the table and in the parts. Where
@@ -16,4 +16,4 @@ mod shapes;
 mod sizes;
 mod tails;
 
-pub use made::type_table;
+pub use made::sized_table;

@@ -4,12 +4,12 @@ ghost use Rattle.type_sizes.specs.Limits.{AreWithin};
 
 use crate::rounds::sizes;
 use std::alloc::{AllocError, Global};
+use type_definitions::Known;
 use type_settled::Settled;
-use type_shapes::TypeTable;
-use type_table::Known;
+use type_table::TypeTable;
 
 /// The table of the types among the known declarations. The only error is out of memory.
-pub fn type_table(alloc: Global, settled: Settled) -> Result<TypeTable, AllocError>
+pub fn sized_table(alloc: Global, settled: Settled) -> Result<TypeTable, AllocError>
     requires { AreWithin settled.known.table }
     ensures { IfOk result (λ made. made ≡ settled.known.table) }
 {

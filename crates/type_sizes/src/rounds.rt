@@ -1,15 +1,15 @@
 //! Types made in rounds.
 ghost use Rattle.std.specs.Prelude.{◌≡◌, ◌<◌, ℕ, length, map, IfOk};
-ghost use Rattle.type_table.specs.Types.{info};
-ghost use Rattle.type_shapes.specs.Sizes.{AreSizes};
+ghost use Rattle.type_definitions.specs.Types.{info};
+ghost use Rattle.type_table.specs.Sizes.{AreSizes};
 ghost use Rattle.type_sizes.specs.Limits.{AreWithin};
 ghost use Rattle.type_sizes.specs.Sizes.{shape_size, IsSmall};
 
 use crate::shapes::shape_size;
 use crate::sizes::made_in_order;
 use std::alloc::{AllocError, Global};
-use type_shapes::TypeSize;
-use type_table::Info;
+use type_definitions::Info;
+use type_table::TypeSize;
 
 /// Makes all types by what their parts were made of in the round before.
 fn round(alloc: Global, table: &[Info], sizes: &[TypeSize]) -> Result<Vec<TypeSize>, AllocError>

@@ -1,14 +1,14 @@
 //! What a definition is made of, by what its parts are made of.
 ghost use Rattle.std.specs.Prelude.{◌≡◌, ◌≤◌, ◌*◌, [], ◌∷◌, map, sum, IfOk, IsTrue, if◌then◌else◌};
-ghost use Rattle.type_table.specs.Types.{span, words_of, numbered, parts_of};
-ghost use Rattle.type_table.specs.Whole.{all_short};
+ghost use Rattle.type_definitions.specs.Types.{span, words_of, numbered, parts_of};
+ghost use Rattle.type_definitions.specs.Whole.{all_short};
 ghost use Rattle.type_sizes.specs.Sizes.{words_in, parts_in, shape_size, IsSmall};
 
 use crate::tails::add_fronts;
 use place_names::{Parts, PlaceTail, Sel};
 use std::alloc::{AllocError, Global};
-use type_shapes::TypeSize;
-use type_table::{Component, Shape};
+use type_definitions::{Component, Shape};
+use type_table::TypeSize;
 
 /// The words of a type; none where it isn't there.
 fn words_in(sizes: &[TypeSize], t: u32) -> u32

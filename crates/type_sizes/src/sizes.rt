@@ -1,6 +1,6 @@
 //! Types that are made one after the other, each behind its parts.
 ghost use Rattle.std.specs.Prelude.{◌≡◌, ◌<◌, ℕ, length, replicate, IfOk, IsTrue};
-ghost use Rattle.type_shapes.specs.Sizes.{no_size};
+ghost use Rattle.type_table.specs.Sizes.{no_size};
 ghost use Rattle.type_settled.specs.Orders.{is_done};
 ghost use Rattle.type_sizes.specs.Limits.{AreWithin};
 ghost use Rattle.type_sizes.specs.Sizes.{IsSized};
@@ -8,9 +8,9 @@ ghost use Rattle.type_sizes.specs.Sizes.{IsSized};
 use crate::shapes::shape_size;
 use place_names::Parts;
 use std::alloc::{AllocError, Global};
+use type_definitions::Info;
 use type_settled::{Visits, is_done, is_ready};
-use type_shapes::TypeSize;
-use type_table::Info;
+use type_table::TypeSize;
 
 /// The types that are made so far.
 #[derive(Drop)]

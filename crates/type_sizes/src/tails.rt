@@ -1,6 +1,6 @@
 //! Access parts with a selector in front.
 ghost use Rattle.std.specs.Prelude.{◌≡◌, ◌<◌, ◌∷◌, ◌++◌, length, map, IfOk, IsTrue};
-ghost use Rattle.type_table.specs.Whole.{all_short};
+ghost use Rattle.type_definitions.specs.Whole.{all_short};
 
 use place_names::{PlaceTail, Sel};
 use std::alloc::AllocError;

@@ -1,11 +1,3 @@
-pub mod Types
-pub mod Faults
-pub mod Entries
-pub mod Names
-pub mod Statics
-pub mod Expressions
-pub mod Statements
-pub mod Gathered
-pub mod Declarations
-pub mod Whole
-pub mod Refusals
+-- what the public contract rests on
+pub mod Definitions
+pub mod Sizes

@@ -1,13 +1,11 @@
-//! Types, and the definitions of typing.
+//! What the types of a program are made of: their words, whether they are owning, their access
+//! parts, and their definitions.
+//!
+//! A `TypeTable` answers each question about a type, by its number, in constant time. Its answers
+//! are those of the definitions of `type_definitions` (`specs/Sizes.antt`; `docs/LANGUAGE.md`, "Types";
+//! Ada 2012, 3.2 and 3.5 to 3.10).
 #![tactic(auto)]
 
-mod judgement;
-mod refusal;
 mod table;
 
-pub use judgement::{Cover, Fault, Next, Own, Reading, Role, View, Way, Where};
-pub use refusal::TypeRefusal;
-pub use table::{
-    Component, Entry, FormalInfo, Info, InitialValue, Kind, Known, Made, ObjectInfo, Predefined,
-    Profile, Shape, Static,
-};
+pub use table::{TypeSize, TypeTable};

@@ -1,191 +1,193 @@
-//! Types and declarations, as typing knows them. A type is named by the number of its declaration,
-//! and an anonymous access type by that of the object, formal or function that it belongs to.
+//! The table of the types of a program.
+ghost use Rattle.std.specs.Prelude.{◌≡◌, ◌<◌, length, IfOk};
+ghost use Rattle.type_definitions.specs.Types.{meant_type, full, view_of, words, parts, is_owning};
+ghost use Rattle.type_table.specs.Definitions.{definition, settled, IsSame};
+ghost use Rattle.type_table.specs.Sizes.{AreSizes};
 
-use ada_tree::Word;
-use place_names::Mode;
-use spark_base::{Listed, Pos};
+use place_names::{Parts, PlaceTail};
+use spark_base::Listed;
+use std::alloc::AllocError;
+use std::marker::Model;
+use type_definitions::{Info, Shape, View};
 
-/// A component of a record (Ada 2012, 3.8).
+/// What a type is made of.
 #[derive(Drop)]
-pub struct Component {
-    /// Its identifier as declared.
-    pub name: Word,
-    /// Its type.
-    pub of: u32,
+pub struct TypeSize {
+    /// How many words a value of it has.
+    pub words: u32,
+    /// Whether it is a named access type, or has an owning component or element.
+    pub owning: bool,
+    /// Its access parts: the ways without a dereference to a named access type.
+    pub parts: Parts,
 }
 
-/// The definition of a type.
-#[derive(Drop)]
-pub enum Shape {
-    /// Integer or a subtype of it, with its bounds (Ada 2012, 3.5.4).
-    Whole {
-        low: i32,
-        high: i32,
-    },
-    /// An enumeration or a subtype of it, with the positions of its bounds (Ada 2012, 3.5.1).
-    /// A subtype lists no literals: they are those of its base.
-    Listed {
-        literals: Listed<Word>,
-        low: u32,
-        high: u32,
-    },
-    /// An access type (Ada 2012, 3.10).
-    Access {
-        designated: u32,
-        constant: bool,
-        named: bool,
-    },
-    /// A record, with its components in order (Ada 2012, 3.8).
-    Fields {
-        components: Listed<Component>,
-    },
-    /// An array, with the bounds of its index (Ada 2012, 3.6).
-    Elements {
-        low: i32,
-        high: i32,
-        element: u32,
-    },
-    /// A subtype without a constraint: what it is a subtype of (Ada 2012, 3.2.2).
-    Same {
-        of: u32,
-    },
+/// The types of a program. Contracts see what is known of each, by its number.
+pub struct TypeTable {
+    infos: Listed<Info>,
+    sizes: Vec<TypeSize>,
+    /// The definition of what leads to none.
+    none: Shape,
 }
 
-/// What is known of a type.
-#[derive(Drop)]
-pub struct Info {
-    /// Its definition: that of its full view.
-    pub shape: Shape,
-    /// The type that it is a subtype of, or itself (Ada 2012, 3.2.2).
-    pub base: u32,
-    /// The type in its mark, where it is a subtype.
-    pub parent: Option<u32>,
-    /// The package in whose private part and body alone it is seen, where it is private (Ada 2012,
-    /// 7.3).
-    pub seen_in: Option<u32>,
-    /// Where it was declared incomplete: the end of its full type, or its identifier where none
-    /// has come (Ada 2012, 3.10.1).
-    pub completed: Option<Pos>,
-    /// Whether the bounds in its definition are known, where it has some: those of an array or of a
-    /// scalar subtype that are static and of the type that is demanded.
-    pub bounded: bool,
+impl Model for TypeTable {
+    ghost use Rattle.std.specs.Prelude.{◌≡◌};
+    ghost use Rattle.type_definitions.specs.Types.{Table};
+
+    ghost Value = { Table };
+
+    ghost view = { λ table. table.infos };
+
+    ghost use Rattle.type_table.specs.Definitions.{no_definition};
+    ghost use Rattle.type_table.specs.Sizes.{AreSizes};
+
+    ghost invariant = { λ table. AreSizes table.infos table.sizes.items × (table.none ≡ no_definition) };
 }
 
-/// A static value (Ada 2012, 4.9): its type and its number or position. That of an expression which
-/// breaks K1 isn't sound: nothing is concluded from it.
-#[derive(Clone, Copy)]
-pub struct Static {
-    pub base: u32,
-    pub value: i32,
-    pub sound: bool,
+impl Drop for TypeTable {
+    fn drop(self) {
+        let Self {
+            infos: _,
+            sizes: _,
+            none: _,
+        } = self;
+    }
 }
 
-/// What is known of the initial value of a list of constants or named numbers (Ada 2012, 4.9).
-#[derive(Clone, Copy)]
-pub struct InitialValue {
-    /// Whether it is static.
-    pub is_static: bool,
-    /// Its value then, where it has one.
-    pub value: Option<Static>,
+impl TypeTable {
+    /// The table of these types, whose sizes are those given.
+    pub fn new(infos: Listed<Info>, sizes: Vec<TypeSize>) -> TypeTable
+        requires { AreSizes infos sizes.items }
+        ensures { result ≡ infos }
+    {
+        let components = Listed::new(*sizes.allocator());
+        TypeTable {
+            infos,
+            sizes,
+            none: Shape::Fields { components },
+        }
+    }
+
+    /// What is known of each type.
+    pub fn infos(&self) -> &[Info]
+        ensures { result.now ≡ self.now }
+    {
+        self.infos.as_slice()
+    }
+
+    /// How many words a value of a type has.
+    pub fn words(&self, t: u32) -> u32
+        ensures { result ≡ words self.now t }
+    {
+        match self.sizes.get(t as usize) {
+            Some(size) => size.words,
+            None => 0,
+        }
+    }
+
+    /// Whether a type is owning.
+    pub fn is_owning(&self, t: u32) -> bool
+        ensures { result ≡ is_owning self.now t }
+    {
+        match self.sizes.get(t as usize) {
+            Some(size) => size.owning,
+            None => false,
+        }
+    }
+
+    /// The access parts of a type, in the order of its components.
+    pub fn access_parts(&self, t: u32) -> &[PlaceTail]
+        ensures { result.now ≡ parts self.now t }
+    {
+        match self.sizes.get(t as usize) {
+            Some(size) => size.parts.as_slice(),
+            None => &[],
+        }
+    }
+
+    /// The access parts of a type, shared with the table.
+    pub fn shared_parts(&self, t: u32) -> Result<Parts, AllocError>
+        ensures { IfOk result (λ shared. shared ≡ parts self.now t) }
+    {
+        match self.sizes.get(t as usize) {
+            Some(size) => Ok(size.parts.clone()?),
+            None => Ok(Parts::none()),
+        }
+    }
+
+    /// The type that is meant by a subtype without a constraint.
+    fn meant_type(&self, t: u32) -> u32
+        ensures { result ≡ meant_type self.now t }
+    {
+        match self.infos.as_slice().get(t as usize) {
+            Some(info) => match &info.shape {
+                Shape::Same { of } => *of,
+                _ => t,
+            },
+            None => t,
+        }
+    }
+
+    /// The definition of a type of the table: of a subtype without a constraint, that of what it is a
+    /// subtype of.
+    pub fn shape(&self, t: u32) -> &Shape
+        requires { t < length self.now }
+        ensures definition { result.now ≡ definition self.now t }
+        ensures settled { ¬ IsSame result.now }
+    {
+        match self.infos.as_slice().get(self.meant_type(t) as usize) {
+            Some(info) => self.settled(&info.shape),
+            None => &self.none,
+        }
+    }
+
+    /// A definition, where it is one.
+    fn settled<'t>(&'t self, shape: &'t Shape) -> &'t Shape
+        ensures { result.now ≡ settled shape.now }
+    {
+        match shape {
+            Shape::Same { .. } => &self.none,
+            _ => shape,
+        }
+    }
+
+    /// The full view of a type.
+    pub fn view(&self, t: u32) -> View
+        ensures { result ≡ full self.now t }
+    {
+        match self.infos.as_slice().get(self.meant_type(t) as usize) {
+            Some(info) => view_of(&info.shape),
+            None => View::Fields,
+        }
+    }
 }
 
-/// What an object is.
-#[derive(Clone, Copy)]
-pub enum Kind {
-    Variable,
-    /// A constant or a named number.
-    Constant,
-    Formal,
-    /// The parameter of a `for` loop.
-    Parameter,
-}
-
-/// An object.
-#[derive(Clone, Copy)]
-pub struct ObjectInfo {
-    /// Its type.
-    pub of: u32,
-    /// What it is.
-    pub kind: Kind,
-    /// Whether it is declared in a package.
-    pub in_package: bool,
-    /// Whether it is a static constant or a named number (Ada 2012, 4.9).
-    pub is_static: bool,
-    /// Its value then, where it has one.
-    pub value: Option<Static>,
-}
-
-/// A formal (Ada 2012, 6.1).
-#[derive(Drop)]
-pub struct FormalInfo {
-    /// Its identifier as declared.
-    pub name: Word,
-    /// Its mode.
-    pub mode: Mode,
-    /// Its type: none that is known where its mark denotes none.
-    pub of: u32,
-    /// Whether its mark denotes a type.
-    pub typed: bool,
-    /// Whether it is the first one of a traversal function.
-    pub traversed: bool,
-}
-
-/// The profile of a subprogram (Ada 2012, 6.1).
-#[derive(Drop)]
-pub struct Profile {
-    /// Its formals in order.
-    pub formals: Listed<FormalInfo>,
-    /// The type of its result, where it is a function.
-    pub result: Option<u32>,
-}
-
-/// The subprograms of the predefined packages.
-#[derive(Clone, Copy)]
-pub enum Predefined {
-    Put,
-    PutLine,
-    NewLine,
-    EndOfFile,
-    Get,
-    /// Ada.Unchecked_Deallocation
-    Deallocation,
-}
-
-/// What a declaration is.
-#[derive(Drop)]
-pub enum Entry {
-    /// Not known yet.
-    Nothing,
-    Package,
-    /// A type or a subtype.
-    Type,
-    Object { object: ObjectInfo },
-    /// A literal: its type and its position.
-    Literal { of: u32, position: u32 },
-    Subprogram { profile: Profile },
-    /// An instance of Unchecked_Deallocation: its access type.
-    Instance { name: u32 },
-    Predefined { which: Predefined },
-}
-
-/// All that is known of the declarations, each by its number.
-#[derive(Drop)]
-pub struct Known {
-    /// What they are.
-    pub entries: Listed<Entry>,
-    /// The types among them.
-    pub table: Listed<Info>,
-}
-
-/// A type that a declaration makes.
-#[derive(Clone, Copy)]
-pub struct Made {
-    /// Its number.
-    pub number: u32,
-    /// The position of its identifier.
-    pub pos: Pos,
-    /// Whether it is no subtype.
-    pub full: bool,
-    /// Whether its declaration breaks no sentence.
-    pub sound: bool,
+/// A definition without what it lists.
+fn view_of(shape: &Shape) -> View
+    ensures { result ≡ view_of shape.now }
+{
+    match shape {
+        Shape::Whole { low, high } => View::Whole {
+            low: *low,
+            high: *high,
+        },
+        Shape::Listed { low, high, .. } => View::Listed {
+            low: *low,
+            high: *high,
+        },
+        Shape::Access {
+            designated,
+            constant,
+            named,
+        } => View::Access {
+            designated: *designated,
+            constant: *constant,
+            named: *named,
+        },
+        Shape::Elements { low, high, element } => View::Elements {
+            low: *low,
+            high: *high,
+            element: *element,
+        },
+        Shape::Fields { .. } | Shape::Same { .. } => View::Fields,
+    }
 }

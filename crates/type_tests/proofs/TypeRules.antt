@@ -4,15 +4,15 @@ use Rattle.std.proofs.Common.{◌≡◌, ℕ}
 use Rattle.std.specs.Prelude.{None, Some}
 use Rattle.spark_base.specs.declared.position.Pos.{Pos}
 use Rattle.resolved_tree.specs.Trees.{Program}
-use Rattle.type_table.specs.Types.{words_within, parts_within, words, parts, owns_within, is_owning}
-use Rattle.type_table.specs.Entries.{is_complete}
-use Rattle.type_table.specs.Names.{seen, step, along, reading_of}
-use Rattle.type_table.specs.Statics.{is_static, value}
-use Rattle.type_table.specs.Expressions.{own_type, compares, inside, arguments, within_suffix, behind}
-use Rattle.type_table.specs.Statements.{range_faults, has_gap}
-use Rattle.type_table.specs.Gathered.{gather}
-use Rattle.type_table.specs.Declarations.{some_part, code_faults, alternatives_faults, alternative_faults}
-use Rattle.type_table.specs.Whole.{made, known_of, sentence_faults, all_made, type_sizes, Size, Sentence, type_fault}
+use Rattle.type_definitions.specs.Types.{words_within, parts_within, words, parts, owns_within, is_owning}
+use Rattle.type_definitions.specs.Entries.{is_complete}
+use Rattle.type_definitions.specs.Names.{seen, step, along, reading_of}
+use Rattle.type_definitions.specs.Statics.{is_static, value}
+use Rattle.type_definitions.specs.Expressions.{own_type, compares, inside, arguments, within_suffix, behind}
+use Rattle.type_definitions.specs.Statements.{range_faults, has_gap}
+use Rattle.type_definitions.specs.Gathered.{gather}
+use Rattle.type_definitions.specs.Declarations.{some_part, code_faults, alternatives_faults, alternative_faults}
+use Rattle.type_definitions.specs.Whole.{made, known_of, sentence_faults, all_made, type_sizes, Size, Sentence, type_fault}
 
 -- One of K1 to K8 is the first rule that the program breaks, at this position.
 abbrev pub BreaksSentence : ℕ → Pos → Program → Type 0

@@ -5,23 +5,23 @@ use Rattle.spark_base.specs.declared.position.Pos.{Pos}
 use Rattle.resolved_tree.specs.declared.node.Mark.{Mark}
 use Rattle.resolved_tree.specs.declared.operator.Attribute.{Attribute}
 use Rattle.resolved_tree.specs.Trees.{Tree, Aggregate, Selected, All, Applied, Attr, NoMore, More, position}
-use Rattle.type_table.specs.declared.judgement.Next.TheVariants.{Goes}
-use Rattle.type_table.specs.declared.judgement.Own.TheVariants as own
-use Rattle.type_table.specs.declared.judgement.Reading.TheVariants as reading
-use Rattle.type_table.specs.declared.judgement.Role.TheVariants as role
-use Rattle.type_table.specs.declared.judgement.View.TheVariants as view
-use Rattle.type_table.specs.declared.judgement.Where.{Where}
-use Rattle.type_table.specs.declared.table.Component.{Component}
-use Rattle.type_table.specs.declared.table.Entry.{Entry}
-use Rattle.type_table.specs.declared.table.Entry.TheVariants as entry
-use Rattle.type_table.specs.declared.table.Known.{Known}
-use Rattle.type_table.specs.Types.{base, fields, full, same_bounds, has_value, is_bounded, is_owning, is_same, is_scalar, is_untyped, untyped}
-use Rattle.type_table.specs.Faults.{demand, K1}
-use Rattle.type_table.specs.Entries.{entry_of, is_type, denotes_type, type_of_mark, type_of_entry, marked, is_complete}
-use Rattle.type_table.specs.Names.{Context, seen, through, selected_component, indexed, is_index, dereferenced, array_attribute, led_on, step, along}
-use Rattle.type_table.specs.Expressions.{Given, all_by_position, given_names, allowed, around, arguments, designated, fits, fits_aggregate, inside, is_access, is_access_place, is_of, mark_faults, one_type, scalar_own, traversed_name, traverses}
-use Rattle.type_table.specs.Statements.{designates}
-use Rattle.type_table.specs.Declarations.{access_mark}
+use Rattle.type_definitions.specs.declared.judgement.Next.TheVariants.{Goes}
+use Rattle.type_definitions.specs.declared.judgement.Own.TheVariants as own
+use Rattle.type_definitions.specs.declared.judgement.Reading.TheVariants as reading
+use Rattle.type_definitions.specs.declared.judgement.Role.TheVariants as role
+use Rattle.type_definitions.specs.declared.judgement.View.TheVariants as view
+use Rattle.type_definitions.specs.declared.judgement.Where.{Where}
+use Rattle.type_definitions.specs.declared.table.Component.{Component}
+use Rattle.type_definitions.specs.declared.table.Entry.{Entry}
+use Rattle.type_definitions.specs.declared.table.Entry.TheVariants as entry
+use Rattle.type_definitions.specs.declared.table.Known.{Known}
+use Rattle.type_definitions.specs.Types.{base, fields, full, same_bounds, has_value, is_bounded, is_owning, is_same, is_scalar, is_untyped, untyped}
+use Rattle.type_definitions.specs.Faults.{demand, K1}
+use Rattle.type_definitions.specs.Entries.{entry_of, is_type, denotes_type, type_of_mark, type_of_entry, marked, is_complete}
+use Rattle.type_definitions.specs.Names.{Context, seen, through, selected_component, indexed, is_index, dereferenced, array_attribute, led_on, step, along}
+use Rattle.type_definitions.specs.Expressions.{Given, all_by_position, given_names, allowed, around, arguments, designated, fits, fits_aggregate, inside, is_access, is_access_place, is_of, mark_faults, one_type, scalar_own, traversed_name, traverses}
+use Rattle.type_definitions.specs.Statements.{designates}
+use Rattle.type_definitions.specs.Declarations.{access_mark}
 
 -- ---- a mark
 

@@ -4,17 +4,17 @@ use Rattle.std.specs.List.{All as Each}
 use Rattle.std.proofs.lemmas.Grind.{common_steps}
 use Rattle.std.proofs.lemmas.List.Elements.{All-head, All-tail, All-push, All-weaker}
 use Rattle.resolved_tree.specs.Trees.{Tree, Applied, Argument, More}
-use Rattle.type_table.specs.Names.{Context}
-use Rattle.type_table.specs.Expressions.{Given, given_names, all_by_position, role_type}
-use Rattle.type_table.specs.declared.judgement.Role.{Role}
+use Rattle.type_definitions.specs.Names.{Context}
+use Rattle.type_definitions.specs.Expressions.{Given, given_names, all_by_position, role_type}
+use Rattle.type_definitions.specs.declared.judgement.Role.{Role}
 use Rattle.typed_tree.specs.Trees.{TypedTree, typed_list}
 use Rattle.typed_tree.specs.Trees as typed
 use Rattle.typed_tree.specs.Nodes.{TypedNodes, typed_at, Grew, Holds, HoldsAll}
-use Rattle.type_table.specs.declared.judgement.Role.TheVariants as role
-use Rattle.type_table.specs.Entries.{integer}
+use Rattle.type_definitions.specs.declared.judgement.Role.TheVariants as role
+use Rattle.type_definitions.specs.Entries.{integer}
 use Rattle.typed_tree.specs.Expressions.{Site, arguments_given, has_name, named_value, role_names, typed_actuals, typed_expression, typed_first, typed_imaged, typed_values}
-use Rattle.type_names.specs.Formals.{is_given}
-use Rattle.type_names.specs.Occurrences.{Entries, Indexes, occurrence, occurs}
+use Rattle.expression_types.specs.Formals.{is_given}
+use Rattle.expression_types.specs.Occurrences.{Entries, Indexes, occurrence, occurs}
 use Rattle.typed_expressions.specs.Arguments.{named_number, number_at}
 
 holds_if : (to : TypedNodes) (b : Bool) (k n : ℕ) (t u : TypedTree) → Holds to k t → Holds to n u

@@ -3,8 +3,8 @@ use Rattle.std.proofs.Common.{◌≡◌, ℕ, suc, ◌+◌, ◌<◌, List, drop,
 use Rattle.std.proofs.Math.Seq.{drop-cons}
 use Rattle.resolved_tree.specs.Trees.{Tree, Number, Text, Null, Named, Parens, Unary, Binary, Aggregate, Others, New, Selected, All, Applied, Attr, Argument, NoMore, More}
 use Rattle.resolved_tree.specs.Nodes.{Rows, tree_at}
-use Rattle.type_table.specs.Names.{step}
-use Rattle.type_table.specs.Expressions.{next_type}
+use Rattle.type_definitions.specs.Names.{step}
+use Rattle.type_definitions.specs.Expressions.{next_type}
 use Rattle.typed_tree.specs.Expressions.{Site, typed_step, typed_steps}
 use Rattle.typed_expressions.specs.declared.names.Station.{Station}
 use Rattle.typed_expressions.specs.Stations.{stations, steps_of, station_at}

@@ -1,7 +1,7 @@
 -- Arguments by name, as numbers of their values.
 use Rattle.std.specs.Prelude.{ℕ, List, ◌∷◌, Option, Some, None, get_or, if◌then◌else◌}
-use Rattle.type_table.specs.Expressions.{Given}
-use Rattle.type_names.specs.declared.word_index.Occurrence.{Occurrence}
+use Rattle.type_definitions.specs.Expressions.{Given}
+use Rattle.expression_types.specs.declared.word_index.Occurrence.{Occurrence}
 use Rattle.typed_tree.specs.Expressions.{has_name}
 
 -- The number of the value of the argument with a name, or another number.

@@ -1,7 +1,7 @@
 -- Operands that were added.
 use Rattle.std.specs.Prelude.{◌≡◌, ℕ}
 use Rattle.resolved_tree.specs.Trees.{Tree, position}
-use Rattle.type_table.specs.Expressions.{is_null}
+use Rattle.type_definitions.specs.Expressions.{is_null}
 use Rattle.typed_tree.specs.Nodes.{TypedNodes, Holds}
 use Rattle.typed_tree.specs.Expressions.{Site, typed_expression}
 use Rattle.typed_expressions.specs.declared.operands.Operand.{Operand}

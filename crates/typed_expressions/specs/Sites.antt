@@ -1,5 +1,5 @@
 -- Where a writer stands.
-use Rattle.type_names.specs.Here.{here}
+use Rattle.expression_types.specs.Here.{here}
 use Rattle.typed_tree.specs.Expressions.{Site}
 use Rattle.typed_expressions.specs.declared.writer.Writer.{Writer}
 

@@ -3,8 +3,8 @@ use Rattle.std.specs.Prelude.{◌≡◌, ℕ, ◌<◌, List, [], ◌∷◌, map}
 use Rattle.std.specs.List.{All as Each}
 use Rattle.resolved_tree.specs.Trees.{Tree, More}
 use Rattle.resolved_tree.specs.Nodes.{Rows, tree_at}
-use Rattle.type_table.specs.Names.{Context, step}
-use Rattle.type_table.specs.Expressions.{next_type}
+use Rattle.type_definitions.specs.Names.{Context, step}
+use Rattle.type_definitions.specs.Expressions.{next_type}
 use Rattle.typed_tree.specs.Trees.{TypedTree, NoMore}
 use Rattle.typed_tree.specs.Expressions.{Site, typed_step}
 use Rattle.typed_expressions.specs.declared.names.Station.{Station}

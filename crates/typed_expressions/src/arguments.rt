@@ -1,9 +1,9 @@
 //! Lists of arguments, in the order of what they are for.
 ghost use Rattle.std.specs.Prelude.{◌≡◌, ◌<◌, length, map, All, IfOk};
 ghost use Rattle.resolved_tree.specs.Nodes.{tree_at};
-ghost use Rattle.type_table.specs.Expressions.{given_names};
-ghost use Rattle.type_names.specs.Here.{here};
-ghost use Rattle.type_names.specs.Occurrences.{occurs};
+ghost use Rattle.type_definitions.specs.Expressions.{given_names};
+ghost use Rattle.expression_types.specs.Here.{here};
+ghost use Rattle.expression_types.specs.Occurrences.{occurs};
 ghost use Rattle.typed_tree.specs.Trees.{typed_list};
 ghost use Rattle.typed_tree.specs.Nodes.{typed_at, Grew, Holds, HoldsAll};
 ghost use Rattle.typed_tree.specs.Expressions.{arguments_given, role_names, typed_actuals, typed_imaged, typed_values};
@@ -12,10 +12,10 @@ ghost use Rattle.typed_expressions.specs.Arguments.{named_number, number_at};
 
 use crate::writer::Writer;
 use ada_tree::Word;
+use expression_types::{INTEGER, WordIndex};
 use resolved_tree::Node;
 use std::alloc::AllocError;
-use type_names::{INTEGER, WordIndex};
-use type_table::{Component, FormalInfo, Role};
+use type_definitions::{Component, FormalInfo, Role};
 use typed_tree::{TypedNode, TypedRows};
 
 impl<'p> Writer<'p> {

@@ -1,7 +1,7 @@
 //! All of an expression.
 ghost use Rattle.std.specs.Prelude.{◌≡◌, ◌<◌, length, IfOk};
 ghost use Rattle.resolved_tree.specs.Nodes.{tree_at};
-ghost use Rattle.type_table.specs.Entries.{entry_of};
+ghost use Rattle.type_definitions.specs.Entries.{entry_of};
 ghost use Rattle.typed_tree.specs.Nodes.{Grew, Holds};
 ghost use Rattle.typed_tree.specs.Expressions.{called_function, object_type, typed_actuals, typed_expression, typed_imaged, typed_name, typed_steps};
 ghost use Rattle.typed_expressions.specs.Sites.{site};
@@ -11,11 +11,11 @@ use crate::operands::{Operand, operands};
 use crate::strings::characters;
 use crate::values::{number, value_of_type};
 use crate::writer::Writer;
+use expression_types::{element_type, operand_type, unary_type};
 use resolved_tree::Node;
 use spark_base::Pos;
 use std::alloc::AllocError;
-use type_names::{element_type, operand_type, unary_type};
-use type_table::{Reading, Role};
+use type_definitions::{Reading, Role};
 use typed_tree::{TypedNode, TypedRows};
 
 impl<'p> Writer<'p> {

@@ -1,10 +1,10 @@
 //! What stands behind names, as steps.
 ghost use Rattle.std.specs.Prelude.{◌≡◌, ◌<◌, length, IfOk};
 ghost use Rattle.resolved_tree.specs.Nodes.{tree_at};
-ghost use Rattle.type_table.specs.Types.{fields};
-ghost use Rattle.type_table.specs.Names.{through};
-ghost use Rattle.type_table.specs.Expressions.{next_type};
-ghost use Rattle.type_names.specs.Here.{here};
+ghost use Rattle.type_definitions.specs.Types.{fields};
+ghost use Rattle.type_definitions.specs.Names.{through};
+ghost use Rattle.type_definitions.specs.Expressions.{next_type};
+ghost use Rattle.expression_types.specs.Here.{here};
 ghost use Rattle.typed_tree.specs.Nodes.{typed_at, Grew, Holds};
 ghost use Rattle.typed_tree.specs.Expressions.{component_number, designating, element, typed_first, typed_step, typed_steps};
 ghost use Rattle.typed_expressions.specs.Sites.{site};
@@ -12,10 +12,10 @@ ghost use Rattle.typed_expressions.specs.Stations.{stations, Stand};
 
 use crate::writer::Writer;
 use ada_tree::Word;
+use expression_types::INTEGER;
 use resolved_tree::Node;
 use std::alloc::AllocError;
-use type_names::INTEGER;
-use type_table::{Next, View};
+use type_definitions::{Next, View};
 use typed_tree::{TypedNode, TypedRows};
 
 /// A suffix of a name, and the type that it starts from.

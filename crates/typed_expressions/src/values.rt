@@ -1,12 +1,12 @@
 //! Values of scalar types.
 ghost use Rattle.std.specs.Prelude.{◌≡◌, IfOk};
-ghost use Rattle.type_table.specs.Statics.{as_integer};
-ghost use Rattle.type_table.specs.Gathered.{natural_of};
+ghost use Rattle.type_definitions.specs.Statics.{as_integer};
+ghost use Rattle.type_definitions.specs.Gathered.{natural_of};
 ghost use Rattle.typed_tree.specs.Nodes.{Grew, Holds};
 ghost use Rattle.typed_tree.specs.Expressions.{number, value_of_type, within_integer};
 
+use expression_types::INTEGER;
 use std::alloc::AllocError;
-use type_names::INTEGER;
 use typed_tree::{TypedNode, TypedRows};
 
 /// A number of Integer: 0 where it is none.

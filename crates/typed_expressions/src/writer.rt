@@ -1,13 +1,13 @@
 //! Where typed expressions are made.
 ghost use Rattle.std.specs.Prelude.{◌≡◌};
-ghost use Rattle.type_table.specs.Entries.{entry_of};
+ghost use Rattle.type_definitions.specs.Entries.{entry_of};
 ghost use Rattle.typed_tree.specs.Expressions.{object_number, sub_number, object_type};
 ghost use Rattle.typed_expressions.specs.Sites.{site};
 
 use crate::numbering::Numbering;
+use expression_types::{INTEGER, Reader};
 use std::alloc::Global;
-use type_names::{INTEGER, Reader};
-use type_table::Entry;
+use type_definitions::Entry;
 
 /// The trees of a program, what is known of its declarations and where an expression stands, and
 /// the numbers of objects and of subprograms.

@@ -1,13 +1,13 @@
 -- Types that agree, and expressions that have one of them.
 use Rattle.std.proofs.Common.{slice_get, ◌≡◌, refl, sym, ap, ◌∙◌, subst, inl, inr, ℕ, Bool, true, false, not, ◌&&◌, ◌||◌, List, [], ◌∷◌, ◌++◌, ℤ, Some, None, if◌then◌else◌}
 use Rattle.spark_base.specs.declared.position.Pos.{Pos}
-use Rattle.type_table.specs.declared.table.Shape.{Shape}
-use Rattle.type_table.specs.declared.table.Shape.TheVariants as shape
-use Rattle.type_table.specs.declared.judgement.Fault.{Fault}
-use Rattle.type_table.specs.Types.{Table, meant_type, shape_found, shape_of, is_owning, owns_of}
-use Rattle.type_table.specs.Faults.{demand}
-use Rattle.type_table.specs.Expressions.{unary_type}
-use Rattle.type_table.specs.Statics.{as_integer}
+use Rattle.type_definitions.specs.declared.table.Shape.{Shape}
+use Rattle.type_definitions.specs.declared.table.Shape.TheVariants as shape
+use Rattle.type_definitions.specs.declared.judgement.Fault.{Fault}
+use Rattle.type_definitions.specs.Types.{Table, meant_type, shape_found, shape_of, is_owning, owns_of}
+use Rattle.type_definitions.specs.Faults.{demand}
+use Rattle.type_definitions.specs.Expressions.{unary_type}
+use Rattle.type_definitions.specs.Statics.{as_integer}
 use Rattle.typed_tree.specs.Trees.{TypedTree}
 use Rattle.typed_tree.specs.Trees as typed
 use Rattle.typed_tree.specs.Expressions.{within_integer}

@@ -6,25 +6,25 @@ use Rattle.resolved_tree.specs.declared.operator.UnaryOperator.{UnaryOperator}
 use Rattle.resolved_tree.specs.declared.operator.UnaryOperator.TheVariants as unary
 use Rattle.resolved_tree.specs.declared.operator.Operator.{Operator}
 use Rattle.resolved_tree.specs.Trees.{Tree, Number, Text, Null, Named, Parens, Unary, position}
-use Rattle.type_table.specs.declared.table.Entry.{Entry}
-use Rattle.type_table.specs.declared.table.Entry.TheVariants as entry
-use Rattle.type_table.specs.declared.table.Known.{Known}
-use Rattle.type_table.specs.declared.table.Shape.{Shape}
-use Rattle.type_table.specs.declared.table.Shape.TheVariants as shape
-use Rattle.type_table.specs.declared.judgement.View.{View}
-use Rattle.type_table.specs.declared.judgement.View.TheVariants as view
-use Rattle.type_table.specs.declared.judgement.Reading.{Reading}
-use Rattle.type_table.specs.declared.judgement.Reading.TheVariants as reading
-use Rattle.type_table.specs.declared.judgement.Own.{Own}
-use Rattle.type_table.specs.declared.judgement.Own.TheVariants as own
-use Rattle.type_table.specs.declared.judgement.Where.{Where}
-use Rattle.type_table.specs.declared.judgement.Where.TheVariants as stands
-use Rattle.type_table.specs.Types.{Table, is_owning, is_scalar, is_same, is_untyped, same_bounds, base, full, shape_of, view_of}
-use Rattle.type_table.specs.Entries.{entry_of, integer, boolean, is_type, denotes_type, type_of_mark, type_of_entry}
-use Rattle.type_table.specs.Faults.{demand}
-use Rattle.type_table.specs.Statics.{is_alone}
-use Rattle.type_table.specs.Names.{Context, seen, reading_of}
-use Rattle.type_table.specs.Expressions.{Given, own_of, own_type, fits, suits, inside, around, is_parens, allowed, is_of, is_access, own_owning, unary_type, operand_type, is_arithmetic, designated, reading_faults, given_names, call_arguments}
+use Rattle.type_definitions.specs.declared.table.Entry.{Entry}
+use Rattle.type_definitions.specs.declared.table.Entry.TheVariants as entry
+use Rattle.type_definitions.specs.declared.table.Known.{Known}
+use Rattle.type_definitions.specs.declared.table.Shape.{Shape}
+use Rattle.type_definitions.specs.declared.table.Shape.TheVariants as shape
+use Rattle.type_definitions.specs.declared.judgement.View.{View}
+use Rattle.type_definitions.specs.declared.judgement.View.TheVariants as view
+use Rattle.type_definitions.specs.declared.judgement.Reading.{Reading}
+use Rattle.type_definitions.specs.declared.judgement.Reading.TheVariants as reading
+use Rattle.type_definitions.specs.declared.judgement.Own.{Own}
+use Rattle.type_definitions.specs.declared.judgement.Own.TheVariants as own
+use Rattle.type_definitions.specs.declared.judgement.Where.{Where}
+use Rattle.type_definitions.specs.declared.judgement.Where.TheVariants as stands
+use Rattle.type_definitions.specs.Types.{Table, is_owning, is_scalar, is_same, is_untyped, same_bounds, base, full, shape_of, view_of}
+use Rattle.type_definitions.specs.Entries.{entry_of, integer, boolean, is_type, denotes_type, type_of_mark, type_of_entry}
+use Rattle.type_definitions.specs.Faults.{demand}
+use Rattle.type_definitions.specs.Statics.{is_alone}
+use Rattle.type_definitions.specs.Names.{Context, seen, reading_of}
+use Rattle.type_definitions.specs.Expressions.{Given, own_of, own_type, fits, suits, inside, around, is_parens, allowed, is_of, is_access, own_owning, unary_type, operand_type, is_arithmetic, designated, reading_faults, given_names, call_arguments}
 use Rattle.typed_tree.specs.Trees.{TypedTree}
 use Rattle.typed_tree.specs.Trees as typed
 use Rattle.typed_tree.specs.declared.object.Object.{Object}

@@ -2,21 +2,21 @@
 use Rattle.std.proofs.Common.{◌≡◌, refl, sym, ap, ◌∙◌, subst, ◌⊎◌, inl, inr, ℕ, Bool, true, false, List, [], nat_eq, ℤ, Some, None}
 use Rattle.spark_base.specs.declared.position.Pos.{Pos}
 use Rattle.resolved_tree.specs.Trees.{Tree, Applied, Argument, NoMore, More, position}
-use Rattle.type_table.specs.Types.{meant_type}
-use Rattle.type_table.specs.declared.judgement.View.{View}
-use Rattle.type_table.specs.declared.judgement.Next.{Next}
-use Rattle.type_table.specs.declared.judgement.Next.TheVariants.{Goes, Gives, Stops}
-use Rattle.type_table.specs.declared.judgement.Reading.{Reading}
-use Rattle.type_table.specs.declared.judgement.Reading.TheVariants as reading
-use Rattle.type_table.specs.declared.judgement.Own.TheVariants as own
-use Rattle.type_table.specs.declared.judgement.Where.TheVariants as stands
-use Rattle.type_table.specs.declared.judgement.Role.TheVariants as role
-use Rattle.type_table.specs.declared.judgement.Way.TheVariants as way
-use Rattle.type_table.specs.Types.{is_owning, is_untyped, base, shape_of}
-use Rattle.type_table.specs.Entries.{entry_of, integer, boolean}
-use Rattle.type_table.specs.Faults.{demand}
-use Rattle.type_table.specs.Names.{seen, step, led_on, along, is_end, indexed, is_index, through, of_entry, reading_of}
-use Rattle.type_table.specs.Expressions.{own_of, own_type, fits, suits, inside, around, arguments, behind, within_suffix, next_type, is_parens, profile_of, result_type, way_of}
+use Rattle.type_definitions.specs.Types.{meant_type}
+use Rattle.type_definitions.specs.declared.judgement.View.{View}
+use Rattle.type_definitions.specs.declared.judgement.Next.{Next}
+use Rattle.type_definitions.specs.declared.judgement.Next.TheVariants.{Goes, Gives, Stops}
+use Rattle.type_definitions.specs.declared.judgement.Reading.{Reading}
+use Rattle.type_definitions.specs.declared.judgement.Reading.TheVariants as reading
+use Rattle.type_definitions.specs.declared.judgement.Own.TheVariants as own
+use Rattle.type_definitions.specs.declared.judgement.Where.TheVariants as stands
+use Rattle.type_definitions.specs.declared.judgement.Role.TheVariants as role
+use Rattle.type_definitions.specs.declared.judgement.Way.TheVariants as way
+use Rattle.type_definitions.specs.Types.{is_owning, is_untyped, base, shape_of}
+use Rattle.type_definitions.specs.Entries.{entry_of, integer, boolean}
+use Rattle.type_definitions.specs.Faults.{demand}
+use Rattle.type_definitions.specs.Names.{seen, step, led_on, along, is_end, indexed, is_index, through, of_entry, reading_of}
+use Rattle.type_definitions.specs.Expressions.{own_of, own_type, fits, suits, inside, around, arguments, behind, within_suffix, next_type, is_parens, profile_of, result_type, way_of}
 use Rattle.typed_tree.specs.Trees.{TypedTree}
 use Rattle.typed_tree.specs.declared.object.Object.{Object}
 use Rattle.typed_tree.specs.Expressions.{Site, object_number, sub_number, typed_expression, typed_first, typed_steps, typed_step, typed_name, object_type, value_of_type}

@@ -5,20 +5,20 @@ use Rattle.spark_base.specs.declared.position.Pos.{Pos}
 use Rattle.resolved_tree.specs.declared.operator.Operator.{Operator}
 use Rattle.resolved_tree.specs.declared.operator.Operator.TheVariants as operator
 use Rattle.resolved_tree.specs.Trees.{Tree, Named, Binary, position}
-use Rattle.type_table.specs.Types.{meant_type}
-use Rattle.type_table.specs.declared.judgement.Fault.{Fault}
+use Rattle.type_definitions.specs.Types.{meant_type}
+use Rattle.type_definitions.specs.declared.judgement.Fault.{Fault}
 use Rattle.typed_tree.specs.declared.node.ShortCircuit.{ShortCircuit}
 use Rattle.typed_tree.specs.declared.node.ShortCircuit.TheVariants as short
-use Rattle.type_table.specs.declared.judgement.Reading.{Reading}
-use Rattle.type_table.specs.declared.judgement.Reading.TheVariants as reading
-use Rattle.type_table.specs.declared.judgement.Own.{Own}
-use Rattle.type_table.specs.declared.judgement.Own.TheVariants as own
-use Rattle.type_table.specs.declared.judgement.Where.TheVariants as stands
-use Rattle.type_table.specs.Types.{is_scalar, is_untyped, base, shape_of, full}
-use Rattle.type_table.specs.Entries.{integer, boolean}
-use Rattle.type_table.specs.Faults.{demand}
-use Rattle.type_table.specs.Names.{seen, reading_of}
-use Rattle.type_table.specs.Expressions.{own_of, own_type, inside, around, operand_type, is_arithmetic, is_logical, is_join, operator_gives, compares, scalar_own, one_type, is_access, is_null, is_access_name, is_access_place}
+use Rattle.type_definitions.specs.declared.judgement.Reading.{Reading}
+use Rattle.type_definitions.specs.declared.judgement.Reading.TheVariants as reading
+use Rattle.type_definitions.specs.declared.judgement.Own.{Own}
+use Rattle.type_definitions.specs.declared.judgement.Own.TheVariants as own
+use Rattle.type_definitions.specs.declared.judgement.Where.TheVariants as stands
+use Rattle.type_definitions.specs.Types.{is_scalar, is_untyped, base, shape_of, full}
+use Rattle.type_definitions.specs.Entries.{integer, boolean}
+use Rattle.type_definitions.specs.Faults.{demand}
+use Rattle.type_definitions.specs.Names.{seen, reading_of}
+use Rattle.type_definitions.specs.Expressions.{own_of, own_type, inside, around, operand_type, is_arithmetic, is_logical, is_join, operator_gives, compares, scalar_own, one_type, is_access, is_null, is_access_name, is_access_place}
 use Rattle.typed_tree.specs.Trees.{TypedTree}
 use Rattle.typed_tree.specs.Trees as typed
 use Rattle.typed_tree.specs.declared.object.Object.{Object}

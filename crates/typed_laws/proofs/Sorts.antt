@@ -8,11 +8,11 @@ use Rattle.resolved_tree.specs.declared.operator.Operator.{Operator}
 use Rattle.resolved_tree.specs.declared.operator.Operator.TheVariants as operator
 use Rattle.resolved_tree.specs.declared.operator.UnaryOperator.{UnaryOperator}
 use Rattle.resolved_tree.specs.declared.operator.UnaryOperator.TheVariants as unary
-use Rattle.type_table.specs.declared.table.Shape.{Shape}
-use Rattle.type_table.specs.declared.table.Shape.TheVariants as shape
-use Rattle.type_table.specs.Types.{Table, meant_type, shape_of, fields, components_of, view_of, is_scalar, is_owning}
-use Rattle.type_table.specs.Entries.{integer, boolean}
-use Rattle.type_table.specs.Expressions.{unary_type, operand_type, is_arithmetic, is_logical}
+use Rattle.type_definitions.specs.declared.table.Shape.{Shape}
+use Rattle.type_definitions.specs.declared.table.Shape.TheVariants as shape
+use Rattle.type_definitions.specs.Types.{Table, meant_type, shape_of, fields, components_of, view_of, is_scalar, is_owning}
+use Rattle.type_definitions.specs.Entries.{integer, boolean}
+use Rattle.type_definitions.specs.Expressions.{unary_type, operand_type, is_arithmetic, is_logical}
 use Rattle.typed_tree.specs.Trees.{TypedTree, Number, Literal, Text, Name, Component as IntoComponent, Designated, Element, Call, EndOfFile, Parens, Image, Unary, Binary, Short, IsNull, Aggregate, Alike, New, NoMore, More}
 use Rattle.typed_tree.specs.Trees as typed
 use Rattle.flow_paths.specs.Objects.{Typing, object_at}

@@ -1,10 +1,10 @@
 -- An expression that has a type gives what soundness asks for.
 use Rattle.std.proofs.Common.{◌≡◌, refl, sym, ap, ◌∙◌, subst, ◌⊎◌, inl, inr, ℕ, suc, Bool, true, false, if◌then◌else◌}
-use Rattle.type_table.specs.declared.table.Shape.{Shape}
-use Rattle.type_table.specs.declared.table.Shape.TheVariants as shape
-use Rattle.type_table.specs.Types.{Table, shape_of, full, view_of, is_scalar, is_owning, words, words_of}
-use Rattle.type_table.specs.Entries.{integer, boolean}
-use Rattle.type_table.specs.Expressions.{unary_type, is_arithmetic}
+use Rattle.type_definitions.specs.declared.table.Shape.{Shape}
+use Rattle.type_definitions.specs.declared.table.Shape.TheVariants as shape
+use Rattle.type_definitions.specs.Types.{Table, shape_of, full, view_of, is_scalar, is_owning, words, words_of}
+use Rattle.type_definitions.specs.Entries.{integer, boolean}
+use Rattle.type_definitions.specs.Expressions.{unary_type, is_arithmetic}
 use Rattle.resolved_tree.specs.declared.operator.Operator.{Operator}
 use Rattle.resolved_tree.specs.declared.operator.UnaryOperator.{UnaryOperator}
 use Rattle.resolved_tree.specs.declared.operator.UnaryOperator.TheVariants as unary

@@ -1,20 +1,20 @@
 -- What typing gives: an expression has the type that its place takes, and its names stay within what they
 -- name. What soundness needs (`Gives`) and what the executor needs (sorts) both follow from it.
-use Rattle.type_table.specs.declared.table.Component.{Component}
-use Rattle.type_table.specs.Expressions.{by_name, no_component}
+use Rattle.type_definitions.specs.declared.table.Component.{Component}
+use Rattle.type_definitions.specs.Expressions.{by_name, no_component}
 use Rattle.std.specs.Prelude.{List, ◌≡◌, ◌⊎◌, ◌<◌, ℕ, suc, Bool, true, false, ◌||◌, length, get_or, ℤ, Some, if◌then◌else◌}
 use Rattle.resolved_tree.specs.declared.operator.Operator.{Operator}
 use Rattle.resolved_tree.specs.declared.operator.Operator.TheVariants as operator
-use Rattle.type_table.specs.Types.{meant_type}
+use Rattle.type_definitions.specs.Types.{meant_type}
 use Rattle.resolved_tree.specs.Trees.{Tree, Number, Text, Null, Named, Parens, Unary, Binary, Aggregate, Others, New, Selected, All, Applied, Attr, Argument, NoMore, More}
-use Rattle.type_table.specs.declared.table.Entry.TheVariants as entry
-use Rattle.type_table.specs.declared.table.ObjectInfo.{ObjectInfo}
-use Rattle.type_table.specs.declared.table.Shape.{Shape}
-use Rattle.type_table.specs.declared.table.Shape.TheVariants as shape
-use Rattle.type_table.specs.declared.table.Known.{Known}
-use Rattle.type_table.specs.Types.{Table, shape_of, fields, base, full, is_owning, is_scalar, is_untyped, is_bounded, owns_of}
-use Rattle.type_table.specs.Entries.{entry_of, integer, boolean, same_word}
-use Rattle.type_table.specs.Expressions.{is_arithmetic, is_logical, operand_type, unary_type, profile_of}
+use Rattle.type_definitions.specs.declared.table.Entry.TheVariants as entry
+use Rattle.type_definitions.specs.declared.table.ObjectInfo.{ObjectInfo}
+use Rattle.type_definitions.specs.declared.table.Shape.{Shape}
+use Rattle.type_definitions.specs.declared.table.Shape.TheVariants as shape
+use Rattle.type_definitions.specs.declared.table.Known.{Known}
+use Rattle.type_definitions.specs.Types.{Table, shape_of, fields, base, full, is_owning, is_scalar, is_untyped, is_bounded, owns_of}
+use Rattle.type_definitions.specs.Entries.{entry_of, integer, boolean, same_word}
+use Rattle.type_definitions.specs.Expressions.{is_arithmetic, is_logical, operand_type, unary_type, profile_of}
 use Rattle.typed_tree.specs.Trees.{TypedTree}
 use Rattle.typed_tree.specs.Trees as typed
 use Rattle.typed_tree.specs.Expressions.{Site, object_number, sub_number}

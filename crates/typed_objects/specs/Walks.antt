@@ -2,7 +2,7 @@
 use Rattle.std.specs.Prelude.{◌≡◌, ◌<◌, ℕ, List, [], ◌++◌, map, length, get_or, Option, Some, None}
 use Rattle.resolved_tree.specs.Trees.{Code, Package}
 use Rattle.resolved_tree.specs.Nodes.{Rows, code_at}
-use Rattle.type_table.specs.Gathered.{declared_number, declared_text}
+use Rattle.type_definitions.specs.Gathered.{declared_number, declared_text}
 use Rattle.typed_tree.specs.Programs.{DeclaredObject, Home, objects_in, package_text}
 use Rattle.typed_objects.specs.declared.declared_objects.DeclaredObjects.{DeclaredObjects}
 use Rattle.typed_objects.specs.declared.walk.Walk.{Walk}

@@ -1,6 +1,6 @@
 //! Objects with their declarations.
 ghost use Rattle.std.specs.Prelude.{◌≡◌, IfOk};
-ghost use Rattle.type_table.specs.Entries.{entry_of};
+ghost use Rattle.type_definitions.specs.Entries.{entry_of};
 ghost use Rattle.typed_tree.specs.Expressions.{object_type};
 ghost use Rattle.typed_tree.specs.Programs.{entry_kind, kind_of, text_io};
 
@@ -8,7 +8,7 @@ use ada_tree::Word;
 use place_names::Mode;
 use spark_base::Listed;
 use std::alloc::{AllocError, Global};
-use type_table::{Entry, Kind, Known};
+use type_definitions::{Entry, Kind, Known};
 use typed_tree::{Object, ObjectKind};
 
 /// The declaration of Integer.

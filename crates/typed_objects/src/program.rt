@@ -10,7 +10,7 @@ use crate::walk::Walk;
 use resolved_tree::Rows;
 use spark_base::Listed;
 use std::alloc::{AllocError, Global};
-use type_table::Known;
+use type_definitions::Known;
 
 impl<'p> Walk<'p> {
     /// Adds the objects of all units. Scope 0 is around them.

@@ -1,7 +1,7 @@
 //! The walk through the code that declares objects.
 ghost use Rattle.std.specs.Prelude.{◌≡◌, ◌<◌, ◌+◌, [], ◌∷◌, ◌++◌, IfOk, OnOk, None, Some, flat_map, length};
 ghost use Rattle.resolved_tree.specs.Nodes.{code_at};
-ghost use Rattle.type_table.specs.Gathered.{declared_number, declared_text};
+ghost use Rattle.type_definitions.specs.Gathered.{declared_number, declared_text};
 ghost use Rattle.typed_tree.specs.Statements.{scope_count};
 ghost use Rattle.typed_tree.specs.Programs.{formals_of, front_formals, object_of, objects_of, package_text};
 ghost use Rattle.typed_objects.specs.Walks.{declared_in, home_of, units_of, Adds, IsReady};
@@ -13,7 +13,7 @@ use place_names::Mode;
 use resolved_tree::{CodeNode, Rows};
 use spark_base::Listed;
 use std::alloc::{AllocError, Global};
-use type_table::Known;
+use type_definitions::Known;
 use typed_tree::Object;
 
 /// What the walk goes through, and what it looks up.

@@ -2,20 +2,20 @@
 ghost use Rattle.std.specs.Prelude.{◌≡◌, ◌<◌, flat_map, length, map, IfOk};
 ghost use Rattle.std.specs.List.{All};
 ghost use Rattle.resolved_tree.specs.Nodes.{code_at};
-ghost use Rattle.type_table.specs.Whole.{outside};
-ghost use Rattle.type_names.specs.ComponentNames.{FindAllComponents};
-ghost use Rattle.type_names.specs.FormalNames.{FindAllFormals};
+ghost use Rattle.type_definitions.specs.Whole.{outside};
+ghost use Rattle.expression_types.specs.ComponentNames.{FindAllComponents};
+ghost use Rattle.expression_types.specs.FormalNames.{FindAllFormals};
 ghost use Rattle.typed_tree.specs.Programs.{bodies_in, typed_program};
 ghost use Rattle.typed_expressions.specs.Sites.{site};
 ghost use Rattle.typed_programs.specs.Parts.{HoldsProgram};
 ghost use Rattle.typed_programs.specs.Made.{program_with};
 
 use crate::parts::ProgramParts;
+use expression_types::{Reader, WordIndex, component_indexes, formal_indexes};
 use resolved_tree::Rows;
 use spark_base::Listed;
 use std::alloc::{AllocError, Global};
-use type_names::{Reader, WordIndex, component_indexes, formal_indexes};
-use type_table::Known;
+use type_definitions::Known;
 use typed_expressions::{Numbering, Writer};
 use typed_objects::{DeclaredObjects, bodies, objects, scopes};
 use typed_statements::{main_sub, subprograms};

@@ -8,8 +8,8 @@ use Rattle.resolved_tree.specs.Trees as resolved
 use Rattle.resolved_tree.specs.declared.code_node.CodeNode.{CodeNode}
 use Rattle.resolved_tree.specs.declared.code_node.CodeNode.TheVariants as code_node
 use Rattle.resolved_tree.specs.Nodes.{is_code_below}
-use Rattle.type_table.specs.Gathered.{declared_number, declared_pos, indicated}
-use Rattle.type_table.specs.Declarations.{first_number}
+use Rattle.type_definitions.specs.Gathered.{declared_number, declared_pos, indicated}
+use Rattle.type_definitions.specs.Declarations.{first_number}
 use Rattle.typed_tree.specs.Trees.{TypedTree, TypedCode, Declare, For, typed_code_list}
 use Rattle.typed_tree.specs.Nodes.{TypedNodes, typed_code_at, Grew, HoldsCode, HoldsAllCode}
 use Rattle.typed_tree.specs.Expressions.{Site, object_number, typed_optional}

@@ -3,8 +3,8 @@
 
 ghost use Rattle.std.specs.Prelude.{◌≡◌, ◌<◌, length, IfOk};
 ghost use Rattle.resolved_tree.specs.Nodes.{tree_at};
-ghost use Rattle.type_table.specs.Entries.{entry_of};
-ghost use Rattle.type_table.specs.Expressions.{call_arguments};
+ghost use Rattle.type_definitions.specs.Entries.{entry_of};
+ghost use Rattle.type_definitions.specs.Expressions.{call_arguments};
 ghost use Rattle.typed_tree.specs.Trees.{Output};
 ghost use Rattle.typed_tree.specs.Nodes.{Grew, Holds, HoldsCode};
 ghost use Rattle.typed_tree.specs.Expressions.{typed_first};
@@ -12,11 +12,11 @@ ghost use Rattle.typed_tree.specs.Statements.{call_of, predefined_call, typed_ca
 ghost use Rattle.typed_expressions.specs.Sites.{site};
 
 use crate::optional::alone;
+use expression_types::INTEGER;
 use resolved_tree::Node;
 use spark_base::Pos;
 use std::alloc::AllocError;
-use type_names::INTEGER;
-use type_table::{Entry, Predefined};
+use type_definitions::{Entry, Predefined};
 use typed_expressions::Writer;
 use typed_tree::{TypedCodeNode, TypedNode, TypedRows};
 

@@ -3,14 +3,14 @@
 
 ghost use Rattle.std.specs.Prelude.{◌≡◌, ◌<◌, length, IfOk};
 ghost use Rattle.resolved_tree.specs.Nodes.{code_at, tree_at};
-ghost use Rattle.type_table.specs.Statements.{choice_value};
-ghost use Rattle.type_names.specs.Here.{here};
+ghost use Rattle.type_definitions.specs.Statements.{choice_value};
+ghost use Rattle.expression_types.specs.Here.{here};
 ghost use Rattle.typed_tree.specs.Nodes.{Grew, HoldsCode};
 ghost use Rattle.typed_tree.specs.Statements.{typed_choice, typed_choices};
 
+use expression_types::Reader;
 use resolved_tree::CodeNode;
 use std::alloc::AllocError;
-use type_names::Reader;
 use typed_expressions::Writer;
 use typed_tree::{TypedCodeNode, TypedRows};
 

@@ -1,12 +1,12 @@
 //! Identifiers that are declared, and fronts of subprograms.
 ghost use Rattle.std.specs.Prelude.{◌≡◌, ◌<◌, length};
 ghost use Rattle.resolved_tree.specs.Nodes.{code_at};
-ghost use Rattle.type_table.specs.Declarations.{first_number, front_pos};
-ghost use Rattle.type_table.specs.Gathered.{declared_number, declared_pos, front_number, indicated};
+ghost use Rattle.type_definitions.specs.Declarations.{first_number, front_pos};
+ghost use Rattle.type_definitions.specs.Gathered.{declared_number, declared_pos, front_number, indicated};
 
+use expression_types::{INTEGER, Reader};
 use resolved_tree::{CodeNode, Rows};
 use spark_base::Pos;
-use type_names::{INTEGER, Reader};
 
 /// The position of code that has none.
 const NOWHERE: Pos = Pos {

@@ -4,7 +4,7 @@
 ghost use Rattle.std.specs.Prelude.{◌≡◌, ◌<◌, ◌+◌, ◌++◌, length, map, OnOk};
 ghost use Rattle.std.specs.List.{All};
 ghost use Rattle.resolved_tree.specs.Nodes.{code_at};
-ghost use Rattle.type_table.specs.Gathered.{in_hidden, in_visible};
+ghost use Rattle.type_definitions.specs.Gathered.{in_hidden, in_visible};
 ghost use Rattle.typed_tree.specs.Nodes.{typed_code_at, Grew, HoldsAllCode};
 ghost use Rattle.typed_tree.specs.Statements.{scope_count, statements};
 ghost use Rattle.typed_tree.specs.Programs.{elaborated, placed};

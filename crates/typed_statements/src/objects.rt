@@ -4,9 +4,9 @@
 ghost use Rattle.std.specs.Prelude.{◌≡◌, ◌<◌, ◌++◌, length, map, IfOk, OnOk};
 ghost use Rattle.std.specs.List.{All};
 ghost use Rattle.resolved_tree.specs.Nodes.{code_at, tree_at};
-ghost use Rattle.type_table.specs.Entries.{integer};
-ghost use Rattle.type_table.specs.Declarations.{first_number};
-ghost use Rattle.type_table.specs.Gathered.{indicated};
+ghost use Rattle.type_definitions.specs.Entries.{integer};
+ghost use Rattle.type_definitions.specs.Declarations.{first_number};
+ghost use Rattle.type_definitions.specs.Gathered.{indicated};
 ghost use Rattle.typed_tree.specs.Trees.{More, NoMore};
 ghost use Rattle.typed_tree.specs.Nodes.{typed_at, typed_code_at, Grew, HoldsAllCode, HoldsCode};
 ghost use Rattle.typed_tree.specs.Expressions.{typed_expression, typed_optional};
@@ -15,9 +15,9 @@ ghost use Rattle.typed_expressions.specs.Sites.{site};
 
 use crate::declared::{declared_number, declared_pos, first_number, indicated};
 use crate::optional::{alone, optional};
+use expression_types::INTEGER;
 use resolved_tree::CodeNode;
 use std::alloc::AllocError;
-use type_names::INTEGER;
 use typed_expressions::Writer;
 use typed_tree::{TypedCodeNode, TypedRows};
 

@@ -1,13 +1,13 @@
 //! Where code stands that other code holds.
 ghost use Rattle.std.specs.Prelude.{◌≡◌, ◌<◌, length};
 ghost use Rattle.resolved_tree.specs.Nodes.{code_at};
-ghost use Rattle.type_table.specs.Gathered.{in_hidden, in_subprogram, in_visible};
-ghost use Rattle.type_names.specs.Here.{here};
+ghost use Rattle.type_definitions.specs.Gathered.{in_hidden, in_subprogram, in_visible};
+ghost use Rattle.expression_types.specs.Here.{here};
 ghost use Rattle.typed_tree.specs.Programs.{placed};
 ghost use Rattle.typed_expressions.specs.Sites.{site};
 
 use crate::declared::front_number;
-use type_names::Reader;
+use expression_types::Reader;
 use typed_expressions::Writer;
 
 /// A reader of the same trees, in this package, this private part or body, and this subprogram.

@@ -4,8 +4,8 @@
 ghost use Rattle.std.specs.Prelude.{◌≡◌, ◌<◌, ◌++◌, length, map, IfOk, OnOk};
 ghost use Rattle.std.specs.List.{All};
 ghost use Rattle.resolved_tree.specs.Nodes.{code_at, tree_at};
-ghost use Rattle.type_table.specs.Statements.{target_reading};
-ghost use Rattle.type_names.specs.Here.{here};
+ghost use Rattle.type_definitions.specs.Statements.{target_reading};
+ghost use Rattle.expression_types.specs.Here.{here};
 ghost use Rattle.typed_tree.specs.Nodes.{typed_code_at, Grew, HoldsAllCode, HoldsCode};
 ghost use Rattle.typed_tree.specs.Statements.{plain_statements, returned_type, type_read, typed_assign};
 ghost use Rattle.typed_expressions.specs.Sites.{site};
@@ -14,10 +14,10 @@ ghost use Rattle.typed_statements.specs.Made.{is_simple, HoldsOne};
 use crate::calls::call;
 use crate::objects::{numbers, objects};
 use crate::optional::optional;
+use expression_types::{BOOLEAN, INTEGER, Reader};
 use resolved_tree::{CodeNode, Node};
 use std::alloc::AllocError;
-use type_names::{BOOLEAN, INTEGER, Reader};
-use type_table::Reading;
+use type_definitions::Reading;
 use typed_expressions::Writer;
 use typed_tree::{TypedCodeNode, TypedRows};
 

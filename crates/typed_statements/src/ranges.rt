@@ -3,19 +3,19 @@
 
 ghost use Rattle.std.specs.Prelude.{◌≡◌, ◌<◌, length, IfOk};
 ghost use Rattle.resolved_tree.specs.Nodes.{code_at, tree_at};
-ghost use Rattle.type_table.specs.Entries.{integer};
+ghost use Rattle.type_definitions.specs.Entries.{integer};
 ghost use Rattle.typed_tree.specs.Trees.{Literal, Null, Number};
 ghost use Rattle.typed_tree.specs.Nodes.{Grew};
 ghost use Rattle.typed_tree.specs.Expressions.{typed_expression};
 ghost use Rattle.typed_tree.specs.Statements.{array_seen, bounds_seen, range_of, typed_range};
-ghost use Rattle.type_names.specs.Here.{here};
+ghost use Rattle.expression_types.specs.Here.{here};
 ghost use Rattle.typed_expressions.specs.Sites.{site};
 ghost use Rattle.typed_statements.specs.Made.{HoldsEnds};
 
+use expression_types::{INTEGER, Reader};
 use resolved_tree::{CodeNode, Node};
 use std::alloc::AllocError;
-use type_names::{INTEGER, Reader};
-use type_table::{Reading, View};
+use type_definitions::{Reading, View};
 use typed_expressions::Writer;
 use typed_tree::{TypedNode, TypedRows};
 

@@ -5,9 +5,9 @@ ghost use Rattle.std.specs.Prelude.{◌≡◌, ◌<◌, ◌+◌, ◌++◌, lengt
 ghost use Rattle.std.specs.List.{All};
 ghost use Rattle.spark_base.specs.declared.position.Pos.{Pos};
 ghost use Rattle.resolved_tree.specs.Nodes.{code_at, tree_at};
-ghost use Rattle.type_table.specs.Entries.{boolean, integer};
-ghost use Rattle.type_table.specs.Gathered.{declared_number};
-ghost use Rattle.type_names.specs.Here.{here};
+ghost use Rattle.type_definitions.specs.Entries.{boolean, integer};
+ghost use Rattle.type_definitions.specs.Gathered.{declared_number};
+ghost use Rattle.expression_types.specs.Here.{here};
 ghost use Rattle.typed_tree.specs.Trees.{Block, Branch, Case, For, If, Loop, When, While, typed_code_list};
 ghost use Rattle.typed_tree.specs.Nodes.{typed_code_at, Grew, HoldsAllCode, HoldsCode};
 ghost use Rattle.typed_tree.specs.Expressions.{object_number, typed_expression};
@@ -20,10 +20,10 @@ use crate::declared::declared_number;
 use crate::plain::plain;
 use crate::ranges::range;
 use crate::scopes::{behind, following};
+use expression_types::{BOOLEAN, INTEGER};
 use resolved_tree::CodeNode;
 use spark_base::Pos;
 use std::alloc::AllocError;
-use type_names::{BOOLEAN, INTEGER};
 use typed_expressions::Writer;
 use typed_tree::{TypedCodeNode, TypedRows};
 

@@ -7,21 +7,21 @@ use Rattle.spark_base.specs.declared.position.Pos.{Pos}
 use Rattle.resolved_tree.specs.declared.operator.Operator.{Operator}
 use Rattle.resolved_tree.specs.declared.operator.Operator.TheVariants as operator
 use Rattle.resolved_tree.specs.Trees.{Tree, Number, Text, Named, Parens, Unary, Binary, Aggregate, Others, New, Selected, All, Applied, Argument, More, position}
-use Rattle.type_table.specs.declared.table.Component.{Component}
-use Rattle.type_table.specs.declared.table.Entry.{Entry}
-use Rattle.type_table.specs.declared.table.Entry.TheVariants as entry
-use Rattle.type_table.specs.declared.judgement.View.{View}
-use Rattle.type_table.specs.declared.judgement.View.TheVariants as view
-use Rattle.type_table.specs.declared.judgement.Reading.{Reading}
-use Rattle.type_table.specs.declared.judgement.Reading.TheVariants as reading
-use Rattle.type_table.specs.declared.judgement.Role.{Role}
-use Rattle.type_table.specs.declared.judgement.Role.TheVariants as role
-use Rattle.type_table.specs.Types.{fields}
-use Rattle.type_table.specs.Entries.{entry_of, integer, marked, same_word}
-use Rattle.type_table.specs.Names.{Context, seen, step, through, reading_of}
-use Rattle.type_table.specs.Statics.{is_alone, as_integer}
-use Rattle.type_table.specs.Expressions.{Given, given_names, all_by_position, role_type, operand_type, unary_type, element_type, profile_of, formal_names, is_null, next_type}
-use Rattle.type_table.specs.Gathered.{natural_of}
+use Rattle.type_definitions.specs.declared.table.Component.{Component}
+use Rattle.type_definitions.specs.declared.table.Entry.{Entry}
+use Rattle.type_definitions.specs.declared.table.Entry.TheVariants as entry
+use Rattle.type_definitions.specs.declared.judgement.View.{View}
+use Rattle.type_definitions.specs.declared.judgement.View.TheVariants as view
+use Rattle.type_definitions.specs.declared.judgement.Reading.{Reading}
+use Rattle.type_definitions.specs.declared.judgement.Reading.TheVariants as reading
+use Rattle.type_definitions.specs.declared.judgement.Role.{Role}
+use Rattle.type_definitions.specs.declared.judgement.Role.TheVariants as role
+use Rattle.type_definitions.specs.Types.{fields}
+use Rattle.type_definitions.specs.Entries.{entry_of, integer, marked, same_word}
+use Rattle.type_definitions.specs.Names.{Context, seen, step, through, reading_of}
+use Rattle.type_definitions.specs.Statics.{is_alone, as_integer}
+use Rattle.type_definitions.specs.Expressions.{Given, given_names, all_by_position, role_type, operand_type, unary_type, element_type, profile_of, formal_names, is_null, next_type}
+use Rattle.type_definitions.specs.Gathered.{natural_of}
 use Rattle.typed_tree.specs.declared.node.ShortCircuit.TheVariants as short
 use Rattle.typed_tree.specs.Trees.{TypedTree, typed_list}
 use Rattle.typed_tree.specs.Trees as typed

@@ -3,12 +3,12 @@ use Rattle.std.specs.Prelude.{ℕ, List, [], ◌∷◌, ◌++◌, codes, get_or,
 use Rattle.place_names.specs.declared.selector.Sel.{Sel}
 use Rattle.place_names.specs.declared.selector.Sel.TheVariants.{Field, Elem, Deref}
 use Rattle.place_names.specs.Names.{Name}
-use Rattle.type_table.specs.declared.table.Shape.{Shape}
-use Rattle.type_table.specs.declared.table.Shape.TheVariants as shape
-use Rattle.type_table.specs.declared.table.Info.{Info}
-use Rattle.type_table.specs.Types.{Table, meant_type}
-use Rattle.type_table.specs.Entries.{integer}
-use Rattle.type_table.specs.Expressions.{no_component}
+use Rattle.type_definitions.specs.declared.table.Shape.{Shape}
+use Rattle.type_definitions.specs.declared.table.Shape.TheVariants as shape
+use Rattle.type_definitions.specs.declared.table.Info.{Info}
+use Rattle.type_definitions.specs.Types.{Table, meant_type}
+use Rattle.type_definitions.specs.Entries.{integer}
+use Rattle.type_definitions.specs.Expressions.{no_component}
 use Rattle.typed_tree.specs.declared.object.Object.{Object}
 
 -- Where a selector leads from a place of a type, and how it is printed.

@@ -5,17 +5,17 @@ use Rattle.spark_base.specs.declared.position.Pos.{Pos}
 use Rattle.place_names.specs.declared.act.Mode.{Mode}
 use Rattle.place_names.specs.declared.act.Mode.TheVariants as mode
 use Rattle.resolved_tree.specs.Trees.{More, Code, Objects, Numbers, Formals, Front, SubBody, Package, PackageBody, If, Branch, Case, When, Loop, While, For, Block, code_items}
-use Rattle.type_table.specs.declared.table.Kind.{Kind}
-use Rattle.type_table.specs.declared.table.Kind.TheVariants as kind
-use Rattle.type_table.specs.declared.table.Entry.{Entry}
-use Rattle.type_table.specs.declared.table.Entry.TheVariants as entry
-use Rattle.type_table.specs.declared.table.Known.{Known}
-use Rattle.type_table.specs.Entries.{entry_of, integer}
-use Rattle.type_table.specs.Names.{Context}
-use Rattle.type_table.specs.Expressions.{profile_of}
-use Rattle.type_table.specs.Gathered.{declared_number, declared_text, front_number, in_visible, in_hidden, in_subprogram}
-use Rattle.type_table.specs.Declarations.{front_pos}
-use Rattle.type_table.specs.Whole.{outside}
+use Rattle.type_definitions.specs.declared.table.Kind.{Kind}
+use Rattle.type_definitions.specs.declared.table.Kind.TheVariants as kind
+use Rattle.type_definitions.specs.declared.table.Entry.{Entry}
+use Rattle.type_definitions.specs.declared.table.Entry.TheVariants as entry
+use Rattle.type_definitions.specs.declared.table.Known.{Known}
+use Rattle.type_definitions.specs.Entries.{entry_of, integer}
+use Rattle.type_definitions.specs.Names.{Context}
+use Rattle.type_definitions.specs.Expressions.{profile_of}
+use Rattle.type_definitions.specs.Gathered.{declared_number, declared_text, front_number, in_visible, in_hidden, in_subprogram}
+use Rattle.type_definitions.specs.Declarations.{front_pos}
+use Rattle.type_definitions.specs.Whole.{outside}
 use Rattle.typed_tree.specs.declared.object.Object.{Object}
 use Rattle.typed_tree.specs.declared.object.ObjectKind.{ObjectKind}
 use Rattle.typed_tree.specs.declared.object.ObjectKind.TheVariants as object_kind

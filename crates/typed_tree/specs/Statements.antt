@@ -4,21 +4,21 @@
 use Rattle.std.specs.Prelude.{ℕ, ◌+◌, true, false, List, [], ◌∷◌, ◌++◌, map, Option, Some, None}
 use Rattle.spark_base.specs.declared.position.Pos.{Pos}
 use Rattle.resolved_tree.specs.Trees.{Tree, Named, More, position, Code, Bounds, Marked, Constrained, RangeOf, Objects, Numbers, SubBody, Package, PackageBody, Skip, Assign, Call, Exit, Return, If, Branch, Case, Value, Interval, When, Loop, While, For, Block, code_items}
-use Rattle.type_table.specs.declared.table.Predefined.{Predefined}
-use Rattle.type_table.specs.declared.table.Predefined.TheVariants as predefined
-use Rattle.type_table.specs.declared.table.Entry.{Entry}
-use Rattle.type_table.specs.declared.table.Entry.TheVariants as entry
-use Rattle.type_table.specs.declared.judgement.View.{View}
-use Rattle.type_table.specs.declared.judgement.View.TheVariants as view
-use Rattle.type_table.specs.declared.judgement.Reading.{Reading}
-use Rattle.type_table.specs.declared.judgement.Reading.TheVariants as reading
-use Rattle.type_table.specs.Types.{full}
-use Rattle.type_table.specs.Entries.{entry_of, integer, boolean, marked}
-use Rattle.type_table.specs.Names.{Context, seen, reading_of}
-use Rattle.type_table.specs.Expressions.{call_arguments, profile_of, result_type}
-use Rattle.type_table.specs.Statements.{choice_value, target_reading}
-use Rattle.type_table.specs.Gathered.{indicated, declared_pos, declared_number}
-use Rattle.type_table.specs.Declarations.{first_number}
+use Rattle.type_definitions.specs.declared.table.Predefined.{Predefined}
+use Rattle.type_definitions.specs.declared.table.Predefined.TheVariants as predefined
+use Rattle.type_definitions.specs.declared.table.Entry.{Entry}
+use Rattle.type_definitions.specs.declared.table.Entry.TheVariants as entry
+use Rattle.type_definitions.specs.declared.judgement.View.{View}
+use Rattle.type_definitions.specs.declared.judgement.View.TheVariants as view
+use Rattle.type_definitions.specs.declared.judgement.Reading.{Reading}
+use Rattle.type_definitions.specs.declared.judgement.Reading.TheVariants as reading
+use Rattle.type_definitions.specs.Types.{full}
+use Rattle.type_definitions.specs.Entries.{entry_of, integer, boolean, marked}
+use Rattle.type_definitions.specs.Names.{Context, seen, reading_of}
+use Rattle.type_definitions.specs.Expressions.{call_arguments, profile_of, result_type}
+use Rattle.type_definitions.specs.Statements.{choice_value, target_reading}
+use Rattle.type_definitions.specs.Gathered.{indicated, declared_pos, declared_number}
+use Rattle.type_definitions.specs.Declarations.{first_number}
 use Rattle.typed_tree.specs.Trees.{TypedTree, TypedCode, typed_code_list}
 use Rattle.typed_tree.specs.Trees as typed
 use Rattle.typed_tree.specs.Expressions.{Site, object_number, sub_number, typed_expression, typed_first, typed_actuals, typed_optional}

@@ -1,13 +1,13 @@
 //! Names as text.
 ghost use Rattle.std.specs.Prelude.{◌≡◌, ◌++◌, IfOk, OnOk};
-ghost use Rattle.type_table.specs.Types.{meant_type};
+ghost use Rattle.type_definitions.specs.Types.{meant_type};
 ghost use Rattle.typed_tree.specs.Printed.{package_text, part_text, part_type, printed, selected_text, selected_type, selectors_text};
 
 use crate::object::Object;
 use ada_tree::Word;
 use place_names::{PlaceName, Sel};
 use std::alloc::{AllocError, Global};
-use type_table::{Info, Shape};
+use type_definitions::{Info, Shape};
 
 /// The declaration of Integer.
 const INTEGER: u32 = 0;

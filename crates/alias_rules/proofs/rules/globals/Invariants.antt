@@ -1,7 +1,7 @@
 use Rattle.std.proofs.Common.{map, flat_map, take}
 use Rattle.flow_paths.specs.Laid.{flow_typing}
 use Rattle.flow_paths.specs.Aliases.{global_reports}
-use Rattle.laid_programs.specs.Programs.{program_of}
+use Rattle.laid_program.specs.Programs.{program_of}
 use Rattle.alias_rules.specs.Told.{passed_of, Adds}
 use Rattle.alias_rules.proofs.rules.globals.Given as goal
 

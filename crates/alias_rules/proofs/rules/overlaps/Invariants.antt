@@ -2,7 +2,7 @@ use Rattle.std.proofs.Common.{◌≡◌, ◌++◌, map, drop}
 use Rattle.flow_paths.specs.Laid.{flow_typing}
 use Rattle.flow_paths.specs.Aliases.{overlap_reports}
 use Rattle.flow_paths.specs.Reports.{report_of}
-use Rattle.laid_programs.specs.Programs.{program_of}
+use Rattle.laid_program.specs.Programs.{program_of}
 use Rattle.alias_rules.specs.Told.{passed_of}
 use Rattle.alias_rules.proofs.rules.overlaps.Given as goal
 

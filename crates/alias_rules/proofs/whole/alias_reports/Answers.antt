@@ -2,7 +2,7 @@ use Rattle.std.proofs.Common.{◌∙◌, subst, sym, List, [], ◌≤◌, length
 use Rattle.spark_base.specs.Lists.{Has}
 use Rattle.flow_paths.specs.declared.point.LaidSub.{LaidSub}
 use Rattle.flow_paths.specs.Laid.{flow_typing}
-use Rattle.laid_programs.specs.Programs.{program_of}
+use Rattle.laid_program.specs.Programs.{program_of}
 use Rattle.alias_rules.specs.Told.{sub_reports}
 use Rattle.alias_rules.proofs.Subs.{get_has, adds_all, reports_are}
 use Rattle.alias_rules.proofs.whole.alias_reports.Goals as goal

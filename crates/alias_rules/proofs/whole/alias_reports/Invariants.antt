@@ -1,6 +1,6 @@
 use Rattle.std.proofs.Common.{[], flat_map, take}
 use Rattle.flow_paths.specs.Laid.{flow_typing}
-use Rattle.laid_programs.specs.Programs.{program_of}
+use Rattle.laid_program.specs.Programs.{program_of}
 use Rattle.alias_rules.specs.Told.{Adds, sub_reports}
 use Rattle.alias_rules.proofs.whole.alias_reports.Given as goal
 

@@ -2,7 +2,7 @@ use Rattle.std.proofs.Common.{◌∙◌, ap, sym}
 use Rattle.typed_tree.specs.Nodes.{typed_at, typed_code_at}
 use Rattle.flow_paths.specs.Instructions.{instruction_of}
 use Rattle.flow_paths.specs.Stands.{flow_point_of, flow_sub_of}
-use Rattle.laid_programs.specs.Programs.{program_of}
+use Rattle.laid_program.specs.Programs.{program_of}
 use Rattle.alias_rules.proofs.Shallow.{shallow_call}
 use Rattle.alias_rules.proofs.Subs.{sub_there, point_there}
 use Rattle.alias_rules.proofs.whole.report_point.Goals as goal

@@ -1,5 +1,5 @@
 use Rattle.std.proofs.Common.{length}
-use Rattle.laid_programs.specs.Programs.{program_of}
+use Rattle.laid_program.specs.Programs.{program_of}
 use Rattle.call_effects.specs.Spreads.{AreOrdered, AreListed}
 use Rattle.call_effects.proofs.lists.used.Given as goal
 

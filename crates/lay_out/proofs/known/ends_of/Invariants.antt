@@ -1,5 +1,5 @@
 use Rattle.std.proofs.Common.{◌≡◌, map, take}
-use Rattle.flow_typing.specs.Typings.{typing}
+use Rattle.program_typing.specs.Typings.{typing}
 use Rattle.lay_out.specs.Known.{has_end}
 use Rattle.lay_out.proofs.known.ends_of.Given as goal
 

@@ -1,5 +1,5 @@
 use Rattle.std.proofs.Common.{sym, ◌∙◌}
-use Rattle.flow_typing.specs.Typings.{typing}
+use Rattle.program_typing.specs.Typings.{typing}
 use Rattle.lay_out.proofs.Ends.{ends_tell}
 use Rattle.lay_out.proofs.known.scope_ends.Goals as goal
 

@@ -1,7 +1,7 @@
 use Rattle.std.proofs.Common.{◌≡◌, map, refl, sym, ap, ◌∙◌, subst}
 use Rattle.std.specs.Prelude.{None}
 use Rattle.typed_statements.specs.declared.subs.Subprogram.{Subprogram}
-use Rattle.typed_check.specs.declared.typed.Typed.{Typed}
+use Rattle.type_rules.specs.declared.typed.Typed.{Typed}
 use Rattle.flow_paths.specs.Laid.{flow_program}
 use Rattle.flow_paths.specs.Limits.{deep_name}
 use Rattle.flow_paths.specs.Objects.{Typing}

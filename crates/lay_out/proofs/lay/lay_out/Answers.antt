@@ -1,6 +1,6 @@
 use Rattle.std.proofs.Common.{◌++◌, ℕ, List, map, ap, ◌∙◌}
 use Rattle.std.proofs.Math.Logic.{∥∥₁_map}
-use Rattle.flow_numbers.specs.Programs.{waiting_object}
+use Rattle.numbered_points.specs.Programs.{waiting_object}
 use Rattle.flow_paths.specs.Laid.{flow_program}
 use Rattle.lay_out.proofs.Whole.{is_layout, laid_program}
 use Rattle.lay_out.proofs.lay.lay_out.Goals as goal

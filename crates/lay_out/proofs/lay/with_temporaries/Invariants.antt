@@ -1,5 +1,5 @@
 use Rattle.std.proofs.Common.{◌≡◌, ◌++◌, map, take}
-use Rattle.flow_numbers.specs.Programs.{waiting_object}
+use Rattle.numbered_points.specs.Programs.{waiting_object}
 use Rattle.lay_out.proofs.lay.with_temporaries.Given as goal
 
 abbrev pub invariant-types : goal.invariant-types

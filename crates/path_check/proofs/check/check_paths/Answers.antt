@@ -1,6 +1,6 @@
 use Rattle.std.proofs.Common.{subst}
 use Rattle.flow_paths.specs.Reports.{AreReports}
-use Rattle.laid_programs.specs.Programs.{program_of}
+use Rattle.laid_program.specs.Programs.{program_of}
 use Rattle.path_check.specs.Told.{reports_in}
 use Rattle.path_check.proofs.check.check_paths.Goals as goal
 

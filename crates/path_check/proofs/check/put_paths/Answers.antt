@@ -1,6 +1,6 @@
 use Rattle.std.proofs.Common.{◌≡◌, ◌+◌, ◌*◌, ◌≤◌, sym, subst, drop, length}
 use Rattle.flow_paths.specs.Printing.{printed_name}
-use Rattle.path_facts.specs.PointTrees.{path_points_of, successors, AreWithin}
+use Rattle.point_states.specs.PointTrees.{path_points_of, successors, AreWithin}
 use Rattle.path_reports.specs.CalledPoints.{AreListed}
 use Rattle.path_check.specs.Verdicts.{sub_steps, all_steps}
 use Rattle.path_check.proofs.Premises.{sub_within, sub_listed}

@@ -1,5 +1,5 @@
 use Rattle.flow_paths.specs.Printing.{printed_name}
-use Rattle.path_facts.proofs.Moves.{along_next}
+use Rattle.point_states.proofs.Moves.{along_next}
 use Rattle.path_reports.proofs.Putting.{acts_next}
 use Rattle.path_reports.proofs.reports.put_acts.Goals as goal
 

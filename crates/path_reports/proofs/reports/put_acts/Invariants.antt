@@ -1,7 +1,7 @@
 use Rattle.std.proofs.Common.{◌≡◌, drop}
 use Rattle.report_lists.specs.Gains.{put_told}
 use Rattle.flow_paths.specs.Printing.{printed_name}
-use Rattle.path_facts.specs.Carries.{state_along, acts_of}
+use Rattle.point_states.specs.Carries.{state_along, acts_of}
 use Rattle.path_reports.specs.Told.{told_along}
 use Rattle.path_reports.proofs.reports.put_acts.Given as goal
 

@@ -1,8 +1,8 @@
 use Rattle.std.proofs.Common.{◌≡◌, ◌<◌, ◌∙◌, refl, List, length, vec_len, Option, None, arith}
 use Rattle.state_trees.specs.FactStates.{FactState}
 use Rattle.flow_paths.specs.Printing.{printed_name}
-use Rattle.path_facts.specs.PointTrees.{tree_at}
-use Rattle.path_facts.proofs.Carried.{same_default}
+use Rattle.point_states.specs.PointTrees.{tree_at}
+use Rattle.point_states.proofs.Carried.{same_default}
 use Rattle.path_reports.proofs.Putting.{points_next, kept_next, same_first, same_past}
 use Rattle.path_reports.proofs.reports.put_points.Goals as goal
 

@@ -1,7 +1,7 @@
 use Rattle.std.proofs.Common.{◌≡◌, ℕ, ◌<◌, drop, length, vec_len}
 use Rattle.report_lists.specs.Gains.{put_told}
 use Rattle.flow_paths.specs.Printing.{printed_name}
-use Rattle.path_facts.specs.PointTrees.{tree_at}
+use Rattle.point_states.specs.PointTrees.{tree_at}
 use Rattle.path_reports.specs.Told.{IsKeptWhere}
 use Rattle.path_reports.specs.Uses.{all_told}
 use Rattle.path_reports.proofs.reports.put_points.Given as goal

@@ -1,7 +1,7 @@
 use Rattle.std.proofs.Common.{◌≡◌, List, [], ◌∷◌, sym, ap, ◌∙◌, get_or, rules}
-use Rattle.type_table.specs.Types.{Table}
-use Rattle.type_shapes.specs.declared.table.TypeSize.{TypeSize}
-use Rattle.type_shapes.specs.Sizes.{no_size, size_of}
+use Rattle.type_definitions.specs.Types.{Table}
+use Rattle.type_table.specs.declared.table.TypeSize.{TypeSize}
+use Rattle.type_table.specs.Sizes.{no_size, size_of}
 use Rattle.shape_tests.specs.Tables.{one_word, three_types}
 use Rattle.shape_tests.proofs.Sizes.{sizes_are}
 use Rattle.shape_tests.proofs.definitions.three_types.Goals as goal

@@ -1,6 +1,6 @@
 use Rattle.std.proofs.Common.{map}
 use Rattle.flow_paths.specs.Reports.{report_of}
-use Rattle.laid_programs.specs.Programs.{program_of}
+use Rattle.laid_program.specs.Programs.{program_of}
 use Rattle.traversal_funcs.proofs.Added.{adds}
 use Rattle.traversal_funcs.proofs.program.add.Goals as goal
 

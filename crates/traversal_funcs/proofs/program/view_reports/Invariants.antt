@@ -1,7 +1,7 @@
 use Rattle.std.proofs.Common.{map, take}
 use Rattle.flow_paths.specs.Reports.{report_of}
 use Rattle.flow_paths.specs.Stands.{flow_sub_of}
-use Rattle.laid_programs.specs.Programs.{program_of}
+use Rattle.laid_program.specs.Programs.{program_of}
 use Rattle.traversal_funcs.specs.ViewReports.{AreReportsOf}
 use Rattle.traversal_funcs.proofs.program.view_reports.Given as goal
 

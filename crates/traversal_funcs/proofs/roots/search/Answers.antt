@@ -1,5 +1,5 @@
 use Rattle.std.proofs.Common.{◌∙◌, ℕ, Bool, arith}
-use Rattle.flow_typing.specs.Typings.{typing}
+use Rattle.program_typing.specs.Typings.{typing}
 use Rattle.traversal_funcs.specs.Questions.{is_answer}
 use Rattle.traversal_funcs.specs.Searches.{starts_of}
 use Rattle.traversal_funcs.proofs.Found.{search_starts, work_starts, search_turn, work_turn, turn_pays, search_ends, none_left}

@@ -1,7 +1,7 @@
 use Rattle.std.proofs.Common.{ℕ, ◌+◌, length}
 use Rattle.spark_base.specs.Lists.{Has}
 use Rattle.label_flow.specs.Searches.{Searched}
-use Rattle.flow_typing.specs.Typings.{typing}
+use Rattle.program_typing.specs.Typings.{typing}
 use Rattle.traversal_funcs.specs.Questions.{is_answer}
 use Rattle.traversal_funcs.specs.Searches.{flow_on, labels_in, missing}
 use Rattle.traversal_funcs.proofs.roots.search.Given as goal

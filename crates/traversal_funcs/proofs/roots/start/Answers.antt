@@ -1,5 +1,5 @@
 use Rattle.std.proofs.Common.{◌∙◌, sym, refl, get_or}
-use Rattle.flow_typing.specs.Typings.{typing}
+use Rattle.program_typing.specs.Typings.{typing}
 use Rattle.traversal_funcs.specs.declared.lending.Lending.{Lending}
 use Rattle.traversal_funcs.proofs.Came.{start_step, start_skip}
 use Rattle.traversal_funcs.proofs.roots.start.Goals.{then-is_answer+in_ok-come, else-is_answer}

@@ -1,5 +1,5 @@
 use Rattle.std.proofs.Common.{take}
-use Rattle.flow_typing.specs.Typings.{typing}
+use Rattle.program_typing.specs.Typings.{typing}
 use Rattle.traversal_funcs.specs.Searches.{Spread, starts_of}
 use Rattle.traversal_funcs.proofs.roots.start.Given as goal
 

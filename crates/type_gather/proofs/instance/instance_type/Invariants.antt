@@ -1,6 +1,6 @@
 use Rattle.std.proofs.Common.{◌≡◌, ◌<◌, ◌≤◌, ◌+◌, length}
 use Rattle.resolved_tree.specs.Nodes.{tree_at}
-use Rattle.type_table.specs.Gathered.{instance_actual}
+use Rattle.type_definitions.specs.Gathered.{instance_actual}
 use Rattle.type_gather.proofs.instance.instance_type.Given as goal
 
 abbrev pub invariant-actuals : goal.invariant-actuals

@@ -1,6 +1,6 @@
 use Rattle.std.proofs.Common.{◌≤◌, ◌<◌, length, set, sym, subst, arith}
 use Rattle.std.proofs.lemmas.List.{set_past}
-use Rattle.type_names.specs.ComponentNames.{FindAllComponents}
+use Rattle.expression_types.specs.ComponentNames.{FindAllComponents}
 use Rattle.type_gather.proofs.ComponentIndexes.{set_same_but, set_components}
 use Rattle.type_gather.proofs.known.indexed_with.Goals as goal
 use Rattle.type_gather.proofs.known.indexed_with.Goals.{then-t-len, else-t-len}

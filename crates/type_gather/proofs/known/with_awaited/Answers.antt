@@ -1,10 +1,10 @@
 use Rattle.std.proofs.Common.{◌≡◌, ◌≤◌, true, length, set, None, sym, ap, subst, refl, arith, ◌∙◌}
 use Rattle.std.proofs.lemmas.List.{set_past}
-use Rattle.type_table.specs.declared.table.Info.{Info}
-use Rattle.type_table.specs.declared.table.Shape.{Shape}
-use Rattle.type_table.specs.Types.{info}
-use Rattle.type_names.specs.ComponentNames.{own_components}
-use Rattle.type_names.specs.Occurrences.{Indexes, component_names}
+use Rattle.type_definitions.specs.declared.table.Info.{Info}
+use Rattle.type_definitions.specs.declared.table.Shape.{Shape}
+use Rattle.type_definitions.specs.Types.{info}
+use Rattle.expression_types.specs.ComponentNames.{own_components}
+use Rattle.expression_types.specs.Occurrences.{Indexes, component_names}
 use Rattle.type_gather.proofs.ComponentIndexes.{kept_components, set_awaited}
 use Rattle.type_gather.proofs.known.with_awaited.Goals as goal
 use Rattle.type_gather.proofs.known.with_awaited.Goals.{then-t-len, else-t-len}

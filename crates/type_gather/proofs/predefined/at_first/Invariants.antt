@@ -1,6 +1,6 @@
 use Rattle.std.proofs.Common.{◌≡◌, ◌++◌, replicate}
-use Rattle.type_table.specs.Types.{no_type}
-use Rattle.type_table.specs.Whole.{predefined_types}
+use Rattle.type_definitions.specs.Types.{no_type}
+use Rattle.type_definitions.specs.Whole.{predefined_types}
 use Rattle.type_gather.proofs.predefined.at_first.Given as goal
 
 abbrev pub invariant-types : goal.invariant-types

@@ -1,6 +1,6 @@
 use Rattle.std.proofs.Common.{◌≡◌, drop, map}
 use Rattle.resolved_tree.specs.Nodes.{code_at}
-use Rattle.type_table.specs.Whole.{gather_units, outside}
+use Rattle.type_definitions.specs.Whole.{gather_units, outside}
 use Rattle.type_gather.specs.Gathering.{context}
 use Rattle.type_gather.proofs.program.turn.Given as goal
 

@@ -1,6 +1,6 @@
 use Rattle.std.proofs.Common.{◌≡◌, ◌<◌, ◌++◌, length}
 use Rattle.resolved_tree.specs.Nodes.{code_at}
-use Rattle.type_table.specs.Gathered.{component_group}
+use Rattle.type_definitions.specs.Gathered.{component_group}
 use Rattle.type_gather.proofs.types.component_group.Given as goal
 
 abbrev pub invariant-names : goal.invariant-names

@@ -1,5 +1,5 @@
 use Rattle.std.proofs.Common.{◌<◌, ℕ, get_or}
-use Rattle.type_table.specs.declared.table.Made.{Made}
+use Rattle.type_definitions.specs.declared.table.Made.{Made}
 use Rattle.type_settled.proofs.limits.end.Given as goal
 
 abbrev pub invariant-made : goal.invariant-made

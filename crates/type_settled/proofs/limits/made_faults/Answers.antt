@@ -1,6 +1,6 @@
 use Rattle.std.proofs.Common.{ap, sym, ◌∙◌, [], if◌then◌else◌}
-use Rattle.type_table.specs.Faults.{noted}
-use Rattle.type_table.specs.Whole.{size_faults}
+use Rattle.type_definitions.specs.Faults.{noted}
+use Rattle.type_definitions.specs.Whole.{size_faults}
 use Rattle.type_settled.specs.Measures.{marked}
 use Rattle.type_settled.proofs.limits.made_faults.Goals as goal
 use Rattle.type_settled.proofs.Capped.{words_measured, parts_measured, reach_measured}

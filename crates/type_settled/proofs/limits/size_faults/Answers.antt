@@ -1,5 +1,5 @@
 use Rattle.std.proofs.Common.{ap, ◌∙◌}
-use Rattle.type_table.specs.Faults.{noted, demand}
+use Rattle.type_definitions.specs.Faults.{noted, demand}
 use Rattle.type_settled.proofs.limits.size_faults.Goals as goal
 use Rattle.type_settled.proofs.Capped.{sizes_noted}
 

@@ -1,7 +1,7 @@
 use Rattle.std.proofs.Common.{false, get_or, refl, ap, ◌∙◌}
-use Rattle.type_table.specs.declared.table.Made.{Made}
-use Rattle.type_table.specs.Faults.{noted}
-use Rattle.type_table.specs.Whole.{made_faults}
+use Rattle.type_definitions.specs.declared.table.Made.{Made}
+use Rattle.type_definitions.specs.Faults.{noted}
+use Rattle.type_definitions.specs.Whole.{made_faults}
 use Rattle.type_settled.specs.Measures.{marked}
 use Rattle.type_settled.proofs.limits.sizes.Goals as goal
 use Rattle.type_settled.proofs.Noted.{faults_step}

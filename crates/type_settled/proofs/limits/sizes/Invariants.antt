@@ -1,7 +1,7 @@
 use Rattle.std.proofs.Common.{◌≡◌, drop}
 use Rattle.std.specs.Prelude.{flat_map}
-use Rattle.type_table.specs.Faults.{noted}
-use Rattle.type_table.specs.Whole.{made_faults}
+use Rattle.type_definitions.specs.Faults.{noted}
+use Rattle.type_definitions.specs.Whole.{made_faults}
 use Rattle.type_settled.proofs.limits.sizes.Given as goal
 
 abbrev pub invariant-made : goal.invariant-made

@@ -1,5 +1,5 @@
 use Rattle.std.proofs.Common.{◌≡◌, length, get_or, false, refl, ap, ◌∙◌}
-use Rattle.type_table.specs.declared.table.Made.{Made}
+use Rattle.type_definitions.specs.declared.table.Made.{Made}
 use Rattle.type_settled.proofs.limits.unsound.Goals as goal
 use Rattle.type_settled.proofs.Unsound.{length_marked, marks_step}
 

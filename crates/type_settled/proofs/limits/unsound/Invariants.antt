@@ -1,6 +1,6 @@
 use Rattle.std.proofs.Common.{◌≡◌, ◌<◌, ◌||◌, ℕ, drop, length, get_or}
-use Rattle.type_table.specs.declared.table.Made.{Made}
-use Rattle.type_table.specs.Whole.{is_unsound}
+use Rattle.type_definitions.specs.declared.table.Made.{Made}
+use Rattle.type_definitions.specs.Whole.{is_unsound}
 use Rattle.type_settled.specs.Measures.{marked}
 use Rattle.type_settled.proofs.limits.unsound.Given as goal
 

@@ -1,5 +1,5 @@
 use Rattle.std.proofs.Common.{◌≡◌, drop, nat_eq}
-use Rattle.type_table.specs.Declarations.{any_of}
+use Rattle.type_definitions.specs.Declarations.{any_of}
 use Rattle.type_settled.proofs.parts.any_is.Given as goal
 
 abbrev pub invariant-components : goal.invariant-components

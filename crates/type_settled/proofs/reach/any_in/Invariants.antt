@@ -1,5 +1,5 @@
 use Rattle.std.proofs.Common.{◌≡◌, drop}
-use Rattle.type_table.specs.Declarations.{any_of}
+use Rattle.type_definitions.specs.Declarations.{any_of}
 use Rattle.type_settled.specs.Reach.{is_in}
 use Rattle.type_settled.proofs.reach.any_in.Given as goal
 

@@ -1,5 +1,5 @@
 use Rattle.std.proofs.Common.{◌≡◌, ℕ, false, below_more, sym, ◌∙◌, true≢false}
-use Rattle.type_table.specs.Types.{info}
+use Rattle.type_definitions.specs.Types.{info}
 use Rattle.type_settled.specs.Measures.{marked}
 use Rattle.type_settled.specs.Reach.{holds, is_in}
 use Rattle.type_settled.proofs.reach.is_closed.Goals as goal

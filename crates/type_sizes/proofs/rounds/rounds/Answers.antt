@@ -1,5 +1,5 @@
 use Rattle.std.proofs.Common.{◌≡◌, ℕ, length, map, get_or, refl, ap, ◌∙◌, arith}
-use Rattle.type_shapes.specs.Sizes.{no_size}
+use Rattle.type_table.specs.Sizes.{no_size}
 use Rattle.type_sizes.specs.Sizes.{sized, shape_size}
 use Rattle.type_sizes.proofs.Sized.{sized_first, sized_whole, round_small, round_step}
 use Rattle.type_sizes.proofs.rounds.rounds.Goals as goal

@@ -1,5 +1,5 @@
 use Rattle.std.proofs.Common.{◌≡◌, ℕ, get_or}
-use Rattle.type_shapes.specs.Sizes.{no_size}
+use Rattle.type_table.specs.Sizes.{no_size}
 use Rattle.type_sizes.specs.Sizes.{sized}
 use Rattle.type_sizes.proofs.rounds.rounds.Given as goal
 

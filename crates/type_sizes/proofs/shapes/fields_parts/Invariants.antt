@@ -1,5 +1,5 @@
 use Rattle.std.proofs.Common.{◌≡◌, ◌++◌, drop}
-use Rattle.type_table.specs.Types.{numbered}
+use Rattle.type_definitions.specs.Types.{numbered}
 use Rattle.type_sizes.specs.Sizes.{parts_in}
 use Rattle.type_sizes.proofs.shapes.fields_parts.Given as goal
 

@@ -1,5 +1,5 @@
 use Rattle.std.proofs.Common.{◌≡◌, replicate}
-use Rattle.type_shapes.specs.Sizes.{no_size}
+use Rattle.type_table.specs.Sizes.{no_size}
 use Rattle.type_sizes.proofs.sizes.nothing.Given as goal
 
 abbrev pub invariant-types : goal.invariant-types

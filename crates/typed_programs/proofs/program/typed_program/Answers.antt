@@ -1,6 +1,6 @@
 use Rattle.std.proofs.Common.{sym, subst}
-use Rattle.type_names.specs.ComponentNames.{FindAllComponents}
-use Rattle.type_names.specs.FormalNames.{FindAllFormals}
+use Rattle.expression_types.specs.ComponentNames.{FindAllComponents}
+use Rattle.expression_types.specs.FormalNames.{FindAllFormals}
 use Rattle.typed_programs.proofs.program.typed_program.Goals as goal
 
 pub writer_outside-writer-requires-clause-components : goal.writer_outside-writer-requires-clause-components

@@ -1,6 +1,6 @@
 use Rattle.std.proofs.Common.{ap, ◌∙◌, arith}
 use Rattle.resolved_tree.specs.Nodes.{code_at, code_of, tree_at}
-use Rattle.type_names.specs.Here.{here}
+use Rattle.expression_types.specs.Here.{here}
 use Rattle.typed_tree.specs.Statements.{typed_choice}
 use Rattle.typed_tree.proofs.Grown.{grew_on}
 use Rattle.typed_statements.proofs.Forms.{more_below}

@@ -2,7 +2,7 @@ use Rattle.std.proofs.Common.{◌≡◌, ◌<◌, ◌++◌, length, map}
 use Rattle.std.specs.List.{All}
 use Rattle.resolved_tree.specs.Nodes.{code_at}
 use Rattle.resolved_tree.specs.Trees.{code_items}
-use Rattle.type_names.specs.Here.{here}
+use Rattle.expression_types.specs.Here.{here}
 use Rattle.typed_tree.specs.Nodes.{typed_code_at, Grew}
 use Rattle.typed_tree.specs.Statements.{typed_choice}
 use Rattle.typed_statements.proofs.choices.choices.Given as goal

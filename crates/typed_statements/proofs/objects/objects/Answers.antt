@@ -1,6 +1,6 @@
 use Rattle.std.proofs.Common.{ap, ◌∙◌}
 use Rattle.resolved_tree.specs.Nodes.{code_at, tree_at}
-use Rattle.type_table.specs.Gathered.{indicated}
+use Rattle.type_definitions.specs.Gathered.{indicated}
 use Rattle.typed_tree.specs.Expressions.{typed_optional}
 use Rattle.typed_expressions.specs.Sites.{site}
 use Rattle.typed_statements.proofs.Forms.{objects_behind}

@@ -1,7 +1,7 @@
 use Rattle.std.proofs.Common.{◌≡◌, ◌<◌, ◌++◌, length, map}
 use Rattle.resolved_tree.specs.Nodes.{code_at}
 use Rattle.resolved_tree.specs.Trees.{code_items}
-use Rattle.type_table.specs.Gathered.{declared_number}
+use Rattle.type_definitions.specs.Gathered.{declared_number}
 use Rattle.typed_tree.specs.Expressions.{object_number}
 use Rattle.typed_tree.specs.Programs.{formal_numbers}
 use Rattle.typed_expressions.specs.Sites.{site}

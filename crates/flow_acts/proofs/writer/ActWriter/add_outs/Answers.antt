@@ -2,7 +2,7 @@ use Rattle.std.proofs.Common.{◌≡◌, ◌≤◌, ◌<◌, ◌+◌, ◌++◌, 
 use Rattle.std.proofs.lemmas.List.{drop_more}
 use Rattle.flow_paths.specs.Objects as objects
 use Rattle.flow_paths.specs.Acts.{call_spots}
-use Rattle.flow_typing.specs.Passings.{passing_of}
+use Rattle.program_typing.specs.Passings.{passing_of}
 use Rattle.flow_acts.specs.declared.writer.ActWriter.{ActWriter}
 use Rattle.flow_acts.specs.DeepPlaces.{spot_names}
 use Rattle.flow_acts.specs.Frames.{site}

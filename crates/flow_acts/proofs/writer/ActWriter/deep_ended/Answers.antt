@@ -2,7 +2,7 @@ use Rattle.std.proofs.Common.{List, ap, ◌∙◌}
 use Rattle.std.specs.List.{list_any}
 use Rattle.place_names.specs.declared.selector.Sel.{Sel}
 use Rattle.place_names.specs.Names.{extend, object}
-use Rattle.type_table.specs.Types.{parts}
+use Rattle.type_definitions.specs.Types.{parts}
 use Rattle.flow_paths.specs.Limits.{is_deep}
 use Rattle.flow_paths.specs.Objects.{object_at}
 use Rattle.flow_acts.specs.DeepPlaces.{first_of}

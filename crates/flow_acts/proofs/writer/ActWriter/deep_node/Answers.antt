@@ -1,5 +1,5 @@
 use Rattle.std.proofs.Common.{sym, ap, ◌∙◌}
-use Rattle.type_table.specs.Types.{parts}
+use Rattle.type_definitions.specs.Types.{parts}
 use Rattle.flow_acts.specs.DeepPlaces.{first_of}
 use Rattle.flow_acts.specs.Frames.{site}
 use Rattle.flow_acts.specs.Spots.{looked_at, looked_type}

@@ -1,10 +1,10 @@
 use Rattle.std.proofs.Common.{◌≡◌, false, List, sym, ap, ◌∙◌, subst, Option}
 use Rattle.std.specs.Prelude.{is_some, IfSome}
 use Rattle.flow_paths.specs.declared.point.Point.{Point}
-use Rattle.flow_layout.specs.declared.layout.Layout.{Layout}
-use Rattle.flow_layout.specs.BareSubs.{bare_package}
-use Rattle.flow_layout.specs.Layouts.{code_in, laying, made_in}
-use Rattle.program_layout.specs.Subs.{package_laid, ArePackagePoints}
+use Rattle.bare_points.specs.declared.layout.Layout.{Layout}
+use Rattle.bare_points.specs.BareSubs.{bare_package}
+use Rattle.bare_points.specs.Layouts.{code_in, laying, made_in}
+use Rattle.sub_layout.specs.Subs.{package_laid, ArePackagePoints}
 use Rattle.lay_out.proofs.Laying.{package_points_are, package_few, package_many, IsLayoutBy}
 use Rattle.lay_out.proofs.Limits.{points_alone}
 use Rattle.lay_out.proofs.sub_writer.SubWriter.package_points.Goals as goal

@@ -1,11 +1,11 @@
 use Rattle.std.proofs.Common.{◌≡◌, true, List, sym, ap, ◌∙◌, subst, Option}
 use Rattle.std.specs.Prelude.{is_some, IfSome}
 use Rattle.flow_paths.specs.declared.point.Point.{Point}
-use Rattle.flow_layout.specs.declared.layout.Layout.{Layout}
-use Rattle.flow_layout.specs.BareSubs.{bare_sub}
-use Rattle.flow_layout.specs.Layouts.{code_in, laying, made_in}
+use Rattle.bare_points.specs.declared.layout.Layout.{Layout}
+use Rattle.bare_points.specs.BareSubs.{bare_sub}
+use Rattle.bare_points.specs.Layouts.{code_in, laying, made_in}
 use Rattle.typed_statements.specs.declared.subs.Subprogram.{Subprogram}
-use Rattle.program_layout.specs.Subs.{sub_laid, AreSubPoints}
+use Rattle.sub_layout.specs.Subs.{sub_laid, AreSubPoints}
 use Rattle.lay_out.proofs.Laying.{sub_points_are, sub_few, sub_many, IsLayoutBy}
 use Rattle.lay_out.proofs.Limits.{points_alone}
 use Rattle.lay_out.proofs.sub_writer.SubWriter.sub_points.Goals as goal

@@ -1,6 +1,6 @@
 use Rattle.std.proofs.Common.{◌≡◌, ◌<◌, ◌≤◌, ◌+◌, ◌*◌, max, length}
 use Rattle.resolved_tree.specs.Nodes.{code_at}
-use Rattle.type_table.specs.Gathered.{gather}
+use Rattle.type_definitions.specs.Gathered.{gather}
 use Rattle.type_gather.specs.Gathering.{context}
 use Rattle.type_gather.proofs.gathering.Gathering.+walk.Given as goal
 

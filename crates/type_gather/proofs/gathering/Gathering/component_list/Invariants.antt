@@ -1,6 +1,6 @@
 use Rattle.std.proofs.Common.{◌≡◌, ◌<◌, ◌++◌, length}
 use Rattle.resolved_tree.specs.Nodes.{code_at}
-use Rattle.type_table.specs.Gathered.{component_list}
+use Rattle.type_definitions.specs.Gathered.{component_list}
 use Rattle.type_gather.proofs.gathering.Gathering.component_list.Given as goal
 
 abbrev pub invariant-groups : goal.invariant-groups

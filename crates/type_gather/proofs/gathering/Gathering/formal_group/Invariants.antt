@@ -1,6 +1,6 @@
 use Rattle.std.proofs.Common.{◌≡◌, ◌<◌, ◌++◌, length}
 use Rattle.resolved_tree.specs.Nodes.{code_at}
-use Rattle.type_table.specs.Gathered.{formal_group}
+use Rattle.type_definitions.specs.Gathered.{formal_group}
 use Rattle.type_gather.proofs.gathering.Gathering.formal_group.Given as goal
 
 abbrev pub invariant-names : goal.invariant-names

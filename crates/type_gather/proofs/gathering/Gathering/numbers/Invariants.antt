@@ -1,6 +1,6 @@
 use Rattle.std.proofs.Common.{◌≡◌, ◌<◌, length}
 use Rattle.resolved_tree.specs.Nodes.{code_at}
-use Rattle.type_table.specs.Gathered.{each, with_number}
+use Rattle.type_definitions.specs.Gathered.{each, with_number}
 use Rattle.type_gather.specs.Gathering.{context}
 use Rattle.type_gather.proofs.gathering.Gathering.numbers.Given as goal
 

@@ -1,5 +1,5 @@
 use Rattle.std.proofs.Common.{subst}
-use Rattle.type_names.specs.FormalNames.{FindAllFormals}
+use Rattle.expression_types.specs.FormalNames.{FindAllFormals}
 use Rattle.type_settled.specs.Holding.{AreLone}
 use Rattle.type_settled.specs.Owners.{AreOwners}
 use Rattle.type_settled.specs.Rings.{AreInRings}

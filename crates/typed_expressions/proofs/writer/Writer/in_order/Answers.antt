@@ -1,8 +1,8 @@
 use Rattle.std.proofs.Common.{◌≡◌, false, ◌∙◌, subst, map, IfOk, arith}
 use Rattle.std.proofs.lemmas.Grind.{common_steps}
 use Rattle.resolved_tree.specs.Nodes.{tree_at}
-use Rattle.type_table.specs.Expressions.{given_names, all_by_position}
-use Rattle.type_names.specs.Here.{here}
+use Rattle.type_definitions.specs.Expressions.{given_names, all_by_position}
+use Rattle.expression_types.specs.Here.{here}
 use Rattle.typed_tree.specs.Nodes.{typed_at, Holds}
 use Rattle.typed_tree.specs.Expressions.{role_names}
 use Rattle.typed_expressions.proofs.ArgumentOrder.{named_in_order, named_list}

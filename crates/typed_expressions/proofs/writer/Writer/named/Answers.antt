@@ -1,7 +1,7 @@
 use Rattle.std.proofs.Common.{◌≡◌, subst, IfOk}
 use Rattle.resolved_tree.specs.Nodes.{tree_at}
-use Rattle.type_table.specs.Expressions.{given_names}
-use Rattle.type_names.specs.Here.{here}
+use Rattle.type_definitions.specs.Expressions.{given_names}
+use Rattle.expression_types.specs.Here.{here}
 use Rattle.typed_tree.specs.Expressions.{role_names}
 use Rattle.typed_expressions.proofs.ArgumentOrder.{numbers_are}
 use Rattle.typed_expressions.proofs.writer.Writer.named.Goals as goal

@@ -1,5 +1,5 @@
 use Rattle.std.proofs.Common.{◌≡◌, ◌++◌, drop, map}
-use Rattle.type_names.specs.Occurrences.{occurs}
+use Rattle.expression_types.specs.Occurrences.{occurs}
 use Rattle.typed_expressions.specs.Arguments.{number_at}
 use Rattle.typed_expressions.proofs.writer.Writer.named_components.Given as goal
 

@@ -1,7 +1,7 @@
 use Rattle.std.proofs.Common.{◌≡◌, ◌<◌, ◌≤◌, ◌++◌, length, map}
 use Rattle.std.specs.List.{All}
 use Rattle.resolved_tree.specs.Nodes.{tree_at}
-use Rattle.type_names.specs.Here.{here}
+use Rattle.expression_types.specs.Here.{here}
 use Rattle.typed_expressions.specs.Stations.{stations, station_at}
 use Rattle.typed_expressions.proofs.writer.Writer.stations.Given as goal
 

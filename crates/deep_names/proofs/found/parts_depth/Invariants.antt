@@ -1,0 +1,8 @@
+use Rattle.std.proofs.Common.{◌≡◌, ◌+◌, drop}
+use Rattle.std.specs.List.{list_any}
+use Rattle.deep_names.specs.Found.{is_past}
+use Rattle.deep_names.proofs.found.parts_depth.Given as goal
+
+abbrev pub invariant-parts : goal.invariant-parts
+invariant-parts l =
+    list_any (is_past (l.count + l.more)) (drop l.part-index l.parts) ≡ list_any (is_past (l.count + l.more)) l.parts

@@ -1,0 +1,9 @@
+use Rattle.std.proofs.Common.{◌≡◌, drop, map}
+use Rattle.resolved_tree.specs.Nodes.{tree_at}
+use Rattle.type_definitions.specs.Expressions.{given_names, each_once}
+use Rattle.expression_types.proofs.reader.Reader.names_formals.Given as goal
+
+abbrev pub invariant-formals : goal.invariant-formals
+invariant-formals l =
+    each_once (map (λ f. f.name) (drop l.formal-index l.formals)) (given_names (tree_at l.self.rows.now l.list))
+    ≡ each_once (map (λ f. f.name) l.formals) (given_names (tree_at l.self.rows.now l.list))

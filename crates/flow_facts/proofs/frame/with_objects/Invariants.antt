@@ -1,9 +1,0 @@
-use Rattle.std.proofs.Common.{◌≡◌, ◌+◌, take, map, sum}
-use Rattle.type_table.specs.Types.{words}
-use Rattle.flow_paths.specs.Laid.{object_words}
-use Rattle.flow_typing.specs.Typings.{typing}
-use Rattle.flow_facts.specs.Gathered.{declared_of}
-use Rattle.flow_facts.proofs.frame.with_objects.Given as goal
-
-abbrev pub invariant-objects : goal.invariant-objects
-invariant-objects l = l.made ≡ l.total + sum (map (object_words (typing l.program)) (take l.x-index l.objects))

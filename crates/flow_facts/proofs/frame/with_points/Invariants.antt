@@ -1,9 +1,0 @@
-use Rattle.std.proofs.Common.{◌≡◌, ◌+◌, take, map, sum}
-use Rattle.type_table.specs.Types.{words}
-use Rattle.flow_paths.specs.Laid.{object_words}
-use Rattle.flow_typing.specs.Typings.{typing}
-use Rattle.flow_facts.specs.Gathered.{declared_of}
-use Rattle.flow_facts.proofs.frame.with_points.Given as goal
-
-abbrev pub invariant-points : goal.invariant-points
-invariant-points l = l.made ≡ l.total + sum (map (object_words (typing l.program)) (declared_of (take l.point-index l.points)))

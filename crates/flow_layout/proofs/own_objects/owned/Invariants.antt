@@ -1,8 +1,0 @@
-use Rattle.std.proofs.Common.{◌≡◌, ◌++◌, drop}
-use Rattle.std.specs.Prelude.{filter}
-use Rattle.flow_layout.specs.Spans.{ends_of}
-use Rattle.flow_layout.proofs.own_objects.owned.Given as goal
-
-abbrev pub invariant-found : goal.invariant-found
-invariant-found l =
-    l.made.items ++ filter (ends_of l.ends) (drop l.x-index l.x-items) ≡ filter (ends_of l.ends) l.x-items

@@ -1,7 +1,0 @@
-use Rattle.std.proofs.Common.{◌≡◌, length}
-use Rattle.flow_layout.specs.Spans.{ends_of}
-use Rattle.flow_layout.specs.Sized.{AreSpans}
-use Rattle.flow_layout.proofs.sizes.spans.Given as goal
-
-abbrev pub invariant-nodes : goal.invariant-nodes
-invariant-nodes l = (length l.made ≡ l.i) × AreSpans l.rows (ends_of l.ends) l.i l.made

@@ -1,6 +1,0 @@
--- What is known of a program, as the definitions have it.
-use Rattle.flow_paths.specs.Objects.{Typing}
-use Rattle.flow_typing.specs.declared.typing.ProgramTyping.{ProgramTyping}
-
-abbrev pub typing : ProgramTyping → Typing
-typing p = record { table = p.table.now; objects = p.objects.now; subs = p.subs.now }

@@ -1,9 +1,0 @@
-use Rattle.name_depths.specs.Turns.{code, site, tree}
-use Rattle.name_depths.proofs.Shared.{found_first}
-use Rattle.name_depths.proofs.reader.NameReader.is_shared.Goals as goal
-
-pub returns-in-Declare : goal.returns-in-Declare
-returns-in-Declare c told r =
-    let w = c.args.self.now in
-    found_first (site w) r c.in-Declare.pos c.in-Declare.object (tree w c.in-Declare.value) (code w c.args.first) (code w c.args.rest)
-    c.in-Declare.ensures.code (c.begins_alike.ensures told r)

@@ -1,7 +1,0 @@
-use Rattle.std.proofs.Common.{◌≡◌, drop}
-use Rattle.std.specs.List.{list_any}
-use Rattle.name_depths.specs.Found.{is_past}
-use Rattle.name_depths.proofs.shallow.look_at.Given as goal
-
-abbrev pub invariant-parts : goal.invariant-parts
-invariant-parts l = list_any (is_past 0) (drop l.part-index l.parts) ≡ list_any (is_past 0) l.parts

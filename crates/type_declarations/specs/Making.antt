@@ -1,8 +1,0 @@
--- The type that a declaration makes.
-use Rattle.std.specs.Prelude.{Bool}
-use Rattle.resolved_tree.specs.Trees.{Code}
-use Rattle.type_table.specs.declared.table.Made.{Made}
-use Rattle.type_table.specs.Gathered.{declared_number, declared_pos}
-
-abbrev pub made_by : Code → Bool → Bool → Made
-made_by d full sound = record { number = declared_number d; pos = declared_pos d; full = full; sound = sound }

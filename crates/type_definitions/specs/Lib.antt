@@ -1,0 +1,11 @@
+pub mod Types
+pub mod Faults
+pub mod Entries
+pub mod Names
+pub mod Statics
+pub mod Expressions
+pub mod Statements
+pub mod Gathered
+pub mod Declarations
+pub mod Whole
+pub mod Refusals

@@ -1,7 +1,0 @@
-use Rattle.std.proofs.Common.{◌≡◌, drop, map}
-use Rattle.type_names.specs.Occurrences.{each_single}
-use Rattle.type_names.proofs.arguments.each_component.Given as goal
-
-abbrev pub invariant-components : goal.invariant-components
-invariant-components l =
-    each_single l.index (map (λ k. k.name) (drop l.component-index l.components)) ≡ each_single l.index (map (λ k. k.name) l.components)

@@ -1,4 +1,0 @@
-use Rattle.type_names.proofs.reader.Reader.+is_static.Given as goal
-
-abbrev pub decreases-is_static : goal.decreases-is_static
-decreases-is_static l = l.e

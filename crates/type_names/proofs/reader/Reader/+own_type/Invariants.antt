@@ -1,4 +1,0 @@
-use Rattle.type_names.proofs.reader.Reader.+own_type.Given as goal
-
-abbrev pub decreases-own_type : goal.decreases-own_type
-decreases-own_type l = l.e

@@ -1,7 +1,0 @@
-use Rattle.std.proofs.Common.{◌≡◌, [], take, drop}
-use Rattle.type_table.specs.Faults.{noted}
-use Rattle.type_table.specs.Statements.{doubled}
-use Rattle.type_statements.proofs.cover.compared.Given as goal
-
-abbrev pub invariant-covers : goal.invariant-covers
-invariant-covers l = noted l.found (doubled (take l.i l.covers) (drop l.i l.covers)) ≡ noted l.initial.found (doubled [] l.covers)

@@ -1,9 +1,0 @@
-use Rattle.std.proofs.Common.{◌≡◌, ◌-◌, ◌≤◌, [], length, take}
-use Rattle.type_table.specs.Statements.{doubled}
-use Rattle.type_statements.proofs.cover.count_apart.Given as goal
-
-abbrev pub invariant-halves : goal.invariant-halves
-invariant-halves l = (l.low ≤ l.high) × (l.high ≤ length l.covers) × (doubled [] (take l.low l.covers) ≡ [])
-
-abbrev pub decreases-halves : goal.decreases-halves
-decreases-halves l = l.high - l.low

@@ -1,3 +1,0 @@
--- laws
-pub mod Formed
-pub mod Checked
