@@ -1,4 +1,4 @@
--- How the cut of a text goes on behind its first piece.
+-- How the cut of a text goes on after its first piece.
 use Rattle.std.proofs.lemmas.Bool.Decides.{nat_tests}
 use Rattle.std.proofs.Common.{false, ◌≡◌, ℕ, zero, suc, ◌-◌, ◌<◌, ◌≤◌, ◌==◌, List, [], ◌∷◌, ◌++◌, length, take, drop, refl, sym, ◌∙◌, ap, arith, Ok, Err, append_assoc}
 use Rattle.spark_base.specs.declared.position.Pos.{Pos}
@@ -20,7 +20,7 @@ cut_from-passed zero pos room text = refl
 cut_from-passed (suc left) pos room [] = refl
 cut_from-passed (suc left) pos room (b ∷ rest) = cut_from-passed left (next_position pos b) room rest
 
--- The outcome behind a first piece of so many bytes.
+-- The outcome after a first piece of so many bytes.
 rest_from : (len : ℕ) (pos : Pos) (room : ℕ) (b : ℕ) (rest : Text) → 1 ≤ len
     → cut_from (len - 1) (next_position pos b) room rest
     ≡ cut_from 0 (behind pos (take len (b ∷ rest))) room (drop len (b ∷ rest))
@@ -69,12 +69,12 @@ pub continued_none : (outcome : CutResult) → continued [] outcome ≡ outcome
 continued_none (Ok tokens) = refl
 continued_none (Err fault) = refl
 
--- A fault of what comes behind the tokens found is the fault of the whole.
+-- A fault of what comes after the tokens found is the fault of the whole.
 pub continued_fault : (found : List Cut) (outcome whole : CutResult) (fault : LexRefusal)
     → continued found outcome ≡ whole → outcome ≡ Err fault → whole ≡ Err fault
 continued_fault found outcome whole fault joins is = sym joins ∙ ap (continued found) is
 
--- One turn over a separator or a comment.
+-- One iteration over a separator or a comment.
 pub passes_gap : (found : List Cut) (len : ℕ) (pos : Pos) (room : ℕ) (text : Text) (whole : CutResult)
     → first_piece text ≡ Gap len → 0 < length text → 1 ≤ len
     → continued found (cut_from 0 pos room text) ≡ whole
@@ -82,7 +82,7 @@ pub passes_gap : (found : List Cut) (len : ℕ) (pos : Pos) (room : ℕ) (text :
 passes_gap found len pos room text whole is some moves joins =
     ap (continued found) (sym (cut_from-gap len pos room text is some moves)) ∙ joins
 
--- One turn over a token.
+-- One iteration over a token.
 pub passes_lexeme : (found : List Cut) (kind : TokenKind) (len : ℕ) (pos : Pos) (room : ℕ) (text : Text) (whole : CutResult)
     → first_piece text ≡ Lexeme kind len → 0 < length text → 1 ≤ len → 0 < room
     → continued found (cut_from 0 pos room text) ≡ whole

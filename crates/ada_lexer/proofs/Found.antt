@@ -127,7 +127,7 @@ found_end file text rest pos found token none bytes at so_far =
       all_pairs_push (λ (a b : Token). Precedes a.pos b.pos) found token so_far.ordered (λ k d below. rw at (so_far.earlier k d below)),
     )
 
--- Positions behind the first one of a file are in that file.
+-- Positions after the first one of a file are in that file.
 pub position-file : (file : ℕ) (text rest : Text) (pos : Pos) (found : List Token) → Found file text rest pos found → pos.file ≡ file
 position-file file text rest pos found so_far = ap (λ (p : Pos). p.file) so_far.position ∙ behind-file (first_position file) so_far.before
 

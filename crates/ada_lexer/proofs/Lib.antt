@@ -1,7 +1,7 @@
 -- what is read of numbers and words
 pub mod Values
 pub mod WordTables
--- how the cut of a text goes on behind its first piece, its positions, and what stands last
+-- how the cut of a text goes on after its first piece, its positions, and what stands last
 pub mod Cuts
 pub mod Bounds
 pub mod TokenLists

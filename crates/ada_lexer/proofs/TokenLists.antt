@@ -1,4 +1,4 @@
--- The end of the file behind tokens that aren't.
+-- The end of the file after tokens that aren't.
 use Rattle.std.proofs.Common.{◌≡◌, ◌≢◌, suc, List, [], ◌∷◌, ◌++◌, refl, arith}
 use Rattle.std.specs.List.{All}
 use Rattle.ada_lexer.specs.declared.token.Token.{Token}
@@ -15,7 +15,7 @@ EndsOnce-cons (Number value) rest inner ends = ends
 EndsOnce-cons Str rest inner ends = ends
 EndsOnce-cons (Symbol symbol) rest inner ends = ends
 
--- The rest behind a token that isn't the end.
+-- The rest after a token that isn't the end.
 pub EndsOnce-rest : (kind : TokenKind) (rest : List TokenKind) → kind ≢ EndOfFile → EndsOnce (kind ∷ rest) → EndsOnce rest
 EndsOnce-rest EndOfFile rest inner ends = absurd (inner refl)
 EndsOnce-rest (Word word) rest inner ends = ends

@@ -1,5 +1,5 @@
 -- The characters of a text, as bytes (docs/LANGUAGE.md, "Lexical elements"; Ada 2012, 2.1 and 2.2).
--- Behind its end a text reads as 0, which is in none of these classes.
+-- After its end a text reads as 0, which is in none of these classes.
 use Rattle.std.specs.Prelude.{ℕ, Bool, ◌||◌, ◌&&◌, ◌==◌, nat_le, List}
 use Rattle.std.specs.Char.{is_ascii_alphabetic, is_ascii_digit}
 

@@ -10,7 +10,7 @@ use Rattle.ada_lexer.specs.declared.piece.Piece.TheVariants.{Lexeme, Broken}
 use Rattle.ada_lexer.specs.Characters.{Text, is_letter, is_digit, underscore}
 use Rattle.ada_lexer.specs.ReservedWords.{reserved}
 
--- Behind the first letter stand letters, digits and underscores; the longest run is taken.
+-- Letters, digits and underscores follow the first letter; the longest run is taken.
 abbrev pub is_word_part : ℕ → Bool
 is_word_part b = is_letter b || is_digit b || b == underscore
 

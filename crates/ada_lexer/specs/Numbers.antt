@@ -27,7 +27,7 @@ number_value digits = fold with_digit 0 digits
 abbrev pub largest_number : ℕ
 largest_number = 2147483648
 
--- What may not stand behind a number: a letter, a number sign, or a point with a digit.
+-- What may not follow a number: a letter, a number sign, or a point with a digit.
 abbrev pub spoils_number : Text → Bool
 spoils_number rest =
     is_letter (slice_index rest 0) || slice_index rest 0 == number_sign

@@ -14,6 +14,6 @@ abbrev pub next_position : Pos → ℕ → Pos
 next_position pos b =
     if b == line_feed then record pos { line = pos.line + 1; column = 1 } else record pos { column = pos.column + 1 }
 
--- The position behind bytes the first of which stands at a position.
+-- The position after bytes that begin at a position.
 unfoldable pub behind : Pos → Text → Pos
 behind = fold next_position

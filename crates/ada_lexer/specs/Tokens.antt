@@ -35,7 +35,7 @@ abbrev pub then_cut : Cut → CutResult → CutResult
 then_cut token (Ok tokens) = Ok (token ∷ tokens)
 then_cut token (Err fault) = Err fault
 
--- What the piece at the front of a text adds to the result of what comes behind it, which goes by
+-- What the piece at the front of a text adds to the result of what comes after it, which goes by
 -- the piece's length and the room left there. A token for which no room is left is refused; a fault
 -- at its position goes before that.
 abbrev pub with_piece : Piece → Pos → ℕ → Text → (ℕ → ℕ → CutResult) → CutResult
@@ -75,7 +75,7 @@ EndsOnce (Number value ∷ rest) = EndsOnce rest
 EndsOnce (Str ∷ rest) = EndsOnce rest
 EndsOnce (Symbol symbol ∷ rest) = EndsOnce rest
 
--- The bytes of a token stand in the text, and its position is the one behind the bytes before them.
+-- The bytes of a token stand in the text, and its position is the one after the bytes before them.
 pub record StandsIn (file : ℕ) (text : Text) (token : Cut) : Type 0 where
   pub before : Text
   pub rest : Text

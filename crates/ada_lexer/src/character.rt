@@ -3,7 +3,7 @@
 ghost use Rattle.std.specs.Prelude.{◌≡◌, slice_index};
 ghost use Rattle.ada_lexer.specs.Characters as spec;
 
-/// The byte at an index, or 0 behind the end.
+/// The byte at an index, or 0 after the end.
 pub fn byte(text: &[u8], at: usize) -> u8
     ensures { result ≡ slice_index text.now at }
 {

@@ -16,7 +16,7 @@ pub fn first_position(file: u16) -> Pos
     }
 }
 
-/// The position behind bytes the first of which stands at `pos`.
+/// The position after bytes that begin at `pos`.
 #[tactic(auto, unfolding(crate::specs::Positions::behind))]
 pub fn behind(mut pos: Pos, bytes: &[u8]) -> Pos
     requires line { pos.line + length bytes.now < 2 ^ 32 }

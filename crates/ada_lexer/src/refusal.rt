@@ -4,8 +4,7 @@ use spark_base::Pos;
 use std::alloc::{AllocError, AllocFailed};
 use thiserror::Error;
 
-/// The first lexical fault of a text, at the position of the byte that it names, or a want of
-/// memory.
+/// The first lexical fault of a text, at the position of the byte that it names, or out of memory.
 #[derive(Clone, Copy, Debug, PartialEq, Eq, Error)]
 pub enum LexRefusal {
     /// L1: a byte that begins no token, as `!`, or that may not stand in a string, as a tab (Ada
@@ -24,7 +23,7 @@ pub enum LexRefusal {
     /// L4: a string that its line doesn't close, as `"` alone (Ada 2012, 2.6); its first byte.
     #[error("{}:{}: this string is open at the end of its line", .0.line, .0.column)]
     OpenString(Pos),
-    /// L5: the token behind the last one for which there is room, as `;` where there is room for
+    /// L5: the token after the last one for which there is room, as `;` where there is room for
     /// none; its first byte.
     #[error("{}:{}: there is no room for this token", .0.line, .0.column)]
     TooMany(Pos),

@@ -19,7 +19,7 @@ fn group(tokens: &mut Cursor<'_, '_>, depth: u32) -> Result<(), ReadFault> {
     Ok(())
 }
 
-/// Reads so many `+`, each with a `(` behind it that stands on this side.
+/// Reads so many `+`, each with a `(` after it that stands on this side.
 fn signs(tokens: &mut Cursor<'_, '_>, side: Side, count: u32) -> Result<(), ReadFault> {
     for _turn in 0..count {
         tokens.operator_symbol(Symbol::Plus)?;

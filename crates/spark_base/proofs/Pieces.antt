@@ -3,7 +3,7 @@ use Rattle.std.proofs.Common.{◌≡◌, ◌+◌, ◌++◌, ℕ, List, length, t
 use Rattle.std.proofs.lemmas.List.{take-append-drop, drop-drop}
 use Rattle.std.proofs.Math.Seq.{take-append_seam}
 
--- a piece from an index on, and the rest behind it
+-- a piece from an index on, and the rest after it
 pub copied_piece : (bytes piece back : List ℕ) (at n : ℕ) → piece ≡ take n (drop at bytes) → length piece ≡ n
     → drop at bytes ≡ take n (piece ++ back) ++ drop (at + n) bytes
 copied_piece bytes piece back at n is size =

@@ -19,13 +19,6 @@ impl<T> Model for Boxed<T> {
 }
 
 impl<T> Boxed<T> {
-    /// The value of a box.
-    pub fn from_box(holds: Box<T>) -> Boxed<T>
-        ensures { result ≡ holds.value }
-    {
-        Boxed { holds }
-    }
-
     /// Gives the box back.
     pub fn into_box(self) -> Box<T>
         ensures { result.value ≡ self }

@@ -4,7 +4,7 @@
 //! `Pos` is a position, and `position_text` prints it. `Listed` and `Boxed` are a `Vec` and a `Box`
 //! that contracts see as what they hold. `Source`, `Sink` and `FileStore` are what the tool asks of
 //! the outside; `MemSource`, `MemSink`, `PlainSink` and `MemFiles` are the outside in memory, whose
-//! bytes a contract knows. What a call on the outside does, `specs/Outside.antt` states;
+//! bytes a contract knows. `specs/Outside.antt` states what a call on the outside does;
 //! `docs/TOOL.md`, "The outside", says it in words. A call fails only where the count of faults of
 //! its object rose in that call. No call but `MemSink`'s and `PlainSink`'s `write` takes memory in
 //! proportion to what it is given.

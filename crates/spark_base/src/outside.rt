@@ -74,8 +74,8 @@ pub trait Sink {
         ensures no_fault_for_memory { result ≡ Err SinkFault.Memory → faults self.new ≡ faults self.old };
 }
 
-/// Files by name, of which one at a time is open. A store is made for a list of words, and opens
-/// their operands alone.
+/// Files by name; one at a time is open. A store is made for a list of words, and opens their
+/// operands alone.
 pub trait FileStore {
     /// The words that the store was made for.
     ghost words: { Self → List (List ℕ) };

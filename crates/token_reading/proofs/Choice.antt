@@ -10,7 +10,7 @@ use Rattle.token_reading.proofs.Tokens.{Any}
 use Rattle.token_reading.proofs.Made.{law_to, law_nothing}
 use Rattle.token_reading.proofs.Law.{Read, Accepted, Broken, Law, Leaves, put}
 
--- The front of a list is the same, whatever stands behind a token.
+-- The front of a list is the same, whatever follows a token.
 pub same_start : (ms : List ℕ) (u : List Spelled) (x : Spelled) (r z : List Spelled) → starts ms (u ++ (x ∷ z)) ≡ starts ms (u ++ (x ∷ r))
 same_start ms [] x r z = refl
 same_start ms (t ∷ u) x r z = refl

@@ -25,7 +25,7 @@ module _ {A B C : Type 0} (ms : List ℕ) (f : A → C) (h : B → C) (p : Reade
       ap (λ o. if starts ms ts then o else l k ts) (first k ts) ∙ ap (λ o. if starts ms ts then to f p k ts else o) (second k ts)
       ∙ one_of_two (starts ms ts) (p k ts) (q k ts)
 
--- What is made of a pair, and of what stands behind each first part.
+-- What is made of a pair, and of what follows each first part.
 abbrev pub of_pair : {A B C : Type 0} → (A → B → C) → A × B → C
 of_pair make x = make x.0 x.1
 

@@ -75,8 +75,8 @@ put new (Got a k rest) = Got a k new
 put new (Fails c rest) = Fails c new
 
 -- `good` trees are read, and `s` is their spelling. It begins with a kind of `first`, and is empty
--- only if `may`. Behind a spelling stands a token that the reader would not take, which is of no
--- kind of `last`.
+-- only if `may`. The token after a spelling is one that the reader would not take, of no kind of
+-- `last`.
 pub record Law {A : Type 0} (p : Reader A) (good : A → Type 0) (s : A → List WeighedToken) (first last : List ℕ) (may : Bool) : Type 0 where
   pub example : A
   pub sample : good example
@@ -114,7 +114,7 @@ read_same {good = good} {s = s} k ts a b j i rest more e read =
     subst (λ c. Read good s k ts c i more) same.0
     (subst (λ l. Read good s k ts a l more) same.1 (subst (λ r. Read good s k ts a j r) same.2 read))
 
--- The first token that exceeds the limit is the same where more tokens stand behind.
+-- The first token that exceeds the limit is the same where more tokens follow.
 exceeds_before : (k : ℕ) (ms ns : List WeighedToken) (rest more : List Spelled) → FirstExceeds k ms (bare ns ++ rest) more
     → FirstExceeds k (ms ++ ns) rest more
 exceeds_before k ms ns rest more e = record {
@@ -207,7 +207,7 @@ module _ {A : Type 0} {p : Reader A} {good : A → Type 0} {s : A → List Weigh
   steady k u [] x r q a j e = P.local k u x r q (left_same (p k (u ++ (x ∷ r))) (Got a j (x ∷ r)) (x ∷ r) e refl) ∙ ap (put (x ∷ q)) e
   steady k u (y ∷ v) x r q a j e = P.local k u y (v ++ (x ∷ r)) (v ++ (x ∷ q)) (left_same (p k (u ++ (y ∷ (v ++ (x ∷ r))))) (Got a j (y ∷ (v ++ (x ∷ r)))) (y ∷ (v ++ (x ∷ r))) e refl) ∙ ap (put (y ∷ (v ++ (x ∷ q)))) e
 
-  -- The same where what is left reaches to the position from which other tokens stand.
+  -- The same where what is left reaches to the position from which the tokens are others.
   pub goes_past : (k : ℕ) (u : List Spelled) (x : Spelled) (r q : List Spelled) (a : A) (j : ℕ) (mid v : List Spelled)
       → p k (u ++ (x ∷ r)) ≡ Got a j mid → mid ≡ v ++ (x ∷ r) → p k (u ++ (x ∷ q)) ≡ Got a j (v ++ (x ∷ q))
   goes_past k u x r q a j mid v e at =

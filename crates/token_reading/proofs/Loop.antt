@@ -1,4 +1,4 @@
--- What each turn of a loop keeps that reads one part after the other.
+-- What each iteration keeps of a loop that reads one part after the other.
 use Rattle.std.proofs.Common.{◌≡◌, refl, sym, ap, ◌∙◌, subst, ℕ, zero, suc, ◌≤◌, ◌<◌, true, false, List, [], ◌∷◌, ◌++◌, length, arith}
 use Rattle.std.specs.Prelude.{if◌then◌else◌, Result, Ok, Err}
 use Rattle.std.specs.Result.{IsErrAnd}
@@ -15,11 +15,11 @@ turn_same : {A : Type 0} (o : Outcome A) (q r : Reader (List A)) → ((a : A) (j
 turn_same (Got a j more) q r same = ap (λ out. and_then out (add_front a)) (same a j more refl)
 turn_same (Fails c more) q r same = refl
 
--- What a reader owes so that the count of the tokens is enough turns.
+-- What a reader owes so that the count of the tokens is enough iterations.
 abbrev pub Shortens : {A : Type 0} → Reader A → Type 0
 Shortens {A} p = (k : ℕ) (ts : List Spelled) (a : A) (j : ℕ) (rest : List Spelled) → p k ts ≡ Got a j rest → length rest < length ts
 
--- What was read in earlier turns, before what an outcome has.
+-- What was read in earlier iterations, before what an outcome has.
 abbrev pub with_front : {A : Type 0} → List A → Outcome (List A) → Outcome (List A)
 with_front xs o = and_then o (λ ys j rest. Got (xs ++ ys) j rest)
 
@@ -48,7 +48,7 @@ module _ {A : Type 0} (ms : List ℕ) (p : Reader A) (shortens : Shortens p) whe
   many_turn k (t ∷ ts) = ap (λ o. if starts ms (t ∷ ts) then o else Got [] k (t ∷ ts)) (turn_same (p k (t ∷ ts)) (many_up_to ms p (length ts)) (many ms p)
       (λ a j more e. let fewer : length more < length (t ∷ ts) = shortens k (t ∷ ts) a j more e in enough (length ts) (length more) j more (omega arith) (omega arith)))
 
-  -- a turn reads one more
+  -- an iteration reads one more
   pub goes_on : (xs : List A) (old new : Ahead) (a : A) (o : Outcome (List A)) → starts ms old.tokens ≡ true
       → at p old ≡ Got a new.operators new.tokens → with_front xs (at (many ms p) old) ≡ o → with_front (xs ++ a ∷ []) (at (many ms p) new) ≡ o
   goes_on xs old new a o sees one before =
@@ -70,7 +70,7 @@ module _ {A : Type 0} (ms : List ℕ) (p : Reader A) (shortens : Shortens p) whe
       many_turn old.operators old.tokens ∙ if_true (starts ms old.tokens) _ _ sees ∙ ap (λ out. turn out (many ms p)) one in
       sym before ∙ ap (with_front xs) here
 
-  -- a turn fails
+  -- an iteration fails
   pub breaks_off : (cause : ReadFault) (xs : List A) (old new : Ahead) (o : Outcome (List A)) → starts ms old.tokens ≡ true
       → Gives (at p old) (Err cause) new → with_front xs (at (many ms p) old) ≡ o → Gives o (Err cause) new
   breaks_off fault.Refused xs old new o sees one before = breaks xs old Refused new.tokens o sees one before

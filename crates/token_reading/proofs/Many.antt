@@ -16,7 +16,7 @@ use Rattle.token_reading.proofs.Law.{Read, Accepted, Reached, Broken, Law, Leave
 abbrev pub add_front : {A : Type 0} → A → List A → Reader (List A)
 add_front a xs i rest = Got (a ∷ xs) i rest
 
--- One turn: what `p` reads, and then as many as there are turns left.
+-- One iteration: what `p` reads, and then as many as there are iterations left.
 abbrev pub turn : {A : Type 0} → Outcome A → Reader (List A) → Outcome (List A)
 turn o q = and_then o (λ a j more. and_then (q j more) (add_front a))
 
@@ -117,7 +117,7 @@ module _ {A : Type 0} {p : Reader A} {g : A → Type 0} {s : A → List WeighedT
       (subst (λ o. Accepted all k (front ++ back) rest o) (sym (if_true (starts ms ts) (turn (p k ts) (up n)) (Got [] k ts) here))
       (accepted_then x k front back all rest (later n) (p k ts) one (λ within_limits. list)))
 
-  -- what is read in the first turn is cut short, or in a later one
+  -- what is read in the first iteration is cut short, or in a later one
   cut_first : (k : ℕ) (ts : List Spelled) (c : Cause) (rest : List Spelled) → Broken g s k c ts rest → Broken (Each g) (row_spelling s) k c ts rest
   cut_first k ts c rest broken = record {
     before = broken.before;
@@ -177,7 +177,7 @@ module _ {A : Type 0} {p : Reader A} {g : A → Type 0} {s : A → List WeighedT
   some_length [] x r = omega arith
   some_length (t ∷ u) x r = omega arith
 
-  -- what is owed of the later turns
+  -- what is owed of the later iterations
   abbrev Local : ℕ → ℕ → Type 0
   Local n m = (k : ℕ) (u : List Spelled) (x : Spelled) (r z : List Spelled) → length (u ++ (x ∷ r)) ≤ n → length (u ++ (x ∷ z)) ≤ m
       → Leaves (up n k (u ++ (x ∷ r))) (x ∷ r) → up m k (u ++ (x ∷ z)) ≡ put (x ∷ z) (up n k (u ++ (x ∷ r)))

@@ -15,7 +15,7 @@ use Rattle.token_reading.proofs.Tokens.{Any, law_opens_word, law_opens_symbol}
 use Rattle.token_reading.proofs.Seq.{pair_up, on_whole, in_first, in_second, BothOn, joined_on, Both, joined}
 use Rattle.token_reading.proofs.Law.{Read, Accepted, Broken, Law, Leaves, put, left_same, and_then_got, and_then_fails, got_fails, read_same, accepted_then, accepted_made, left_made, put_made, prefix, goes_past}
 
--- A law is owed of the second part only behind a first part within the limits: behind others it is
+-- A law is owed of the second part only after a first part within the limits: after others it is
 -- never reached.
 module _ {A B : Type 0} {p : Reader A} {q : A → Reader B} {g : A → Type 0} {h : A → B → Type 0} {s : A → List WeighedToken} {t : A → B → List WeighedToken}
     {first fq lq : List ℕ} {n : Bool} (P : Law p g s first [] false)
@@ -112,7 +112,7 @@ module _ {A B : Type 0} {p : Reader A} {q : A → Reader B} {g : A → Type 0} {
         local = guarded_local;
       }
 
--- ---- an opener and the rest of its construct, of which there is a law only where a level is left
+-- ---- an opener and the rest of its construct, which has a law only where a level is left
 
 module _ {B : Type 0} {q : Reader B} {h : B → Type 0} {t : B → List WeighedToken} {fq lq : List ℕ} {n : Bool} (example : B) (sample : h example) where
   pub law_opened_word : (v : Reserved) (d : ℕ) → (leb NESTING d ≡ false → Law q h t fq lq n)

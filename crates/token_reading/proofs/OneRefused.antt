@@ -107,7 +107,7 @@ module _ {A : Type 0} (good : A → Type 0) (s : A → List WeighedToken) where
       ∙ ap (λ us. us ++ (over.weighed.token ∷ file_end_of over.behind)) over.begun
       ∙ ap (λ t. before ++ (t ∷ file_end_of over.behind)) over.is_token
 
-  -- ---- two tokens with each of which the tokens are no viable prefix
+  -- ---- two tokens, each of which makes the tokens no viable prefix
 
   not_past_faulty : (before : List Spelled) (token : Spelled) (between before2 : List Spelled) → IsFaulty good s before token
       → BeginsWithinLimits good s before2 → before2 ≡ before ++ (token ∷ between) → ⊥
@@ -191,7 +191,7 @@ module _ {A : Type 0} {p : Reader A} {good : A → Type 0} {s : A → List Weigh
       (clear_at 0 possible.front possible.behind exceeds.front m exceeds.behind token between (sym possible.whole ∙ exceeds.splits)
       (possible.begun ∙ longer ∙ ap (λ us. us ++ (token ∷ between)) (sym front)) possible.clear)
 
-  -- A list with a token with which it is no viable prefix has none that exceeds the limit.
+  -- A list with a token that makes it no viable prefix has none that exceeds the limit.
   pub not_both : (before : List Spelled) (token : Spelled) (behind before2 : List Spelled) (token2 : Spelled) (behind2 : List Spelled)
       → before ++ (token ∷ behind) ≡ before2 ++ (token2 ∷ behind2) → IsFaulty good s before token → IsOverLimit good s before2 token2 → ⊥
   not_both before token behind before2 token2 behind2 e faulty over = of_order (order before token behind before2 token2 behind2 e)

@@ -106,7 +106,7 @@ module _ {A : Type 0} {p : Reader A} {g : A → Type 0} {s : A → List WeighedT
         ]
   ]
 
-  -- one token in front, of which the position is known or isn't
+  -- one token in front, whose position is known or isn't
   of_front : (o : Option Pos) (k : ℕ) (u : List Spelled) (x : Spelled) (r z : List Spelled)
       → (o ≡ None → u ≡ []) → Leaves (and_then (stays o k (u ++ (x ∷ r))) with_position) (x ∷ r)
       → and_then (stays o k (u ++ (x ∷ z))) with_position ≡ put (x ∷ z) (and_then (stays o k (u ++ (x ∷ r))) with_position)

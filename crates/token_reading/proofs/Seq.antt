@@ -29,7 +29,7 @@ module _ {A B : Type 0} (g : A → Type 0) (h : A → B → Type 0) (s : A → L
         whole = front.whole ∙ ap (λ r. bare (s a) ++ r) back.whole ∙ sym (bare_both (s a) (t a b) rest);
       }
 
-  -- behind a first part that is cut short, any second part will do
+  -- after a first part that is cut short, any second part will do
   pub in_first : (k : ℕ) (ts : List Spelled) (c : Cause) (rest : List Spelled) → ((a : A) → g a → (b : B) × h a b) → Broken g s k c ts rest
       → Broken (BothOn g h) (joined_on s t) k c ts rest
   in_first k ts c rest example broken =

@@ -94,7 +94,7 @@ pub stops_last : (may : Bool) (ms ns : List ℕ) (ts : List Spelled) → starts 
 stops_last true ms ns ts e = let both = stops_both ms ns ts e in ((λ _. both.0), both.1)
 stops_last false ms ns ts e = ((λ f. absurd (cc)), e)
 
--- Behind a part, what may follow stops it.
+-- After a part, what may follow stops it.
 pub stops_before : (ms fs : List ℕ) → apart ms fs ≡ true → (may : Bool) (us rest : List Spelled) → Leads may fs us
     → (may ≡ true → starts ms rest ≡ false) → starts ms (us ++ rest) ≡ false
 stops_before ms fs h may [] rest l f = f l

@@ -20,7 +20,7 @@ not_at_end k [] within_limits file = file
 not_at_end k (m ∷ []) within_limits file = within_limits.0.within_file file
 not_at_end k (m ∷ (n ∷ us)) within_limits file = not_at_end (m.weight.step k) (n ∷ us) within_limits.1 file.1
 
--- nothing stands behind the end
+-- nothing follows the end
 pub ends_there : (us : List Spelled) (rest : List Spelled) → IsFile (us ++ (EndOfFile ∷ rest)) → rest ≡ []
 ends_there [] [] file = refl
 ends_there [] (r ∷ rest) file = absurd (file.0 refl)

@@ -2,7 +2,7 @@
 --
 -- A reader takes a tree from the front of a list, or tells from where on the list can't be read,
 -- and why. It is told how many operators the outermost expression has so far, and tells how many
--- there are behind what it read.
+-- there are after what it read.
 use Rattle.std.specs.Prelude.{◌≡◌, ℕ, zero, suc, ◌+◌, Bool, false, ◌==◌, ◌||◌, if◌then◌else◌, List, [], ◌∷◌, length, map, Option, Some, None, Result, Ok, Err, ◌⊎◌, refl}
 use Rattle.std.specs.Coded.{Coded, code_by, coded×, coded_ℕ, coded_list}
 use Rattle.std.specs.Str.{bytes_eq}
@@ -29,7 +29,7 @@ pub data Cause : Type 0 where
   OverLimit : Cause
 
 pub data Outcome (A : Type 0) : Type 0 where
-  -- what was read, the operators so far, and the tokens behind it
+  -- what was read, the operators so far, and the tokens after it
   Got : A → ℕ → List Spelled → Outcome A
   -- the tokens from the faulty one on
   Fails : Cause → List Spelled → Outcome A

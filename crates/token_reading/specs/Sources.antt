@@ -39,13 +39,13 @@ pub record BeginsWithinLimits {A : Type 0} (good : A → Type 0) (spelling : A �
   pub begun : bare front ≡ ts
   pub whole : spelling tree ≡ front ++ behind
 
--- The tokens are a viable prefix, and with the token behind them they are none. No token before
+-- The tokens are a viable prefix, and with the token after them they are none. No token before
 -- it exceeds the limit.
 pub record IsFaulty {A : Type 0} (good : A → Type 0) (spelling : A → List WeighedToken) (before : List Spelled) (token : Spelled) : Type 0 where
   pub possible : BeginsWithinLimits good spelling before
   pub impossible : Begins good spelling (before ++ (token ∷ [])) → ⊥
 
--- The token behind these exceeds the limit in a source that begins with them all, and no token
+-- The token after these exceeds the limit in a source that begins with them all, and no token
 -- before it does.
 pub record IsOverLimit {A : Type 0} (good : A → Type 0) (spelling : A → List WeighedToken) (before : List Spelled) (token : Spelled) : Type 0 where
   pub tree : A

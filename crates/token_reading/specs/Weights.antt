@@ -15,7 +15,7 @@ use Rattle.token_reading.specs.Spelled.{Spelled, EndOfFile}
 pub record Weight : Type 0 where
   -- whether the token exceeds the limit
   pub exceeds : ℕ → Bool
-  -- the operators behind the token
+  -- the operators after the token
   pub step : ℕ → ℕ
 
 abbrev pub rests : Side → ℕ → ℕ
@@ -52,7 +52,7 @@ abbrev pub bare : List WeighedToken → List Spelled
 bare [] = []
 bare (m ∷ ms) = m.token ∷ bare ms
 
--- The operators of one outermost expression behind these tokens, where so many stand before them.
+-- The operators of one outermost expression after these tokens, where so many stand before them.
 abbrev pub after : ℕ → List WeighedToken → ℕ
 after k [] = k
 after k (m ∷ ms) = after (m.weight.step k) ms

@@ -22,7 +22,7 @@ use spark_base::{Listed, NESTING, OPERATORS, Pos};
 use std::alloc::Global;
 use std::marker::Model;
 
-/// The operators of the outermost expression behind a token on this side that is none, where so
+/// The operators of the outermost expression after a token on this side that is none, where so
 /// many stand before it.
 fn counted(side: Side, count: u32) -> u32
     ensures { result ≡ rests side count }

@@ -2,8 +2,8 @@
 //! such readings.
 //!
 //! A `Cursor` stands before the tokens of a file that haven't been read, and counts the operators
-//! of the outermost expression: a token `Apart` from all expressions ends the count. How many
-//! constructs are open it is told where one more is opened.
+//! of the outermost expression: a token `Apart` from all expressions ends the count. It is told how
+//! many constructs are open where one more is opened.
 //! A function that reads promises `Reads reader` of `specs/Reading.antt`: it gives what that pure
 //! reader of lists gives. There are the readers of one token and the ways to make larger ones.
 //! `specs/Weights.antt` has the spelling of a tree, in which each token carries its weight for the
