@@ -118,7 +118,7 @@ fn add_forbidden_if(
 }
 
 /// Appends what the facts that may hold forbid at an act by these rules, in the order of the facts
-/// and without repeats. Out of memory, the list has a prefix of that behind what it held.
+/// and without repeats. Out of memory, the list has a prefix of that after what it held.
 pub fn test_loans(tree: &Tree<'_>, act: &Act, found: &mut Vec<Found>) -> Result<(), AllocError>
     ensures { Appends result found.old.items found.new.items (loans_found act.now tree.now) }
 {

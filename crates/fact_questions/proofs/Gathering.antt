@@ -34,7 +34,7 @@ chosen false initial so x = append_assoc initial (map as_found so) (as_found x �
     map_last [] x = refl
     map_last (y ∷ so) x = ap (λ l. as_found y ∷ l) (map_last so x)
 
--- one more, among those behind the ones that were there before
+-- one more, among those after the ones that were there before
 one_more : (initial : List Found) (so : List Forbidden) (x : Option Forbidden)
     → with_found (length initial) (initial ++ map as_found so) (as_option x) ≡ initial ++ map as_found (with_one so x)
 one_more initial so None = refl

@@ -37,7 +37,7 @@ with_all found (x ∷ more) = with_all (with_one found x) more
 abbrev pub found_among : (Fact → Option Forbidden) → List Fact → List Forbidden
 found_among forbids facts = with_all [] (map forbids facts)
 
--- A list has these behind what it held. Out of memory, it has some of them, from the first on.
+-- A list has these after what it held. Out of memory, it has some of them, from the first on.
 abbrev pub Appends : {T E : Type 0} → Result T E → List Found → List Found → List Forbidden → Type 0
 Appends (Ok done) old new found = new ≡ old ++ map as_found found
 Appends (Err fault) old new found = (some rest : List Forbidden) × (found ≡ some ++ rest) × (new ≡ old ++ map as_found some)

@@ -1,4 +1,4 @@
--- Names on the way to a place, as the functions test for them.
+-- Names that lead to a place, as the functions test for them.
 use Rattle.std.proofs.Common.{◌≡◌, refl, ap, ◌∙◌, Bool, true, false, ◌&&◌, ◌==◌, List, [], ◌∷◌, ◌≤◌, length, leb, leb-true, le-leb, arith}
 use Rattle.std.specs.Bool.{Decides}
 use Rattle.std.proofs.Math.Bool.{and_assoc}

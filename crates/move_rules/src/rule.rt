@@ -24,7 +24,7 @@ fn either(a: bool, b: bool) -> bool
     a || b
 }
 
-/// Whether a name may be that of a place, or of one on the way to it.
+/// Whether a name may be that of a place, or of one that the place is reached through.
 fn leads_to(name: &PlaceName, place: &PlaceName) -> bool
     ensures { result ≡ names.leads_to name.now place.now }
 {
@@ -32,7 +32,7 @@ fn leads_to(name: &PlaceName, place: &PlaceName) -> bool
     both(name.overlaps(place), is_as_short)
 }
 
-/// Whether a place was moved, and is a name or on the way to it.
+/// Whether a place was moved, and leads to a name.
 fn is_moved_above(fact: &Fact, name: &PlaceName) -> bool
     ensures { result ≡ rules.moved_above name.now fact.now }
 {
@@ -42,7 +42,7 @@ fn is_moved_above(fact: &Fact, name: &PlaceName) -> bool
     }
 }
 
-/// Whether a place is lent to a borrower, and is a name or on the way to it.
+/// Whether a place is lent to a borrower, and leads to a name.
 fn is_borrowed_above(fact: &Fact, name: &PlaceName) -> bool
     ensures { result ≡ rules.borrowed_above name.now fact.now }
 {

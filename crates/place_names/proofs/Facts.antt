@@ -69,7 +69,7 @@ stays : (b : Bool) → not b ≡ true → b ≡ false
 stays true e = cc
 stays false e = refl
 
--- a fact holds behind an act as `holds_behind` says, where it holds before it as `held` says
+-- a fact holds after an act as `holds_behind` says, where it holds before it as `held` says
 pub holds_behind-decides : (a : Act) (f : Fact) (facts : List Fact) (held : Bool) → Decides held (Has facts f)
     → Decides (holds_behind a f held) (Has (effect a facts) f)
 holds_behind-decides a f facts held before = (from (is_added a f) (held && not (removes a f)) refl refl, to)

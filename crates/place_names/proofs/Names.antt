@@ -50,7 +50,7 @@ same_name m n =
       λ e. both_true (m.root == n.root) _ (eq-eqb _ _ (ap (λ k. k.root) e)) (sels.1 (ap (λ k. k.sels) e)),
     )
 
--- a list begins another where some selectors behind it give the whole
+-- a list begins another where some selectors after it give the whole
 pub begins-decides : (k m : List Sel) → Decides (begins k m) ((rest : List Sel) × (m ≡ k ++ rest))
 begins-decides [] m = (λ e. (m, refl), λ e. refl)
 begins-decides (s ∷ k) [] = (λ e. cc, λ e. let is = e.1 in cc)
@@ -68,7 +68,7 @@ begins-decides (s ∷ k) (t ∷ m) =
           both_true (is_equal s t) (begins k m) (same.1 cc) (more.1 (e.0, cc)),
     )
 
--- k is a prefix of m where some selectors behind k give m
+-- k is a prefix of m where some selectors after k give m
 pub is_prefix-decides : (k m : Name) → Decides (is_prefix k m) ((rest : List Sel) × (m ≡ extend k rest))
 is_prefix-decides k m =
     let first = begins-decides k.sels m.sels in (
@@ -134,7 +134,7 @@ has_elem-decides (Deref ∷ k) =
     let more = has_elem-decides k in
     (λ e. inr (more.0 e), λ h. elim h [ inl e ↦ cc | inr h ↦ more.1 h ])
 
--- overlapping goes both ways
+-- overlapping is symmetric
 agree_along-sym : (k m : List Sel) → agree_along k m ≡ agree_along m k
 agree_along-sym [] [] = refl
 agree_along-sym [] (t ∷ m) = refl

@@ -18,7 +18,7 @@ same_selector Deref (Field j) = refl
 same_selector Deref Elem = refl
 same_selector Deref Deref = refl
 
--- `starts_with` on selectors is `begins`, the other way round
+-- `starts_with` on selectors is `begins`, with the two lists exchanged
 pub starts_with-begins : (m k : List Sel) → starts_with selectors.eq-value.it m k ≡ begins k m
 starts_with-begins m [] = refl
 starts_with-begins [] (s ∷ k) = refl

@@ -63,11 +63,11 @@ removes (Global g written) f = false
 removes (Free k) f = is_moved_under k f
 removes (Give m borrows) f = false
 
--- The facts behind an act. No act both adds and removes, so the order of the two says nothing.
+-- The facts after an act. No act both adds and removes, so the order of the two says nothing.
 abbrev pub effect : Act → List Fact → List Fact
 effect a facts = filter (λ f. not (removes a f)) facts ++ adds a
 
--- The facts behind some acts in order, from those that are given.
+-- The facts after some acts in order, from those that are given.
 abbrev pub facts_behind : List Fact → List Act → List Fact
 facts_behind facts acts = fold (λ facts a. effect a facts) facts acts
 
@@ -93,7 +93,7 @@ is_same_fact (Lent l h n) (Lent k g m) = is_same_loan l k && ((h == g) && is_sam
 abbrev pub is_added : Act → Fact → Bool
 is_added a f = list_any (λ g. is_same_fact g f) (adds a)
 
--- Whether a fact holds behind an act goes by the act, the fact, and whether it held before: it is
+-- Whether a fact holds after an act goes by the act, the fact, and whether it held before: it is
 -- added, or it held and isn't removed.
 abbrev pub holds_behind : Act → Fact → Bool → Bool
 holds_behind a f held = is_added a f || (held && not (removes a f))

@@ -79,7 +79,7 @@ agrees_whole [] m = true
 agrees_whole (s ∷ n) [] = false
 agrees_whole (s ∷ n) (t ∷ m) = agrees s t && agrees_whole n m
 
--- A name may be that of the place m, or of one on the way to it.
+-- A name may be that of the place m, or of one that m is reached through.
 abbrev pub leads_to : Name → Name → Bool
 leads_to n m = (n.root == m.root) && agrees_whole n.sels m.sels
 

@@ -5,13 +5,13 @@ use Rattle.place_names.specs.declared.selector.Sel.TheVariants.{Field, Elem, Der
 use Rattle.place_names.specs.Names.{Name, extend}
 use Rattle.place_names.specs.Names as names
 
--- The text of one selector behind a name: a dot and the component as declared, `.all`, or `(?)`.
+-- The text of one selector after a name: a dot and the component as declared, `.all`, or `(?)`.
 abbrev pub selector_text : (Name → ℕ → List ℕ) → Name → Sel → List ℕ
 selector_text component before (Field i) = codes "." ++ component before i
 selector_text component before Elem = codes "(?)"
 selector_text component before Deref = codes ".all"
 
--- The texts of the selectors behind a name, in order.
+-- The texts of the selectors after a name, in order.
 abbrev pub selectors_text : (Name → ℕ → List ℕ) → Name → List Sel → List ℕ
 selectors_text component before [] = []
 selectors_text component before (s ∷ rest) =

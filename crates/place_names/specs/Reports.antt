@@ -104,7 +104,7 @@ IsAscending printed [] = Unit {0}
 IsAscending printed (a ∷ rest) =
     ((b : Report) → Has rest b → report_cmp printed a b ≡ Less) × IsAscending printed rest
 
--- A list has exactly the reports of which P holds, in order and without repeats.
+-- A list has exactly the reports for which P holds, in order and without repeats.
 pub record IsReportList (printed : Name → List ℕ) (P : Report → Type 0) (reports : List Report) : Type 0 where
   pub ascending : IsAscending printed reports
   pub sound : (r : Report) → Has reports r → P r

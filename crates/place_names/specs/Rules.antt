@@ -30,12 +30,12 @@ abbrev pub lent : Name → Fact → Bool
 lent k (Moved n) = false
 lent k (Lent l h n) = overlaps n k
 
--- The place was moved, and is m or on the way to it.
+-- The place was moved, and leads to m.
 abbrev pub moved_above : Name → Fact → Bool
 moved_above m (Moved n) = leads_to n m
 moved_above m (Lent l h n) = false
 
--- The place is lent to a borrower, and is m or on the way to it.
+-- The place is lent to a borrower, and leads to m.
 abbrev pub borrowed_above : Name → Fact → Bool
 borrowed_above m (Moved n) = false
 borrowed_above m (Lent Borrowed h n) = leads_to n m
@@ -50,12 +50,12 @@ moved_in roots (Lent l h n) = false
 abbrev pub breaks_O1 : Name → Fact → Bool
 breaks_O1 m f = moved_or_borrowed m f
 
--- A comparison with null looks at m alone, not below it: neither m nor a place on the way to it may
+-- A comparison with null looks at m alone, not below it: neither m nor a place that leads to it may
 -- be moved or borrowed.
 abbrev pub breaks_O2 : Name → Fact → Bool
 breaks_O2 m f = moved_above m f || borrowed_above m f
 
--- A write needs the way to k, which has to pass as a comparison does, and nothing that overlaps k
+-- A write needs the path to k, which has to pass as a comparison does, and nothing that overlaps k
 -- may be lent. k itself may be moved.
 abbrev pub breaks_O3 : Name → Fact → Bool
 breaks_O3 k f = list_any (λ p. breaks_O2 p f) (strict_prefixes k) || lent k f
@@ -101,7 +101,7 @@ breaks_O10 m Out owning access f = breaks_O3 m f
 abbrev pub breaks_O11 : ℕ → Bool → Fact → Bool
 breaks_O11 g written f = if written then breaks_O4 (object g) f else breaks_O6 (object g) f
 
--- A deallocation: neither k nor a place on the way to it may be moved, and nothing that overlaps k
+-- A deallocation: neither k nor a place that leads to it may be moved, and nothing that overlaps k
 -- may be lent.
 abbrev pub breaks_O14 : Name → Fact → Bool
 breaks_O14 k f = moved_above k f || lent k f

@@ -54,7 +54,7 @@ either_right : (a b : Bool) → b ≡ true → (a || b) ≡ true
 either_right true b e = refl
 either_right false b e = e
 
--- what is marked behind an act is added by it, or was marked and isn't removed
+-- what is marked after an act is added by it, or was marked and isn't removed
 marked_from : (a : Act) (facts : List Fact) (may : List Bool) (g : Fact) → Has (marked facts (may_behind a facts may)) g
     → (is_added a g ≡ true) ⊎ (Has (marked facts may) g × (not (removes a g) ≡ true))
 marked_from a [] may g h = absurd h
@@ -93,7 +93,7 @@ marked_kept a (f ∷ facts) (m ∷ may) g h stays = elim (marked_cases f g m fac
   | inr rest ↦ kept_fact f g (holds_behind a f m) facts (may_behind a facts may) (marked_kept a facts may g rest stays)
 ]
 
--- the marks behind an act are those of the facts that its effect leaves of the marked ones, where
+-- the marks after an act are those of the facts that its effect leaves of the marked ones, where
 -- each fact that it adds is in the list
 pub marked_behind : (a : Act) (facts : List Fact) (may : List Bool) → length may ≡ length facts → ((g : Fact) → Has (adds a) g → Has facts g)
     → (g : Fact) → (Has (marked facts (may_behind a facts may)) g → Has (effect a (marked facts may)) g)

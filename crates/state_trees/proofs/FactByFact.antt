@@ -34,7 +34,7 @@ either_at (m ∷ may) [] i e h = absurd e
 either_at (m ∷ may) (l ∷ lacks) zero e h = e.0
 either_at (m ∷ may) (l ∷ lacks) (suc i) e h = either_at may lacks i e.1 (omega arith)
 
--- a path that has a fact or lacks it before an act has it or lacks it behind the act as
+-- a path that has a fact or lacks it before an act has it or lacks it after the act as
 -- `holds_behind` says
 comes_may : (added removed m : Bool) → m ≡ true → (added || (true && not removed)) ≡ true → (added || (m && not removed)) ≡ true
 comes_may added removed m e h = ap (λ b. added || (b && not removed)) e ∙ h
@@ -68,7 +68,7 @@ behind_comes a s i d b v k h is old = from b v is old
     from false false is old = lacks ∙ ap (λ l. not (holds_behind a f (not l))) old ∙ ap not is
     from false true is old = may ∙ added_stays (is_added a f) (at s.may i && not (removes a f)) is
 
--- and each path behind the act is such a one
+-- and each path after the act is such a one
 pub behind_only : (a : Act) (s : FactState) (i : ℕ) (d : Fact) (v : Bool) → IsKept s → i < length s.facts
     → says (state_behind a s) i v ≡ true → (b : Bool) × (says s i b ≡ true) × (holds_behind a (get_or s.facts i d) b ≡ v)
 behind_only a s i d v k h new = from v (at s.may i) (at s.lacks i) refl refl new

@@ -29,7 +29,7 @@ length-lacks_behind a [] lacks e = refl
 length-lacks_behind a (f ∷ facts) [] e = absurd (omega arith)
 length-lacks_behind a (f ∷ facts) (l ∷ lacks) e = ap suc (length-lacks_behind a facts lacks (omega arith))
 
--- a fact that may hold or may not before an act does so behind it
+-- a fact that may hold or may not before an act does so after it
 one_behind : (added removed m l : Bool) → (m || l) ≡ true
     → ((added || (m && not removed)) || not (added || (not l && not removed))) ≡ true
 one_behind true removed m l e = refl

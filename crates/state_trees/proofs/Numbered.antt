@@ -36,7 +36,7 @@ numbers_of-take asked xs i d h =
     ∙ numbers_from-push asked 0 (take i xs) (get_or xs i d)
     ∙ ap (λ (m : ℕ). numbers_of asked (take i xs) ++ (if asked (get_or xs i d) then m ∷ [] else [])) count
 
--- ---- where they are; behind the last one stands `last`
+-- ---- where they are; after the last one stands `last`
 
 low : {A : Type 0} (asked : A → Bool) (n : ℕ) (xs : List A) (k e : ℕ) → (length (numbers_from asked n xs) ≤ k → n + length xs ≤ e)
     → n ≤ get_or (numbers_from asked n xs) k e

@@ -1,4 +1,4 @@
--- Whether a name is another one and some steps behind it, and so whether an act moved it.
+-- Whether a name is another one and some steps after it, and so whether an act moved it.
 use Rattle.std.proofs.Common.{◌≡◌, ◌≢◌, refl, sym, ap, ◌∙◌, subst, Bool, false, ◌&&◌, ◌||◌, ◌==◌, ℕ, List, [], ◌∷◌, ◌++◌, map}
 use Rattle.std.specs.Bool.{Decides}
 use Rattle.std.specs.List.{list_any}
@@ -26,7 +26,7 @@ same_steps xs ys r e =
 
 -- ---- a list of parts
 
--- what is behind the front decides
+-- what follows the front decides
 behind : (front q rest : List Sel) → pointwise is_equal q rest ≡ pointwise is_equal (front ++ q) (front ++ rest)
 behind [] q rest = refl
 behind (s ∷ front) q rest =
@@ -42,7 +42,7 @@ pub joined_some : (front rest whole : List Sel) (parts : List (List Sel)) (r : B
 joined_some front rest whole parts r is e =
     e ∙ any_behind front rest parts ∙ ap (λ w. list_any (λ q. pointwise is_equal (front ++ q) w) parts) (sym is)
 
--- what doesn't begin with the front is no part behind it
+-- what doesn't begin with the front isn't the front with a part after it
 no_joined : (front q whole : List Sel) → ((rest : List Sel) → whole ≢ front ++ rest) → false ≡ pointwise is_equal (front ++ q) whole
 no_joined front q whole none =
     same_from_decides {P = front ++ q ≡ whole} false (pointwise is_equal (front ++ q) whole)

@@ -32,7 +32,7 @@ pub touched_here : (facts : List Fact) (numbers : List ℕ) (P : ℕ → Type 0)
     → P (next facts numbers k) → P i
 touched_here facts numbers P k i is h p = subst P (default_same numbers k (length facts) 0 h ∙ sym is) p
 
--- and what holds behind this one holds at the one after it
+-- and what holds right after this one holds at the next one
 pub touched_later : (a : Act) (facts : List Fact) (numbers : List ℕ) (P : ℕ → Type 0) (k i : ℕ) → HasTouched a facts numbers
     → PassesUntouched a facts P → i ≡ get_or numbers k 0 → k < length numbers → P (i + 1) → P (next facts numbers (k + 1))
 touched_later a facts numbers P k i h over is there p =

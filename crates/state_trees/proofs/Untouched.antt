@@ -101,7 +101,7 @@ untouched_left a f held e = (λ t. not_added a f e t || (held && not (not_remove
 
 -- ---- what is forbidden
 
--- nothing in the way of a name can be a place that is rooted elsewhere
+-- a name overlaps no place that is rooted elsewhere
 no_overlap : (n m : Name) → (n.root == m.root) ≡ false → overlaps n m ≡ false
 no_overlap n m e = ap (λ b. b && agree_along n.sels m.sels) e
 

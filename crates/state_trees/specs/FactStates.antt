@@ -68,14 +68,14 @@ none_hold facts = record { facts = facts; may = replicate (length facts) false; 
 
 -- ---- an act
 
--- Some paths have a fact behind an act where they have one before it from which the act leaves it,
--- or where the act adds it.
+-- Some paths have a fact after an act where some have it before and the act leaves it, or where the
+-- act adds it.
 abbrev pub may_behind : Act → List Fact → List Bool → List Bool
 may_behind a [] may = []
 may_behind a (f ∷ facts) [] = []
 may_behind a (f ∷ facts) (m ∷ may) = holds_behind a f m ∷ may_behind a facts may
 
--- All paths have a fact behind an act where that follows from their all having it before, or not.
+-- All paths have a fact after an act where that follows from their all having it before, or not.
 abbrev pub lacks_behind : Act → List Fact → List Bool → List Bool
 lacks_behind a [] lacks = []
 lacks_behind a (f ∷ facts) [] = []

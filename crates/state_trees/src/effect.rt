@@ -78,7 +78,7 @@ fn part_with(parts: &[PlaceTail], first: usize, steps: &[Sel]) -> Option<usize>
 }
 
 /// Whether some steps are those of a part. The part with the number `next` is looked at before the
-/// others, and where one is found, `next` becomes the number behind it.
+/// others, and where one is found, `next` becomes the number after it.
 fn is_any_part(parts: &[PlaceTail], steps: &[Sel], next: &mut usize) -> bool
     ensures { result ≡ list_any (λ part. pointwise names.is_equal part steps.now) parts.now }
 {
@@ -150,7 +150,7 @@ fn is_loan(kind: Loan, holder: u32, name: &PlaceName, fact: &Fact) -> bool
 }
 
 /// Whether an act adds a fact. Of the parts of a move, the one with the number `next` is looked at
-/// before the others, and where one is found, `next` becomes the number behind it.
+/// before the others, and where one is found, `next` becomes the number after it.
 fn is_added(act: &Act, fact: &Fact, next: &mut usize) -> bool
     ensures { result ≡ effects.is_added act.now fact.now }
 {
@@ -175,8 +175,8 @@ fn is_added(act: &Act, fact: &Fact, next: &mut usize) -> bool
     }
 }
 
-/// Whether a fact holds behind an act: none where it does so if it held before. `next` is the part
-/// of a move that is looked at first, and then the one behind the part that was found.
+/// Whether a fact holds after an act: none where it does so if it held before. `next` is the part
+/// of a move that is looked at first, and then the one after the part that was found.
 pub(crate) fn settled(act: &Act, fact: &Fact, next: &mut usize) -> Option<bool>
     ensures { (held : Bool) → effects.holds_behind act.now fact.now held ≡ unwrap_or result held }
 {

@@ -19,8 +19,8 @@ pub(crate) struct FactIndex {
     pub by_object: ByObject,
 }
 
-/// The index of a list of facts, shared by all trees over the list. Few facts have none, and those
-/// for which there was no memory.
+/// The index of a list of facts, shared by all trees over the list. There is none for few facts, or
+/// where memory was out.
 pub(crate) type Shared = Option<Rc<FactIndex>>;
 
 /// A list of no more facts than these is looked at as a whole.

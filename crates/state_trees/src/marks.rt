@@ -9,7 +9,7 @@ use place_names::{Act, Fact};
 
 /// What an act does to the marks of what may hold, and to those of what may not hold. Only facts
 /// with these numbers are looked at. Those of a moved name mostly stand in the order of its parts,
-/// so each part is looked for behind the last.
+/// so each part is looked for after the one found last.
 pub(crate) fn pass(
     may: &mut Vec<bool>,
     lacks: &mut Vec<bool>,
@@ -47,7 +47,7 @@ fn both(a: bool, b: bool) -> bool
     a && b
 }
 
-/// Whether each mark of the second list is in the first one. It goes on behind a missing one, so
+/// Whether each mark of the second list is in the first one. It goes on after a missing one, so
 /// that many marks are compared at a time.
 pub(crate) fn has_all(mine: &[bool], other: &[bool]) -> bool
     requires { length mine.now ≡ length other.now }
