@@ -126,9 +126,9 @@ optional_word_nested v is = optional_nested (λ pos. at_rest Apart (is pos) ende
 pub optional_id_nested : {d : ℕ} (id : Option Identifier) → Nest d (optional_id id)
 optional_id_nested = optional_nested (λ id. at_rest Apart refl ended)
 
--- ---- the inside of a construct, and what stands behind it
+-- ---- the inside of a construct, and what follows it
 
--- The tokens behind the one that opens a construct: those within it, the one that closes it, and
+-- The tokens after the one that opens a construct: those within it, the one that closes it, and
 -- others.
 pub record Inside (t : Spelled) (d : ℕ) (tail : List WeighedToken) : Type 0 where
   pub inner : List WeighedToken

@@ -45,7 +45,7 @@ abbrev tick_spelling : Side → Pos × (Pos ⊎ Identifier) → List WeighedToke
 tick_spelling side =
     joined (λ p. plain side (Delimiter s.Apostrophe p) ∷ []) (of_either (λ p. plain side (Word w.KwRange p) ∷ []) (λ id. id_mark side id ∷ []))
 
--- args and ")", behind "("
+-- args and ")", after "("
 abbrev pub GoodArgs : ℕ → Arg × (List NextArg × Pos) → Type 0
 GoodArgs d = Both (ArgPlaced d) (Both (Each (NextArgPlaced d)) Any)
 

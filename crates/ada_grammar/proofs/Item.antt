@@ -87,7 +87,7 @@ GoodNumbers d = Both Any (Both (ExprPlaced d) Any)
 abbrev numbers_spelling : ℕ → NumberParts → List WeighedToken
 numbers_spelling d = joined (symbol_spelling s.Becomes) (joined (expr_spelling d) (symbol_spelling s.Semicolon))
 
--- behind ":"
+-- after ":"
 abbrev Declared : Type 0
 Declared = (Pos × (NumberParts ⊎ ObjectParts)) ⊎ ObjectParts
 
@@ -333,7 +333,7 @@ abbrev pub GoodInstance : ℕ → InstanceParts → Type 0
 GoodInstance d =
     Both Any (Both DottedPlaced (Both Any (Both (ArgPlaced (suc d)) (Both (Each (NextArgPlaced (suc d))) (Both Any Any)))))
 
--- The spelling behind "is".
+-- The spelling after "is".
 abbrev pub instance_spelling : ℕ → InstanceParts → List WeighedToken
 instance_spelling d =
     joined (word_spelling w.KwNew) (joined (dotted_spelling Apart) (joined (left_spelling d) (joined (arg_spelling Apart (suc d))

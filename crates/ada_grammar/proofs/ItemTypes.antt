@@ -152,7 +152,7 @@ law_enumeration d =
     (λ e. law_seq (law_identifier Apart) (law_seq law_next_identifiers (law_seq (law_symbol Apart s.RightParenthesis)
     (law_symbol Apart s.Semicolon) refl) refl) refl)
 
--- ---- behind "is"
+-- ---- after "is"
 
 abbrev Defined : Type 0
 Defined = (Pos × Pos) ⊎ (AccessParts ⊎ (ArrayParts ⊎ (RecordParts ⊎ EnumerationParts)))

@@ -1,4 +1,4 @@
--- Outermost expressions behind the tokens that lead to them, and names, ranges and choices with
+-- Outermost expressions after the tokens that lead to them, and names, ranges and choices with
 -- such expressions.
 use Rattle.std.proofs.Common.{◌≡◌, refl, sym, subst, ℕ, suc, List, [], ◌∷◌, ◌++◌, append_assoc}
 use Rattle.std.proofs.lemmas.List.{append-nil}
@@ -44,7 +44,7 @@ use Rattle.ada_grammar.proofs.ExpressionTokens.{expr_whole}
 
 -- ---- tokens in a row
 
--- In these tokens each outermost expression stands behind one that leads to it.
+-- In these tokens each outermost expression follows one that leads to it.
 pub record Row (ms : List WeighedToken) : Type 0 where
   pub it : Outermost ms
 
@@ -69,7 +69,7 @@ apart {t} {ms} other more = record { it = outside (plain Apart t) ms (λ k. refl
 pub opener : (d : ℕ) {t : Spelled} {ms : List WeighedToken} → always_leads t ≡ false → Row ms → Row (opens Apart d t ∷ ms)
 opener d {t} {ms} other more = record { it = outside (opens Apart d t) ms (λ k. refl) other more.it }
 
--- "end" and the token behind it, which leads to no expression there.
+-- "end" and the token after it, which leads to no expression there.
 pub closing : {end : Pos} {t : Spelled} {ms : List WeighedToken} → Row ms → Row (plain Apart (Word w.KwEnd end) ∷ plain Apart t ∷ ms)
 closing {end} {t} {ms} more =
     record { it = behind_end (plain Apart (Word w.KwEnd end)) (plain Apart t) end ms (λ k. refl) refl (λ k. refl) more.it }
@@ -94,12 +94,12 @@ optional_id_row = optional_row (λ id. apart refl ended)
 
 -- ---- parts that begin with an outermost expression
 
--- These tokens stand behind any token that leads to an expression.
+-- These tokens may follow any token that leads to an expression.
 pub record Led (ms : List WeighedToken) : Type 0 where
   pub it : (m : WeighedToken) (behind : List WeighedToken) → IsOutside m → leads m.token ≡ true → Outermost behind
       → Outermost (m ∷ (ms ++ behind))
 
--- These stand behind one that leads to an expression in some sources only.
+-- These may follow one that leads to an expression in some sources only.
 pub record Follows (ms : List WeighedToken) : Type 0 where
   pub it : (m : WeighedToken) (behind : List WeighedToken) → IsOutside m → leads m.token ≡ true → always_leads m.token ≡ false
       → Outermost behind → Outermost (m ∷ (ms ++ behind))

@@ -259,7 +259,7 @@ closed_by_semicolon : (tree : Subspec) (end : Pos) → closes (subspec_opener tr
 closed_by_semicolon (subspec.Procedure pos id formals) end = refl
 closed_by_semicolon (subspec.Function pos id formals return_word result) end = refl
 
--- A subprogram reaches to its body's "end", or else to the ";" behind it.
+-- A subprogram reaches to its body's "end", or else to the ";" after it.
 subspec_nested : (d : ℕ) (tree : Subspec) {tail : List WeighedToken} → Inside (subspec_opener tree) d tail
     → Nest d (subspec_spelling d tree ++ tail)
 unfolding subspec_spelling
@@ -405,7 +405,7 @@ comma_as_operator : (d : ℕ) (pos : Pos) (ms : List WeighedToken) → Nested d 
 comma_as_operator d pos ms it = let e : ◌≡◌ {A = ℕ} 1 0 = other_first (front it) refl in omega arith
 
 -- A token that opens a construct beyond the limit does so where so many are open, and others
--- stand behind it.
+-- follow it.
 exceeds_first : {d : ℕ} {m : WeighedToken} {ms : List WeighedToken} → Front d m ms → m.weight.exceeds 0 ≡ true → is_operator m.token ≡ false
     → (leb NESTING d ≡ true) × (is_empty ms ≡ false)
 exceeds_first (front_rests is never out within_limits none) exceeds other = absurd (true≢false (sym exceeds ∙ within_limits))

@@ -9,7 +9,7 @@ use Rattle.ada_tree.specs.Spelling.{source_spelling}
 use Rattle.ada_tree.specs.Refusals.{IsSource, IsTreeOf, Code, Syntax, TooDeep, LeftOut, IsRefused, is_left_out}
 use Rattle.ada_grammar.proofs.UnitLaws.{law_source}
 
--- The same code, and the same token behind the same list.
+-- The same code, and the same token after the same list.
 abbrev pub IsSameRefusal : Code → List Spelled → Spelled → Code → List Spelled → Spelled → Type 0
 IsSameRefusal code before token code2 before2 token2 = (code ≡ code2) × (before ≡ before2) × (token ≡ token2)
 
@@ -50,7 +50,7 @@ tree_not_refused ts units LeftOut before token behind is e refused =
 tree_not_refused ts units TooDeep before token behind is e refused =
     tree_not_over_limit law_source refl ts units before token behind is e refused
 
--- ---- tokens of which the grammar sees a part
+-- ---- tokens that the grammar sees in part
 
 not_longer : {T : Type 0} (xs : List T) (x : T) (ys : List T) → xs ≡ xs ++ (x ∷ ys) → ⊥
 not_longer [] x ys e = cc

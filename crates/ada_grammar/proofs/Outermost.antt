@@ -1,5 +1,5 @@
 -- The outermost expressions of each source: within one no token ends the count of operators, and
--- between two of them a token does. At the end, some tokens of which that doesn't hold.
+-- between two of them a token does. At the end, some tokens for which that doesn't hold.
 use Rattle.std.proofs.Common.{refl, ℕ, suc, List, ◌∷◌, ◌++◌}
 use Rattle.std.specs.Prelude.{Option, Some, None}
 use Rattle.spark_base.specs.declared.position.Pos.{Pos}

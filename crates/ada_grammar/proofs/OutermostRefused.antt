@@ -127,7 +127,7 @@ front (leads_to m d tree behind out lead whole more) =
 same_first : (m n : WeighedToken) (ms ns : List WeighedToken) → m ∷ ms ≡ n ∷ ns → m ≡ n
 same_first m n ms ns same = cc
 
--- A part of an expression stands behind no token that leads to none.
+-- A part of an expression follows no token that leads to none.
 part_behind : (m n : WeighedToken) (ms : List WeighedToken) → leads m.token ≡ false → IsPart n → FrontOf (m ∷ (n ∷ ms))
     → (Outermost (n ∷ ms) → ⊥) → ⊥
 part_behind m n ms none part (out, front_outside other more) never = never more
@@ -138,7 +138,7 @@ part_behind m n ms none part (out, front_leads lead x behind first split) never 
 part_first : (m : WeighedToken) (ms : List WeighedToken) → IsPart m → Outermost (m ∷ ms) → ⊥
 part_first m ms part it = never_both m (front it).0 part
 
--- No token outside stands behind one that always leads to an expression.
+-- No token outside follows one that always leads to an expression.
 outside_behind : (m n : WeighedToken) (ms : List WeighedToken) → always_leads m.token ≡ true → IsOutside n → FrontOf (m ∷ (n ∷ ms)) → ⊥
 outside_behind m n ms always apart (out, front_outside other more) = true≢false (sym always ∙ other)
 outside_behind m n ms always apart (out, front_end pos x behind is also split) =
@@ -163,7 +163,7 @@ operand_apart : (pos at : Pos) (text : List ℕ) (ms : List WeighedToken)
     → Outermost (plain Apart (Ident pos text) ∷ operates (Delimiter s.Plus at) ∷ ms) → ⊥
 operand_apart pos at text ms it = part_behind _ _ ms refl (λ k. refl) (front it) (part_first _ ms (λ k. refl))
 
--- A value that is part of no expression, behind ":=".
+-- A value that is part of no expression, after ":=".
 value_apart : (pos at : Pos) (number : ℕ) (ms : List WeighedToken)
     → Outermost (plain Apart (Delimiter s.Becomes pos) ∷ plain Apart (Number number at) ∷ ms) → ⊥
 value_apart pos at number ms it = outside_behind _ _ ms refl (λ k. refl) (front it)

@@ -1,4 +1,4 @@
--- The laws of ranges and choices. A range is read as an expression first; behind it ".." stands, or
+-- The laws of ranges and choices. A range is read as an expression first; after it ".." stands, or
 -- the expression is a mark or a name with "'" "range" at its end.
 use Rattle.std.proofs.Common.{◌≡◌, ◌≤◌, refl, sym, ap, ◌∙◌, subst, ℕ, Bool, true, false, List, [], ◌∷◌, ◌++◌, Option, Some, None, Result, Ok, Err, ◌⊎◌, inl, inr}
 use Rattle.std.specs.Prelude.{ok_or, if◌then◌else◌}
@@ -152,7 +152,7 @@ spelling_of_attribute : (d : ℕ) (x : Expr) (n : Name) (apostrophe range : Pos)
 spelling_of_attribute d x n apostrophe range e =
     ap (expr_spelling d) e ∙ expr_of_name-spelling d (name_with_range n apostrophe range) ∙ name_with_range-spelling Within d n apostrophe range
 
--- ---- what stands behind the first expression
+-- ---- what follows the first expression
 
 abbrev pub High : Type 0
 High = Pos × Expr

@@ -31,7 +31,7 @@ package_with_parts : IsTextOf "package P is type T; private type T is (A); X : T
 unfolding computes
 package_with_parts = source_of (search) (search) refl
 
--- "private" with no decl behind it
+-- "private" with no decl after it
 private_part_without_parts : IsTextOf "package P is private end;"
     (unit.OfPackage (at 1) [] (package_of 1 (id 9 "P") None 11 [] (Some (private_part 14 [])) 22 None 25) ∷ [])
 unfolding computes

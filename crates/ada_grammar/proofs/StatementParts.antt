@@ -16,7 +16,7 @@ use Rattle.token_reading.proofs.Sets.{apart, within, Leads}
 use Rattle.token_reading.proofs.Made.{law_to}
 use Rattle.token_reading.proofs.Choice.{law_either}
 
--- The tree is made of parts of which this holds.
+-- The tree is made of parts for which this holds.
 abbrev pub MadeOf : {A B : Type 0} → (A → B) → (A → Type 0) → B → Type 0
 MadeOf {A} f g b = (a : A) × (g a × (f a ≡ b))
 

@@ -117,7 +117,7 @@ unfolding part_behind
 same_behind pos spec =
     chain_seq (make_ending pos spec) units.mode ending (λ mode. part_ending pos spec mode) (λ mode. same_ending pos spec mode)
 
--- ---- what stands behind "procedure" id, where it isn't "is"
+-- ---- what follows "procedure" id, where it isn't "is"
 
 abbrev Fronted : Type 0
 Fronted = (Formals × Behind) ⊎ ((SparkMode × Ending) ⊎ Pos)
@@ -171,7 +171,7 @@ same_fronted pos id =
     read_mode : Reader BodyPart
     read_mode = chain spark_mode (λ mode. part_ending pos (subspec_tree.Procedure pos id None) (Some mode))
 
--- ---- what stands behind "procedure" id
+-- ---- what follows "procedure" id
 
 abbrev Begun : Type 0
 Begun = InstanceParts ⊎ SubprogramParts

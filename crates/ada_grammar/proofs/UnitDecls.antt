@@ -53,7 +53,7 @@ semicolon_spelling pos = spelling.symbol Apart s.Semicolon pos ∷ []
 abbrev pub id_spelling : Identifier → List WeighedToken
 id_spelling id = id_mark Apart id ∷ []
 
--- ---- what stands behind a subspec
+-- ---- what follows a subspec
 
 abbrev Tail : Type 0
 Tail = Option SparkMode × Pos
@@ -74,7 +74,7 @@ same_tail : (pos : Pos) (spec : Subspec) → Same (decl_behind pos spec) (to (ma
 unfolding decl_behind
 same_tail pos spec k ts = refl
 
--- ---- what stands behind "procedure" id
+-- ---- what follows "procedure" id
 
 abbrev pub NamedDecl : Type 0
 NamedDecl = (Pos × InstanceParts) ⊎ (Option Formals × Tail)

@@ -1,4 +1,4 @@
--- A part that is made in two steps, or made before what stands behind it is read, reads as its
+-- A part that is made in two steps, or made before what follows it is read, reads as its
 -- parts do.
 use Rattle.std.proofs.Common.{◌≡◌, refl, ap, ◌∙◌}
 use Rattle.token_reading.specs.Reading.{Outcome, Got, Fails, Reader, and_then, to, seq, chain}

@@ -60,7 +60,7 @@ law_private_part =
     (law_to make_private GoodPrivate (private_spelling 1) (law_seq (law_word Apart w.KwPrivate) law_decls refl)
     good_private (λ x good. spelled_private x) onto_private) refl refl
 
--- ---- packages, behind "package"
+-- ---- packages, after "package"
 
 abbrev pub GoodPackageParts : PackageParts → Type 0
 GoodPackageParts =
@@ -107,7 +107,7 @@ package_parts_good a good = (
   ),
 )
 
--- ---- bodies of packages, behind "package"
+-- ---- bodies of packages, after "package"
 
 abbrev pub GoodPackageBodyParts : PackageBodyParts → Type 0
 GoodPackageBodyParts = Both Any (Both Any (Both (EachSome ModeNamed) (Both Any (Both (Each GoodPart) GoodClosing))))

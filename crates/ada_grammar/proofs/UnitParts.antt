@@ -1,5 +1,5 @@
 -- The laws of what subprograms and packages are made of: modes, formals, fronts of subprograms, and
--- what stands behind "is" and "end".
+-- what follows "is" and "end".
 use Rattle.std.proofs.Common.{◌≡◌, refl, sym, ap, ◌∙◌, ℕ, suc, ◌≤◌, true, false, List, [], ◌∷◌, Option, Some, None, ◌⊎◌, inl, inr}
 use Rattle.std.specs.List.{flat_map}
 use Rattle.spark_base.specs.declared.position.Pos.{Pos}

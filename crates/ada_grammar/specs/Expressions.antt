@@ -112,11 +112,11 @@ refused k ts = Fails Refused ts
 abbrev pub lone_identifier : Expr → Option Identifier
 lone_identifier x = option_and_then sole_identifier (lone_name x)
 
--- The name of the formal or component, "=>" and the expression behind it.
+-- The name of the formal or component, "=>" and the expression after it.
 abbrev pub Given : Type 0
 Given = Identifier × (Pos × Expr)
 
--- "=>" expr, only behind a lone identifier
+-- "=>" expr, only after a lone identifier
 abbrev pub given_in : Side → Reader Expr → Option Identifier → Reader Given
 given_in side inner (Some id) = to (λ x. (id, x)) (seq (symbol side s.Arrow) inner)
 given_in side inner None = refused
@@ -140,13 +140,13 @@ next_arg_in side inner = to make_next_arg (seq (symbol side s.Comma) (arg_in sid
 abbrev pub next_args_in : Side → Reader Expr → Reader (List NextArg)
 next_args_in side inner = many (of_symbol s.Comma ∷ []) (next_arg_in side inner)
 
--- args ")", behind "("
+-- args ")", after "("
 abbrev pub args_in : Side → Reader Expr → Reader (Arg × (List NextArg × Pos))
 args_in side inner = seq (arg_in side inner) (seq (next_args_in side inner) (symbol side s.RightParenthesis))
 
 -- ---- names
 
--- What may stand behind a name as its suffix: behind "." an identifier or "all", behind "'" an
+-- What may follow a name as its suffix: after "." an identifier or "all", after "'" an
 -- identifier or "range", or args.
 abbrev pub SuffixParts : Type 0
 SuffixParts = (Pos × (Pos ⊎ Identifier)) ⊎ ((Pos × (Pos ⊎ Identifier)) ⊎ (Pos × (Arg × (List NextArg × Pos))))
@@ -188,7 +188,7 @@ name_last = suffix_first
 
 -- ---- primaries
 
--- Behind "(": "others" "=>" expr ")", or an arg and then ")" or further ones.
+-- After "(": "others" "=>" expr ")", or an arg and then ")" or further ones.
 abbrev pub InnerParts : Type 0
 InnerParts = (Pos × (Pos × (Expr × Pos))) ⊎ (Arg × ((Pos × (Arg × (List NextArg × Pos))) ⊎ Pos))
 
@@ -203,7 +203,7 @@ make_parenthesized (left, inr (first, inl (comma, (second, (rest, right))))) =
     of_primary.Aggregated left (of_aggregate.Several left first comma second rest right)
 make_parenthesized (left, inr (first, inr right)) = make_single left right first
 
--- "others" "=>" expr ")", behind "("
+-- "others" "=>" expr ")", after "("
 abbrev pub others_in : Reader Expr → Reader (Pos × (Pos × (Expr × Pos)))
 others_in inner = seq (word Within w.KwOthers) (seq (symbol Within s.Arrow) (seq inner (symbol Within s.RightParenthesis)))
 
@@ -218,7 +218,7 @@ parenthesized_in d inner =
 abbrev pub AllocatorParts : Type 0
 AllocatorParts = Pos × (Dotted × Option (Pos × Primary))
 
--- What stands in parentheses behind "new" mark "'".
+-- What stands in parentheses after "new" mark "'".
 abbrev pub make_qualified : Pos → Dotted → Pos → Primary → Primary
 make_qualified new mark apostrophe (of_primary.Parenthesized' left _ value right) =
     of_primary.AllocatedValue' new mark apostrophe left _ value right
@@ -419,7 +419,7 @@ next_short_operand_in d inner v u = to make_next_short_operand (seq (operator_wo
 abbrev pub next_short_operands_in : ℕ → Reader Expr → Reserved → Reserved → Reader (List ShortOperand)
 next_short_operands_in d inner v u = many (of_word v ∷ []) (next_short_operand_in d inner v u)
 
--- Behind a first "and" or "or": its second word and the operands of the short form, or the operands
+-- After a first "and" or "or": its second word and the operands of the short form, or the operands
 -- of the long one.
 abbrev pub Chain : Type 0
 Chain = (Pos × (Rel × List ShortOperand)) ⊎ (Rel × List Operand)
@@ -455,7 +455,7 @@ expr_first =
     of_symbol s.Plus ∷ of_symbol s.Minus ∷ of_word w.KwAbs ∷ of_word w.KwNot ∷ of_number ∷ of_string ∷ of_word w.KwNull ∷ of_word w.KwNew
     ∷ of_symbol s.LeftParenthesis ∷ of_ident ∷ []
 
--- The kinds of tokens with which an expression may be continued.
+-- The kinds of tokens that may continue an expression.
 abbrev pub expr_last : List ℕ
 expr_last =
     of_word w.KwAnd ∷ of_word w.KwOr ∷ of_word w.KwXor ∷ of_symbol s.Equal ∷ of_symbol s.NotEqual ∷ of_symbol s.Less ∷ of_symbol s.LessEqual

@@ -68,12 +68,12 @@ constraint d = seq (word Apart w.KwRange) (seq (expr d) (to_high d))
 abbrev pub make_constrained : Pos → Dotted → Pos × (Expr × (Pos × Expr)) → Range
 make_constrained pos mark x = range_tree.Constrained pos mark x.0 x.1.0 x.1.1.0 x.1.1.1
 
--- range = mark ["range" expr ".." expr], behind the mark
+-- range = mark ["range" expr ".." expr], after the mark
 unfoldable pub marked_range : ℕ → Pos → Dotted → Reader Range
 marked_range d pos mark =
     either (of_word w.KwRange ∷ []) (to (make_constrained pos mark) (constraint d)) (to (λ u. range_tree.Marked pos mark) nothing)
 
--- range = name "'" "range", behind the name
+-- range = name "'" "range", after the name
 abbrev pub attribute_range : Pos → Option (Name × Pos × Pos) → Reader Range
 attribute_range pos (Some x) = to (λ u. range_tree.RangeOf pos x.0 x.1 x.2) nothing
 attribute_range pos None = refused
@@ -82,7 +82,7 @@ abbrev pub mark_or_attribute : ℕ → Pos → Result Dotted Name → Reader Ran
 mark_or_attribute d pos (Ok mark) = marked_range d pos mark
 mark_or_attribute d pos (Err prefix) = attribute_range pos (range_prefix prefix)
 
--- a range that is no expression with ".." behind it, behind the expression that it begins with
+-- a range that is no expression with ".." after it, after the expression that it begins with
 abbrev pub named_range : ℕ → Pos → Option Name → Reader Range
 named_range d pos (Some prefix) = mark_or_attribute d pos (dotted_or_name prefix)
 named_range d pos None = refused
@@ -192,7 +192,7 @@ access_parts = seq (word Apart w.KwAccess) (seq (dotted Apart) (symbol Apart s.S
 abbrev pub make_access : Pos → Identifier → Pos → Pos × (Dotted × Pos) → Item
 make_access pos id is x = item_tree.AccessType pos id is x.0 x.1.0 x.1.1
 
--- type = "type" id "is" "private" ";" | "type" id "is" "access" mark ";", behind "is"
+-- type = "type" id "is" "private" ";" | "type" id "is" "access" mark ";", after "is"
 abbrev pub private_type : Pos → Identifier → Pos → Reader Item
 private_type pos id is = to (make_private pos id is) private_parts
 
@@ -203,7 +203,7 @@ access_type pos id is = to (make_access pos id is) access_parts
 unfoldable pub index_range : ℕ → Reader Range
 index_range d = range (suc d)
 
--- ")" "of" mark ";", behind the range of an array type's index
+-- ")" "of" mark ";", after the range of an array type's index
 abbrev pub ElementParts : Type 0
 ElementParts = Pos × (Pos × (Dotted × Pos))
 
@@ -221,7 +221,7 @@ array_parts d =
 abbrev pub make_array : Pos → Identifier → Pos → ArrayParts → Item
 make_array pos id is x = item_tree.ArrayType pos id is x.0 x.1.0 x.1.1.0 x.1.1.1.0 x.1.1.1.1.0 x.1.1.1.1.1.0 x.1.1.1.1.1.1
 
--- type = "type" id "is" "array" "(" range ")" "of" mark ";", behind "is"
+-- type = "type" id "is" "array" "(" range ")" "of" mark ";", after "is"
 unfoldable pub array_type : ℕ → Pos → Identifier → Pos → Reader Item
 array_type d pos id is = to (make_array pos id is) (array_parts d)
 
@@ -237,7 +237,7 @@ record_parts d =
 abbrev pub make_record : Pos → Identifier → Pos → RecordParts → Item
 make_record pos id is x = item_tree.RecordType pos id is x.0 x.1.0 x.1.1.0 x.1.1.1.0 x.1.1.1.1.0 x.1.1.1.1.1
 
--- type = "type" id "is" "record" comp {comp} "end" "record" ";", behind "is"
+-- type = "type" id "is" "record" comp {comp} "end" "record" ";", after "is"
 unfoldable pub record_type : ℕ → Pos → Identifier → Pos → Reader Item
 record_type d pos id is = to (make_record pos id is) (record_parts d)
 
@@ -259,11 +259,11 @@ enumeration_parts d = seq (opens_symbol Apart s.LeftParenthesis d) literal_parts
 abbrev pub make_enumeration : Pos → Identifier → Pos → EnumerationParts → Item
 make_enumeration pos id is x = item_tree.EnumerationType pos id is x.0 x.1.0 x.1.1.0 x.1.1.1.0 x.1.1.1.1
 
--- type = "type" id "is" "(" id {"," id} ")" ";", behind "is"
+-- type = "type" id "is" "(" id {"," id} ")" ";", after "is"
 unfoldable pub enumeration_type : ℕ → Pos → Identifier → Pos → Reader Item
 enumeration_type d pos id is = to (make_enumeration pos id is) (enumeration_parts d)
 
--- type = "type" id "is" .., behind "is"
+-- type = "type" id "is" .., after "is"
 unfoldable pub defined_type : ℕ → Pos → Identifier → Pos → Reader Item
 defined_type d pos id is =
     either (of_word w.KwPrivate ∷ []) (private_type pos id is)
@@ -324,7 +324,7 @@ make_objects first rest colon constant (indicated, (None, semicolon)) =
 make_objects first rest colon constant (indicated, (Some x, semicolon)) =
     item_tree.InitializedObjects first.pos first rest colon constant indicated x.0 x.1 semicolon
 
--- object = id {"," id} ":" ["constant"] (mark | anon) [":=" expr] ";", behind ["constant"]
+-- object = id {"," id} ":" ["constant"] (mark | anon) [":=" expr] ";", after ["constant"]
 unfoldable pub objects : ℕ → Identifier → List NextIdentifier → Pos → Option Pos → Reader Item
 objects d first rest colon constant = to (make_objects first rest colon constant) (object_parts d)
 
@@ -373,7 +373,7 @@ abbrev pub make_instance : Pos → Identifier → Pos → InstanceParts → Item
 make_instance pos id is x =
     item_tree.Instance pos id is x.0 x.1.0 x.1.1.0 x.1.1.1.0 x.1.1.1.1.0 x.1.1.1.1.1.0 x.1.1.1.1.1.1
 
--- instance = "procedure" id "is" "new" dotted "(" args ")" ";", behind "is"
+-- instance = "procedure" id "is" "new" dotted "(" args ")" ";", after "is"
 unfoldable pub instance_of : ℕ → Pos → Identifier → Pos → Reader Item
 instance_of d pos id is = to (make_instance pos id is) (instance_parts d)
 

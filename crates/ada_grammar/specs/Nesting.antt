@@ -9,7 +9,7 @@ use Rattle.token_reading.specs.declared.side.Side.{Side}
 use Rattle.token_reading.specs.Spelled.{Spelled, Word, Delimiter}
 use Rattle.token_reading.specs.Weights.{WeighedToken, plain, opens, operates}
 
--- The word opens a construct, unless it stands behind "end", is the "loop" of a "while" or a "for",
+-- The word opens a construct, unless it follows "end", is the "loop" of a "while" or a "for",
 -- the "begin" of a subprogram or of a block with "declare", or the "procedure" of an instance. No
 -- other word opens one.
 abbrev pub opens_word : Reserved → Bool

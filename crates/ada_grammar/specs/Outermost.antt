@@ -1,4 +1,4 @@
--- Where the outermost expressions of a source stand, within each of which the operators are counted
+-- Where the outermost expressions of a source stand. The operators within each are counted
 -- (docs/TOOL.md, "Limits").
 use Rattle.std.specs.Prelude.{◌≡◌, ℕ, suc, Bool, true, false, if◌then◌else◌, List, [], ◌∷◌, ◌++◌}
 use Rattle.ada_lexer.specs.declared.token.Reserved.TheVariants as w
@@ -19,8 +19,8 @@ IsOutside m = (k : ℕ) → m.weight.step k ≡ 0
 abbrev pub IsPart : WeighedToken → Type 0
 IsPart m = (k : ℕ) → m.weight.step k ≡ (if is_operator m.token then suc k else k)
 
--- An outermost expression begins behind each of these tokens, but for the "if" and the "case"
--- behind "end".
+-- An outermost expression begins after each of these tokens, but for the "if" and the "case"
+-- after "end".
 abbrev pub always_leads : Spelled → Bool
 always_leads (Word w.KwCase pos) = true
 always_leads (Word w.KwElsif pos) = true
@@ -31,7 +31,7 @@ always_leads (Delimiter s.Becomes pos) = true
 always_leads (Delimiter s.DoubleDot pos) = true
 always_leads _ = false
 
--- One may begin behind each of these, and behind no other token.
+-- One may begin after each of these, and after no other token.
 abbrev pub leads : Spelled → Bool
 leads (Word w.KwIn pos) = true
 leads (Word w.KwRange pos) = true
@@ -43,11 +43,11 @@ leads (Delimiter s.Comma pos) = true
 leads (Delimiter s.LeftParenthesis pos) = true
 leads t = always_leads t
 
--- Tokens in a row: those that are part of no expression, and behind some of these a whole outermost
--- expression, each token of which is part of it. So between two outermost expressions stands a
--- token that is part of neither. A mark or a name that stands for a range, and the identifier
--- before the "=>" of an actual, are such expressions too. proofs/Outermost.antt has it of the
--- spelling of each source.
+-- Tokens in a row: those that are part of no expression, and after some of these a whole outermost
+-- expression, each token of which is part of it. So a token that is part of neither stands between
+-- two outermost expressions. A mark or a name that stands for a range, and the identifier before
+-- the "=>" of an actual, are such expressions too. proofs/Outermost.antt has it of the spelling of
+-- each source.
 pub data Outermost : List WeighedToken → Type 0 where
   nothing : Outermost []
   outside : (m : WeighedToken) (behind : List WeighedToken) → IsOutside m → always_leads m.token ≡ false → Outermost behind

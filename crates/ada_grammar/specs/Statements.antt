@@ -216,7 +216,7 @@ stmt_first =
     of_word w.KwNull ∷ of_word w.KwExit ∷ of_word w.KwReturn ∷ of_word w.KwIf ∷ of_word w.KwCase ∷ of_word w.KwLoop ∷ of_word w.KwWhile
     ∷ of_word w.KwFor ∷ of_word w.KwBegin ∷ of_word w.KwDeclare ∷ of_ident ∷ []
 
--- the kinds of tokens with which statements in a row may be continued
+-- the kinds of tokens that may continue statements in a row
 abbrev pub stmts_last : List ℕ
 stmts_last = stmt_first
 

@@ -121,7 +121,7 @@ optional_formals d = optional (of_symbol s.LeftParenthesis ∷ []) (formals d)
 abbrev pub make_procedure : Pos → Identifier × Option Formals → Subspec
 make_procedure pos x = subspec_tree.Procedure pos x.0 x.1
 
--- subspec = "procedure" id [formals], behind "procedure"
+-- subspec = "procedure" id [formals], after "procedure"
 unfoldable pub procedure_spec : ℕ → Pos → Reader Subspec
 procedure_spec d pos = to (make_procedure pos) (seq (identifier Apart) (optional_formals d))
 
@@ -135,7 +135,7 @@ function_parts d = seq (identifier Apart) (seq (optional_formals d) (seq (word A
 abbrev pub make_function : Pos → FunctionParts → Subspec
 make_function pos x = subspec_tree.Function pos x.0 x.1.0 x.1.1.0 x.1.1.1
 
--- subspec = "function" id [formals] "return" (mark | anon), behind "function"
+-- subspec = "function" id [formals] "return" (mark | anon), after "function"
 unfoldable pub function_spec : ℕ → Pos → Reader Subspec
 function_spec d pos = to (make_function pos) (function_parts d)
 
@@ -171,7 +171,7 @@ make_body pos spec mode is x = record {
   semicolon = x.1.1.1.1.1;
 }
 
--- subbody = subspec mode "is" {item} "begin" stmts "end" [id] ";", behind "is"
+-- subbody = subspec mode "is" {item} "begin" stmts "end" [id] ";", after "is"
 unfoldable pub body_behind : ℕ → Pos → Subspec → Option SparkMode → Pos → Reader SubprogramBody
 body_behind d pos spec mode is = to (make_body pos spec mode is) (subprogram_parts d)
 
@@ -184,15 +184,15 @@ plain_decl = placed decl_tree.OfItem (plain_item 1)
 abbrev pub make_declared : Pos → Subspec → Option SparkMode × Pos → Decl
 make_declared pos spec x = decl_tree.Subprogram pos spec x.0 x.1
 
--- decl = subspec mode ";", behind the subspec
+-- decl = subspec mode ";", after the subspec
 unfoldable pub decl_behind : Pos → Subspec → Reader Decl
 decl_behind pos spec = to (make_declared pos spec) (seq mode semicolon)
 
--- decl = instance, behind "is"
+-- decl = instance, after "is"
 unfoldable pub instance_decl : Pos → Identifier → Pos → Reader Decl
 instance_decl pos id is = to (decl_tree.OfItem pos) (instance_of 1 pos id is)
 
--- a decl that begins with "procedure", behind the identifier
+-- a decl that begins with "procedure", after the identifier
 unfoldable pub named_decl : Pos → Identifier → Reader Decl
 named_decl pos id =
     either (of_word w.KwIs ∷ []) (chain (word Apart w.KwIs) (λ is. instance_decl pos id is))
@@ -218,34 +218,34 @@ decls = many decl_first decl
 unfoldable pub plain_part : Reader BodyPart
 plain_part = placed (λ pos declared. part_tree.Declared pos (decl_tree.OfItem pos declared)) (plain_item 1)
 
--- a part that is a body, behind "is"
+-- a part that is a body, after "is"
 unfoldable pub completed_part : Pos → Subspec → Option SparkMode → Pos → Reader BodyPart
 completed_part pos spec mode is = to (part_tree.Completed pos) (body_behind 2 pos spec mode is)
 
--- decl = subspec mode ";" | subbody, behind the mode
+-- decl = subspec mode ";" | subbody, after the mode
 unfoldable pub part_ending : Pos → Subspec → Option SparkMode → Reader BodyPart
 part_ending pos spec mode =
     either (of_word w.KwIs ∷ []) (chain (word Apart w.KwIs) (λ is. completed_part pos spec mode is))
     (to (λ semicolon. part_tree.Declared pos (decl_tree.Subprogram pos spec mode semicolon)) semicolon)
 
--- decl = subspec mode ";" | subbody, behind the subspec
+-- decl = subspec mode ";" | subbody, after the subspec
 unfoldable pub part_behind : Pos → Subspec → Reader BodyPart
 part_behind pos spec = chain mode (λ mode. part_ending pos spec mode)
 
--- a part that begins with "procedure" id "is": an instance or a body, behind "is"
+-- a part that begins with "procedure" id "is": an instance or a body, after "is"
 unfoldable pub instance_or_body : Pos → Identifier → Pos → Reader BodyPart
 instance_or_body pos id is =
     either (of_word w.KwNew ∷ []) (to (part_tree.Declared pos) (instance_decl pos id is))
     (completed_part pos (subspec_tree.Procedure pos id None) None is)
 
--- decl = subspec mode ";" | subbody, behind "procedure" id, where no "is" follows
+-- decl = subspec mode ";" | subbody, after "procedure" id, where no "is" follows
 unfoldable pub procedure_part : Pos → Identifier → Reader BodyPart
 procedure_part pos id =
     either (of_symbol s.LeftParenthesis ∷ []) (chain (formals 2) (λ formals. part_behind pos (subspec_tree.Procedure pos id (Some formals))))
     (either (of_word w.KwWith ∷ []) (chain spark_mode (λ mode. part_ending pos (subspec_tree.Procedure pos id None) (Some mode)))
     (to (λ semicolon. part_tree.Declared pos (decl_tree.Subprogram pos (subspec_tree.Procedure pos id None) None semicolon)) semicolon))
 
--- a part that begins with "procedure", behind the identifier
+-- a part that begins with "procedure", after the identifier
 unfoldable pub named_part : Pos → Identifier → Reader BodyPart
 named_part pos id =
     either (of_word w.KwIs ∷ []) (chain (word Apart w.KwIs) (λ is. instance_or_body pos id is)) (procedure_part pos id)
@@ -261,7 +261,7 @@ body_part =
 abbrev pub body_parts : Reader (List BodyPart)
 body_parts = many decl_first body_part
 
--- ---- packages and their bodies, behind "package"
+-- ---- packages and their bodies, after "package"
 
 abbrev pub make_private : Pos × List Decl → PrivatePart
 make_private x = record { pos = x.0; decls = x.1 }
@@ -301,7 +301,7 @@ make_package pos x = record {
   semicolon = x.1.1.1.1.1.1.1;
 }
 
--- package = "package" id mode "is" {decl} ["private" {decl}] "end" [id] ";", behind "package"
+-- package = "package" id mode "is" {decl} ["private" {decl}] "end" [id] ";", after "package"
 unfoldable pub package_behind : Pos → Reader Package
 package_behind pos = to (make_package pos) package_parts
 
@@ -333,7 +333,7 @@ make_package_body pos x = record {
   semicolon = x.1.1.1.1.1.1.1;
 }
 
--- packbody = "package" "body" id mode "is" {decl | subbody} "end" [id] ";", behind "package"
+-- packbody = "package" "body" id mode "is" {decl | subbody} "end" [id] ";", after "package"
 unfoldable pub package_body_behind : Pos → Reader PackageBody
 package_body_behind pos = to (make_package_body pos) package_body_parts
 
@@ -360,7 +360,7 @@ context_first = of_word w.KwWith ∷ of_word w.KwUse ∷ of_word w.KwPragma ∷ 
 abbrev pub contexts : Reader (List Context)
 contexts = many context_first context
 
--- subbody = subspec mode "is" {item} "begin" stmts "end" [id] ";", behind the subspec, with no
+-- subbody = subspec mode "is" {item} "begin" stmts "end" [id] ";", after the subspec, with no
 -- construct open around it
 unfoldable pub subprogram_behind : Pos → Subspec → Reader SubprogramBody
 subprogram_behind pos spec = chain mode (λ mode. chain (word Apart w.KwIs) (λ is. body_behind 1 pos spec mode is))
@@ -371,12 +371,12 @@ subprogram_body =
     either (of_word w.KwProcedure ∷ []) (chain (word Apart w.KwProcedure) (λ pos. chain (procedure_spec 1 pos) (λ spec. subprogram_behind pos spec)))
     (chain (word Apart w.KwFunction) (λ pos. chain (function_spec 1 pos) (λ spec. subprogram_behind pos spec)))
 
--- unit = {context} (package | packbody), behind "package"
+-- unit = {context} (package | packbody), after "package"
 unfoldable pub package_unit : Pos → List Context → Pos → Reader SourceUnit
 package_unit pos clauses at =
     either (of_word w.KwBody ∷ []) (to (unit_tree.OfBody pos clauses) (package_body_behind at)) (to (unit_tree.OfPackage pos clauses) (package_behind at))
 
--- unit = {context} (package | packbody | subbody), behind the clauses
+-- unit = {context} (package | packbody | subbody), after the clauses
 unfoldable pub unit_behind : Pos → List Context → Reader SourceUnit
 unit_behind pos clauses =
     either (of_word w.KwPackage ∷ []) (chain (word Apart w.KwPackage) (λ at. package_unit pos clauses at))

@@ -5,9 +5,9 @@
 //! `SourceUnit` of `ada_tree` for each unit, which keeps the position of each token and the bytes
 //! of each identifier and string. Units, packages and subprograms are read here; expressions, items
 //! and statements by the two crates below.
-//! What the units are spelled by, `ada_tree` states in `specs/Spelling.antt`; `docs/LANGUAGE.md`,
+//! `ada_tree` states in `specs/Spelling.antt` what the units are spelled by; `docs/LANGUAGE.md`,
 //! "Grammar", has the productions.
-//! Refused are the first token with which the tokens are no viable prefix, and the first that
+//! `parse` refuses the first token with which the tokens are no viable prefix, or the first that
 //! exceeds a limit; `specs/Refused.antt` says it, and `docs/TOOL.md`, "Refusals".
 //! Time and memory are linear in the tokens, and the depth of calls is bounded by the limit of
 //! nesting.

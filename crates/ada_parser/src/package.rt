@@ -27,7 +27,7 @@ fn plain_decl(alloc: Global, tokens: &mut Cursor<'_, '_>) -> Result<Decl, ReadFa
     Ok(Decl::OfItem { pos, item })
 }
 
-/// decl = subspec mode `;`, behind the subspec (Ada 2012, 6.1).
+/// decl = subspec mode `;`, after the subspec (Ada 2012, 6.1).
 #[tactic(auto, unfolding(ada_grammar::specs::Units::decl_behind))]
 fn decl_behind(
     alloc: Global,
@@ -47,7 +47,7 @@ fn decl_behind(
     })
 }
 
-/// decl = instance, behind `is` (Ada 2012, 12.3).
+/// decl = instance, after `is` (Ada 2012, 12.3).
 #[tactic(auto, unfolding(ada_grammar::specs::Units::instance_decl))]
 fn instance_decl(
     alloc: Global,
@@ -62,7 +62,7 @@ fn instance_decl(
     Ok(Decl::OfItem { pos, item })
 }
 
-/// A decl that begins with `procedure`, behind the identifier.
+/// A decl that begins with `procedure`, after the identifier.
 #[tactic(auto, unfolding(ada_grammar::specs::Units::named_decl))]
 fn named_decl(
     alloc: Global,
@@ -136,7 +136,7 @@ fn plain_part(alloc: Global, tokens: &mut Cursor<'_, '_>) -> Result<BodyPart, Re
     Ok(BodyPart::Declared { pos, decl })
 }
 
-/// A part of a package body that is a body, behind `is` (Ada 2012, 6.3).
+/// A part of a package body that is a body, after `is` (Ada 2012, 6.3).
 #[tactic(auto, unfolding(ada_grammar::specs::Units::completed_part))]
 fn completed_part(
     alloc: Global,
@@ -152,7 +152,7 @@ fn completed_part(
     Ok(BodyPart::Completed { pos, body })
 }
 
-/// decl = subspec mode `;` | subbody, behind the mode (Ada 2012, 6.1 and 6.3).
+/// decl = subspec mode `;` | subbody, after the mode (Ada 2012, 6.1 and 6.3).
 #[tactic(auto, unfolding(ada_grammar::specs::Units::part_ending))]
 fn part_ending(
     alloc: Global,
@@ -180,7 +180,7 @@ fn part_ending(
     Ok(BodyPart::Declared { pos, decl })
 }
 
-/// The same, behind the subspec.
+/// The same, after the subspec.
 #[tactic(auto, unfolding(ada_grammar::specs::Units::part_behind))]
 fn part_behind(
     alloc: Global,
@@ -194,7 +194,7 @@ fn part_behind(
     part_ending(alloc, tokens, pos, spec, mode)
 }
 
-/// A part of a package body that begins with `procedure` id `is`: an instance or a body, behind
+/// A part of a package body that begins with `procedure` id `is`: an instance or a body, after
 /// `is` (Ada 2012, 6.3 and 12.3).
 #[tactic(auto, unfolding(ada_grammar::specs::Units::instance_or_body))]
 fn instance_or_body(
@@ -214,7 +214,7 @@ fn instance_or_body(
     completed_part(alloc, tokens, pos, spec, None, is)
 }
 
-/// decl = subspec mode `;` | subbody, behind `procedure` id, where no `is` follows (Ada 2012, 6.1
+/// decl = subspec mode `;` | subbody, after `procedure` id, where no `is` follows (Ada 2012, 6.1
 /// and 6.3).
 #[tactic(auto, unfolding(ada_grammar::specs::Units::procedure_part))]
 fn procedure_part(
@@ -249,7 +249,7 @@ fn procedure_part(
     Ok(BodyPart::Declared { pos, decl })
 }
 
-/// A part of a package body that begins with `procedure`, behind the identifier.
+/// A part of a package body that begins with `procedure`, after the identifier.
 #[tactic(auto, unfolding(ada_grammar::specs::Units::named_part))]
 fn named_part(
     alloc: Global,
@@ -332,7 +332,7 @@ fn package_decls(alloc: Global, tokens: &mut Cursor<'_, '_>) -> Result<Decls, Re
     })
 }
 
-/// package = `package` id mode `is` {decl} [`private` {decl}] `end` [id] `;`, behind `package` (Ada
+/// package = `package` id mode `is` {decl} [`private` {decl}] `end` [id] `;`, after `package` (Ada
 /// 2012, 7.1).
 #[tactic(auto, unfolding(ada_grammar::specs::Units::package_behind))]
 pub fn package_behind(
@@ -369,7 +369,7 @@ fn package_body_end(alloc: Global, tokens: &mut Cursor<'_, '_>) -> Result<BodyPa
     Ok(BodyParts { parts, closing })
 }
 
-/// packbody = `package` `body` id mode `is` {decl | subbody} `end` [id] `;`, behind `package` (Ada
+/// packbody = `package` `body` id mode `is` {decl | subbody} `end` [id] `;`, after `package` (Ada
 /// 2012, 7.2).
 #[tactic(auto, unfolding(ada_grammar::specs::Units::package_body_behind))]
 pub fn package_body_behind(

@@ -160,7 +160,7 @@ pub fn procedure(
     boxed(alloc, Ok(Subspec::Procedure { pos, name, formals }))
 }
 
-/// subspec = `procedure` id [formals], behind `procedure` (Ada 2012, 6.1); `depth` counts the
+/// subspec = `procedure` id [formals], after `procedure` (Ada 2012, 6.1); `depth` counts the
 /// procedure.
 #[tactic(auto, unfolding(ada_grammar::specs::Units::procedure_spec))]
 pub fn procedure_spec(
@@ -176,7 +176,7 @@ pub fn procedure_spec(
     procedure(alloc, pos, name, formals)
 }
 
-/// subspec = `function` id [formals] `return` (mark | anon), behind `function` (Ada 2012, 6.1);
+/// subspec = `function` id [formals] `return` (mark | anon), after `function` (Ada 2012, 6.1);
 /// `depth` counts the function.
 #[tactic(auto, unfolding(ada_grammar::specs::Units::function_spec))]
 pub fn function_spec(
@@ -201,7 +201,7 @@ pub fn function_spec(
     boxed(alloc, Ok(spec))
 }
 
-/// [id], behind `end`
+/// [id], after `end`
 pub fn closing_name(
     alloc: Global,
     tokens: &mut Cursor<'_, '_>,
@@ -245,7 +245,7 @@ fn body(alloc: Global, tokens: &mut Cursor<'_, '_>, depth: u32) -> Result<Body, 
     })
 }
 
-/// subbody = subspec mode `is` {item} `begin` stmts `end` [id] `;`, behind `is` (Ada 2012, 6.3);
+/// subbody = subspec mode `is` {item} `begin` stmts `end` [id] `;`, after `is` (Ada 2012, 6.3);
 /// `depth` counts the subprogram.
 #[tactic(auto, unfolding(ada_grammar::specs::Units::body_behind))]
 pub fn body_behind(
@@ -276,7 +276,7 @@ pub fn body_behind(
     boxed(alloc, Ok(tree))
 }
 
-/// The same, behind the subspec, with no construct open around the subprogram.
+/// The same, after the subspec, with no construct open around the subprogram.
 #[tactic(auto, unfolding(ada_grammar::specs::Units::subprogram_behind))]
 fn subprogram_behind(
     alloc: Global,

@@ -74,7 +74,7 @@ fn contexts(alloc: Global, tokens: &mut Cursor<'_, '_>) -> Result<Listed<Context
     Ok(all)
 }
 
-/// unit = {context} (package | packbody), behind `package` (Ada 2012, 10.1.1).
+/// unit = {context} (package | packbody), after `package` (Ada 2012, 10.1.1).
 #[tactic(auto, unfolding(ada_grammar::specs::Units::package_unit))]
 fn package_unit(
     alloc: Global,
@@ -97,7 +97,7 @@ fn package_unit(
     })
 }
 
-/// unit = {context} (package | packbody | subbody), behind the context (Ada 2012, 10.1.1).
+/// unit = {context} (package | packbody | subbody), after the context (Ada 2012, 10.1.1).
 #[tactic(auto, unfolding(ada_grammar::specs::Units::unit_behind))]
 fn unit_behind(
     alloc: Global,

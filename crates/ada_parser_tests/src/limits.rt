@@ -5,8 +5,8 @@ use std::alloc::Global;
 use std::test::Fail;
 
 /// Each row: what stands in front of the constructs, the opener of one, the same with a mark, what
-/// stands within and behind them, and how many may be open there. The one past the limit is
-/// refused, though no source goes on behind it.
+/// stands within and after them, and how many may be open there. The one past the limit is
+/// refused, though no source goes on after it.
 const CONSTRUCTS: [(&str, &str, &str, &str, &str, &str, u32); 18] = [
     (
         "procedure P is begin ",
@@ -382,7 +382,7 @@ fn counts(rt: HostRuntime) -> Result<(), Fail> {
     Ok(())
 }
 
-/// The limit is met before what no source goes on with, and behind it nothing is looked at.
+/// The limit is met before what no source goes on with, and after it nothing is looked at.
 #[test]
 fn order(rt: HostRuntime) -> Result<(), Fail> {
     let deep = [

@@ -7,7 +7,7 @@ use spark_base::{SOURCE_BYTES, TOKENS};
 use std::alloc::{AllocError, Global};
 use std::test::Fail;
 
-/// What is said of a source, and the column of which.
+/// The answer to a source, and the column of the refused token, or 0.
 type Answer = (&'static str, u32);
 
 /// What the parser answers to a text of one line.
@@ -25,7 +25,7 @@ fn read(alloc: Global, text: &[u8]) -> Result<Answer, Fail> {
     })
 }
 
-/// The text without its mark, and the column of the first byte behind the mark that is no space; 0
+/// The text without its mark, and the column of the first byte after the mark that is no space; 0
 /// where there is no mark.
 fn unmarked(alloc: Global, marked: &[u8]) -> Result<(Vec<u8>, u32), AllocError> {
     let mut text = Vec::new(alloc);
@@ -50,7 +50,7 @@ fn unmarked(alloc: Global, marked: &[u8]) -> Result<(Vec<u8>, u32), AllocError> 
     Ok((text, found))
 }
 
-/// The parts, each as often as it says, one behind the other.
+/// The parts, each as often as it says, one after the other.
 fn joined(alloc: Global, parts: &[(&str, u32)]) -> Result<Vec<u8>, AllocError> {
     let mut text = Vec::new(alloc);
     for part in parts {

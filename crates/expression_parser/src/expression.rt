@@ -248,7 +248,7 @@ impl<F: Fn(Global, &mut Cursor<'_, '_>, u32) -> Result<Expr, ReadFault>> Express
         Ok(all)
     }
 
-    /// What stands behind the first `and` or `or` of a chain; `second_word` is that of the short
+    /// What follows the first `and` or `or` of a chain; `second_word` is that of the short
     /// form.
     #[tactic(auto, unfolding(ada_grammar::specs::Expressions::chain_in))]
     fn chain(

@@ -11,7 +11,7 @@ use token_reading::ReadFault;
 pub struct Args {
     /// The first arg.
     pub first: Boxed<Arg>,
-    /// The args behind it.
+    /// The args after it.
     pub rest: Listed<NextArg>,
     /// `)`
     pub right_paren: Pos,
@@ -30,7 +30,7 @@ pub struct Others {
     pub right_paren: Pos,
 }
 
-/// What stands behind the first `and` or `or` of a chain.
+/// What follows the first `and` or `or` of a chain.
 #[derive(Drop)]
 pub enum Chain {
     /// (`then` | `else`) rel {`and` `then` rel | `or` `else` rel}
@@ -39,14 +39,14 @@ pub enum Chain {
         second_word: Pos,
         /// The second operand.
         second: Boxed<Rel>,
-        /// The operands behind it.
+        /// The operands after it.
         rest: Listed<ShortOperand>,
     },
     /// rel {`and` rel | `or` rel}
     Long {
         /// The second operand.
         second: Boxed<Rel>,
-        /// The operands behind it.
+        /// The operands after it.
         rest: Listed<Operand>,
     },
 }

@@ -64,7 +64,7 @@ fn single(alloc: Global, pos: Pos, right_paren: Pos, arg: Arg) -> Result<Primary
     }
 }
 
-/// An aggregate of several components: the first, and those behind the comma.
+/// An aggregate of several components: the first, and those after the comma.
 fn several(
     alloc: Global,
     pos: Pos,
@@ -90,7 +90,7 @@ fn several(
     aggregated(alloc, pos, aggregate)
 }
 
-/// An allocator with what stands in parentheses behind its mark.
+/// An allocator with what stands in parentheses after its mark.
 fn qualified(pos: Pos, mark: Dotted, apostrophe: Pos, operand: Primary) -> Primary
     ensures { result ≡ readers.make_qualified pos mark apostrophe operand }
 {
@@ -170,7 +170,7 @@ impl<F: Fn(Global, &mut Cursor<'_, '_>, u32) -> Result<Expr, ReadFault>> Express
         Ok(all)
     }
 
-    /// args `)`, behind `(`
+    /// args `)`, after `(`
     fn args(&self, tokens: &mut Cursor<'_, '_>, side: Side) -> Result<Args, ReadFault>
         requires { ReadsInner self.now.depth (F.pre self.now.inner) (F.post self.now.inner) }
         ensures { ReadsAs args_parts (readers.args_in side (readers.expr (suc self.now.depth))) tokens.old result tokens.new }
@@ -246,7 +246,7 @@ impl<F: Fn(Global, &mut Cursor<'_, '_>, u32) -> Result<Expr, ReadFault>> Express
         })
     }
 
-    /// `others` `=>` expr `)`, behind `(` (Ada 2012, 4.3.3).
+    /// `others` `=>` expr `)`, after `(` (Ada 2012, 4.3.3).
     fn others(&self, tokens: &mut Cursor<'_, '_>) -> Result<Others, ReadFault>
         requires { ReadsInner self.now.depth (F.pre self.now.inner) (F.post self.now.inner) }
         ensures { ReadsAs others_parts (readers.others_in (readers.expr (suc self.now.depth))) tokens.old result tokens.new }

@@ -46,7 +46,7 @@ pub fn constraint(
     })
 }
 
-/// range = mark [`range` expr `..` expr], behind the mark (Ada 2012, 3.2.2 and 3.6.1).
+/// range = mark [`range` expr `..` expr], after the mark (Ada 2012, 3.2.2 and 3.6.1).
 #[tactic(auto, unfolding(ada_grammar::specs::Items::marked_range))]
 fn marked_range(
     alloc: Global,
@@ -76,7 +76,7 @@ fn marked_range(
     Ok(Range::Marked { pos, mark })
 }
 
-/// range = mark [`range` expr `..` expr] | name `'` `range`, behind the name that it begins with
+/// range = mark [`range` expr `..` expr] | name `'` `range`, after the name that it begins with
 /// (Ada 2012, 3.5 and 3.6.1).
 fn named_range(
     alloc: Global,

@@ -85,7 +85,7 @@ fn object_end(
     Ok((None, semicolon))
 }
 
-/// object = id {`,` id} `:` [`constant`] (mark | anon) [`:=` expr] `;`, behind [`constant`] (Ada
+/// object = id {`,` id} `:` [`constant`] (mark | anon) [`:=` expr] `;`, after [`constant`] (Ada
 /// 2012, 3.3.1).
 #[tactic(auto, unfolding(ada_grammar::specs::Items::objects))]
 fn objects(
@@ -156,7 +156,7 @@ fn object_item(alloc: Global, tokens: &mut Cursor<'_, '_>, depth: u32) -> Result
     objects(alloc, tokens, depth, first, rest, colon, None)
 }
 
-/// arg {`,` arg} `)` `;`, behind the `(` of an instance (Ada 2012, 12.3)
+/// arg {`,` arg} `)` `;`, after the `(` of an instance (Ada 2012, 12.3)
 #[tactic(auto, unfolding(ada_grammar::specs::Items::first_actual, ada_grammar::specs::Items::next_actuals))]
 fn actuals(alloc: Global, tokens: &mut Cursor<'_, '_>, depth: u32) -> Result<Actuals, ReadFault>
     requires { depth ≤ NESTING }
@@ -174,7 +174,7 @@ fn actuals(alloc: Global, tokens: &mut Cursor<'_, '_>, depth: u32) -> Result<Act
     })
 }
 
-/// instance = `procedure` id `is` `new` dotted `(` arg {`,` arg} `)` `;`, behind `is` (Ada 2012,
+/// instance = `procedure` id `is` `new` dotted `(` arg {`,` arg} `)` `;`, after `is` (Ada 2012,
 /// 12.3).
 #[tactic(auto, unfolding(ada_grammar::specs::Items::instance_of))]
 pub fn instance_of(

@@ -21,7 +21,7 @@ pub struct Element {
 pub struct Literals {
     /// The first literal.
     pub first: Identifier,
-    /// The literals behind it.
+    /// The literals after it.
     pub rest: Listed<NextIdentifier>,
     /// `)`
     pub right_paren: Pos,
@@ -34,7 +34,7 @@ pub struct Literals {
 pub struct Actuals {
     /// The first actual.
     pub first: Boxed<Arg>,
-    /// The actuals behind it.
+    /// The actuals after it.
     pub rest: Listed<NextArg>,
     /// `)`
     pub right_paren: Pos,

@@ -59,7 +59,7 @@ fn index_range(alloc: Global, tokens: &mut Cursor<'_, '_>, depth: u32) -> Result
     range(alloc, tokens, depth + 1)
 }
 
-/// `)` `of` mark `;`, behind the range of an array type's index (Ada 2012, 3.6).
+/// `)` `of` mark `;`, after the range of an array type's index (Ada 2012, 3.6).
 fn element(alloc: Global, tokens: &mut Cursor<'_, '_>) -> Result<Element, ReadFault>
     ensures { ReadsAs element_parts readers.element_parts tokens.old result tokens.new }
 {
@@ -75,7 +75,7 @@ fn element(alloc: Global, tokens: &mut Cursor<'_, '_>) -> Result<Element, ReadFa
     })
 }
 
-/// type = `type` id `is` `array` `(` range `)` `of` mark `;`, behind `is` (Ada 2012, 3.6).
+/// type = `type` id `is` `array` `(` range `)` `of` mark `;`, after `is` (Ada 2012, 3.6).
 #[tactic(auto, unfolding(ada_grammar::specs::Items::array_type))]
 fn array_type(
     alloc: Global,
@@ -106,7 +106,7 @@ fn array_type(
     })
 }
 
-/// type = `type` id `is` `record` comp {comp} `end` `record` `;`, behind `is` (Ada 2012, 3.8).
+/// type = `type` id `is` `record` comp {comp} `end` `record` `;`, after `is` (Ada 2012, 3.8).
 #[tactic(auto, unfolding(ada_grammar::specs::Items::record_type, ada_grammar::specs::Statements::ending))]
 fn record_type(
     alloc: Global,
@@ -135,7 +135,7 @@ fn record_type(
     })
 }
 
-/// id {`,` id} `)` `;`, behind the `(` of an enumeration type (Ada 2012, 3.5.1).
+/// id {`,` id} `)` `;`, after the `(` of an enumeration type (Ada 2012, 3.5.1).
 fn literals(alloc: Global, tokens: &mut Cursor<'_, '_>) -> Result<Literals, ReadFault>
     ensures { ReadsAs literal_parts readers.literal_parts tokens.old result tokens.new }
 {
@@ -151,7 +151,7 @@ fn literals(alloc: Global, tokens: &mut Cursor<'_, '_>) -> Result<Literals, Read
     })
 }
 
-/// type = `type` id `is` `(` id {`,` id} `)` `;`, behind `is` (Ada 2012, 3.5.1).
+/// type = `type` id `is` `(` id {`,` id} `)` `;`, after `is` (Ada 2012, 3.5.1).
 #[tactic(auto, unfolding(ada_grammar::specs::Items::enumeration_type))]
 fn enumeration_type(
     alloc: Global,
@@ -177,7 +177,7 @@ fn enumeration_type(
     })
 }
 
-/// type = `type` id `is` `private` `;`, behind `is` (Ada 2012, 7.3).
+/// type = `type` id `is` `private` `;`, after `is` (Ada 2012, 7.3).
 fn private_type(
     tokens: &mut Cursor<'_, '_>,
     pos: Pos,
@@ -197,7 +197,7 @@ fn private_type(
     })
 }
 
-/// type = `type` id `is` `access` mark `;`, behind `is` (Ada 2012, 3.10).
+/// type = `type` id `is` `access` mark `;`, after `is` (Ada 2012, 3.10).
 fn access_type(
     alloc: Global,
     tokens: &mut Cursor<'_, '_>,
@@ -220,7 +220,7 @@ fn access_type(
     })
 }
 
-/// type = `type` id `is` .., behind `is` (Ada 2012, 3.2.1).
+/// type = `type` id `is` .., after `is` (Ada 2012, 3.2.1).
 #[tactic(auto, unfolding(ada_grammar::specs::Items::defined_type))]
 fn defined_type(
     alloc: Global,
