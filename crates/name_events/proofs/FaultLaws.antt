@@ -7,7 +7,7 @@ use Rattle.name_events.specs.KnownBehind.{known_behind, known_behind_all}
 use Rattle.name_events.specs.Faults.{Fault, fault, first_fault}
 use Rattle.name_events.specs.Laws.{IsFirstFault, BreaksNothing}
 
--- The head of a list, and what stands behind it.
+-- The head of a list, and what follows it.
 same_head : {A : Type 0} (x y : A) (xs ys : List A) → (x ∷ xs) ≡ (y ∷ ys) → x ≡ y
 same_head x y xs ys e = cc e
 

@@ -262,7 +262,7 @@ seen_says now w d e = by (directly_visible now w) refl e
           only = λ other m. found.1 other (is_there now w other m);
         })
 
--- A declaration of which the first holds is denoted.
+-- A declaration for which the first holds is denoted.
 pub innermost_is_seen : (now : Known) (w : Name) (d : Declaration) → IsInnermost now w d → seen now w ≡ Some d
 innermost_is_seen now w d i =
     ap (λ o. or_else o (only_one (visible_members now (packages_in_use now) w)))
@@ -278,7 +278,7 @@ unseen_says now w e = by (directly_visible now w) refl e
     by (Some x) is e = absurd (true≢false (ap is_some e))
     by None is e = in_no_region now.ended now.open_regions w is
 
--- ---- an identifier behind a package and a dot
+-- ---- an identifier after a package and a dot
 
 is_number_says : (o : Option ℕ) (n : ℕ) → is_number o n ≡ true → o ≡ Some n
 is_number_says None n e = absurd (true≢false (sym e))

@@ -3,7 +3,7 @@ use Rattle.std.specs.Prelude.{◌≡◌, true, false, List, [], ◌∷◌, ◌++
 use Rattle.name_events.specs.declared.event.Event.{Event}
 use Rattle.name_events.specs.declared.event_list.EventList.{EventList}
 
--- Where memory isn't out behind a call, it wasn't before, and the call added these events.
+-- Where memory isn't out after a call, it wasn't before, and the call added these events.
 abbrev pub Adds : EventList → EventList → List Event → Type 0
 Adds before behind new = behind.failed ≡ false → (before.failed ≡ false) × (behind.events ≡ before.events ++ new)
 

@@ -1,7 +1,7 @@
 -- What each occurrence of an identifier denotes, or which rule it breaks (docs/LANGUAGE.md,
 -- "Names"; Ada 2012, 8.2 to 8.4 and 4.1.3).
 --
--- `now` is what is known before the occurrence, and `whole` what is known behind the whole text:
+-- `now` is what is known before the occurrence, and `whole` what is known after the whole text:
 -- what is in `whole` and not in `now` stands later. A declaration that hasn't ended stands later
 -- too.
 use Rattle.std.specs.Prelude.{ℕ, Bool, true, false, if◌then◌else◌, nat_lt, ◌+◌, ◌-◌, List, [], ◌∷◌, ◌++◌, map, Option, None, Some, is_some}
@@ -54,7 +54,7 @@ meaning_or (Some d) rule = Denotes d
 abbrev pub meaning : Known → Known → Name → Meaning
 meaning whole now w = meaning_or (seen now w) (why_unseen whole now w)
 
--- ---- an identifier behind a package and a dot
+-- ---- an identifier after a package and a dot
 
 -- N3: it is declared in the private part or the body of the package, and this is outside of its
 -- body.
@@ -77,7 +77,7 @@ selected_meaning whole now holder w = meaning_or (selected now holder w) (why_un
 
 -- ---- a name
 
--- The occurrences among the identifiers of a name, each with its meaning: an identifier behind a
+-- The occurrences among the identifiers of a name, each with its meaning: an identifier after a
 -- dot is one where what stands before the dot is a package.
 abbrev pub occurrences_from : Known → Known → FoldedIdentifier → Meaning → List FoldedIdentifier → List (FoldedIdentifier × Meaning)
 occurrences_from whole now id m [] = (id, m) ∷ []

@@ -114,7 +114,7 @@ abbrev pub before_others : Option FoldedIdentifier → List FoldedIdentifier →
 before_others None others = []
 before_others (Some s) others = s ∷ others
 
--- The identifiers that follow the first one of a name behind dots, up to the first part of another
+-- The identifiers that follow the first one of a name after dots, up to the first part of another
 -- form.
 unfoldable pub selectors : {n : _} → Row_of-Suffix n → List FoldedIdentifier
 selectors end_of-Suffix = []

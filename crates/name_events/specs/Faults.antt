@@ -108,13 +108,13 @@ body_fault whole now id =
     else if is_some (source_package whole.declared id.name) then Some (TooEarly, id.pos)
     else Some (NoBody, id.pos)
 
--- ---- components, and names behind "end"
+-- ---- components, and names after "end"
 
 -- N2: a second component of a name in one record.
 abbrev pub component_fault : Known → FoldedIdentifier → Option Fault
 component_fault now id = if has_name id.name now.components then Some (Twice, id.pos) else None
 
--- N6: the name behind "end" isn't the unit's.
+-- N6: the name after "end" isn't the unit's.
 abbrev pub closing_fault : FoldedIdentifier → Name → Option Fault
 closing_fault id expected = if same id.name expected then None else Some (WrongEnd, id.pos)
 

@@ -1,7 +1,7 @@
 -- Which declaration each identifier has that uses, makes or completes one, by the position of the
 -- identifier (docs/LANGUAGE.md, "Names"; Ada 2012, 3.11.1, 7.2, 8.2 to 8.4).
 --
--- `now` is what is known before the identifier, and `whole` what is known behind the whole text.
+-- `now` is what is known before the identifier, and `whole` what is known after the whole text.
 use Rattle.std.specs.Prelude.{ℕ, Bool, ◌&&◌, if◌then◌else◌, nat_eq, List, [], ◌∷◌, ◌++◌, length, Option, None, Some}
 use Rattle.std.specs.List.{flat_map}
 use Rattle.spark_base.specs.declared.position.Pos.{Pos}

@@ -1,4 +1,4 @@
--- What is known behind each thing that a text does with names (docs/LANGUAGE.md, "Names").
+-- What is known after each thing that a text does with names (docs/LANGUAGE.md, "Names").
 use Rattle.std.specs.Prelude.{ℕ, Bool, false, not, ◌+◌, if◌then◌else◌, nat_eq, List, [], ◌∷◌, ◌++◌, map, filter, fold, length, drop, Option, None, Some}
 use Rattle.std.specs.Option.{option_map}
 use Rattle.name_events.specs.declared.event.Clause.{Clause}
@@ -90,7 +90,7 @@ begin_package now number = record now {
   contexts = now.contexts ++ (record { of_package = number; withs = now.withs; uses = used_in now.uses 0 }) ∷ [];
 }
 
--- Behind an identifier that is declared: a completion has no entry of its own.
+-- What is known after an identifier is declared: a completion has no entry of its own.
 abbrev pub behind_declaration : Known → DeclarationForm → FoldedIdentifier → Option Declaration → Known
 behind_declaration now declared_as id (Some d) = record now { completed = added_number now.completed d.number }
 behind_declaration now form.Package id None = declare (begin_package now (length now.declared)) (new_entry now form.Package id)
@@ -133,7 +133,7 @@ turned_private (inner ∷ rest) = (record { region = inner.region; part = part.P
 
 -- ---- all events
 
--- What is known behind an event.
+-- What is known after an event.
 unfoldable pub known_behind : Known → Event → Known
 known_behind now (e.UnitBegins body_of) = begin_unit now (package_named now body_of)
 known_behind now (e.UnitHasWith name) = record now {
@@ -157,7 +157,7 @@ known_behind now e.RecordBegins = record now { components = [] }
 known_behind now (e.DeclaresComponent id) = record now { components = added_name now.components id.name }
 known_behind now (e.EndsWithName id expected) = now
 
--- What is known behind these events.
+-- What is known after these events.
 abbrev pub known_behind_all : Known → List Event → Known
 known_behind_all now events = fold known_behind now events
 

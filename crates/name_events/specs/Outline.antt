@@ -64,7 +64,7 @@ abbrev pub clause_of : Option Pos → Clause
 clause_of None = clause.Use
 clause_of (Some type_word) = clause.UseType
 
--- usecl = "use" ["type"] dotted {"," dotted} ";": it counts behind its ";".
+-- usecl = "use" ["type"] dotted {"," dotted} ";": it counts after its ";".
 abbrev pub use_events : UseClause → Events
 use_events c = mentions (clause_of c.type_word) c.first c.rest ++ e.UseClauseEnds ∷ []
 
@@ -202,7 +202,7 @@ abbrev pub formals_events : Formals → Events
 formals_events f = formal_events f.first ++ flat_map next_formal_events f.rest
 
 -- subspec = "procedure" id [formals] | "function" id [formals] "return" (mark | anon): the region
--- of the subprogram begins behind its identifier, and its declaration ends with the subspec.
+-- of the subprogram begins after its identifier, and its declaration ends with the subspec.
 unfoldable pub subspec_events : DeclarationForm → Subspec → Events
 subspec_events declared_as (subspec.Procedure pos id formals) =
     declares declared_as id ∷ (e.RegionOpens ∷ (each_of formals_events formals ++ e.OuterDeclarationsEnd ∷ []))
@@ -217,7 +217,7 @@ unfoldable pub subspec_name : Subspec → Identifier
 subspec_name (subspec.Procedure pos id formals) = id
 subspec_name (subspec.Function pos id formals return_word result) = id
 
--- [id] behind "end"
+-- [id] after "end"
 abbrev pub closing_events : Identifier → Option Identifier → Events
 closing_events of = each_of (λ id. e.EndsWithName (folded_identifier id) (folded of) ∷ [])
 

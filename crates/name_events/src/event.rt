@@ -27,12 +27,12 @@ pub struct FoldedIdentifier {
 }
 
 /// A name in lower case, as far as its identifiers may be occurrences: the first one, and those
-/// that follow it behind dots.
+/// that follow it after dots.
 #[derive(Drop)]
 pub struct FoldedName {
     /// The first identifier.
     pub first: FoldedIdentifier,
-    /// The identifiers behind it.
+    /// The identifiers after it.
     pub rest: Listed<FoldedIdentifier>,
 }
 
@@ -90,7 +90,7 @@ pub enum Event {
     },
     /// `end` id
     EndsWithName {
-        /// The identifier behind `end`.
+        /// The identifier after `end`.
         identifier: FoldedIdentifier,
         /// The name of what ends.
         expected: Word,

@@ -33,7 +33,7 @@ fn folded_identifier(alloc: Global, id: &Identifier) -> Result<FoldedIdentifier,
     })
 }
 
-/// The identifiers behind dots, in lower case.
+/// The identifiers after dots, in lower case.
 fn folded_parts(alloc: Global, parts: &[NextPart]) -> Result<Listed<FoldedIdentifier>, AllocError>
     ensures { IfOk result (λ made. made ≡ map (λ p. folded_identifier (part_name p)) parts.now) }
 {
@@ -45,7 +45,7 @@ fn folded_parts(alloc: Global, parts: &[NextPart]) -> Result<Listed<FoldedIdenti
     Ok(made)
 }
 
-/// The identifiers that follow the first one of a name behind dots, in lower case.
+/// The identifiers that follow the first one of a name after dots, in lower case.
 fn folded_selectors(
     alloc: Global,
     suffixes: &[Suffix],
@@ -131,7 +131,7 @@ fn opening_body(alloc: Global, id: &Identifier) -> Result<Event, AllocError>
     Ok(Event::PackageBodyOpens { identifier })
 }
 
-/// The event of a name behind `end`.
+/// The event of a name after `end`.
 fn ending(alloc: Global, of: &Identifier, id: &Identifier) -> Result<Event, AllocError>
     ensures { IfOk result (λ event. event ≡ e.EndsWithName (folded_identifier id.now) (folded of.now)) }
 {
@@ -247,7 +247,7 @@ impl EventList {
         self.push_made(opening_body(self.alloc, id));
     }
 
-    /// Adds the name behind `end`, where there is one.
+    /// Adds the name after `end`, where there is one.
     pub(crate) fn end_with_name(&mut self, of: &Identifier, closing: &Option<Identifier>)
         ensures { Adds self.old self.new (closing_events of.now closing.now) }
     {

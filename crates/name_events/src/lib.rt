@@ -2,14 +2,14 @@
 //!
 //! An `EventList` takes the trees of one file after the other and adds an `Event` for each thing
 //! that they do with names, in the order of the tokens: an identifier is declared, a name is used,
-//! a region opens or closes, declarations end. Positions of tokens play no part in it: what stands
-//! before and behind is the order of the list. What each production does, `specs/Outline.antt`
-//! states. On that list stand the definitions of the rules of names: what is known at each point
+//! a region opens or closes, declarations end. Positions of tokens play no part in it: the order of
+//! the list tells what comes before and after. `specs/Outline.antt` states what each production
+//! does. The definitions of the rules of names are over that list: what is known at each point
 //! (`specs/Known.antt`, `specs/KnownBehind.antt`), what occurrences denote (`specs/Denotes.antt`),
 //! the declaration of each identifier by its position (`specs/Identified.antt`), and the rules N1
 //! to N6 (`specs/Faults.antt`); `docs/LANGUAGE.md`, "Names", says them in words (Ada 2012, 8.1 to
-//! 8.4, 3.11.1, 10.1). Nothing is refused here but for memory, once for all files, by `finish`.
-//! Time and memory are linear in the tokens.
+//! 8.4, 3.11.1, 10.1). The only error is out of memory, told once for all files by `finish`. Time
+//! and memory are linear in the tokens.
 #![tactic(auto)]
 
 mod declaration;

@@ -103,7 +103,7 @@ fn next_stmts(events: &mut EventList, trees: &[Stmt])
     }
 }
 
-/// stmts behind their condition
+/// stmts after their condition
 #[cycle(statement)]
 fn conditional(events: &mut EventList, body: &Stmts, condition: &Expr)
     ensures { Adds events.old events.new (expr_events condition.now ++ stmts_events body.now) }

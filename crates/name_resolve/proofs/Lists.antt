@@ -78,7 +78,7 @@ pub nat_eq-refl : (n : ℕ) → nat_eq n n ≡ true
 nat_eq-refl zero = refl
 nat_eq-refl (suc n) = eqb-suc-suc n n ∙ nat_eq-refl n
 
--- What holds behind the elements that pass a test, where the next one passes it.
+-- What holds after the elements that pass a test, where the next one passes it.
 pub passes_one : {A : Type 0} (P : List A → Type 0) (before : List A) (b : Bool) (x : A) → b ≡ true → P (before ++ x ∷ []) → P (before ++ cond b (x ∷ []) [])
 passes_one P before true x is p = p
 passes_one P before false x is p = absurd (true≢false (sym is))

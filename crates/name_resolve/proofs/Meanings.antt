@@ -93,7 +93,7 @@ pub completed_is : (now : Known) (new : DeclarationForm) (w : Name) (found : Opt
 completed_is now new w found region at is =
     ap (if_completes now new) (is ∙ ap (λ r. first_in asks_completion now.declared r w) at)
 
--- Of a form that completes none.
+-- A form that is no completion completes nothing.
 completes_none : (old new : DeclarationForm) (old_part new_part : RegionPart) → is_completion new ≡ false
     → completes_form old old_part new new_part ≡ false
 completes_none form.IncompleteType form.FullType p q none = absurd (true≢false none)

@@ -41,7 +41,7 @@ pub record Left (behind n : Known) (k : Knowledge) (events rest : List Event) (f
   pub meanings : flat_map (λ ns. ns) (mentioned_from behind n events) ≡ found.denotes.items ++ flat_map (λ ns. ns) (mentioned_from behind known rest)
   pub items : identified_from behind n events ≡ found.identified.items ++ identified_from behind known rest
 
--- For all that may be known behind the whole text.
+-- For all that may be known after the whole text.
 abbrev pub ForEach : (Known → Type 0) → Knowledge → (Known → Known → Type 0) → Type 0
 ForEach May k P = (behind now : Known) → May behind → Stands k now → P behind now
 
@@ -52,7 +52,7 @@ flat-append : (xs ys : List (List ℕ)) → flat_map (λ ns. ns) (xs ++ ys) ≡ 
 flat-append [] ys = refl
 flat-append (x ∷ xs) ys = ap (λ ns. x ++ ns) (flat-append xs ys) ∙ sym (append_assoc x (flat_map (λ ns. ns) xs) (flat_map (λ ns. ns) ys))
 
--- What may be known behind the whole text may be less with each event.
+-- What may be known after the whole text may be less with each event.
 pub goes_on : (Might May : Known → Type 0) (first k next : Knowledge) (events : List Event) (event : Event) (rest : List Event) (old new : Found)
     → ((behind : Known) → May behind → Might behind)
     → Goes Might first k events (event ∷ rest) old
@@ -108,7 +108,7 @@ goes_first May first events found none nowhere behind n sb sn = record {
   items = ap (λ xs. xs ++ identified_from behind n events) (sym nowhere);
 }
 
--- What is found behind the last event is all.
+-- What is found after the last event is all.
 pub record AllFound (behind n : Known) (events : List Event) (found : Found) : Type 0 where
   pub fault : first_fault behind n events ≡ None
   pub denotes : found.denotes.items ≡ flat_map (λ ns. ns) (mentioned_from behind n events)

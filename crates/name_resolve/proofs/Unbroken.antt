@@ -126,7 +126,7 @@ pub declares_not : (event : Event) → ((declared_as : DeclarationForm) (id : Fo
 declares_not (e.Declares declared_as id) other = absurd (other declared_as id refl)
 declares_not _ other = refl
 
--- What an event that breaks no rule says is the same, whatever is known behind the whole text.
+-- What an event that breaks no rule says is the same, whatever is known after the whole text.
 pub record SameAt (a b now : Known) (event : Event) : Type 0 where
   pub fault : fault b now event ≡ None
   pub meanings : mentioned_at a now event ≡ mentioned_at b now event
@@ -147,7 +147,7 @@ same_at a b now (e.DeclaresComponent id) other none = record { fault = none; mea
 same_at a b now (e.EndsWithName id expected) other none = record { fault = none; meanings = refl; items = refl }
 same_at a b now _ other none = record { fault = refl; meanings = refl; items = refl }
 
--- What an event says, whatever is known behind the whole text.
+-- What an event says, whatever is known after the whole text.
 pub record Says (behind now : Known) (event : Event) (old new : Found) : Type 0 where
   pub fault : fault behind now event ≡ None
   pub denotes : new.denotes.items ≡ old.denotes.items ++ flat_map (λ numbers. numbers) (mentioned_at behind now event)

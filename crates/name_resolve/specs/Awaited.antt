@@ -15,6 +15,6 @@ are_completed awaited behind = list_all (λ declaration. has_number declaration.
 abbrev pub IsPartOf : List Awaited → List Awaited → Type 0
 IsPartOf some all = (behind : Known) → are_completed all behind ≡ true → are_completed some behind ≡ true
 
--- For all that may stand behind, if these declarations are completed in it.
+-- For all that may follow, if these declarations are completed in it.
 abbrev pub IfCompleted : List Awaited → Knowledge → (Known → Known → Type 0) → Type 0
 IfCompleted awaited k P = (behind now : Known) → are_completed awaited behind ≡ true → Stands k now → P behind now

@@ -25,7 +25,7 @@ abbrev pub is_any : Sighting → Bool
 is_any Nothing = false
 is_any _ = true
 
--- Of regions of which some are in use: none is, only one is, or nothing is said.
+-- None of these regions is in use, only one is, or nothing is said.
 abbrev pub OnlyUsed : (ℕ → Bool) → List ℕ → Holder → Type 0
 OnlyUsed used regions holder.Nowhere = (region : ℕ) → has_number region regions ≡ true → used region ≡ false
 OnlyUsed used regions (holder.Only one) =

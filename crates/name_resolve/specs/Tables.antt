@@ -26,7 +26,7 @@ same_key a b = nat_eq a.0 b.0 && nat_eq a.1 b.1
 abbrev pub entry_at : List (Key × Declaration) → ℕ → ℕ → Option Declaration
 entry_at table region s = lookup (same_key (region, s)) table
 
--- What a table has behind one more declaration of a symbol.
+-- What a table has after one more declaration of a symbol.
 abbrev pub Puts : List (Key × Declaration) → List (Key × Declaration) → ℕ → Declaration → Type 0
 Puts old new s d = (r n : ℕ) → entry_at new r n ≡ (if nat_eq r d.region && nat_eq n s then Some d else entry_at old r n)
 
@@ -38,11 +38,11 @@ searched words table region w = option_map_or (entry_at table region) (symbol_of
 abbrev pub HasOnly : List Name → List (Key × Declaration) → Type 0
 HasOnly words table = (region s : ℕ) → length words ≤ s → entry_at table region s ≡ None
 
--- The search behind one more declaration.
+-- The search after one more declaration.
 abbrev pub noted : Search → Name → Declaration → Search
 noted find word d region w = if is_named region w (word, d) then Some d else find region w
 
--- The search behind one more declaration that counts only where there was none.
+-- The search after one more declaration that counts only where there was none.
 abbrev pub noted_first : Search → Name → Declaration → Search
 noted_first find word d region w = or_else (find region w) (if is_named region w (word, d) then Some d else None)
 

@@ -29,8 +29,8 @@ use indexmap::IndexSet;
 use name_events::{Declaration, DeclarationForm, FoldedIdentifier, Meaning, NameRule, RegionPart};
 use std::alloc::{AllocError, Global};
 
-/// What is known of names at a point of a text. It is dropped by a function of its own: who owns
-/// one needn't prove again how each table within it is dropped.
+/// What is known of names at a point of a text. It has its own `Drop`, so that owners needn't prove
+/// again how each table is dropped.
 pub struct Knowledge {
     pub alloc: Global,
     pub declarations: Declarations,
@@ -105,8 +105,8 @@ impl Knowledge {
         )
     }
 
-    /// What the packages in use have of a name, of which these regions have a declaration in a
-    /// visible part. Where only one of them is in use, it is looked for in that one.
+    /// What the packages in use have of a name that these regions declare in a visible part. Where
+    /// only one of them is in use, it is looked for in that one.
     fn sight_held(&self, holders: &[usize], symbol: Option<usize>) -> Sighting
         ensures { (now : Known) (w : Name) → Stands self.now now → symbol ≡ symbol_of self.now.declarations.words w
             → holders.now ≡ option_map_or (listed_at self.now.declarations.holders) symbol []
@@ -226,7 +226,7 @@ impl Knowledge {
         }
     }
 
-    /// What an identifier behind a package and a dot denotes, or which rule it breaks.
+    /// What an identifier after a package and a dot denotes, or which rule it breaks.
     pub fn selected_meaning(&self, whole: &Knowledge, holder: Declaration, word: &Word) -> Meaning
         ensures { EachKnown whole.now self.now (λ behind now. result ≡ selected_meaning behind now holder word.now) }
     {

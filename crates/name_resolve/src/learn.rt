@@ -1,4 +1,4 @@
-//! What is known behind an event.
+//! What is known after an event.
 ghost use Rattle.std.specs.Prelude.{◌≡◌, [], ◌∷◌, ◌++◌, ◌+◌, List, ℕ, Option, None, Some, OnOk, drop, map, length, if◌then◌else◌};
 ghost use Rattle.std.specs.Option.{option_map};
 ghost use Rattle.name_events.specs.declared.event.Clause.TheVariants as clause;
@@ -50,7 +50,7 @@ fn member(
     }
 }
 
-/// Adds what a name in a `with` names, of which the front denotes this declaration, or nothing.
+/// Adds what a name in a `with` names, whose front denotes this declaration, or nothing.
 fn add_named(
     withs: &mut Withs,
     declarations: &Declarations,
@@ -362,7 +362,7 @@ impl Knowledge {
         self.regions.close();
     }
 
-    /// Goes on behind an event.
+    /// Goes on after an event.
     #[tactic(auto, unfolding(name_events::specs::KnownBehind::known_behind))]
     pub fn learn(&mut self, event: &Event) -> Result<(), AllocError>
         ensures { OnOk result ((now : Known) → Stands self.old now → Stands self.new (known_behind now event.now)) }

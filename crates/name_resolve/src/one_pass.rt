@@ -2,7 +2,7 @@
 //!
 //! What stands later tells why an identifier denotes nothing, and whether a declaration has the
 //! completion that it asks for. So where each identifier denotes something, only the completions
-//! are left to look at behind the last event.
+//! are left to look at after the last event.
 ghost use Rattle.std.specs.Prelude.{◌≡◌, [], ◌∷◌, ◌++◌, false, true, OnOk, IfOk, None};
 ghost use Rattle.std.specs.List.{flat_map};
 ghost use Rattle.name_events.specs.Known.{Known};
@@ -103,7 +103,7 @@ fn look_up(
     }
 }
 
-/// What a pass over events found, and what is known behind them.
+/// What a pass over events found, and what is known after them.
 #[derive(Drop)]
 pub struct Pass {
     pub behind: Knowledge,

@@ -27,7 +27,7 @@ pub enum NameRefusal {
     /// N5: what completes the declaration is missing, or the specification of the package body.
     #[error("body missing")]
     NoBody(Pos),
-    /// N6: the name behind `end` isn't the unit's.
+    /// N6: the name after `end` isn't the unit's.
     #[error("closing name differs")]
     WrongEnd(Pos),
     /// There is too little memory.

@@ -335,7 +335,7 @@ fn component(now: &Knowledge, id: &FoldedIdentifier) -> Result<(), NameRefusal>
     Ok(())
 }
 
-/// A name behind `end`: N6.
+/// A name after `end`: N6.
 fn closing(id: &FoldedIdentifier, expected: &Word) -> Result<(), NameRefusal>
     ensures { Judges result (closing_fault id.now expected.now) }
 {

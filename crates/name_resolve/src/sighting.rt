@@ -104,7 +104,7 @@ fn see_region(
     }
 }
 
-/// Looks in the packages in use in these regions, of which the innermost stands last.
+/// Looks in the packages in use in these regions. The innermost region stands last.
 pub fn see_regions(
     declarations: &Declarations,
     given: &[usize],

@@ -54,7 +54,7 @@ fn events_of(alloc: Global, files: &[Trees]) -> Result<Listed<Event>, AllocError
     list.finish()
 }
 
-/// What is known behind events.
+/// What is known after events.
 fn learned(mut known: Knowledge, events: &[Event]) -> Result<Knowledge, AllocError>
     ensures { IfOk result (λ made. (now : Known) → Stands known now → Stands made (known_behind_all now events.now)) }
 {

@@ -108,8 +108,7 @@ impl Used {
         }
     }
 
-    /// Whether a package with this region is in use in these regions, of which the innermost
-    /// stands last.
+    /// Whether a package with this region is in use in these regions. The innermost stands last.
     fn is_used(&self, around: &[OpenRegion], region: usize) -> bool
         ensures { result ≡ is_used (given_regions self.now.given) self.now.own (reverse around.now) region }
     {

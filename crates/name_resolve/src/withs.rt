@@ -10,7 +10,7 @@ use crate::numbers::Numbers;
 use std::alloc::{AllocError, Global};
 use std::rc::Rc;
 
-/// What a unit has a `with` of, by number, in order: what it is given, and behind that its own.
+/// What a unit has a `with` of, by number, in order: what it is given, and after that its own.
 #[derive(Drop)]
 pub struct Withs {
     alloc: Global,

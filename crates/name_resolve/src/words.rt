@@ -40,7 +40,7 @@ impl Words {
         self.set.get_index_of(word)
     }
 
-    /// Adds a word behind the others, of which none is the same.
+    /// Adds a word after the others, none of which is the same.
     fn push(&mut self, word: &Word) -> Result<(), AllocError>
         ensures { OnOk result (self.new ≡ added_name self.old word.now) }
     {

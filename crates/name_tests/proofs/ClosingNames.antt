@@ -1,4 +1,4 @@
--- The name behind end is another one: N6.
+-- The name after end is another one: N6.
 --
 -- tools/tree_terms.py makes this of the sources that data/cases.txt has under its name.
 use Rattle.std.proofs.Common.{refl, [], ◌∷◌}

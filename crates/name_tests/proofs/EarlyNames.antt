@@ -453,7 +453,7 @@ later_6 : IsFirstBrokenOf TooEarly (at1 2 28) ((unit.OfPackage (at 1 1) (context
 unfolding computes resolves
 later_6 = refl
 
--- The same in a package body, behind the name of the package.
+-- The same in a package body, after the name of the package.
 own_member_later_1 : IsFirstBrokenOf TooEarly (at 5 51) ((unit.OfPackage (at 1 1) (context.With (at 1 1) (selected (at 1
     6) "Ada" (at 1 9) (at 1 10) "Text_IO") [] (at 1 17) ∷ use_context (use_of (at 1 19) None (selected (at 1 23) "Ada"
     (at 1 26) (at 1 27) "Text_IO") [] (at 1 34)) ∷ context.With (at 1 36) (selected (at 1 41) "Ada" (at 1 44) (at 1 45)

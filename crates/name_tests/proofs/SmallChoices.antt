@@ -29,7 +29,7 @@ later_package_without_with : IsFirstBroken "procedure P is begin A.X := 1; end; 
 unfolding computes resolves
 later_package_without_with = (source_of (search) (search) refl, refl)
 
--- A use clause counts behind its ";" only.
+-- A use clause counts after its ";" only.
 use_counts_behind_it : IsFirstBroken "package A is X : Integer; end; with A; procedure P is Y : Integer := X; use A; begin null; end;" Unknown 70
     (unit.OfPackage (at 1) [] (package_of 1 (id 9 "A") None 11 (decl.OfItem (at 14) (item.Objects (at 14) (id 14 "X") [] (at
     16) None (indication.Mark (at 18) (mark 18 "Integer")) (at 25)) ∷ []) None 27 None 30) ∷ unit.OfSubprogram (at 32)
@@ -146,7 +146,7 @@ body_of_library_procedure : IsFirstBroken "procedure P is begin null; end; packa
 unfolding computes resolves
 body_of_library_procedure = (source_of (search) (search) refl, refl)
 
--- A selector behind a subprogram is no occurrence.
+-- A selector after a subprogram is no occurrence.
 selector_through_subprogram : IsResolved "procedure P is X : Integer; begin P.Missing := 1; end;" (0 ∷ 15 ∷ [])
     (unit.OfSubprogram (at 1) [] (subprogram_of 1 (subspec.Procedure (at 1) (id 11 "P") None) None 13 (item.Objects (at 16)
     (id 16 "X") [] (at 18) None (indication.Mark (at 20) (mark 20 "Integer")) (at 27) ∷ []) 29 (sole 35 (stmt.Assign (at 35)

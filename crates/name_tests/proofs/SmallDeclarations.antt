@@ -191,7 +191,7 @@ body_without_specification : IsFirstBroken "package body A is end;" NoBody 14
 unfolding computes resolves
 body_without_specification = (source_of (search) (search) refl, refl)
 
--- The name behind end is that of the unit.
+-- The name after end is that of the unit.
 other_name_behind_end : IsFirstBroken "procedure P is begin null; end Q;" WrongEnd 32
     (unit.OfSubprogram (at 1) [] (subprogram_of 1 (subspec.Procedure (at 1) (id 11 "P") None) None 13 [] 16 (null_at 22) 28
     (Some (id 32 "Q")) 33) ∷ [])

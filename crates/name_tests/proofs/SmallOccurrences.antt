@@ -287,8 +287,8 @@ not_in_package : IsFirstBroken "package A is end; with A; procedure P is begin A
 unfolding computes resolves
 not_in_package = (source_of (search) (search) refl, refl)
 
--- An identifier behind a dot is no occurrence where no package stands before the dot, nor is one
--- before "=>" or behind an apostrophe.
+-- An identifier after a dot is no occurrence where no package stands before the dot, nor is one
+-- before "=>" or after an apostrophe.
 component_no_occurrence : IsResolved "procedure P is X : Integer; begin X.Missing := P (Absent => X'First); end;" (0 ∷ 16 ∷ 15 ∷ 16 ∷ [])
     (unit.OfSubprogram (at 1) [] (subprogram_of 1 (subspec.Procedure (at 1) (id 11 "P") None) None 13 (item.Objects (at 16)
     (id 16 "X") [] (at 18) None (indication.Mark (at 20) (mark 20 "Integer")) (at 27) ∷ []) 29 (sole 35 (stmt.Assign (at 35)

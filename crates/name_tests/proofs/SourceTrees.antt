@@ -72,7 +72,7 @@ IsFirstBrokenOf rule pos files = name_fault files ≡ Some (rule, pos)
 abbrev pub at : ℕ → ℕ → Pos
 at line column = record { file = 0; line = line; column = column }
 
--- The same of the files behind it.
+-- The same of the files after it.
 abbrev pub at1 : ℕ → ℕ → Pos
 at1 line column = record { file = 1; line = line; column = column }
 

@@ -37,7 +37,7 @@ use Rattle.name_events.specs.declared.declaration.NameRule.TheVariants.{Unknown}
 use Rattle.name_tests.proofs.SmallRules.{resolves}
 use Rattle.name_tests.proofs.SourceTrees.{IsFirstBrokenOf, actual_of, assign_of, at, at1, at2, call_of, expr_of, factor_of, fields_of, id, indication_of, initialized_of, mark, named, next_id_of, object, objects_of, package_body_of, package_of, private_part, rel_of, selected, sole, subprogram_of, sum_of, term_of, use_context, use_item, use_of}
 
--- The use clause stands behind the use of the name.
+-- The use clause follows the use of the name.
 before_use_clause_1 : IsFirstBrokenOf Unknown (at 14 44) ((unit.OfSubprogram (at 1 1) (context.With (at 1 1) (selected
     (at 1 6) "Ada" (at 1 9) (at 1 10) "Text_IO") [] (at 1 17) ∷ use_context (use_of (at 1 19) None (selected (at 1 23)
     "Ada" (at 1 26) (at 1 27) "Text_IO") [] (at 1 34)) ∷ context.With (at 1 36) (selected (at 1 41) "Ada" (at 1 44) (at
