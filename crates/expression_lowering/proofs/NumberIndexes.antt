@@ -40,11 +40,11 @@ number_at-none (item ∷ rest) pos d differs =
     rw (same_position-compared item.pos pos, differs 0 (omega arith))
     (number_at-none rest pos d (λ k below. differs (suc k) (omega arith)))
 
--- a position behind another compares as greater
+-- a position after another compares as greater
 position_cmp-behind : (a b : Pos) → Precedes b a → position_cmp a b ≡ Greater
 position_cmp-behind a b before = position_cmp-flip a b ∙ ap ordering_reverse before
 
--- and what compares as greater stands behind
+-- and what compares as greater comes after it
 pub position_cmp-ahead : (a b : Pos) → position_cmp a b ≡ Greater → Precedes b a
 position_cmp-ahead a b behind = position_cmp-flip b a ∙ ap ordering_reverse behind
 
@@ -68,7 +68,7 @@ module _ (numbers : List Identified) (ordered : InTextOrder numbers) (pos : Pos)
         | inr not_less ↦ let same : k ≡ i = omega arith in rw same here
       ]
 
-  -- from an identifier on that stands behind the position, all do
+  -- from an identifier on that stands after the position, all do
   pub begins_with : (i : ℕ) (d : Identified) → i < length numbers → Precedes pos (get_or numbers i d).pos
       → BeginsBehind numbers i pos
   begins_with i d within here k e above below =
@@ -79,7 +79,7 @@ module _ (numbers : List Identified) (ordered : InTextOrder numbers) (pos : Pos)
         | inr not_less ↦ let same : k ≡ i = omega arith in rw same here
       ]
 
--- all identifiers stand before the position or behind it
+-- all identifiers stand before the position or after it
 pub none_between : (numbers : List Identified) (pos : Pos) (from to : ℕ) → EndsBefore numbers from pos
     → BeginsBehind numbers to pos → to ≤ from → number_at numbers pos ≡ None
 none_between numbers pos from to before behind empty =

@@ -1,4 +1,4 @@
--- One more in front of what is made of a list, or behind its first ones.
+-- One more in front of what is made of a list, or after its first ones.
 use Rattle.std.proofs.Common.{◌≡◌, ℕ, suc, zero, ◌+◌, ◌<◌, Some, if◌then◌else◌, List, [], ◌∷◌, drop, map, length, refl, arith, get_or}
 use Rattle.std.proofs.Math.Seq.{drop-cons}
 use Rattle.spark_base.specs.declared.position.Pos.{Pos}

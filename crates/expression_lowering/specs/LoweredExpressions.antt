@@ -116,7 +116,7 @@ multiplying_operator multiplying.Divide = op.Divide
 multiplying_operator multiplying.Modulo = op.Modulo
 multiplying_operator multiplying.Remainder = op.Remainder
 
--- The attribute that an identifier behind an apostrophe spells, in any letter case.
+-- The attribute that an identifier after an apostrophe spells, in any letter case.
 abbrev pub attribute_of : Identifier → Attribute
 attribute_of id =
     if str_eq_ignore_ascii_case id.text (codes "first") then attribute.First
@@ -134,7 +134,7 @@ chain_operator (expr.Xor' pos _ first xor _ second _ rest) = op.Xor
 chain_operator (expr.AndThen' pos _ first and then_word _ second _ rest) = op.AndThen
 chain_operator (expr.OrElse' pos _ first or otherwise _ second _ rest) = op.OrElse
 
--- Operands behind the first one, which group to the left. What an operator makes begins where its
+-- Operands after the first one, which group to the left. What an operator makes begins where its
 -- left operand does.
 abbrev pub chained : Pos → Tree → List (Operator × Tree) → Tree
 chained pos left [] = left
@@ -165,8 +165,8 @@ abbrev pub last_of : ℕ → List ℕ → ℕ
 last_of d [] = d
 last_of d (e ∷ rest) = last_of e rest
 
--- A name, of the declarations of its leading identifiers and of what all behind the first one stand
--- for.
+-- A name, from the declarations of its leading identifiers and from what each part after the first
+-- one stands for.
 abbrev pub named : Numbers → Pos → Identifier → List ℕ → List Tree → Tree
 named numbers pos first leading behind =
     t.Named pos (last_of (number_of numbers first) leading) (list_of (drop (length leading) behind))

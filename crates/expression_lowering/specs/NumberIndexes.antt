@@ -29,7 +29,7 @@ InTextOrder numbers = (i j : ℕ) (d : Identified) → i < j → j < length numb
 abbrev pub EndsBefore : List Identified → ℕ → Pos → Type 0
 EndsBefore numbers from pos = (k : ℕ) (d : Identified) → k < from → Precedes (slice_index_or numbers k d).pos pos
 
--- All identifiers from the place on stand behind the position.
+-- All identifiers from the place on follow the position.
 abbrev pub BeginsBehind : List Identified → ℕ → Pos → Type 0
 BeginsBehind numbers to pos = (k : ℕ) (d : Identified) → to ≤ k → k < length numbers
     → Precedes pos (slice_index_or numbers k d).pos

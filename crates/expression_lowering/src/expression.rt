@@ -122,7 +122,7 @@ fn next_factor_parts(tree: &NextFactor) -> (Pos, MultiplyingOperator, &Factor)
     (*pos, *operator, factor)
 }
 
-/// An operator behind its left operand.
+/// An operator after its left operand.
 fn binary(
     pos: Pos,
     operator: Operator,
@@ -258,7 +258,7 @@ pub fn name(tree: &Name, numbers: &NumberIndex, rows: &mut Rows) -> Result<usize
     rows.push(Node::Named { pos, decl, rest })
 }
 
-/// What stands behind the front of a name.
+/// What follows the front of a name.
 #[cycle(expression)]
 fn suffixes(
     trees: &[Suffix],

@@ -1,7 +1,7 @@
 //! Where the lines of a text begin among its identifiers.
 //!
-//! Nothing is promised of the answers, which only make a search shorter: who asks looks at the
-//! identifiers there before it relies on one. So no list does harm, in whatever order it is.
+//! Nothing is promised of the answers, which only make a search shorter: the caller looks at the
+//! identifiers there before it relies on one. So no list does harm, whatever its order.
 use name_events::Identified;
 use spark_base::Pos;
 use std::alloc::{AllocError, Global};

@@ -89,7 +89,7 @@ fn ends_before(all: &[Identified], from: usize, pos: Pos) -> bool
     from == 0 || all[from - 1].pos.cmp(&pos).is_lt()
 }
 
-/// Whether all identifiers from a place on stand behind a position.
+/// Whether all identifiers from a place on follow a position.
 fn begins_behind(all: &[Identified], to: usize, pos: Pos) -> bool
     requires order { InTextOrder all.now }
     requires within { to ≤ length all.now }

@@ -22,7 +22,7 @@ occurrence n [] w = None
 occurrence n (g ∷ rest) w =
     if is_given w g then Some (record { first = n; again = is_some (occurrence (n + 1) rest w) }) else occurrence (n + 1) rest w
 
--- Where it occurs in two lists, one behind the other.
+-- Where it occurs in two lists, one after the other.
 abbrev pub both_lists : Option Occurrence → Option Occurrence → Option Occurrence
 both_lists None q = q
 both_lists (Some p) q = Some (record { first = p.first; again = p.again || is_some q })

@@ -217,7 +217,7 @@ impl<'p> Reader<'p> {
         }
     }
 
-    /// Whether the actuals behind the name of a subprogram are one for each of its formals.
+    /// Whether the actuals after the name of a subprogram are one for each of its formals.
     pub fn fits_call(&self, f: u32, rest: usize) -> bool
         requires { rest < length self.now.rows.now.0 }
         ensures { result ≡ associates (formal_names (profile_of (entry_of self.now.known.now f))) (given_names (call_arguments (tree_at self.now.rows.now rest))) }
@@ -231,7 +231,7 @@ impl<'p> Reader<'p> {
         formals.is_empty()
     }
 
-    /// Whether there are no actuals behind a name.
+    /// Whether there are no actuals after a name.
     pub fn has_no_actuals(&self, rest: usize) -> bool
         requires { rest < length self.now.rows.now.0 }
         ensures { result ≡ is_nil (given_names (call_arguments (tree_at self.now.rows.now rest))) }

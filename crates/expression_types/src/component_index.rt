@@ -46,7 +46,7 @@ pub fn index_type(alloc: Global, indexes: &mut Vec<Option<WordIndex>>, t: usize,
     put_index(indexes, t, index);
 }
 
-/// Of each type the index of the names of its components, where it is a record that has many and
+/// For each type, the index of the names of its components, where it is a record that has many and
 /// there is memory for it.
 pub fn component_indexes(alloc: Global, table: &[Info]) -> Vec<Option<WordIndex>>
     ensures { FindAllComponents result.items table.now }

@@ -50,7 +50,7 @@ fn index_subprogram(
     put_index(indexes, f, index);
 }
 
-/// Of each subprogram the index of the names of its formals, by the number of its declaration,
+/// For each subprogram, the index of the names of its formals, by the number of its declaration,
 /// where it has many and there is memory for it. The list has room only up to the last subprogram
 /// with an index.
 pub fn formal_indexes(alloc: Global, entries: &[Entry]) -> Vec<Option<WordIndex>>

@@ -4,10 +4,10 @@
 //! expression stands. Its methods answer what a name is as a value, what type an expression has by
 //! itself, whether it has the type that is demanded, what its static value is, and what arguments
 //! stand for. `type_definitions` has the definitions, each with the name of the function here that
-//! computes it; `docs/LANGUAGE.md`, "Types", says them in words (Ada 2012, 3, 4 and 6.4). Nothing
-//! is refused: that is for the crates above.
+//! computes it; `docs/LANGUAGE.md`, "Types", says them in words (Ada 2012, 3, 4 and 6.4). It
+//! refuses nothing: that is for the crates above.
 //!
-//! Time is linear in what is read. A component behind a name, and what an argument by name is for,
+//! Time is linear in what is read. A component after a name, and what an argument by name is for,
 //! is found by hash where the record or the subprogram has many and the reader has their index:
 //! `component_indexes` makes it for all types, `index_type` for one, and `formal_indexes` for all
 //! subprograms. Else it is compared with each. Whether arguments by name are one for each of many

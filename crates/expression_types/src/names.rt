@@ -119,7 +119,7 @@ impl<'p> Reader<'p> {
         }
     }
 
-    /// What stands at the end of what stands behind a place of a type.
+    /// The reading of the last suffix after a place of type `t`.
     #[tactic(auto, unfolding(type_definitions::specs::Names::along))]
     fn along(&self, t: u32, suffixes: usize) -> Reading
         requires { suffixes < length self.now.rows.now.0 }
@@ -140,7 +140,7 @@ impl<'p> Reader<'p> {
         Reading::Place { of: t }
     }
 
-    /// A number, behind which nothing may stand.
+    /// A number, after which nothing may stand.
     fn ended(&self, rest: usize, value: i64) -> Reading
         requires { rest < length self.now.rows.now.0 }
         ensures { result ≡ ended (is_end (tree_at self.now.rows.now rest)) value }
@@ -152,7 +152,7 @@ impl<'p> Reader<'p> {
         }
     }
 
-    /// Whether nothing stands behind the name of a call, or its actuals alone.
+    /// Whether nothing follows the name of a call, or its actuals alone.
     fn is_call(&self, rest: usize) -> bool
         requires { rest < length self.now.rows.now.0 }
         ensures { result ≡ is_call (tree_at self.now.rows.now rest) }
@@ -167,7 +167,7 @@ impl<'p> Reader<'p> {
         }
     }
 
-    /// Whether one argument by position stands behind an attribute, and nothing behind that.
+    /// Whether one argument by position follows an attribute, and nothing after that.
     fn is_imaged(&self, rest: usize) -> bool
         requires { rest < length self.now.rows.now.0 }
         ensures { result ≡ is_imaged (tree_at self.now.rows.now rest) }

@@ -21,9 +21,9 @@ pub struct Reader<'p> {
     pub rows: &'p Rows,
     /// What is known.
     pub known: &'p Known,
-    /// Of each type the index of the names of its components, where it has one.
+    /// For each type, the index of the names of its components, where it has one.
     pub components: &'p [Option<WordIndex>],
-    /// Of each subprogram the index of the names of its formals, where it has one.
+    /// For each subprogram, the index of the names of its formals, where it has one.
     pub formals: &'p [Option<WordIndex>],
     /// The package whose declarations these are, in any of its parts.
     pub home: Option<u32>,

@@ -51,7 +51,7 @@ impl<'p> Reader<'p> {
         }
     }
 
-    /// Whether an attribute alone stands behind a type, and gives a number.
+    /// Whether an attribute alone follows a type, and gives a number.
     fn is_bound(&self, d: u32, rest: usize) -> bool
         requires { rest < length self.now.rows.now.0 }
         ensures { result ≡ name_is_static true Entry.Type (tree_at self.now.rows.now rest) (reading_of (here self.now) d (tree_at self.now.rows.now rest)) }

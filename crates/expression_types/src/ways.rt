@@ -32,7 +32,7 @@ impl<'p> Reader<'p> {
         }
     }
 
-    /// What the arguments behind the name of a declaration are.
+    /// What the arguments after the name of a declaration are.
     pub fn way_of(&self, d: u32) -> Way
         ensures { result ≡ way_of self.now.known.now d (entry_of self.now.known.now d) }
     {
@@ -50,7 +50,7 @@ impl<'p> Reader<'p> {
         }
     }
 
-    /// What they are one selector, index, dereference or attribute further.
+    /// What the arguments mean after one more suffix.
     pub fn onward(&self, suffix: usize, way: Way) -> Way
         requires { suffix < length self.now.rows.now.0 }
         ensures { result ≡ onward (here self.now) (tree_at self.now.rows.now suffix) way }

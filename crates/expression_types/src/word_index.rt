@@ -77,7 +77,7 @@ impl WordIndex {
         }
     }
 
-    /// Adds a word that occurs behind the others.
+    /// Adds a word that occurs after the others.
     pub fn add(&mut self, alloc: Global, word: &Word, number: usize) -> Result<(), AllocError>
         ensures { OnOk result ((w : List ℕ) → occurs self.new w ≡ with_word (occurs self.old) word.now number w) }
     {

@@ -61,7 +61,7 @@ along s (a ∷ acts) = along (state_behind a s) acts
 abbrev behind : List Fact → List Act → FactState
 behind facts acts = along (none_hold facts) acts
 
--- Behind these acts exactly these of the facts hold, and at one more act this is found.
+-- After these acts exactly these of the facts hold, and at one more act this is found.
 abbrev Finds : List Fact → List Act → List Fact → Act → List Forbidden → Type 0
 Finds facts acts held next found =
     (may_hold (behind facts acts) ≡ held)
@@ -255,7 +255,7 @@ one_borrow_ends = (refl, refl)
 nothing_more : (met [] [] ≡ behind met_facts []) × (met (moves x ∷ []) (moves x ∷ []) ≡ behind met_facts (moves x ∷ []))
 nothing_more = (refl, refl)
 
--- behind a join, an act changes what holds on each path
+-- after a join, an act changes what holds on each path
 write_behind_join : may_hold (along (met [] (moves x ∷ [])) (Write x ∷ [])) ≡ []
 write_behind_join = refl
 

@@ -2,10 +2,10 @@
 //! names.
 //!
 //! They stand in a crate of their own, so that no library is proved a second time for its tests.
-//! What these crates answer, their clauses say for all facts and acts. So the lemmas of
+//! The clauses of these crates say what they answer, for all facts and acts. So the lemmas of
 //! `proofs/Rows.antt` compare the definitions with small paths that were worked out by hand from
-//! `docs/RULES.md`, and the tests show that the calls do answer, since a call may always say that it
-//! is out of memory. Nothing here is for other crates.
+//! `docs/RULES.md`, and the tests show that the calls do answer, since a call may always say that
+//! it is out of memory. Nothing here is for other crates.
 #![tactic(auto)]
 
 #[cfg(test)]

@@ -8,7 +8,7 @@ use std::test::Fail;
 /// The line, the rule, the word, the object, and the text of its name.
 type Row = (u32, Rule, Option<State>, u32, &'static str);
 
-/// The reports as they come. The numbers behind them say where each stands in the end.
+/// The reports as they come. The numbers after them say where each stands in the end.
 const COME: [(Row, usize); 10] = [
     ((9, Rule::O1, Some(State::Moved), 1, "X"), 7),
     ((8, Rule::O4, Some(State::Moved), 1, "X"), 4),
@@ -50,7 +50,7 @@ fn ordered(alloc: Global) -> Result<Vec<PrintedReport>, AllocError> {
     for row in &COME {
         set.insert(printed(alloc, &row.0)?)?;
     }
-    Ok(set.into_ordered(alloc)?)
+    set.into_ordered(alloc)
 }
 
 #[test]

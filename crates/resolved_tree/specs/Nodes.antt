@@ -13,7 +13,7 @@ Rows = List Node × List CodeNode
 
 -- ---- rows of any nodes
 
--- The values of nodes, behind other values: each is made of those before it.
+-- The values of nodes, after other values: each is made of those before it.
 abbrev pub grown : {N T : Type 0} → ((ℕ → T) → N → T) → T → List T → List N → List T
 grown make none made [] = made
 grown make none made (n ∷ rest) = grown make none (made ++ make (λ i. get_or made i none) n ∷ []) rest
@@ -162,7 +162,7 @@ code_at rows i = get_or (grown (code_of (tree_at rows)) NoMore [] rows.1) i NoMo
 abbrev pub in_order : Rows → Bool
 in_order rows = are_below is_below 0 rows.0 && are_below (is_code_below (length rows.0)) 0 rows.1
 
--- Nodes were added behind others, whose trees and code are still there.
+-- Nodes were added after others, whose trees and code are still there.
 pub record Grew (old new : Rows) : Type 0 where
   pub more_trees : length old.0 ≤ length new.0
   pub same_trees : (i : ℕ) → i < length old.0 → tree_at new i ≡ tree_at old i

@@ -9,15 +9,15 @@ use Rattle.resolved_tree.specs.declared.operator.UnaryOperator.{UnaryOperator}
 use Rattle.resolved_tree.specs.declared.operator.Attribute.{Attribute}
 use Rattle.resolved_tree.specs.declared.node.Mark.{Mark}
 
--- Expressions, what stands behind names, arguments, and lists of these. The position of an
+-- Expressions, what follows names, arguments, and lists of these. The position of an
 -- expression is that of its first token.
 pub data Tree : Type 0 where
   Number : Pos → ℕ → Tree
   -- a string, with its quotes
   Text : Pos → List ℕ → Tree
   Null : Pos → Tree
-  -- a name: the declaration that its identifier denotes, or the last one of the identifiers behind
-  -- packages, and the list of what stands behind that
+  -- a name: the declaration that its identifier denotes, or the last one of the identifiers after
+  -- packages, and the list of what follows that
   Named : Pos → ℕ → Tree → Tree
   Parens : Pos → Tree → Tree
   Unary : Pos → UnaryOperator → Tree → Tree
@@ -27,7 +27,7 @@ pub data Tree : Type 0 where
   Others : Pos → Tree → Tree
   -- an allocator: its mark, and a list of no argument or one, which is its value
   New : Pos → Mark → Tree → Tree
-  -- what stands behind a name
+  -- what follows a name
   Selected : List ℕ → Tree
   All : Tree
   Applied : Tree → Tree
@@ -80,7 +80,7 @@ pub data Code : Type 0 where
   Call : Tree → Code
   Exit : Pos → Tree → Code
   Return : Pos → Tree → Code
-  -- the branches, and the statements behind `else`
+  -- the branches, and the statements after `else`
   If : Pos → Code → Code → Code
   Branch : Pos → Tree → Code → Code
   Case : Pos → Tree → Code → Code

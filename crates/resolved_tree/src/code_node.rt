@@ -31,7 +31,7 @@ pub enum CodeNode {
         low: usize,
         high: usize,
     },
-    /// A mark as a range, or a name of which typing has to find a mark.
+    /// A mark as a range, or a name whose mark typing has to find.
     Marked {
         mark: Mark,
     },
@@ -106,7 +106,7 @@ pub enum CodeNode {
         names: usize,
         value: usize,
     },
-    /// An instance: what stands behind `new`, and the list of its actuals.
+    /// An instance: what follows `new`, and the list of its actuals.
     Instance {
         name: usize,
         generic: Mark,
@@ -172,7 +172,7 @@ pub enum CodeNode {
         pos: Pos,
         value: usize,
     },
-    /// `if`: the list of its branches, and the list of the statements behind `else`.
+    /// `if`: the list of its branches, and the list of the statements after `else`.
     If {
         pos: Pos,
         branches: usize,
@@ -237,7 +237,7 @@ pub enum CodeNode {
     },
     /// The end of a list.
     NoMore,
-    /// The first of a list, and those behind it.
+    /// The first of a list, and those after it.
     More {
         first: usize,
         rest: usize,

@@ -13,7 +13,7 @@ pub struct Mark {
     pub decl: Option<u32>,
 }
 
-/// A node of an expression, of what stands behind a name, or of a list of these. Each has the
+/// A node of an expression, of what follows a name, or of a list of these. Each has the
 /// position of the first token of what it stands for, where it has one.
 #[derive(Drop)]
 pub enum Node {
@@ -32,7 +32,7 @@ pub enum Node {
         pos: Pos,
     },
     /// A name: the declaration that its identifier denotes, or the last one of the identifiers
-    /// behind packages, and the list of what stands behind that.
+    /// after packages, and the list of what follows that.
     Named {
         pos: Pos,
         decl: u32,
@@ -87,7 +87,7 @@ pub enum Node {
         attribute: Attribute,
     },
     /// The first of a list of arguments: the identifier before its `=>`, its expression, and the
-    /// arguments behind it.
+    /// arguments after it.
     Argument {
         name: Option<Word>,
         value: usize,
@@ -95,7 +95,7 @@ pub enum Node {
     },
     /// The end of a list.
     NoMore,
-    /// The first of a list, and those behind it.
+    /// The first of a list, and those after it.
     More {
         first: usize,
         rest: usize,

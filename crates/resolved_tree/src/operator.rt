@@ -54,7 +54,7 @@ pub enum UnaryOperator {
     Not,
 }
 
-/// What stands behind an apostrophe (Ada 2012, 4.1.4).
+/// What follows an apostrophe (Ada 2012, 4.1.4).
 #[derive(Clone, Copy, PartialEq, Eq)]
 pub enum Attribute {
     /// First

@@ -287,6 +287,6 @@ lowered_unit numbers (unit.OfSubprogram pos clauses body) = lowered_subprogram n
 unfoldable pub lowered_files : Numbers → List (List SourceUnit) → List Code
 lowered_files numbers files = flat_map (map (lowered_unit numbers)) files
 
--- The program that the files are, of which so many declarations are known.
+-- The program that the files are, with so many known declarations.
 abbrev pub program_of : Numbers → ℕ → List (List SourceUnit) → Program
 program_of numbers count files = record { count = count; units = lowered_files numbers files }

@@ -262,7 +262,7 @@ fn for_loop(
     })
 }
 
-/// `begin` stmts `end`, behind the list of the items
+/// `begin` stmts `end`, after the list of the items
 #[cycle(statement)]
 fn block(
     body: &Stmts,

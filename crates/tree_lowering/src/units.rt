@@ -107,7 +107,7 @@ fn unit(tree: &SourceUnit, numbers: &NumberIndex, rows: &mut Rows) -> Result<usi
     }
 }
 
-/// The units of a file, behind others.
+/// The units of a file, after others.
 fn file(
     trees: &[SourceUnit],
     numbers: &NumberIndex,

@@ -285,7 +285,7 @@ same_indicated table s t =
     else is_same table s t
 
 -- The types of a formal of the declaration and of the body. A mark of the body that denotes no type
--- breaks K1 behind.
+-- breaks K1 later.
 abbrev pub same_formal : Table → FormalInfo → FormalInfo → Bool
 same_formal table f g =
     same_word f.name g.name && (same_mode f.mode g.mode && (not g.typed || same_indicated table f.of g.of))

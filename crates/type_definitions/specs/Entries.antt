@@ -29,8 +29,8 @@ abbrev pub is_type : Entry → Bool
 is_type entry.Type = true
 is_type _ = false
 
--- What a mark denotes. Where that is no type, the mark breaks K1, maybe behind what uses it: it may
--- stand in a full type.
+-- What a mark denotes. Where that is no type, the mark breaks K1, maybe later in the text than its
+-- use: it may stand in a full type.
 abbrev pub type_of_entry : ℕ → Entry → ℕ
 type_of_entry d entry.Type = d
 type_of_entry d _ = untyped

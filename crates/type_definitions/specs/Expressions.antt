@@ -2,7 +2,7 @@
 -- 2012, 4 and 6.4).
 --
 -- Each fault stands at the first token of the expression or name that it is about. What follows from
--- a broken sentence may be listed too, where it stands behind. A mark in a full type may stand behind
+-- a broken sentence may be listed too, where it stands later. A mark in a full type may stand after
 -- the use of that type: where it denotes no type, and it is asked which fault is told, nothing that
 -- follows from it is listed.
 use Rattle.std.specs.Prelude.{ℕ, ◌+◌, Bool, true, false, not, ◌&&◌, ◌||◌, List, [], ◌∷◌, ◌++◌, map, length, get_or, nat_eq, nat_le, Option, Some, None, is_some, if◌then◌else◌}
@@ -111,7 +111,7 @@ own_type c _ = own.Demanding
 -- ---- what a place demands
 
 -- Where an expression stands: as the source of an assignment, an initial value, an allocator's value, a component or a
--- function's return; as an `in` actual; behind `others =>`; in parentheses; or elsewhere.
+-- function's return; as an `in` actual; after `others =>`; in parentheses; or elsewhere.
 abbrev pub takes_owning : Where → Bool
 takes_owning stands.Stored = true
 takes_owning stands.InParens = true
@@ -528,7 +528,7 @@ around_operands c p op a b =
 -- ---- the sentences within an expression
 
 unfoldable mutual
-  -- within an expression of which `want` is demanded, or nothing where it has a type of its own
+  -- within an expression for which `want` is demanded, or nothing where it has a type of its own
   pub inside : Context → Bool → ℕ → Tree → List Fault
   inside c loose want (Number p n) = demand 7 p (nat_le n 2147483647)
   inside c loose want (Named p d rest) =
@@ -558,7 +558,7 @@ unfoldable mutual
   within_suffix c way (Applied args) = arguments c (role_of way) 0 args
   within_suffix c way _ = []
 
-  -- within what stands behind a name
+  -- within what follows a name
   pub behind : Context → Way → Tree → List Fault
   behind c way (More s rest) = within_suffix c way s ++ behind c (onward c s way) rest
   behind c way _ = []

@@ -74,7 +74,7 @@ abbrev pub with_indication : ℕ → Code → Context → Context
 with_indication d (Anonymous p constant m) c = with_info d (own_info (shape.Access (marked c.known m) constant false) d) c
 with_indication d _ c = c
 
--- What an indication's mark denotes is a type.
+-- An indication's mark denotes a type.
 abbrev pub indicates_type : Known → Code → Bool
 indicates_type known (Plain m) = denotes_type known m.decl
 indicates_type known (Anonymous p constant m) = denotes_type known m.decl

@@ -50,7 +50,7 @@ seen_info here (Some i) = if is_within i.seen_in here then view_of i.shape else 
 unfoldable pub seen : Context → ℕ → View
 seen c t = seen_info c.within (slice_get c.known.table (meant_type c.known.table t))
 
--- ---- what stands behind a name
+-- ---- what follows a name
 
 -- The component with an identifier.
 abbrev pub component : List ℕ → List Component → Next
@@ -90,7 +90,7 @@ abbrev pub through : View → ℕ → ℕ
 through (view.Access designated constant named) t = designated
 through _ t = t
 
--- Behind a place whose type isn't known stands another such place.
+-- What follows a place whose type isn't known is another such place.
 abbrev pub reached : Table → ℕ → Next → Next
 reached table t next = if is_untyped table t then Goes untyped else next
 
@@ -119,12 +119,12 @@ led_on on rest (Goes t) = on t
 led_on on rest (Gives v) = ended (is_end rest) v
 led_on on rest Stops = reading.Off
 
--- From a place of a type along what stands behind it.
+-- From a place of a type along what follows it.
 unfoldable pub along : Context → ℕ → Tree → Reading
 along c t (More s rest) = led_on (λ u. along c u rest) rest (step c s t)
 along c t _ = reading.Place t
 
--- A call has nothing behind its name, or its actuals alone.
+-- A call has nothing after its name, or its actuals alone.
 abbrev pub is_call : Tree → Bool
 is_call NoMore = true
 is_call (More (Applied args) NoMore) = true

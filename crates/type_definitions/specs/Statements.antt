@@ -133,7 +133,7 @@ name_object = codes "Object"
 abbrev pub name_name : List ℕ
 name_name = codes "Name"
 
--- The actuals of a call statement, where its name is an identifier or has actuals alone behind that.
+-- The actuals of a call statement, where its name is an identifier or has actuals alone after that.
 abbrev pub actuals_of : Tree → Option Tree
 actuals_of NoMore = Some NoMore
 actuals_of (More (Applied args) NoMore) = Some args
@@ -267,7 +267,7 @@ abbrev pub doubled : List Cover → List Cover → List Fault
 doubled before [] = []
 doubled before (k ∷ rest) = demand 4 k.at (not (any_meets k before)) ++ doubled (before ++ k ∷ []) rest
 
--- A gap begins at the low bound or right behind a choice.
+-- A gap begins at the low bound or right after a choice.
 abbrev pub gap_at : ℤ → ℤ → List Cover → ℤ → Bool
 gap_at low high all v = int_le low v && int_le v high && not (any_covers all v)
 

@@ -103,8 +103,8 @@ abbrev pub numbered : ℕ → (ℕ → List (List Sel)) → List Component → L
 numbered i parts [] = []
 numbered i parts (c ∷ rest) = map (λ q. Field i ∷ q) (parts c.of) ++ numbered (i + 1) parts rest
 
--- The access parts of a type: the ways without a dereference to a named access type, in the order
--- of the components; one way for all elements of an array.
+-- The access parts of a type: the paths without a dereference to a named access type, in the order
+-- of the components; one path for all elements of an array.
 abbrev pub parts_of : (ℕ → List (List Sel)) → Shape → List (List Sel)
 parts_of parts (shape.Whole low high) = []
 parts_of parts (shape.Listed literals low high) = []

@@ -135,11 +135,11 @@ abbrev pub gather_units : List Code → Context → Context
 gather_units [] c = c
 gather_units (u ∷ rest) c = gather_units rest (gather u c)
 
--- All that is known behind the units of a program, where this table is known before them.
+-- All that is known after the units of a program, where this table is known before them.
 abbrev pub known_from : Program → Table → Known
 known_from p table = (gather_units p.units (outside (record (at_first false p.count) { table = table }))).known
 
--- All that is known behind the program. Its units are gathered twice: where the first turn meets the
+-- All that is known after the program. Its units are gathered twice: where the first pass meets the
 -- use of a type that is incomplete or private there, the second one knows its full type.
 abbrev pub known_with : Bool → Program → Known
 known_with asked p = known_from p (known_from p (at_first asked p.count).table).table
@@ -183,7 +183,8 @@ decided None None = None
 abbrev pub fault_known : Known → List Code → Option TypeFault
 fault_known known units = decided (first (type_sizes known units)) (first (sentence_faults known units))
 
--- Of a program that breaks a sentence, the first fault is told that doesn't follow from another one.
+-- The fault told of a program that breaks a sentence is the first that doesn't follow from another
+-- one.
 abbrev pub told : Option TypeFault → Option TypeFault → Option TypeFault
 told None found = None
 told (Some f) None = Some f

@@ -90,7 +90,7 @@ pub enum Where {
     Stored,
     /// As an `in` actual.
     Actual,
-    /// Behind `others =>`.
+    /// After `others =>`.
     AfterOthers,
     /// In parentheses.
     InParens,
@@ -110,7 +110,7 @@ pub enum Role {
     Every { of: u32 },
 }
 
-/// What the arguments behind a name are.
+/// What the arguments after a name are.
 #[derive(Clone, Copy)]
 pub enum Way {
     /// Indexes, along a place that is of this type so far.

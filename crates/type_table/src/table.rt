@@ -17,7 +17,7 @@ pub struct TypeSize {
     pub words: u32,
     /// Whether it is a named access type, or has an owning component or element.
     pub owning: bool,
-    /// Its access parts: the ways without a dereference to a named access type.
+    /// Its access parts: the paths without a dereference to a named access type.
     pub parts: Parts,
 }
 
