@@ -359,7 +359,7 @@ with_of_later_package : IsFirstBroken "with A; procedure P is begin null; end; p
 unfolding computes resolves
 with_of_later_package = (source_of (search) (search) refl, refl)
 
--- In a with stands a package.
+-- A package stands in a with.
 with_of_nothing : IsFirstBroken "with Missing; procedure P is begin null; end;" Unknown 6
     (unit.OfSubprogram (at 1) (context.With (at 1) (mark 6 "Missing") [] (at 13) ∷ []) (subprogram_of 15 (subspec.Procedure
     (at 15) (id 25 "P") None) None 27 [] 30 (null_at 36) 42 None 45) ∷ [])
@@ -374,14 +374,14 @@ with_of_procedure : IsFirstBroken "procedure P is begin null; end; with P; packa
 unfolding computes resolves
 with_of_procedure = (source_of (search) (search) refl, refl)
 
--- In a use stands a package.
+-- A package stands in a use.
 use_of_type : IsFirstBroken "procedure P is use Integer; begin null; end;" Unknown 20
     (unit.OfSubprogram (at 1) [] (subprogram_of 1 (subspec.Procedure (at 1) (id 11 "P") None) None 13 (item.Use (at 16)
     (use_of 16 None (mark 20 "Integer") [] 27) ∷ []) 29 (null_at 35) 41 None 44) ∷ [])
 unfolding computes resolves
 use_of_type = (source_of (search) (search) refl, refl)
 
--- In a use type stands a type.
+-- A type stands in a use type.
 use_type_of_package : IsFirstBroken "package A is end; with A; use type A; procedure P is begin null; end;" Unknown 36
     (unit.OfPackage (at 1) [] (package_of 1 (id 9 "A") None 11 [] None 14 None 17) ∷ unit.OfSubprogram (at 19) (context.With
     (at 19) (mark 24 "A") [] (at 25) ∷ context.Use (at 27) (use_of 27 (Some (at 31)) (mark 36 "A") [] 37) ∷ [])

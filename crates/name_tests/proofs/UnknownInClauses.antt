@@ -1,4 +1,4 @@
--- In a with or a use stands what may not stand there: N1.
+-- A with or a use has what may not stand there: N1.
 --
 -- tools/tree_terms.py makes this of the sources that data/cases.txt has under its name.
 use Rattle.std.proofs.Common.{refl, [], ◌∷◌}
@@ -39,7 +39,7 @@ use Rattle.name_events.specs.declared.declaration.NameRule.TheVariants.{Unknown}
 use Rattle.name_tests.proofs.SmallRules.{resolves}
 use Rattle.name_tests.proofs.SourceTrees.{IsFirstBrokenOf, actual_of, assign_of, association_of, at, call_of, constrained_of, dotted_of, expr_of, factor_of, fields_of, formals_of, id, indication_of, initialized_of, mark, moded_of, named, next_id_of, numbers_of, object, objects_of, package_body_of, package_of, selected, sole, subprogram_of, sum_of, term_of, use_context, use_item, use_of}
 
--- In a with stands no package.
+-- What stands in a with is no package.
 wrong_in_with_1 : IsFirstBrokenOf Unknown (at 8 32) ((unit.OfSubprogram (at 1 1) (context.With (at 1 1) (selected (at 1
     6) "Ada" (at 1 9) (at 1 10) "Text_IO") [] (at 1 17) ∷ use_context (use_of (at 1 19) None (selected (at 1 23) "Ada"
     (at 1 26) (at 1 27) "Text_IO") [] (at 1 34)) ∷ context.With (at 1 36) (selected (at 1 41) "Ada" (at 1 44) (at 1 45)
@@ -359,7 +359,7 @@ wrong_in_with_6 : IsFirstBrokenOf Unknown (at 43 12) ((unit.OfSubprogram (at 1 1
 unfolding computes resolves
 wrong_in_with_6 = refl
 
--- In a use stands no package.
+-- What stands in a use is no package.
 wrong_in_use_1 : IsFirstBrokenOf Unknown (at 7 59) ((unit.OfSubprogram (at 1 1) (context.With (at 1 1) (selected (at 1
     6) "Ada" (at 1 9) (at 1 10) "Text_IO") [] (at 1 17) ∷ use_context (use_of (at 1 19) None (selected (at 1 23) "Ada"
     (at 1 26) (at 1 27) "Text_IO") [] (at 1 34)) ∷ context.With (at 1 36) (selected (at 1 41) "Ada" (at 1 44) (at 1 45)

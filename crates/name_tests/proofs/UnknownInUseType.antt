@@ -1,4 +1,4 @@
--- In a use type stands no type: N1.
+-- What stands in a use type is no type: N1.
 --
 -- tools/tree_terms.py makes this of the sources that data/cases.txt has under its name.
 use Rattle.std.proofs.Common.{refl, [], ◌∷◌}
