@@ -22,7 +22,7 @@ more_below m i node first rest is below =
 pub size_both : (a b : Extent) (w : Ways) → size (both a b) w ≡ size a w + size b w
 size_both a b w = omega arith
 
--- The first alternative, and those behind it.
+-- The first alternative, and those after it.
 pub starts_room : (ends : ℕ → Bool) (c a rest : TypedCode) (w : Ways) (n m : ℕ) → c ≡ More a rest → m ≡ size (when_span ends a) w
     → n + size (whens_span ends c) w ≤ 16384 → n + m + size (whens_span ends rest) w ≤ 16384
 unfolding whens_span
@@ -117,7 +117,7 @@ whens_step g c a rest w k made more all n now t f is count fills done before =
 
 -- ---- blocks
 
--- The objects of a block end behind it, and where an exit or a return leaves it.
+-- The objects of a block end after it, and where an exit or a return leaves it.
 pub block_size : (a b : Extent) (xs ys : List ℕ) (w v : Ways) → b ≡ a → ys ≡ xs → v ≡ around_block ys w
     → size b v + length ys ≡ size (ending_with (length xs) a) w
 block_size a b xs ys w v b_is ys_is v_is =

@@ -30,8 +30,8 @@ bare_of rows q = bare q.pos (instruction_of (typed_at rows) (typed_code_at rows)
 abbrev pub bares : TypedNodes → List Point → List Bare
 bares rows points = map (bare_of rows) points
 
--- What bare points go by: whether the scope of an object ends at a point, and whether temporaries have
--- numbers.
+-- What bare points go by: whether the scope of an object ends at a point, and whether temporaries
+-- have numbers.
 pub record Laying : Type 0 where
   pub ends : ℕ → Bool
   pub counted : Bool

@@ -1,4 +1,4 @@
--- The points of statements, without acts and leak checks (`flow_numbers/specs/Statements.antt`).
+-- The points of statements, without acts and leak checks (`numbered_points/specs/Statements.antt`).
 use Rattle.std.specs.Prelude.{ℕ, ◌+◌, Bool, List, [], ◌∷◌, ◌++◌, length, None}
 use Rattle.spark_base.specs.declared.position.Pos.{Pos}
 use Rattle.typed_tree.specs.Trees.{TypedTree, TypedCode, Declare, Assign, Skip, Output, Input, Release, If, Branch, Case, When, Loop, While, For, Exit, Return, Block, More}
@@ -45,7 +45,8 @@ whens_start ends _ n w k = []
 -- ---- statements
 
 unfoldable mutual
-  -- a statement, and a list of statements, of which each leads to the next one and the last one to k
+  -- a statement, and a list of statements, of which each leads to the next one and the last one to
+  -- k
   pub bare_laid : Laying → TypedCode → ℕ → ℕ → Ways → List ℕ → List Bare
   bare_laid g (More a rest) n t w k =
       let behind : ℕ = n + size (code_span g.ends a) w in
@@ -65,7 +66,7 @@ unfoldable mutual
   bare_laid g (Input p target) n t w k = bare_used g p target (instruction.Input target) n t k
   -- an instance of Unchecked_Deallocation: Prep; Release
   bare_laid g (Release p m) n t w k = bare_used g p m (instruction.Release m) n t k
-  -- if: its branches in order, and behind them the statements of `else`
+  -- if: its branches in order, and then the statements of `else`
   bare_laid g (If branches otherwise) n t w k =
       let behind : ℕ = n + size (branches_span g.ends branches) w in
       bare_branches g branches n t w k (next_of (size (code_span g.ends otherwise) w) behind k)
@@ -78,19 +79,20 @@ unfoldable mutual
   -- a plain loop has none of its own. Its statements lead back to their own first point
   bare_laid g (Loop stmts) n t w k =
       bare_laid g stmts n t (around_loop k w) (next_of (size (code_span g.ends stmts) (around_loop k w)) n k)
-  -- while, each turn and the last test: Prep; Test
+  -- while, each iteration and the last test: Prep; Test
   bare_laid g (While p e stmts) n t w k =
       let inner : ℕ = n + prep_size e + 1 in
       bare_used g p e (instruction.Test e) n t (next_of (size (code_span g.ends stmts) (around_loop k w)) inner (n ∷ []) ++ k)
       ++ bare_laid g stmts inner (t + filled_in e) (around_loop k w) (n ∷ [])
-  -- for: Prep; Start; then for each turn and the last test Next
+  -- for: Prep; Start; then for each iteration and the last test Next
   bare_laid g (For p x reversed low high stmts) n t w k =
       let next : ℕ = n + prep_size low + prep_size high + 1 in
       bare_used_both g p low high (instruction.Start x reversed low high) n t (next ∷ [])
       ++ bare p (instruction.Next x reversed low high)
       (next_of (size (code_span g.ends stmts) (around_loop k w)) (next + 1) (next ∷ []) ++ k)
       ∷ bare_laid g stmts (next + 1) (t + filled_in low + filled_in high) (around_loop k w) (next ∷ [])
-  -- exit: Prep; LeaveLoop; where it leaves, the ends of each scope between it and the loop, inner first
+  -- exit: Prep; LeaveLoop; where it leaves, the ends of each scope between it and the loop, inner
+  -- first
   bare_laid g (Exit p e) n t w k =
       let out : ℕ = n + prep_size e + 1 in
       bare_used g p e (instruction.LeaveLoop e) n t (next_of (length w.in_loop) out w.leave ++ unless_empty e k)
@@ -105,8 +107,8 @@ unfoldable mutual
       bare_laid g stmts n t (around_block xs w) (next_of (length xs) out k) ++ bare_ended end xs out k
   bare_laid g _ n t w k = []
 
-  -- the branches of an `if`; a condition that doesn't hold leads to the next branch, and the last one to
-  -- what stands behind `else`
+  -- the branches of an `if`; a condition that doesn't hold leads to the next branch, and the last
+  -- one to what follows `else`
   pub bare_branches : Laying → TypedCode → ℕ → ℕ → Ways → List ℕ → List ℕ → List Bare
   bare_branches g (More a rest) n t w k otherwise =
       let behind : ℕ = n + size (branch_span g.ends a) w in
@@ -133,7 +135,7 @@ unfoldable mutual
   bare_when g (When choices stmts) n t w k = bare_laid g stmts n t w k
   bare_when g _ n t w k = []
 
--- The turns of a `for` loop: a point that takes the next value, and those of the statements.
+-- The iterations of a `for` loop: a point that takes the next value, and those of the statements.
 abbrev pub bare_turns : Laying → Pos → Instruction → TypedCode → ℕ → ℕ → Ways → List ℕ → List Bare
 bare_turns g p i stmts n t w k =
     bare p i (next_of (size (code_span g.ends stmts) (around_loop k w)) (n + 1) (n ∷ []) ++ k)

@@ -1,5 +1,5 @@
 -- The points that come before a point which uses an expression, without acts and leak checks
--- (`flow_numbers/specs/Prepared.antt`).
+-- (`numbered_points/specs/Prepared.antt`).
 use Rattle.std.specs.Prelude.{ℕ, ◌+◌, List, [], ◌∷◌, ◌++◌, Some, None, if◌then◌else◌}
 use Rattle.spark_base.specs.declared.position.Pos.{Pos}
 use Rattle.typed_tree.specs.declared.node.ShortCircuit.{ShortCircuit}
@@ -16,9 +16,9 @@ unfoldable pub bare_prepared : Laying → TypedTree → ℕ → ℕ → List ℕ
 bare_prepared g (Call p sub actuals) n t k =
     bare_prepared g actuals n t ((n + prep_size actuals) ∷ [])
     ++ bare p (instruction.Call sub actuals (Some (temporary_of g (t + filled_in actuals)))) k ∷ []
--- a short circuit with a call on the right: those of the left operand; a point that evaluates it; those
--- of the right operand; a point that evaluates that. The left operand leads on to the right one, or past
--- it
+-- a short circuit with a call on the right: those of the left operand; a point that evaluates it;
+-- those of the right operand; a point that evaluates that. The left operand leads on to the right
+-- one, or past it
 bare_prepared g (Short op p a q b) n t k =
     if has_call b then
     (let middle : ℕ = n + prep_size a in
@@ -49,7 +49,7 @@ bare_prepared g (Alike t0 e) n t k = bare_prepared g e n t k
 bare_prepared g (New t0 e) n t k = bare_prepared g e n t k
 bare_prepared g _ n t k = []
 
--- One expression and another behind it.
+-- One expression and another after it.
 abbrev pub prepared_both : Laying → TypedTree → TypedTree → ℕ → ℕ → List ℕ → List Bare
 prepared_both g a b n t k =
     bare_prepared g a n t (next_of (prep_size b) (n + prep_size a) k) ++ bare_prepared g b (n + prep_size a) (t + filled_in a) k

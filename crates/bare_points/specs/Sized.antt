@@ -29,6 +29,6 @@ ArePreps rows n preps = (i : ℕ) → i < n → get_or preps i no_prep ≡ prep_
 abbrev pub AreSpans : TypedNodes → (ℕ → Bool) → ℕ → List Extent → Type 0
 AreSpans rows ends n spans = (i : ℕ) → i < n → get_or spans i nothing ≡ code_span ends (typed_code_at rows i)
 
--- Points that use an expression: n of them behind those that come before.
+-- Points that use an expression: n of them after those that come before.
 abbrev pub used_by : Prep → ℕ → Extent
 used_by e n = extent (e.size + n) 0 0 e.filled

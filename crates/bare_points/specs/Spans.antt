@@ -1,5 +1,5 @@
--- How many points there are (`flow_numbers/specs/Extents.antt`), by a test that tells of which objects
--- the scope ends at a point.
+-- How many points there are (`numbered_points/specs/Extents.antt`), by a test that tells of which
+-- objects the scope ends at a point.
 use Rattle.std.specs.Prelude.{ℕ, Bool, false, List, filter, reverse, length, get_or}
 use Rattle.typed_tree.specs.Trees.{TypedTree, TypedCode, Declare, Assign, Skip, Output, Input, Release, If, Branch, Case, When, Loop, While, For, Exit, Return, Block}
 use Rattle.typed_tree.specs.Trees as typed

@@ -36,7 +36,7 @@ pub fn copied(alloc: Global, k: &[u32]) -> Result<Listed<u32>, AllocError>
     Ok(Listed::from_vec(Vec::from_slice(alloc, k)?))
 }
 
-/// Some numbers and others behind them.
+/// Some numbers and others after them.
 pub fn joined(alloc: Global, a: &[u32], b: &[u32]) -> Result<Listed<u32>, AllocError>
     ensures { IfOk result (λ made. made ≡ a.now ++ b.now) }
 {

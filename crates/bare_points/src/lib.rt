@@ -7,8 +7,8 @@
 //! subprogram, and `package_points` those that declare the package objects. A point has its
 //! position, its instruction and its successors; its acts and leak checks are empty, since they go
 //! by position and instruction alone. `specs/BareLaid.antt` states these points row by row, and
-//! `proofs/Dressed.antt` shows that they are those of `numbered_points` with acts and leak checks left
-//! out (`docs/FLOW.md`, "Points").
+//! `proofs/Dressed.antt` shows that they are those of `numbered_points` with acts and leak checks
+//! left out (`docs/FLOW.md`, "Points").
 //!
 //! Whose scopes end at points is told by a list of truth values by object number. A subprogram with
 //! more than 16,384 points is told before one is laid out. The only error is out of memory, and

@@ -15,7 +15,7 @@ use std::alloc::AllocError;
 use typed_tree::TypedCodeNode;
 
 impl<'p> Layout<'p> {
-    /// Adds the points of an `if`: those of its branches, and of what stands behind `else`.
+    /// Adds the points of an `if`: those of its branches, and of what follows `else`.
     #[cycle(lay)]
     #[tactic(auto, unfolding(crate::specs::BareLaid::bare_laid))]
     fn if_statement(
@@ -302,8 +302,8 @@ impl<'p> Layout<'p> {
         self.statements(stmts, t + prep.filled as u32, &inner, &turn, made)
     }
 
-    /// Adds the points of the turns of a `for` loop: one that takes the next value, and those of its
-    /// statements.
+    /// Adds the points of the iterations of a `for` loop: one that takes the next value, and those
+    /// of its statements.
     #[cycle(lay)]
     fn turns(
         &self,

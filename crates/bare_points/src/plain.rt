@@ -29,13 +29,13 @@ impl<'p> Layout<'p> {
         span.own() + exits + returns
     }
 
-    /// There is room for the points of some statements. It does nothing.
+    /// Lemma for callers: the statements' points fit. No code.
     pub fn has_room(&self, c: usize, ways: &Ways, n: usize)
         requires { n + size (span_in self.now c) ways.now ≤ 16384 }
         ensures { n + size (span_in self.now c) ways.now ≤ 16384 }
     {}
 
-    /// There is room for the points of the first of a list, and of the rest. It does nothing.
+    /// Lemma for callers: the points of the first of a list fit, and those of the rest. No code.
     pub fn has_room_for_list(
         &self,
         c: usize,
@@ -52,7 +52,8 @@ impl<'p> Layout<'p> {
         ensures temporaries { t + ((span_in self.now first).filled + (span_in self.now rest).filled) ≤ 4294967295 }
     {}
 
-    /// There is room for the points of the branches of an `if`, and of the rest. It does nothing.
+    /// Lemma for callers: the points of the branches of an `if` fit, and those of the rest. No
+    /// code.
     pub fn has_room_for_if(
         &self,
         c: usize,
@@ -109,7 +110,7 @@ impl<'p> Layout<'p> {
         self.add(pos, Instr::Finish, Listed::new(self.sizes.alloc), made)
     }
 
-    /// Adds a point that uses an expression, behind those that come before.
+    /// Adds a point that uses an expression, after those that come before.
     pub fn used(
         &self,
         pos: Pos,

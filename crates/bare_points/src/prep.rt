@@ -37,7 +37,7 @@ impl Prep {
         }
     }
 
-    /// That of one expression and another behind it.
+    /// That of one expression and another after it.
     fn and(self, other: Prep) -> Result<Prep, AllocError>
         ensures { IfOk result (λ made. made ≡ record { size = self.size + other.size; filled = self.filled + other.filled; calls = self.calls || other.calls }) }
     {

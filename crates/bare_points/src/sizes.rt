@@ -29,7 +29,7 @@ pub struct Sizes<'p> {
     pub spans: &'p [Span],
 }
 
-/// Points that use an expression, behind those that come before.
+/// Points that use an expression, after those that come before.
 fn used_by(prep: Prep, points: usize) -> Result<Span, AllocError>
     ensures { IfOk result (λ made. made ≡ used_by prep points) }
 {
@@ -75,7 +75,7 @@ impl<'p> Sizes<'p> {
         self.using(a, 0)?.and(self.using(b, 1)?)
     }
 
-    /// A point that uses an expression, and what stands behind it.
+    /// A point that uses an expression, and what follows it.
     fn before(&self, e: usize, behind: Span) -> Result<Span, AllocError>
         requires ready { AreSizes self.now }
         requires node { e < length self.now.rows.now.0 }

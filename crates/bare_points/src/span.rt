@@ -5,8 +5,8 @@ ghost use Rattle.numbered_points.specs.Extents.{extent, nothing, both, in_turns,
 use std::alloc::AllocError;
 use std::marker::Model;
 
-/// The points that a construct has wherever it stands, how many exits and how many returns leave it,
-/// and how many temporaries its points fill.
+/// The points that a construct has wherever it stands, how many exits and how many returns leave
+/// it, and how many temporaries its points fill.
 #[derive(Clone, Copy)]
 pub struct Span {
     own: usize,
@@ -103,7 +103,7 @@ impl Span {
         self.filled
     }
 
-    /// That of one part and another behind it.
+    /// That of one part and another after it.
     pub fn and(self, other: Span) -> Result<Span, AllocError>
         ensures { IfOk result (λ made. made ≡ both self other) }
     {

@@ -36,7 +36,7 @@ impl Ways {
         })
     }
 
-    /// Within a loop behind which `k` follows.
+    /// Within a loop that `k` follows.
     pub fn within_loop(&self, alloc: Global, k: &[u32]) -> Result<Ways, AllocError>
         ensures { IfOk result (λ made. made ≡ around_loop k.now self.now) }
     {

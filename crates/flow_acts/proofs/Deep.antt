@@ -21,7 +21,7 @@ use Rattle.flow_acts.specs.declared.plan.Doing.TheVariants as doing
 use Rattle.flow_acts.specs.Plans.{act_by}
 use Rattle.flow_acts.specs.Depths.{is_deep_act, has_deep, deep_names}
 
--- A name that goes on behind 16 selectors is too deep.
+-- A name that goes on after 16 selectors is too deep.
 pub deep_step : (m n : Name) (s : Sel) (rest : List Sel) → length m.sels ≡ 16 → extend m (s ∷ rest) ≡ n → IsTrue (is_deep n)
 deep_step m n s rest full is =
     subst (λ k. IsTrue (is_deep k)) is (lt-ltb SELECTORS (length (m.sels ++ s ∷ rest)) (grind (arith, common_steps, full)))

@@ -10,7 +10,8 @@ use Rattle.flow_paths.specs.Acts.{acts_in}
 abbrev pub AreActless : TypedNodes → List Bool → Type 0
 AreActless rows marks = (i : ℕ) → get_or marks i false ≡ true → (s : Typing) → acts_in s (typed_at rows i) ≡ []
 
--- A node that is no name has none where its parts have none. Those of a call stand at its own point.
+-- A node that is no name has none where its parts have none. Those of a call stand at its own
+-- point.
 abbrev pub node_is_actless : (ℕ → Bool) → TypedNode → Bool
 node_is_actless actless (node.Name p d a t) = false
 node_is_actless actless (node.IsNull equal a) = false

@@ -13,11 +13,11 @@ spot_names spots = map (λ (s : LeakSpot). name_at s.pos s.name) spots
 abbrev pub instruction_names : Frame → Pos → Instruction → List NameAt
 instruction_names f p i = flat_map (act_names i) (acts_of f p i) ++ spot_names (leaks_of f p i)
 
--- A place where there is one that is too deep, or else the first one behind.
+-- A place where there is one that is too deep, or else the first one after.
 abbrev pub first_of : Bool → Pos → Option Pos → Option Pos
 first_of deep p behind = if deep then Some (earlier p behind) else behind
 
--- The first one of some names and of others behind them.
+-- The first one of some names and of others after them.
 abbrev pub first_deep : List NameAt → Option Pos → Option Pos
 first_deep [] behind = behind
 first_deep (n ∷ rest) behind = first_of (is_deep n.name) n.pos (first_deep rest behind)

@@ -38,7 +38,7 @@ placed_by w p = placed p.pos (act_by (site w) p.doing (name_of p.object (tree w 
 abbrev pub acts_by : ActWriter → List Planned → List Placed
 acts_by w plan = map (placed_by w) plan
 
--- Acts were planned behind those that were there.
+-- Acts were planned after those that were there.
 abbrev pub Plans : ActWriter → List Planned → List Planned → List Placed → Type 0
 Plans w old new acts = acts_by w new ≡ acts_by w old ++ acts
 

@@ -65,8 +65,8 @@ impl<'p> ActWriter<'p> {
 
     /// The acts of an instruction in a subprogram that gives a value of this type, where it is a
     /// function. The end of a call looks at `roots`, the formals and package objects that facts are
-    /// rooted in. `TooDeep` comes only where a name of some act, or of a fact that it adds, has more
-    /// than 16 selectors, and then always.
+    /// rooted in. `TooDeep` comes only where a name of some act, or of a fact that it adds, has
+    /// more than 16 selectors, and then always.
     pub fn acts_of(
         &self,
         given: Option<u32>,

@@ -27,7 +27,7 @@ use std::alloc::AllocError;
 use std::cmp::Ordering;
 use typed_tree::TypedNode;
 
-/// The first of a position and one behind it, in the order of the text.
+/// The first of a position and one after it, in the order of the text.
 fn earlier(pos: Pos, behind: Option<Pos>) -> Pos
     ensures { result ≡ earlier pos behind }
 {
@@ -243,7 +243,7 @@ impl<'p> ActWriter<'p> {
     }
 
     /// Where the first name of the acts and leak checks of an instruction stands that has more than
-    /// 16 selectors, or what is given for the instructions behind it, whichever is first in the
+    /// 16 selectors, or what is given for the instructions after it, whichever is first in the
     /// text. Those are the instructions that `acts_of` or `leaks_of` refuses with `TooDeep`. The
     /// only error is out of memory.
     pub fn first_deep(

@@ -184,7 +184,7 @@ impl<'p> ActWriter<'p> {
         }
     }
 
-    /// The index behind the act on a name, where there is one.
+    /// The index after the act on a name, where there is one.
     fn behind_written(&self, e: usize, before: u32) -> Result<u32, AllocError>
         ensures { (a : PlaceName → Act) → IfOk result (λ n. n ≡ before + length (naming (written (tree self.now e)) a)) }
     {
@@ -194,7 +194,7 @@ impl<'p> ActWriter<'p> {
         }
     }
 
-    /// The index behind the act of an actual.
+    /// The index after the act of an actual.
     fn behind_actual(&self, way: Passing, e: usize, before: u32) -> Result<u32, AllocError>
         ensures { IfOk result (λ n. n ≡ before + length (actual_act (passing_of way) (tree self.now e))) }
     {

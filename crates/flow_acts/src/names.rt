@@ -14,7 +14,7 @@ use spark_base::SELECTORS;
 use std::alloc::AllocError;
 use typed_tree::TypedNode;
 
-/// A step of a name, and those behind it.
+/// A step of a name, and those after it.
 #[derive(Clone, Copy)]
 pub(crate) struct Step {
     pub sel: Sel,

@@ -34,7 +34,7 @@ both_same : (ps qs xs ys : List NamedPoint) → entry ps [] ≡ entry xs [] → 
 both_same ps qs xs ys first second =
     entry_append ps qs [] ∙ entry_same ps xs first (entry qs []) ∙ ap (λ k. entry xs k) second ∙ sym (entry_append xs ys [])
 
--- Points with one name behind the same points.
+-- Points with one name that follow the same points.
 row_same : (ps : List NamedPoint) (p q : NamedPoint) → p.name ≡ q.name → entry (ps ++ p ∷ []) [] ≡ entry (ps ++ q ∷ []) []
 row_same ps p q is = both_same ps (p ∷ []) ps (q ∷ []) refl (ap (λ n. n ∷ []) is)
 

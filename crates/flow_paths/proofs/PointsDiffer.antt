@@ -65,7 +65,7 @@ second_first_sits s at p a b i w next =
     (prep s b (1 ∷ at) w.scope (entry behind (row_at at 0 ∷ []))) behind
     (prep_sits s b (1 ∷ at) w.scope (entry behind (row_at at 0 ∷ []))) (prep_sits s a (0 ∷ at) (with_held s b (1 ∷ at) w.scope) (row_at at 0 ∷ [])))
 
--- What uses an expression, and the second part behind it.
+-- What uses an expression, and the second part after it.
 uses_then_part : (s : Setting) (at : Place) (p : Pos) (e : TypedTree) (i : Instruction) (w : Around) (next : List PointName) (qs : List NamedPoint)
     → Sits (1 ∷ at) qs → Sits at (uses s at p e i w next ++ qs)
 uses_then_part s at p e i w next qs g =

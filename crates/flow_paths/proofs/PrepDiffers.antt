@@ -14,7 +14,7 @@ pub if_sits : (at : Place) (b : Bool) (xs ys : List NamedPoint) → Sits at xs �
 if_sits at true xs ys h g = h
 if_sits at false xs ys h g = g
 
--- One part, and one point behind it.
+-- One part, and one point after it.
 pub part_and_row : (at : Place) (p : Pos) (i : Instruction) (scope : List ℕ) (next : List PointName) (ps : List NamedPoint)
     → Sits (0 ∷ at) ps → Sits at (ps ++ point (row_at at 0) p i scope next ∷ [])
 part_and_row at p i scope next ps h =

@@ -1,7 +1,7 @@
 -- What is in scope goes on from point to point.
 --
--- T n sc says that the point called n may be reached with sc in scope. What a construct needs is that
--- its own points may be reached so, and what follows it; then each of its points leads on so.
+-- T n sc says that the point called n may be reached with sc in scope. What a construct needs is
+-- that its own points may be reached so, and what follows it; then each of its points leads on so.
 use Rattle.std.proofs.Common.{◌≡◌, ◌⊎◌, ℕ, zero, suc, ◌+◌, List, [], ◌∷◌, ◌++◌, length, map, refl, sym, ap, ◌∙◌, subst, arith, inl, inr}
 use Rattle.std.specs.Prelude.{Bool, true, false, Option, Some, None, drop, reverse, if◌then◌else◌}
 use Rattle.std.specs.List.{AllByRecursion}
@@ -122,7 +122,7 @@ Into T ks scope = (n : PointName) → Has ks n → T n scope
 abbrev pub Own : (PointName → List ℕ → Type 0) → List NamedPoint → Type 0
 Own T ps = (q : NamedPoint) → Has ps q → T q.name q.scope
 
--- Each of some points leads to what may be reached with what is in scope behind it.
+-- Each of some points leads to what may be reached with what is in scope after it.
 abbrev pub Goes : (PointName → List ℕ → Type 0) → List NamedPoint → Type 0
 Goes T ps = (p : NamedPoint) → Has ps p → Into T p.next (scope_behind p)
 
@@ -167,7 +167,7 @@ module _ (s : Typing) (T : PointName → List ℕ → Type 0) (slack : Slack s T
 
 -- ---- what comes before a use leads to it
 
--- Two parts, one behind the other.
+-- Two parts, one after the other.
 two_go : (s : Setting) (T : PointName → List ℕ → Type 0) (slack : Slack s.typing T) (a b : TypedTree) (at : Place) (scope : List ℕ) (k : List PointName)
     → ((l : List PointName) → Own T (prep s a (0 ∷ at) scope l) → Into T l (with_held s a (0 ∷ at) scope) → Goes T (prep s a (0 ∷ at) scope l))
     → (Own T (prep s b (1 ∷ at) (with_held s a (0 ∷ at) scope) k) → Into T k (with_held s b (1 ∷ at) (with_held s a (0 ∷ at) scope))
@@ -187,7 +187,7 @@ two_go s T slack a b at scope k first second own go =
     (into_entry s.typing T slack qs k inner (with_held s b (1 ∷ at) inner) own_qs (prep_starts s b (1 ∷ at) inner k) on))
     (second own_qs on)
 
--- A point behind the Prep of what it uses.
+-- A point after the Prep of what it uses.
 pub use_goes : (s : Setting) (T : PointName → List ℕ → Type 0) (slack : Slack s.typing T) (e : TypedTree) (at : Place) (row : PointName) (scope : List ℕ)
     (p : Pos) (i : Instruction) (next : List PointName) (ps : List NamedPoint)
     → (Own T ps → Into T (row ∷ []) (with_held s e at scope) → Goes T ps) → taken i ≡ waiting e

@@ -1,4 +1,4 @@
--- At each successor of a point that is in scope which is in scope behind the point.
+-- At each successor of a point that is in scope which is in scope after the point.
 use Rattle.std.proofs.Common.{◌≡◌, ◌⊎◌, ℕ, zero, suc, ◌+◌, List, [], ◌∷◌, ◌++◌, length, map, refl, sym, ap, ◌∙◌, subst, arith, inl, inr}
 use Rattle.std.specs.Prelude.{Bool, true, false, not, ◌&&◌, ◌||◌, Option, Some, None, flat_map, drop, reverse, is_some, if◌then◌else◌}
 use Rattle.std.proofs.lemmas.Grind.{common_steps}
@@ -335,7 +335,7 @@ either_holds : (s : Setting) (sub : TypedSub) (b : Bool) → is_settled s.typing
 either_holds s sub true h = function_holds s sub h
 either_holds s sub false h = procedure_holds s sub h
 
--- Of each subprogram: what is in scope goes on from point to point, and each successor is a point.
+-- In each subprogram, what is in scope goes on from point to point, and each successor is a point.
 pub scopes_hold : (s : Setting) (sub : TypedSub) → is_settled s.typing sub.body ≡ true → ScopesHold s.typing (sub_points s sub)
 scopes_hold s sub h = either_holds s sub (is_some sub.result) h
 

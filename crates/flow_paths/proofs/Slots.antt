@@ -1,7 +1,7 @@
 -- No two points of a subprogram have one name.
 --
--- The parts of a construct have places of their own, which differ where the numbers of the parts do, and
--- its own points have its place. Both is told by one number, the slot of a name at a place.
+-- The parts of a construct have places of their own, which differ where the numbers of the parts
+-- do, and its own points have its place. Both is told by one number, the slot of a name at a place.
 use Rattle.std.proofs.Common.{◌≡◌, ℕ, zero, suc, ◌+◌, ◌*◌, ◌-◌, ◌≤◌, List, [], ◌∷◌, ◌++◌, length, refl, sym, ap, ◌∙◌, subst, arith, get_or}
 use Rattle.std.specs.List.{AllByRecursion}
 use Rattle.std.proofs.lemmas.Grind.{common_steps}

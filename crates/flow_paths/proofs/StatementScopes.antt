@@ -38,7 +38,7 @@ undeclared (More a rest) h =
     ap (λ xs. xs ++ declared rest) first ∙ second
 undeclared _ h = refl
 
--- What is in scope behind code.
+-- What is in scope after code.
 abbrev pub after : TypedCode → List ℕ → List ℕ
 after c scope = reverse (declared c) ++ scope
 

@@ -18,8 +18,8 @@ use Rattle.flow_paths.specs.Instructions as instruction
 use Rattle.flow_paths.specs.Objects.{Typing, sub_at, object_at, is_borrower, is_observer, is_borrowing, traverses, designated, Passing, ByValue, Traversed, Place, passings}
 use Rattle.flow_paths.specs.Names.{Written, name_of, written, first, source, whole, has_call}
 
--- What the acts of a subprogram go by: the program, the type of the result, and what the end of a call
--- looks at, the formals and package objects that facts are rooted in.
+-- What the acts of a subprogram go by: the program, the type of the result, and what the end of a
+-- call looks at, the formals and package objects that facts are rooted in.
 pub record Frame : Type 0 where
   pub typing : Typing
   pub result : Option ℕ
@@ -39,8 +39,8 @@ naming (Some m) a = placed m.pos (a m.name) ∷ []
 abbrev pub used : Typing → PlaceName → ℕ → Act
 used s m t = if is_owning s.table t then act.Move m (parts s.table t) else act.Read m
 
--- The acts of an expression at the point that evaluates it, and of the steps of a name: those of the
--- indexes, which come before the name.
+-- The acts of an expression at the point that evaluates it, and of the steps of a name: those of
+-- the indexes, which come before the name.
 unfoldable pub acts_in : Typing → TypedTree → List Placed
 acts_in s (Name p x steps t) = acts_in s steps ++ placed p (used s (name_of x steps) t) ∷ []
 acts_in s (Component i rest) = acts_in s rest
@@ -126,8 +126,8 @@ declared_acts s x v =
     if is_borrower s x then source_acts s (first v) (act.Borrow x)
     else (if is_observer s x then source_acts s (first v) (observe s x) else acts_in s v)
 
--- What is assigned is evaluated before the indexes of the target. A Reborrow has the position of the
--- target.
+-- What is assigned is evaluated before the indexes of the target. A Reborrow has the position of
+-- the target.
 abbrev pub reborrow : Pos → ℕ → Option Written → List Placed
 reborrow p b None = []
 reborrow p b (Some m) = placed p (act.Reborrow b m.name) ∷ []
@@ -160,8 +160,8 @@ abbrev pub returned_acts : Typing → Option ℕ → TypedTree → List Placed
 returned_acts s result v =
     if traverses s.table result then source_acts s (first v) (λ m. act.Give m (gives_variable s result)) else acts_in s v
 
--- The acts of an instruction at a position. Of a call, the acts on the package objects that the callee
--- uses follow (specs/Effects.antt).
+-- The acts of an instruction at a position. Of a call, the acts on the package objects that the
+-- callee uses follow (specs/Effects.antt).
 abbrev pub acts_of : Frame → Pos → Instruction → List Placed
 acts_of f p Skip = []
 acts_of f p (Declare x v) = declared_acts f.typing x v
@@ -183,8 +183,8 @@ acts_of f p (EndScope x) = placed p (act.EndScope x (is_borrower f.typing x)) �
 acts_of f p Finish = placed p (act.Return f.roots) ∷ []
 acts_of f p Fall = []
 
--- The leak checks of an instruction: of an assignment's target, of `out` actuals, of what a freed name
--- designates, and of an object whose scope ends. A borrower or observer has no access parts.
+-- The leak checks of an instruction: of an assignment's target, of `out` actuals, of what a freed
+-- name designates, and of an object whose scope ends. A borrower or observer has no access parts.
 abbrev pub leaks_of : Frame → Pos → Instruction → List LeakSpot
 leaks_of f p (Assign target e) = spots_at f.typing (written target) (length (before_write f.typing target e))
 leaks_of f p (instruction.Call sub actuals result) =

@@ -56,8 +56,8 @@ overlap_reports s (a ∷ rest) = flat_map (pair_reports s a) rest ++ overlap_rep
 
 -- ---- A2
 
--- An actual is rooted in a package object. The callee reads or writes that object, and the formal isn't
--- immutable; or the callee writes it, and the formal's type isn't scalar.
+-- An actual is rooted in a package object. The callee reads or writes that object, and the formal
+-- isn't immutable; or the callee writes it, and the formal's type isn't scalar.
 abbrev pub meets_global : Typing → Bool → Bool → ℕ → Bool
 meets_global s read written x =
     ((read || written) && not (is_immutable s x)) || (written && not (is_scalar_formal s x))

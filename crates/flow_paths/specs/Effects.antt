@@ -124,7 +124,8 @@ flow_sub_at program n =
     get_or program.subs n
     (record { pos = record { file = 0; line = 1; column = 1 }; words = 1; formals = []; result = None; points = []; facts = [] })
 
--- A chain of calls: from a subprogram, each one calling the next, to a last one. It may have no calls.
+-- A chain of calls: from a subprogram, each one calling the next, to a last one. It may have no
+-- calls.
 pub data CallChain (program : FlowProgram) : ℕ → ℕ → Type 0 where
   ends : (p : ℕ) → CallChain program p p
   calls_on : (p q last : ℕ) → IsTrue (sub_calls (flow_sub_at program p) q) → CallChain program q last
@@ -166,7 +167,7 @@ abbrev pub global_act : ℕ → Bool → Bool → List Act
 global_act g read written =
     if written then act.Global g true ∷ [] else (if read then act.Global g false ∷ [] else [])
 
--- Of the objects from the n-th one on, in order.
+-- Those of the objects from the n-th one on, in order.
 abbrev pub globals_from : ℕ → List Object → List ℕ → List ℕ → List Act
 globals_from n [] read written = []
 globals_from n (_ ∷ rest) read written =
@@ -181,7 +182,7 @@ abbrev pub called_acts : FlowProgram → Effects → Pos → Instruction → Lis
 called_acts program effects p (Call sub actuals result) = map (placed p) (globals_of program effects sub)
 called_acts program effects p _ = []
 
--- All acts of a point: those of its instruction, and behind them those on the package objects that the
+-- All acts of a point: those of its instruction, and then those on the package objects that the
 -- callee of a call reads or writes.
 abbrev pub all_acts : FlowProgram → Effects → FlowPoint → List Placed
 all_acts program effects p = p.acts ++ called_acts program effects p.pos p.instr

@@ -1,7 +1,7 @@
 -- Laid-out subprograms and programs (docs/FLOW.md, "Points").
 --
--- Subprogram 0 declares the package objects; the others follow in the order of their bodies. Each has
--- its points with numbers, in the order of the text.
+-- Subprogram 0 declares the package objects; the others follow in the order of their bodies. Each
+-- has its points with numbers, in the order of the text.
 use Rattle.std.specs.Prelude.{ℕ, suc, ◌+◌, not, ◌&&◌, ◌||◌, ◌==◌, List, [], ◌∷◌, ◌++◌, map, filter, flat_map, reverse, length, sum, Option, Some, None, is_some, if◌then◌else◌}
 use Rattle.std.specs.List.{list_any, position_or_len}
 use Rattle.spark_base.specs.declared.position.Pos.{Pos}
@@ -55,15 +55,15 @@ body_points s sub end = laid s sub.body (0 ∷ []) (around_body s sub) (entry en
 abbrev pub sub_points : Setting → TypedSub → List NamedPoint
 sub_points s sub = body_points s sub (if is_some sub.result then function_end sub else procedure_end s sub)
 
--- The package objects are declared in the order of the text, and nothing ends. The first point of the
--- main procedure follows without a step.
+-- The package objects are declared in the order of the text, and nothing ends. The first point of
+-- the main procedure follows without a step.
 abbrev pub elaboration_points : Setting → TypedSub → List NamedPoint
 elaboration_points s sub = body_points s sub []
 
 -- ---- temporaries
 
--- A point whose value waits fills the temporary that has its place. Both operands of a short circuit
--- fill one, the left one first.
+-- A point whose value waits fills the temporary that has its place. Both operands of a short
+-- circuit fill one, the left one first.
 pub record Temporary : Type 0 where
   pub place : Place
   pub of : ℕ
@@ -176,7 +176,8 @@ pub record NamedSub : Type 0 where
   pub temporaries : List Temporary
   pub points : List NamedPoint
 
--- Temporaries have the numbers from n on, those of a subprogram behind those of the subprograms before.
+-- Temporaries have the numbers from n on, those of a subprogram after those of the subprograms
+-- before it.
 abbrev pub sub_temporaries : Typing → TypedSub → List Temporary
 sub_temporaries s sub = temporaries s (sub_points (unnumbered s) sub)
 
@@ -194,7 +195,7 @@ named_subs s n (sub ∷ rest) =
     named_sub s n all sub ∷ named_subs s (n + length all) rest
 
 -- The package objects call no function of the program, and need no temporaries. Those of the other
--- subprograms stand behind all objects.
+-- subprograms have the numbers after those of all objects.
 abbrev pub elaborated : Typing → TypedSub → NamedSub
 elaborated s sub = record { sub = sub; temporaries = []; points = elaboration_points (unnumbered s) sub }
 

@@ -1,7 +1,7 @@
 -- The points of statements, one case for each row of the table of points (docs/FLOW.md, "Points").
 --
 -- k is what follows a construct. Points stand in the order of the text: those of a construct itself
--- before those of the statements in it, and those that end it behind them.
+-- before those of the statements in it, and those that end it after them.
 use Rattle.std.specs.Prelude.{ℕ, suc, ◌==◌, List, [], ◌∷◌, ◌++◌, filter, flat_map, reverse, drop, length, None, if◌then◌else◌}
 use Rattle.spark_base.specs.declared.position.Pos.{Pos}
 use Rattle.typed_tree.specs.Trees.{TypedTree, TypedCode, Declare, Assign, Skip, Output, Input, Release, If, Branch, Case, When, Loop, While, For, Exit, Return, Block, More}
@@ -13,8 +13,9 @@ use Rattle.flow_paths.specs.Names.{is_empty}
 use Rattle.flow_paths.specs.Points.{Place, PointName, row_at, NamedPoint, point, entry}
 use Rattle.flow_paths.specs.Prep.{Setting, with_held, prep}
 
--- What stands around a statement: what follows the innermost loop; the objects whose scopes end where an
--- exit leaves it, and where a return leaves all, the last one first; what is in scope; and the formals.
+-- What stands around a statement: what follows the innermost loop; the objects whose scopes end
+-- where an exit leaves it, and where a return leaves all, the last one first; what is in scope; and
+-- the formals.
 pub record Around : Type 0 where
   pub leave : List PointName
   pub in_loop : List ℕ
@@ -69,8 +70,8 @@ uses s at p e i w next =
     prep s e (0 ∷ at) w.scope (row_at at 0 ∷ [])
     ++ point (row_at at 0) p i (with_held s e (0 ∷ at) w.scope) next ∷ []
 
--- The Prep of two expressions, the first and the second part of a construct, and the point itself: the
--- first part is evaluated first, or the second one.
+-- The Prep of two expressions, the first and the second part of a construct, and the point itself:
+-- the first part is evaluated first, or the second one.
 abbrev pub uses_both : Setting → Place → Pos → TypedTree → TypedTree → Instruction → Around → List PointName → List NamedPoint
 uses_both s at p a b i w next =
     let behind : List NamedPoint = prep s b (1 ∷ at) (with_held s a (0 ∷ at) w.scope) (row_at at 0 ∷ []) in
@@ -98,7 +99,8 @@ choices_of _ = []
 -- ---- statements
 
 unfoldable mutual
-  -- a statement, and a list of statements, of which each leads to the next one and the last one to k
+  -- a statement, and a list of statements, of which each leads to the next one and the last one to
+  -- k
   pub laid : Setting → TypedCode → Place → Around → List PointName → List NamedPoint
   laid s (More a rest) at w k =
       let behind : List NamedPoint = laid s rest (1 ∷ at) (with_scope (declared a) w) k in
@@ -117,7 +119,7 @@ unfoldable mutual
   laid s (Input p target) at w k = uses s at p target (instruction.Input target) w k
   -- an instance of Unchecked_Deallocation: Prep; Release
   laid s (Release p m) at w k = uses s at p m (instruction.Release m) w k
-  -- if: its branches in order, and behind them the statements of `else`
+  -- if: its branches in order, and then the statements of `else`
   laid s (If branches otherwise) at w k =
       let behind : List NamedPoint = laid s otherwise (1 ∷ at) w k in
       laid_branches s branches (0 ∷ at) w k (entry behind k) ++ behind
@@ -125,22 +127,24 @@ unfoldable mutual
   laid s (Case p e whens) at w k =
       let behind : List (List NamedPoint) = laid_whens s whens (1 ∷ at) w k in
       uses s at p e (instruction.Choose e (choices_of whens)) w (flat_map (λ ps. entry ps k) behind) ++ flat_map (λ ps. ps) behind
-  -- a plain loop has none of its own. Its statements lead back to their own first point, whose name is
-  -- the same wherever they lead
+  -- a plain loop has none of its own. Its statements lead back to their own first point, whose name
+  -- is the same wherever they lead
   laid s (Loop stmts) at w k =
       laid s stmts (0 ∷ at) (within_loop k w) (entry (laid s stmts (0 ∷ at) (within_loop k w) k) k)
-  -- while, each turn and the last test: Prep; Test
+  -- while, each iteration and the last test: Prep; Test
   laid s (While p e stmts) at w k =
       let turn : List PointName = entry (prep s e (0 ∷ at) w.scope (row_at at 0 ∷ [])) (row_at at 0 ∷ []) in
       let inner : List NamedPoint = laid s stmts (1 ∷ at) (within_loop k w) turn in
       uses s at p e (instruction.Test e) w (entry inner turn ++ k) ++ inner
-  -- for: Prep; Start; then for each turn and the last test Next. The parameter is in scope behind Start
+  -- for: Prep; Start; then for each iteration and the last test Next. The parameter is in scope
+  -- after Start
   laid s (For p x reversed low high stmts) at w k =
       let next : PointName = row_at at 1 in
       let inner : List NamedPoint = laid s stmts (2 ∷ at) (with_scope (x ∷ []) (within_loop k w)) (next ∷ []) in
       uses_both s at p low high (instruction.Start x reversed low high) w (next ∷ [])
       ++ point next p (instruction.Next x reversed low high) (x ∷ w.scope) (entry inner (next ∷ []) ++ k) ∷ inner
-  -- exit: Prep; LeaveLoop; where it leaves, the ends of each scope between it and the loop, inner first
+  -- exit: Prep; LeaveLoop; where it leaves, the ends of each scope between it and the loop, inner
+  -- first
   laid s (Exit p e) at w k =
       let out : List NamedPoint = ends at 1 p w.in_loop w.scope w.leave in
       uses s at p e (instruction.LeaveLoop e) w (entry out w.leave ++ unless_empty e k) ++ out
@@ -153,8 +157,8 @@ unfoldable mutual
       laid s stmts (0 ∷ at) (within_block (ending s stmts) w) (entry out k) ++ out
   laid s _ at w k = []
 
-  -- the branches of an `if`; a condition that doesn't hold leads to the next branch, and the last one to
-  -- what stands behind `else`
+  -- the branches of an `if`; a condition that doesn't hold leads to the next branch, and the last
+  -- one to what follows `else`
   pub laid_branches : Setting → TypedCode → Place → Around → List PointName → List PointName → List NamedPoint
   laid_branches s (More a rest) at w k otherwise =
       let behind : List NamedPoint = laid_branches s rest (1 ∷ at) w k otherwise in

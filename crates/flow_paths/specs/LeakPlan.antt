@@ -18,8 +18,8 @@ use Rattle.flow_paths.specs.Paths.{PathPoint, path_point, ControlPath, IsReached
 use Rattle.flow_paths.specs.Effects.{path_points}
 use Rattle.flow_paths.specs.Printing.{printed_name}
 
--- Every control path that reaches a leak check has moved exactly its name there, just before the effect
--- of the act that it belongs to; some path reaches it; and it isn't some element.
+-- Every control path that reaches a leak check has moved exactly its name there, just before the
+-- effect of the act that it belongs to; some path reaches it; and it isn't some element.
 pub record IsExcused (points : List PathPoint) (p : ℕ) (spot : LeakSpot) : Type 0 where
   pub definite : IsTrue (not (has_elem spot.name.sels))
   pub reached : IsReached points p
@@ -43,8 +43,8 @@ pub record Checked (program : FlowProgram) (effects : Effects) (line : LeakLine)
   pub name : line.name ≡ spot.name
   pub excused : IsTrue line.excused ↔ IsExcused (path_points program effects sub) number spot
 
--- By position and printed name. Where both are equal and the roots differ, the root that is declared
--- later stands first; selectors decide last, so that the order is one of all lines.
+-- By position and printed name. Where both are equal and the roots differ, the root that is
+-- declared later stands first; selectors decide last, so that the order is one of all lines.
 abbrev pub leak_cmp : (Name → List ℕ) → LeakLine → LeakLine → Ordering
 leak_cmp printed a b =
     ordering_then (position_cmp a.pos b.pos)

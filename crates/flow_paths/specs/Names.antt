@@ -1,5 +1,5 @@
--- Names in expressions, and which calls an expression has (docs/RULES.md, "Names of places"; docs/FLOW.md,
--- "Points").
+-- Names in expressions, and which calls an expression has (docs/RULES.md, "Names of places";
+-- docs/FLOW.md, "Points").
 use Rattle.std.specs.Prelude.{ℕ, ◌+◌, Bool, true, false, ◌||◌, List, [], ◌∷◌, Option, Some, None, if◌then◌else◌}
 use Rattle.spark_base.specs.declared.position.Pos.{Pos}
 use Rattle.place_names.specs.declared.selector.Sel.{Sel}

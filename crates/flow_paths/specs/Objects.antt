@@ -96,9 +96,9 @@ has_scope_end s x = is_owning s.table (object_at s x).of || is_anonymous (view_o
 
 -- ---- calls
 
--- How an actual is passed: its value is; it is what a traversal goes through; or its place is, by the
--- mode, whether the type of the formal is owning, and whether it is a named access type in the call of
--- a procedure.
+-- How an actual is passed: its value is; it is what a traversal goes through; or its place is, by
+-- the mode, whether the type of the formal is owning, and whether it is a named access type in the
+-- call of a procedure.
 pub data Passing : Type 0 where
   ByValue : Passing
   Traversed : Passing

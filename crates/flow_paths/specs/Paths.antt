@@ -1,6 +1,7 @@
 -- Control paths, and what holds along them (docs/RULES.md, "Facts" and "Reports").
 --
--- A path goes from the first point of a subprogram from point to successor. Conditions play no part.
+-- A path goes from the first point of a subprogram from point to successor. Conditions play no
+-- part.
 use Rattle.std.specs.Prelude.{◌≡◌, zero, suc, ℕ, List, [], ◌∷◌, ◌++◌, map, Some}
 use Rattle.spark_base.specs.Lists.{Has}
 use Rattle.place_names.specs.declared.act.Act.{Act}

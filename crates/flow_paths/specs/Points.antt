@@ -1,8 +1,8 @@
 -- Points by name (docs/FLOW.md, "Points").
 --
--- A part of a program has a place: which part of its whole it is, counted from 0, and so on up to the
--- body of the subprogram, the innermost number first. A point is named by the place of the construct
--- that it belongs to, and by its number among the points of that construct itself.
+-- A part of a program has a place: which part of its whole it is, counted from 0, and so on up to
+-- the body of the subprogram, the innermost number first. A point is named by the place of the
+-- construct that it belongs to, and by its number among the points of that construct itself.
 use Rattle.std.specs.Prelude.{ℕ, Bool, ◌&&◌, ◌==◌, List, [], ◌∷◌, map}
 use Rattle.std.specs.Cmp.Lexicographic.{pointwise}
 use Rattle.spark_base.specs.declared.position.Pos.{Pos}
@@ -27,8 +27,9 @@ same_place a b = pointwise (λ i j. i == j) a b
 abbrev pub same_point : PointName → PointName → Bool
 same_point a b = same_place a.place b.place && (a.row == b.row)
 
--- A point: where it stands, its instruction, and the names of those that may follow. `scope` has the
--- objects that are in scope there, the last one first, and the temporaries that hold a value then.
+-- A point: where it stands, its instruction, and the names of those that may follow. `scope` has
+-- the objects that are in scope there, the last one first, and the temporaries that hold a value
+-- then.
 pub record NamedPoint : Type 0 where
   pub name : PointName
   pub pos : Pos

@@ -1,7 +1,7 @@
 -- The points that come before a point which uses an expression (docs/FLOW.md, "Points").
 --
--- An expression without calls of functions of the program has none. `scope` is what is in scope before
--- them, and k is what follows.
+-- An expression without calls of functions of the program has none. `scope` is what is in scope
+-- before them, and k is what follows.
 use Rattle.std.specs.Prelude.{ℕ, List, [], ◌∷◌, ◌++◌, Some, None, if◌then◌else◌}
 use Rattle.typed_tree.specs.Trees.{TypedTree, Name, Component, Designated, Element, Call, Image, Parens, Unary, Binary, Short, IsNull, Aggregate, Alike, New, More}
 use Rattle.flow_paths.specs.Instructions.{Evaluate}
@@ -10,8 +10,8 @@ use Rattle.flow_paths.specs.Objects.{Typing}
 use Rattle.flow_paths.specs.Names.{has_call}
 use Rattle.flow_paths.specs.Points.{Place, PointName, row_at, NamedPoint, point, entry}
 
--- What points are laid out by: the program, and the numbers of the temporaries, of which each is named
--- by the place of the call or the short circuit whose value waits there.
+-- What points are laid out by: the program, and the numbers of the temporaries, of which each is
+-- named by the place of the call or the short circuit whose value waits there.
 pub record Setting : Type 0 where
   pub typing : Typing
   pub temporary : Place → ℕ
@@ -44,9 +44,9 @@ unfoldable pub prep : Setting → TypedTree → Place → List ℕ → List Poin
 prep s (Call p sub actuals) at scope k =
     prep s actuals (0 ∷ at) scope (row_at at 0 ∷ [])
     ++ point (row_at at 0) p (instruction.Call sub actuals (Some (s.temporary at))) (with_held s actuals (0 ∷ at) scope) k ∷ []
--- a short circuit with a call on the right: those of the left operand; a point that evaluates it; those
--- of the right operand; a point that evaluates that. The left operand leads on to the right one, or past
--- it
+-- a short circuit with a call on the right: those of the left operand; a point that evaluates it;
+-- those of the right operand; a point that evaluates that. The left operand leads on to the right
+-- one, or past it
 prep s (Short op p a q b) at scope k =
     if has_call b then
     (let right : List NamedPoint = prep s b (1 ∷ at) (s.temporary at ∷ scope) (row_at at 1 ∷ []) in

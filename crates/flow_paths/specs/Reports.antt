@@ -14,8 +14,8 @@ use Rattle.flow_paths.specs.Printing.{printed_name}
 abbrev pub report_of : Told → Report
 report_of r = record { pos = r.pos; rule = r.rule; name = r.name; word = r.state }
 
--- What a program is reported for: by a rule on the text, or by a rule that some fact breaks at an act
--- which some control path reaches.
+-- What a program is reported for: by a rule on the text, or by a rule that some fact breaks at an
+-- act which some control path reaches.
 pub data ProgramReport (program : FlowProgram) (effects : Effects) (r : Report) : Type 0 where
   on_actuals : Has (alias_reports program effects) r → ProgramReport program effects r
   on_views : (sub : FlowSub) → Has program.subs sub → ViewReport program effects sub r → ProgramReport program effects r

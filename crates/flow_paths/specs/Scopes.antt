@@ -1,7 +1,7 @@
 -- How what is in scope changes from point to point (docs/FLOW.md, "Points").
 --
--- The variables of a frame are what is in scope at its next point. An object that has no scope end at a
--- point of its own leaves without one.
+-- The variables of a frame are what is in scope at its next point. An object that has no scope end
+-- at a point of its own leaves without one.
 use Rattle.std.specs.Prelude.{◌≡◌, ℕ, Bool, true, false, not, ◌&&◌, ◌||◌, ◌==◌, ◌+◌, List, [], ◌∷◌, ◌++◌, drop, Some}
 use Rattle.std.specs.List.{AllByRecursion, list_all, list_any}
 use Rattle.std.specs.Cmp.Lexicographic.{pointwise}
@@ -15,8 +15,8 @@ use Rattle.flow_paths.specs.Objects.{Typing, object_at, has_scope_end}
 use Rattle.flow_paths.specs.Names.{waiting}
 use Rattle.flow_paths.specs.Points.{PointName, same_point, NamedPoint}
 
--- How many temporaries an instruction takes its values from: the last ones in scope. The one that was
--- filled first is taken first.
+-- How many temporaries an instruction takes its values from: the last ones in scope. The one that
+-- was filled first is taken first.
 abbrev pub taken : Instruction → ℕ
 taken Skip = 0
 taken (Declare x v) = waiting v
@@ -46,7 +46,7 @@ brought (Evaluate t e (Some op)) scope = t ∷ scope
 brought (EndScope x) scope = drop 1 scope
 brought _ scope = scope
 
--- What is in scope behind an instruction.
+-- What is in scope after an instruction.
 abbrev pub scope_behind : NamedPoint → List ℕ
 scope_behind p = brought p.instr (drop (taken p.instr) p.scope)
 
@@ -66,8 +66,8 @@ abbrev pub leads_to_scope : Typing → List ℕ → List ℕ → Bool
 leads_to_scope s [] b = same_scope [] b
 leads_to_scope s (x ∷ a) b = same_scope (x ∷ a) b || (leaves_silently s x && leads_to_scope s a b)
 
--- An object whose scope ends is the last one in scope, and one that is declared, or a parameter whose
--- loop starts, isn't in scope.
+-- An object whose scope ends is the last one in scope, and one that is declared, or a parameter
+-- whose loop starts, isn't in scope.
 abbrev pub is_last : ℕ → List ℕ → Bool
 is_last x [] = false
 is_last x (y ∷ scope) = x == y
@@ -85,7 +85,7 @@ is_ready p _ = true
 abbrev pub follows : NamedPoint → NamedPoint → Bool
 follows p q = list_any (same_point q.name) p.next
 
--- The law of scopes: what is in scope at each successor is what is in scope behind the instruction.
+-- The law of scopes: what is in scope at each successor is what is in scope after the instruction.
 abbrev pub scopes_agree : Typing → List NamedPoint → Bool
 scopes_agree s points =
     list_all (λ p. is_ready p p.instr
@@ -100,7 +100,7 @@ names_differ (p ∷ rest) = not (list_any (λ q. same_point p.name q.name) rest)
 abbrev pub is_closed : List NamedPoint → Bool
 is_closed points = list_all (λ p. list_all (λ name. list_any (λ q. same_point name q.name) points) p.next) points
 
--- The same as a law: no point behind another one has its name.
+-- The same as a law: no point has the name of one before it.
 abbrev pub Differ : List NamedPoint → Type 0
 Differ [] = Unit {0}
 Differ (p ∷ rest) = AllByRecursion (λ q. p.name ≡ q.name → ⊥) rest × Differ rest
@@ -109,8 +109,8 @@ Differ (p ∷ rest) = AllByRecursion (λ q. p.name ≡ q.name → ⊥) rest × D
 abbrev pub Under : List ℕ → PointName → Type 0
 Under at n = (front : List ℕ) × (n.place ≡ front ++ at)
 
--- The law of scopes: each successor of a point is a point, and what is in scope behind the one is what is
--- in scope at the other, but for objects at the front that leave silently.
+-- The law of scopes: each successor of a point is a point, and what is in scope after the one is
+-- what is in scope at the other, but for objects at the front that leave silently.
 abbrev pub Silent : Typing → ℕ → Type 0
 Silent s x = leaves_silently s x ≡ true
 
@@ -135,8 +135,8 @@ is_undeclaring (typed.Declare p x v) = false
 is_undeclaring (More a rest) = is_undeclaring a && is_undeclaring rest
 is_undeclaring _ = true
 
--- Declarations stand in blocks and bodies alone, before the statements; no temporary is declared, and
--- the parameter of a loop leaves silently.
+-- Declarations stand in blocks and bodies alone, before the statements; no temporary is declared,
+-- and the parameter of a loop leaves silently.
 unfoldable pub is_settled : Typing → TypedCode → Bool
 is_settled s (typed.Declare p x v) = not (is_temporary (object_at s x).kind)
 is_settled s (More a rest) = is_settled s a && (is_settled s rest && (is_declaration a || is_undeclaring rest))

@@ -1,5 +1,5 @@
--- The subprograms and points that code has, as those of the definitions: names and expressions stand in
--- rows of nodes there.
+-- The subprograms and points that code has, as those of the definitions: names and expressions
+-- stand in rows of nodes there.
 use Rattle.std.specs.Prelude.{map}
 use Rattle.typed_tree.specs.Nodes.{TypedNodes, typed_at, typed_code_at}
 use Rattle.flow_paths.specs.declared.point.Point.{Point}

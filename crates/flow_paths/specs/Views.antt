@@ -32,8 +32,8 @@ abbrev pub holds_loans : Typing → ℕ → Bool
 holds_loans s x = is_borrower s x || is_observer s x
 
 -- The roots of an object, by the acts of a text: of one that is no borrower or observer, the object
--- itself; of a borrower, those of the root of its initial source; of an observer, those of the roots of
--- all its sources. No others.
+-- itself; of a borrower, those of the root of its initial source; of an observer, those of the
+-- roots of all its sources. No others.
 pub data Roots (s : Typing) (acts : List Act) : ℕ → ℕ → Type 0 where
   itself : (x : ℕ) → IsTrue (not (holds_loans s x)) → Roots s acts x x
   borrows : (h r : ℕ) (m : Name) → Has acts (act.Borrow h m) → Roots s acts m.root r → Roots s acts h r
@@ -63,14 +63,14 @@ is_outer s x = is_formal s x || is_package_object s x
 pub data ConstantView (s : Typing) (sub : FlowSub) (m : Name) : Type 0 where
   -- its root is an observer and it has a selector
   of_observer : IsTrue (is_observer s m.root && has_selector m) → ConstantView s sub m
-  -- its root is an `in` formal of a procedure, and the formal's type isn't a named access type or the
-  -- name is the formal itself
+  -- its root is an `in` formal of a procedure, and the formal's type isn't a named access type or
+  -- the name is the formal itself
   of_formal : IsTrue (not (is_function sub) && (is_formal s m.root && (is_in_mode (object_at s m.root).mode
       && (not (is_named_access (view_of s m.root)) || not (has_selector m))))) → ConstantView s sub m
   -- it stands in a function, and its root is a formal or a package object
   in_function : IsTrue (is_function sub && is_outer s m.root) → ConstantView s sub m
-  -- it stands in a function, its root is a borrower, it has a selector, and a root of the borrower is a
-  -- formal or a package object
+  -- it stands in a function, its root is a borrower, it has a selector, and a root of the borrower
+  -- is a formal or a package object
   of_borrower : (r : ℕ) → IsTrue (is_function sub && (is_borrower s m.root && has_selector m))
       → Roots s (sub_acts sub) m.root r → IsTrue (is_outer s r) → ConstantView s sub m
 
@@ -89,8 +89,8 @@ changes (act.Free m) = Some m
 changes (act.Actual m how owning access) = actual_changes how m
 changes _ = None
 
--- What an act lends for writing: a Borrow, and an `in` actual of a named access type in the call of a
--- procedure.
+-- What an act lends for writing: a Borrow, and an `in` actual of a named access type in the call of
+-- a procedure.
 abbrev pub actual_lends : Mode → Bool → Name → Option Name
 actual_lends mode.In true m = Some m
 actual_lends _ access m = None
@@ -112,8 +112,8 @@ traversed_of false formals = None
 abbrev pub traversed_formal : Typing → FlowSub → Option ℕ
 traversed_formal s sub = traversed_of (traverses s.table sub.result) sub.formals
 
--- A Borrow rooted in the traversed formal of a function that gives a borrower, directly or through a
--- borrower that has that formal as its one root, may borrow from what is constant otherwise.
+-- A Borrow rooted in the traversed formal of a function that gives a borrower, directly or through
+-- a borrower that has that formal as its one root, may borrow from what is constant otherwise.
 pub data MayBorrow (s : Typing) (sub : FlowSub) : Act → Type 0 where
   directly : (h f : ℕ) (m : Name) → IsTrue (gives_variable s sub.result) → traversed_formal s sub ≡ Some f
       → m.root ≡ f → MayBorrow s sub (act.Borrow h m)
@@ -122,7 +122,8 @@ pub data MayBorrow (s : Typing) (sub : FlowSub) : Act → Type 0 where
 
 -- ---- V2
 
--- A scope encloses itself, and what a scope encloses that stands in it; `steps` bounds the way outwards.
+-- A scope encloses itself, and what a scope encloses that stands in it; `steps` bounds the path
+-- outwards.
 unfoldable pub encloses_within : ℕ → List ℕ → ℕ → ℕ → Bool
 encloses_within zero scopes a b = a == b
 encloses_within (suc steps) scopes a b = a == b || encloses_within steps scopes a (get_or scopes b b)

@@ -55,7 +55,7 @@ pub enum Instr {
         low: usize,
         high: usize,
     },
-    /// The next turn of a `for` loop, or its end. The bounds are not evaluated again.
+    /// The next iteration of a `for` loop, or its end. The bounds are not evaluated again.
     Next {
         parameter: u32,
         reverse: bool,

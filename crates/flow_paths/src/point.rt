@@ -4,7 +4,8 @@ use crate::instr::Instr;
 use place_names::{Fact, PlaceName, Placed};
 use spark_base::{Listed, Pos};
 
-/// A leak check: where it stands and what it looks at, before the effect of the act with this index.
+/// A leak check: where it stands and what it looks at, before the effect of the act with this
+/// index.
 #[derive(Drop)]
 pub struct LeakSpot {
     pub pos: Pos,

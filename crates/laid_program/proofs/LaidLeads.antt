@@ -34,7 +34,7 @@ uses_lead names s at p e i w next nn =
     row_lead names (prep s e (0 ∷ at) w.scope (row_at at 0 ∷ [])) (point (row_at at 0) p i (with_held s e (0 ∷ at) w.scope) next)
     (λ own. prep_lead names s e (0 ∷ at) w.scope (row_at at 0 ∷ []) own) nn
 
--- one expression before the other, and a point behind both
+-- one expression before the other, and a point after both
 pair_lead : (names : List PointName) (s : Setting) (at first second : Place) (a b : TypedTree) (scope inner : List ℕ) (q : NamedPoint)
     → q.name ≡ row_at at 0 → AreIn names q.next
     → AreNamed names ((prep s a first scope (entry (prep s b second inner (row_at at 0 ∷ [])) (row_at at 0 ∷ [])) ++ prep s b second inner (row_at at 0 ∷ [])) ++ q ∷ [])

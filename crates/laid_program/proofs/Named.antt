@@ -42,19 +42,19 @@ entry_in names (p ∷ ps) k a b = (a.0, tt)
 
 -- ---- two parts
 
--- a part leads to what stands behind it
+-- a part leads to what follows it
 pub two_lead : (names : List PointName) (ps qs : List NamedPoint) → (AreNamed names qs → AreNamed names ps → Lead names ps)
     → (AreNamed names qs → Lead names qs) → AreNamed names (ps ++ qs) → Lead names (ps ++ qs)
 two_lead names ps qs first second named =
     let back = named_back names ps qs named in
     lead_append names ps qs (first back (named_front names ps qs named)) (second back)
 
--- some points lead to one behind them
+-- some points lead to one after them
 pub row_lead : (names : List PointName) (ps : List NamedPoint) (q : NamedPoint) → (AreIn names (q.name ∷ []) → AreNamed names ps → Lead names ps)
     → AreIn names q.next → AreNamed names (ps ++ q ∷ []) → Lead names (ps ++ q ∷ [])
 row_lead names ps q first next = two_lead names ps (q ∷ []) first (λ b. (next, tt))
 
--- the points of a turn of a loop lead back to the first of those before its test
+-- the points of an iteration of a loop lead back to the first of those before its test
 pub turn_lead : (names : List PointName) (ps : List NamedPoint) (q : NamedPoint) (inner : List NamedPoint) (k : List PointName)
     → (AreIn names (q.name ∷ []) → AreNamed names ps → Lead names ps)
     → (AreIn names (entry ps (q.name ∷ [])) → AreNamed names inner → Lead names inner)

@@ -8,8 +8,8 @@ use spark_base::Listed;
 use type_table::TypeTable;
 use typed_tree::{Object, TypedRows};
 
-/// A program that is laid out. It is dropped by a function of its own: who owns one needn't prove
-/// again how its parts are dropped.
+/// A program that is laid out. It has its own `Drop`, so that owners needn't prove its fields'
+/// drops again.
 pub struct Laid {
     /// The names of its files.
     pub names: Vec<String>,
@@ -17,9 +17,9 @@ pub struct Laid {
     pub table: TypeTable,
     /// The typed expressions and statements that its points name.
     pub rows: TypedRows,
-    /// Its objects: those of the typed program, and behind them temporaries alone.
+    /// Its objects: those of the typed program, and then temporaries alone.
     pub objects: Listed<Object>,
-    /// Of each scope the one around it: of scope 0, which is around all others, its own number.
+    /// For each scope, its enclosing scope. Scope 0 encloses itself.
     pub scopes: Listed<u32>,
     /// Its subprograms. Subprogram 0 declares the package objects.
     pub subs: Listed<LaidSub>,

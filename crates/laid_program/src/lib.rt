@@ -2,8 +2,8 @@
 //! the program.
 //!
 //! `Laid` keeps that its parts are the layout of a program that breaks no sentence on types and is
-//! within the limits (`specs/Layouts.antt`; `docs/FLOW.md`, "Points"). What is asked of control paths, effects, actuals
-//! and views is asked of it.
+//! within the limits (`specs/Layouts.antt`; `docs/FLOW.md`, "Points"). What is asked of control
+//! paths, effects, actuals and views is asked of it.
 #![tactic(auto)]
 
 mod laid;

@@ -25,7 +25,8 @@ failed p s = failed_at p s.word s.gone
 abbrev pub checked_at : Pos → ℕ → List Slot → List ℕ → List Leak
 checked_at p at slots offsets = flat_map (λ o. failed p (get_or slots (at + o) no_slot)) offsets
 
--- The checks of a place, one for each access part, with what failed of each in the order of the indexes.
+-- The checks of a place, one for each access part, with what failed of each in the order of the
+-- indexes.
 abbrev pub checks_at : Typing → Pos → Memory → Place → List (List Leak)
 checks_at s p m k = map (λ part. checked_at p k.at (slots_at s m k.base) (offsets s.table k.of part)) (parts s.table k.of)
 
@@ -47,8 +48,8 @@ value_passed ws now = Done (Value ws) now
 abbrev pub type_of : Here → ℕ → ℕ
 type_of h x = (object_at h.typing x).of
 
--- A value is checked against the subtype of its formal; that of an access formal of an anonymous type is
--- a copy.
+-- A value is checked against the subtype of its formal; that of an access formal of an anonymous
+-- type is a copy.
 abbrev pub passed_value : Here → ℕ → TypedTree → Now → Evaluated Passed
 passed_value h x e now =
     followed_by (if is_anonymous (view_of h.typing x) then viewed h e now else value h e now)
@@ -82,8 +83,9 @@ out_checks s p m _ _ = []
 
 -- ---- formals
 
--- The formals are declared in the frame of the call: with the value; with what the actual has, which is
--- taken from it; or with what an object has without a value, where the actual is taken from as well.
+-- The formals are declared in the frame of the call: with the value; with what the actual has,
+-- which is taken from it; or with what an object has without a value, where the actual is taken
+-- from as well.
 abbrev pub with_formal : Typing → ℕ → ℕ → Passed → Memory → Memory
 with_formal s frame x (Value ws) m = declared frame x ws m
 with_formal s frame x (From k) m = declared frame x (words_of s m k) (moved_out s k m)

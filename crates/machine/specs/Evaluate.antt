@@ -1,7 +1,7 @@
 -- What expressions give, and where names lead (docs/RUN.md, "Expressions"; Ada 2012, 4).
 --
--- Evaluation goes from left to right. It may make cells, take what names of owning types hold, and take
--- the values that wait; it may raise an exception, or touch a freed cell.
+-- Evaluation goes from left to right. It may make cells, take what names of owning types hold, and
+-- take the values that wait; it may raise an exception, or touch a freed cell.
 use Rattle.std.specs.Prelude.{ℕ, suc, ◌+◌, ◌*◌, Bool, true, false, not, ◌&&◌, List, [], ◌∷◌, ◌++◌, map, length, drop, get_or, nat_eq, nat_le, Option, Some, None, ℤ, pos, ◌-ℤ◌, int_le, unsigned_abs, if◌then◌else◌}
 use Rattle.std.specs.Char.{to_ascii_uppercase}
 use Rattle.resolved_tree.specs.declared.operator.Operator.{Operator}
@@ -60,8 +60,8 @@ pub record Here : Type 0 where
 
 -- ---- names
 
--- A step of a name whose index is evaluated: to a component, to the element with so many before it, to
--- what is designated.
+-- A step of a name whose index is evaluated: to a component, to the element with so many before it,
+-- to what is designated.
 pub data Step : Type 0 where
   ToComponent : ℕ → Step
   ToElement : ℕ → Step
@@ -251,8 +251,8 @@ unfoldable mutual
   initial h t (More e rest) now = followed_by (evaluate h AsValue e now) (checked h t)
   initial h t _ now = Done (default h.typing.table t) now
 
--- The value of a source that is neither read nor moved: of a borrow, of an observation, or of an actual
--- that is looked at through its formal.
+-- The value of a source that is neither read nor moved: of a borrow, of an observation, or of an
+-- actual that is looked at through its formal.
 abbrev pub viewed : Here → TypedTree → Now → Evaluated (List Word)
 viewed h e now = evaluate h AsView e now
 

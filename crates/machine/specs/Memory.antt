@@ -1,7 +1,7 @@
 -- Variables and cells (docs/RUN.md, "Memory").
 --
--- A word that was moved away stays where it was and is marked as gone. Cells have numbers from 1 on,
--- in the order in which they are made, and keep them when they are freed.
+-- A word that was moved away stays where it was and is marked as gone. Cells have numbers from 1
+-- on, in the order in which they are made, and keep them when they are freed.
 use Rattle.std.specs.Prelude.{ℕ, zero, suc, ◌+◌, Bool, true, false, not, ◌&&◌, ◌==◌, List, [], ◌∷◌, ◌++◌, map, filter, take, drop, length, sum, get_or, nat_le, if◌then◌else◌}
 use Rattle.type_definitions.specs.Types.{words}
 use Rattle.type_definitions.specs.Entries.{integer}
@@ -166,8 +166,8 @@ as_freed c = record c { freed = true }
 abbrev pub freed : ℕ → Memory → Memory
 freed n m = record m { cells = with_cell n as_freed m.cells }
 
--- What a step that raises or traps leaves: the memory before it, with the cells that it made, which count as
--- freed.
+-- What a step that raises or traps leaves: the memory before it, with the cells that it made, which
+-- count as freed.
 abbrev pub given_up : Memory → Memory → Memory
 given_up before m = record before {
   cells = before.cells ++ map as_freed (drop (length before.cells) m.cells);

@@ -9,8 +9,8 @@ use Rattle.machine.specs.Words.{Cell, access_offsets}
 use Rattle.machine.specs.Memory.{Slot, OfVariable, fresh, no_slot, cell, slots_at}
 use Rattle.machine.specs.States.{Waiting, Frame, Leak, State}
 
--- What holds words: the variable of a frame and an object; a value that waits, by how many have waited
--- longer; or the cell with a number.
+-- What holds words: the variable of a frame and an object; a value that waits, by how many have
+-- waited longer; or the cell with a number.
 pub data Holder : Type 0 where
   InVariable : ℕ → ℕ → Holder
   InWaiting : ℕ → Holder
@@ -71,8 +71,8 @@ pub record HasOneOwner (s : Typing) (state : State) (n : ℕ) : Type 0 where
   pub owns : Owns s state holder at n
   pub only : (h : Holder) (o : ℕ) → Owns s state h o n → (h ≡ holder) × (o ≡ at)
 
--- The way from a cell to its owner, to the cell of that owner, and so on ends: at a variable, at a value
--- that waits, or at a leaked cell.
+-- The path from a cell to its owner, to the cell of that owner, and so on ends: at a variable, at a
+-- value that waits, or at a leaked cell.
 pub data IsHeld (s : Typing) (state : State) : ℕ → Type 0 where
   leaked : (n : ℕ) → IsLeaked state n → IsHeld s state n
   by_variable : (n at frame x : ℕ) → Owns s state (InVariable frame x) at n → IsHeld s state n

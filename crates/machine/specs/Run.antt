@@ -52,8 +52,8 @@ unfoldable pub within : ℕ → FlowProgram → List ℕ → State → Outcome
 within zero program input s = Ends Spent s
 within (suc n) program input s = then_on (step program input s) (within n program input)
 
--- A run of at most n steps. Where the package objects and the main procedure have too many words, it
--- ends at the identifier of the main procedure before the first step.
+-- A run of at most n steps. Where the package objects and the main procedure have too many words,
+-- it ends at the identifier of the main procedure before the first step.
 abbrev pub run_of : FlowProgram → ℕ → List ℕ → ℕ → Outcome
 run_of program main input n =
     if nat_le (frame_words program (frame_at_start main [] ∷ frame_at_start 0 [] ∷ [])) stack_words

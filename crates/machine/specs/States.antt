@@ -6,7 +6,7 @@ use Rattle.machine.specs.Words.{Word}
 use Rattle.machine.specs.Memory.{Memory, Place}
 use Rattle.machine.specs.Evaluate.{Exception, Trap}
 
--- A `for` loop that has started: its bounds, and whether its first turn is still to come.
+-- A `for` loop that has started: its bounds, and whether its first iteration is still to come.
 pub record Loop : Type 0 where
   pub parameter : ℕ
   pub low : ℤ
@@ -23,8 +23,8 @@ pub record Waiting : Type 0 where
   pub of : ℕ
   pub words : List Word
 
--- A frame: its subprogram and its next point; the values that wait, the latest first; the loops that have
--- started, the latest first; and what is copied back.
+-- A frame: its subprogram and its next point; the values that wait, the latest first; the loops
+-- that have started, the latest first; and what is copied back.
 pub record Frame : Type 0 where
   pub sub : ℕ
   pub next : ℕ
@@ -37,9 +37,9 @@ pub record Leak : Type 0 where
   pub number : ℕ
   pub pos : Pos
 
--- The innermost frame stands first, and that of the package objects last. Output and failed leak checks
--- stand in the order in which they came. Of the leak checks of the last step, as its point lists them,
--- `checks` has what failed of each.
+-- The innermost frame stands first, and that of the package objects last. Output and failed leak
+-- checks stand in the order in which they came. Of the leak checks of the last step, as its point
+-- lists them, `checks` has what failed of each.
 pub record State : Type 0 where
   pub frames : List Frame
   pub memory : Memory

@@ -21,7 +21,8 @@ use Rattle.machine.specs.Evaluate.{Exception, ConstraintError, ProgramError, Sto
 use Rattle.machine.specs.Calls.{checks_at, written_pos, Passed, all_passed, out_checks, with_formals, returns_of}
 use Rattle.machine.specs.States.{Waiting, Loop, Return, Frame, Leak, State, Normal, Raised, Trapped, Outcome, Goes, Ends, sub_of, frame_words, stack_words, frame_at_start}
 
--- A step: the program with its input, the point, and the state before it, whose innermost frame is apart.
+-- A step: the program with its input, the point, and the state before it, whose innermost frame is
+-- apart.
 pub record Turn : Type 0 where
   pub program : FlowProgram
   pub input : List ℕ
@@ -92,7 +93,7 @@ successor t k = nth k t.point.next
     nth zero (n ∷ rest) = Some n
     nth (suc k) (n ∷ rest) = nth k rest
 
--- The state behind the step, at the k-th successor, with these values waiting.
+-- The state after the step, at the k-th successor, with these values waiting.
 abbrev pub behind : Turn → List Waiting → Memory → ℕ → State
 behind t waits m k =
     counted (record t.state { frames = led t (record t.frame { waits = waits }) (successor t k); memory = m })
@@ -140,7 +141,7 @@ leaking_goes checks (Ends e s) = Ends e (leaking checks s)
 abbrev pub target_pos : Turn → TypedTree → Pos
 target_pos t target = written_pos t.point.pos (written target)
 
--- The source is evaluated, followed_by the place of the target found; followed_by come the leak checks.
+-- The source is evaluated, then the place of the target is found; then come the leak checks.
 abbrev pub assign : Turn → TypedTree → TypedTree → Outcome
 assign t target e =
     evaluated t (followed_by (taken_by t (type_named target) e (start t))
@@ -156,7 +157,7 @@ call t sub actuals =
     evaluated t (all_passed (here t) (passings (typing t) (sub_at (typing t) sub)) formals actuals (start t))
     (λ passed m. entered t sub formals actuals passed m)
   where
-    -- the stack is tested, followed_by come the leak checks, followed_by the formals are declared
+    -- the stack is tested, then come the leak checks, then the formals are declared
     entered : Turn → ℕ → List ℕ → TypedTree → List Passed → Memory → Outcome
     entered t sub formals actuals passed m =
         let frames : List Frame = frame_at_start sub (returns_of formals passed) ∷ (behind t (waiting t) m 0).frames in
@@ -232,7 +233,7 @@ input t target =
 
 -- ---- release and the ends of scopes
 
--- Nothing is done to null. A cell is freed behind its leak checks, and its name becomes null.
+-- Nothing is done to null. A cell is freed after its leak checks, and its name becomes null.
 abbrev pub release : Turn → TypedTree → Outcome
 release t e = evaluated t (place_of (here t) e (start t)) (λ k m. released t k (words_of (typing t) m k) m)
   where
@@ -282,7 +283,8 @@ abbrev pub choose : Turn → TypedTree → List TypedCode → Outcome
 choose t e choices =
     evaluated t (value (here t) e (start t)) (λ ws m. chosen t (length choices) (choice choices ws) m)
 
--- An operand of a short circuit. Its value waits: the left one as one more, the right one in place of it.
+-- An operand of a short circuit. Its value waits: the left one as one more, the right one in place
+-- of it.
 abbrev pub truth_waiting : List Word → Waiting
 truth_waiting ws = record { of = boolean; words = ws }
 
@@ -326,7 +328,7 @@ with_loop l s = record s { frames = on_first s.frames }
     on_first [] = []
     on_first (f ∷ rest) = record f { loops = l ∷ without_loop l.parameter f.loops } ∷ rest
 
--- Where there is a turn, both bounds are of the parameter's subtype.
+-- Where there is an iteration, both bounds are of the parameter's subtype.
 abbrev pub start_loop : Turn → ℕ → TypedTree → TypedTree → Outcome
 start_loop t x low high = evaluated t (bounds t low high (start t)) (λ b m. started t x b m)
   where
@@ -350,7 +352,7 @@ abbrev pub turned : ℕ → List Loop → List Loop
 turned x [] = []
 turned x (l ∷ rest) = if l.parameter == x then record l { first = false } ∷ rest else l ∷ turned x rest
 
--- The first turn has a bound, and each further one the next value, up to the other bound.
+-- The first iteration has a bound, and each further one the next value, up to the other bound.
 abbrev pub next_value : Bool → Loop → ℤ → Option ℤ
 next_value reversed l v =
     if l.first then (if int_le l.low l.high then Some (if reversed then l.high else l.low) else None)

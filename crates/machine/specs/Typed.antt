@@ -1,11 +1,11 @@
 -- Which words an expression gives, and which points of a program are typed (docs/RUN.md, "Words").
 --
--- The words of a type have sorts: a value of Integer, one of an enumeration, or an access value that
--- designates objects of a type. In a typed program each place takes words of its own sorts, no name
--- leads out of what it names, the type that is kept of a name is the one that its steps reach, numbers
--- are values of Integer, what stands for each element of an array owns nothing but null, and points have
--- as many successors as their instructions lead to. That the rules of typing see to it isn't proved
--- (docs/PROVED.md).
+-- The words of a type have sorts: a value of Integer, one of an enumeration, or an access value
+-- that designates objects of a type. In a typed program each place takes words of its own sorts, no
+-- name leads out of what it names, the type that is kept of a name is the one that its steps reach,
+-- numbers are values of Integer, what stands for each element of an array owns nothing but null,
+-- and points have as many successors as their instructions lead to. That the rules of typing see to
+-- it isn't proved (docs/PROVED.md).
 use Rattle.std.specs.Prelude.{ℕ, zero, suc, Bool, true, false, not, ◌&&◌, ◌||◌, List, [], ◌∷◌, ◌++◌, flat_map, length, slice_get, nat_eq, nat_lt, Option, Some, None, is_some, ℤ, if◌then◌else◌}
 use Rattle.std.specs.Ordering.{int_eq}
 use Rattle.std.specs.List.{list_all}
@@ -193,7 +193,8 @@ unfoldable mutual
   pointed s (Call p sub actuals) = is_pointer (sorts_of_result s.table (sub_at s sub).result)
   pointed s _ = false
 
-  -- the steps of a name lead from a type to another one; the bounds of an index are those of its array
+  -- the steps of a name lead from a type to another one; the bounds of an index are those of its
+  -- array
   pub leads : Typing → ℕ → ℕ → TypedTree → Bool
   leads s to t (IntoComponent i rest) =
       nat_lt i (field_count (shape_of s.table t)) && (is_record (shape_of s.table t) && leads s to (component_type s.table t i) rest)

@@ -26,8 +26,8 @@ abbrev pub repeated : ℕ → List Word → List Word
 repeated zero ws = []
 repeated (suc n) ws = ws ++ repeated n ws
 
--- The words of an object without a value, from those of the types that its type is made of: null of an
--- access type, the first value of a scalar subtype, 0 of Integer itself.
+-- The words of an object without a value, from those of the types that its type is made of: null of
+-- an access type, the first value of a scalar subtype, 0 of Integer itself.
 abbrev pub default_of : (ℕ → List Word) → ℕ → Shape → List Word
 default_of defaults t (shape.Whole low high) = Int (if nat_eq t integer then pos 0 else low) ∷ []
 default_of defaults t (shape.Listed literals low high) = Enumerated low ∷ []

@@ -56,7 +56,7 @@ block_sums a b c e i j =
     let third : (b + c) * e ≡ b * e + c * e = add-mul b c e in
     omega (arith, first, second, third)
 
--- Code, and the ends of its scopes behind it.
+-- Code, and the ends of its scopes after it.
 pub block : (s : Typing) (ps qs : List NamedPoint) (a : Extent) (w : Around) (xs : List ℕ) (ts : List Temporary)
     → Extends s ps a (length (xs ++ w.in_loop)) (length (xs ++ w.in_all)) ts → Measured s qs (length xs) 0 []
     → Extends s (ps ++ qs) (ending_with (length xs) a) (length w.in_loop) (length w.in_all) (ts ++ [])

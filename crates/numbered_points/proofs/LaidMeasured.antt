@@ -62,7 +62,7 @@ Spans s ps a w ts = Extends s ps a (length w.in_loop) (length w.in_all) ts
 no_span : (s : Typing) (w : Around) → Spans s [] nothing w []
 no_span s w = plain s [] 0 0 (length w.in_loop) (length w.in_all) [] (measured_none s)
 
--- What uses an expression, and points behind it.
+-- What uses an expression, and points after it.
 uses_and : (s : Setting) (at : Place) (p : Pos) (e : TypedTree) (i : Instruction) (w : Around) (next : List PointName) (qs : List NamedPoint)
     (a : Extent) (us : List Temporary) → fills s.typing i ≡ None → Spans s.typing qs a w us
     → Spans s.typing (uses s at p e i w next ++ qs) (both (using e 1) a) w (prep_temporaries s.typing e (0 ∷ at) ++ us)

@@ -27,7 +27,7 @@ use Rattle.numbered_points.proofs.UsesNumbers.{ends_made, last_made, last_begins
 abbrev pub ways_of : Plan → Around → Ways
 ways_of l w = record { leave = numbers_of l w.leave; in_loop = w.in_loop; in_all = w.in_all }
 
--- Where statements begin, with what follows behind that.
+-- Where statements begin, and what follows them.
 stmts_begin : (l : Plan) (c : TypedCode) (at : Place) (w : Around) (k rest : List PointName) (n t : ℕ)
     → Stands l n t (laid (setting_of l) c at w k)
     → numbers_of l (entry (laid (setting_of l) c at w k) k ++ rest)

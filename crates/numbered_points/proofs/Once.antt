@@ -1,4 +1,4 @@
--- A subprogram whose points were made once, and what the end of a call looks at put in behind.
+-- A subprogram whose points were made once, and what the end of a call looks at put in afterwards.
 use Rattle.std.proofs.Common.{◌≡◌, ℕ, true, false, List, [], ◌∷◌, length, map, refl, sym, ap, ◌∙◌}
 use Rattle.std.proofs.lemmas.List.{length-map}
 use Rattle.spark_base.specs.declared.position.Pos.{Pos}

@@ -16,7 +16,8 @@ use Rattle.numbered_points.proofs.Fillings.{Measured}
 use Rattle.numbered_points.proofs.PrepMeasured.{prep_temporaries, prep_measured}
 use Rattle.numbered_points.proofs.Stands.{Plan, setting_of, numbers_of, made, Stands, behind, front, chain, chain_on, entry_here, made_if}
 
--- A point that evaluates a left operand, the points before the right one, and a point that evaluates that.
+-- A point that evaluates a left operand, the points before the right one, and a point that
+-- evaluates that.
 short_made : (l : Plan) (at : Place) (p q : Pos) (op : ShortCircuit) (a b : TypedTree) (scope inner : List ℕ) (k : List PointName)
     (qs : List NamedPoint) (n t m u : ℕ) (us : List Temporary) (ys : List FlowPoint)
     → Measured l.maker.frame.typing qs m u us

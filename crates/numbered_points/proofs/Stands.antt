@@ -1,4 +1,5 @@
--- Points whose names have the numbers from one on, and whose temporaries have those from another on.
+-- Points whose names have the numbers from one on, and whose temporaries have those from another
+-- on.
 use Rattle.std.proofs.Common.{◌≡◌, ℕ, zero, suc, ◌+◌, Bool, true, false, List, [], ◌∷◌, ◌++◌, length, map, refl, ap, ◌∙◌, subst, arith, length-append, Option, Some, None}
 use Rattle.std.specs.Prelude.{if◌then◌else◌}
 use Rattle.std.proofs.lemmas.List.{map-append}
@@ -71,7 +72,7 @@ behind l n t m u ps qs ts h s =
     stands_at l (n + length ps) (n + m) (t + length (fillings l.maker.frame.typing ps)) (t + u) qs
     (ap (λ i. n + i) h.count) (ap (λ i. t + i) (measured_filled l.maker.frame.typing ps m u ts h)) (back l n t ps qs s)
 
--- One list of points behind the other.
+-- One list of points after the other.
 pub chain : (l : Plan) (ps qs : List NamedPoint) (n t m u : ℕ) (ts : List Temporary) (xs ys : List FlowPoint)
     → Measured l.maker.frame.typing ps m u ts → Stands l n t (ps ++ qs)
     → (Stands l n t ps → Stands l (n + m) (t + u) qs → made l ps ≡ xs) → (Stands l (n + m) (t + u) qs → made l qs ≡ ys)
@@ -97,13 +98,13 @@ next_here : (m n : ℕ) → next_of m n ((n + m) ∷ []) ≡ n ∷ []
 next_here zero n = ap (λ i. i ∷ []) (omega arith)
 next_here (suc m) n = refl
 
--- What leads to points, and to the one behind them where there are none, leads to the number there.
+-- What leads to points, and to the one after them where there are none, leads to the number there.
 pub entry_here : (l : Plan) (n t m u : ℕ) (ps : List NamedPoint) (ts : List Temporary) (x : PointName)
     → Measured l.maker.frame.typing ps m u ts → Stands l n t ps → l.number x ≡ n + m → numbers_of l (entry ps (x ∷ [])) ≡ n ∷ []
 entry_here l n t m u ps ts x h s is =
     entry_next l n t m u ps ts (x ∷ []) h s ∙ ap (λ i. next_of m n (i ∷ [])) is ∙ next_here m n
 
--- A list of points that leads to the one behind it.
+-- A list of points that leads to the one after it.
 pub chain_on : (l : Plan) (ps qs : List NamedPoint) (n t m u i v : ℕ) (ts us : List Temporary) (k : List PointName)
     (make_first : List ℕ → List FlowPoint) (ys : List FlowPoint)
     → Measured l.maker.frame.typing ps m u ts → Measured l.maker.frame.typing qs i v us → Stands l n t (ps ++ qs)

@@ -74,7 +74,7 @@ uses_begin l at p e i w next n t s =
     let b : Stands l (n + prep_size e) (t + filled_in e) row = behind l n t (prep_size e) (filled_in e) ps row ts h s in
     entry_here l n t (prep_size e) (filled_in e) ps ts (row_at at 0) h (front l n t ps row s) b.0
 
--- A use, and points behind it. What follows may lead back to the use.
+-- A use, and points after it. What follows may lead back to the use.
 pub uses_then : (l : Plan) (at : Place) (p : Pos) (e : TypedTree) (i : Instruction) (w : Around) (next : List PointName) (qs : List NamedPoint)
     (n t : ℕ) (after : List ℕ) (ys : List FlowPoint) → fills l.maker.frame.typing i ≡ None
     → Stands l n t (uses (setting_of l) at p e i w next ++ qs)

@@ -1,7 +1,7 @@
 -- How many points there are, and how many temporaries they fill (docs/FLOW.md, "Points").
 --
--- An exit and a return end scopes outside of the construct that they leave. So the number of points of
--- a construct is told by numbers that don't depend on what stands around it.
+-- An exit and a return end scopes outside of the construct that they leave. So the number of points
+-- of a construct is told by numbers that don't depend on what stands around it.
 use Rattle.std.specs.Prelude.{ℕ, ◌+◌, ◌*◌, List, length, if◌then◌else◌}
 use Rattle.typed_tree.specs.Trees.{TypedTree, TypedCode, Name, Component, Designated, Element, Image, Parens, Unary, Binary, Short, IsNull, Aggregate, Alike, New, Declare, Assign, Skip, Output, Input, Release, If, Branch, Case, When, Loop, While, For, Exit, Return, Block}
 use Rattle.typed_tree.specs.Trees as typed
@@ -52,9 +52,9 @@ filled_in _ = 0
 
 -- ---- statements
 
--- The points that a construct has wherever it stands, how many exits and how many returns leave it, and
--- how many temporaries its points fill. An exit has a point for each object whose scope it ends up to
--- the loop, and a return one for each whose scope it ends up to the subprogram.
+-- The points that a construct has wherever it stands, how many exits and how many returns leave it,
+-- and how many temporaries its points fill. An exit has a point for each object whose scope it ends
+-- up to the loop, and a return one for each whose scope it ends up to the subprogram.
 pub record Extent : Type 0 where
   pub own : ℕ
   pub exits : ℕ
@@ -67,7 +67,7 @@ extent own exits returns filled = record { own = own; exits = exits; returns = r
 abbrev pub nothing : Extent
 nothing = extent 0 0 0 0
 
--- Points that use an expression: n of them behind those that come before.
+-- Points that use an expression: n of them after those that come before.
 abbrev pub using : TypedTree → ℕ → Extent
 using e n = extent (prep_size e + n) 0 0 (filled_in e)
 
@@ -78,7 +78,8 @@ both a b = extent (a.own + b.own) (a.exits + b.exits) (a.returns + b.returns) (a
 abbrev pub in_turns : Extent → Extent
 in_turns a = extent a.own 0 a.returns a.filled
 
--- A block with n objects whose scopes end. They end behind it, and where an exit or a return leaves it.
+-- A block with n objects whose scopes end. They end after it, and where an exit or a return leaves
+-- it.
 abbrev pub ending_with : ℕ → Extent → Extent
 ending_with n a = extent (a.own + n + (a.exits + a.returns) * n) a.exits a.returns a.filled
 
@@ -128,8 +129,8 @@ unfoldable mutual
 
 -- ---- what stands around
 
--- What follows the innermost loop, and the objects whose scopes end where an exit leaves it, and where a
--- return leaves all, the last one first.
+-- What follows the innermost loop, and the objects whose scopes end where an exit leaves it, and
+-- where a return leaves all, the last one first.
 pub record Ways : Type 0 where
   pub leave : List ℕ
   pub in_loop : List ℕ

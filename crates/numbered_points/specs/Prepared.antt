@@ -1,4 +1,5 @@
--- The points that come before a point which uses an expression, by numbers (docs/FLOW.md, "Points").
+-- The points that come before a point which uses an expression, by numbers (docs/FLOW.md,
+-- "Points").
 --
 -- The first of them has the number n, the next temporary has the number t, and k is what follows.
 use Rattle.std.specs.Prelude.{ℕ, zero, suc, ◌+◌, Bool, List, [], ◌∷◌, ◌++◌, Some, None, if◌then◌else◌}
@@ -23,7 +24,8 @@ temporary g t = if g.counted then t else 0
 abbrev pub make : Maker → Pos → Instruction → List ℕ → FlowPoint
 make g p i next = record { pos = p; acts = acts_of g.frame p i; leaks = leaks_of g.frame p i; instr = i; next = next }
 
--- Where m points begin whose first one would have the number n, or what follows where there are none.
+-- Where m points begin whose first one would have the number n, or what follows where there are
+-- none.
 abbrev pub next_of : ℕ → ℕ → List ℕ → List ℕ
 next_of zero n k = k
 next_of (suc m) n k = n ∷ []
@@ -33,9 +35,9 @@ unfoldable pub prepared : Maker → TypedTree → ℕ → ℕ → List ℕ → L
 prepared g (Call p sub actuals) n t k =
     prepared g actuals n t ((n + prep_size actuals) ∷ [])
     ++ make g p (instruction.Call sub actuals (Some (temporary g (t + filled_in actuals)))) k ∷ []
--- a short circuit with a call on the right: those of the left operand; a point that evaluates it; those
--- of the right operand; a point that evaluates that. The left operand leads on to the right one, or past
--- it
+-- a short circuit with a call on the right: those of the left operand; a point that evaluates it;
+-- those of the right operand; a point that evaluates that. The left operand leads on to the right
+-- one, or past it
 prepared g (Short op p a q b) n t k =
     if has_call b then
     (let middle : ℕ = n + prep_size a in

@@ -1,7 +1,7 @@
 -- Subprograms and programs with points by numbers (docs/FLOW.md, "Points").
 --
--- One subprogram is laid out behind the other. The temporaries of each have the numbers behind those of
--- the one before, and the first ones stand behind all objects.
+-- One subprogram is laid out after the other. The temporaries of each have the numbers after those
+-- of the one before, and the first ones follow all objects.
 use Rattle.std.specs.Prelude.{ℕ, ◌+◌, Bool, true, false, List, [], ◌∷◌, ◌++◌, map, flat_map, sum, length, Some, is_some, if◌then◌else◌}
 use Rattle.spark_base.specs.declared.position.Pos.{Pos}
 use Rattle.place_names.specs.declared.act.Act.{Act}
@@ -34,7 +34,7 @@ body_size s sub = size (code_extent s sub.body) (body_ways s sub)
 abbrev pub body_numbers : Maker → TypedSub → ℕ → List ℕ → List FlowPoint
 body_numbers g sub t k = laid_numbers g sub.body 0 t (body_ways g.frame.typing sub) k
 
--- Those behind it, the first with the number n. The end of a function raises Program_Error.
+-- Those after it, the first with the number n. The end of a function raises Program_Error.
 abbrev pub end_numbers : Maker → TypedSub → ℕ → List FlowPoint
 end_numbers g sub n =
     if is_some sub.result then make g sub.end Fall [] ∷ []
@@ -90,8 +90,8 @@ pub record NumberedSub : Type 0 where
   pub types : List ℕ
   pub sub : FlowSub
 
--- What points are made by. No fact comes from the end of a call, so facts are known before what that
--- looks at.
+-- What points are made by. No fact comes from the end of a call, so facts are known before what
+-- that looks at.
 abbrev pub maker : Typing → TypedSub → Bool → List ℕ → Maker
 maker s sub counted roots = record { frame = frame_of s sub roots; counted = counted }
 

@@ -1,8 +1,8 @@
 -- The points of statements by numbers, one case for each row of the table of points (docs/FLOW.md,
 -- "Points").
 --
--- The first point has the number n, the next temporary has the number t, and k is what follows. Points
--- stand in the order of their numbers.
+-- The first point has the number n, the next temporary has the number t, and k is what follows.
+-- Points stand in the order of their numbers.
 use Rattle.std.specs.Prelude.{ℕ, ◌+◌, List, [], ◌∷◌, ◌++◌, length, None, if◌then◌else◌}
 use Rattle.spark_base.specs.declared.position.Pos.{Pos}
 use Rattle.typed_tree.specs.Trees.{TypedTree, TypedCode, Declare, Assign, Skip, Output, Input, Release, If, Branch, Case, When, Loop, While, For, Exit, Return, Block, More}
@@ -58,7 +58,8 @@ whens_begin s _ n w k = []
 -- ---- statements
 
 unfoldable mutual
-  -- a statement, and a list of statements, of which each leads to the next one and the last one to k
+  -- a statement, and a list of statements, of which each leads to the next one and the last one to
+  -- k
   pub laid_numbers : Maker → TypedCode → ℕ → ℕ → Ways → List ℕ → List FlowPoint
   laid_numbers g (More a rest) n t w k =
       let behind : ℕ = n + size (code_extent g.frame.typing a) w in
@@ -78,7 +79,7 @@ unfoldable mutual
   laid_numbers g (Input p target) n t w k = used g p target (instruction.Input target) n t k
   -- an instance of Unchecked_Deallocation: Prep; Release
   laid_numbers g (Release p m) n t w k = used g p m (instruction.Release m) n t k
-  -- if: its branches in order, and behind them the statements of `else`
+  -- if: its branches in order, and then the statements of `else`
   laid_numbers g (If branches otherwise) n t w k =
       let behind : ℕ = n + size (branches_extent g.frame.typing branches) w in
       branches_numbers g branches n t w k (next_of (size (code_extent g.frame.typing otherwise) w) behind k)
@@ -91,19 +92,20 @@ unfoldable mutual
   -- a plain loop has none of its own. Its statements lead back to their own first point
   laid_numbers g (Loop stmts) n t w k =
       laid_numbers g stmts n t (around_loop k w) (next_of (size (code_extent g.frame.typing stmts) (around_loop k w)) n k)
-  -- while, each turn and the last test: Prep; Test
+  -- while, each iteration and the last test: Prep; Test
   laid_numbers g (While p e stmts) n t w k =
       let inner : ℕ = n + prep_size e + 1 in
       used g p e (instruction.Test e) n t (next_of (size (code_extent g.frame.typing stmts) (around_loop k w)) inner (n ∷ []) ++ k)
       ++ laid_numbers g stmts inner (t + filled_in e) (around_loop k w) (n ∷ [])
-  -- for: Prep; Start; then for each turn and the last test Next
+  -- for: Prep; Start; then for each iteration and the last test Next
   laid_numbers g (For p x reversed low high stmts) n t w k =
       let next : ℕ = n + prep_size low + prep_size high + 1 in
       used_both g p low high (instruction.Start x reversed low high) n t (next ∷ [])
       ++ make g p (instruction.Next x reversed low high)
       (next_of (size (code_extent g.frame.typing stmts) (around_loop k w)) (next + 1) (next ∷ []) ++ k)
       ∷ laid_numbers g stmts (next + 1) (t + filled_in low + filled_in high) (around_loop k w) (next ∷ [])
-  -- exit: Prep; LeaveLoop; where it leaves, the ends of each scope between it and the loop, inner first
+  -- exit: Prep; LeaveLoop; where it leaves, the ends of each scope between it and the loop, inner
+  -- first
   laid_numbers g (Exit p e) n t w k =
       let out : ℕ = n + prep_size e + 1 in
       used g p e (instruction.LeaveLoop e) n t (next_of (length w.in_loop) out w.leave ++ unless_empty e k)
@@ -118,8 +120,8 @@ unfoldable mutual
       laid_numbers g stmts n t (around_block xs w) (next_of (length xs) out k) ++ ended g end xs out k
   laid_numbers g _ n t w k = []
 
-  -- the branches of an `if`; a condition that doesn't hold leads to the next branch, and the last one to
-  -- what stands behind `else`
+  -- the branches of an `if`; a condition that doesn't hold leads to the next branch, and the last
+  -- one to what follows `else`
   pub branches_numbers : Maker → TypedCode → ℕ → ℕ → Ways → List ℕ → List ℕ → List FlowPoint
   branches_numbers g (More a rest) n t w k otherwise =
       let behind : ℕ = n + size (branch_extent g.frame.typing a) w in

@@ -1,4 +1,4 @@
--- The item that stands behind separators, and where there is none.
+-- The item that follows separators, and where there is none.
 use Rattle.std.proofs.Common.{◌≡◌, refl, sym, ap, ◌∙◌, ℕ, ◌+◌, Bool, true, false, eqb, List, [], ◌∷◌, take, drop, Option, ℤ, arith, one-add}
 use Rattle.std.proofs.Math.Dec.{eqb-suc-zero}
 use Rattle.std.specs.List.{list_all}
@@ -7,7 +7,7 @@ use Rattle.run_values.specs.declared.items.Item.{Item}
 use Rattle.run_values.specs.declared.items.Item.TheVariants.{Missing}
 use Rattle.run_values.specs.Items.{is_separator, separator_length, item_length, number, item_of, next_item}
 
--- only separators are left where no other byte stands behind them
+-- only separators are left where no other byte follows them
 abbrev other_bytes : List ℕ → ℕ
 other_bytes xs = item_length (drop (separator_length xs) xs)
 
@@ -21,7 +21,7 @@ none_left : (xs : List ℕ) → list_all is_separator xs ≡ eqb (other_bytes xs
 none_left [] = refl
 none_left (x ∷ xs) = none_by x xs (is_separator x) refl (none_left xs)
 
--- The lengths that the code has: of the separators, and of the item behind them.
+-- The lengths that the code has: of the separators, and of the item after them.
 pub record IsFound (input : List ℕ) (at n len : ℕ) : Type 0 where
   pub before : n ≡ separator_length (drop at input)
   pub item : len ≡ item_length (drop (at + n) input)

@@ -2,7 +2,7 @@
 use Rattle.std.specs.Prelude.{ℕ, suc, List, ◌∷◌, ℤ, pos, negsuc}
 use Rattle.std.specs.Fmt.{decimal}
 
--- A decimal literal without leading zeros behind a blank, or behind a minus sign where the value is
+-- A decimal literal without leading zeros after a blank, or after a minus sign where the value is
 -- below zero. A blank is 32, and a minus sign 45.
 abbrev pub image : ℤ → List ℕ
 image (pos n) = 32 ∷ decimal n

@@ -46,7 +46,7 @@ next_item input at =
     let rest = drop at input in
     if list_all is_separator rest then item.Missing else item_at input (at + separator_length rest)
 
--- A number ends behind its first byte and within the input.
+-- A number ends after its first byte and within the input.
 abbrev pub EndsWithin : ℕ → ℕ → Item → Type 0
 EndsWithin at len item.Missing = Unit {0}
 EndsWithin at len item.Bad = Unit {0}

@@ -4,7 +4,7 @@ ghost use Rattle.run_values.specs.Images as spec;
 
 use std::alloc::{AllocError, Global};
 
-/// The image of a value: its decimal literal, behind a blank or a minus sign.
+/// The image of a value: its decimal literal, after a blank or a minus sign.
 pub fn image(alloc: Global, v: i32) -> Result<Vec<u8>, AllocError>
     ensures { IfOk result (λ text. text.items ≡ spec.image v) }
 {

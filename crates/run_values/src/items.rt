@@ -9,7 +9,7 @@ pub enum Item {
     Missing,
     /// An item that isn't the number of a value of Integer, as `1_0`. Get raises Data_Error.
     Bad,
-    /// A number, and the index behind its last byte.
+    /// A number, and the index after its last byte.
     Number { value: i32, end: usize },
 }
 

@@ -85,7 +85,7 @@ abbrev pub object_type : Entry → ℕ
 object_type (entry.Object o) = o.of
 object_type _ = integer
 
--- What a name is, from the steps, the actuals or the argument of Image that stand behind it.
+-- What a name is, from the steps, the actuals or the argument of Image that follow it.
 abbrev pub typed_name : Site → Pos → ℕ → Reading → TypedTree → TypedTree → TypedTree → TypedTree
 typed_name s p d reading.Off steps actuals imaged = typed.Null
 typed_name s p d (reading.Place t) steps actuals imaged = typed.Name p (object_number s d) steps t
@@ -169,7 +169,7 @@ unfoldable mutual
   typed_steps s t (More a rest) = typed_step s t a (typed_steps s (next_type (step s.context a t)) rest)
   typed_steps s t _ = typed.NoMore
 
-  -- one step, and those behind it
+  -- one step, and those after it
   pub typed_step : Site → ℕ → Tree → TypedTree → TypedTree
   typed_step s t (Selected w) behind =
       designating (seen s.context t)
@@ -180,7 +180,7 @@ unfoldable mutual
       (element (seen s.context (through (seen s.context t) t)) (typed_first s integer args) behind)
   typed_step s t _ behind = behind
 
-  -- the actuals of a function, where such stand behind its name
+  -- the actuals of a function, where such follow its name
   pub typed_actuals : Site → ℕ → Tree → TypedTree
   typed_actuals s f (More (Applied args) rest) =
       arguments_given s.context (role.Actuals f) args (typed_values s (role.Actuals f) 0 args)

@@ -118,7 +118,7 @@ typed_code_at rows i = get_or (grown (typed_code_of (typed_at rows)) NoMore [] r
 abbrev pub in_order : TypedNodes → Bool
 in_order rows = are_below is_below 0 rows.0 && are_below (is_code_below (length rows.0)) 0 rows.1
 
--- Nodes were added behind others, whose trees and code are still there.
+-- Nodes were added after others, whose trees and code are still there.
 pub record Grew (old new : TypedNodes) : Type 0 where
   pub more_trees : length old.0 ≤ length new.0
   pub same_trees : (i : ℕ) → i < length old.0 → typed_at new i ≡ typed_at old i

@@ -39,15 +39,15 @@ pub record TypedProgram : Type 0 where
   pub subs : List TypedSub
   pub main : Option ℕ
 
--- What units have, one behind the other: f takes the number of the next scope that begins.
+-- What units have, one after the other: f takes the number of the next scope that begins.
 abbrev pub over_units : {A : Type 0} → (ℕ → Code → List A) → ℕ → List Code → List A
 over_units f n [] = []
 over_units f n (u ∷ rest) = f n u ++ over_units f (n + scope_count u) rest
 
 -- ---- scopes
 
--- Scope 0 is that of the package objects and stands around all subprograms. The scopes that begin in
--- code, from the n-th on, within the scope a: of each the one around it.
+-- Scope 0 is that of the package objects and stands around all subprograms. The scopes that begin
+-- in code, from the n-th on, within the scope a: of each the one around it.
 unfoldable pub scopes_in : ℕ → ℕ → Code → List ℕ
 scopes_in a n (SubBody front items stmts end) =
     a ∷ scopes_in n (n + 1) items ++ scopes_in n (n + 1 + scope_count items) stmts

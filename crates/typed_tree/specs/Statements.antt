@@ -1,6 +1,6 @@
 -- Typed statements (docs/LANGUAGE.md, "Typed programs"; Ada 2012, 3.3.1, 5 and 6): what is meant by
--- statements and declarations that break no sentence. Declarations of objects are statements; others
--- leave nothing.
+-- statements and declarations that break no sentence. Declarations of objects are statements;
+-- others leave nothing.
 use Rattle.std.specs.Prelude.{ℕ, ◌+◌, true, false, List, [], ◌∷◌, ◌++◌, map, Option, Some, None}
 use Rattle.spark_base.specs.declared.position.Pos.{Pos}
 use Rattle.resolved_tree.specs.Trees.{Tree, Named, More, position, Code, Bounds, Marked, Constrained, RangeOf, Objects, Numbers, SubBody, Package, PackageBody, Skip, Assign, Call, Exit, Return, If, Branch, Case, Value, Interval, When, Loop, While, For, Block, code_items}

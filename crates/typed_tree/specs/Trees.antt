@@ -1,5 +1,5 @@
--- Typed programs (docs/LANGUAGE.md, "Typed programs"). Types have the numbers of their declarations;
--- objects and subprograms have numbers of their own, in the order of the text.
+-- Typed programs (docs/LANGUAGE.md, "Typed programs"). Types have the numbers of their
+-- declarations; objects and subprograms have numbers of their own, in the order of the text.
 use Rattle.std.specs.Prelude.{ℕ, Bool, List, [], ◌∷◌, ℤ}
 use Rattle.spark_base.specs.declared.position.Pos.{Pos}
 use Rattle.resolved_tree.specs.declared.operator.Operator.{Operator}
@@ -16,12 +16,13 @@ pub data TypedTree : Type 0 where
   Text : List ℕ → TypedTree
   -- a name: the position of its first token, its object, the steps from there, and its type
   Name : Pos → ℕ → TypedTree → ℕ → TypedTree
-  -- steps, each with those behind it: to a component, to what is designated, to the element with an
+  -- steps, each with those after it: to a component, to what is designated, to the element with an
   -- index in an array with these bounds
   Component : ℕ → TypedTree → TypedTree
   Designated : TypedTree → TypedTree
   Element : TypedTree → ℤ → ℤ → TypedTree → TypedTree
-  -- a call: the position of its first token, the subprogram, and the actuals in the order of the formals
+  -- a call: the position of its first token, the subprogram, and the actuals in the order of the
+  -- formals
   Call : Pos → ℕ → TypedTree → TypedTree
   EndOfFile : TypedTree
   -- an expression in parentheses, which is no name
@@ -52,7 +53,7 @@ pub data TypedCode : Type 0 where
   Output : Pos → TypedTree → Bool → TypedCode
   Input : Pos → TypedTree → TypedCode
   Release : Pos → TypedTree → TypedCode
-  -- the branches, and the statements behind `else`
+  -- the branches, and the statements after `else`
   If : TypedCode → TypedCode → TypedCode
   Branch : Pos → TypedTree → TypedCode → TypedCode
   Case : Pos → TypedTree → TypedCode → TypedCode

@@ -46,7 +46,7 @@ pub enum TypedCodeNode {
         pos: Pos,
         name: usize,
     },
-    /// `if`: the list of its branches, and the list of the statements behind `else`.
+    /// `if`: the list of its branches, and the list of the statements after `else`.
     If {
         branches: usize,
         otherwise: usize,
@@ -114,7 +114,7 @@ pub enum TypedCodeNode {
     },
     /// The end of a list.
     NoMore,
-    /// The first of a list, and those behind it.
+    /// The first of a list, and those after it.
     More {
         first: usize,
         rest: usize,

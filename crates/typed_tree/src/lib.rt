@@ -5,8 +5,8 @@
 //! numbers of components, implicit dereferences are written out, actuals stand in the order of the
 //! formals, and declarations of objects are statements. What trees there are,
 //! `specs/Trees.antt` lists; which one a resolved tree becomes, `specs/Expressions.antt` and
-//! `specs/Statements.antt` define, and `specs/Programs.antt` does it for a program with its objects,
-//! scopes and subprograms. `docs/LANGUAGE.md`, "Typed programs", says it in words.
+//! `specs/Statements.antt` define, and `specs/Programs.antt` does it for a program with its
+//! objects, scopes and subprograms. `docs/LANGUAGE.md`, "Typed programs", says it in words.
 //!
 //! `TypedRows` keeps such trees as rows of nodes, whose parts are numbers of nodes before them.
 #![tactic(auto)]

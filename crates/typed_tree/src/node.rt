@@ -38,16 +38,16 @@ pub enum TypedNode {
         steps: usize,
         of: u32,
     },
-    /// The component with this number, from 0, and the steps behind it.
+    /// The component with this number, from 0, and the steps after it.
     Component {
         number: u32,
         rest: usize,
     },
-    /// What an access value designates, and the steps behind it.
+    /// What an access value designates, and the steps after it.
     Designated {
         rest: usize,
     },
-    /// An element: its index, the bounds of its array, and the steps behind it.
+    /// An element: its index, the bounds of its array, and the steps after it.
     Element {
         index: usize,
         low: i32,
@@ -113,7 +113,7 @@ pub enum TypedNode {
     },
     /// The end of a list, or of the steps of a name.
     NoMore,
-    /// The first of a list, and those behind it.
+    /// The first of a list, and those after it.
     More {
         first: usize,
         rest: usize,

@@ -81,7 +81,7 @@ fn selected_text(table: &[Info], of: u32, sel: Sel, text: &mut Vec<u8>) -> Resul
     }
 }
 
-/// The identifier of an object, behind that of its package and a dot where it has one.
+/// The identifier of an object, after that of its package and a dot where it has one.
 fn object_text(alloc: Global, home: &Option<Word>, name: &Word) -> Result<Vec<u8>, AllocError>
     ensures { IfOk result (λ text. text.items ≡ package_text home.now ++ name.now) }
 {

@@ -96,8 +96,8 @@ impl TypedRows {
         }
     }
 
-    /// Adds a tree that a node makes of those that are there, and gives its number: that of one that
-    /// is there for the end of a list. What was there stays, also out of memory.
+    /// Adds a tree that a node makes of those that are there, and gives its number: that of one
+    /// that is there for the end of a list. What was there stays, also out of memory.
     #[tactic(auto, using(crate::proofs::Grown::order_tree, crate::proofs::Grown::grew_tree, crate::proofs::Grown::end_tree, crate::proofs::Grown::grew_none))]
     pub fn push(&mut self, node: TypedNode) -> Result<usize, AllocError>
         requires { IsTrue (is_below (length self.old.0) node) }

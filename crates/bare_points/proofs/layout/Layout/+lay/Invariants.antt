@@ -5,8 +5,8 @@ use Rattle.bare_points.specs.BareLaid.{bare_branches, bare_laid, bare_whens}
 use Rattle.bare_points.specs.Layouts.{code_in, ends_in, laying, made_in, span_in}
 use Rattle.bare_points.proofs.layout.Layout.+lay.Given as goal
 
--- A call goes down by eight for each step into a node, and within one from `statements` to `compound`,
--- and from there to a form.
+-- A call goes down by eight for each step into a node, and within one from `statements` to
+-- `compound`, and from there to a form.
 abbrev pub decreases-statements : goal.decreases-statements
 decreases-statements l = 8 * l.c + 2
 

@@ -4,8 +4,8 @@ use Rattle.bare_points.specs.BarePrepared.{bare_prepared}
 use Rattle.bare_points.specs.Layouts.{laying, made_in, tree_in}
 use Rattle.bare_points.proofs.layout.Layout.+prepare.Given as goal
 
--- A call goes down by eight for each step into a node, and within one from `prepare` to `operand`, and
--- from there to a form.
+-- A call goes down by eight for each step into a node, and within one from `prepare` to `operand`,
+-- and from there to a form.
 abbrev pub decreases-prepare : goal.decreases-prepare
 decreases-prepare l = 8 * l.e + 2
 
