@@ -1,4 +1,5 @@
--- The names of actuals are within the limit of selectors, since those of the acts of their calls are.
+-- The names of actuals are within the limit of selectors, since those of the acts of their calls
+-- are.
 use Rattle.std.proofs.Common.{◌≡◌, refl, sym, ap, ◌∙◌, subst, ◌⊎◌, inl, inr, ℕ, ◌+◌, ◌≤◌, Bool, true, false, not, List, [], ◌∷◌, ◌++◌, map, flat_map, filter, length, get_or, Option, Some, None, is_some, cond}
 use Rattle.std.proofs.lemmas.Bool.{ltb-false}
 use Rattle.std.proofs.Math.Bridge.{le_prop}
@@ -212,7 +213,7 @@ first_named s way ways p x steps t rest is = elim is [
     m : PlaceName
     m = name_of x steps
 
--- those behind it
+-- those after it
 rest_values : (s : Typing) (way : Passing) (ways : List Passing) (e rest : TypedTree) (m : PlaceName) → Named (actual_values s ways rest) m
     → Named (actual_values s (way ∷ ways) (More e rest)) m
 rest_values s ByValue ways e rest m n = named_right (acts_in s e) (actual_values s ways rest) m n

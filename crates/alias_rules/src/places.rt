@@ -9,14 +9,14 @@ ghost use Rattle.alias_rules.specs.Steps.{steps_from, passed_from};
 use place_names::{PlaceName, Sel};
 use typed_tree::{TypedNode, TypedRows};
 
-/// A step of a name, and those behind it.
+/// A step of a name, and those after it.
 #[derive(Clone, Copy)]
 pub(crate) struct Step {
     pub sel: Sel,
     pub rest: usize,
 }
 
-/// The first of a list, and those behind it.
+/// The first of a list, and those after it.
 #[derive(Clone, Copy)]
 pub(crate) struct Cell {
     pub first: usize,
@@ -63,7 +63,7 @@ pub(crate) fn place(rows: &TypedRows, object: u32, steps: usize) -> PlaceName
     name
 }
 
-/// The first of a list of actuals, and those behind it.
+/// The first of a list of actuals, and those after it.
 #[tactic(auto, using(crate::proofs::Nodes::past_actuals))]
 pub(crate) fn first_cell(rows: &TypedRows, at: usize) -> Option<Cell>
     ensures { (x : ℕ) (formals : List ℕ) → passed (x ∷ formals) (typed_at rows.now at) ≡ passed_from rows.now x formals result }

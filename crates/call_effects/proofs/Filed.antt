@@ -52,7 +52,7 @@ same_or_not a b = grind arith
 eqb_self : (a : ℕ) → (a == a) ≡ true
 eqb_self a = grind arith
 
--- a number behind one row
+-- a number after one row
 pub filed_at : (p at : ℕ) (old new : List (List ℕ)) → at < length old → new ≡ set old at (row old at ++ p ∷ [])
     → IsFiled p (λ a. at == a) old new
 filed_at p at old new h e =

@@ -24,7 +24,7 @@ found g lists a k = Has (row lists a) g
 abbrev pub SearchedFor : List (List ℕ) → (ℕ → Bool) → ℕ → List (List ℕ) → List ℕ → Type 0
 SearchedFor callers uses g lists work = Searched (flow_of callers uses) (found g lists) work
 
--- Each list ascends and has no object behind g.
+-- Each list ascends and has no object after g.
 pub record AreUpTo (g : ℕ) (lists : List (List ℕ)) : Type 0 where
   pub order : (a : ℕ) → Ascends (row lists a)
   pub upto : (a x : ℕ) → Has (row lists a) x → x ≤ g
@@ -70,12 +70,12 @@ pub record AreUsers (w : Bool) (rows : TypedNodes) (subs : List LaidSub) (g : �
   pub all : (p : ℕ) → p < length subs → list_any (laid_uses w rows g) (points_at subs p) ≡ true → Has users p
   pub only : (p : ℕ) → Has users p → list_any (laid_uses w rows g) (points_at subs p) ≡ true
 
--- For each of so many objects the subprograms whose own text uses it.
+-- For each of so many objects, the subprograms whose own text uses it.
 abbrev pub AreUsersOf : Bool → TypedNodes → ℕ → List LaidSub → List (List ℕ) → Type 0
 AreUsersOf w rows size subs users =
     AreMarked size (length subs) (λ p g. list_any (laid_uses w rows g) (points_at subs p)) users
 
--- For each subprogram those that call it.
+-- For each subprogram, those that call it.
 abbrev pub AreCallers : List LaidSub → List (List ℕ) → Type 0
 AreCallers subs callers =
     AreMarked (length subs) (length subs) (λ p q. list_any (laid_calls q) (points_at subs p)) callers

@@ -39,8 +39,8 @@ fn number_behind(laid: &Laid) -> usize
     }
 }
 
-/// Puts an object into the lists of the subprograms that use it, where it is Ada.Text_IO or a package
-/// object and these use it in their own text.
+/// Puts an object into the lists of the subprograms that use it, where it is Ada.Text_IO or a
+/// package object and these use it in their own text.
 fn list_object(
     alloc: Global,
     laid: &Laid,

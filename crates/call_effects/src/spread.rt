@@ -8,7 +8,7 @@ ghost use Rattle.call_effects.specs.Spreads.{SearchedFor, AreUpTo, ReachedBy, Ar
 use spark_base::Listed;
 use std::alloc::{AllocError, Global};
 
-/// Whether a list that ascends, and has no object behind this one, has it.
+/// Whether a list that ascends, and has no object after this one, has it.
 fn ends_with(list: &[u32], g: u32) -> bool
     requires order { Ascends list.now }
     requires upto { (x : ℕ) → Has list.now x → x ≤ g }
@@ -21,7 +21,8 @@ fn ends_with(list: &[u32], g: u32) -> bool
     }
 }
 
-/// Puts an object behind the list of a subprogram, and the subprogram into the work, unless it has it.
+/// Puts an object at the end of the list of a subprogram, and the subprogram into the work, unless
+/// it has it.
 fn reach(
     lists: &mut Vec<Listed<u32>>,
     work: &mut Vec<usize>,
@@ -60,7 +61,7 @@ fn start(
     Ok(())
 }
 
-/// The turn of a subprogram that was taken from the work: the object comes to its callers.
+/// A step for a subprogram that was taken from the work: the object comes to its callers.
 fn turn(
     callers: &[Listed<usize>],
     lists: &mut Vec<Listed<u32>>,
@@ -83,8 +84,8 @@ fn turn(
     Ok(())
 }
 
-/// Puts an object behind the list of each subprogram that uses it in its own text or calls one that
-/// uses it.
+/// Puts an object at the end of the list of each subprogram that uses it in its own text or calls
+/// one that uses it.
 pub(crate) fn spread(
     alloc: Global,
     callers: &[Listed<usize>],

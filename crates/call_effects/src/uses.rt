@@ -277,7 +277,7 @@ fn file_calls(
     Ok(())
 }
 
-/// For each subprogram those that call it.
+/// For each subprogram, those that call it.
 pub(crate) fn callers(alloc: Global, subs: &[LaidSub]) -> Result<Vec<Listed<usize>>, AllocError>
     ensures { IfOk result (λ callers. AreCallers subs.now callers.items) }
 {

@@ -77,7 +77,7 @@ fn choices_faults(
 }
 
 /// With the faults of an alternative of a `case` whose expression is of this type. `last` says that
-/// no alternative stands behind it.
+/// no alternative follows it.
 #[cycle(code)]
 #[tactic(auto, using(expression_rules::proofs::Noted::noted_append), unfolding(type_definitions::specs::Declarations::alternative_faults))]
 fn alternative_faults(

@@ -55,7 +55,7 @@ fn has_text(reader: &Reader<'_>, text: &[u8], name: usize) -> bool
     }
 }
 
-/// Whether a formal of the declaration is the one of the body with this mode, indication and
+/// Whether the specification's formal equals the body's, which has this mode, indication and
 /// identifier.
 fn same_formal(reader: &Reader<'_>, formal: &FormalInfo, mode: Mode, of: usize, name: usize) -> bool
     requires of { of < length reader.now.rows.now.1 }
@@ -68,7 +68,7 @@ fn same_formal(reader: &Reader<'_>, formal: &FormalInfo, mode: Mode, of: usize, 
         && (!indicates_type(reader, of) || same_indicated(reader, formal.of, named))
 }
 
-/// The formals of a declaration behind the first, where that is this one of the body.
+/// The formals of a declaration after the first, where that is this one of the body.
 fn same_first<'f>(
     reader: &Reader<'_>,
     formals: &'f [FormalInfo],
@@ -90,7 +90,7 @@ fn same_first<'f>(
     }
 }
 
-/// The formals of a declaration behind those of the body that have one mark, where they are the
+/// The formals of a declaration after those of the body that have one mark, where they are the
 /// same.
 fn same_group<'f>(
     reader: &Reader<'_>,

@@ -93,7 +93,7 @@ bounds_found g p x reversed low high n t next =
     ∙ earlier_four (depths_in s low).before (depths_in s high).before a b
     ∙ (λ j. earlier_of ((tree_facts s low).all i j) ((tree_facts s high).all i j))
 
--- ---- one list of points behind the other
+-- ---- one list of points after the other
 
 two : (xs ys : List FlowPoint) (a b : Option Pos) → points_deep xs ≡ a → points_deep ys ≡ b → points_deep (xs ++ ys) ≡ earlier_of a b
 two xs ys a b is by = points_append xs ys ∙ (λ j. earlier_of (is j) (by j))

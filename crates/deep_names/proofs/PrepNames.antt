@@ -21,12 +21,12 @@ use Rattle.deep_names.proofs.TreeNames.{tree_facts, actuals_named}
 abbrev Before : Maker → TypedTree → Type 0
 Before g e = (n t : ℕ) (k : List ℕ) → points_deep (prepared g e n t k) ≡ (depths_in g.frame.typing e).before
 
--- Two parts, one behind the other.
+-- Two parts, one after the other.
 pair_before : (g : Maker) (xs ys : List FlowPoint) (a b : Option Pos) → points_deep xs ≡ a → points_deep ys ≡ b
     → points_deep (xs ++ ys) ≡ earlier_of a b
 pair_before g xs ys a b is by = points_append xs ys ∙ (λ j. earlier_of (is j) (by j))
 
--- The call of a subprogram, behind its actuals.
+-- The call of a subprogram, after its actuals.
 pub call_found : (g : Maker) (p : Pos) (sub : ℕ) (actuals : TypedTree) (result : Option ℕ) (xs : List FlowPoint) (next : List ℕ)
     → points_deep xs ≡ (depths_in g.frame.typing actuals).before
     → points_deep (xs ++ make g p (instruction.Call sub actuals result) next ∷ []) ≡ call_deep g.frame.typing sub actuals
@@ -37,7 +37,7 @@ call_found g p sub actuals result xs next is =
     ∙ ap (λ x. earlier_of x (instruction_deep g.frame p i)) is
     ∙ actuals_named g.frame.typing i ways actuals _
 
--- A point that evaluates an expression, behind those before it.
+-- A point that evaluates an expression, after those before it.
 pub value_found : (g : Maker) (p : Pos) (e : TypedTree) (i : Instruction) (xs : List FlowPoint) (next : List ℕ)
     → points_deep xs ≡ (depths_in g.frame.typing e).before → instruction_deep g.frame p i ≡ acts_deep i (acts_in g.frame.typing e)
     → points_deep (xs ++ make g p i next ∷ []) ≡ (depths_in g.frame.typing e).all

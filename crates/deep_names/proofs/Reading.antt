@@ -16,7 +16,7 @@ past [] i d le = refl
 past (x ∷ xs) zero d le = absurd (omega (arith, le))
 past (x ∷ xs) (suc i) d le = past xs i d (omega (arith, le))
 
--- Behind all trees there is none.
+-- Past all trees there is none.
 pub typed_past : (rows : TypedNodes) (i : ℕ) → length rows.0 ≤ i → typed_at rows i ≡ NoMore
 unfolding typed_at
 typed_past rows i le = past (grown typed_of NoMore [] rows.0) i NoMore (grind (arith, length_grown typed_of NoMore [] rows.0, le))

@@ -10,8 +10,8 @@ use Rattle.flow_paths.specs.Objects.{Typing, sub_at, Passing, ByValue, Traversed
 use Rattle.flow_paths.specs.Names.{Written, name_of, written}
 use Rattle.deep_names.specs.Found.{earlier_of, name_deep, written_deep, parts_deep, spots_deep}
 
--- The first names of a tree: of the points before the one that uses it; of these, and of its indexes
--- where it is a name; of these, and of its value. And whether it has a call.
+-- The first names of a tree: of the points before the one that uses it; of these, and of its
+-- indexes where it is a name; of these, and of its value. And whether it has a call.
 pub record Depths : Type 0 where
   pub calls : Bool
   pub before : Option Pos

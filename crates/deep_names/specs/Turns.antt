@@ -67,7 +67,7 @@ either_of a b = record {
 abbrev pub unused_of : Found → Found
 unused_of e = record { calls = e.calls; before = e.before; all = e.before }
 
--- ---- turns
+-- ---- iterations
 
 abbrev pub value_at : NameReader → ℕ → Found
 value_at w e = value_of (depths_in (site w) (tree w e))

@@ -21,7 +21,7 @@ pub(crate) struct NameReader<'p> {
 }
 
 impl<'p> NameReader<'p> {
-    /// The steps behind a first one.
+    /// The steps after a first one.
     #[tactic(auto, unfolding(flow_paths::specs::Names::selectors))]
     fn step(&self, steps: usize) -> Option<usize>
         ensures count { length (selectors (tree self.now steps)) ≡ after self.now result }

@@ -5,7 +5,7 @@ ghost use Rattle.typed_tree.specs.Nodes.{is_below, is_code_below, typed_at, type
 use std::marker::Model;
 use typed_tree::{TypedCodeNode, TypedNode, TypedRows};
 
-/// Typed rows, behind which stand ends of lists. Contracts see the rows.
+/// Typed rows, followed by ends of lists. Contracts see the rows.
 pub(crate) struct EndedRows<'p> {
     rows: &'p TypedRows,
     end: TypedNode,

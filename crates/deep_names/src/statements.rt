@@ -21,7 +21,7 @@ pub(crate) enum CodeTurn {
     Goes { own: Option<Pos>, stmts: usize },
     /// Those of two parts.
     Both { head: usize, rest: usize },
-    /// Those of the branches of an `if`, and of the statements behind `else`.
+    /// Those of the branches of an `if`, and of the statements after `else`.
     Branches { branches: usize, otherwise: usize },
     /// Those of the expression of a `case`, and of its alternatives.
     Whens { own: Option<Pos>, whens: usize },
@@ -42,7 +42,7 @@ impl<'p> NameReader<'p> {
         earlier(self.place(e).all, self.source(e))
     }
 
-    /// A list of no source or one.
+    /// Zero or one source.
     #[tactic(auto, unfolding(crate::specs::Trees::depths_in), using(crate::proofs::OtherNodes::first_other, crate::proofs::Sources::no_source))]
     fn first_source(&self, list: usize) -> Option<Pos>
         ensures { result ≡ first_source_deep (site self.now) (tree self.now list) }
@@ -186,7 +186,7 @@ impl<'p> NameReader<'p> {
         }
     }
 
-    /// Whether the first of a list is a declaration that shares its value with the one behind it.
+    /// Whether the first of a list is a declaration that shares its value with the next one.
     fn is_shared(&self, first: usize, rest: usize) -> bool
         ensures { IsTrue result → (r : Option ℕ) →
             earlier_of (code_deep (site self.now) r (code self.now first)) (code_deep (site self.now) r (code self.now rest))

@@ -1,4 +1,4 @@
--- One turn along a list of arguments.
+-- One step along a list of arguments.
 use Rattle.std.proofs.Common.{◌≡◌, ◌∙◌, ◌+◌, ◌++◌, ℕ, Option, None, refl, sym, ap}
 use Rattle.resolved_tree.specs.Trees.{Tree, Argument}
 use Rattle.type_definitions.specs.declared.judgement.Fault.{Fault}

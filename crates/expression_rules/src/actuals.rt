@@ -35,8 +35,8 @@ impl<'p> Checker<'p> {
         }
     }
 
-    /// Whether another expression than a name may be of an access type: `null` and an allocator have
-    /// the anonymous one that their place demands.
+    /// Whether another expression than a name may be of an access type: `null` and an allocator
+    /// have the anonymous one that their place demands.
     fn traversed_fits(&self, want: u32, e: usize) -> bool
         requires { e < length self.now.rows.now.0 }
         ensures { result ≡ traversed_fits (context self.now) want (tree_at self.now.rows.now e) }

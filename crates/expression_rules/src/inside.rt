@@ -98,7 +98,7 @@ impl<'p> Checker<'p> {
         self.inside(found, loose, want, e)
     }
 
-    /// The same, by the number of what it is for, where an index finds that by its name.
+    /// As `argument`, with the number that the index gives for its name.
     #[cycle(inside)]
     #[tactic(auto, using(crate::proofs::Steps::argument_number))]
     fn matched_argument(
@@ -149,7 +149,7 @@ impl<'p> Checker<'p> {
         }
     }
 
-    /// With the faults within what stands behind a name.
+    /// With the faults within what follows a name.
     #[cycle(inside)]
     #[tactic(auto, using(crate::proofs::Noted::noted_append), unfolding(type_definitions::specs::Expressions::behind))]
     pub fn behind(&self, found: Option<Fault>, way: Way, suffixes: usize) -> Option<Fault>

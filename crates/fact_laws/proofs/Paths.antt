@@ -34,7 +34,7 @@ within : (points : List PathPoint) (before : List ℕ) (front : List Placed)
     → facts_within points before front ≡ facts_behind (facts_before points before) (acts_of front)
 within points before front = facts_behind-append [] (acts_along points before) (acts_of front)
 
--- where the facts before a point are apart, they are so before each of its acts and behind them
+-- where the facts before a point are apart, they are so before each of its acts and after them
 front_apart : (points : List PathPoint) → ArePathsAllowed points → (before : List ℕ) (last : ℕ) → ControlPath points before last
     → AreApart (facts_before points before) → (front rest : List Placed) → (path_point points last).acts ≡ front ++ rest
     → AreApart (facts_within points before front)
@@ -52,7 +52,7 @@ before_apart points allowed before' last' (begins some) = λ f g none. absurd no
 before_apart points allowed before' last' (goes_on before a b path edge) =
     front_apart points allowed before a path (before_apart points allowed before a path) (path_point points a).acts [] (sym (append-nil _))
 
--- the facts before each act of a path, and behind the last one
+-- the facts before each act of a path, and after the last one
 pub paths_apart : (points : List PathPoint) → ArePathsAllowed points → (before : List ℕ) (last : ℕ) → ControlPath points before last
     → (front rest : List Placed) → (path_point points last).acts ≡ front ++ rest → AreApart (facts_within points before front)
 paths_apart points allowed before last path front rest split =

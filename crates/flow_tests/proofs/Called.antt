@@ -9,8 +9,9 @@ use Rattle.flow_tests.proofs.ResolvedTrees.{at}
 use Rattle.flow_tests.proofs.Sources.{short_call, calls, traversal}
 use Rattle.flow_tests.proofs.Flow.{rows, laying, row, part, does, DeclarePoint, AssignPoint, CallPoint, OutputPoint, TestPoint, EvaluatePoint, HoldPoint, EndPoint, FinishPoint, FallPoint}
 
--- The formal N is 1; B is 2 and N is 3. An `and then` with a call on the right goes past it from the
--- evaluation of its left operand; the turns of the `while` begin with that of its condition.
+-- The formal N is 1; B is 2 and N is 3. An `and then` with a call on the right goes past it from
+-- the evaluation of its left operand; the iterations of the `while` begin with that of its
+-- condition.
 short_rows : rows short_call ≡ []
     ∷ (row HoldPoint (at 5 50) (does 5 57 (Read (object 1)) ∷ []) (1 ∷ [])
     ∷ row FinishPoint (at 5 50) (does 5 50 (Return []) ∷ []) []
@@ -32,8 +33,8 @@ short_rows : rows short_call ≡ []
 unfolding laying
 short_rows = refl
 
--- G is 1 and H is 2; the formals X, Y and N are 3, 4 and 5; R is 6. Nothing follows the last package
--- object. Make returns with a fact rooted in H.
+-- G is 1 and H is 2; the formals X, Y and N are 3, 4 and 5; R is 6. Nothing follows the last
+-- package object. Make returns with a fact rooted in H.
 calls_rows : rows calls ≡ (row DeclarePoint (at 4 1) [] (1 ∷ []) ∷ row DeclarePoint (at 4 4) [] [] ∷ [])
     ∷ (row AssignPoint (at 9 1) (does 9 6 (Move (object 2) ([] ∷ [])) ∷ does 9 1 (Write (object 1)) ∷ []) (1 ∷ [])
     ∷ row FinishPoint (at 10 1) (does 10 1 (Return (2 ∷ [])) ∷ []) [] ∷ [])
@@ -47,8 +48,8 @@ calls_rows : rows calls ≡ (row DeclarePoint (at 4 1) [] (1 ∷ []) ∷ row Dec
 unfolding laying
 calls_rows = refl
 
--- The formal L is 1 and the borrower B is 2; X is 3 and the borrower B is 4. A traversal call that is the
--- source of a borrow stands for the name of its traversed actual.
+-- The formal L is 1 and the borrower B is 2; X is 3 and the borrower B is 4. A traversal call that
+-- is the source of a borrow stands for the name of its traversed actual.
 traversal_rows : rows traversal ≡ []
     ∷ (row DeclarePoint (at 8 1) (does 8 20 (Borrow 2 (object 1)) ∷ []) (1 ∷ [])
     ∷ row TestPoint (at 9 1) (does 9 7 (Look (part 2 (Deref ∷ Field 1 ∷ []))) ∷ []) (2 ∷ 3 ∷ [])

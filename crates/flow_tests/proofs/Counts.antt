@@ -11,7 +11,7 @@ use Rattle.flow_tests.proofs.ResolvedTrees.{at}
 use Rattle.flow_tests.proofs.Sources.{nine_lines, short_call, calls, traversal, made_three, leak_checks, arrays}
 use Rattle.flow_tests.proofs.Flow.{flow, rows, leaks, spot, steps, laying, row, part, does, DeclarePoint, AssignPoint, ReleasePoint, TestPoint, EndPoint, FinishPoint}
 
--- ---- leak checks: at targets, at what a freed name designates, at ends of scopes, at `out` actuals
+-- ---- leak checks: at targets, what a freed name designates, ends of scopes, and `out` actuals
 
 -- X is 1.
 leak_spots : leaks leak_checks ≡ [] ∷ (spot 16 1 (object 1) 1 ∷ spot 16 20 (part 1 (Deref ∷ Field 1 ∷ [])) 0
@@ -19,14 +19,15 @@ leak_spots : leaks leak_checks ≡ [] ∷ (spot 16 1 (object 1) 1 ∷ spot 16 20
 unfolding laying
 leak_spots = refl
 
--- R is 6: those of the `out` actual come before the first Actual act, which stands behind a read.
+-- R is 6: those of the `out` actual come before the first Actual act, which stands after a read.
 call_spots : leaks calls ≡ [] ∷ (spot 9 1 (object 1) 1 ∷ [])
     ∷ (spot 14 7 (part 6 (Field 0 ∷ [])) 1 ∷ spot 14 7 (part 6 (Field 1 ∷ [])) 1
     ∷ spot 15 1 (part 6 (Field 0 ∷ [])) 0 ∷ spot 15 1 (part 6 (Field 1 ∷ [])) 0 ∷ []) ∷ []
 unfolding laying
 call_spots = refl
 
--- R is 1, S is 2, I is 3. Indexes are evaluated before the name; those of a target behind the source.
+-- R is 1, S is 2, I is 3. Indexes are evaluated before the name; those of a target after the
+-- source.
 array_rows : rows arrays ≡ []
     ∷ (row DeclarePoint (at 14 37) [] (1 ∷ [])
     ∷ row DeclarePoint (at 14 40) [] (2 ∷ [])
@@ -67,7 +68,7 @@ traversal_facts : map (λ (sub : FlowSub). sub.facts) (flow traversal).subs
 unfolding laying
 traversal_facts = refl
 
--- ---- words of frames, and objects with temporaries behind them
+-- ---- words of frames, and objects with temporaries after them
 
 short_words : map (λ (sub : FlowSub). sub.words) (flow short_call).subs ≡ 1 ∷ 2 ∷ 8 ∷ []
 unfolding laying
@@ -87,7 +88,7 @@ traversal_words = refl
 
 -- ---- steps
 
--- P1, P2, P3 and the main procedure of the made program. Each loop has one turn.
+-- P1, P2, P3 and the main procedure of the made program. Each loop has one iteration.
 made_points : map (λ (sub : FlowSub). length sub.points) (flow made_three).subs ≡ 0 ∷ 2 ∷ 4 ∷ 8 ∷ 13 ∷ []
 unfolding laying
 made_points = refl

@@ -101,8 +101,8 @@ does line column a = record { pos = at line column; act = a }
 abbrev pub named : Program → List NamedSub
 named p = flow_named (known_of p).table (typed_program (known_of p) p.units)
 
--- The laws of points hold of each subprogram: no two have one name, each successor is a point, and what
--- is in scope goes on from point to point. What the law of scopes needs of the body holds too.
+-- The laws of points hold of each subprogram: no two have one name, each successor is a point, and
+-- what is in scope goes on from point to point. What the law of scopes needs of the body holds too.
 abbrev pub IsLawful : Program → Type 0
 IsLawful p =
     list_all (λ (n : NamedSub). names_differ n.points && (is_closed n.points && (scopes_agree (flow_typing (flow p)) n.points && is_settled (flow_typing (flow p)) n.sub.body))) (named p) ≡ true
@@ -125,8 +125,8 @@ steps_on go choices (k ∷ []) = go k choices
 steps_on go [] (k ∷ l ∷ ks) = 0
 steps_on go (c ∷ choices) (k ∷ l ∷ ks) = go (get_or (k ∷ l ∷ ks) c 0) choices
 
--- How many points there are from the one with a number on, where at each point with several successors
--- the next of some choices is taken, counted from 0.
+-- How many points there are from the one with a number on, where at each point with several
+-- successors the next of some choices is taken, counted from 0.
 unfoldable pub steps : ℕ → List FlowPoint → List ℕ → ℕ → ℕ
 steps zero points choices n = 0
 steps (suc fuel) points choices n = steps_on (λ k ks. steps fuel points ks k) choices (next_of points n) + 1

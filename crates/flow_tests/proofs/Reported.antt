@@ -68,7 +68,7 @@ branch_not_taken : on_path one_branch no_effects 1 (0 ∷ 1 ∷ 2 ∷ 4 ∷ 5 �
 unfolding laying reports_with reports_along
 branch_not_taken = refl
 
--- The second turn moves what the first one has moved.
+-- The second iteration moves what the first one has moved.
 second_turn : on_path move_in_loop no_effects 1 (0 ∷ 1 ∷ 2 ∷ 3 ∷ 2 ∷ 3 ∷ []) ≡ told_at 16 33 O4 (object 1) state.Moved ∷ []
 unfolding laying reports_with reports_along
 second_turn = refl

@@ -8,8 +8,8 @@ use Rattle.flow_tests.proofs.ResolvedTrees.{at}
 use Rattle.flow_tests.proofs.Sources.{nine_lines, five_steps, exit_of_block, two_exits, for_case, two_blocks}
 use Rattle.flow_tests.proofs.Flow.{rows, laying, row, part, does, SkipPoint, DeclarePoint, AssignPoint, OutputPoint, ReleasePoint, TestPoint, ChoosePoint, StartPoint, NextPoint, LeavePoint, HoldPoint, EndPoint, FinishPoint}
 
--- Objects have the numbers of their declarations, and 0 is Ada.Text_IO. Each list of points is that of a
--- subprogram; the first is that of the package objects, of which there are none here.
+-- Objects have the numbers of their declarations, and 0 is Ada.Text_IO. Each list of points is that
+-- of a subprogram; the first is that of the package objects, of which there are none here.
 
 -- X is 1, Y is 2, N is 3.
 nine_rows : rows nine_lines ≡ []
@@ -38,8 +38,8 @@ five_rows : rows five_steps ≡ []
 unfolding laying
 five_rows = refl
 
--- X is 1, the borrower B is 2, Y is 3. The exit ends the scopes of Y and B at its own position, and the
--- block at its `end`, from where the loop goes on with its first point.
+-- X is 1, the borrower B is 2, Y is 3. The exit ends the scopes of Y and B at its own position, and
+-- the block at its `end`, from where the loop goes on with its first point.
 exit_rows : rows exit_of_block ≡ []
     ∷ (row DeclarePoint (at 14 1) [] (1 ∷ [])
     ∷ row DeclarePoint (at 16 14) (does 16 33 (Borrow 2 (object 1)) ∷ []) (2 ∷ [])
@@ -86,8 +86,8 @@ for_rows : rows for_case ≡ []
 unfolding laying
 for_rows = refl
 
--- X is 1, N is 2; Y is 3, M is 4; Z is 5, K is 6. The return ends all scopes, the inner ones first, and
--- has a Finish of its own.
+-- X is 1, N is 2; Y is 3, M is 4; Z is 5, K is 6. The return ends all scopes, the inner ones first,
+-- and has a Finish of its own.
 two_blocks_rows : rows two_blocks ≡ []
     ∷ (row DeclarePoint (at 14 1) [] (1 ∷ [])
     ∷ row DeclarePoint (at 15 1) [] (2 ∷ [])

@@ -1,18 +1,18 @@
--- What a worklist over the nodes of a graph keeps: between two turns, within a turn, and in one
--- carry. `labels a k` says that the label k was found at node a.
+-- What a worklist over the nodes of a graph keeps: between two iterations, within an iteration, and
+-- in one carry. `labels a k` says that the label k was found at node a.
 use Rattle.std.specs.Prelude.{◌≡◌, ◌⊎◌, ℕ, true, List}
 use Rattle.spark_base.specs.Lists.{Has}
 use Rattle.label_flow.specs.Flows.{Flow, Reaches}
 
--- Between two turns. What was found reaches its node, and a node that isn't in the work has carried
--- all its labels along all its edges.
+-- Between two iterations. What was found reaches its node, and a node that isn't in the work has
+-- carried all its labels along all its edges.
 pub record Searched {Label : Type 0} (flow : Flow Label) (labels : ℕ → Label → Type 0) (work : List ℕ) : Type 0 where
   pub sound : (a : ℕ) (k : Label) → labels a k → Reaches flow a k
   pub start : (a : ℕ) (k : Label) → flow.first a k ≡ true → labels a k
   pub closed : (a b : ℕ) (k : Label) → labels a k → Has (flow.next a) b → Has work a ⊎ labels b (flow.move a k)
 
--- Within the turn of node p, which had the labels `now` when it was taken from the work. `rest` are
--- the successors that are still to come.
+-- Within the iteration for node p, which had the labels `now` when it was taken from the work.
+-- `rest` are the successors that are still to come.
 pub record Turning {Label : Type 0} (flow : Flow Label) (p : ℕ) (now : Label → Type 0) (rest : List ℕ)
     (labels : ℕ → Label → Type 0) (work : List ℕ) : Type 0 where
   pub sound : (a : ℕ) (k : Label) → labels a k → Reaches flow a k

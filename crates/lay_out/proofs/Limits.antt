@@ -1,4 +1,4 @@
--- What limits say of one subprogram, and of it with others behind it.
+-- What limits say of one subprogram, and of it with others after it.
 use Rattle.std.proofs.Common.{◌≡◌, ◌<◌, ◌≤◌, ℕ, Bool, true, false, List, [], ◌∷◌, length, refl, ap, arith, Option, Some, None, if◌then◌else◌}
 use Rattle.std.specs.Prelude.{nat_lt}
 use Rattle.spark_base.specs.declared.position.Pos.{Pos}
@@ -47,7 +47,7 @@ refused_alone sub_fault.Memory sub points facts = tt
 refused_alone sub_fault.TooDeep sub points facts = tt
 refused_alone sub_fault.TooManyFacts sub points facts = facts_alone sub points (facts refl)
 
--- ---- others behind it
+-- ---- others after it
 
 decided_first : (points facts : Bool) (p : Pos) (later : Option LayFault) (f : LayFault)
     → decided points facts p None ≡ Some f → decided points facts p later ≡ Some f
@@ -69,7 +69,7 @@ pub beyond_later : (sub : FlowSub) (rest : List FlowSub) → beyond (sub ∷ [])
 beyond_later sub rest =
     decided_later (nat_lt POINTS (length sub.points)) (nat_lt FACTS (length sub.facts)) sub.pos (beyond rest)
 
--- What is said of one is said of it with others behind it.
+-- What is said of one is said of it with others after it.
 pub says_first : (e : LayRefusal) (sub : FlowSub) (rest : List FlowSub) → Says e (beyond (sub ∷ [])) → Says e (beyond (sub ∷ rest))
 says_first (refusal.NameTooDeep p) sub rest is = beyond_first sub rest (fault.NameTooDeep p) is
 says_first (refusal.TooManyPoints p) sub rest is = beyond_first sub rest (fault.TooManyPoints p) is

@@ -1,4 +1,4 @@
--- Subprograms that are laid out one behind the other.
+-- Subprograms that are laid out one after the other.
 use Rattle.std.proofs.Common.{◌≡◌, ◌<◌, ℕ, ◌+◌, List, [], ◌∷◌, ◌++◌, drop, get_or, length, map, refl, sym, ap, ◌∙◌, subst, arith, None}
 use Rattle.std.proofs.lemmas.List.{append_assoc, append-nil, drop_more, length-append}
 use Rattle.typed_tree.specs.Nodes.{TypedNodes}
@@ -14,12 +14,12 @@ use Rattle.lay_out.specs.Refusals.{Says}
 use Rattle.lay_out.specs.Subs.{next_temporary, subs_of, types_of}
 use Rattle.lay_out.proofs.Limits.{beyond_later, says_first}
 
--- The subprograms that are left, behind temporaries of these types.
+-- The subprograms that are left, after temporaries of these types.
 abbrev pub left : Typing → List ℕ → List TypedSub → List NumberedSub
 left s types subs = numbered_subs s (next_temporary s types) subs
 
--- What is laid out so far, with what is left, is all that is to be laid out; what is laid out since the
--- beginning is within the limits.
+-- What is laid out so far, with what is left, is all that is to be laid out; what is laid out since
+-- the beginning is within the limits.
 pub record IsPart (s : Typing) (subs_first : List FlowSub) (types_first : List ℕ) (all : List TypedSub) (subs : List FlowSub) (types : List ℕ)
     (rest : List TypedSub) : Type 0 where
   pub subs_are : subs ++ subs_of (left s types rest) ≡ subs_first ++ subs_of (left s types_first all)

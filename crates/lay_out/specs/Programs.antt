@@ -18,7 +18,7 @@ source typed = program_of (parts_of typed)
 abbrev pub known_of : Typed → Typing
 known_of typed = typing_of typed.table (source typed)
 
--- Its subprograms, one laid out behind the other.
+-- Its subprograms, one laid out after the other.
 abbrev pub numbered_in : Typed → List NumberedSub
 numbered_in typed = all_numbered (known_of typed) (source typed).subs
 

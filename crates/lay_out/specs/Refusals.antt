@@ -5,7 +5,8 @@ use Rattle.flow_paths.specs.declared.refusal.LayFault.TheVariants as fault
 use Rattle.lay_out.specs.declared.refusal.LayRefusal.{LayRefusal}
 use Rattle.lay_out.specs.declared.refusal.LayRefusal.TheVariants.{NameTooDeep, TooManyPoints, TooManyFacts, Memory}
 
--- A refusal names the first limit that a program is beyond, and its position. Out of memory says nothing.
+-- A refusal names the first limit that a program is beyond, and its position. Out of memory says
+-- nothing.
 abbrev pub Says : LayRefusal → Option LayFault → Type 0
 Says (NameTooDeep pos) found = found ≡ Some (fault.NameTooDeep pos)
 Says (TooManyPoints pos) found = found ≡ Some (fault.TooManyPoints pos)

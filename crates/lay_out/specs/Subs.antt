@@ -47,7 +47,7 @@ subs_of all = map (λ (n : NumberedSub). n.sub) all
 abbrev pub types_of : List NumberedSub → List ℕ
 types_of all = flat_map (λ (n : NumberedSub). n.types) all
 
--- Temporaries stand behind all objects.
+-- Temporaries follow all objects.
 abbrev pub next_temporary : Typing → List ℕ → ℕ
 next_temporary s types = length s.objects + length types
 

@@ -50,7 +50,7 @@ fn has_end(known: &ProgramTyping<'_>, of: u32) -> bool
     known.is_owning(of) || is_anonymous(known.full(of))
 }
 
-/// For each object whether its scope ends at a point of its own, in order.
+/// For each object, in order, whether its scope ends at a point of its own.
 fn ends_of(alloc: Global, known: &ProgramTyping<'_>) -> Result<Vec<bool>, AllocError>
     ensures { IfOk result (λ ends. ends.items ≡ map (λ x. has_end (typing known.now) x.of) (typing known.now).objects) }
 {
@@ -61,9 +61,9 @@ fn ends_of(alloc: Global, known: &ProgramTyping<'_>) -> Result<Vec<bool>, AllocE
     Ok(ends)
 }
 
-/// By the number of an object, whether its scope ends at a point of its own. What is no object of the
-/// program is as one of type Integer, whose scope has no end: a table that says otherwise is none of
-/// a program.
+/// By the number of an object, whether its scope ends at a point of its own. Numbers that name no
+/// object count as Integer objects, which have no scope end: a table that says otherwise isn't that
+/// of a program.
 pub(crate) fn scope_ends(alloc: Global, known: &ProgramTyping<'_>) -> Result<Vec<bool>, AllocError>
     ensures { IfOk result (λ ends. (x : ℕ) → get_or ends.items x false ≡ has_scope_end (typing known.now) x) }
 {

@@ -82,7 +82,7 @@ fn laid_within(alloc: Global, typed: &Typed) -> Result<LaidSubs, LayRefusal>
     }
 }
 
-/// What waits for its use between two points, of this type.
+/// A temporary of this type.
 fn temporary(alloc: Global, of: u32) -> Object
     ensures { result ≡ waiting_object of }
 {
@@ -96,7 +96,7 @@ fn temporary(alloc: Global, of: u32) -> Object
     }
 }
 
-/// Objects, and behind them temporaries of these types.
+/// Objects, and then temporaries of these types.
 fn with_temporaries(
     alloc: Global,
     objects: Listed<Object>,
@@ -111,10 +111,10 @@ fn with_temporaries(
     Ok(all)
 }
 
-/// Lays out a program: the points of each subprogram with their acts, leak checks and successors, its
-/// facts and the words of its frame. Refused is a program beyond a limit: the first name in the order
-/// of the text with more than 16 selectors, or else the first subprogram with more than 16,384 points
-/// or more than 512 facts.
+/// Lays out a program: the points of each subprogram with their acts, leak checks and successors,
+/// its facts and the words of its frame. A program beyond a limit is refused, at the first name in
+/// the order of the text with more than 16 selectors, or else at the first subprogram with more
+/// than 16,384 points or more than 512 facts.
 pub fn lay_out(alloc: Global, typed: Typed) -> Result<Laid, LayRefusal>
     ensures judges { (p : TypedProgram) → HoldsProgram (parts_of typed) p → Judges result (lay_fault (flow_program typed.table p)) }
     ensures laid { IfOk result (λ laid. (p : TypedProgram) → HoldsProgram (parts_of typed) p → program_of laid ≡ flow_program typed.table p) }

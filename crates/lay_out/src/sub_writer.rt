@@ -1,4 +1,4 @@
-//! Subprograms, laid out one behind the other.
+//! Subprograms, laid out one after the other.
 ghost use Rattle.std.specs.Prelude.{◌≡◌, ◌<◌, ◌≤◌, ◌+◌, [], ◌∷◌, ◌++◌, length, IfOk, OnOk};
 ghost use Rattle.std.specs.List.{All as Each};
 ghost use Rattle.spark_base.specs.declared.limits.TheConstants as limits;
@@ -101,7 +101,7 @@ impl<'p> SubWriter<'p> {
         }
     }
 
-    /// The number of the next temporary, behind those of these subprograms. More numbers than a
+    /// The number of the next temporary, after those of these subprograms. More numbers than a
     /// `u32` has are out of memory.
     fn next_temporary(&self, made: &LaidSubs) -> Result<u32, AllocError>
         ensures { IfOk result (λ t. t ≡ next_temporary (site self.now) made.now.types.items) }
@@ -130,7 +130,7 @@ impl<'p> SubWriter<'p> {
         Ok(())
     }
 
-    /// Lays out the subprograms behind what declares the package objects.
+    /// Lays out the subprograms after what declares the package objects.
     fn add_all(&self, subs: &[Subprogram], made: &mut LaidSubs) -> Result<(), LayRefusal>
         requires ready { IsReady self.now }
         requires bodies { Each (λ b. b.body < length self.now.acts.rows.now.1) subs.now }
@@ -147,8 +147,8 @@ impl<'p> SubWriter<'p> {
         Ok(())
     }
 
-    /// Lays out all subprograms, the first of which declares the package objects. Refused is the
-    /// first one with too many points or too many facts.
+    /// Lays out all subprograms, the first of which declares the package objects. The error is that
+    /// of the first one with too many points or too many facts.
     pub(crate) fn all(&self, subs: &[Subprogram]) -> Result<LaidSubs, LayRefusal>
         requires ready { IsReady self.now }
         requires bodies { Each (λ b. b.body < length self.now.acts.rows.now.1) subs.now }

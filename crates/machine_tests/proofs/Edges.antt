@@ -51,7 +51,8 @@ too_large : gives images_typing (Whole ∷ []) (Number (pos 2147483648)) ≡ fal
 unfolding running
 too_large = refl
 
--- R (0), where R is an array with the bounds -1 .. 1 of elements of Integer, with these bounds and type.
+-- R (0), where R is an array with the bounds -1 .. 1 of elements of Integer, with these bounds and
+-- type.
 abbrev element : ℤ → ℤ → ℕ → TypedTree
 element low high kept = Name (at 11 1) 3 (Element (Number (pos 0)) low high NoMore) kept
 

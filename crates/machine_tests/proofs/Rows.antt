@@ -107,7 +107,8 @@ no_item = refl
 
 -- ---- expressions and calls
 
--- Formals are copied in and back; records are copied; a function calls itself; a subtype refuses 12.
+-- Formals are copied in and back; records are copied; a function calls itself; a subtype refuses
+-- 12.
 passed : run (flow passing) [] 100
     ≡ ran (lines (codes " 2 1 8" ∷ codes " 2, 8" ∷ [])) [] (Raised ConstraintError (at 18 7)) 41 no_cells
 unfolding running

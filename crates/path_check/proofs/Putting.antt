@@ -130,7 +130,7 @@ pub steps_next : (subs : List LaidSub) (i : ℕ) (x d : LaidSub) → i < length 
 steps_next subs i x d h is =
     ap all_steps (dropped subs i d h) ∙ (λ j. sub_steps (sym is j) + all_steps (drop (sym (add-one i) j) subs))
 
--- what is still to be carried behind a subprogram
+-- what is still to be carried after a subprogram
 pub steps_left : (now before cost rest all : ℕ) → now ≤ before + cost → before + (cost + rest) ≤ all → now + rest ≤ all
 steps_left now before cost rest all one so = omega arith
 

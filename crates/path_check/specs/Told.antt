@@ -1,5 +1,5 @@
--- Lists of what the rules on the text report, in any order (docs/FLOW.md, "Actuals that overlap" and
--- "Views").
+-- Lists of what the rules on the text report, in any order (docs/FLOW.md, "Actuals that overlap"
+-- and "Views").
 use Rattle.std.specs.Prelude.{List, map}
 use Rattle.spark_base.specs.Lists.{Has}
 use Rattle.place_names.specs.Reports.{Report}

@@ -24,7 +24,8 @@ IsVerdict laid effects (verdict.Accepted program) =
 IsVerdict laid effects (verdict.Rejected names reports) =
     AreNames laid names × (AreReports (program_of laid) effects (reports_in reports) × (reports ≢ []))
 
--- How many states are carried at most: in each subprogram with E successors and F facts, E * (2 F + 2).
+-- How many states are carried at most: in each subprogram with E successors and F facts, E * (2 F +
+-- 2).
 abbrev pub sub_steps : LaidSub → ℕ
 sub_steps sub = successors (path_points_of sub.points) * (2 * length sub.facts + 2)
 

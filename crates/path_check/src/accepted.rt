@@ -7,8 +7,8 @@ ghost use Rattle.laid_program.specs.Programs.{program_of};
 use flow_paths::Effects;
 use laid_program::Laid;
 
-/// A program that is laid out and has no reports, with what its subprograms read and write. It is
-/// dropped by a function of its own: who owns one needn't prove again how its parts are dropped.
+/// A program that is laid out and has no reports, with what its subprograms read and write. It has
+/// its own `Drop`, so that owners needn't prove its fields' drops again.
 pub struct AcceptedProgram {
     laid: Laid,
     effects: Effects,

@@ -115,7 +115,7 @@ points_next printed objects effects points trees i x p y t set new all h e is tr
     ∙ sym (put_told-append printed set (where_told objects effects (get_or points i p) (get_or trees i t)) rest)
     ∙ ap (put_told printed set) (sym (all_next objects effects points trees i p t h e)) ∙ before
 
--- the trees behind one are left as they are where that one is taken out
+-- the trees after one are left as they are where that one is taken out
 first_dropped : {A : Type 0} (xs : List A) (i : ℕ) (d : A) → get_or (drop i xs) 0 d ≡ get_or xs i d
 first_dropped [] zero d = refl
 first_dropped [] (suc i) d = refl

@@ -1,4 +1,4 @@
--- The points of a subprogram as control paths have them: behind the acts of a call come those on the
+-- The points of a subprogram as control paths have them: after the acts of a call come those on the
 -- package objects that its callee reads or writes (docs/FLOW.md, "Effects").
 use Rattle.std.specs.Prelude.{ℕ, List, [], ◌++◌, map, drop}
 use Rattle.spark_base.specs.Lists.{Has}

@@ -1,5 +1,5 @@
--- What the facts that may hold are reported for at a call: each for the use of the object that it is
--- rooted in. The use of another one breaks no rule by it, as its place doesn't overlap that one.
+-- What the facts that may hold are reported for at a call: each for the use of the object that it
+-- is rooted in. The use of another one breaks no rule by it, as its place doesn't overlap that one.
 use Rattle.std.specs.Prelude.{ℕ, Bool, true, false, ◌&&◌, ◌||◌, ◌==◌, List, [], ◌∷◌, ◌++◌, map, length, nat_le, Option, Some, None, if◌then◌else◌}
 use Rattle.spark_base.specs.declared.position.Pos.{Pos}
 use Rattle.place_names.specs.declared.fact.Fact.{Fact}
@@ -19,8 +19,8 @@ use Rattle.state_trees.specs.FactStates.{FactState, may_hold}
 use Rattle.point_states.specs.Carries.{state_along, acts_of}
 use Rattle.path_reports.specs.Told.{told_along}
 
--- A fact breaks a rule at a call that uses an object. Object 0 is Ada.Text_IO, which has no act, and the
--- numbers from `count` on are of no object.
+-- A fact breaks a rule at a call that uses an object. Object 0 is Ada.Text_IO, which has no act,
+-- and the numbers from `count` on are of no object.
 abbrev pub breaks_at : ℕ → List ℕ → List ℕ → ℕ → Fact → Bool
 breaks_at count read written g f =
     if g == 0 || nat_le count g then false
@@ -44,7 +44,7 @@ called_told objects effects p (instr.Call sub actuals result) facts =
     uses_told (length objects) (read_by effects sub) (written_by effects sub) p facts
 called_told objects effects p _ facts = []
 
--- The reports of a point: those of its own acts, and behind them those of its call.
+-- The reports of a point: those of its own acts, and then those of its call.
 abbrev pub point_told : List Object → Effects → Point → FactState → List Report
 point_told objects effects p s =
     told_along p.acts s ++ called_told objects effects p.pos p.instr (may_hold (state_along (acts_of p.acts) s))

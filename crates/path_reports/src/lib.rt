@@ -5,7 +5,7 @@
 //! some control path reaches an act with a fact that forbids it (`specs/CalledPoints.antt` has the
 //! points as paths have them; `docs/RULES.md`, "Reports"). To the acts of a call come those on the
 //! package objects that its callee reads or writes. Each report has the text of its name.
-//! Refused is nothing but for want of memory. States are carried as `point_states` has it; then each
+//! The only error is out of memory. States are carried as `point_states` has it; then each
 //! act of a point that some path reaches is tested once. A fact breaks a rule at a call by the
 //! object that it is rooted in alone, so the acts of a call aren't made: each fact that may hold is
 //! tested with that object, which is looked up by halves in what the callee reads and writes

@@ -64,7 +64,7 @@ fn put_acts(
     Ok(())
 }
 
-/// Puts in the reports of a point: of its own acts, and behind them of those of its call.
+/// Puts in the reports of a point: those of its own acts, and then those of its call.
 fn put_point(
     alloc: Global,
     table: &[Info],

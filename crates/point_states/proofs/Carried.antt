@@ -170,7 +170,7 @@ joined_brought q s t u old new a changed ks over was is made changes moves =
     (λ stays. ap Some (sym (is ∙ joined_stable t s o.1 ks o.0 (λ n. (let e : changed ≡ true = moves (λ e. n (sym is ∙ e)) in cc)))))
     (λ e same. changes e (let back : t ≡ u = cc in sym back))
 
--- ---- a turn
+-- ---- one point of the worklist
 
 -- a point without a tree has nothing to carry
 pub turn_none : (points : List PathPoint) (facts : List Fact) (trees : List (Option FactState)) (p : ℕ) (work : List ℕ)

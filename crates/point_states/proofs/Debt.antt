@@ -56,7 +56,7 @@ carry_pays full costs q s old new work work' h k few c = elim c.works [
 pub owed_taken : (costs work rest : List ℕ) (p : ℕ) → work ≡ p ∷ rest → owed costs work ≡ owed costs rest + get_or costs p 0
 owed_taken costs work rest p e = (let both = ap (owed costs) e in omega arith)
 
--- what a turn of a point costs
+-- what carrying from a point once costs
 pub cost_is : (points : List PathPoint) (p : ℕ) → get_or (costs_of points) p 0 ≡ length (path_point points p).next
 cost_is [] p = refl
 cost_is (x ∷ points) zero = refl
@@ -71,7 +71,7 @@ pub costs_counted : (points : List PathPoint) → length (costs_of points) ≡ l
 costs_counted [] = refl
 costs_counted (x ∷ points) = ap suc (costs_counted points)
 
--- where each turn costs one
+-- where each iteration costs one
 abbrev pub ones : {A : Type 0} → List A → List ℕ
 ones [] = []
 ones (x ∷ xs) = 1 ∷ ones xs

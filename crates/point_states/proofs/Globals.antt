@@ -50,7 +50,7 @@ globals_change_nothing (a ∷ acts) facts all =
     let one : effect a facts ≡ facts = ap (λ b. effect b facts) all.0.is ∙ global_effect all.0.object all.0.written facts in
     ap (λ l. facts_behind l acts) one ∙ globals_change_nothing acts facts all.1
 
--- ---- points with such acts behind the others
+-- ---- points with such acts after the others
 
 pub record IsWithGlobals (p q : PathPoint) : Type 0 where
   pub more : List Act

@@ -73,7 +73,7 @@ pub along_kept : (acts : List Act) (s : FactState) → IsKept s → IsKept (stat
 along_kept [] s k = k
 along_kept (a ∷ acts) s k = along_kept acts (state_behind a s) (kept_behind a s k)
 
--- the state behind the acts of a point, whose tree is over the list
+-- the state after the acts of a point, whose tree is over the list
 pub turned : (facts : List Fact) (acts : List Act) (s u : FactState) → u ≡ state_along acts s → IsOver facts (Some s)
     → IsMoved (carried facts acts) s u × ((u.facts ≡ facts) × IsKept u)
 turned facts acts s u is o = (

@@ -1,4 +1,4 @@
--- The turn of a point, one carry after the other.
+-- The iteration for a point, one carry after the other.
 use Rattle.std.proofs.Common.{◌≡◌, ◌∙◌, refl, inl, inr, sym, ap, subst, add-one, ℕ, zero, suc, ◌+◌, ◌<◌, List, [], ◌∷◌, ◌++◌, drop, get_or, length, Option, Some, None, arith}
 use Rattle.spark_base.specs.Lists.{Has}
 use Rattle.place_names.specs.declared.act.Placed.{Placed}
@@ -17,13 +17,13 @@ use Rattle.point_states.proofs.Moves.{IsMoved, turned}
 use Rattle.point_states.proofs.Carried.{carry_carries, carried_over, carried_count, carried_places, same_default, acts_is, next_within, dropped}
 use Rattle.point_states.proofs.Debt.{carry_pays}
 
--- the state behind the acts of point p
+-- the state after the acts of point p
 pub record IsBehind (points : List PathPoint) (facts : List Fact) (p : ℕ) (begun : List (Option FactState)) (s : FactState) : Type 0 where
   pub listed : s.facts ≡ facts
   pub kept : IsKept s
   pub moved : (now : FactState) × ((tree_at begun p ≡ Some now) × IsMoved (carried facts (acts_at points p)) now s)
 
--- what is known within the turn of point p, where `rest` are the successors that are still to come
+-- what is known within the iteration for point p, where `rest` are the successors still to come
 pub record IsTurning (points : List PathPoint) (facts : List Fact) (p count : ℕ) (begun : List (Option FactState)) (first : List ℕ)
     (rest : List ℕ) (trees : List (Option FactState)) (work : List ℕ) : Type 0 where
   pub turning : Turning (flow_of points facts) p (Shows (tree_at begun p)) rest (labels_of trees) work

@@ -3,8 +3,8 @@ use Rattle.std.specs.Prelude.{◌≡◌, ℕ, ◌+◌, ◌*◌, ◌≤◌, List,
 use Rattle.flow_paths.specs.Paths.{PathPoint}
 use Rattle.state_trees.specs.FactStates.{FactState, missing}
 
--- How often a tree can still change: each time it gets a mark that it lacks, and where there is none
--- yet, so often in all.
+-- How often a tree can still change: each time it gets a mark that it lacks, and where there is
+-- none yet, so often in all.
 abbrev pub room : ℕ → Option FactState → ℕ
 room full None = full
 room full (Some s) = missing s
@@ -13,11 +13,11 @@ room full (Some s) = missing s
 abbrev pub most : ℕ → ℕ
 most n = 2 * n + 2
 
--- What each point costs in one turn: its successors.
+-- What each point costs in one iteration: its successors.
 abbrev pub costs_of : List PathPoint → List ℕ
 costs_of points = map (λ (p : PathPoint). length p.next) points
 
--- What one turn of each point costs, all together.
+-- What one iteration for each point costs, all together.
 abbrev pub total : List ℕ → ℕ
 total [] = 0
 total (n ∷ costs) = n + total costs

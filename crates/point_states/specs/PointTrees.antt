@@ -28,8 +28,9 @@ successors (p ∷ rest) = length p.next + successors rest
 abbrev pub fact_at : List Fact → ℕ → Fact
 fact_at facts i = get_or facts i (Moved (object 0))
 
--- What the tree of a point says of each fact of the list. It may hold exactly where some control path
--- to the point has it before the point's acts, and may not exactly where some such path lacks it.
+-- What the tree of a point says of each fact of the list. It may hold exactly where some control
+-- path to the point has it before the point's acts, and may not exactly where some such path lacks
+-- it.
 pub record IsExactAt (points : List PathPoint) (facts : List Fact) (p : ℕ) (s : FactState) : Type 0 where
   pub listed : s.facts ≡ facts
   pub may : (f : Fact) → (Has (may_hold s) f → Has facts f × MayHold points p f) × (Has facts f × MayHold points p f → Has (may_hold s) f)

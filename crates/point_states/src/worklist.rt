@@ -99,8 +99,8 @@ fn pass_on<'f, L: Ledger>(
     Ok(())
 }
 
-/// The turn of a point that was taken from the work: the state behind its acts is carried along
-/// each of its successors.
+/// The iteration for a point that was taken from the work: the state after its acts is carried
+/// along each of its successors.
 fn turn<'f, L: Ledger>(
     points: &[Point],
     facts: &'f [Fact],
@@ -174,8 +174,8 @@ pub fn point_trees<'f, L: Ledger>(
     let mut trees = start_trees(alloc, points, facts)?;
     let mut work = BTreeSet::new(alloc);
     work.insert(0usize)?;
-    // Numbers ascend along the text. So a point has its turn once the states of the points before it
-    // have come, and what is behind a loop waits until the loop is done.
+    // Numbers ascend along the text. So a point is taken once the states of the points before it
+    // have come, and what follows a loop waits until the loop is done.
     'turns: while let Some(p) = work.pop_first() {
         turn(points, facts, &mut trees, &mut work, p, steps)?;
     }

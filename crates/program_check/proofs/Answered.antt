@@ -26,7 +26,8 @@ use Rattle.program_check.specs.Judged.{IsLaidOut, AreTheReports, IsJudged}
 
 -- ---- the layout of what the files mean
 
--- what is known of the layout of each typed program that the parts stand for is known of that of the files
+-- what is known of the layout of each typed program that the parts stand for is known of that of
+-- the files
 pub of_files : (trees : List (List SourceUnit)) (table : Table) (parts : ProgramParts) (P : FlowProgram → Type 0) → IsTyped trees table parts
     → ((p : TypedProgram) → HoldsProgram parts p → P (flow_program table p)) → P (flow_of trees)
 of_files trees table parts P typed all =

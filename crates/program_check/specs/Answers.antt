@@ -20,7 +20,8 @@ use Rattle.program_check.specs.declared.refusal.ProgramRefusal.{ProgramRefusal}
 use Rattle.program_check.specs.declared.refusal.ProgramRefusal.TheVariants.{Mistyped, Beyond, Memory}
 use Rattle.program_check.specs.Sources.{flow_of}
 
--- The files break no sentence on types, their program is within all limits, and it has these reports.
+-- The files break no sentence on types, their program is within all limits, and it has these
+-- reports.
 pub record HasReports (trees : List (List SourceUnit)) (reports : List Report) : Type 0 where
   pub typed : type_fault (files.program_of trees) ≡ None
   pub within : lay_fault (flow_of trees) ≡ None

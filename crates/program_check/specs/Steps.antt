@@ -1,4 +1,5 @@
--- How many states are carried over the control paths of a program, at most (docs/RULES.md, "Facts").
+-- How many states are carried over the control paths of a program, at most (docs/RULES.md,
+-- "Facts").
 use Rattle.std.specs.Prelude.{ℕ, ◌+◌, ◌*◌, List, length, sum_by}
 use Rattle.flow_paths.specs.Points.{FlowPoint}
 use Rattle.flow_paths.specs.Laid.{FlowSub, FlowProgram}
@@ -7,7 +8,7 @@ use Rattle.flow_paths.specs.Laid.{FlowSub, FlowProgram}
 abbrev pub successors_of : List FlowPoint → ℕ
 successors_of points = sum_by (λ (p : FlowPoint). length p.next) points
 
--- Of a subprogram with E successors and F facts, E * (2 F + 2).
+-- E * (2 F + 2), for a subprogram with E successors and F facts.
 abbrev pub sub_steps : FlowSub → ℕ
 sub_steps sub = successors_of sub.points * (2 * length sub.facts + 2)
 

@@ -29,8 +29,8 @@ fn laid(alloc: Global, resolved: Resolved) -> Result<Laid, ProgramRefusal>
     Ok(lay_out(alloc, typed)?)
 }
 
-/// Tells whether a program that is laid out is accepted, or all of its reports: those of the rules on
-/// the text, and those of the rules on facts over all control paths.
+/// Tells whether a program that is laid out is accepted, or all of its reports: those of the rules
+/// on the text, and those of the rules on facts over all control paths.
 fn judged<L: Ledger>(alloc: Global, laid: Laid, steps: &mut Steps<L>) -> Result<Verdict, AllocError>
     ensures verdict { IfOk result (λ verdict. IsJudged (program_of laid) verdict) }
     ensures cost { steps.new ≤ steps.old + program_steps (program_of laid) }
@@ -41,9 +41,9 @@ fn judged<L: Ledger>(alloc: Global, laid: Laid, steps: &mut Steps<L>) -> Result<
     Ok(check_paths(alloc, laid, effects, alias, views, steps)?)
 }
 
-/// Checks the program that files mean whose names have a meaning: whether it is accepted, or all of
-/// its reports, in order. Refused is a program that breaks a sentence on types or is beyond a limit.
-/// Each state that is carried along a successor counts one step.
+/// Checks the program of resolved files: whether it is accepted, or all of its reports, in order.
+/// A program that breaks a sentence on types or is beyond a limit is refused. Each state that is
+/// carried along a successor counts one step.
 pub fn check_program<L: Ledger>(
     alloc: Global,
     resolved: Resolved,
@@ -71,8 +71,8 @@ fn check_counted<L: Ledger>(
     check_program(alloc, resolved, &mut steps)
 }
 
-/// Checks the program that files mean whose names have a meaning, as `check_program` does, and
-/// forgets how many steps it took.
+/// Checks the program of resolved files, as `check_program` does, and forgets how many steps it
+/// took.
 pub fn check_files(alloc: Global, resolved: Resolved) -> Result<Verdict, ProgramRefusal>
     ensures { Answers (trees_of resolved.files.items) result }
 {

@@ -27,7 +27,7 @@ within_cells words (e ∷ es) (suc h) i k held = omega (arith, within_cells word
 
 -- ONE WORD IS WRITTEN
 
--- A word behind a part, or before it, isn't in it.
+-- A word after a part, or before it, isn't in it.
 take_drop-set_behind : (words : List Value) (start len k : ℕ) (v : Value) → start + len ≤ k → take len (drop start (set words k v)) ≡ take len (drop start words)
 take_drop-set_behind words start len k v behind =
     let part : ℕ → Type 0 = λ n. take len (drop start (set words n v)) ≡ take len (drop start words) in
@@ -46,7 +46,7 @@ cells-set_before (e ∷ es) words at end k v laid before =
     let others = cells-set_before es words (at + e.len) end k v laid.1 (omega arith) in
     cc
 
--- An extent of the list begins at its start or behind it.
+-- An extent of the list begins at its start or after it.
 start_from : (es : List Extent) (at end h : ℕ) (e : Extent) → AreLaid at es end → h < length es → e ≡ get_or es h e → at ≤ e.start
 start_from [] at end h e laid within read = omega arith
 start_from (x ∷ es) at end zero e laid within read =

@@ -1,4 +1,4 @@
--- Cells whose words stand in one list, one cell behind the other.
+-- Cells whose words stand in one list, one cell after the other.
 use Rattle.std.specs.Prelude.{◌≡◌, ℕ, ◌+◌, List, [], ◌∷◌, map, take, drop}
 use Rattle.run_values.specs.declared.value.Value.{Value}
 use Rattle.reuse_heap.specs.Cells.{Cell}

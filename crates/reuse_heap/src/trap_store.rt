@@ -13,7 +13,7 @@ use std::marker::Model;
 /// allocation.
 #[derive(Drop)]
 pub struct TrapStore {
-    // the words of all cells, one cell behind the other
+    // the words of all cells, one cell after the other
     words: Vec<Value>,
     extents: Vec<Extent>,
 }

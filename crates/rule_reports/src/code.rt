@@ -15,7 +15,7 @@ pub enum Code {
     L3,
     /// A line ends within a string, as in `"a` (Ada 2012, 2.6).
     L4,
-    /// A token stands behind 1,000,000 others.
+    /// A token follows 1,000,000 others.
     L5,
     /// The tokens through it are no viable prefix, as at the end of an empty file.
     P1,

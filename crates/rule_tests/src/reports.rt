@@ -223,7 +223,7 @@ fn name(root: u32, sels: &[Sel]) -> Result<PlaceName, Fail> {
     Ok(made)
 }
 
-/// The line of each report, and all of them one behind the other.
+/// The line of each report, and all of them one after the other.
 #[test]
 fn reports(rt: HostRuntime) -> Result<(), Fail> {
     let alloc = rt.alloc();

@@ -34,8 +34,8 @@ fn info(shape: Shape) -> Info
     }
 }
 
-/// A type, a subtype of it without a constraint, and what no source has: a subtype of that one which
-/// doesn't lead to the type at once.
+/// A type, a subtype of it without a constraint, and what no source has: a subtype of that one
+/// which doesn't lead to the type at once.
 fn three_types(alloc: Global) -> Result<TypeTable, AllocError>
     ensures { IfOk result (λ table. table ≡ three_types) }
 {

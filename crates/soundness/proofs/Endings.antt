@@ -1,4 +1,5 @@
--- What the end of the main procedure leads to, and the step from the last package object to the main procedure.
+-- What the end of the main procedure leads to, and the step from the last package object to the
+-- main procedure.
 use Rattle.std.proofs.Common.{◌≡◌, refl, sym, ap, ◌∙◌, subst, ◌⊎◌, inl, inr, ℕ, suc, ◌<◌, Bool, true, false, not, ◌&&◌, ◌==◌, List, [], ◌∷◌, ◌++◌, cond, eqb-true, if◌then◌else◌}
 use Rattle.std.specs.Prelude.{filter}
 use Rattle.spark_base.specs.Lists.{Has}
@@ -180,8 +181,8 @@ module _ (program : FlowProgram) (input : List ℕ) (point : FlowPoint) (state :
 
 -- ---- the main procedure begins
 
--- Where the package objects are declared and nothing is moved, nothing is gone, and the main procedure
--- begins without facts.
+-- Where the package objects are declared and nothing is moved, nothing is gone, and the main
+-- procedure begins without facts.
 pub main_begins : (s : Typing) (other others : Way → Type 0) (view : View) (facts : List Fact) → Sound (home s 0) other view facts
     → ((w : Way) → other w → ⊥) → ((name : Name) → Has facts (Moved name) → ⊥) → Sound (home s 1) others view []
 main_begins s other others view facts sound alone none = record {

@@ -352,7 +352,7 @@ module _ (h : Here) (settled : IsSettled h.typing.table) (leaks : List Leak) (wa
 
   -- ---- aggregates
 
-  -- a part goes behind the words of the hand below
+  -- a part goes after the words of the hand below
   part_joined : (m : Memory) (hands : List Waiting) (facts : List Fact) (t u : ℕ) (acc ws : List machine.Word) (step : Step)
       → has_part h.typing.table t (step ∷ []) ≡ true → offset_in h.typing.table t (step ∷ []) ≡ length acc
       → type_in h.typing.table t (step ∷ []) ≡ u → length ws ≡ words h.typing.table u
@@ -366,7 +366,7 @@ module _ (h : Here) (settled : IsSettled h.typing.table) (leaks : List Leak) (wa
         (inl (ap (shape_of h.typing.table) (sym is))) ready.kept;
   }
 
-  -- Behind the words that are there, the rest is a value of the type.
+  -- After the words that are there, the rest is a value of the type.
   abbrev pub Grows : ℕ → List machine.Word → List Waiting → List Fact → Evaluated (List machine.Word) → Type 0
   Grows t acc hands facts (Done ws n) = Given t hands facts (Done (acc ++ ws) n)
   Grows t acc hands facts (Raises e n) = Unit {0}
@@ -515,7 +515,7 @@ module _ (h : Here) (settled : IsSettled h.typing.table) (leaks : List Leak) (wa
     evaluated (Call p sub actuals) want gives calls m hands facts ready allowed = cc
     evaluated e want gives calls m hands facts ready allowed = absurd gives
 
-    -- the parts of an aggregate from the i-th on, behind those before
+    -- the parts of an aggregate from the i-th on, after those before
     parts_given : (es : TypedTree) (t i : ℕ) → GivesParts h.typing t i es → has_call es ≡ false
         → i + tree_count es ≡ field_count (shape_of h.typing.table t)
         → is_record (shape_of h.typing.table t) || is_array (shape_of h.typing.table t) ≡ true

@@ -1,4 +1,5 @@
--- Where instructions go on: to a successor, with the same frames around, and with variables that own in scope.
+-- Where instructions go on: to a successor, with the same frames around, and with variables that
+-- own in scope.
 use Rattle.std.proofs.Common.{◌≡◌, refl, sym, ap, ◌∙◌, subst, inl, inr, ℕ, zero, suc, ◌<◌, Bool, true, false, not, ◌&&◌, List, [], ◌∷◌, ◌++◌, drop, length, get_or, nat_lt, ltb-true, int_le, arith, ℤ, Option, Some, None, if◌then◌else◌}
 use Rattle.spark_base.specs.declared.position.Pos.{Pos}
 use Rattle.type_definitions.specs.Types.{full}

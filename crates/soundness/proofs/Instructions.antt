@@ -1,4 +1,5 @@
--- What instructions lead to, as outcomes of the machine: declarations, assignments, releases, the ends of scopes, conditions, input and output.
+-- What instructions lead to, as outcomes of the machine: declarations, assignments, releases, the
+-- ends of scopes, conditions, input and output.
 use Rattle.std.proofs.Common.{◌≡◌, refl, sym, ap, ◌∙◌, subst, ◌⊎◌, inl, inr, ℕ, suc, Bool, true, false, not, ◌&&◌, ◌||◌, List, [], ◌∷◌, ◌++◌, map, flat_map, reverse, take, drop, length, get_or, nat_lt, arith, append-nil, ℤ, Option, Some, None, if◌then◌else◌}
 use Rattle.std.specs.Prelude as int
 use Rattle.spark_base.specs.Lists.{Has}
@@ -108,7 +109,8 @@ module _ (t : Turn) (settled : IsSettled (typing t).table) (own_law : OwnsByShap
   abbrev pub hands : List Waiting
   hands = waiting_in t.state
 
-  -- What a state and an outcome have to be: sound under these facts, with typed words; and no trap, in a well owned state.
+  -- What a state and an outcome have to be: sound under these facts, with typed words; and no trap,
+  -- in a well owned state.
   abbrev pub Holds : List Fact → State → Type 0
   Holds facts state = Sound (home s depth) other (view_of s state) facts × Kept s state.memory (waiting_in state)
 
@@ -144,7 +146,7 @@ module _ (t : Turn) (settled : IsSettled (typing t).table) (own_law : OwnsByShap
         ∙ ap (λ z. z ++ flat_map waits_of t.outer) (drop_none t.frame.waits)
         ∙ sym (ap (flat_map waits_of) frames)
 
-    -- the state behind
+    -- the state afterwards
     goes_on : (m : Memory) (checks : List (List Leak)) (leaks : List Leak) → flat_map (λ (z : List Leak). z) checks ≡ leaks
         → (facts : List Fact) → Sound (home s depth) other (seen s m hands (t.state.leaks ++ leaks)) facts → Kept s m hands
         → Leads_on facts (leaking_goes checks (goes t m 0))
@@ -182,7 +184,8 @@ module _ (t : Turn) (settled : IsSettled (typing t).table) (own_law : OwnsByShap
     abbrev pub IsBlank : ℕ → Memory → Type 0
     IsBlank x m = (p : List ways.Step) → word_in s.table (content s m [] (OfRoot (OfVariable depth x))) p ≡ Empty
 
-    -- no variable of the object was made by the evaluation, since nothing is stored and nothing of the object is moved
+    -- no variable of the object was made by the evaluation, since nothing is stored and nothing of
+    -- the object is moved
     blank_after : (x : ℕ) (facts : List Fact) (ws : List machine.Word) (n : Now) → Given_here (object_at s x).of facts (Done ws n)
         → FadesTo (here t) {A = List machine.Word} t.state.memory (Done ws n) → IsBlank x t.state.memory
         → ((name : PlaceName) → Has facts (Moved name) → name.root ≡ x → ⊥) → IsBlank x n.memory
@@ -245,7 +248,8 @@ module _ (t : Turn) (settled : IsSettled (typing t).table) (own_law : OwnsByShap
     )
     first_given u v gives calls facts holds allowed = absurd gives
 
-    -- An object is declared. It has nothing yet, since it isn't in scope (`new`), and no fact behind the evaluation names it.
+    -- An object is declared. It has nothing yet, since it isn't in scope (`new`), and no fact after
+    -- the evaluation names it.
     pub declare_leads : (x : ℕ) (v : TypedTree) → FirstSource s (object_at s x).of v → has_call v ≡ false → (facts : List Fact) → Holds facts t.state
         → AllowsAll facts (acts (declared_acts s x v))
         → IsBlank x t.state.memory → ((name : PlaceName) → Has (after (acts (declared_acts s x v)) facts) (Moved name) → name.root ≡ x → ⊥)

@@ -1,4 +1,4 @@
--- A part of an aggregate: the latest value in hand goes behind the words of the hand below.
+-- A part of an aggregate: the latest value in hand goes after the words of the hand below.
 use Rattle.std.proofs.Common.{◌≡◌, refl, sym, ap, ◌∙◌, subst, ◌⊎◌, inl, inr, ℕ, suc, ◌+◌, ◌<◌, ◌≤◌, true, false, List, [], ◌∷◌, ◌++◌, length, get_or, arith, length-append}
 use Rattle.std.proofs.lemmas.List.{length-map, get_or_past, get_or_append_left, get_or-append-add}
 use Rattle.place_names.specs.declared.fact.Fact.{Fact}

@@ -217,7 +217,7 @@ module _ (s : Typing) (settled : IsSettled s.table) (m : Memory) where
             let none = nil_right r p rest in
             let no : step ∷ [] ≡ [] = access_end t d c n (ap (λ z. shape_of s.table (type_in s.table t z)) (sym none) ∙ is) (step ∷ []) there in cc
 
-  -- the latest value goes behind the words of the one below
+  -- the latest value goes after the words of the one below
   pub joined : (u t : ℕ) (ws acc : List machine.Word) (rest : List Waiting) (step : Step) → has_part s.table t (step ∷ []) ≡ true
       → offset_in s.table t (step ∷ []) ≡ length acc → length ws ≡ words s.table (type_in s.table t (step ∷ []))
       → Matches s.table u (type_in s.table t (step ∷ [])) → Kept s m (record { of = u; words = ws } ∷ record { of = t; words = acc } ∷ rest)

@@ -1,4 +1,5 @@
--- What the start of a loop leads to, and its turns: the parameter has the next value, or leaves scope.
+-- What the start of a loop leads to, and its iterations: the parameter has the next value, or
+-- leaves scope.
 use Rattle.std.proofs.Common.{◌≡◌, refl, sym, ap, ◌∙◌, subst, inl, inr, ℕ, ◌+◌, Bool, true, false, not, ◌&&◌, List, [], ◌∷◌, ◌++◌, flat_map, take, drop, length, int_le, ℤ, unsigned_abs, Option, Some, None}
 use Rattle.place_names.specs.declared.fact.Fact.{Fact}
 use Rattle.type_definitions.specs.declared.table.Shape.TheVariants as shape
@@ -93,7 +94,7 @@ value_plain (machine.Int n ∷ ws) v = one_no_cell (machine.Int v) (λ k e. cc)
 value_plain (machine.Null ∷ ws) v = one_no_cell (machine.Int v) (λ k e. cc)
 value_plain (machine.Cell n ∷ ws) v = one_no_cell (machine.Int v) (λ k e. cc)
 
--- ---- a turn
+-- ---- an iteration
 
 module _ (t : Turn) (settled : IsSettled (typing t).table) (own_law : OwnsByShape (typing t).table) (other : Way → Type 0)
     (alone : (w : Way) → other w → ⊥) (no_formals : (x : ℕ) → is_in_formal (typing t) x ≡ false)

@@ -1,4 +1,5 @@
--- Where each step of a sound state leads on, each moment of the run is well owned, and none is a trap.
+-- Where each step of a sound state leads on, each moment of the run is well owned, and none is a
+-- trap.
 use Rattle.std.proofs.Common.{◌≡◌, sym, subst, ℕ, zero, suc, Bool, true, false, nat_le, List, [], ◌∷◌, Some, if◌then◌else◌}
 use Rattle.type_definitions.specs.Types.{Table}
 use Rattle.typed_tree.specs.Programs.{TypedProgram}
@@ -63,7 +64,7 @@ module _ (table : Table) (typed : TypedProgram) (effects : Effects) (input : Lis
       no_trap_at (Goes t) leads e is trap = cc
       no_trap_at (Ends f t) leads e is trap = (let same : f ≡ e = cc in leads.0 (subst IsTrap (sym same) trap))
 
--- Of a program that is ready, each moment of its run is well owned, and none is a trap.
+-- Each moment of the run of a program that is ready is well owned, and none is a trap.
 pub ready_sound : (table : Table) (typed : TypedProgram) (effects : Effects) (input : List ℕ) → IsReady table typed effects → RunIsSound table typed input
 ready_sound table typed effects input ready =
     run_sound table typed effects input ready.accepted.settled (sound_step table typed effects input ready) (sound_start table typed effects ready)

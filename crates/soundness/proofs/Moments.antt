@@ -1,4 +1,5 @@
--- Steps of a memory keep the state sound: stores, moves into hands, declarations, the ends of scopes.
+-- Steps of a memory keep the state sound: stores, moves into hands, declarations, the ends of
+-- scopes.
 use Rattle.std.proofs.Common.{◌≡◌, refl, sym, ap, ◌∙◌, subst, inl, inr, ℕ, ◌+◌, Bool, true, false, List, [], ◌∷◌, ◌++◌, take, drop, length, get_or, append-nil}
 use Rattle.spark_base.specs.declared.position.Pos.{Pos}
 use Rattle.place_names.specs.declared.selector.Sel.{Sel}
@@ -72,7 +73,7 @@ module _ (s : Typing) (settled : IsSettled s.table) (at_home : ℕ → ℕ) (oth
       ∙ ap (λ z. checked_at pos k.at (content s m hands z).slots (access_offsets s.table k.of)) spot.base
       ∙ ap (λ z. checked_at pos k.at z (access_offsets s.table k.of)) (content_slots s m hands k.base spot.made)
 
-  -- ---- a value is stored, behind its leak checks
+  -- ---- a value is stored, after its leak checks
 
   pub stored_sound : (m : Memory) (v : Waiting) (rest : List Waiting) (leaks : List Leak) (facts : List Fact) (k : Place) (l : Loc) (w : Way) (pos : Pos)
       → Sound at_home other (seen s m (v ∷ rest) leaks) facts → Hands → Kept s m (v ∷ rest) → Spot s m (v ∷ rest) k l
@@ -156,7 +157,7 @@ module _ (s : Typing) (settled : IsSettled s.table) (at_home : ℕ → ℕ) (oth
       (hand (length rest)) (OfRoot (OfVariable f x)) facts sound move tt (hands (length rest)) refl refl (λ e. cc)
       (stored_whole s.table settled a b (length rest) v (OfRoot (OfVariable f x)) (length m.cells) (λ n. (cell m n).freed) leaks change)
 
-  -- ---- the scope of an object ends, behind its leak checks
+  -- ---- the scope of an object ends, after its leak checks
 
   pub ended_sound : (m : Memory) (rest : List Waiting) (leaks leaks' : List Leak) (facts : List Fact) (x : ℕ) (borrower : Bool)
       → Sound at_home other (seen s m rest leaks) facts → Checks s.table (content s m rest (OfRoot (OfVariable (at_home x) x))) [] leaks leaks'

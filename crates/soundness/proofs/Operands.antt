@@ -61,7 +61,7 @@ module _ (t : Turn) (settled : IsSettled (typing t).table) (own_law : OwnsByShap
 
   -- ---- an operand
 
-  -- what waits behind the step
+  -- what waits after the step
   abbrev Waits : List Waiting → List Waiting → Type 0
   Waits waits behind = waits ++ flat_map waits_of t.outer ≡ behind
 
@@ -191,7 +191,7 @@ module _ (program : FlowProgram) (input : List ℕ) (point : FlowPoint) (state :
         ((λ trap. trap), raises returning settled own_law other alone no_formals all_named frames before holds n.memory)
     then_held of f returns facts before holds (Traps e n) never = absurd never
 
-    -- what waits behind the return
+    -- what waits after the return
     waits_there : (of : ℕ) (ws : List machine.Word)
         → waiting returning ++ (record { of = of; words = ws } ∷ (caller.waits ++ flat_map waits_of outer)) ≡ record { of = of; words = ws } ∷ waiting_in state
     waits_there of ws =

@@ -1,4 +1,5 @@
--- On the control paths of an accepted program, the acts of each point are allowed one after the other.
+-- On the control paths of an accepted program, the acts of each point are allowed one after the
+-- other.
 use Rattle.std.proofs.Common.{◌≡◌, refl, sym, ap, ◌∙◌, subst, ℕ, List, [], ◌∷◌, ◌++◌, None}
 use Rattle.spark_base.specs.Lists.{Has}
 use Rattle.place_names.specs.declared.act.Act.{Act}

@@ -1,4 +1,5 @@
--- The points of a subprogram by their numbers: a number finds its point, and scopes go on to successors.
+-- The points of a subprogram by their numbers: a number finds its point, and scopes go on to
+-- successors.
 use Rattle.std.proofs.Common.{◌≡◌, refl, sym, ap, ◌∙◌, subst, ◌⊎◌, inl, inr, ℕ, suc, ◌+◌, Bool, true, false, cond, not, ◌&&◌, ◌||◌, ◌==◌, eqb-true, eq-eqb, List, [], ◌∷◌, ◌++◌, map, length, get_or, arith}
 use Rattle.std.specs.Bool.{Decides}
 use Rattle.std.specs.List.{AllByRecursion, position_or_len}
@@ -190,7 +191,8 @@ all_laid s (sub ∷ rest) settled named (inl e) =
     subst (IsLaid s) e (package_points_differ (unnumbered s) sub, package_scopes_hold (unnumbered s) sub (settled sub (inl refl)))
 all_laid s (sub ∷ rest) settled named (inr has) = subs_laid s (length s.objects) rest (λ sub has. settled sub (inr has)) named has
 
--- The successor with a number is a point, and what is in scope there was in scope behind the instruction.
+-- The successor with a number is a point, and what is in scope there was in scope after the
+-- instruction.
 pub next_there : (s : Typing) (named : NamedSub) → IsLaid s named → (p : NamedPoint) → Has named.points p → (n : ℕ) → Has (map (number_in named.points) p.next) n
     → (q : NamedPoint) × IsAtPoint named.points n q × Leads s (scope_behind p) q.scope
 next_there s named (differ, holds) p has n next =

@@ -1,4 +1,5 @@
--- A step that raises leaves the state before it, with the cells that it made, which count as freed: that is well owned.
+-- A step that raises leaves the state before it, with the cells that it made, which count as freed:
+-- that is well owned.
 use Rattle.std.proofs.Common.{◌≡◌, refl, sym, ap, ◌∙◌, ◌⊎◌, inl, inr, ℕ, zero, suc, ◌+◌, ◌-◌, ◌<◌, ◌≤◌, true, false, not, List, [], ◌∷◌, ◌++◌, map, drop, length, get_or, arith, length-append}
 use Rattle.std.proofs.lemmas.List.{get_or_past, get_or_append_left, get_or-append-add}
 use Rattle.std.proofs.lemmas.Bool.{cases_lt}

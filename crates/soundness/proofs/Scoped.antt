@@ -1,4 +1,5 @@
--- Which variables own cells after a change of memory: those that did before, and those that are stored at.
+-- Which variables own cells after a change of memory: those that did before, and those that are
+-- stored at.
 use Rattle.std.proofs.Common.{◌≡◌, refl, sym, ap, ◌∙◌, subst, ◌⊎◌, inl, inr, ℕ, ◌+◌, ◌<◌, Bool, true, false, not, ◌||◌, ◌==◌, eqb-true, List, [], ◌∷◌, ◌++◌, take, drop, length, get_or, if◌then◌else◌}
 use Rattle.flow_paths.specs.Objects.{Typing, object_at, designated}
 use Rattle.flow_paths.specs.Scopes.{is_within, is_last}
@@ -82,7 +83,7 @@ module _ (s : Typing) where
   held_slot : (x : Slot) (n : ℕ) → owner_word x ≡ Held n → x ≡ owned n
   held_slot x n e = let is = owner_held x.word x.gone n e in (λ j. record { word = is.0 j; gone = is.1 j })
 
-  -- a number in a variable behind a change was there before, or the variable is one of these
+  -- a number in a variable after a change was there before, or the variable is one of these
   pub held_before : (these : ℕ → ℕ → Type 0) (m n : Memory) → OnlyAt these m n → (f x : ℕ) (p : List Step) (c : ℕ)
       → word_in s.table (content s n [] (OfRoot (ways.OfVariable f x))) p ≡ Held c
       → (word_in s.table (content s m [] (OfRoot (ways.OfVariable f x))) p ≡ Held c) ⊎ these f x

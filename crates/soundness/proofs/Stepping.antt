@@ -330,7 +330,7 @@ module _ (table : Table) (typed : TypedProgram) (effects : Effects) (input : Lis
         (subst (λ z. Has z (Moved name))
         (ap (λ i. after (acts_here i) before_step) (sym e) ∙ sym (facts_on state top older outer named p frames of_sub at_point path)) has))
 
-  -- the step to the point behind, where there is one
+  -- the step to the next point, where there is one
   pub package_step : (state : State) (top : Stage) (named : NamedSub) (p : NamedPoint) → (frames : state.frames ≡ top.frame ∷ [])
       → top.depth ≡ 0 → AreFirst program (top ∷ []) → (of_sub : IsNamedSub (flow_named table typed) top.frame.sub named)
       → (at_point : IsAtPoint named.points top.frame.next p)

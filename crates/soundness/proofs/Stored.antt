@@ -1,4 +1,5 @@
--- An assignment: the source is evaluated, the place of the target found, the leak checks made, and the value stored.
+-- An assignment: the source is evaluated, the place of the target found, the leak checks made, and
+-- the value stored.
 use Rattle.std.proofs.Common.{◌≡◌, refl, sym, ap, ◌∙◌, subst, inl, ℕ, Bool, true, false, List, [], ◌∷◌, ◌++◌, length, append_assoc}
 use Rattle.spark_base.specs.declared.position.Pos.{Pos}
 use Rattle.place_names.specs.declared.act.Act.{Act}
@@ -37,7 +38,8 @@ module _ (h : Here) (settled : IsSettled h.typing.table) (leaks : List Leak) (wa
     (alone : (w : Way) → other w → ⊥) (keeps : Keeps h.typing)
     (no_formals : (x : ℕ) → is_in_formal h.typing x ≡ false) (index_law : IndexLaw) (own_law : OwnsByShape h.typing.table)
     (all_named : (t d : ℕ) (c n : Bool) → shape_of h.typing.table t ≡ shape.Access d c n → n ≡ true) where
-  -- What it comes to: a state that is sound and typed once the value is stored behind its leak checks, or an exception.
+  -- What it comes to: a state that is sound and typed once the value is stored after its leak
+  -- checks, or an exception.
   abbrev pub Assigns : List Waiting → List Fact → Evaluated Stored → Type 0
   Assigns hands facts (Done st n) =
       ((pos : Pos) → Sound (home h.typing h.frame) other

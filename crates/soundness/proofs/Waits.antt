@@ -1,4 +1,4 @@
--- What waits: nothing for texts without calls; and what waits in the frames behind a step.
+-- What waits: nothing for texts without calls; and what waits in the frames after a step.
 use Rattle.std.proofs.Common.{◌≡◌, refl, ap, ◌∙◌, ℕ, ◌+◌, Bool, true, false, ◌||◌, List, [], ◌∷◌, ◌++◌, flat_map, take, drop, arith, Option, Some, None, if◌then◌else◌}
 use Rattle.typed_tree.specs.Trees.{TypedTree, Number, Literal, Text, Name, Component as IntoComponent, Designated, Element, Call, EndOfFile, Parens, Image, Unary, Binary, Short, IsNull, Aggregate, Alike, New, NoMore, More}
 use Rattle.typed_tree.specs.Trees as typed

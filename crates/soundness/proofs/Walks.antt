@@ -33,7 +33,8 @@ abbrev pub way_along : List run.Step → Way → Way
 way_along [] w = w
 way_along (step ∷ rest) w = way_along rest (way_step step w)
 
--- They lead from a type to another one, each within what it is a step of. (Access values have owners here.)
+-- They lead from a type to another one, each within what it is a step of. (Access values have
+-- owners here.)
 abbrev pub Lead : Table → ℕ → List run.Step → ℕ → Type 0
 Lead table t [] u = t ≡ u
 Lead table t (run.ToComponent i ∷ rest) u = (i < length (fields table t)) × Lead table (component_type table t i) rest u

@@ -13,8 +13,8 @@ use Rattle.owned_ways.specs.Ways.{Step, Root, OfHand, Loc, OfRoot, Held}
 use Rattle.part_offsets.specs.Parts.{type_in, offset_in, has_part, is_leaf}
 use Rattle.soundness.specs.Seen.{Content, in_hand, word_in, trunk, steps_in}
 
--- The words that own stand at the same places in both types. (Types with one definition are alike, and so
--- are types that own nothing.)
+-- The words that own stand at the same places in both types. (Types with one definition are alike,
+-- and so are types that own nothing.)
 pub record Alike (table : Table) (t u : ℕ) : Type 0 where
   pub leaf : (p : List Step) → is_leaf table t p ≡ is_leaf table u p
   pub at : (p : List Step) → is_leaf table t p ≡ true → offset_in table t p ≡ offset_in table u p

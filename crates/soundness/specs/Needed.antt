@@ -1,7 +1,8 @@
 -- What soundness needs of typed programs, in the weakest form.
 --
--- Nothing is asked of numbers, positions, operators or conditions but that the names in them stay within
--- what they name: a step that is given another word than it wants raises an exception at worst.
+-- Nothing is asked of numbers, positions, operators or conditions but that the names in them stay
+-- within what they name: a step that is given another word than it wants raises an exception at
+-- worst.
 use Rattle.std.specs.Prelude.{◌≡◌, ◌⊎◌, ◌<◌, ℕ, suc, Bool, true, false, length, ◌&&◌, ◌||◌, ℤ, ◌-ℤ◌, int_le, unsigned_abs, Option, Some, None}
 use Rattle.spark_base.specs.Lists.{Has}
 use Rattle.type_definitions.specs.declared.table.Shape.TheVariants as shape
@@ -42,8 +43,8 @@ unfoldable mutual
   Stays s (Element index low high rest) = ⊥
   Stays s e = Unit {0}
 
-  -- The steps of a name lead from one type to another one: each component is there, the bounds of each
-  -- index are those of its array, and only access values are dereferenced.
+  -- The steps of a name lead from one type to another one: each component is there, the bounds of
+  -- each index are those of its array, and only access values are dereferenced.
   pub Leads : Typing → ℕ → TypedTree → ℕ → Type 0
   Leads s t (IntoComponent i rest) u = (i < length (fields s.table t)) × Leads s (component_type s.table t i) rest u
   Leads s t (Element index low high rest) u =
@@ -54,8 +55,8 @@ unfoldable mutual
   Leads s t e u = ⊥
 
 unfoldable mutual
-  -- An expression gives a value of a type: one of the same definition where it is a name, a call or an
-  -- aggregate.
+  -- An expression gives a value of a type: one of the same definition where it is a name, a call or
+  -- an aggregate.
   pub Gives : Typing → ℕ → TypedTree → Type 0
   Gives s want (Name p x steps t) = Leads s (object_at s x).of steps t × Matches s.table t want
   Gives s want typed.Null = words s.table want ≡ 1
@@ -102,8 +103,8 @@ FirstWrites s (More e rest) = (rest ≡ NoMore) × Writes s e
 FirstWrites s NoMore = Unit {0}
 FirstWrites s e = ⊥
 
--- A source that is looked at where it stands, for an object or result of an anonymous access type: what
--- both types designate agrees.
+-- A source that is looked at where it stands, for an object or result of an anonymous access type:
+-- what both types designate agrees.
 abbrev pub IsView : Typing → ℕ → TypedTree → Type 0
 IsView s want (Name p x steps t) =
     (d : ℕ) × (k : ℕ) × (c : Bool) × (n : Bool) × (e : Bool) × (m : Bool) × Leads s (object_at s x).of steps t
@@ -154,6 +155,7 @@ abbrev pub AreFine : FlowProgram → Type 0
 AreFine program =
     (sub : FlowSub) → Has program.subs sub → (p : FlowPoint) → Has sub.points p → IsFine (flow_typing program) sub.result p.instr
 
--- An index within the bounds of its array has fewer elements before it than the array has. (Of numbers alone.)
+-- An index within the bounds of its array has fewer elements before it than the array has. (Of
+-- numbers alone.)
 abbrev pub IndexLaw : Type 0
 IndexLaw = (low high v : ℤ) → int_le low v && int_le v high ≡ true → unsigned_abs (v -ℤ low) < span low high

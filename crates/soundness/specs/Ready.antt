@@ -1,5 +1,5 @@
--- What is asked of an accepted program so that its runs are sound: what typing, the layout and the rules
--- see to. Nothing here speaks of a run.
+-- What is asked of an accepted program so that its runs are sound: what typing, the layout and the
+-- rules see to. Nothing here speaks of a run.
 use Rattle.std.specs.Prelude.{◌≡◌, ◌⊎◌, ℕ, true, false, List, [], ◌∷◌, length, get_or, Some, None}
 use Rattle.spark_base.specs.Lists.{Has}
 use Rattle.place_names.specs.declared.act.Placed.{Placed}
@@ -37,10 +37,10 @@ stored_at (Input target) = root_of target
 stored_at (Release e) = root_of e
 stored_at _ = []
 
--- There are no temporaries, which hold the values of calls. Code is settled. At each point: the object
--- that is declared isn't in scope, and the one whose scope ends is the last one in scope (`is_ready`);
--- what is stored at is in scope or belongs to a package; the objects of packages have no end of scope;
--- and where a procedure ends nothing is in scope.
+-- There are no temporaries, which hold the values of calls. Code is settled. At each point: the
+-- object that is declared isn't in scope, and the one whose scope ends is the last one in scope
+-- (`is_ready`); what is stored at is in scope or belongs to a package; the objects of packages have
+-- no end of scope; and where a procedure ends nothing is in scope.
 pub record AreScoped (table : Table) (typed : TypedProgram) : Type 0 where
   pub objects : (flow_program table typed).objects ≡ typed.objects
   pub bodies : (sub : TypedSub) → Has typed.subs sub → is_settled (typing_of table typed) sub.body ≡ true
@@ -51,8 +51,8 @@ pub record AreScoped (table : Table) (typed : TypedProgram) : Type 0 where
       → is_package_object (flow_typing (flow_program table typed)) x ≡ false
   pub finishes : (sub : NamedSub) → Has (flow_named table typed) sub → (p : NamedPoint) → Has sub.points p → p.instr ≡ Finish → p.scope ≡ []
 
--- On each control path: where an object is declared, no fact says that a place in it was moved, neither
--- before its initial value is evaluated nor then.
+-- On each control path: where an object is declared, no fact says that a place in it was moved,
+-- neither before its initial value is evaluated nor then.
 abbrev pub AreNew : FlowProgram → Effects → Type 0
 AreNew program effects =
     (sub : FlowSub) → Has program.subs sub → (before : List ℕ) (last : ℕ) → ControlPath (path_points program effects sub) before last

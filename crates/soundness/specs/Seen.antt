@@ -1,7 +1,8 @@
 -- What owners see of a memory, with some values in hand.
 --
--- A value that an evaluation has got, or that waits, is in hand: it has a type and words. The latest hand
--- stands first; hands are numbered from the last one on, so that a new one changes no number.
+-- A value that an evaluation has got, or that waits, is in hand: it has a type and words. The
+-- latest hand stands first; hands are numbered from the last one on, so that a new one changes no
+-- number.
 use Rattle.std.specs.Prelude.{ℕ, suc, Bool, true, false, not, ◌&&◌, ◌==◌, List, [], ◌∷◌, length, get_or, if◌then◌else◌}
 use Rattle.std.specs.List.{list_any}
 use Rattle.type_definitions.specs.Types.{Table}

@@ -29,8 +29,8 @@ use Rattle.soundness.specs.Needed.{AreFine}
 
 -- ---- the program
 
--- An accepted program, and what is known of it: no reports, its effects, types that are made of finitely
--- many others, and the laws of typing.
+-- An accepted program, and what is known of it: no reports, its effects, types that are made of
+-- finitely many others, and the laws of typing.
 pub record Accepted (table : Table) (typed : TypedProgram) (effects : Effects) : Type 0 where
   pub no_reports : AreReports (flow_program table typed) effects []
   pub effects_are : AreEffects (flow_program table typed) effects
@@ -61,8 +61,8 @@ pub record IsFirstClass (program : FlowProgram) : Type 0 where
 
 -- ---- frames
 
--- A frame with the points that it has executed, the latest first. Frames are counted from that of the
--- package objects. `returns` has, for each formal that is copied back, the way to its place.
+-- A frame with the points that it has executed, the latest first. Frames are counted from that of
+-- the package objects. `returns` has, for each formal that is copied back, the way to its place.
 pub record Stage : Type 0 where
   pub frame : Frame
   pub depth : ℕ
@@ -85,8 +85,8 @@ AreStages [] [] = Unit {0}
 AreStages (g ∷ older) (f ∷ outer) = (g.frame ≡ f) × (g.depth ≡ length outer) × AreStages older outer
 AreStages _ _ = ⊥
 
--- The frames of a program that calls nothing: that of the package objects, at first alone, and then with
--- that of the main procedure. Nothing waits between two steps, and nothing is copied back.
+-- The frames of a program that calls nothing: that of the package objects, at first alone, and then
+-- with that of the main procedure. Nothing waits between two steps, and nothing is copied back.
 abbrev pub IsPlain : Stage → Type 0
 IsPlain g = (g.frame.waits ≡ []) × (g.frame.returns ≡ []) × (g.returns ≡ [])
 
@@ -97,7 +97,8 @@ AreFirst program _ = ⊥
 
 -- ---- views, which programs of the first class have none of
 
--- A borrower, an observer or an `in` formal with a value has one way of owners to the cell that it holds.
+-- A borrower, an observer or an `in` formal with a value has one way of owners to the cell that it
+-- holds.
 abbrev pub Views : Type 0
 Views = Root → Option Way
 
@@ -131,7 +132,8 @@ InScope s m depth scope =
     (f x : ℕ) (p : List Step) (n : ℕ) → word_in s.table (content s m [] (OfRoot (ways.OfVariable f x))) p ≡ Held n
     → (f < depth) ⊎ ((f ≡ depth) × (is_within x scope ≡ true))
 
--- The subprogram of the layout that a frame runs, and the point there, with its scope, that it is at.
+-- The subprogram of the layout that a frame runs, and the point there, with its scope, that it is
+-- at.
 abbrev pub IsNamedSub : List NamedSub → ℕ → NamedSub → Type 0
 IsNamedSub subs n sub = (front : List NamedSub) × (rest : List NamedSub) × (subs ≡ front ++ sub ∷ rest) × (length front ≡ n)
 
@@ -158,8 +160,8 @@ pub record IsSound (table : Table) (typed : TypedProgram) (effects : Effects) (s
   pub at_point : IsAtPoint named.points top.frame.next point
   pub scope : InScope (flow_typing (flow_program table typed)) state.memory top.depth point.scope
 
--- What excused leak checks need beside: what a fact without `Elem` calls moved is gone. (That steps keep
--- this isn't shown yet, so it is no part of what is sound.)
+-- What excused leak checks need beside: what a fact without `Elem` calls moved is gone. (That steps
+-- keep this isn't shown yet, so it is no part of what is sound.)
 abbrev pub AreExact : (table : Table) (typed : TypedProgram) (effects : Effects) (state : State) → IsSound table typed effects state → Type 0
 AreExact table typed effects state sound =
     Told (view_of (flow_typing (flow_program table typed)) state)
@@ -185,7 +187,7 @@ abbrev pub ending_of : Outcome → Option Ending
 ending_of (Goes s) = None
 ending_of (Ends e s) = Some e
 
--- Of an accepted program: each moment of its run is well owned, and none is a trap.
+-- Each moment of the run of an accepted program is well owned, and none is a trap.
 pub record RunIsSound (table : Table) (typed : TypedProgram) (input : List ℕ) : Type 0 where
   pub owned : (n : ℕ) → WellOwned (flow_typing (flow_program table typed)) (moment (flow_program table typed) input n)
   pub no_trap : (n : ℕ) (e : Ending) → ending_of (run_of (flow_program table typed) (main_of (flow_program table typed).main) input n) ≡ Some e

@@ -1,18 +1,18 @@
-//! What each moment of the run of an accepted program keeps, and which steps keep it: definitions and
-//! laws, for readers.
+//! What each moment of the run of an accepted program keeps, and which steps keep it: definitions
+//! and laws, for readers.
 //!
-//! A memory is seen by location, and what is in hand with it (`specs/Seen.antt`); what a step changes
-//! is told by contents (`specs/Changes.antt`). `specs/Typed.antt` says when words have the types of
-//! what they stand in, `specs/Needed.antt` what is asked of the expressions of a program, and
-//! `specs/Sound.antt` what is to hold at each moment.
+//! A memory is seen by location, and what is in hand with it (`specs/Seen.antt`); what a step
+//! changes is told by contents (`specs/Changes.antt`). `specs/Typed.antt` says when words have the
+//! types of what they stand in, `specs/Needed.antt` what is asked of the expressions of a program,
+//! and `specs/Sound.antt` what is to hold at each moment.
 //!
 //! The functions of the machine's memory do what the steps of `owned_ways` do (`proofs/Steps.antt`,
 //! `Ends`, `Fresh`, `Frees`), and keep states sound (`Moments`) and words typed (`Lasting`). Names
 //! lead where their ways reach, without a trap (`Walks`, `Stays`), and so do expressions without
 //! calls (`Evaluated`). Then instructions lead from sound states to sound states (`Instructions`,
 //! `Loops`, `Operands`, `Endings`), and go on at successors with what owns in scope (`Following`).
-//! Sound states are well owned (`Owners`). Of a program that is ready (`specs/Ready.antt`), the state
-//! at the start is sound (`Beginning`), each step leads on (`Stepping`), and so does the run (`Main`).
-//! That accepted programs are ready isn't shown yet: docs/SOUNDNESS.md has what is open.
+//! Sound states are well owned (`Owners`). Of a program that is ready (`specs/Ready.antt`), the
+//! state at the start is sound (`Beginning`), each step leads on (`Stepping`), and so does the run
+//! (`Main`). That accepted programs are ready isn't shown yet: docs/SOUNDNESS.md has what is open.
 //! Nothing here runs.
 #![tactic(auto)]

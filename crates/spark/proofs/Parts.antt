@@ -4,7 +4,7 @@ use Rattle.std.specs.Prelude.{Option, None, Some}
 use Rattle.std.specs.Io.KnownBytes.{Appends}
 use Rattle.std.proofs.lemmas.List.{take_rest, take-append-drop, append_assoc}
 
--- Of a piece these bytes are still to come, and those before them were appended.
+-- These bytes of a piece are still to come, and those before them were appended.
 abbrev pub Comes : Option (List ℕ) → Option (List ℕ) → List ℕ → List ℕ → Type 0
 Comes old new piece rest = (front : List ℕ) × (piece ≡ front ++ rest) × Appends old new front
 

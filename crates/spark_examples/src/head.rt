@@ -29,7 +29,7 @@ pub(crate) enum HeadFault {
     BadEntry,
     /// No command or no status, as in an empty file.
     Missing,
-    /// Want of memory.
+    /// Out of memory.
     Memory,
 }
 
@@ -45,14 +45,14 @@ impl<T: Drop> From<AllocFailed<T>> for HeadFault {
     }
 }
 
-/// What stands behind a front, where the bytes begin with it.
+/// What stands after a front, where the bytes begin with it.
 pub(crate) fn behind<'t>(bytes: &'t [u8], front: &[u8]) -> Option<&'t [u8]>
     ensures { MatchOption result ((rest : List ℕ) → bytes.now ≢ front.now ++ rest) (λ rest. bytes.now ≡ front.now ++ rest.now) }
 {
     bytes.strip_prefix(front)
 }
 
-/// What stands behind a key and a blank. It is empty where the key stands alone.
+/// What stands after a key and a blank. It is empty where the key stands alone.
 fn value_of<'t>(entry: &'t [u8], key: &[u8]) -> Option<&'t [u8]>
     ensures { IfSome result (λ value. HasValue entry.now key.now value.now) }
 {

@@ -15,14 +15,14 @@
 //! > g.adb:1:9: N2 declared twice
 //! ```
 //!
-//! A row is one file, `f.adb`, or any files, each behind a line `== NAME`. Such a file may be empty
+//! A row is one file, `f.adb`, or any files, each after a line `== NAME`. Such a file may be empty
 //! or begin with any line. All lines of a file are its bytes, with a line feed between two of them
-//! and none behind the last. The command is `check` with the files in order; a first line
+//! and none after the last. The command is `check` with the files in order; a first line
 //! `$ spark WORD WORD ..` gives another one.
 //!
 //! The last line of a row says what is expected: `> accepted`; `> typed`, where no rule of names
-//! and of types is broken, so that the sources are accepted or get reports; or `> ` and the one line
-//! of a refusal.
+//! and of types is broken, so that the sources are accepted or get reports; or `> ` and the one
+//! line of a refusal.
 use crate::head::{Head, HeadFault, add_line, behind, words_of};
 use crate::response::Response;
 use std::alloc::{AllocError, Global};

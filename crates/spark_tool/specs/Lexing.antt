@@ -10,13 +10,13 @@ use Rattle.ada_lexer.specs.Tokens.{Cut, CutResult, tokens, cut_of}
 abbrev pub AllTokens : Type 0
 AllTokens = Result (List (List Cut)) LexRefusal
 
--- These tokens, and then those of the files behind.
+-- These tokens, and then those of the files that follow.
 abbrev pub with_tokens : List Cut → AllTokens → AllTokens
 with_tokens cuts (Ok others) = Ok (cuts ∷ others)
 with_tokens cuts (Err fault) = Err fault
 
--- A fault ends the cut. Else the files behind have the room that is left; the end of a file takes
--- none.
+-- A fault ends the cut. Else the files that follow have the room that is left; the end of a file
+-- takes none.
 abbrev pub then_files : CutResult → ℕ → (ℕ → AllTokens) → AllTokens
 then_files (Ok cuts) room behind = with_tokens cuts (behind (room - (length cuts - 1)))
 then_files (Err fault) room behind = Err fault

@@ -13,7 +13,7 @@ IsRegular status = Has (0 ∷ 1 ∷ 2 ∷ 6 ∷ []) status
 abbrev pub IsStatus : ℕ → Type 0
 IsStatus status = Has (0 ∷ 1 ∷ 2 ∷ 6 ∷ 7 ∷ 8 ∷ 9 ∷ []) status
 
--- Some bytes were added behind what a stream held.
+-- Some bytes were added after what a stream held.
 abbrev pub Grows : Option (List ℕ) → Option (List ℕ) → Type 0
 Grows old new = (piece : List ℕ) × Appends old new piece
 

@@ -55,8 +55,7 @@ fn judged(alloc: Global, names: &[String], verdict: &Verdict) -> Result<Answer, 
     }
 }
 
-/// The same. Nothing of a program's size is needed behind its verdict, so what that holds isn't given
-/// back piece by piece.
+/// As `judged`, but the verdict is leaked: the process ends next, and freeing it costs time.
 fn told(alloc: Global, names: &[String], verdict: Verdict) -> Result<Answer, AllocError>
     ensures { IfOk result (λ answer. Tells (map string_bytes names.now) verdict (answer_of answer)) }
 {

@@ -1,4 +1,5 @@
--- The first choice that is doubled: those before it are apart, and its fault stands before those of later ones.
+-- The first choice that is doubled: those before it are apart, and its fault stands before those of
+-- later ones.
 use Rattle.std.proofs.Common.{◌≡◌, refl, sym, ap, ◌∙◌, ℕ, ◌+◌, ◌<◌, Bool, true, false, not, ◌&&◌, List, [], ◌∷◌, ◌++◌, length, take, drop, get_or, arith, Option, Some, None}
 use Rattle.std.proofs.Math.Seq.{append_snoc}
 use Rattle.std.proofs.lemmas.List.{append_assoc, append-nil, drop_more, take-append-drop}
@@ -38,7 +39,7 @@ first_kept : (first : Option Fault) (before xs : List Cover) → is_first first 
 first_kept (Some f) before xs is = kept f before xs is
 first_kept None before xs is = cc
 
--- ---- behind the choices that are apart
+-- ---- after the choices that are apart
 
 doubled_append : (before xs ys : List Cover) → doubled before (xs ++ ys) ≡ doubled before xs ++ doubled (before ++ xs) ys
 doubled_append before [] ys = ap (λ all. doubled all ys) (sym (append-nil before))

@@ -21,7 +21,7 @@ or_second false b e = e
 ends : (k : Cover) (w : ℤ) → covers w k ≡ true → covers (w +ℤ pos 1) k ≡ false → k.high +ℤ pos 1 ≡ w +ℤ pos 1
 ends k w holds none = grind (arith, ints)
 
--- A gap at a number behind one that is covered is a gap behind a choice.
+-- A gap at a number after one that is covered is a gap after a choice.
 behind_by : (low high w : ℤ) (all : List Cover) (k : Cover) (ks : List Cover) (b : Bool) → covers w k ≡ b → gap_at low high all (w +ℤ pos 1) ≡ true
     → (b || any_covers ks w) ≡ true → covers (w +ℤ pos 1) k ≡ false → any_covers ks (w +ℤ pos 1) ≡ false
     → (any_covers ks w ≡ true → gap_behind low high all ks ≡ true) → gap_behind low high all (k ∷ ks) ≡ true

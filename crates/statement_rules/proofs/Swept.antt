@@ -93,7 +93,7 @@ stays_at v k m before from = grind (arith, ints)
 lower : (v a b : ℤ) → int_le a v ≡ false → int_le a b ≡ true → int_le b v ≡ false
 lower v a b before from = grind (arith, ints)
 
--- Behind a choice that begins later, nothing is passed.
+-- After a choice that begins later, nothing is passed.
 stays : (v : ℤ) (k : Cover) (rest : List Cover) → InOrder (k ∷ rest) → int_le k.low v ≡ false → reach v rest ≡ v
 stays v k [] sorted before = refl
 stays v k (m ∷ rest) sorted before =

@@ -5,7 +5,7 @@ use Rattle.type_definitions.specs.declared.judgement.Cover.{Cover}
 use Rattle.type_definitions.specs.Faults.{is_before}
 use Rattle.type_definitions.specs.Statements.{covers}
 
--- A choice that covers a value leads to the value right behind it.
+-- A choice that covers a value leads to the value right after it.
 abbrev pub past : ℤ → Cover → ℤ
 past v k = if covers v k then k.high +ℤ pos 1 else v
 

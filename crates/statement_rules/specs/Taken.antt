@@ -1,4 +1,4 @@
--- What is known of choices behind some more of them.
+-- What is known of choices after some more of them.
 use Rattle.std.specs.Prelude.{◌≡◌, ℕ, Bool, not, ◌&&◌, ◌||◌, List, [], ◌++◌, flat_map}
 use Rattle.spark_base.specs.declared.position.Pos.{Pos}
 use Rattle.resolved_tree.specs.Trees.{Tree, position, Code}

@@ -21,7 +21,7 @@ use type_settled::demand;
 /// The formal of an instance of Unchecked_Deallocation (Ada 2012, 13.11.2).
 const NAME_X: [u8; 1] = *b"X";
 
-/// The actuals behind the name of a call: none where something else stands there too.
+/// The actuals after the name of a call: none where something else stands there too.
 fn actuals_of(reader: &Reader<'_>, rest: usize) -> Option<usize>
     requires { rest < length reader.now.rows.now.0 }
     ensures actuals { option_map (tree_at reader.now.rows.now) result ≡ actuals_of (tree_at reader.now.rows.now rest) }

@@ -72,7 +72,7 @@ fn by_low(alloc: Global, covers: &[Cover]) -> Result<Vec<Cover>, AllocError>
     Ok(sorted)
 }
 
-/// The value right behind a choice.
+/// The value right after a choice.
 fn behind(cover: Cover) -> i64
     ensures { result ≡ cover.high +ℤ pos 1 }
 {
@@ -86,7 +86,7 @@ fn covers(value: i64, cover: Cover) -> bool
     i64::from(cover.low) <= value && value <= i64::from(cover.high)
 }
 
-/// The first value that isn't covered, behind one more choice.
+/// The first value that isn't covered, after one more choice.
 fn past(value: i64, cover: Cover) -> i64
     ensures { result ≡ past value cover }
 {
@@ -155,7 +155,7 @@ fn are_apart(alloc: Global, covers: &[Cover]) -> Result<bool, AllocError>
     Ok(!overlap(i64::from(i32::MIN), sorted.as_slice()))
 }
 
-/// How many choices at the front have no value in common. The first that is doubled stands behind
+/// How many choices at the front have no value in common. The first that is doubled stands after
 /// them, and is looked for by halves.
 fn count_apart(alloc: Global, covers: &[Cover]) -> Result<usize, AllocError>
     ensures within { IfOk result (λ count. count ≤ length covers.now) }
@@ -208,7 +208,7 @@ fn is_first(found: Option<Fault>, covers: &[Cover]) -> bool
 }
 
 /// With a fault at each choice that has a value of one before it, where those at the front have
-/// none. In a text the first of them is the first fault, since the others stand behind it.
+/// none. In a text the first of them is the first fault, since the others follow it.
 fn doubled_from(found: Option<Fault>, count: usize, covers: &[Cover]) -> Option<Fault>
     requires within { count < length covers.now }
     requires apart { doubled [] (take count covers.now) ≡ [] }

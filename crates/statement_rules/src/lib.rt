@@ -3,8 +3,8 @@
 //!
 //! A statement, or a part of one, is named by its number in the rows, and a `Checker` says where it
 //! stands. Each function takes the first fault that is found so far and gives the first one with
-//! those of its own, which the definition of the same name in `type_definitions` lists. Only the choices
-//! of a `case` take memory: the values that they cover are collected and sorted.
+//! those of its own, which the definition of the same name in `type_definitions` lists. Only the
+//! choices of a `case` take memory: the values that they cover are collected and sorted.
 //! Time is linear in the statement, but for what expressions cost and for a `case`: n choices take
 //! n log n steps, and n log² n where a value is doubled.
 #![tactic(auto)]

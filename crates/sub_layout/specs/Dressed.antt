@@ -1,5 +1,5 @@
--- Points with what their instructions do to places put in, before it is known what the end of a call
--- looks at (docs/FLOW.md, "Points").
+-- Points with what their instructions do to places put in, before it is known what the end of a
+-- call looks at (docs/FLOW.md, "Points").
 use Rattle.std.specs.Prelude.{ℕ, Bool, true, List, [], map, Option}
 use Rattle.std.specs.List.{list_any}
 use Rattle.typed_tree.specs.Nodes.{TypedNodes}
@@ -12,8 +12,8 @@ use Rattle.bare_points.specs.Bare.{bares, dress}
 use Rattle.flow_acts.specs.Frames.{frame}
 use Rattle.flow_acts.specs.declared.writer.ActWriter.{ActWriter}
 
--- What the points of a subprogram are made by that gives a value of this type, where it is a function.
--- Whether temporaries have numbers makes no difference to what is put in.
+-- What the points of a subprogram are made by that gives a value of this type, where it is a
+-- function. Whether temporaries have numbers makes no difference to what is put in.
 abbrev pub making : ActWriter → Option ℕ → Maker
 making w given = record { frame = frame w given []; counted = true }
 

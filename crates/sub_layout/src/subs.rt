@@ -92,8 +92,8 @@ fn gathered(
 
 /// A subprogram with its points, and the types of its temporaries in the order of their numbers.
 /// `words` are those of `declared_words`, and `bare` has its points without acts and leak checks.
-/// `TooDeep` comes only where a name has more than 16 selectors, and `TooManyFacts` only where there
-/// are more than 512 facts.
+/// `TooDeep` comes only where a name has more than 16 selectors, and `TooManyFacts` only where
+/// there are more than 512 facts.
 pub fn lay_sub(
     writer: &ActWriter<'_>,
     words: &[u64],

@@ -1,4 +1,4 @@
--- The objects that facts are rooted in, as a set of them and as a way along all objects.
+-- The objects that facts are rooted in, as a set of them and as a walk along all objects.
 use Rattle.std.proofs.Common.{◌≡◌, ◌<◌, ◌≤◌, ◌⊎◌, ◌==◌, ◌||◌, ◌&&◌, not, ltb, is_some, eqb-true, eq-eqb, ℕ, zero, suc, ◌+◌, Bool, true, false, refl, sym, ap, ◌∙◌, subst, arith, inl, inr, List, [], ◌∷◌, ◌++◌, length, get_or, take, if◌then◌else◌}
 use Rattle.std.specs.List.{list_any}
 use Rattle.std.specs.Ordering.{nat_cmp}
@@ -83,7 +83,7 @@ roots_have s keys [] x is = cc
 roots_have s keys (f ∷ facts) x is =
     has_step s ((place f).root == x) f facts x keys refl is.0 is.1 (λ any. roots_have s (with_root s keys f) facts x (is.0, any))
 
--- ---- the way along all objects
+-- ---- the walk along all objects
 
 abbrev way_step : Bool → ℕ → List ℕ → List ℕ
 way_step b n rest = if b then n ∷ rest else rest

@@ -1,4 +1,4 @@
--- Whether a name is another one and some steps behind it.
+-- Whether a name is another one and some steps after it.
 use Rattle.std.proofs.Common.{◌≡◌, ◌≢◌, sym, ap, ◌∙◌, subst, Bool, false, List, [], ◌∷◌, ◌++◌}
 use Rattle.std.specs.Bool.{Decides}
 use Rattle.std.specs.Cmp.Lexicographic.{pointwise, pointwise_decides}
@@ -18,7 +18,7 @@ behind_same : (front back rest : List Sel) → front ++ rest ≡ front ++ back �
 behind_same [] back rest e = e
 behind_same (s ∷ front) back rest e = behind_same front back rest cc
 
--- what is behind the front decides
+-- what follows the front decides
 pub joined_some : (front back whole rest : List Sel) (r : Bool) → whole ≡ front ++ rest → r ≡ pointwise selectors.eq-value.it rest back
     → r ≡ pointwise is_equal whole (front ++ back)
 joined_some front back whole rest r is e =

@@ -60,7 +60,7 @@ fn number_of(found: &[Fact], fact: &Fact) -> Option<usize>
     None
 }
 
-/// Adds a fact, unless it is there, and tells the number behind that of the fact.
+/// Adds a fact, unless it is there, and tells the number after that of the fact.
 fn add_fact(found: &mut Listed<Fact>, fact: Fact) -> Result<usize, AllocError>
     ensures { OnOk result (found.new ≡ with_fact found.old fact) }
 {
@@ -108,7 +108,7 @@ fn part_of(name: &PlaceName, part: &PlaceTail) -> Result<PlaceName, AllocError>
     Ok(made)
 }
 
-/// Adds that a part of a place was moved, unless it is there, and tells the number behind that of
+/// Adds that a part of a place was moved, unless it is there, and tells the number after that of
 /// the fact. The fact with the number `next` is looked at before the others.
 fn add_part(
     found: &mut Listed<Fact>,
@@ -126,7 +126,7 @@ fn add_part(
 }
 
 /// Adds the facts of a move. Those of a name mostly stand in the order of its parts, so each is
-/// looked for behind the last.
+/// looked for after the last.
 #[tactic(auto, using(crate::proofs::FactLists::with_facts_append))]
 fn add_moves(
     found: &mut Listed<Fact>,

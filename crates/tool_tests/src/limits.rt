@@ -50,7 +50,7 @@ fn bytes_and_tokens(rt: HostRuntime) -> Result<(), Fail> {
 /// Each row: the bytes of `f.adb`, those of `g.adb`, the words, the number of the call of the files
 /// that fails, what is written to the second output, and the status. `z.adb` isn't there.
 ///
-/// The first call opens `f.adb`, 1,024 calls read 4,194,304 bytes of it, and the call behind them,
+/// The first call opens `f.adb`, 1,024 calls read 4,194,304 bytes of it, and the next call,
 /// number 1,025, reads one more byte or finds the end. Then call 1,026 opens `g.adb`, and call
 /// 1,027 reads its first byte.
 const READS: [(usize, usize, &str, u64, &str, u8); 6] = [
@@ -90,7 +90,7 @@ const READS: [(usize, usize, &str, u64, &str, u8); 6] = [
     ),
 ];
 
-/// Nothing is read behind the first byte past the limit: not of its file, and not of a file behind
+/// Nothing is read after the first byte past the limit: neither of its file nor of a file after
 /// that.
 #[test]
 fn nothing_is_read_behind_the_byte_past_the_limit(rt: HostRuntime) -> Result<(), Fail> {
@@ -105,8 +105,8 @@ fn nothing_is_read_behind_the_byte_past_the_limit(rt: HostRuntime) -> Result<(),
     Ok(())
 }
 
-/// Each row: a front, a piece, how often it stands, a middle, another piece as often, a back, what is
-/// written to each output, and the status.
+/// Each row: a front, a piece, how often it stands, a middle, another piece as often, a back, what
+/// is written to each output, and the status.
 const NESTED: [(&str, &str, usize, &str, &str, &str, &str, u8); 4] = [
     (
         "procedure Main is begin ",

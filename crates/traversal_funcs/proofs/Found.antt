@@ -44,7 +44,7 @@ work_starts objects none empty found work is sp a h = elim (sp.known a h) [
   | inr h ↦ h
 ]
 
--- ---- a turn
+-- ---- one iteration
 
 taken_cases : (before work : List ℕ) (p a : ℕ) → before ≡ work ++ p ∷ [] → Has before a → Has work a ⊎ (p ≡ a)
 taken_cases before work p a e h = elim (Has-append_cases work (p ∷ []) a (subst (λ l. Has l a) e h)) [

@@ -1,4 +1,4 @@
--- The way outwards from a scope.
+-- The path outwards from a scope.
 use Rattle.std.proofs.Common.{◌≡◌, refl, sym, ap, ◌∙◌, true≢false, eqb-true, eq-eqb, ℕ, zero, suc, ◌==◌, Bool, true, false, ◌||◌, List}
 use Rattle.flow_paths.specs.Views.{encloses_within}
 use Rattle.traversal_funcs.specs.Scopes.{around}
@@ -28,7 +28,7 @@ unfolding encloses_within
 here zero scopes a b same = same
 here (suc steps) scopes a b same = ap (λ t. t || encloses_within steps scopes a (around scopes b)) same
 
--- one step less is left behind it
+-- one step less is left after it
 pub goes_outwards : (steps next : ℕ) (scopes : List ℕ) (a b : ℕ) → steps ≡ suc next → (a == b) ≡ false
     → encloses_within next scopes a (around scopes b) ≡ encloses_within steps scopes a b
 goes_outwards steps next scopes a b is other = sym (ap (λ n. encloses_within n scopes a b) is ∙ outwards next scopes a b other)
@@ -48,7 +48,7 @@ turned a b = by (a == b) refl
     by true e = eq-eqb b a (sym (eqb-true a b e))
     by false e = differ b a (λ same. true≢false (sym (eq-eqb a b same) ∙ e))
 
--- the way ends where the scope is found, or no step is left
+-- the path ends where the scope is found, or no step is left
 pub ends_found : (steps : ℕ) (scopes : List ℕ) (a b : ℕ) → b ≡ a → (b == a) ≡ encloses_within steps scopes a b
 ends_found steps scopes a b same = eq-eqb b a same ∙ sym (here steps scopes a b (eq-eqb a b (sym same)))
 

@@ -1,4 +1,4 @@
--- Scopes on the way outwards.
+-- Scopes on the path outwards.
 use Rattle.std.specs.Prelude.{ℕ, List, get_or}
 
 abbrev pub around : List ℕ → ℕ → ℕ

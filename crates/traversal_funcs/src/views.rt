@@ -20,7 +20,7 @@ pub(crate) struct Traversed<'p> {
 pub(crate) struct Views<'p> {
     /// The parts of the program.
     pub known: ProgramTyping<'p>,
-    /// Of each scope the one around it.
+    /// For each scope, its enclosing scope.
     pub scopes: &'p [u32],
     /// The trees that its points name.
     pub rows: &'p TypedRows,

@@ -1,5 +1,5 @@
--- The sentences on declarations, and on the code of a program as a whole (docs/LANGUAGE.md, "Types";
--- Ada 2012, 3 and 6).
+-- The sentences on declarations, and on the code of a program as a whole (docs/LANGUAGE.md,
+-- "Types"; Ada 2012, 3 and 6).
 use Rattle.std.specs.Prelude.{ℕ, zero, suc, ◌+◌, Bool, true, false, not, ◌&&◌, ◌||◌, List, [], ◌∷◌, ◌++◌, length, nat_eq, slice_get, Option, Some, None, is_none, is_some, int_lt, int_le, if◌then◌else◌}
 use Rattle.spark_base.specs.declared.position.Pos.{Pos}
 use Rattle.place_names.specs.declared.act.Mode.{Mode}

@@ -1,6 +1,7 @@
--- What the declarations of a program are, gathered in the order of the text: each needs those before
--- it, and the full types of those that are completed later (docs/LANGUAGE.md, "Types"; Ada 2012, 3
--- and 6.1). A full type takes the place of the incomplete or private type that it completes.
+-- What the declarations of a program are, gathered in the order of the text: each needs those
+-- before it, and the full types of those that are completed later (docs/LANGUAGE.md, "Types"; Ada
+-- 2012, 3 and 6.1). A full type takes the place of the incomplete or private type that it
+-- completes.
 use Rattle.std.specs.Prelude.{ℕ, ◌+◌, ◌-◌, Bool, true, false, not, ◌&&◌, ◌||◌, List, [], ◌∷◌, ◌++◌, length, set, nat_eq, Option, Some, None, is_none, ℤ, pos, negsuc, if◌then◌else◌}
 use Rattle.spark_base.specs.declared.position.Pos.{Pos}
 use Rattle.place_names.specs.declared.act.Mode.{Mode}

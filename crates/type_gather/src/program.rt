@@ -51,8 +51,8 @@ fn afresh(alloc: Global, known: Known, count: usize) -> Result<Known, AllocError
 
 /// What all declarations of a program are: `rows` has its code, `units` are the numbers of its
 /// units in the order of their text, and `count` is how many declarations it has, the predefined
-/// ones included. Where it is `asked` which fault is told, a mark that denotes no type stands for no
-/// type that is known. The only error is out of memory.
+/// ones included. Where it is `asked` which fault is told, a mark that denotes no type stands for
+/// no type that is known. The only error is out of memory.
 pub fn gather(
     alloc: Global,
     rows: &Rows,

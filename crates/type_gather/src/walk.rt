@@ -194,7 +194,7 @@ impl Gathering {
         self.gather(rows, stmts)
     }
 
-    /// One part of code, and another behind it.
+    /// One part of code, and another after it.
     #[cycle(walk)]
     fn both(&mut self, rows: &Rows, first: usize, second: usize) -> Result<(), AllocError>
         requires first { first < length rows.now.1 }

@@ -8,7 +8,8 @@ use Rattle.typed_tree.specs.Programs.{typed_program}
 use Rattle.typed_programs.specs.declared.parts.ProgramParts.{ProgramParts}
 use Rattle.typed_programs.specs.Parts.{HoldsProgram}
 
--- The files break no sentence on types, these are their types, and the parts are their typed program.
+-- The files break no sentence on types, these are their types, and the parts are their typed
+-- program.
 pub record IsTyped (files : List (List SourceUnit)) (table : Table) (parts : ProgramParts) : Type 0 where
   pub no_fault : type_fault (program_of files) ≡ None
   pub types : table ≡ (known_of (program_of files)).table

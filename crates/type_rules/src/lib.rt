@@ -4,7 +4,7 @@
 //! `type_check` takes the files and makes a `Typed`, which no longer has the trees of the grammar.
 //! Its parts are those of the definitions: `specs/Typed.antt` states it, over `type_definitions`,
 //! `typed_tree` and `typing_steps`; `docs/LANGUAGE.md`, "Types" and "Typed programs", says it in
-//! words. Refused is what breaks one of Y1 to Y3 or K1 to K8. Each step visits each tree a bounded
+//! words. What breaks one of Y1 to Y3 or K1 to K8 is refused. Each step visits each tree a bounded
 //! number of times; `docs/COSTS.md` names what isn't linear.
 #![tactic(auto)]
 

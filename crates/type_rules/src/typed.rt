@@ -12,8 +12,8 @@ use typed_statements::Subprogram;
 use typed_tree::{Object, TypedRows};
 
 /// A program that breaks no sentence on types: its types, objects, scopes and subprograms, each
-/// with the number that is its place. It is dropped by a function of its own: who owns one needn't
-/// prove again how each table within it is dropped.
+/// with the number that is its place. It has its own `Drop`, so that owners needn't prove its
+/// fields' drops again.
 pub struct Typed {
     /// The names of the files.
     pub names: Vec<String>,
@@ -23,7 +23,7 @@ pub struct Typed {
     pub rows: TypedRows,
     /// Object 0 is the state of Ada.Text_IO.
     pub objects: Listed<Object>,
-    /// Of each scope the one around it: of scope 0, which is around all others, its own number.
+    /// For each scope, its enclosing scope. Scope 0 encloses itself.
     pub scopes: Listed<u32>,
     /// Subprogram 0 declares the package objects.
     pub subs: Listed<Subprogram>,

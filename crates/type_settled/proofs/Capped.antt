@@ -1,4 +1,4 @@
--- A count that stops behind its limit tells whether the limit is kept.
+-- A count that stops past its limit tells whether the limit is kept.
 use Rattle.std.proofs.Common.{◌≡◌, ℕ, ◌+◌, Bool, not, ◌&&◌, List, [], ◌∷◌, ◌++◌, refl, sym, ap, ◌∙◌, arith, length, min, max, get_or, nat_lt, Option}
 use Rattle.std.specs.Prelude.{nat_le}
 use Rattle.place_names.specs.declared.selector.Sel.{Sel}

@@ -1,5 +1,5 @@
--- What is measured of a type: its words, its access parts, and whether a type in it is unsound, each
--- as far as a limit needs it (docs/LANGUAGE.md, "Types").
+-- What is measured of a type: its words, its access parts, and whether a type in it is unsound,
+-- each as far as a limit needs it (docs/LANGUAGE.md, "Types").
 use Rattle.std.specs.Prelude.{◌≡◌, ℕ, zero, suc, ◌+◌, ◌*◌, Bool, true, false, ◌||◌, List, [], ◌∷◌, length, min, max, nat_eq, get_or, IsTrue, Option, Some, None, if◌then◌else◌}
 use Rattle.place_names.specs.declared.selector.Sel.{Sel}
 use Rattle.type_definitions.specs.declared.table.Component.{Component}

@@ -1,4 +1,4 @@
--- Types that are measured one after the other, each behind its parts.
+-- Types that are measured one after the other, each after its parts.
 use Rattle.std.specs.Prelude.{◌≡◌, ◌≤◌, ℕ, Bool, true, ◌&&◌, List, [], ◌∷◌, length, get_or, IsTrue, Option, Some, None}
 use Rattle.type_definitions.specs.declared.table.Component.{Component}
 use Rattle.type_definitions.specs.declared.table.Shape.{Shape}

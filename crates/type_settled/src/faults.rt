@@ -36,8 +36,7 @@ pub fn demand(found: Option<Fault>, code: u32, pos: Pos, holds: bool) -> Option<
     }
 }
 
-/// Whether the fault that was found goes before the one of this sentence at this position, or is
-/// the same: then it makes no difference whether the sentence holds.
+/// Whether an earlier or equal fault is known, so that this rule needn't be tested.
 pub fn is_ahead(found: Option<Fault>, code: u32, pos: Pos) -> bool
     ensures { IsTrue result → (holds : Bool) → noted found (demand code pos holds) ≡ found }
 {

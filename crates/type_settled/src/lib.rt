@@ -5,21 +5,21 @@
 //! record that has many, and of the formals of each subprogram that has many, where there is memory
 //! for it. `sizes` looks at the types that declarations make: one may have at most 65,536 words, at
 //! most 64 access parts of at most 16 selectors, and an array type has an element. The definitions
-//! are those of `type_definitions`; `specs/Measures.antt` says what is measured of each type, where a
-//! count stops at one more than its limit; `docs/LANGUAGE.md`, "Types", says it in words (Ada 2012,
-//! 3.2 and 3.5 to 3.10).
+//! are those of `type_definitions`; `specs/Measures.antt` says what is measured of each type, where
+//! a count stops at one more than its limit; `docs/LANGUAGE.md`, "Types", says it in words (Ada
+//! 2012, 3.2 and 3.5 to 3.10).
 //!
-//! All is done in time linear in the table. Each type is measured behind what it is made of. Types
+//! All is done in time linear in the table. Each type is measured after what it is made of. Types
 //! are ranked, so that none is made of a type with a greater rank: one that is made of lower ones
 //! alone doesn't have itself in it. Types with the same rank that are made of one another are a
 //! ring: those that have its first type in them and are in that type have themselves in them, and
 //! are found upwards and downwards from the first types of all rings at once. Which types have a
 //! marked one in them is found by a worklist for all at once; marked are the named access types, or
 //! the subtypes of a type of which it isn't known yet whether it has itself in it, or, where one
-//! has, the types whose declarations break a rule. A pass behind each search for marked types looks
-//! that none was left out, and one behind the ranking that the ranks are in order. Only where that
-//! failed, or where a type has itself in it and none whose declaration breaks a rule, types would
-//! be measured in rounds.
+//! has, the types whose declarations break a rule. A pass after each search for marked types looks
+//! that none was left out, and one after the ranking that the ranks are in order. If that failed,
+//! or if a type had itself in it and no type whose declaration breaks a rule, types would be
+//! measured in rounds; no input is known that needs it.
 #![tactic(auto)]
 
 mod chains;

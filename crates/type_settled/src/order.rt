@@ -1,4 +1,4 @@
-//! Types measured one after the other, each behind its parts.
+//! Types measured one after the other, each after its parts.
 ghost use Rattle.std.specs.Prelude.{◌≡◌, ◌<◌, ℕ, length, IfOk, IsTrue};
 ghost use Rattle.type_settled.specs.Measures.{marked};
 ghost use Rattle.type_settled.specs.Orders.{is_done, all_ready, shape_ready, parent_ready, is_ready, IsOrdered};

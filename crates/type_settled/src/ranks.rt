@@ -9,7 +9,7 @@ use crate::walk::Walk;
 use std::alloc::{AllocError, Global};
 use type_definitions::{Component, Info, Shape};
 
-/// The types, each behind those that are made of it, except where two are made of one another.
+/// The types, each after those that are made of it, except where two are made of one another.
 fn left_upwards(alloc: Global, table: &[Info]) -> Result<Vec<usize>, AllocError> {
     let mut up = Walk::new(alloc, links(alloc, table, Way::Up)?, table.len())?;
     let mut left = Vec::new(alloc);
@@ -71,8 +71,8 @@ fn are_rising(table: &[Info], ranks: &[u32]) -> bool {
     true
 }
 
-/// The ranks of all types. Those that are made of one another have the same. Mostly each type stands
-/// behind what it is made of.
+/// The ranks of all types. Those that are made of one another have the same. Mostly each type
+/// stands after what it is made of.
 pub fn ranks(alloc: Global, table: &[Info]) -> Result<Vec<u32>, AllocError> {
     let ranks = ranks_in_order(alloc, table)?;
     if are_rising(table, &ranks) {

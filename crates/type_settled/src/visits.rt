@@ -1,4 +1,4 @@
-//! Each type is visited, and behind it what it is made of.
+//! Each type is visited, and after it what it is made of.
 ghost use Rattle.std.specs.Prelude.{◌<◌, length, IfOk, IsSome};
 ghost use Rattle.type_settled.specs.Measures.{marked};
 ghost use Rattle.type_settled.specs.Orders.{IsOrdered};
@@ -125,7 +125,7 @@ impl Visits {
     }
 }
 
-/// Measures each type behind what it is made of, in time linear in the table. Those that have
+/// Measures each type after what it is made of, in time linear in the table. Those that have
 /// themselves in them are left out, and those that have such types in them.
 pub fn measured_in_order(
     alloc: Global,

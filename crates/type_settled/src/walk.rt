@@ -51,7 +51,7 @@ impl Walk {
     }
 
     /// Enters a type and all that are reached from it and weren't entered before. They are added in
-    /// the order in which they are left: each behind those that only it leads to.
+    /// the order in which they are left: each after those that only it leads to.
     pub fn walk(&mut self, t: usize, left: &mut Vec<usize>) -> Result<(), AllocError> {
         self.enter(t)?;
         'steps: for _step in 0..self.chains.steps() {

@@ -1,4 +1,4 @@
-//! Types that are made one after the other, each behind its parts.
+//! Types that are made one after the other, each after its parts.
 ghost use Rattle.std.specs.Prelude.{◌≡◌, ◌<◌, ℕ, length, replicate, IfOk, IsTrue};
 ghost use Rattle.type_table.specs.Sizes.{no_size};
 ghost use Rattle.type_settled.specs.Orders.{is_done};
@@ -123,7 +123,7 @@ impl Sizes {
     }
 }
 
-/// Makes each type behind what it is made of, in time linear in the table and in the parts. Those
+/// Makes each type after what it is made of, in time linear in the table and in the parts. Those
 /// that have themselves in them are left out, and those that have such types in them.
 pub fn made_in_order(alloc: Global, table: &[Info]) -> Result<Sizes, AllocError>
     requires { AreWithin table.now }

@@ -2,8 +2,8 @@
 //! parts, and their definitions.
 //!
 //! A `TypeTable` answers each question about a type, by its number, in constant time. Its answers
-//! are those of the definitions of `type_definitions` (`specs/Sizes.antt`; `docs/LANGUAGE.md`, "Types";
-//! Ada 2012, 3.2 and 3.5 to 3.10).
+//! are those of the definitions of `type_definitions` (`specs/Sizes.antt`; `docs/LANGUAGE.md`,
+//! "Types"; Ada 2012, 3.2 and 3.5 to 3.10).
 #![tactic(auto)]
 
 mod table;

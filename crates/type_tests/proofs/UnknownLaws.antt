@@ -1,5 +1,5 @@
--- Types that aren't known: a mark that denotes none breaks K1, and nothing is broken by what has the
--- type that stands for it.
+-- Types that aren't known: a mark that denotes none breaks K1, and nothing is broken by what has
+-- the type that stands for it.
 use Rattle.std.proofs.Common.{◌≡◌, refl, ap, ◌∙◌, ℕ, Bool, true, false, not, ◌&&◌, ◌||◌, List, [], ◌++◌, nat_eq, ℤ, Option, None, Some, if◌then◌else◌}
 use Rattle.spark_base.specs.declared.position.Pos.{Pos}
 use Rattle.resolved_tree.specs.declared.node.Mark.{Mark}
@@ -102,7 +102,8 @@ AreSteps (More (Attr a) rest) = AreSteps rest
 AreSteps NoMore = Unit {0}
 AreSteps _ = ⊥
 
--- Each step from a place leads to one of no known type, where that of the place, or what it designates, isn't known.
+-- Each step from a place leads to one of no known type, where that of the place, or what it
+-- designates, isn't known.
 pub selector_leads : (c : Context) (t : ℕ) (w : List ℕ) → is_untyped c.known.table (through (seen c t) t) ≡ true → step c (Selected w) t ≡ Goes untyped
 unfolding step
 selector_leads c t w is =
@@ -120,7 +121,8 @@ pub attribute_leads : (c : Context) (t : ℕ) (a : Attribute) → is_untyped c.k
 unfolding step
 attribute_leads c t a is = ap (λ b. if b then Goes untyped else array_attribute a (seen c t)) is
 
--- So a name stays a place of no known type, whatever stands behind that. The row of such a type is that of no access type.
+-- So a name stays a place of no known type, whatever follows it. The row of such a type is that of
+-- no access type.
 module _ (c : Context) (is : is_untyped c.known.table untyped ≡ true) (here : through (seen c untyped) untyped ≡ untyped) where
   there : is_untyped c.known.table (through (seen c untyped) untyped) ≡ true
   there = ap (is_untyped c.known.table) here ∙ is

@@ -10,7 +10,8 @@ use Rattle.resolved_tree.specs.Trees.{Access, Aggregate, All, Anonymous, Applied
 use Rattle.type_tests.proofs.ResolvedTrees.{actual, at, declared, given, mark, program, selected}
 use Rattle.type_tests.proofs.TypeRules.{BreaksSentence, typing}
 
--- A component, an element or what is designated has a mark that denotes no type: that is told first.
+-- A component, an element or what is designated has a mark that denotes no type: that is told
+-- first.
 unknown_type_1 : BreaksSentence 1 (at 1 178) (program 22 (Package (declared (at 1 9) 15 "P") NoMore NoMore ∷ PackageBody
     (declared (at 1 34) 15 "P") (More (Incomplete (declared (at 1 44) 16 "Inner")) (More (TypeDecl (declared (at 1 56)
     17 "Link") (Access (mark (at 1 71) 16)) (at 1 76)) (More (Objects (More (declared (at 1 78) 18 "N") NoMore) false

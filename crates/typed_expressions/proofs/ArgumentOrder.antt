@@ -75,7 +75,7 @@ behind_one : (xs ys : List TypedTree) (x : TypedTree) → (xs ++ x ∷ []) ++ ys
 behind_one [] ys x = refl
 behind_one (a ∷ xs) ys x = ap (λ ts. a ∷ ts) (behind_one xs ys x)
 
--- Those before are still there, and the next one is behind them.
+-- Those before are still there, and the next one follows them.
 values_step : (before now : TypedNodes) (made : List ℕ) (k : ℕ) (v : TypedTree) (behind all : List TypedTree) → Grew before now
     → Each (λ i. i < length before.0) made → map (typed_at before) made ++ v ∷ behind ≡ all → Holds now k v
     → Each (λ i. i < length now.0) (made ++ k ∷ []) × (map (typed_at now) (made ++ k ∷ []) ++ behind ≡ all)
@@ -106,7 +106,7 @@ values_on s r before now made more k n m want w e rest tree all g within is tree
     rw more_is (rw m_is (values_step before now made k (typed_expression s (role_type s.context r n w) e) (typed_values s r (n + 1) rest) all g within
     (ap (λ ts. map (typed_at before) made ++ ts) (sym behind) ∙ is) one))
 
--- ---- arguments behind a name
+-- ---- arguments after a name
 
 pub actuals_Applied : (s : Site) (f : ℕ) (tree a rest args : Tree) → tree ≡ More a rest → a ≡ Applied args
     → arguments_given s.context (role.Actuals f) args (typed_values s (role.Actuals f) 0 args) ≡ typed_actuals s f tree

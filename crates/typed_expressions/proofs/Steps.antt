@@ -1,4 +1,4 @@
--- Steps behind a name, made from the last suffix on.
+-- Steps after a name, made from the last suffix on.
 use Rattle.std.proofs.Common.{◌≡◌, ℕ, suc, ◌+◌, ◌<◌, List, drop, map, length, refl, ap, arith, get_or}
 use Rattle.std.proofs.Math.Seq.{drop-cons}
 use Rattle.resolved_tree.specs.Trees.{Tree, Number, Text, Null, Named, Parens, Unary, Binary, Aggregate, Others, New, Selected, All, Applied, Attr, Argument, NoMore, More}

@@ -1,4 +1,4 @@
--- What stands behind a name, one suffix after the other.
+-- What follows a name, one suffix after the other.
 use Rattle.std.specs.Prelude.{◌≡◌, ℕ, ◌<◌, List, [], ◌∷◌, map}
 use Rattle.std.specs.List.{All as Each}
 use Rattle.resolved_tree.specs.Trees.{Tree, More}

@@ -187,7 +187,7 @@ impl<'p> Writer<'p> {
         to.list(&values)
     }
 
-    /// Adds the actuals of a function, where such stand behind its name.
+    /// Adds the actuals of a function, where such follow its name.
     #[cycle(expression)]
     #[tactic(auto, unfolding(typed_tree::specs::Expressions::typed_actuals))]
     pub fn actuals(&self, f: u32, rest: usize, to: &mut TypedRows) -> Result<usize, AllocError>

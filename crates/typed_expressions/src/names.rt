@@ -1,4 +1,4 @@
-//! What stands behind names, as steps.
+//! What follows names, as steps.
 ghost use Rattle.std.specs.Prelude.{◌≡◌, ◌<◌, length, IfOk};
 ghost use Rattle.resolved_tree.specs.Nodes.{tree_at};
 ghost use Rattle.type_definitions.specs.Types.{fields};
@@ -124,7 +124,7 @@ impl<'p> Writer<'p> {
         Ok(made)
     }
 
-    /// Adds one step, in front of those behind it.
+    /// Adds one step, in front of those that follow it.
     #[cycle(expression)]
     #[tactic(auto, using(typed_tree::proofs::Grown::grew_on, typed_tree::proofs::Grown::kept), unfolding(typed_tree::specs::Expressions::typed_step))]
     fn step(

@@ -9,7 +9,7 @@ use std::alloc::{AllocError, Global};
 /// A double quote.
 const QUOTE: u8 = 34;
 
-/// The bytes behind the first.
+/// The bytes after the first.
 fn behind_first(bytes: &[u8]) -> &[u8]
     ensures { result.now ≡ drop 1 bytes.now }
 {
@@ -19,7 +19,7 @@ fn behind_first(bytes: &[u8]) -> &[u8]
     }
 }
 
-/// What stands behind a quote up to the next one, with one quote for two.
+/// What follows a quote up to the next one, with one quote for two.
 fn unquoted(alloc: Global, bytes: &[u8]) -> Result<Vec<u8>, AllocError>
     ensures { IfOk result (λ made. made.items ≡ characters_behind false bytes.now) }
 {

@@ -1,5 +1,6 @@
--- What typing gives: an expression has the type that its place takes, and its names stay within what they
--- name. What soundness needs (`Gives`) and what the executor needs (sorts) both follow from it.
+-- What typing gives: an expression has the type that its place takes, and its names stay within
+-- what they name. What soundness needs (`Gives`) and what the executor needs (sorts) both follow
+-- from it.
 use Rattle.type_definitions.specs.declared.table.Component.{Component}
 use Rattle.type_definitions.specs.Expressions.{by_name, no_component}
 use Rattle.std.specs.Prelude.{List, ◌≡◌, ◌⊎◌, ◌<◌, ℕ, suc, Bool, true, false, ◌||◌, length, get_or, ℤ, Some, if◌then◌else◌}

@@ -18,7 +18,7 @@ fn begin(around: u32, found: &mut Vec<u32>) -> Result<u32, AllocError>
     Ok(number)
 }
 
-/// Adds the scopes that begin in one part of code and in another behind it.
+/// Adds the scopes that begin in one part of code and in another after it.
 #[cycle(walk)]
 fn both(
     rows: &Rows,
@@ -112,8 +112,8 @@ fn one(rows: &Rows, around: u32, code: usize, found: &mut Vec<u32>) -> Result<()
     }
 }
 
-/// Adds the scopes that begin in some code, of each the one around it. A list is gone along, so that
-/// the depth of calls is that of nesting.
+/// Adds the scopes that begin in some code, of each the one around it. A list is gone along, so
+/// that the depth of calls is that of nesting.
 #[cycle(walk)]
 #[tactic(auto, unfolding(typed_tree::specs::Programs::scopes_in, typed_tree::specs::Statements::scope_count))]
 fn within(rows: &Rows, around: u32, code: usize, found: &mut Vec<u32>) -> Result<(), AllocError>
@@ -129,9 +129,9 @@ fn within(rows: &Rows, around: u32, code: usize, found: &mut Vec<u32>) -> Result
     one(rows, around, i, found)
 }
 
-/// Of each scope of a program the one around it: of scope 0, which is around all others, its own
-/// number. `rows` has the code of the program, and `units` are the numbers of its units in the order
-/// of their text. The only error is out of memory.
+/// For each scope of a program, its enclosing scope. Scope 0 encloses itself. `rows` has the code
+/// of the program, and `units` are the numbers of its units in the order of their text. The only
+/// error is out of memory.
 pub fn scopes(alloc: Global, rows: &Rows, units: &[usize]) -> Result<Vec<u32>, AllocError>
     requires { All (λ u. u < length rows.now.1) units.now }
     ensures { IfOk result (λ made. made.items ≡ 0 ∷ over_units (scopes_in 0) 1 (map (code_at rows.now) units.now)) }

@@ -31,7 +31,7 @@ pub struct Walk<'p> {
     pub packages: &'p [Option<usize>],
 }
 
-/// The number of the scope that begins behind another.
+/// The number of the scope that begins after another.
 fn following(scope: u32) -> Result<u32, AllocError>
     ensures { IfOk result (λ n. n ≡ scope + 1) }
 {
@@ -163,7 +163,7 @@ impl<'p> Walk<'p> {
         Ok(())
     }
 
-    /// One part of code, and another behind it.
+    /// One part of code, and another after it.
     #[cycle(walk)]
     fn both(
         &self,
@@ -364,8 +364,8 @@ impl<'p> Walk<'p> {
     }
 
     /// Adds the objects that code within a scope declares, in the order of their identifiers. Gives
-    /// the number of the next scope that begins. A list is gone along, so that the depth of calls is
-    /// that of nesting.
+    /// the number of the next scope that begins. A list is gone along, so that the depth of calls
+    /// is that of nesting.
     #[cycle(walk)]
     #[tactic(auto, unfolding(typed_tree::specs::Programs::objects_in, typed_tree::specs::Statements::scope_count))]
     pub fn within(

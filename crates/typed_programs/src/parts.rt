@@ -11,7 +11,7 @@ pub struct ProgramParts {
     pub rows: TypedRows,
     /// Object 0 is the state of Ada.Text_IO.
     pub objects: Listed<Object>,
-    /// Of each scope the one around it: of scope 0, which is around all others, its own number.
+    /// For each scope, its enclosing scope. Scope 0 encloses itself.
     pub scopes: Listed<u32>,
     /// Subprogram 0 declares the package objects.
     pub subs: Listed<Subprogram>,

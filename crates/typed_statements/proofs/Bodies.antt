@@ -1,4 +1,4 @@
--- Subprograms behind others.
+-- Subprograms after others.
 use Rattle.std.proofs.Common.{◌≡◌, ℕ, ◌+◌, ◌<◌, List, [], ◌∷◌, ◌++◌, map, length, refl, sym, ap, ◌∙◌, arith, append_assoc}
 use Rattle.std.specs.List.{All as Each}
 use Rattle.std.proofs.lemmas.List.Elements.{All-head, All-tail, All-push, All-weaker}
@@ -34,7 +34,7 @@ put_sub before now bodies b t g within one = (
       ∙ ap (λ t. map (sub_at before) bodies ++ t ∷ []) one.1,
 )
 
--- The first of a list, and those behind it.
+-- The first of a list, and those after it.
 pub subs_step : (s : Site) (n m : ℕ) (list a rest : Code) (made more all : List TypedSub) → list ≡ More a rest → m ≡ n + scope_count a
     → made ++ subs_in s n list ≡ all → more ≡ made ++ subs_in s n a → more ++ subs_in s m rest ≡ all
 unfolding subs_in

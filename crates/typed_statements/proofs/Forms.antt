@@ -37,7 +37,7 @@ pub object_same : (rows : TypedNodes) (n : ℕ) (s : Site) (value same : TypedTr
     → HoldsCode rows n (typed_object s same d)
 object_same rows n s value same d is holds = (holds.0, holds.1 ∙ ap (λ v. typed_object s v d) is)
 
--- Objects are behind what was there before their value was.
+-- Objects follow what was there before their value was.
 pub objects_behind : (r : Result Unit AllocError) (before middle now : TypedNodes) (made more : List ℕ) (s : Site) (ids : Code) (value same : TypedTree)
     → Grew before middle → Each (λ k. k < length before.1) made → value ≡ same
     → OnOk r (HoldsAllCode now more (map (typed_code_at middle) made ++ typed_objects s ids value))

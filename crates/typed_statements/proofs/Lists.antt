@@ -1,4 +1,4 @@
--- Code behind other code.
+-- Code after other code.
 use Rattle.std.proofs.Common.{◌≡◌, ℕ, ◌+◌, ◌<◌, List, [], ◌∷◌, ◌++◌, map, length, refl, sym, ap, ◌∙◌, arith, append_assoc}
 use Rattle.std.specs.List.{All as Each}
 use Rattle.resolved_tree.specs.Trees.{Code, More, code_items}
@@ -53,7 +53,7 @@ next_item f list a rest before now made more n all is are g within before_all on
     rw are (put_next before now made n (f a) (map f (code_items rest)) all g within
     (ap (λ c. map (typed_code_at before) made ++ map f (code_items c)) (sym is) ∙ before_all) one)
 
--- The first of a list, and those behind it.
+-- The first of a list, and those after it.
 pub walk_step : (s : Site) (n m : ℕ) (list a rest : Code) (made more all : List TypedCode) → list ≡ More a rest → m ≡ n + scope_count a
     → made ++ statements s n list ≡ all → more ≡ made ++ statements s n a → more ++ statements s m rest ≡ all
 unfolding statements

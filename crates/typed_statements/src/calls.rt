@@ -20,7 +20,7 @@ use type_definitions::{Entry, Predefined};
 use typed_expressions::Writer;
 use typed_tree::{TypedCodeNode, TypedNode, TypedRows};
 
-/// Adds the first actual behind the name of a call, of a type.
+/// Adds the first actual after the name of a call, of a type.
 #[tactic(auto, unfolding(typed_tree::specs::Expressions::typed_first))]
 fn first_actual(
     writer: &Writer<'_>,

@@ -19,7 +19,7 @@ use std::alloc::AllocError;
 use typed_expressions::Writer;
 use typed_tree::TypedRows;
 
-/// Adds the declarations of both parts of a specification, behind other code.
+/// Adds the declarations of both parts of a specification, after other code.
 fn package(
     writer: &Writer<'_>,
     number: u32,
@@ -44,7 +44,7 @@ fn package(
     statements(&in_hidden(writer, number), hidden, next, made, to)
 }
 
-/// Adds the declarations of the objects of a package, behind other code.
+/// Adds the declarations of the objects of a package, after other code.
 #[tactic(auto, using(typed_tree::proofs::Grown::grew_on, typed_tree::proofs::Grown::grew_none, std::proofs::lemmas::Grind::common_steps), unfolding(typed_tree::specs::Statements::scope_count))]
 pub fn elaborated(
     writer: &Writer<'_>,

@@ -41,7 +41,7 @@ fn object(
     })
 }
 
-/// Adds the declarations of several objects with the same list of no initial value or one, behind
+/// Adds the declarations of several objects with the same list of no initial value or one, after
 /// other code.
 fn same_objects(
     writer: &Writer<'_>,
@@ -66,7 +66,7 @@ fn same_objects(
     Ok(())
 }
 
-/// Adds the declarations of objects, behind other code. Their value stands once in the text.
+/// Adds the declarations of objects, after other code. Their value stands once in the text.
 pub fn objects(
     writer: &Writer<'_>,
     names: usize,
@@ -90,7 +90,7 @@ pub fn objects(
     same_objects(writer, names, value, made, to)
 }
 
-/// Adds the declarations of named numbers, behind other code.
+/// Adds the declarations of named numbers, after other code.
 pub fn numbers(
     writer: &Writer<'_>,
     names: usize,

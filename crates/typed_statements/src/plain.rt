@@ -98,7 +98,7 @@ fn simple(writer: &Writer<'_>, code: usize, to: &mut TypedRows) -> Result<usize,
     }
 }
 
-/// Adds declarations, or a statement that holds no others, behind other code.
+/// Adds declarations, or a statement that holds no others, after other code.
 #[tactic(auto, using(typed_tree::proofs::Grown::grew_on, crate::proofs::Lists::put_one, typed_tree::proofs::Grown::grew_none, std::proofs::lemmas::Grind::common_steps))]
 pub fn plain(
     writer: &Writer<'_>,

@@ -52,7 +52,7 @@ pub fn elaboration(
     })
 }
 
-/// Adds the bodies of all subprograms of a program, in the order of the text, behind others.
+/// Adds the bodies of all subprograms of a program, in the order of the text, after others.
 pub fn sub_bodies(
     writer: &Writer<'_>,
     units: &[usize],

@@ -6,7 +6,7 @@ ghost use Rattle.typed_tree.specs.Statements.{scope_count};
 use resolved_tree::{CodeNode, Rows};
 use std::alloc::AllocError;
 
-/// The number behind another one: what has none is out of memory.
+/// The number after another one: a number that has none is out of memory.
 pub fn following(scope: u32) -> Result<u32, AllocError>
     ensures { IfOk result (λ n. n ≡ scope + 1) }
 {
@@ -16,7 +16,7 @@ pub fn following(scope: u32) -> Result<u32, AllocError>
     }
 }
 
-/// The number of the scope that begins behind two parts of code, where the first scope that begins
+/// The number of the scope that begins after two parts of code, where the first scope that begins
 /// in them has the number `from`.
 #[cycle(scopes)]
 fn behind_both(rows: &Rows, first: usize, second: usize, from: u32) -> Result<u32, AllocError>
@@ -68,7 +68,7 @@ fn behind_one(rows: &Rows, code: usize, from: u32) -> Result<u32, AllocError>
     }
 }
 
-/// The number of the scope that begins behind some code, where the first scope that begins in it
+/// The number of the scope that begins after some code, where the first scope that begins in it
 /// has the number `from`.
 #[cycle(scopes)]
 #[tactic(auto, unfolding(typed_tree::specs::Statements::scope_count))]

@@ -105,7 +105,7 @@ fn sub(
     })
 }
 
-/// Adds the subprograms whose bodies stand in two parts of code, behind others.
+/// Adds the subprograms whose bodies stand in two parts of code, after others.
 #[cycle(subs)]
 fn both(
     writer: &Writer<'_>,
@@ -130,7 +130,7 @@ fn both(
     subs(writer, second, next, found, to)
 }
 
-/// Adds the subprograms whose bodies stand in code that is no list, behind others.
+/// Adds the subprograms whose bodies stand in code that is no list, after others.
 #[cycle(subs)]
 #[tactic(auto, using(typed_tree::proofs::Grown::grew_on, typed_tree::proofs::Grown::grew_none, std::proofs::lemmas::Grind::common_steps), unfolding(typed_tree::specs::Programs::subs_in, typed_tree::specs::Statements::scope_count))]
 fn subs_of_one(
@@ -170,7 +170,7 @@ fn subs_of_one(
     }
 }
 
-/// Adds the subprograms whose bodies stand in code, behind others. `next` is the number of the next
+/// Adds the subprograms whose bodies stand in code, after others. `next` is the number of the next
 /// scope that begins.
 #[cycle(subs)]
 #[tactic(auto, using(typed_tree::proofs::Grown::grew_on, typed_tree::proofs::Grown::grew_none))]

@@ -69,7 +69,7 @@ pub fn body(
     Ok(to.code_list(&made)?)
 }
 
-/// Adds an `if` of its branches and what stands behind `else`.
+/// Adds an `if` of its branches and what follows `else`.
 #[cycle(walk)]
 fn if_statement(
     writer: &Writer<'_>,
@@ -335,7 +335,7 @@ fn compound(
     }
 }
 
-/// Adds the statements of one part of code and of another, behind other code.
+/// Adds the statements of one part of code and of another, after other code.
 #[cycle(walk)]
 fn both(
     writer: &Writer<'_>,
@@ -360,7 +360,7 @@ fn both(
     statements(writer, second, next, made, to)
 }
 
-/// Adds the statements that code means which is no list, behind other code. What declares no object
+/// Adds the statements that code which is no list means, after other code. What declares no object
 /// means none.
 #[cycle(walk)]
 #[tactic(auto, using(typed_tree::proofs::Grown::grew_on, crate::proofs::Lists::put_one, typed_tree::proofs::Grown::grew_none, std::proofs::lemmas::Grind::common_steps), unfolding(typed_tree::specs::Statements::statements, typed_tree::specs::Statements::scope_count))]
@@ -400,7 +400,7 @@ fn item(
     }
 }
 
-/// Adds the statements that code means, behind other code. `next` is the number of the next scope
+/// Adds the statements that code means, after other code. `next` is the number of the next scope
 /// that begins. A list is gone along, so that the depth of calls is that of nesting.
 #[cycle(walk)]
 #[tactic(auto, using(typed_tree::proofs::Grown::grew_on, typed_tree::proofs::Grown::grew_none))]

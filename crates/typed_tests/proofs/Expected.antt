@@ -219,7 +219,8 @@ package_objects =
     ∷ sub (at 21 11) (at 24 1) [] None (Call (at 23 1) 1 NoMore ∷ [])
     ∷ []) (Some 2)
 
--- Cell is 16 and List 17; the result of Last is of the type 18, and each anonymous access object has the type of its own declaration
+-- Cell is 16 and List 17; the result of Last is of the type 18, and each anonymous access object
+-- has the type of its own declaration
 abbrev pub views : TypedProgram
 views =
     program (formal mode.In "L" 20 1 ∷ variable "B" 21 1 ∷ variable "X" 17 2 ∷ variable "B" 24 3 ∷ variable "C" 25 3 ∷ [])

@@ -1,5 +1,5 @@
--- What the resolved trees of programs are written with: the parts that recur, by the line and column
--- of each. tools/tree_terms.py writes such trees.
+-- What the resolved trees of programs are written with: the parts that recur, by the line and
+-- column of each. tools/tree_terms.py writes such trees.
 use Rattle.std.proofs.Common.{ℕ, List}
 use Rattle.std.specs.Prelude.{codes, Some, None}
 use Prim.Native.String.{String}
@@ -17,7 +17,7 @@ program count units = record { count = count; units = units }
 abbrev pub at : ℕ → ℕ → Pos
 at line column = record { file = 0; line = line; column = column }
 
--- The same of the files behind it.
+-- The same of the files after it.
 abbrev pub at1 : ℕ → ℕ → Pos
 at1 line column = record { file = 1; line = line; column = column }
 
@@ -42,7 +42,7 @@ declared pos number text = Declared pos number (codes text)
 abbrev pub mark : Pos → ℕ → Mark
 mark pos decl = record { pos = pos; decl = Some decl }
 
--- One with an identifier behind what is no package.
+-- One with an identifier after what is no package.
 abbrev pub unresolved : Pos → Mark
 unresolved pos = record { pos = pos; decl = None }
 

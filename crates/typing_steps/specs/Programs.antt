@@ -9,8 +9,8 @@ use Rattle.type_definitions.specs.declared.table.Known.{Known}
 use Rattle.type_definitions.specs.Faults.{first}
 use Rattle.type_definitions.specs.Whole.{TypeFault, decided, sentence_faults}
 
--- Its declarations are those of the files, the predefined ones included, and its code stands for the
--- units of the files in order.
+-- Its declarations are those of the files, the predefined ones included, and its code stands for
+-- the units of the files in order.
 abbrev pub program_of : List (List SourceUnit) → Program
 program_of files = record { count = length (decl_infos files); units = lowered_files (identified files) files }
 

@@ -50,8 +50,8 @@ pub fn settled(
     Ok(settled)
 }
 
-/// The first fault of a program that doesn't follow from a mark that denotes no type, or from bounds
-/// that aren't static.
+/// The first fault of a program that doesn't follow from a mark that denotes no type, or from
+/// bounds that aren't static.
 fn check_causes(
     alloc: Global,
     rows: &Rows,

@@ -1,4 +1,4 @@
---  K7: a loop over a subtype without values has no turn.
+--  K7: a loop over a subtype without values has no iteration.
 --> spark check K7_loop_without_turns.adb
 --> status 0
 --> out accepted

@@ -1,4 +1,4 @@
---  O10: behind the block of the observer the object may be an out actual.
+--  O10: after the block of the observer the object may be an out actual.
 --> spark check O10_out_behind_the_block.adb
 --> status 0
 --> out accepted

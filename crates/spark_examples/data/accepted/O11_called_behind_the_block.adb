@@ -1,4 +1,4 @@
---  O11: behind the block of the observer a call may write the package object.
+--  O11: after the block of the observer a call may write the package object.
 --> spark check O11_called_behind_the_block.adb
 --> status 0
 --> out accepted

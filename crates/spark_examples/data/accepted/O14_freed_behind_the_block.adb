@@ -1,4 +1,4 @@
---  O14: behind the block of the observer the object may be freed.
+--  O14: after the block of the observer the object may be freed.
 --> spark check O14_freed_behind_the_block.adb
 --> status 0
 --> out accepted

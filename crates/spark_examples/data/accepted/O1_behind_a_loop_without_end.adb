@@ -1,4 +1,4 @@
---  O1: no path leads behind a loop without an exit, so that a read there breaks no rule.
+--  O1: no path leads past a loop without an exit, so that a read there breaks no rule.
 --> spark check O1_behind_a_loop_without_end.adb
 --> status 0
 --> out accepted

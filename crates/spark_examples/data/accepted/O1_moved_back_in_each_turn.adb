@@ -1,4 +1,4 @@
---  O1: each turn gives back what it moves, so the next one may read it.
+--  O1: each iteration gives back what it moves, so the next one may read it.
 --> spark check O1_moved_back_in_each_turn.adb
 --> status 0
 --> out accepted

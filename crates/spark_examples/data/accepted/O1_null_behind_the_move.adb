@@ -1,4 +1,4 @@
---  O1: X is given null behind the move, so that it may be tested and read.
+--  O1: X is given null after the move, so that it may be tested and read.
 --> spark check O1_null_behind_the_move.adb
 --> status 0
 --> out accepted

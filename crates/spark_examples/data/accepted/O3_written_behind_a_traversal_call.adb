@@ -1,4 +1,4 @@
---  O3: behind the block the list may be written again.
+--  O3: after the block the list may be written again.
 --> spark check O3_written_behind_a_traversal_call.adb
 --> status 0
 --> out accepted

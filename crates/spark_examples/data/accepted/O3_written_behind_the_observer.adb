@@ -1,4 +1,4 @@
---  O3: behind the block of the observer the object may be written again.
+--  O3: after the block of the observer the object may be written again.
 --> spark check O3_written_behind_the_observer.adb
 --> status 0
 --> out accepted

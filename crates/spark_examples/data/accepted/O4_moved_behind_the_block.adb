@@ -1,4 +1,4 @@
---  O4: behind the block of the observer the object may be moved.
+--  O4: after the block of the observer the object may be moved.
 --> spark check O4_moved_behind_the_block.adb
 --> status 0
 --> out accepted

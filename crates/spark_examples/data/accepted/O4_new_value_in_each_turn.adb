@@ -1,4 +1,4 @@
---  O4: each turn moves a value of its own.
+--  O4: each iteration moves a value of its own.
 --> spark check O4_new_value_in_each_turn.adb
 --> status 0
 --> out accepted

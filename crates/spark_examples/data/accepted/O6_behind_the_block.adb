@@ -1,4 +1,4 @@
---  O6: behind the block of the borrower the object may be observed.
+--  O6: after the block of the borrower the object may be observed.
 --> spark check O6_behind_the_block.adb
 --> status 0
 --> out accepted

@@ -1,4 +1,4 @@
---  O7: the borrower goes on behind the block of the other one.
+--  O7: the borrower goes on after the block of the other one.
 --> spark check O7_lent_no_longer.adb
 --> status 0
 --> out accepted

@@ -1,4 +1,4 @@
---  O7: the borrower goes on behind a part that has a value again.
+--  O7: the borrower goes on after a part that has a value again.
 --> spark check O7_part_given_a_value.adb
 --> status 0
 --> out accepted

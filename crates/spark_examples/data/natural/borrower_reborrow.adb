@@ -38,7 +38,7 @@ procedure Main with SPARK_Mode is
       end loop;
    end Increment_All;
 
-   --  Cuts the list behind N cells.
+   --  Cuts the list after N cells.
    procedure Truncate (L : access Cell; N : Positive) is
       B : access Cell := L;
    begin

@@ -41,7 +41,7 @@ package body Sorted with SPARK_Mode is
       end loop;
    end Increment_All;
 
-   --  Cuts the list behind N cells.
+   --  Cuts the list after N cells.
    procedure Truncate (L : in out List; N : Positive) is
       B : access Cell := L;
    begin

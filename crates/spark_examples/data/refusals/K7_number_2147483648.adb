@@ -1,4 +1,4 @@
---  K7: 2147483648 stands only behind a minus.
+--  K7: 2147483648 stands only after a minus.
 --> spark check K7_number_2147483648.adb
 --> status 2
 --> err K7_number_2147483648.adb:9:9: K7 not static

@@ -1,4 +1,4 @@
---  O10: an Integer that is an in out actual is read and written, so it may not be behind a moved name.
+--  O10: an Integer that is an in out actual is read and written, so its prefix may not be moved.
 --> spark check O10_in_out_part.adb
 --> status 1
 --> err O10_in_out_part.adb:20:23: O10 X.all: moved

@@ -1,4 +1,4 @@
---  O14: a free is reported once, since the name is null behind it.
+--  O14: a free is reported once, since the name is null after it.
 --> spark check O14_free_clears.adb
 --> status 1
 --> err O14_free_clears.adb:13:10: O14 X: moved

@@ -1,4 +1,4 @@
---  O1 and O4: what the first turn of a loop frees, the second one may neither read nor move.
+--  O1 and O4: what the first iteration of a loop frees, the second one may neither read nor move.
 --> spark check O1_freed_in_a_loop.adb
 --> status 1
 --> err O1_freed_in_a_loop.adb:15:44: O1 X.all: moved

@@ -1,4 +1,4 @@
---  O1: what one branch moves and frees may not be read behind it.
+--  O1: what one branch moves and frees may not be read after it.
 --> spark check O1_freed_on_a_branch.adb
 --> status 1
 --> err O1_freed_on_a_branch.adb:17:41: O1 X.all: moved

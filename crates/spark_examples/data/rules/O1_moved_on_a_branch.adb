@@ -1,4 +1,4 @@
---  O1: a name that is moved on one branch is moved behind it, whatever is tested there.
+--  O1: a name that is moved on one branch is moved after it, whatever is tested there.
 --> spark check O1_moved_on_a_branch.adb
 --> status 1
 --> err O1_moved_on_a_branch.adb:14:41: O1 X.all: moved

@@ -1,4 +1,4 @@
---  O1 and O4: what the first turn of a loop moves, the second one may neither read nor move.
+--  O1 and O4: what the first iteration of a loop moves, the second one may neither read nor move.
 --> spark check O1_second_turn_of_a_loop.adb
 --> status 1
 --> err O1_second_turn_of_a_loop.adb:13:20: O1 X.all: moved

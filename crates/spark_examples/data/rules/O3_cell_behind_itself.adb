@@ -1,4 +1,4 @@
---  O3: a cell can't be put behind itself, since it is moved before its component is written.
+--  O3: a cell can't be put after itself, since it is moved before its component is written.
 --> spark check O3_cell_behind_itself.adb
 --> status 1
 --> err O3_cell_behind_itself.adb:20:1: O3 X.all.Next: moved

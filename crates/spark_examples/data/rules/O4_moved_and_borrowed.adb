@@ -1,4 +1,4 @@
---  O4: in its second turn the loop moves a list that is borrowed and was moved before.
+--  O4: in its second iteration the loop moves a list that is borrowed and was moved before.
 --> spark check O4_moved_and_borrowed.adb
 --> status 1
 --> err O4_moved_and_borrowed.adb:17:29: O5 L: moved

@@ -1,4 +1,4 @@
---  O4: the second turn of a loop moves again what the first one moved.
+--  O4: the second iteration of a loop moves again what the first one moved.
 --> spark check O4_second_turn_of_a_loop.adb
 --> status 1
 --> err O4_second_turn_of_a_loop.adb:12:12: O4 X: moved

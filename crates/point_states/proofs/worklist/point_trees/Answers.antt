@@ -64,7 +64,7 @@ turns-preserved g c =
     let turned = c.in_ok-turn.ensures.turned in
     (turned.searched, turned.over, omega (arith, c.turn.new.trees.ok.0, turned.sized), turned.places, omega arith)
 
--- the turn that failed was owed, too
+-- the iteration that failed was owed, too
 pub returns-in_err-turn-clause-cost : goal.returns-in_err-turn-clause-cost
 returns-in_err-turn-clause-cost g c =
     let points = path_points_of c.args.points.now in
