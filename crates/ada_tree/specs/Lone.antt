@@ -1,6 +1,6 @@
 -- What an expression or a name is where it is shorter than its type allows: a name alone, a dotted
--- name, an identifier, or a name with "'" "range" at its end. And, the other way, the trees that
--- these are.
+-- name, an identifier, or a name with "'" "range" at its end. And the reverse: the trees that these
+-- are.
 use Rattle.std.specs.Prelude.{List, [], ◌∷◌, ◌++◌, map, Option, Some, None, Result, option_map, ok_or}
 use Rattle.spark_base.specs.declared.position.Pos.{Pos}
 use Rattle.ada_tree.specs.declared.identifier.Identifier.{Identifier}
@@ -25,7 +25,7 @@ use Rattle.ada_tree.specs.declared.expression.Suffix.{Suffix}
 use Rattle.ada_tree.specs.declared.expression.Suffix.TheVariants as suffix
 use Rattle.ada_tree.specs.Positions.{name_position}
 
--- What was found, where nothing stands behind it.
+-- What was found, where nothing follows it.
 abbrev pub unfollowed : {A B : Type 0} → Option A → List B → Option A
 unfollowed found [] = found
 unfollowed found (_ ∷ _) = None
@@ -129,7 +129,7 @@ unfoldable pub range_prefix : Name → Option (Name × Pos × Pos)
 range_prefix (name.Prefixed' pos first _ rest) =
     option_map (λ cut. (name.Prefixed pos first cut.0, cut.1, cut.2)) (cut_range (items-the_row-Suffix _ rest))
 
--- The name with "'" "range" behind it.
+-- The name with "'" "range" after it.
 unfoldable pub name_with_range : Name → Pos → Pos → Name
 name_with_range (name.Prefixed' pos first _ rest) apostrophe range =
     name.Prefixed pos first (items-the_row-Suffix _ rest ++ (suffix.RangeAttribute apostrophe range ∷ []))

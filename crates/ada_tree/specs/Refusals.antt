@@ -75,7 +75,7 @@ pub data Code : Type 0 where
   -- P3
   LeftOut : Code
 
--- The token behind the list is refused with the code. Where it is P2, the token is the last of a
+-- The token after the list is refused with the code. Where it is P2, the token is the last of a
 -- viable prefix; where it is P1 or P3, it isn't.
 abbrev pub IsRefused : Code → List Spelled → Spelled → Type 0
 IsRefused Syntax before token = sources.IsFaulty IsSource source_spelling before token × (is_left_out token ≡ false)

@@ -42,7 +42,7 @@ pub enum Item {
         left_paren: Pos,
         /// The first literal.
         first: Identifier,
-        /// The literals behind it.
+        /// The literals after it.
         rest: Listed<NextIdentifier>,
         /// `)`
         right_paren: Pos,
@@ -61,7 +61,7 @@ pub enum Item {
         record_word: Pos,
         /// The first declaration of components.
         first: Component,
-        /// The declarations behind it.
+        /// The declarations after it.
         rest: Listed<Component>,
         /// `end`
         end: Pos,
@@ -148,7 +148,7 @@ pub enum Item {
         pos: Pos,
         /// The first identifier.
         first: Identifier,
-        /// The identifiers behind it.
+        /// The identifiers after it.
         rest: Listed<NextIdentifier>,
         /// `:`
         colon: Pos,
@@ -165,7 +165,7 @@ pub enum Item {
         pos: Pos,
         /// The first identifier.
         first: Identifier,
-        /// The identifiers behind it.
+        /// The identifiers after it.
         rest: Listed<NextIdentifier>,
         /// `:`
         colon: Pos,
@@ -186,7 +186,7 @@ pub enum Item {
         pos: Pos,
         /// The first identifier.
         first: Identifier,
-        /// The identifiers behind it.
+        /// The identifiers after it.
         rest: Listed<NextIdentifier>,
         /// `:`
         colon: Pos,
@@ -215,7 +215,7 @@ pub enum Item {
         left_paren: Pos,
         /// The first actual.
         first: Boxed<Arg>,
-        /// The actuals behind it.
+        /// The actuals after it.
         rest: Listed<NextArg>,
         /// `)`
         right_paren: Pos,
@@ -247,7 +247,7 @@ pub enum Component {
         pos: Pos,
         /// The first identifier.
         first: Identifier,
-        /// The identifiers behind it.
+        /// The identifiers after it.
         rest: Listed<NextIdentifier>,
         /// `:`
         colon: Pos,
@@ -289,7 +289,7 @@ pub struct UseClause {
     pub type_word: Option<Pos>,
     /// The first name.
     pub first: Dotted,
-    /// The names behind it.
+    /// The names after it.
     pub rest: Listed<NextDotted>,
     /// `;`
     pub semicolon: Pos,

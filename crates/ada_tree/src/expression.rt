@@ -26,7 +26,7 @@ pub enum Expr {
         and: Pos,
         /// The second operand.
         second: Boxed<Rel>,
-        /// The operands behind it, each with its `and`.
+        /// The operands after it, each with its `and`.
         rest: Listed<Operand>,
     },
     /// rel `or` rel {`or` rel} (Ada 2012, 4.4 and 4.5.1)
@@ -39,7 +39,7 @@ pub enum Expr {
         or: Pos,
         /// The second operand.
         second: Boxed<Rel>,
-        /// The operands behind it, each with its `or`.
+        /// The operands after it, each with its `or`.
         rest: Listed<Operand>,
     },
     /// rel `xor` rel {`xor` rel} (Ada 2012, 4.4 and 4.5.1)
@@ -52,7 +52,7 @@ pub enum Expr {
         xor: Pos,
         /// The second operand.
         second: Boxed<Rel>,
-        /// The operands behind it, each with its `xor`.
+        /// The operands after it, each with its `xor`.
         rest: Listed<Operand>,
     },
     /// rel `and` `then` rel {`and` `then` rel} (Ada 2012, 4.4 and 4.5.1)
@@ -67,7 +67,7 @@ pub enum Expr {
         then: Pos,
         /// The second operand.
         second: Boxed<Rel>,
-        /// The operands behind it, each with its `and` `then`.
+        /// The operands after it, each with its `and` `then`.
         rest: Listed<ShortOperand>,
     },
     /// rel `or` `else` rel {`or` `else` rel} (Ada 2012, 4.4 and 4.5.1)
@@ -82,7 +82,7 @@ pub enum Expr {
         otherwise: Pos,
         /// The second operand.
         second: Boxed<Rel>,
-        /// The operands behind it, each with its `or` `else`.
+        /// The operands after it, each with its `or` `else`.
         rest: Listed<ShortOperand>,
     },
 }
@@ -151,7 +151,7 @@ pub enum Sum {
         pos: Pos,
         /// The first term.
         first: Term,
-        /// The terms behind it.
+        /// The terms after it.
         rest: Listed<NextTerm>,
     },
     /// (`+` | `-`) term {(`+` | `-` | `&`) term} (Ada 2012, 4.4 and 4.5.4)
@@ -162,7 +162,7 @@ pub enum Sum {
         sign: Sign,
         /// The first term.
         first: Term,
-        /// The terms behind it.
+        /// The terms after it.
         rest: Listed<NextTerm>,
     },
 }
@@ -192,7 +192,7 @@ pub enum Term {
         pos: Pos,
         /// The first factor.
         first: Factor,
-        /// The factors behind it.
+        /// The factors after it.
         rest: Listed<NextFactor>,
     },
 }
@@ -334,7 +334,7 @@ pub enum Aggregate {
         comma: Pos,
         /// The second one.
         second: Boxed<Arg>,
-        /// The ones behind it.
+        /// The ones after it.
         rest: Listed<NextArg>,
         /// `)`
         right_paren: Pos,
@@ -414,12 +414,12 @@ pub enum Name {
         pos: Pos,
         /// The identifier.
         first: Identifier,
-        /// What stands behind it.
+        /// What follows it.
         rest: Listed<Suffix>,
     },
 }
 
-/// What stands behind the first identifier of a name, or behind another suffix.
+/// What follows the first identifier of a name, or another suffix.
 #[cycle(expression)]
 #[derive(Drop)]
 pub enum Suffix {
@@ -443,7 +443,7 @@ pub enum Suffix {
         pos: Pos,
         /// The first index or actual.
         first: Boxed<Arg>,
-        /// The ones behind it.
+        /// The ones after it.
         rest: Listed<NextArg>,
         /// `)`
         right_paren: Pos,

@@ -31,7 +31,7 @@ pub struct Dotted {
     pub pos: Pos,
     /// The first identifier.
     pub first: Identifier,
-    /// The identifiers behind it.
+    /// The identifiers after it.
     pub rest: Listed<NextPart>,
 }
 

@@ -2,9 +2,9 @@
 //!
 //! A `SourceUnit` is the tree of one unit. Its parts are `Decl`, `Item`, `Stmt`, `Expr`, `Name` and
 //! theirs: one type for each production, one variant for each of its alternatives. Each keeps its
-//! parts in order, behind the position of its first token: which optional words stood, the position
+//! parts in order, after the position of its first token: which optional words stood, the position
 //! of each token, and the text of each identifier and string. `Trees` owns those of a file.
-//! What a tree is spelled by, `specs/Spelling.antt` states; `docs/LANGUAGE.md`, "Grammar", has the
+//! `specs/Spelling.antt` states what a tree is spelled by; `docs/LANGUAGE.md`, "Grammar", has the
 //! productions. Laws of the spelling stand in `ada_grammar`.
 //! Nothing is refused here. A tree takes memory in proportion to its tokens.
 #![tactic(auto)]

@@ -1,6 +1,6 @@
 //! A name taken out of an expression, and what a name is where it is shorter than its type allows.
 //!
-//! A reader that meets an expression sees only behind it that a name or an identifier had to stand
+//! A reader that meets an expression learns only after it that a name or an identifier had to stand
 //! there.
 #![tactic(auto, using(crate::proofs::LoneLevels::lone_levels))]
 

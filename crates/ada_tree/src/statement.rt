@@ -16,7 +16,7 @@ pub enum Stmts {
         pos: Pos,
         /// The first statement.
         first: Boxed<Stmt>,
-        /// The statements behind it.
+        /// The statements after it.
         rest: Listed<Stmt>,
     },
 }
@@ -141,7 +141,7 @@ pub enum Stmt {
         is: Pos,
         /// The first alternative.
         first: Boxed<When>,
-        /// The alternatives behind it.
+        /// The alternatives after it.
         rest: Listed<When>,
         /// `end`
         end: Pos,
@@ -258,7 +258,7 @@ pub enum When {
         pos: Pos,
         /// The first choice.
         first: Choice,
-        /// The choices behind it.
+        /// The choices after it.
         rest: Listed<NextChoice>,
         /// `=>`
         arrow: Pos,

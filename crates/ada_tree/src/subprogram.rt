@@ -59,7 +59,7 @@ pub struct Formals {
     pub pos: Pos,
     /// The first declaration of formals.
     pub first: Boxed<Formal>,
-    /// The declarations behind it.
+    /// The declarations after it.
     pub rest: Listed<NextFormal>,
     /// `)`
     pub right_paren: Pos,
@@ -86,7 +86,7 @@ pub enum Formal {
         pos: Pos,
         /// The first identifier.
         first: Identifier,
-        /// The identifiers behind it.
+        /// The identifiers after it.
         rest: Listed<NextIdentifier>,
         /// `:`
         colon: Pos,
@@ -103,7 +103,7 @@ pub enum Formal {
         pos: Pos,
         /// The first identifier.
         first: Identifier,
-        /// The identifiers behind it.
+        /// The identifiers after it.
         rest: Listed<NextIdentifier>,
         /// `:`
         colon: Pos,

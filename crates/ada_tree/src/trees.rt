@@ -4,8 +4,8 @@ ghost use Rattle.std.specs.Prelude.{◌≡◌};
 use crate::unit::SourceUnit;
 use spark_base::Listed;
 
-/// The trees of a file, in order. It is dropped by a function of its own: who owns one needn't
-/// prove again how each tree within it is dropped.
+/// The trees of a file, in order. It has its own `Drop`, so that owners needn't prove again how
+/// each tree is dropped.
 pub struct Trees {
     /// The trees, in order.
     pub units: Listed<SourceUnit>,
@@ -23,13 +23,5 @@ impl Trees {
         ensures { result.now ≡ self.now.units }
     {
         self.units.as_slice()
-    }
-
-    /// Gives the trees themselves.
-    pub fn into_units(self) -> Listed<SourceUnit>
-        ensures { result ≡ self.units }
-    {
-        let Self { units } = self;
-        units
     }
 }

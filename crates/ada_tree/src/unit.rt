@@ -47,7 +47,7 @@ pub enum Context {
         pos: Pos,
         /// The first name.
         first: Dotted,
-        /// The names behind it.
+        /// The names after it.
         rest: Listed<NextDotted>,
         /// `;`
         semicolon: Pos,

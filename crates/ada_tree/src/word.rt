@@ -144,7 +144,7 @@ impl Word {
 fn lower_case(alloc: Global, bytes: &[u8]) -> Result<Vec<u8>, AllocError>
     ensures { IfOk result (λ lower. lower.items ≡ map to_ascii_lowercase bytes.now) }
 {
-    Ok(bytes.iter().map(|b| b.to_ascii_lowercase()).collect(alloc)?)
+    bytes.iter().map(|b| b.to_ascii_lowercase()).collect(alloc)
 }
 
 // By hand, so that who owns a word needn't know how it is dropped.
