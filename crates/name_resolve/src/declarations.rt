@@ -204,7 +204,7 @@ impl Declarations {
         Ok(())
     }
 
-    /// The declarations of a region that haven't ended, do.
+    /// The declarations of a region that haven't ended end here.
     pub fn end(&mut self, region: usize) -> Result<(), AllocError>
         ensures { OnOk result ((declared pending ended : List Entry) (completed : List ℕ) → EntriesStand self.old declared pending ended completed
             → EntriesStand self.new declared (filter (λ d. not (nat_eq region d.1.region)) pending) (ended ++ filter (λ d. nat_eq region d.1.region) pending) completed) }

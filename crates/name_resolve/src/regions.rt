@@ -16,7 +16,7 @@ use std::rc::Rc;
 const PREDEFINED_REGIONS: usize = 4;
 
 /// The regions that enclose a point, the innermost last, and the packages in use there. In the
-/// predefined region those come first that the unit is given.
+/// predefined region, those that the unit is given come first.
 #[derive(Drop)]
 pub struct Regions {
     alloc: Global,

@@ -83,7 +83,7 @@ fn see_packages(
     seen
 }
 
-/// Looks in the packages in use in a region. In the predefined one these come first that are given.
+/// Looks in the packages in use in a region. In the predefined one, the given ones come first.
 fn see_region(
     declarations: &Declarations,
     given: &[usize],

@@ -13,8 +13,8 @@ use name_events::{Declaration, OpenRegion};
 use std::alloc::{AllocError, Global};
 use std::rc::Rc;
 
-/// The regions of the packages in use. In the predefined region those count too that the unit is
-/// given.
+/// The regions of the packages in use. In the predefined region, those that the unit is given count
+/// too.
 #[derive(Drop)]
 pub struct Used {
     alloc: Global,
