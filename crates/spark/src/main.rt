@@ -1,31 +1,19 @@
 //! The program `spark`: the tool over real files, standard input and the two outputs.
 //!
-//! `main` takes the words after the program's name, makes the real objects, calls `run_tool` and
-//! ends with its answer. `Reading`, `Writing` over an `Output`, and `RealFiles` are those objects.
-//! They are the trusted edge: each calls the operating system and counts its errors. They are
-//! proved against the traits of `spark_base` over any reader, writer and files; what the real ones
-//! do with bytes, no clause knows (`docs/TOOL.md`, "The outside"). Words that aren't UTF-8 are a
-//! usage fault, as no words are.
+//! `main` takes the words after the program's name, makes the real objects of `real_outside`, calls
+//! `run_tool` and ends with its answer. Words that aren't UTF-8 are a usage fault, as no words are.
 #![tactic(auto)]
 
 ghost use Rattle.spark_tool.specs.Promises.{IsStatus};
 
-mod files;
-mod outputs;
-mod reading;
-mod writing;
-
-use files::RealFiles;
-use outputs::Output;
-use reading::Reading;
+use real_outside::{Output, Reading, RealFiles, Writing};
 use spark_tool::run_tool;
 use std::io::{ErrorKind, Stderr, Stdout};
 use std::process::ExitCode;
 use std::{env, io};
-use writing::Writing;
 
 /// The status where memory runs out (`docs/TOOL.md`, "Statuses").
-const WANT_OF_MEMORY: u8 = 9;
+const OUT_OF_MEMORY: u8 = 9;
 
 /// The words after the program's name.
 fn words_after_name(rt: &HostRuntime) -> io::Result<Vec<String>> {
@@ -60,12 +48,9 @@ fn run_really(rt: &HostRuntime, words: &[String]) -> u8
 fn main(rt: HostRuntime) -> ExitCode {
     let status = match words_after_name(&rt) {
         Ok(words) => run_really(&rt, &words),
-        Err(error) if error.kind() == ErrorKind::OutOfMemory => WANT_OF_MEMORY,
+        Err(error) if error.kind() == ErrorKind::OutOfMemory => OUT_OF_MEMORY,
         // A word isn't UTF-8. No words are a usage fault too.
         Err(_) => run_really(&rt, &[]),
     };
     ExitCode::from(status)
 }
-
-#[cfg(test)]
-mod tests;

@@ -13,7 +13,7 @@ pub enum Output<O, E> {
 }
 
 impl<O: Write, E: Write> Write for Output<O, E> {
-    ghost use Rattle.spark.specs.Outputs.{output_contents};
+    ghost use Rattle.real_outside.specs.Outputs.{output_contents};
 
     ghost contents = { output_contents O.contents E.contents };
 

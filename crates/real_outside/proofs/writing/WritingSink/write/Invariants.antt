@@ -1,6 +1,6 @@
 use Rattle.std.proofs.Common.{◌≡◌, length}
-use Rattle.spark.proofs.Parts.{Comes}
-use Rattle.spark.proofs.writing.WritingSink.write.Given as goal
+use Rattle.real_outside.proofs.Parts.{Comes}
+use Rattle.real_outside.proofs.writing.WritingSink.write.Given as goal
 
 abbrev pub invariant-parts : goal.invariant-parts
 invariant-parts g l =
