@@ -96,7 +96,7 @@ behind_declaration now declared_as id (Some d) = record now { completed = added_
 behind_declaration now form.Package id None = declare (begin_package now (length now.declared)) (new_entry now form.Package id)
 behind_declaration now declared_as id None = declare now (new_entry now declared_as id)
 
--- The declarations of a region that haven't ended, do.
+-- The declarations of a region that haven't ended end here.
 abbrev pub end_in : ℕ → Known → Known
 end_in region now = record now {
   ended = now.ended ++ filter (λ entry. nat_eq region entry.1.region) now.pending;

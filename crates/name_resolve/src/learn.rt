@@ -213,7 +213,7 @@ impl Knowledge {
         Ok(())
     }
 
-    /// An identifier is declared here, which completes nothing.
+    /// An identifier that completes nothing is declared here.
     fn enter(&mut self, form: DeclarationForm, id: &FoldedIdentifier) -> Result<(), AllocError>
         ensures { OnOk result ((now : Known) → Stands self.old now → Stands self.new (behind_declaration now form id.now None)) }
     {
@@ -249,7 +249,7 @@ impl Knowledge {
         }
     }
 
-    /// The declarations of a region that haven't ended, do.
+    /// The declarations of a region that haven't ended end here.
     fn end_in(&mut self, region: usize) -> Result<(), AllocError>
         ensures { OnOk result ((now : Known) → Stands self.old now → Stands self.new (end_in region now)) }
     {
@@ -311,8 +311,8 @@ impl Knowledge {
         ensures { OnOk result ((now : Known) → Stands self.old now → Stands self.new (open_body now id.now spec)) }
     {
         match spec {
-            None => Ok(self.open_own_body(id)?),
-            Some(declaration) => Ok(self.reopen(id, declaration)?),
+            None => self.open_own_body(id),
+            Some(declaration) => self.reopen(id, declaration),
         }
     }
 
