@@ -74,19 +74,7 @@ program_is files units count numbers lowered counted numbered =
     ap (with_units count) (lowered ∙ ap (λ (n : List Identified). lowered_files n files) numbered)
     ∙ ap (λ (n : ℕ). with_units n (lowered_files (identified files) files)) counted
 
--- A program that breaks no sentence, with what follows from it,
-pub files_pass : (files : List (List SourceUnit)) (known : Known) (units : List Code) (count : ℕ) (numbers : List Identified)
-    → fault_known known units ≡ None → known ≡ known_of (with_units count units)
-    → units ≡ lowered_files numbers files → count ≡ length (decl_infos files) → numbers ≡ identified files → type_fault (program_of files) ≡ None
-unfolding type_fault
-files_pass files known units count numbers judged gathered lowered counted numbered =
-    let program : with_units count units ≡ program_of files = program_is files units count numbers lowered counted numbered in
-    let causes = fault_known (known_with true (with_units count units)) units in
-    let here : type_fault (with_units count units) ≡ None =
-    ap (λ (k : Known). told (fault_known k units) causes) (sym gathered) ∙ ap (λ (f : Option TypeFault). told f causes) judged in
-    subst (λ (p : Program). type_fault p ≡ None) program here
-
--- and what is told of one that does.
+-- What is told of a program that breaks a sentence.
 pub files_told : (r : TypeRefusal) (files : List (List SourceUnit)) (units : List Code) (count : ℕ) (numbers : List Identified)
     → Says r (type_fault (with_units count units)) → units ≡ lowered_files numbers files → count ≡ length (decl_infos files) → numbers ≡ identified files
     → Says r (type_fault (program_of files))

@@ -113,23 +113,6 @@ pub fn check_units(
     check_code(alloc, &checker, units)
 }
 
-/// Whether the files break a sentence on types: the first one, Y1 to Y3 before K1 to K8, and in the
-/// order of the text.
-pub fn check_types(alloc: Global, resolved: &Resolved) -> Result<(), TypeRefusal>
-    ensures { Judges result (type_fault (program_of (trees_of resolved.now.files.items))) }
-{
-    let mut rows = Rows::new(alloc);
-    let lowered = lowered(alloc, resolved, &mut rows)?;
-    let units = lowered.as_slice();
-    let decls = resolved.decls.as_slice();
-    let count = decls.len();
-    let settled = settled(alloc, &rows, units, count)?;
-    match check_units(alloc, &rows, &settled, units) {
-        Ok(()) => Ok(()),
-        Err(refusal) => Err(told(alloc, &rows, units, count, refusal)),
-    }
-}
-
 /// The first broken sentence of units, Y1 to Y3 before K1 to K8.
 fn check_code(alloc: Global, checker: &Checker<'_>, units: &[usize]) -> Result<(), TypeRefusal>
     requires outside { context checker.now ≡ outside (context checker.now).known }

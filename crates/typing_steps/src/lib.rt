@@ -1,12 +1,12 @@
 //! The first broken sentence on types of a program, or that it breaks none.
 //!
-//! `check_types` takes files whose names have a meaning. It makes the small trees of their code
-//! (`tree_lowering`), gathers what their declarations are (`type_gather`), and then goes over all
-//! types for Y1 to Y3 (`type_settled`) and over all code for K1 to K8 (`statement_rules`). The
-//! definitions of both are those of `type_definitions`; `docs/LANGUAGE.md`, "Types", says them in
-//! words. `lowered`, `settled` and `check_units` are its three steps, for callers that go on with
-//! what they make. A program with a fault is looked at once more, by `told`: where a mark denotes
-//! no type, or bounds aren't static, nothing is told there that follows from it.
+//! `lowered` makes the small trees of the code of files whose names have a meaning
+//! (`tree_lowering`), and `settled` gathers what their declarations are (`type_gather`). Then
+//! `check_units` goes over all types for Y1 to Y3 (`type_settled`) and over all code for K1 to K8
+//! (`statement_rules`). A program with a fault is looked at once more, by `told`: where a mark
+//! denotes no type, or bounds aren't static, nothing is told there that follows from it.
+//! `type_rules` calls these steps in this order. The definitions are those of `type_definitions`;
+//! `docs/LANGUAGE.md`, "Types", says them in words.
 //! Time and memory: each pass visits each tree a bounded number of times; `docs/COSTS.md` names
 //! what isn't linear.
 #![tactic(auto)]
@@ -14,4 +14,4 @@
 mod check;
 mod refused;
 
-pub use check::{check_types, check_units, lowered, settled, told};
+pub use check::{check_units, lowered, settled, told};
