@@ -12,5 +12,3 @@ pub mod Deep
 pub mod ByInstruction
 -- leak checks
 pub mod DeepSpots
--- where the first name that is too deep stands
-pub mod DeepPlaces

@@ -3,7 +3,6 @@ pub mod Calls
 pub mod Actless
 pub mod Frames
 pub mod Depths
-pub mod DeepPlaces
 -- what the functions inside promise each other
 pub mod Plans
 pub mod Turns
@@ -11,4 +10,3 @@ pub mod Ways
 pub mod NamedActs
 pub mod Steps
 pub mod Spots
-pub mod OutNames

@@ -18,7 +18,7 @@ fn is_deep_part(name: &PlaceName, part: &PlaceTail) -> bool
 }
 
 /// Whether some part is.
-pub(crate) fn has_deep_part(name: &PlaceName, parts: &[PlaceTail]) -> bool
+fn has_deep_part(name: &PlaceName, parts: &[PlaceTail]) -> bool
     ensures { result ≡ list_any (λ (q : List Sel). is_deep (extend name.now q)) parts.now }
 {
     'parts: for part in parts {

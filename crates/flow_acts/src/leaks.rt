@@ -66,7 +66,7 @@ fn add_spots(
 }
 
 /// Whether some leak check looks at a name that is too deep.
-pub(crate) fn has_deep_spot(spots: &[LeakSpot]) -> bool
+fn has_deep_spot(spots: &[LeakSpot]) -> bool
     ensures { result ≡ deep_spots spots.now }
 {
     'spots: for spot in spots {

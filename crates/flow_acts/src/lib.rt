@@ -3,19 +3,17 @@
 //! An `ActWriter` has the typed rows of a program and what is known of its types, objects and
 //! subprograms. It gives the acts of an instruction, in order, and its leak checks. Both are those
 //! that `flow_paths` defines (`specs/Acts.antt`; `docs/FLOW.md`, "Acts" and "Leak checks"). Acts on
-//! names are planned first, each with the node of its name, and then made. Refused is, with
-//! `TooDeep`, an act one of whose names, or of the names of the facts that it adds, has more than
-//! 16 selectors, and so a leak check of such a name (`specs/Depths.antt`); `first_deep` tells where
-//! the first of these names stands (`specs/DeepPlaces.antt`). Which trees have calls, and which
-//! have no acts, `CallRows` tells; it is made once for all rows. Lists and the steps of names take
-//! no depth of calls. Time is linear in the trees of the instruction and in what it gives, and a
-//! tree without names isn't gone into.
+//! names are planned first, each with the node of its name, and then made. An act is refused as
+//! `TooDeep` if one of its names, or of the names of the facts that it adds, has more than 16
+//! selectors, and so is a leak check of such a name (`specs/Depths.antt`). `CallRows` tells which
+//! trees have calls and which have no acts; it is made once for all rows. Lists and the steps of
+//! names take no depth of calls. Time is linear in the trees of the instruction and in what it
+//! gives, and a tree without names isn't gone into.
 #![tactic(auto)]
 
 mod acts;
 mod actuals;
 mod call_rows;
-mod deep_place;
 mod depths;
 mod fault;
 mod instructions;

@@ -1,10 +1,10 @@
 //! What an object is.
 ghost use Rattle.std.specs.Prelude.{◌≡◌};
-ghost use Rattle.flow_paths.specs.Objects.{has_scope_end, is_borrower, is_formal, is_formal_kind, is_observer, is_package_object, is_state, is_variable, object_at, view_of};
+ghost use Rattle.flow_paths.specs.Objects.{is_borrower, is_formal, is_formal_kind, is_observer, is_package_object, is_state, is_variable, object_at, view_of};
 ghost use Rattle.program_typing.specs.Typings.{typing};
 
 use crate::typing::ProgramTyping;
-use crate::views::{is_anonymous, is_borrowing, is_observing};
+use crate::views::{is_borrowing, is_observing};
 use place_names::Mode;
 use type_definitions::View;
 use typed_tree::ObjectKind;
@@ -103,13 +103,5 @@ impl<'p> ProgramTyping<'p> {
             Some(object) => object.package.is_some() && !self.is_state(x),
             None => false,
         }
-    }
-
-    /// Whether the scope of an object ends at a point of its own, as it does where its type is
-    /// owning or an anonymous access type.
-    pub fn has_scope_end(&self, x: u32) -> bool
-        ensures { result ≡ has_scope_end (typing self.now) x }
-    {
-        self.table.is_owning(self.object_type(x)) || is_anonymous(self.view(x))
     }
 }
