@@ -1,17 +1,10 @@
 //! The first fault so far.
 ghost use Rattle.std.specs.Prelude.{◌≡◌, Bool, IsTrue};
-ghost use Rattle.type_definitions.specs.Faults.{is_before, precedes, noted, demand};
+ghost use Rattle.type_definitions.specs.Faults.{precedes, noted, demand};
 
+use expression_types::is_before;
 use spark_base::Pos;
 use type_definitions::Fault;
-
-/// Whether one position is before another.
-fn is_before(p: Pos, q: Pos) -> bool
-    ensures { result ≡ is_before p q }
-{
-    p.file < q.file
-        || (p.file == q.file && (p.line < q.line || (p.line == q.line && p.column < q.column)))
-}
 
 /// Whether one fault goes before another.
 fn precedes(f: Fault, g: Fault) -> bool
