@@ -1,4 +1,4 @@
-//! What the actuals of one call are reported for.
+//! The reports on the actuals of one call.
 ghost use Rattle.std.specs.Prelude.{◌≡◌, ◌&&◌, not, [], ◌∷◌, map, flat_map, IsTrue, OnOk, IfOk, if◌then◌else◌};
 ghost use Rattle.place_names.specs.Names.{overlaps};
 ghost use Rattle.type_definitions.specs.Types.{is_scalar};

@@ -1,4 +1,4 @@
-//! What the actuals of all calls are reported for.
+//! The reports on the actuals of all calls.
 ghost use Rattle.std.specs.Prelude.{◌≡◌, None, map, flat_map, IfOk, OnOk};
 ghost use Rattle.spark_base.specs.Lists.{Has};
 ghost use Rattle.typed_tree.specs.Nodes.{typed_at};

@@ -1,4 +1,4 @@
-//! What points are laid out from, and how one is added.
+//! The input of a layout of points, and how one point is added.
 ghost use Rattle.std.specs.Prelude.{◌≡◌, ◌+◌, [], ◌∷◌, ◌++◌, length, get_or, IfOk, OnOk};
 ghost use Rattle.numbered_points.specs.Prepared.{next_of};
 ghost use Rattle.bare_points.specs.Bare.{bare, temporary_of};

@@ -1,4 +1,4 @@
-//! What the text of a subprogram uses itself.
+//! The objects that the text of a subprogram uses itself.
 ghost use Rattle.std.specs.Prelude.{◌≡◌, ℕ, ◌&&◌, ◌==◌, false, get_or, IfOk, OnOk};
 ghost use Rattle.std.specs.List.{list_any};
 ghost use Rattle.flow_paths.specs.Instructions.{instruction_of};

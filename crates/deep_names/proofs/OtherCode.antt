@@ -1,4 +1,4 @@
--- What is said of nodes of code of other kinds.
+-- Nodes of code of other kinds.
 use Rattle.std.proofs.Common.{◌≡◌, ℕ, refl, Option, None}
 use Rattle.typed_tree.specs.declared.code_node.TypedCodeNode.{TypedCodeNode}
 use Rattle.typed_tree.specs.declared.code_node.TypedCodeNode.TheVariants as node

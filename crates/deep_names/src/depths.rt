@@ -1,4 +1,4 @@
-//! What is found in a tree.
+//! Deep names in a tree.
 ghost use Rattle.std.specs.Prelude.{◌≡◌};
 ghost use Rattle.deep_names.specs.Found.{earlier_of};
 ghost use Rattle.deep_names.specs.Turns.{both_of, either_of, named_of, no_names, settled_of, unused_of};

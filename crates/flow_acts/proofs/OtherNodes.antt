@@ -1,4 +1,4 @@
--- What is said of nodes of other kinds.
+-- Nodes of other kinds.
 use Rattle.std.proofs.Common.{◌≡◌, ℕ, Bool, [], refl, None}
 use Rattle.typed_tree.specs.declared.node.TypedNode.{TypedNode}
 use Rattle.typed_tree.specs.declared.node.TypedNode.TheVariants as node

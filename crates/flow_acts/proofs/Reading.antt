@@ -1,4 +1,4 @@
--- What is read of rows.
+-- Reading rows.
 use Rattle.std.proofs.Common.{◌≡◌, ◌≤◌, ◌+◌, ℕ, zero, suc, List, [], ◌∷◌, ◌++◌, length, get_or, refl, arith}
 use Rattle.std.proofs.lemmas.Grind.{common_steps}
 use Rattle.resolved_tree.specs.Nodes.{grown}

@@ -1,4 +1,4 @@
-//! What the step of a point does.
+//! Instructions: what the step of a point does.
 
 use spark_base::Listed;
 use typed_tree::ShortCircuit;

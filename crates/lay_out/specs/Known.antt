@@ -1,4 +1,4 @@
--- What is known of the parts of a typed program, by number.
+-- The parts of a typed program, by number.
 use Rattle.std.specs.Prelude.{ℕ, Bool, ◌||◌}
 use Rattle.type_definitions.specs.Types.{full, is_owning}
 use Rattle.typed_statements.specs.declared.subs.Subprogram.{Subprogram}

@@ -1,4 +1,4 @@
-//! What is known of the parts of a typed program, by number.
+//! The parts of a typed program, by number.
 ghost use Rattle.std.specs.Prelude.{◌≡◌, ℕ, false, get_or, map, IfOk};
 ghost use Rattle.flow_paths.specs.Objects.{has_scope_end};
 ghost use Rattle.program_typing.specs.Typings.{typing};

@@ -1,4 +1,4 @@
--- What is said of a program (docs/RULES.md, "Reports").
+-- The verdict on a program (docs/RULES.md, "Reports").
 use Rattle.std.specs.Prelude.{◌≡◌, ◌≢◌, ℕ, ◌+◌, ◌*◌, List, [], ◌∷◌, length}
 use Rattle.flow_paths.specs.declared.report.Effects.{Effects}
 use Rattle.flow_paths.specs.declared.point.LaidSub.{LaidSub}

@@ -1,4 +1,4 @@
-//! What is said of a program.
+//! The verdict on a program.
 
 use crate::accepted::AcceptedProgram;
 use flow_paths::Report;

@@ -1,4 +1,4 @@
-//! What facts are reported for at a call, by the package objects that its callee uses.
+//! The reports of facts at a call, by the package objects that its callee uses.
 ghost use Rattle.std.specs.Prelude.{◌≡◌, [], None, map, get_or, length, IfOk, OnOk, if◌then◌else◌};
 ghost use Rattle.report_lists.specs.Gains.{put_told};
 ghost use Rattle.place_names.specs.Facts as facts;

@@ -1,4 +1,4 @@
-//! What the rules on facts report over all control paths of one subprogram.
+//! The reports of the rules on facts over all control paths of one subprogram.
 //!
 //! `path_reports` takes the points of a subprogram, the list of the facts that their acts add, and
 //! what subprograms read and write. It puts into a `ReportSet` exactly the reports of `PathReport`:

@@ -1,4 +1,4 @@
-//! What was found, as reports with their texts.
+//! Findings as reports with their texts.
 ghost use Rattle.std.specs.Prelude.{◌≡◌, map, IfOk, OnOk};
 ghost use Rattle.report_lists.specs.Gains.{told, put_told};
 ghost use Rattle.flow_paths.specs.Printing.{printed_name};

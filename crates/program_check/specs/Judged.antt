@@ -1,4 +1,4 @@
--- What is said of the program that files mean once it is laid out.
+-- The answer on the program that files mean once it is laid out.
 use Rattle.std.specs.Prelude.{◌≡◌, ◌≢◌, List, [], None, Result, Ok, Err}
 use Rattle.ada_tree.specs.declared.unit.SourceUnit.{SourceUnit}
 use Rattle.place_names.specs.Reports.{Report}

@@ -1,4 +1,4 @@
--- What is known of a program, as the definitions have it.
+-- The typing of a program, as the definitions have it.
 use Rattle.flow_paths.specs.Objects.{Typing}
 use Rattle.program_typing.specs.declared.typing.ProgramTyping.{ProgramTyping}
 

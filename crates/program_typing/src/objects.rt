@@ -1,4 +1,4 @@
-//! What an object is.
+//! Questions about objects.
 ghost use Rattle.std.specs.Prelude.{◌≡◌};
 ghost use Rattle.flow_paths.specs.Objects.{is_borrower, is_formal, is_formal_kind, is_observer, is_package_object, is_state, is_variable, object_at, view_of};
 ghost use Rattle.program_typing.specs.Typings.{typing};

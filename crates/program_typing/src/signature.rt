@@ -1,4 +1,4 @@
-//! What is known of a subprogram where it is called.
+//! The signature of a subprogram, as its callers know it.
 ghost use Rattle.std.specs.Prelude.{◌≡◌};
 
 use spark_base::Listed;

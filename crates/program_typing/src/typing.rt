@@ -1,4 +1,4 @@
-//! What is known of the parts of a program by number.
+//! The parts of a program, by number.
 ghost use Rattle.std.specs.Prelude.{◌≡◌, IfOk};
 ghost use Rattle.type_definitions.specs.Types.{full, is_owning, parts, words};
 ghost use Rattle.flow_paths.specs.Objects.{designated, sub_at, traverses};

@@ -1,4 +1,4 @@
-//! What is asked of access types.
+//! Questions about access types.
 ghost use Rattle.std.specs.Prelude.{◌≡◌};
 ghost use Rattle.flow_paths.specs.Objects.{is_borrowing, is_observing, is_anonymous, is_named_access, is_variable_access, designated_of};
 

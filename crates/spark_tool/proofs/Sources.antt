@@ -1,4 +1,4 @@
--- What was read of the files so far.
+-- The files read so far.
 use Rattle.std.proofs.Common.{ℕ, List, ◌++◌}
 use Rattle.spark_tool.specs.Reading.{Sources, Texts, TooLarge, Missing}
 

@@ -1,4 +1,4 @@
--- What is read of the files (docs/TOOL.md, "Order of work").
+-- Reading the files (docs/TOOL.md, "Order of work").
 use Rattle.std.specs.Prelude.{◌≡◌, ◌<◌, ◌≤◌, ℕ, ◌+◌, ◌-◌, nat_le, if◌then◌else◌, List, [], ◌∷◌, map, length, Option, Some, MatchOption, Vec, All}
 use Rattle.std.specs.Option.{option_map_or}
 use Rattle.std.specs.declared.alloc.Global.{Global}

@@ -1,4 +1,4 @@
--- What is gathered of the points that code has (docs/FLOW.md, "Points").
+-- The summary of the points that code has (docs/FLOW.md, "Points").
 use Rattle.std.specs.Prelude.{ℕ, Bool, not, ◌<◌, ◌≡◌, List, [], ◌∷◌, ◌++◌, flat_map, map, sum, ◌+◌, length, Option, Some, None}
 use Rattle.std.specs.List.{list_all}
 use Rattle.place_names.specs.declared.act.Act.{Act}

@@ -1,4 +1,4 @@
--- What is asked of the roots of an object.
+-- Questions about the roots of an object.
 use Rattle.std.specs.Prelude.{ℕ, Bool, IsTrue, not, ◌&&◌, ◌==◌, List}
 use Rattle.place_names.specs.declared.act.Act.{Act}
 use Rattle.flow_paths.specs.Objects.{Typing}

@@ -1,4 +1,4 @@
-//! What is asked of the roots of an object.
+//! Questions about the roots of an object.
 ghost use Rattle.std.specs.Prelude.{◌≡◌};
 ghost use Rattle.flow_paths.specs.Views.{is_outer, holds_loans};
 ghost use Rattle.program_typing.specs.Typings.{typing};

@@ -1,4 +1,4 @@
-//! What is known of the declarations so far, and where the next one stands.
+//! The declarations known so far, and where the next one stands.
 ghost use Rattle.expression_types.specs.ComponentNames.{FindAllComponents};
 
 use expression_types::WordIndex;

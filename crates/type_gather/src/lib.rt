@@ -1,4 +1,4 @@
-//! What all declarations of a program are, from the code of its units.
+//! All declarations of a program, from the code of its units.
 //!
 //! `gather` takes the rows of a program's code and the numbers of its units, and gives what is
 //! `Known`: for each declaration its `Entry`, and for each type its `Info`, both by the number of

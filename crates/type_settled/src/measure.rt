@@ -1,4 +1,4 @@
-//! What is measured of a type, of the measures of its parts.
+//! The measure of a type, from the measures of its parts.
 ghost use Rattle.std.specs.Prelude.{◌≡◌, false, get_or};
 ghost use Rattle.type_definitions.specs.Types.{span};
 ghost use Rattle.type_settled.specs.Measures.{nothing, unsound_alone, word, deeper, component_of, elements_of, joined, part_in, fields_of, shape_measure, parent_unsound, info_measure};

@@ -1,4 +1,4 @@
-//! What follows names, as steps.
+//! The suffixes of names, as steps.
 ghost use Rattle.std.specs.Prelude.{◌≡◌, ◌<◌, length, IfOk};
 ghost use Rattle.resolved_tree.specs.Nodes.{tree_at};
 ghost use Rattle.type_definitions.specs.Types.{fields};
