@@ -32,7 +32,7 @@ impl<'p> ActWriter<'p> {
         ensures { IfOk result (λ a. a ≡ act_by (site self.now) doing name) }
     {
         match doing {
-            Doing::Use { of } => Ok(self.used(name, of)?),
+            Doing::Use { of } => self.used(name, of),
             Doing::Look => Ok(Act::Look { name }),
             Doing::Write => Ok(Act::Write { name }),
             Doing::Borrow { holder } => Ok(Act::Borrow { holder, name }),

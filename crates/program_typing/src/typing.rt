@@ -49,7 +49,7 @@ impl<'p> ProgramTyping<'p> {
     pub fn shared_parts(&self, t: u32) -> Result<Parts, AllocError>
         ensures { IfOk result (λ shared. shared ≡ parts (typing self.now).table t) }
     {
-        Ok(self.table.shared_parts(t)?)
+        self.table.shared_parts(t)
     }
 
     /// The words of a type.
