@@ -106,12 +106,12 @@ impl Choices {
             CodeNode::Value { value } => {
                 let is_sound = is_sound(checker, of, *value);
                 let cover = cover(&checker.reader(), *value, *value);
-                Ok(self.add_values(is_sound, cover)?)
+                self.add_values(is_sound, cover)
             }
             CodeNode::Interval { low, high } => {
                 let is_sound = are_sound(checker, of, *low, *high);
                 let cover = cover(&checker.reader(), *low, *high);
-                Ok(self.add_values(is_sound, cover)?)
+                self.add_values(is_sound, cover)
             }
             CodeNode::OthersChoice { .. } => {
                 self.has_others = true;
@@ -145,7 +145,7 @@ impl Choices {
         ensures { OnOk result (Takes (context checker.now) of (alternative_choices (code_at checker.now.rows.now alternative)) self.old self.new) }
     {
         match checker.rows.code(alternative) {
-            CodeNode::When { choices, .. } => Ok(self.add_list(checker, of, *choices)?),
+            CodeNode::When { choices, .. } => self.add_list(checker, of, *choices),
             _ => Ok(()),
         }
     }
@@ -209,7 +209,7 @@ fn leaves_gap(
         in IfOk result (λ gap. gap ≡ has_gap bounds.0 bounds.1 covers.now) }
 {
     let (low, high) = bounds_of(reader.full(chosen_type(reader, e)));
-    Ok(has_gap(alloc, low, high, covers)?)
+    has_gap(alloc, low, high, covers)
 }
 
 /// Whether what an expression is by itself is known to be scalar.

@@ -6,11 +6,11 @@ ghost use Rattle.std.specs.Prelude.{◌≡◌, ◌<◌, ◌≤◌, [], length, t
 ghost use Rattle.std.specs.List.Sorted.{IsSortedByKey};
 ghost use Rattle.std.specs.Ordering.{int_cmp};
 ghost use Rattle.type_definitions.specs.declared.judgement.Cover.{Cover};
-ghost use Rattle.type_definitions.specs.Faults.{is_before, noted};
+ghost use Rattle.type_definitions.specs.Faults.{noted};
 ghost use Rattle.type_definitions.specs.Statements.{any_meets, bounds_of, covers, doubled, has_gap, meets};
 ghost use Rattle.statement_rules.specs.Sweep.{has_values, is_first, leads, overlap, past, reach};
 
-use spark_base::Pos;
+use expression_types::is_before;
 use std::alloc::{AllocError, Global};
 use type_definitions::{Cover, Fault, View};
 use type_settled::demand;
@@ -175,14 +175,6 @@ fn count_apart(alloc: Global, covers: &[Cover]) -> Result<usize, AllocError>
         }
     }
     Ok(low)
-}
-
-/// Whether one position is before another.
-fn is_before(p: Pos, q: Pos) -> bool
-    ensures { result ≡ is_before p q }
-{
-    p.file < q.file
-        || (p.file == q.file && (p.line < q.line || (p.line == q.line && p.column < q.column)))
 }
 
 /// Whether a fault stands before each of the choices.
