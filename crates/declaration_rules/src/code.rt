@@ -95,7 +95,7 @@ fn alternative_faults(
         CodeNode::When { choices, stmts } => {
             let alone = is_one_choice(&checker.reader(), *choices) && last;
             let found = choices_faults(checker, found, of, alone, *choices);
-            Ok(code_faults(alloc, checker, found, *stmts)?)
+            code_faults(alloc, checker, found, *stmts)
         }
         _ => Ok(found),
     }
@@ -145,7 +145,7 @@ fn case_faults(
     let of = type_or_integer(checker.reader().own_type(selector));
     let found = selector_faults(checker, found, selector);
     let found = coverage(alloc, checker, found, pos, selector, alternatives)?;
-    Ok(alternatives_faults(alloc, checker, found, of, alternatives)?)
+    alternatives_faults(alloc, checker, found, of, alternatives)
 }
 
 /// With the faults of a package.
@@ -165,7 +165,7 @@ fn package_faults(
         ++ code_faults (in_hidden number (context checker.now)) (code_at checker.now.rows.now hidden))) }
 {
     let found = code_faults(alloc, &in_visible(checker, number), found, visible)?;
-    Ok(code_faults(alloc, &in_hidden(checker, number), found, hidden)?)
+    code_faults(alloc, &in_hidden(checker, number), found, hidden)
 }
 
 /// With the faults of both.
@@ -184,7 +184,7 @@ fn both_faults(
         ++ code_faults (context checker.now) (code_at checker.now.rows.now second))) }
 {
     let found = code_faults(alloc, checker, found, first)?;
-    Ok(code_faults(alloc, checker, found, second)?)
+    code_faults(alloc, checker, found, second)
 }
 
 /// With the faults of a declaration, a statement, a branch or a list.
@@ -208,7 +208,7 @@ fn item_faults(
         } => {
             let found = body_faults(checker, found, *front);
             let inner = in_body(checker, *front);
-            Ok(both_faults(alloc, &inner, found, *items, *stmts)?)
+            both_faults(alloc, &inner, found, *items, *stmts)
         }
         CodeNode::Package {
             name,
@@ -216,49 +216,47 @@ fn item_faults(
             hidden,
         } => {
             let package = declared_number(&checker.reader(), *name);
-            Ok(package_faults(alloc, checker, found, package, *visible, *hidden)?)
+            package_faults(alloc, checker, found, package, *visible, *hidden)
         }
         CodeNode::PackageBody { name, parts } => {
             let inner = in_hidden(checker, declared_number(&checker.reader(), *name));
-            Ok(code_faults(alloc, &inner, found, *parts)?)
+            code_faults(alloc, &inner, found, *parts)
         }
         CodeNode::If {
             branches,
             otherwise,
             ..
-        } => Ok(both_faults(alloc, checker, found, *branches, *otherwise)?),
+        } => both_faults(alloc, checker, found, *branches, *otherwise),
         CodeNode::Branch {
             condition,
             stmts,
             ..
         } => {
             let found = checker.faults(found, Where::Elsewhere, BOOLEAN, *condition);
-            Ok(code_faults(alloc, checker, found, *stmts)?)
+            code_faults(alloc, checker, found, *stmts)
         }
         CodeNode::Case {
             pos,
             selector,
             alternatives,
-        } => Ok(case_faults(alloc, checker, found, *pos, *selector, *alternatives)?),
-        CodeNode::Loop { stmts, .. } => {
-            Ok(code_faults(alloc, &in_loop(checker), found, *stmts)?)
-        }
+        } => case_faults(alloc, checker, found, *pos, *selector, *alternatives),
+        CodeNode::Loop { stmts, .. } => { code_faults(alloc, &in_loop(checker), found, *stmts) }
         CodeNode::While {
             condition,
             stmts,
             ..
         } => {
             let found = checker.faults(found, Where::Elsewhere, BOOLEAN, *condition);
-            Ok(code_faults(alloc, &in_loop(checker), found, *stmts)?)
+            code_faults(alloc, &in_loop(checker), found, *stmts)
         }
         CodeNode::For { range, stmts, .. } => {
             let found = range_faults(checker, found, *range);
-            Ok(code_faults(alloc, &in_loop(checker), found, *stmts)?)
+            code_faults(alloc, &in_loop(checker), found, *stmts)
         }
         CodeNode::Block { items, stmts, .. } => {
-            Ok(both_faults(alloc, checker, found, *items, *stmts)?)
+            both_faults(alloc, checker, found, *items, *stmts)
         }
-        CodeNode::More { first, rest } => { Ok(both_faults(alloc, checker, found, *first, *rest)?) }
+        CodeNode::More { first, rest } => { both_faults(alloc, checker, found, *first, *rest) }
         _ => Ok(plain_faults(checker, found, code)),
     }
 }
@@ -281,5 +279,5 @@ pub fn code_faults(
         found = item_faults(alloc, checker, found, *first)?;
         i = *rest;
     }
-    Ok(item_faults(alloc, checker, found, i)?)
+    item_faults(alloc, checker, found, i)
 }

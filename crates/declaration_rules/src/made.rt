@@ -110,7 +110,7 @@ fn add_both(
         ++ made (context checker.now) (code_at checker.now.rows.now second))) }
 {
     add_made(types, checker, first)?;
-    Ok(add_made(types, checker, second)?)
+    add_made(types, checker, second)
 }
 
 /// Adds those that a package makes.
@@ -129,7 +129,7 @@ fn add_package(
         ++ made (in_hidden number (context checker.now)) (code_at checker.now.rows.now hidden))) }
 {
     add_made(types, &in_visible(checker, number), visible)?;
-    Ok(add_made(types, &in_hidden(checker, number), hidden)?)
+    add_made(types, &in_hidden(checker, number), hidden)
 }
 
 /// Adds those that a declaration, a statement, a branch, an alternative or a list makes.
@@ -140,33 +140,33 @@ fn add_item(types: &mut Listed<Made>, checker: &Checker<'_>, code: usize) -> Res
     ensures { OnOk result (types.new ≡ types.old ++ made (context checker.now) (code_at checker.now.rows.now code)) }
 {
     match checker.rows.code(code) {
-        CodeNode::SubBody { items, stmts, .. } => Ok(add_both(types, checker, *items, *stmts)?),
+        CodeNode::SubBody { items, stmts, .. } => add_both(types, checker, *items, *stmts),
         CodeNode::Package {
             name,
             visible,
             hidden,
         } => {
             let package = declared_number(&checker.reader(), *name);
-            Ok(add_package(types, checker, package, *visible, *hidden)?)
+            add_package(types, checker, package, *visible, *hidden)
         }
         CodeNode::PackageBody { name, parts } => {
             let inner = in_hidden(checker, declared_number(&checker.reader(), *name));
-            Ok(add_made(types, &inner, *parts)?)
+            add_made(types, &inner, *parts)
         }
         CodeNode::If {
             branches,
             otherwise,
             ..
-        } => Ok(add_both(types, checker, *branches, *otherwise)?),
-        CodeNode::Branch { stmts, .. } => Ok(add_made(types, checker, *stmts)?),
-        CodeNode::Case { alternatives, .. } => Ok(add_made(types, checker, *alternatives)?),
-        CodeNode::When { stmts, .. } => Ok(add_made(types, checker, *stmts)?),
-        CodeNode::Loop { stmts, .. } => Ok(add_made(types, checker, *stmts)?),
-        CodeNode::While { stmts, .. } => Ok(add_made(types, checker, *stmts)?),
-        CodeNode::For { stmts, .. } => Ok(add_made(types, checker, *stmts)?),
-        CodeNode::Block { items, stmts, .. } => Ok(add_both(types, checker, *items, *stmts)?),
-        CodeNode::More { first, rest } => Ok(add_both(types, checker, *first, *rest)?),
-        _ => Ok(add_type(types, checker, code)?),
+        } => add_both(types, checker, *branches, *otherwise),
+        CodeNode::Branch { stmts, .. } => add_made(types, checker, *stmts),
+        CodeNode::Case { alternatives, .. } => add_made(types, checker, *alternatives),
+        CodeNode::When { stmts, .. } => add_made(types, checker, *stmts),
+        CodeNode::Loop { stmts, .. } => add_made(types, checker, *stmts),
+        CodeNode::While { stmts, .. } => add_made(types, checker, *stmts),
+        CodeNode::For { stmts, .. } => add_made(types, checker, *stmts),
+        CodeNode::Block { items, stmts, .. } => add_both(types, checker, *items, *stmts),
+        CodeNode::More { first, rest } => add_both(types, checker, *first, *rest),
+        _ => add_type(types, checker, code),
     }
 }
 
@@ -186,5 +186,5 @@ pub fn add_made(
         add_item(types, checker, *first)?;
         i = *rest;
     }
-    Ok(add_item(types, checker, i)?)
+    add_item(types, checker, i)
 }
