@@ -173,5 +173,5 @@ pub(crate) fn put_called(
     };
     let read = listed_at(effects.read.as_slice(), *sub);
     let written = listed_at(effects.written.as_slice(), *sub);
-    Ok(put_uses(alloc, table, objects, tree, point.pos, read, written, set)?)
+    put_uses(alloc, table, objects, tree, point.pos, read, written, set)
 }

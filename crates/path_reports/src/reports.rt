@@ -101,7 +101,7 @@ fn put_where(
         (where_told objects.now effects.now point.now tree.entry)) }
 {
     match tree {
-        Some(tree) => Ok(put_point(alloc, table, objects, effects, tree, point, set)?),
+        Some(tree) => put_point(alloc, table, objects, effects, tree, point, set),
         None => Ok(()),
     }
 }

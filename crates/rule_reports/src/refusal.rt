@@ -21,9 +21,9 @@ pub(crate) fn any_position(alloc: Global, files: &[String], pos: Pos) -> Result<
     ensures { IfOk result (λ text. text.items ≡ position_text (map string_bytes files.now) pos) }
 {
     if (pos.file as usize) < files.len() {
-        return Ok(position_text(alloc, files, pos)?);
+        return position_text(alloc, files, pos);
     }
-    Ok(nameless_position(alloc, pos)?)
+    nameless_position(alloc, pos)
 }
 
 /// The line of a refusal, `POS: CODE TEXT`. The files are the names as they were given, by number.

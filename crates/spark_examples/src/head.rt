@@ -170,5 +170,5 @@ pub(crate) fn read_head(alloc: Global, text: &[u8]) -> Result<Head, HeadFault> {
             draft.take(entry)?;
         }
     }
-    Ok(draft.finish()?)
+    draft.finish()
 }

@@ -69,7 +69,7 @@ pub(crate) fn file_refusal_answer(
         line: 1,
         column: 1,
     };
-    Ok(refusal_answer(alloc, names, pos, code)?)
+    refusal_answer(alloc, names, pos, code)
 }
 
 /// No report.

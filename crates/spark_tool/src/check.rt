@@ -42,7 +42,7 @@ fn judged(alloc: Global, names: &[String], verdict: &Verdict) -> Result<Answer, 
     ensures { IfOk result (λ answer. Tells (map string_bytes names.now) verdict.now (answer_of answer)) }
 {
     match verdict {
-        Verdict::Accepted(_) => Ok(accepted_answer(alloc)?),
+        Verdict::Accepted(_) => accepted_answer(alloc),
         Verdict::Rejected {
             names: printed,
             reports,

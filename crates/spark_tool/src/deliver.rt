@@ -39,7 +39,7 @@ pub(crate) fn deliver<K: Sink>(answer: &Answer, out: &mut K, err: &mut K) -> Res
     ensures no_read { result ≢ Err Stop.Read }
 {
     match answer.stream {
-        Stream::Out => Ok(write_text(out, &answer.text)?),
-        Stream::Err => Ok(write_text(err, &answer.text)?),
+        Stream::Out => write_text(out, &answer.text),
+        Stream::Err => write_text(err, &answer.text),
     }
 }

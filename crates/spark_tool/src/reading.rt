@@ -74,7 +74,7 @@ fn read_file<F: FileStore>(
     if files.open_file(name).is_err() {
         return Err(Stop::Read);
     }
-    Ok(read_open_file(alloc, files, room)?)
+    read_open_file(alloc, files, room)
 }
 
 /// The texts of the named files, read in order up to the first byte past the limit.

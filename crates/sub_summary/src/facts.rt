@@ -122,7 +122,7 @@ fn add_part(
     if next < found.len() && is_moved_part(&found.as_slice()[next], name, part) {
         return Ok(next + 1);
     }
-    Ok(add_fact(found, Fact::Moved(part_of(name, part)?))?)
+    add_fact(found, Fact::Moved(part_of(name, part)?))
 }
 
 /// Adds the facts of a move. Those of a name mostly stand in the order of its parts, so each is

@@ -25,7 +25,7 @@ pub fn declared_text(alloc: Global, rows: &Rows, name: usize) -> Result<Word, Al
     ensures { IfOk result (λ word. word ≡ declared_text (code_at rows.now name)) }
 {
     match rows.code(name) {
-        CodeNode::Declared { text, .. } => Ok(text.clone()?),
+        CodeNode::Declared { text, .. } => text.clone(),
         _ => Ok(Word::from_listed(Listed::new(alloc))),
     }
 }

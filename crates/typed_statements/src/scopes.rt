@@ -25,7 +25,7 @@ fn behind_both(rows: &Rows, first: usize, second: usize, from: u32) -> Result<u3
     ensures { IfOk result (λ n. n ≡ from + (scope_count (code_at rows.now first) + scope_count (code_at rows.now second))) }
 {
     let next = behind(rows, first, from)?;
-    Ok(behind(rows, second, next)?)
+    behind(rows, second, next)
 }
 
 /// The same, of code that is no list.
@@ -38,19 +38,19 @@ fn behind_one(rows: &Rows, code: usize, from: u32) -> Result<u32, AllocError>
     match rows.code(code) {
         CodeNode::SubBody { items, stmts, .. } | CodeNode::Block { items, stmts, .. } => {
             let inner = following(from)?;
-            Ok(behind_both(rows, *items, *stmts, inner)?)
+            behind_both(rows, *items, *stmts, inner)
         }
         CodeNode::Package {
             visible,
             hidden,
             ..
-        } => Ok(behind_both(rows, *visible, *hidden, from)?),
+        } => behind_both(rows, *visible, *hidden, from),
         CodeNode::If {
             branches,
             otherwise,
             ..
-        } => Ok(behind_both(rows, *branches, *otherwise, from)?),
-        CodeNode::More { first, rest } => Ok(behind_both(rows, *first, *rest, from)?),
+        } => behind_both(rows, *branches, *otherwise, from),
+        CodeNode::More { first, rest } => behind_both(rows, *first, *rest, from),
         CodeNode::PackageBody { parts: inner, .. }
         | CodeNode::Branch { stmts: inner, .. }
         | CodeNode::Case {
@@ -59,10 +59,10 @@ fn behind_one(rows: &Rows, code: usize, from: u32) -> Result<u32, AllocError>
         }
         | CodeNode::When { stmts: inner, .. }
         | CodeNode::Loop { stmts: inner, .. }
-        | CodeNode::While { stmts: inner, .. } => Ok(behind(rows, *inner, from)?),
+        | CodeNode::While { stmts: inner, .. } => behind(rows, *inner, from),
         CodeNode::For { stmts, .. } => {
             let inner = following(from)?;
-            Ok(behind(rows, *stmts, inner)?)
+            behind(rows, *stmts, inner)
         }
         _ => Ok(from),
     }
@@ -82,5 +82,5 @@ pub fn behind(rows: &Rows, code: usize, from: u32) -> Result<u32, AllocError>
         next = behind_one(rows, *first, next)?;
         i = *rest;
     }
-    Ok(behind_one(rows, i, next)?)
+    behind_one(rows, i, next)
 }

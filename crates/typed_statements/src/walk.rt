@@ -43,7 +43,7 @@ fn list(
 {
     let mut made = Vec::new(writer.alloc);
     statements(writer, code, next, &mut made, to)?;
-    Ok(to.code_list(&made)?)
+    to.code_list(&made)
 }
 
 /// Adds the list of the declarations and the statements of a body.
@@ -66,7 +66,7 @@ pub fn body(
     let mut made = Vec::new(writer.alloc);
     statements(writer, items, next, &mut made, to)?;
     statements(writer, stmts, next, &mut made, to)?;
-    Ok(to.code_list(&made)?)
+    to.code_list(&made)
 }
 
 /// Adds an `if` of its branches and what follows `else`.
