@@ -1,5 +1,5 @@
 -- What a refusal says of the faults of a program.
-use Rattle.std.proofs.Common.{◌≡◌, ℕ, true, List, length, Option, None, Some, Result, refl, sym, ap, ◌∙◌, subst}
+use Rattle.std.proofs.Common.{◌≡◌, ℕ, Bool, true, false, IsTrue, List, length, Option, None, Some, Result, refl, sym, ap, ◌∙◌, subst}
 use Rattle.std.specs.List.{flat_map}
 use Rattle.std.specs.Coded.{Coded, code_by, coded×, coded_list, coded_ℕ}
 use Rattle.ada_tree.specs.declared.unit.SourceUnit.{SourceUnit}
@@ -16,7 +16,7 @@ use Rattle.type_definitions.specs.declared.refusal.TypeRefusal.{TypeRefusal}
 use Rattle.type_definitions.specs.declared.refusal.TypeRefusal.TheVariants.{TooLarge, TooManyParts, NoElements, WrongType, NotVariable, WrongProfile, BadChoices, OwningPlace, AnonymousPlace, NotStatic, PackageValue, Memory}
 use Rattle.type_definitions.specs.Faults.{first, noted}
 use Rattle.type_definitions.specs.Refusals.{Judges, Says, refusal_of, size_refusal, sentence_refusal}
-use Rattle.type_definitions.specs.Whole.{TypeFault, Size, Sentence, all_made, decided, fault_known, known_of, known_with, told, made_faults, sentence_faults, type_fault, type_sizes}
+use Rattle.type_definitions.specs.Whole.{TypeFault, Size, Sentence, all_made, decided, fault_known, known_of, told, made_faults, sentence_faults, type_fault, type_sizes}
 use Rattle.typing_steps.specs.Programs.{program_of, sentence_fault}
 
 says : (r : TypeRefusal) (fault : TypeFault) → r ≡ refusal_of fault → Says r (Some fault)
@@ -103,6 +103,10 @@ nothing_named Memory says = refl
 
 memory_says : (r : TypeRefusal) (found : Option TypeFault) → r ≡ Memory → Says r found
 memory_says r found is = subst (λ (z : TypeRefusal). Says z found) (sym is) tt
+
+pub not_memory : (r : TypeRefusal) (b : Bool) → (r ≡ Memory → IsTrue b) → b ≡ false → r ≡ Memory → ⊥
+not_memory r true memory not_so is = cc
+not_memory r false memory not_so is = let so : IsTrue false = memory is in cc
 
 -- The first fault is told again, where nothing else is found.
 pub first_told : (r : TypeRefusal) (found causes : Option TypeFault) → Says r found → causes ≡ None → Says r (told found causes)

@@ -1,7 +1,8 @@
 //! The first broken sentence on types.
-ghost use Rattle.std.specs.Prelude.{◌≡◌, ◌<◌, true, All, IfOk, length, map};
+ghost use Rattle.std.specs.Prelude.{◌≡◌, ◌<◌, ◌↔◌, true, All, IfOk, IsTrue, length, map};
 ghost use Rattle.name_resolve.specs.Inputs.{trees_of};
 ghost use Rattle.resolved_tree.specs.Nodes.{code_at, HoldsAllCode};
+ghost use Rattle.resolved_tree.specs.Trees.{Program};
 ghost use Rattle.expression_rules.specs.Around.{context};
 ghost use Rattle.type_definitions.specs.Refusals.{Judges, Says};
 ghost use Rattle.type_definitions.specs.Whole.{fault_known, known_of, known_with, outside, type_fault};
@@ -59,12 +60,19 @@ fn check_causes(
     count: usize,
 ) -> Result<(), TypeRefusal>
     requires { All (λ u. u < length rows.now.1) units.now }
-    ensures { let program = record { count = count; units = map (code_at rows.now) units.now } in
+    ensures { let program : Program = record { count = count; units = map (code_at rows.now) units.now } in
         Judges result (fault_known (known_with true program) program.units) }
 {
     let known = gather(alloc, rows, units, count, true)?;
     let settled = Settled::new(alloc, known)?;
     check_units(alloc, rows, &settled, units)
+}
+
+/// Whether memory was out.
+fn is_memory(refusal: &TypeRefusal) -> bool
+    ensures { IsTrue result ↔ (refusal.now ≡ TypeRefusal.Memory) }
+{
+    matches!(refusal, TypeRefusal::Memory)
 }
 
 /// The refusal of a program that breaks a sentence on types: what only follows from a fault isn't
@@ -77,11 +85,11 @@ pub fn told(
     refusal: TypeRefusal,
 ) -> TypeRefusal
     requires units { All (λ u. u < length rows.now.1) units.now }
-    requires said { let program = record { count = count; units = map (code_at rows.now) units.now } in
+    requires said { let program : Program = record { count = count; units = map (code_at rows.now) units.now } in
         Says refusal (fault_known (known_of program) program.units) }
     ensures { Says result (type_fault (record { count = count; units = map (code_at rows.now) units.now })) }
 {
-    if matches!(refusal, TypeRefusal::Memory) {
+    if is_memory(&refusal) {
         return refusal;
     }
     match check_causes(alloc, rows, units, count) {
