@@ -1,0 +1,10 @@
+pub mod Counts
+pub mod Ringless
+pub mod Wholes
+pub mod Lone
+pub mod Rows
+pub mod Turns
+pub mod Gathered
+pub mod Faultless
+pub mod Main
+pub mod Examples
