@@ -1,17 +1,18 @@
 -- A small program in order; and one that declares a number twice, has no fault of typing, and has a type
 -- in itself.
-use Rattle.std.proofs.Common.{◌≡◌, ◌≤◌, inl, inr, ℕ, Bool, true, false, ◌||◌, List, [], ◌∷◌, arith, refl, sym, ap, ◌∙◌, nat_eq, Some, None, true≢false}
+use Rattle.std.proofs.Common.{◌≡◌, ◌≤◌, ◌<◌, inl, inr, ℕ, Bool, true, false, ◌||◌, List, [], ◌∷◌, arith, refl, sym, ap, ◌∙◌, nat_eq, Some, None, true≢false}
 use Rattle.spark_base.specs.declared.position.Pos.{Pos}
 use Rattle.spark_base.specs.Lists.{Has}
 use Rattle.resolved_tree.specs.declared.node.Mark.{Mark}
 use Rattle.resolved_tree.specs.Trees.{NoMore, More, Code, Declared, Record, Components, Access, Incomplete, Private, TypeDecl, Package, Program}
 use Rattle.type_definitions.specs.Gathered.{gather}
 use Rattle.type_definitions.specs.Entries.{is_complete}
+use Rattle.type_definitions.specs.Faults.{is_before}
 use Rattle.type_definitions.specs.Whole.{known_of, type_fault, type_sizes, all_made, made, sentence_faults}
 use Rattle.type_definitions.specs.Declarations.{code_faults, some_part}
 use Rattle.type_definitions.specs.Types.{words, words_within, words_of, shape_of, parts, parts_within}
 use Rattle.type_settled.specs.Rings.{Inside, here, deeper}
-use Rattle.settled_types.specs.Orderly.{Past, at_start, with_awaited, with_defined, IsNew, IsOrderly, Orderly, past_after}
+use Rattle.settled_types.specs.Orderly.{Past, at_start, with_incomplete, with_private, with_defined, within, IsNew, IsOrderly, Orderly, past_after}
 
 abbrev it : ℕ → ℕ → Code
 it line n = Declared (record { file = 0; line = line; column = 1 }) n []
@@ -45,12 +46,11 @@ small = record {
       NoMore)))) ∷ [];
 }
 
--- no mark that stands before the end of C is after it
-before : (p : Pos) → Has ((mark 6 16).pos ∷ (mark 5 18).pos ∷ []) p → is_complete (known_of small) 17 p ≡ false
-unfolding known_of gather is_complete
-before p (inl is) = ap (λ q. is_complete (known_of small) 17 q) (sym is)
-before p (inr (inl is)) = ap (λ q. is_complete (known_of small) 17 q) (sym is)
-before p (inr (inr never)) = absurd never
+-- the marks in C and in T stand before the end of C
+before : (at : Pos) → Has ((mark 6 16).pos ∷ (mark 5 18).pos ∷ []) at → is_before (end 6) at ≡ false
+before at (inl is) = ap (is_before (end 6)) (sym is)
+before at (inr (inl is)) = ap (is_before (end 6)) (sym is)
+before at (inr (inr never)) = absurd never
 
 abbrev is_in : ℕ → List ℕ → Bool
 is_in d [] = false
@@ -74,35 +74,38 @@ absent (x ∷ rest) d none is = elim is [
     second true b e = absurd (true≢false e)
     second false b e = e
 
-new : (d : ℕ) (past : Past) → 15 ≤ d → is_in d past.awaited ≡ false → is_in d past.defined ≡ false → IsNew d past
-new d past high first second = (high, absent past.awaited d first, absent past.defined d second)
+new : (d : ℕ) (past : Past) → 15 ≤ d → d < 21 → is_in d past.awaited ≡ false → is_in d past.defined ≡ false → IsNew 21 d past
+new d past low high first second = (low, high, absent past.awaited d first, absent past.defined d second)
 
--- what stands before the private part, and after its first and its second declaration
+-- what stands before the visible part, after it, and after the first and the second private declaration
+abbrev zero_past : Past
+zero_past = within true at_start
+
 abbrev one : Past
-one = with_awaited 16 at_start
+one = with_private 16 zero_past
 
 abbrev two : Past
-two = with_awaited 17 one
+two = with_incomplete 17 one
 
 abbrev three : Past
 three = with_defined 18 [] two
 
 orderly_small : IsOrderly small
-unfolding Orderly past_after known_of gather
+unfolding Orderly past_after
 orderly_small = (
   (
-    new 15 at_start (omega arith) refl refl,
+    new 15 at_start (omega arith) (omega arith) refl refl,
     (
-      (new 16 at_start (omega arith) refl refl, tt),
+      (new 16 zero_past (omega arith) (omega arith) refl refl, tt),
       (
-        new 17 one (omega arith) refl refl,
-        ((
-          ((omega arith, inl (new 18 two (omega arith) refl refl)), tt),
+        new 17 one (omega arith) (omega arith) refl refl,
+        (
+          ((omega arith, omega arith, inl (new 18 two (omega arith) (omega arith) refl refl)), tt),
           (
-            ((omega arith, inr (inl refl)), tt),
-            (((omega arith, inr (inr before)), tt), tt),
+            ((omega arith, omega arith, inr (inl (inl refl))), tt),
+            (((omega arith, omega arith, inr (inr (inl refl, before))), tt), tt),
           ),
-        )),
+        ),
       ),
     ),
   ),

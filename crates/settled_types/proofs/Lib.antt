@@ -4,6 +4,7 @@ pub mod Wholes
 pub mod Lone
 pub mod Rows
 pub mod Turns
+pub mod Homes
 pub mod Gathered
 pub mod Faultless
 pub mod Main

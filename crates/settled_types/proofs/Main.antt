@@ -1,7 +1,8 @@
 -- The types of a program without a fault of typing are those of their whole definitions.
-use Rattle.std.proofs.Common.{◌≡◌, ◌⊎◌, inl, inr, ℕ, zero, suc, ◌-◌, ◌<◌, ◌≤◌, Bool, true, false, ◌||◌, List, [], ◌∷◌, replicate, refl, sym, ap, ◌∙◌, arith, IsTrue, nat_eq, None, is_some, true≢false, subst, if◌then◌else◌}
+use Rattle.std.proofs.Common.{◌≡◌, ◌⊎◌, inl, inr, ℕ, zero, suc, ◌-◌, ◌<◌, ◌≤◌, Bool, true, false, ◌||◌, List, [], ◌∷◌, length, replicate, refl, sym, ap, ◌∙◌, arith, IsTrue, nat_eq, None, is_some, true≢false, subst, if◌then◌else◌}
 use Rattle.std.specs.Prelude.{slice_get}
 use Rattle.std.proofs.lemmas.Bool.{cases_eq}
+use Rattle.std.proofs.lemmas.List.{length-replicate}
 use Rattle.spark_base.specs.Lists.{Has}
 use Rattle.resolved_tree.specs.Trees.{Code, Program}
 use Rattle.type_definitions.specs.declared.table.Known.{Known}
@@ -17,10 +18,11 @@ use Rattle.type_settled.specs.Rings.{IsPart}
 use Rattle.type_sizes.specs.Formed.{all_formed}
 use Rattle.settled_types.specs.Wholes.{written, AreFinite, AreWhole}
 use Rattle.settled_types.specs.Orderly.{Past, at_start, past_after, past_units, AllOrderly, IsOrderly}
-use Rattle.settled_types.specs.Stamped.{AllOpen, Keeps, AreRows, AreStamped}
+use Rattle.settled_types.specs.Stamped.{AllOpen, LeadsTo, AreRows, AreStamped}
 use Rattle.settled_types.proofs.Ringless.{is_same}
 use Rattle.settled_types.proofs.Wholes.{finite_whole}
 use Rattle.settled_types.proofs.Lone.{lone}
+use Rattle.settled_types.proofs.Homes.{AtHome, homes}
 use Rattle.settled_types.proofs.Turns.{Turn, stay, and_then}
 use Rattle.settled_types.proofs.Gathered.{gathered, row_same, row_plain}
 use Rattle.settled_types.proofs.Faultless.{program_open}
@@ -78,6 +80,9 @@ first_rows count (suc (suc (suc zero))) less = refl
 first_rows count (suc (suc (suc (suc zero)))) less = refl
 first_rows count (suc (suc (suc (suc (suc t))))) less = absurd (omega (arith, less))
 
+first_long : (count : ℕ) → count ≤ length (first_table count)
+first_long count = let a = length-replicate (count - 5) no_type in omega (arith, a)
+
 no_entry : (n t : ℕ) → is_type (entry_of (record { entries = replicate n entry.Nothing; table = [] }) t) ≡ false
 no_entry zero t = refl
 no_entry (suc n) zero = refl
@@ -106,38 +111,42 @@ first_types count (suc (suc (suc (suc (suc (suc (suc (suc (suc (suc (suc (suc (s
 -- ---- a turn
 
 -- What a table has to be where a turn begins.
-record Begins (table : Table) : Type 0 where
+record Begins (count : ℕ) (table : Table) : Type 0 where
+  long : count ≤ length table
   predefined : (t : ℕ) → t < 5 → slice_get table t ≡ slice_get (predefined_types false) t
   based : (t : ℕ) → is_some (info table t).seen_in ≡ true → base table t ≡ t
 
 abbrev begin : ℕ → Table → Known
 begin count table = record (at_first false count) { table = table }
 
-begin_rows : (count : ℕ) (table : Table) → Begins table → AreRows table at_start (begin count table)
+begin_rows : (count : ℕ) (table : Table) → Begins count table → AreRows count table at_start (begin count table)
 begin_rows count table begins = record {
+  long = begins.long;
   predefined = begins.predefined;
   types = λ v is. inl (first_types count v is);
   based = begins.based;
   rest = λ t v none part. part;
   plain = λ t of none e. e;
   awaited = λ d of is. absurd is;
+  private = λ t is. absurd is;
+  incomplete = λ t is. absurd is;
 }
 
-module _ (final : Known) (all : List ℕ) (start : Table)
+module _ (final : Known) (count : ℕ) (all : List ℕ) (start : Table)
     (unlike : (d of : ℕ) → 15 ≤ d → Has all d → written start d ≡ shape.Same of → ⊥) where
-  units_turn : (units : List Code) (p : Past) (c : Context) → AllOrderly final p units → AllOpen final units
-      → Turn final all start p c.known (past_units units p) (gather_units units c).known
-  units_turn [] p c are opens = stay final all start unlike p c.known
-  units_turn (u ∷ rest) p c are opens =
-      and_then final all start unlike p (past_after u p) (past_units rest (past_after u p)) c.known (gather u c).known
-      (gather_units rest (gather u c)).known (gathered final all start unlike u p c are.0 opens.0)
-      (units_turn rest (past_after u p) (gather u c) are.1 opens.1)
+  units_turn : (units : List Code) (p : Past) (c : Context) → AllOrderly count p units → AllOpen final units → AtHome p c
+      → Turn final count all start p c.known (past_units units p) (gather_units units c).known
+  units_turn [] p c are opens at = stay final count all start unlike p c.known
+  units_turn (u ∷ rest) p c are opens at =
+      and_then final count all start unlike p (past_after u p) (past_units rest (past_after u p)) c.known (gather u c).known
+      (gather_units rest (gather u c)).known (gathered final count all start unlike u p c are.0 opens.0 at)
+      (units_turn rest (past_after u p) (gather u c) are.1 opens.1 (homes u p c at))
 
 -- ---- the second turn begins with what the first one knows
 
 -- The fourth row is made of the first one.
-part_four : (table : Table) → Begins table → (v : ℕ) → IsPart table v 4 → v ≡ 0
-part_four table begins v part =
+part_four : (count : ℕ) (table : Table) → Begins count table → (v : ℕ) → IsPart table v 4 → v ≡ 0
+part_four count table begins v part =
     let less : 4 < 5 = omega arith in
     by (ap (λ o. holds true (λ u. nat_eq u v) (info_found o)) (sym (begins.predefined 4 less)) ∙ part)
   where
@@ -158,7 +167,7 @@ stamp_low t = low (nat_eq t 4)
     low true = omega arith
     low false = omega arith
 
-begin_stamped : (final : Known) (count : ℕ) (table : Table) → Begins table → AreStamped final at_start (begin count table)
+begin_stamped : (final : Known) (count : ℕ) (table : Table) → Begins count table → AreStamped final at_start (begin count table)
 begin_stamped final count table begins = record {
   stamp = stamp_four;
   now = 2;
@@ -174,7 +183,7 @@ begin_stamped final count table begins = record {
     four t (inr never) = absurd never
 
     zero_of : (t v : ℕ) → Has at_start.defined t → IsPart table v t → v ≡ 0
-    zero_of t v is part = part_four table begins v (subst (λ t. IsPart table v t) (four t is) part)
+    zero_of t v is part = part_four count table begins v (subst (λ t. IsPart table v t) (four t is) part)
 
     low : (v : ℕ) → v ≡ 0 → v < 5
     low v e = omega (arith, e)
@@ -187,10 +196,10 @@ begin_stamped final count table begins = record {
 
     no_chain : (t of on : ℕ) → Has at_start.defined t → written table t ≡ shape.Same of → written table of ≡ shape.Same on → ⊥
     no_chain t of on is e goes =
-        let rows : AreRows table at_start (begin count table) = begin_rows count table begins in
+        let rows : AreRows count table at_start (begin count table) = begin_rows count table begins in
         let less : t < 5 = let a = four t is in omega (arith, a) in
-        row_plain table at_start (begin count table) rows on
-        (ap (written table) (sym (row_same table at_start (begin count table) rows t of less e)) ∙ goes)
+        row_plain count table at_start (begin count table) rows on
+        (ap (written table) (sym (row_same count table at_start (begin count table) rows t of less e)) ∙ goes)
 
 -- ---- whether a type is defined
 
@@ -215,11 +224,12 @@ module _ (p : Program) (are : IsOrderly p) (opens : AllOpen (known_of p) p.units
   first = first_table p.count
 
   turn : (table : Table) → ((d of : ℕ) → 15 ≤ d → Has end.awaited d → written table d ≡ shape.Same of → ⊥)
-      → Turn (known_of p) end.awaited table at_start (begin p.count table) end (known_from p table)
-  turn table unlike = units_turn (known_of p) end.awaited table unlike p.units at_start (outside (begin p.count table)) are opens
+      → Turn (known_of p) p.count end.awaited table at_start (begin p.count table) end (known_from p table)
+  turn table unlike = units_turn (known_of p) p.count end.awaited table unlike p.units at_start (outside (begin p.count table)) are opens (λ is. absurd (true≢false (sym is)))
 
-  begins_first : Begins first
+  begins_first : Begins p.count first
   begins_first = record {
+    long = first_long p.count;
     predefined = first_rows p.count;
     based = λ t is. absurd (true≢false (sym is ∙ first_unseen p.count t));
   }
@@ -228,24 +238,24 @@ module _ (p : Program) (are : IsOrderly p) (opens : AllOpen (known_of p) p.units
   unlike_first d of high is e = let a = first_same p.count d of e in omega (arith, a, high)
 
   -- what is known after the first turn
-  rows_first : AreRows first end (known_from p first)
+  rows_first : AreRows p.count first end (known_from p first)
   rows_first = ((turn first unlike_first).goes (λ d is. is) (begin_rows p.count first begins_first)).rows
 
   abbrev second : Table
   second = (known_from p first).table
 
-  begins_second : Begins second
-  begins_second = record { predefined = rows_first.predefined; based = rows_first.based }
+  begins_second : Begins p.count second
+  begins_second = record { long = rows_first.long; predefined = rows_first.predefined; based = rows_first.based }
 
-  turn_second : Turn (known_of p) end.awaited second at_start (begin p.count second) end (known_from p second)
+  turn_second : Turn (known_of p) p.count end.awaited second at_start (begin p.count second) end (known_from p second)
   turn_second = turn second (λ d of high is. rows_first.awaited d of is)
 
-  rows_second : AreRows second end (known_from p second)
+  rows_second : AreRows p.count second end (known_from p second)
   rows_second = (turn_second.goes (λ d is. is) (begin_rows p.count second begins_second)).rows
 
-  stamped_second : Keeps (known_from p second) (known_of p) → AreStamped (known_of p) end (known_from p second)
-  stamped_second kept =
-      (turn_second.goes (λ d is. is) (begin_rows p.count second begins_second)).stamped kept (begin_stamped (known_of p) p.count second begins_second)
+  stamped_second : LeadsTo (known_of p) end (known_from p second) → AreStamped (known_of p) end (known_from p second)
+  stamped_second later =
+      (turn_second.goes (λ d is. is) (begin_rows p.count second begins_second)).stamped later (begin_stamped (known_of p) p.count second begins_second)
 
   four_defined : (t : ℕ) → t ≡ 4 → Has end.defined t
   four_defined t e = turn_second.defines t (inl (sym e))
@@ -267,7 +277,7 @@ module _ (p : Program) (are : IsOrderly p) (opens : AllOpen (known_of p) p.units
   pub finite_known : AreFinite (known_of p).table
   unfolding known_of
   finite_known =
-      let stamped : AreStamped (known_of p) end (known_from p second) = stamped_second (λ v is. is) in record {
+      let stamped : AreStamped (known_of p) end (known_from p second) = stamped_second (record { keeps = λ v is. is; fixed = λ t is. refl }) in record {
         lone = lone (known_of p).table stamped.stamp (λ t v part. stamped.early t v (is_defined t v part) part) rows_second.based;
         short = λ t of on e goes. stamped.short t of on (same_defined t of e) e goes;
       }

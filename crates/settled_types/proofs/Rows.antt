@@ -2,7 +2,7 @@
 use Rattle.std.proofs.Common.{◌≡◌, ◌⊎◌, inl, inr, ℕ, zero, suc, ◌<◌, ◌≤◌, Bool, true, false, ◌||◌, List, [], ◌∷◌, refl, sym, ap, ◌∙◌, arith, length, get_or, set, nat_eq, Some, None, is_some, true≢false, subst}
 use Rattle.std.specs.Prelude.{slice_get}
 use Rattle.std.proofs.lemmas.Bool.{cases_eq, cases_lt}
-use Rattle.std.proofs.lemmas.List.{get_or-set_same, get_or-set_other, set_past}
+use Rattle.std.proofs.lemmas.List.{get_or-set_same, get_or-set_other, set_past, length-set}
 use Rattle.spark_base.specs.declared.position.Pos.{Pos}
 use Rattle.spark_base.specs.Lists.{Has}
 use Rattle.type_definitions.specs.declared.table.Info.{Info}
@@ -17,7 +17,7 @@ use Rattle.type_settled.specs.Reach.{holds}
 use Rattle.type_settled.specs.Rings.{IsPart}
 use Rattle.settled_types.specs.Wholes.{written}
 use Rattle.settled_types.specs.Orderly.{Past, IsNew}
-use Rattle.settled_types.specs.Stamped.{IsOpen, IsType, IsClosed, AreRows, AreStamped}
+use Rattle.settled_types.specs.Stamped.{IsOpen, IsType, IsFixed, IsClosed, AreRows, AreStamped}
 use Rattle.settled_types.proofs.Ringless.{itself, shape_info}
 
 -- ---- lists
@@ -34,6 +34,11 @@ module _ {A : Type 0} where
   slice_same [] d x = inr refl
   slice_same (y ∷ rest) zero x = inl refl
   slice_same (y ∷ rest) (suc d) x = slice_same rest d x
+
+  pub slice_in : (xs : List A) (d : ℕ) (x : A) → d < length xs → slice_get (set xs d x) d ≡ Some x
+  slice_in [] d x within = absurd (omega (arith, within))
+  slice_in (y ∷ rest) zero x within = refl
+  slice_in (y ∷ rest) (suc d) x within = slice_in rest d x (omega (arith, within))
 
 -- ---- a row
 
@@ -100,10 +105,10 @@ entered known d e = record known { entries = set known.entries d e }
 abbrev pub told : Known → ℕ → Info → Known
 told known d i = record known { table = set known.table d i }
 
-pub not_type : (d : ℕ) (p : Past) → IsNew d p → IsType p d → ⊥
-not_type d p new (inl less) = let a = new.0 in omega (arith, a, less)
-not_type d p new (inr (inl is)) = new.1 is
-not_type d p new (inr (inr is)) = new.2 is
+pub not_type : (count d : ℕ) (p : Past) → IsNew count d p → IsType p d → ⊥
+not_type count d p new (inl less) = let a = new.0 in omega (arith, a, less)
+not_type count d p new (inr (inl is)) = new.2 is
+not_type count d p new (inr (inr is)) = new.3 is
 
 module _ (known : Known) (d : ℕ) (e : Entry) where
   entry_here : (d < length known.entries) ⊎ (length known.entries ≤ d)
@@ -133,8 +138,9 @@ type_later p q awaits defines v (inr (inl is)) = inr (inl (awaits v is))
 type_later p q awaits defines v (inr (inr is)) = inr (inr (defines v is))
 
 -- What is asked of a row, whether it is defined or not. `p` stands before it, and `q` after it.
-pub record Fits (start : Table) (p q : Past) (d : ℕ) (i : Info) : Type 0 where
+pub record Fits (count : ℕ) (start : Table) (p q : Past) (d : ℕ) (i : Info) : Type 0 where
   pub own : 15 ≤ d
+  pub inside : d < count
   pub awaits : (t : ℕ) → Has p.awaited t → Has q.awaited t
   pub awaited : (t : ℕ) → Has q.awaited t → Has p.awaited t ⊎ (t ≡ d)
   pub defines : (t : ℕ) → Has p.defined t → Has q.defined t
@@ -142,8 +148,31 @@ pub record Fits (start : Table) (p q : Past) (d : ℕ) (i : Info) : Type 0 where
   pub plain : (Has q.defined d → ⊥) → (of : ℕ) → i.shape ≡ shape.Same of → written start d ≡ shape.Same of
   pub unlike : Has q.awaited d → (of : ℕ) → i.shape ≡ shape.Same of → ⊥
   pub based : is_some i.seen_in ≡ true → i.base ≡ d
+  pub private : (t : ℕ) → Has q.private t
+      → (Has p.private t × (t ≡ d → ⊥)) ⊎ ((t ≡ d) × Has q.awaited d × (is_some i.seen_in ≡ true))
+  pub incomplete : (t : ℕ) → Has q.incomplete t
+      → (Has p.incomplete t × (t ≡ d → ⊥)) ⊎ ((t ≡ d) × Has q.awaited d × (is_some i.completed ≡ true))
+  pub unfixed : IsFixed p d → ⊥
 
-module _ (start : Table) (p q : Past) (known : Known) (d : ℕ) (i : Info) (fits : Fits start p q d i) (rows : AreRows start p known) where
+module _ (count : ℕ) (start : Table) (p q : Past) (known : Known) (d : ℕ) (i : Info) (fits : Fits count start p q d i)
+    (rows : AreRows count start p known) where
+  pub row_new : slice_get (set known.table d i) d ≡ Some i
+  row_new = let a = fits.inside in let b = rows.long in slice_in known.table d i (omega (arith, a, b))
+
+  pub row_stays : (t : ℕ) → IsFixed p t → slice_get (set known.table d i) t ≡ slice_get known.table t
+  row_stays t is = slice_other known.table d t i (λ same. fits.unfixed (subst (IsFixed p) same is))
+
+  -- a test of rows that is met by the new one, and by others before
+  kept : (f : Info → Bool) (t : ℕ) (waiting : List ℕ)
+      → (Has waiting t → Has p.awaited t × (f (info known.table t) ≡ true))
+      → (Has waiting t × (t ≡ d → ⊥)) ⊎ ((t ≡ d) × Has q.awaited d × (f i ≡ true)) → Has q.awaited t × (f (info (set known.table d i) t) ≡ true)
+  kept f t waiting was (inl at) =
+      let w = was at.0 in
+      (fits.awaits t w.0, ap (λ o. f (info_found o)) (slice_other known.table d t i at.1) ∙ w.1)
+  kept f t waiting was (inr at) =
+      subst (λ t. Has q.awaited t × (f (info (set known.table d i) t) ≡ true)) (sym at.0)
+      (at.1, ap (λ o. f (info_found o)) row_new ∙ at.2)
+
   row_first : (t : ℕ) → t < 5 → slice_get (set known.table d i) t ≡ slice_get known.table t
   row_first t less = let a = fits.own in slice_other known.table d t i (λ same. omega (arith, same, less, a))
 
@@ -164,14 +193,17 @@ module _ (start : Table) (p q : Past) (known : Known) (d : ℕ) (i : Info) (fits
   row_awaited t of is (inl at) = fits.unlike (subst (λ t. Has q.awaited t) at.0 is) of at.1
   row_awaited t of is (inr at) = elim (fits.awaited t is) [ inl was ↦ rows.awaited t of was at.1 | inr same ↦ absurd (at.0 same) ]
 
-  pub row_rows : AreRows start q (told known d i)
+  pub row_rows : AreRows count start q (told known d i)
   row_rows = record {
+    long = let a = rows.long in let b = length-set known.table d i in omega (arith, a, b);
     predefined = λ t less. row_first t less ∙ rows.predefined t less;
     types = λ v is. type_later p q fits.awaits fits.defines v (rows.types v is);
     based = based_after known.table d i rows.based fits.based;
     rest = λ t v none part. row_rest t v none (part_after known.table d i t v part);
     plain = λ t of none e. row_plain t of none (same_after known.table d i t of e);
     awaited = λ t of is e. row_awaited t of is (same_after known.table d i t of e);
+    private = λ t is. kept (λ i. is_some i.seen_in) t p.private (rows.private t) (fits.private t is);
+    incomplete = λ t is. kept (λ i. is_some i.completed) t p.incomplete (rows.incomplete t) (fits.incomplete t is);
   }
 
 abbrev stamp_if : Bool → ℕ → ℕ → ℕ
@@ -198,7 +230,7 @@ pub record Defines (final : Known) (p q : Past) (known : Known) (d : ℕ) (i : I
   -- a private type that doesn't have itself in it, or no type before, or one that ends after all marks
   pub next : (IsOpen final.table d × ((on : ℕ) → i.shape ≡ shape.Same on → ⊥)) ⊎ ((IsType p d → ⊥) ⊎ (IsClosed final q.marks d → ⊥))
 
-module _ (final : Known) (start : Table) (p q : Past) (known : Known) (d : ℕ) (i : Info) (fits : Fits start p q d i)
+module _ (final : Known) (count : ℕ) (start : Table) (p q : Past) (known : Known) (d : ℕ) (i : Info) (fits : Fits count start p q d i)
     (defines : Defines final p q known d i) (are : AreStamped final p known) where
   abbrev after : Table
   after = set known.table d i

@@ -1,6 +1,6 @@
 -- Types that are made of types that were defined before them, or of private types that don't have
 -- themselves in them.
-use Rattle.std.specs.Prelude.{◌≡◌, ◌⊎◌, ◌<◌, ℕ, true, false, List, [], ◌∷◌, is_some, slice_get}
+use Rattle.std.specs.Prelude.{◌≡◌, ◌⊎◌, ◌<◌, ◌≤◌, ℕ, true, false, List, [], ◌∷◌, length, is_some, slice_get}
 use Rattle.spark_base.specs.declared.position.Pos.{Pos}
 use Rattle.spark_base.specs.Lists.{Has}
 use Rattle.resolved_tree.specs.declared.node.Mark.{Mark}
@@ -70,19 +70,31 @@ AllOpen final (u ∷ rest) = Opens final u × AllOpen final rest
 abbrev pub IsType : Past → ℕ → Type 0
 IsType past v = (v < 5) ⊎ (Has past.awaited v ⊎ Has past.defined v)
 
+-- A type that is defined once and for all.
+abbrev pub IsFixed : Past → ℕ → Type 0
+IsFixed past t = Has past.defined t × (Has past.private t → ⊥) × (Has past.incomplete t → ⊥)
+
 -- A type stays one.
 abbrev pub Keeps : Known → Known → Type 0
 Keeps known after = (v : ℕ) → is_type (entry_of known v) ≡ true → is_type (entry_of after v) ≡ true
 
+-- So it does up to the end of the turn, and the types that are fixed already keep their definitions.
+pub record LeadsTo (final : Known) (past : Past) (known : Known) : Type 0 where
+  pub keeps : Keeps known final
+  pub fixed : (t : ℕ) → IsFixed past t → slice_get final.table t ≡ slice_get known.table t
+
 -- `start` is the table before the turn. A type that isn't defined so far is made of nothing that it
 -- wasn't made of there, and none that is completed later is the same as another type.
-pub record AreRows (start : Table) (past : Past) (known : Known) : Type 0 where
+pub record AreRows (count : ℕ) (start : Table) (past : Past) (known : Known) : Type 0 where
+  pub long : count ≤ length known.table
   pub predefined : (t : ℕ) → t < 5 → slice_get known.table t ≡ slice_get (predefined_types false) t
   pub types : (v : ℕ) → is_type (entry_of known v) ≡ true → IsType past v
   pub based : (t : ℕ) → is_some (info known.table t).seen_in ≡ true → base known.table t ≡ t
   pub rest : (t v : ℕ) → (Has past.defined t → ⊥) → IsPart known.table v t → IsPart start v t
   pub plain : (t of : ℕ) → (Has past.defined t → ⊥) → written known.table t ≡ shape.Same of → written start t ≡ shape.Same of
   pub awaited : (d of : ℕ) → Has past.awaited d → written known.table d ≡ shape.Same of → ⊥
+  pub private : (t : ℕ) → Has past.private t → Has past.awaited t × (is_some (info known.table t).seen_in ≡ true)
+  pub incomplete : (t : ℕ) → Has past.incomplete t → Has past.awaited t × (is_some (info known.table t).completed ≡ true)
 
 -- One of these marks stands after the end of this type. (Predefined types have no end.)
 abbrev pub IsClosed : Known → List Pos → ℕ → Type 0
