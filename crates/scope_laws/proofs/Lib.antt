@@ -1,0 +1,7 @@
+-- lists and what stands in them
+pub mod Lists
+-- points and where they lead
+pub mod Successors
+-- objects and scopes
+pub mod Ordered
+-- pub mod Seen

@@ -1,0 +1,13 @@
+//! What the points of a subprogram have in scope, and where they lead: definitions and laws, for
+//! readers.
+//!
+//! `specs/Code.antt` says what is asked of code beside what `flow_paths` asks (`is_settled`): that
+//! exits stand in loops and alternatives in a `case`, that each object is declared once, and that
+//! what is named is in scope. `specs/Order.antt` says what holds of points then: an object isn't in
+//! scope where it is declared, and is the last one where its scope ends; at the end of a procedure
+//! the formals alone are in scope; and what an instruction names is in scope at its point.
+//!
+//! Of each point of a subprogram that is so (`proofs/Ordered.antt`, `Seen`), and each point has as
+//! many successors as its instruction leads to (`Successors`). Nothing here knows facts, and
+//! nothing runs.
+#![tactic(auto)]
