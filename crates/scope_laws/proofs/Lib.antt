@@ -4,4 +4,4 @@ pub mod Lists
 pub mod Successors
 -- objects and scopes
 pub mod Ordered
--- pub mod Seen
+pub mod Seen

@@ -75,26 +75,32 @@ abbrev pub are_seen : (ℕ → Bool) → List ℕ → List ℕ → Bool
 are_seen outer scope xs = list_all (λ x. is_within x scope || outer x) xs
 
 -- What code names is in scope where it stands: it was declared before, in what stands around it.
-unfoldable pub is_seen : (ℕ → Bool) → List ℕ → TypedCode → Bool
-is_seen outer scope (typed.Declare p x v) = are_seen outer scope (roots v)
-is_seen outer scope (typed.Assign p target e) = are_seen outer scope (roots e) && are_seen outer scope (roots target)
-is_seen outer scope (typed.Call p sub actuals) = are_seen outer scope (roots actuals)
-is_seen outer scope (typed.Output p text line) = are_seen outer scope (roots text)
-is_seen outer scope (typed.Input p target) = are_seen outer scope (roots target)
-is_seen outer scope (typed.Release p m) = are_seen outer scope (roots m)
-is_seen outer scope (typed.If branches otherwise) = is_seen outer scope branches && is_seen outer scope otherwise
-is_seen outer scope (typed.Branch p e stmts) = are_seen outer scope (roots e) && is_seen outer scope stmts
-is_seen outer scope (typed.Case p e whens) = are_seen outer scope (roots e) && is_seen outer scope whens
-is_seen outer scope (typed.When choices stmts) = is_seen outer scope stmts
-is_seen outer scope (typed.Loop stmts) = is_seen outer scope stmts
-is_seen outer scope (typed.While p e stmts) = are_seen outer scope (roots e) && is_seen outer scope stmts
-is_seen outer scope (typed.For p x reversed low high stmts) =
-    (are_seen outer scope (roots low) && are_seen outer scope (roots high)) && is_seen outer (x ∷ scope) stmts
-is_seen outer scope (typed.Exit p e) = are_seen outer scope (roots e)
-is_seen outer scope (typed.Return p v) = are_seen outer scope (roots v)
-is_seen outer scope (typed.Block n stmts end) = is_seen outer scope stmts
-is_seen outer scope (typed.More a rest) = is_seen outer scope a && is_seen outer (reverse (declared a) ++ scope) rest
-is_seen outer scope _ = true
+unfoldable mutual
+  pub is_seen : (ℕ → Bool) → List ℕ → TypedCode → Bool
+  is_seen outer scope (typed.Declare p x v) = are_seen outer scope (roots v)
+  is_seen outer scope (typed.Assign p target e) = are_seen outer scope (roots e) && are_seen outer scope (roots target)
+  is_seen outer scope (typed.Call p sub actuals) = are_seen outer scope (roots actuals)
+  is_seen outer scope (typed.Output p text line) = are_seen outer scope (roots text)
+  is_seen outer scope (typed.Input p target) = are_seen outer scope (roots target)
+  is_seen outer scope (typed.Release p m) = are_seen outer scope (roots m)
+  is_seen outer scope (typed.If branches otherwise) = is_each_seen outer scope branches && is_seen outer scope otherwise
+  is_seen outer scope (typed.Branch p e stmts) = are_seen outer scope (roots e) && is_seen outer scope stmts
+  is_seen outer scope (typed.Case p e whens) = are_seen outer scope (roots e) && is_each_seen outer scope whens
+  is_seen outer scope (typed.When choices stmts) = is_seen outer scope stmts
+  is_seen outer scope (typed.Loop stmts) = is_seen outer scope stmts
+  is_seen outer scope (typed.While p e stmts) = are_seen outer scope (roots e) && is_seen outer scope stmts
+  is_seen outer scope (typed.For p x reversed low high stmts) =
+      (are_seen outer scope (roots low) && are_seen outer scope (roots high)) && is_seen outer (x ∷ scope) stmts
+  is_seen outer scope (typed.Exit p e) = are_seen outer scope (roots e)
+  is_seen outer scope (typed.Return p v) = are_seen outer scope (roots v)
+  is_seen outer scope (typed.Block n stmts end) = is_seen outer scope stmts
+  is_seen outer scope (typed.More a rest) = is_seen outer scope a && is_seen outer (reverse (declared a) ++ scope) rest
+  is_seen outer scope _ = true
+
+  -- Branches and alternatives, each for itself.
+  pub is_each_seen : (ℕ → Bool) → List ℕ → TypedCode → Bool
+  is_each_seen outer scope (typed.More a rest) = is_seen outer scope a && is_each_seen outer scope rest
+  is_each_seen outer scope _ = true
 
 -- The formals are in scope in all of a body.
 abbrev pub body_seen : (ℕ → Bool) → TypedSub → Bool
