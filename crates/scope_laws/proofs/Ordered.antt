@@ -382,10 +382,11 @@ module _ (s : Setting) (is : ℕ → Type 0) (apart : (x : ℕ) → is x → IsT
         both w.formals (uses_both s at p low high (instruction.Start x reversed low high) w (next ∷ [])) _
         (paired w.formals at (0 ∷ at) (1 ∷ at) low high w.scope (with_held s low (0 ∷ at) w.scope) _
         (starts_there w.formals (row_at at 0) p x reversed low high (with_held s high (1 ∷ at) (with_held s low (0 ∷ at) w.scope)) (next ∷ [])
-        (new_there high (1 ∷ at) x (with_held s low (0 ∷ at) w.scope) what.0 (new_there low (0 ∷ at) x w.scope what.0 what.1))))
-        (next_there w.formals next p x reversed low high w.scope _,
-        laid_ordered stmts (2 ∷ at) v (next ∷ []) (and_first (is_settled s.typing stmts) _ more) (λ any. subst (λ sc. Stands v sc) (sym none) around)
-        (fresh_inner x (declared_within stmts) w.scope f))
+        (new_there high (1 ∷ at) x (with_held s low (0 ∷ at) w.scope) what.0 (new_there low (0 ∷ at) x w.scope what.0 what.1)))) (
+          next_there w.formals next p x reversed low high w.scope _,
+          laid_ordered stmts (2 ∷ at) v (next ∷ []) (and_first (is_settled s.typing stmts) _ more) (λ any. subst (λ sc. Stands v sc) (sym none) around)
+              (fresh_inner x (declared_within stmts) w.scope f),
+        )
     laid_ordered (Exit p e) at w k h st f =
         let out : List NamedPoint = ends at 1 p w.in_loop w.scope w.leave in
         both w.formals _ out (used w.formals at e w.scope _ (quiet w.formals _ refl))
@@ -453,9 +454,10 @@ module _ (s : Setting) (is : ℕ → Type 0) (apart : (x : ℕ) → is x → IsT
       let each : Each (declared_within sub.body) = (λ x has. own.1 x (Has-append_right sub.formals (declared_within sub.body) x has)) in
       let ways : Unwinds s.typing Any (ending s sub.body) (scope_at_end sub) =
       subst (λ xs. Unwinds s.typing Any xs (scope_at_end sub)) (no_more (ending s sub.body)) (ended s Any loose sub.body [] (reverse sub.formals) h tt) in
-      let f : Fresh (declared_within sub.body) (reverse sub.formals) =
-      (once_right sub.formals (declared_within sub.body) own.0,
-      (λ x has. (each x has, (λ there. once_apart sub.formals (declared_within sub.body) x own.0 (has_reverse sub.formals x there) has)))) in
+      let f : Fresh (declared_within sub.body) (reverse sub.formals) = (
+        once_right sub.formals (declared_within sub.body) own.0,
+        (λ x has. (each x has, (λ there. once_apart sub.formals (declared_within sub.body) x own.0 (has_reverse sub.formals x there) has))),
+      ) in
       both (reverse sub.formals) (laid s sub.body (0 ∷ []) w (entry end [])) end
       (laid_ordered sub.body (0 ∷ []) w (entry end []) h
       (λ any. ((tt, ways), ((λ x none. absurd none), ending_each sub.body each))) f)

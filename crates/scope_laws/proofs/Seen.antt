@@ -86,10 +86,11 @@ module _ (outer : ℕ → Bool) where
         let right_seen : are_seen outer scope (roots b) ≡ true = seen_right scope (roots a) (roots b) h in
         let inner_seen : are_seen outer (s.temporary at ∷ scope) (roots b) ≡ true = seen_more (s.temporary at ∷ []) scope (roots b) right_seen in
         all_if (IsSeen outer) (has_call b) _ _
-        (both (prep s a (0 ∷ at) scope (row_at at 0 ∷ [])) _ (prep_seen a (0 ∷ at) scope (row_at at 0 ∷ []) left_seen)
-        (held_more a (0 ∷ at) scope (roots a) left_seen,
-        one_more right _ (prep_seen b (1 ∷ at) (s.temporary at ∷ scope) (row_at at 1 ∷ []) inner_seen)
-        (held_more b (1 ∷ at) (s.temporary at ∷ scope) (roots b) inner_seen)))
+        (both (prep s a (0 ∷ at) scope (row_at at 0 ∷ [])) _ (prep_seen a (0 ∷ at) scope (row_at at 0 ∷ []) left_seen) (
+          held_more a (0 ∷ at) scope (roots a) left_seen,
+          one_more right _ (prep_seen b (1 ∷ at) (s.temporary at ∷ scope) (row_at at 1 ∷ []) inner_seen)
+              (held_more b (1 ∷ at) (s.temporary at ∷ scope) (roots b) inner_seen),
+        ))
         (two_seen (0 ∷ at) (1 ∷ at) a b scope k (prep_seen a (0 ∷ at)) (prep_seen b (1 ∷ at)) left_seen right_seen)
     prep_seen (Binary op a b) at scope k h =
         two_seen (0 ∷ at) (1 ∷ at) a b scope k (prep_seen a (0 ∷ at)) (prep_seen b (1 ∷ at)) (seen_left scope (roots a) (roots b) h)
@@ -190,10 +191,11 @@ module _ (outer : ℕ → Bool) where
           both _ (point (row_at at 1) p (instruction.Next x reversed low high) (x ∷ w.scope) (entry inner next ++ k) ∷ inner)
           (paired at (0 ∷ at) (1 ∷ at) p low high (instruction.Start x reversed low high) w.scope next refl
           (and_first (are_seen outer w.scope (roots low)) (are_seen outer w.scope (roots high)) bounds)
-          (and_second (are_seen outer w.scope (roots low)) (are_seen outer w.scope (roots high)) bounds))
-          (refl,
-          laid_seen stmts (2 ∷ at) v next
-          (and_second (are_seen outer w.scope (roots low) && are_seen outer w.scope (roots high)) (is_seen outer (x ∷ w.scope) stmts) h))
+          (and_second (are_seen outer w.scope (roots low)) (are_seen outer w.scope (roots high)) bounds)) (
+            refl,
+            laid_seen stmts (2 ∷ at) v next
+                (and_second (are_seen outer w.scope (roots low) && are_seen outer w.scope (roots high)) (is_seen outer (x ∷ w.scope) stmts) h),
+          )
       laid_seen (Exit p e) at w k h =
           both _ (ends at 1 p w.in_loop w.scope w.leave) (used at p e (instruction.LeaveLoop e) w.scope _ refl h) (ends_seen at 1 p w.in_loop w.scope w.leave)
       laid_seen (Return p v) at w k h =

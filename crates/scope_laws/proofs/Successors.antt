@@ -51,9 +51,10 @@ prep_counted s (Short op p a q b) at scope k one =
     let right : List NamedPoint = prep s b (1 ∷ at) (s.temporary at ∷ scope) (row_at at 1 ∷ []) in
     let behind : List NamedPoint = prep s b (1 ∷ at) (with_held s a (0 ∷ at) scope) k in
     all_if IsCounted (has_call b) _ _
-    (both (prep s a (0 ∷ at) scope (row_at at 0 ∷ [])) _ (prep_counted s a (0 ∷ at) scope (row_at at 0 ∷ []) refl)
-    (two (entry right (row_at at 1 ∷ [])) k (entry_one right (row_at at 1 ∷ []) refl) one,
-    one_more right _ (prep_counted s b (1 ∷ at) (s.temporary at ∷ scope) (row_at at 1 ∷ []) refl) one))
+    (both (prep s a (0 ∷ at) scope (row_at at 0 ∷ [])) _ (prep_counted s a (0 ∷ at) scope (row_at at 0 ∷ []) refl) (
+      two (entry right (row_at at 1 ∷ [])) k (entry_one right (row_at at 1 ∷ []) refl) one,
+      one_more right _ (prep_counted s b (1 ∷ at) (s.temporary at ∷ scope) (row_at at 1 ∷ []) refl) one,
+    ))
     (both (prep s a (0 ∷ at) scope (entry behind k)) behind (prep_counted s a (0 ∷ at) scope (entry behind k) (entry_one behind k one))
     (prep_counted s b (1 ∷ at) (with_held s a (0 ∷ at) scope) k one))
 prep_counted s (Binary op a b) at scope k one =
@@ -208,9 +209,10 @@ mutual
       let inner : List NamedPoint = laid s stmts (2 ∷ at) (with_scope (x ∷ []) (within_loop k w)) next in
       both (uses_both s at p low high (instruction.Start x reversed low high) w next) _
       (pair_counted s at (0 ∷ at) (1 ∷ at) low high w.scope (with_held s low (0 ∷ at) w.scope)
-      (point (row_at at 0) p (instruction.Start x reversed low high) (with_held s high (1 ∷ at) (with_held s low (0 ∷ at) w.scope)) next) refl)
-      (two (entry inner next) k (entry_one inner next refl) one,
-      laid_counted s stmts (2 ∷ at) (with_scope (x ∷ []) (within_loop k w)) next true h (λ any. one) refl)
+      (point (row_at at 0) p (instruction.Start x reversed low high) (with_held s high (1 ∷ at) (with_held s low (0 ∷ at) w.scope)) next) refl) (
+        two (entry inner next) k (entry_one inner next refl) one,
+        laid_counted s stmts (2 ∷ at) (with_scope (x ∷ []) (within_loop k w)) next true h (λ any. one) refl,
+      )
   laid_counted s (Exit p e) at w k looped h leaves one =
       let out : List NamedPoint = ends at 1 p w.in_loop w.scope w.leave in
       both (uses s at p e (instruction.LeaveLoop e) w (entry out w.leave ++ unless_empty e k)) out

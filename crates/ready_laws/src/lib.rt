@@ -1,0 +1,2 @@
+//! Programs that are ready
+#![tactic(auto)]
