@@ -1,1 +1,2 @@
 pub mod Temporaries
+pub mod Moves
