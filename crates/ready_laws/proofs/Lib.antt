@@ -1,2 +1,3 @@
 pub mod Temporaries
 pub mod Moves
+pub mod Facts
