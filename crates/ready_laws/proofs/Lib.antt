@@ -1,3 +1,5 @@
 pub mod Temporaries
 pub mod Moves
 pub mod Facts
+pub mod Elaborated
+pub mod Subs

@@ -1,0 +1,67 @@
+-- What is asked of a typed program, subprogram by subprogram, so that it is ready. Nothing here speaks of
+-- points, paths or facts.
+use Rattle.std.specs.Prelude.{◌≡◌, ℕ, suc, ◌≤◌, ◌<◌, Bool, true, false, not, ◌&&◌, List, [], ◌∷◌, ◌++◌, length, Some, None}
+use Rattle.std.specs.List.{list_all}
+use Rattle.spark_base.specs.Lists.{Has}
+use Rattle.type_definitions.specs.Types.{Table, is_owning}
+use Rattle.typed_tree.specs.Trees.{TypedCode}
+use Rattle.typed_tree.specs.Trees as typed
+use Rattle.typed_tree.specs.Programs.{TypedSub, TypedProgram}
+use Rattle.flow_paths.specs.Objects.{Typing, object_at, is_formal, is_package_object}
+use Rattle.flow_paths.specs.Laid.{typing_of}
+use Rattle.flow_paths.specs.Scopes.{is_settled}
+use Rattle.scope_laws.specs.Code.{is_formed, Once, objects_of, roots, body_seen}
+
+-- ---- the package objects
+
+-- Code declares objects, and does nothing else.
+unfoldable pub declares_only : TypedCode → Bool
+declares_only (typed.Declare p x v) = true
+declares_only (typed.More a rest) = declares_only a && declares_only rest
+declares_only typed.NoMore = true
+declares_only _ = false
+
+-- None of some objects is of an owning type.
+abbrev pub own_nothing : Typing → List ℕ → Bool
+own_nothing s xs = list_all (λ x. not (is_owning s.table (object_at s x).of)) xs
+
+-- No initial value names such an object.
+unfoldable pub names_no_owner : Typing → TypedCode → Bool
+names_no_owner s (typed.Declare p x v) = own_nothing s (roots v)
+names_no_owner s (typed.More a rest) = names_no_owner s a && names_no_owner s rest
+names_no_owner s _ = true
+
+-- ---- subprograms
+
+-- Of each subprogram: its objects have numbers of their own. Object 0 is the state of Ada.Text_IO.
+pub record IsBody (s : Typing) (sub : TypedSub) : Type 0 where
+  pub settled : is_settled s sub.body ≡ true
+  pub once : Once (objects_of sub)
+  pub numbered : (x : ℕ) → Has (objects_of sub) x → (1 ≤ x) × (x < length s.objects)
+
+-- Of each with a body in the text: its objects belong to no package, and what it names is in scope.
+pub record IsLocal (s : Typing) (sub : TypedSub) : Type 0 where
+  pub own : (x : ℕ) → Has (objects_of sub) x → is_package_object s x ≡ false
+  pub formals : (x : ℕ) → Has sub.formals x → is_formal s x ≡ true
+  pub seen : body_seen (is_package_object s) sub ≡ true
+
+-- A subprogram has a number among some.
+abbrev pub IsSub : List TypedSub → ℕ → TypedSub → Type 0
+IsSub subs n sub = (front : List TypedSub) × (rest : List TypedSub) × (subs ≡ front ++ sub ∷ rest) × (length front ≡ n)
+
+pub record IsInOrder (table : Table) (program : TypedProgram) : Type 0 where
+  -- the first one declares the package objects
+  pub first : TypedSub
+  pub rest : List TypedSub
+  pub subs : program.subs ≡ first ∷ rest
+  pub declares : declares_only first.body ≡ true
+  pub unmoved : names_no_owner (typing_of table program) first.body ≡ true
+  pub bodies : (sub : TypedSub) → Has program.subs sub → IsBody (typing_of table program) sub
+  pub local : (sub : TypedSub) → Has rest sub → IsLocal (typing_of table program) sub
+  -- the main procedure is one of the others, and each exit in it stands in a loop
+  pub number : ℕ
+  pub main : TypedSub
+  pub is_main : program.main ≡ Some (suc number)
+  pub stands : IsSub rest number main
+  pub procedure : main.result ≡ None
+  pub formed : is_formed false main.body ≡ true
