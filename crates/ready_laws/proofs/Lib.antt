@@ -3,3 +3,4 @@ pub mod Moves
 pub mod Facts
 pub mod Elaborated
 pub mod Subs
+pub mod Ready
