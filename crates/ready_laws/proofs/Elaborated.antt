@@ -1,15 +1,12 @@
 -- The package objects are declared one by one, and nothing is moved for them.
-use Rattle.std.proofs.Common.{◌≡◌, refl, sym, ap, ◌∙◌, subst, inl, inr, ℕ, Bool, true, false, not, ◌&&◌, List, [], ◌∷◌, ◌++◌, if◌then◌else◌}
-use Rattle.std.specs.Prelude.{Some, None}
+use Rattle.std.proofs.Common.{◌≡◌, refl, ap, ◌∙◌, inl, inr, ℕ, Bool, true, false, not, List, [], ◌∷◌, ◌++◌}
 use Rattle.std.specs.List.{AllByRecursion}
 use Rattle.spark_base.specs.Lists.{Has}
-use Rattle.spark_base.specs.declared.position.Pos.{Pos}
 use Rattle.type_definitions.specs.Types.{is_owning}
 use Rattle.typed_tree.specs.Trees.{TypedTree, Name, Component, Designated, Element, Image, Parens, Unary, Binary, Short, IsNull, Aggregate, Alike, New, TypedCode}
 use Rattle.typed_tree.specs.Trees as typed
 use Rattle.typed_tree.specs.Programs.{TypedSub}
-use Rattle.flow_paths.specs.Instructions.{Instruction, Declare, Evaluate}
-use Rattle.flow_paths.specs.Instructions as instruction
+use Rattle.flow_paths.specs.Instructions.{Declare}
 use Rattle.flow_paths.specs.Objects.{Typing, object_at}
 use Rattle.flow_paths.specs.Names.{has_call}
 use Rattle.flow_paths.specs.Points.{Place, PointName, row_at, NamedPoint, point, entry}

@@ -1,6 +1,6 @@
 -- Along a control path, what facts say was moved is in scope, or in an object of a package; so no fact speaks
 -- of an object that is declared.
-use Rattle.std.proofs.Common.{◌≡◌, refl, sym, ap, ◌∙◌, subst, ◌⊎◌, inl, inr, ℕ, zero, suc, ◌+◌, Bool, true, false, not, ◌&&◌, ◌||◌, ◌==◌, eqb-true, eq-eqb, List, [], ◌∷◌, ◌++◌, map, drop, length, get_or, arith, Some, None}
+use Rattle.std.proofs.Common.{◌≡◌, refl, sym, ap, ◌∙◌, subst, ◌⊎◌, inl, inr, ℕ, Bool, true, false, not, ◌&&◌, ◌||◌, ◌==◌, eqb-true, eq-eqb, List, [], ◌∷◌, ◌++◌, map, drop, get_or, arith}
 use Rattle.std.specs.Prelude.{filter}
 use Rattle.std.specs.List.{AllByRecursion}
 use Rattle.std.proofs.lemmas.Grind.{common_steps}
@@ -17,16 +17,16 @@ use Rattle.place_names.specs.Facts.{adds, removes, effect}
 use Rattle.place_names.specs.Names.{Name as PlaceName}
 use Rattle.type_definitions.specs.Types.{Table, is_owning}
 use Rattle.typed_tree.specs.Trees.{TypedTree}
-use Rattle.typed_tree.specs.Programs.{TypedSub, TypedProgram}
+use Rattle.typed_tree.specs.Programs.{TypedProgram}
 use Rattle.flow_paths.specs.declared.report.Effects.{Effects}
 use Rattle.flow_paths.specs.Instructions.{Instruction, Skip, Declare, Assign, Call, Output, Input, Release, Test, Choose, Start, Next, Evaluate, LeaveLoop, Hold, EndScope, Finish, Fall}
-use Rattle.flow_paths.specs.Objects.{Typing, object_at, has_scope_end, is_anonymous, view_of, is_borrower}
+use Rattle.flow_paths.specs.Objects.{Typing, object_at, is_anonymous, view_of, is_borrower}
 use Rattle.flow_paths.specs.Acts.{acts_of}
-use Rattle.flow_paths.specs.Points.{NamedPoint, FlowPoint, flow_point}
-use Rattle.flow_paths.specs.Laid.{FlowSub, FlowProgram, NamedSub, kept_roots, sub_facts, number_in, flow_sub, typing_of, flow_typing, flow_program, flow_named}
-use Rattle.flow_paths.specs.Paths.{PathPoint, path_point, ControlPath, begins, goes_on, is_some_point, acts_at, facts_before}
+use Rattle.flow_paths.specs.Points.{NamedPoint, FlowPoint}
+use Rattle.flow_paths.specs.Laid.{FlowProgram, NamedSub, kept_roots, sub_facts, flow_sub, typing_of, flow_typing, flow_program, flow_named}
+use Rattle.flow_paths.specs.Paths.{PathPoint, ControlPath, begins, goes_on, is_some_point, acts_at, facts_before}
 use Rattle.flow_paths.specs.Effects.{called_acts, path_points}
-use Rattle.flow_paths.specs.Scopes.{Leads, Silent, is_last, is_within, is_temporary, is_ready, is_settled, taken, brought, scope_behind}
+use Rattle.flow_paths.specs.Scopes.{Leads, Silent, is_last, is_within, is_temporary, is_ready, brought, scope_behind}
 use Rattle.machine.specs.Run.{no_point}
 use Rattle.owned_ways.specs.Ways.{after}
 use Rattle.soundness.specs.Typed.{OwnsByShape}
@@ -34,12 +34,11 @@ use Rattle.soundness.specs.Needed.{IsFine, AreFine}
 use Rattle.soundness.specs.Sound.{IsFirstClass, IsAtPoint, calls_nothing}
 use Rattle.soundness.proofs.Scalars.{acts}
 use Rattle.soundness.proofs.Paths.{facts_next}
-use Rattle.soundness.proofs.Points.{IsLaid, flow_at, flow_table, typing_same, point_has, point_there, path_there, next_there}
+use Rattle.soundness.proofs.Points.{IsLaid, flow_at, typing_same, point_has, point_there, path_there, next_there}
 use Rattle.soundness.proofs.Successors.{takes_none}
 use Rattle.soundness.proofs.Waits.{drop_none}
 use Rattle.scope_laws.specs.Order.{IsOrdered, named_in}
-use Rattle.scope_laws.proofs.Lists.{bool_cases}
-use Rattle.ready_laws.proofs.Moves.{Owned, instruction_owned}
+use Rattle.ready_laws.proofs.Moves.{instruction_owned}
 
 -- ---- scopes
 

@@ -1,13 +1,12 @@
 -- What an act of an instruction moves is rooted in an object that the instruction names, of an owning type.
-use Rattle.std.proofs.Common.{◌≡◌, refl, sym, ap, ◌∙◌, subst, ◌⊎◌, inl, inr, ℕ, zero, suc, ◌<◌, Bool, true, false, ◌&&◌, ◌||◌, List, [], ◌∷◌, ◌++◌, map, length, get_or, arith, Option, Some, None, if◌then◌else◌}
+use Rattle.std.proofs.Common.{◌≡◌, refl, sym, ap, ◌∙◌, subst, inl, inr, ℕ, zero, suc, ◌<◌, Bool, true, false, ◌||◌, List, [], ◌∷◌, ◌++◌, map, length, get_or, arith, Option, Some, None, if◌then◌else◌}
 use Rattle.spark_base.specs.Lists.{Has}
-use Rattle.spark_base.proofs.Lists.{Has-append_left, Has-append_right, Has-append_cases, Has-map_from}
+use Rattle.spark_base.proofs.Lists.{Has-append_left, Has-append_right, Has-append_cases}
 use Rattle.spark_base.specs.declared.position.Pos.{Pos}
 use Rattle.place_names.specs.declared.act.Act.{Act}
 use Rattle.place_names.specs.declared.act.Act.TheVariants as act
 use Rattle.place_names.specs.declared.act.Placed.{Placed}
 use Rattle.place_names.specs.declared.act.Mode.TheVariants as mode
-use Rattle.place_names.specs.declared.fact.Fact.{Fact}
 use Rattle.place_names.specs.declared.fact.Fact.TheVariants.{Moved}
 use Rattle.place_names.specs.declared.selector.Sel.{Sel}
 use Rattle.place_names.specs.Facts.{adds}
@@ -15,18 +14,17 @@ use Rattle.place_names.specs.Names.{Name as PlaceName, extend}
 use Rattle.type_definitions.specs.declared.table.Component.{Component as Part}
 use Rattle.type_definitions.specs.declared.table.Shape.{Shape}
 use Rattle.type_definitions.specs.declared.table.Shape.TheVariants as shape
-use Rattle.type_definitions.specs.Types.{Table, shape_of, components_of, fields, parts, full, is_owning, any_owns, owns_of}
+use Rattle.type_definitions.specs.Types.{shape_of, components_of, parts, is_owning, any_owns, owns_of}
 use Rattle.typed_tree.specs.Trees.{TypedTree, Number, Literal, Text, Name, Component, Designated, Element, Call, EndOfFile, Parens, Image, Unary, Binary, Short, IsNull, Aggregate, Alike, New, NoMore, More}
 use Rattle.typed_tree.specs.Trees as typed
 use Rattle.flow_paths.specs.Instructions.{Instruction, Skip, Declare, Assign, Output, Input, Release, Test, Choose, Start, Next, Evaluate, LeaveLoop, Hold, EndScope, Finish, Fall}
 use Rattle.flow_paths.specs.Instructions as instruction
-use Rattle.flow_paths.specs.Objects.{Typing, object_at, is_borrower, is_observer, is_anonymous, traverses}
-use Rattle.flow_paths.specs.Names.{name_of, Written, written, first, source, whole, has_call}
-use Rattle.flow_paths.specs.Acts.{Frame, acts_in, acts_of, used, placed, naming, index_acts, source_acts, whole_acts, assigned_to, stored_acts, declared_acts, returned_acts}
+use Rattle.flow_paths.specs.Objects.{Typing, object_at, is_borrower, is_observer, traverses}
+use Rattle.flow_paths.specs.Names.{name_of, written, first, whole, has_call}
+use Rattle.flow_paths.specs.Acts.{acts_in, acts_of, used, placed, naming, index_acts, source_acts, assigned_to, stored_acts, declared_acts, returned_acts}
 use Rattle.machine.specs.Words.{component_type, no_component}
-use Rattle.machine.specs.Evaluate.{part_type}
-use Rattle.soundness.specs.Typed.{OwnsByShape, Matches}
-use Rattle.soundness.specs.Needed.{Stays, Leads, Gives, GivesParts, GivesFirst, Writes, FirstWrites, Source, FirstSource, IsPlace, IsView, FirstStays, Returns, IsFine}
+use Rattle.soundness.specs.Typed.{OwnsByShape}
+use Rattle.soundness.specs.Needed.{Stays, Leads, Gives, GivesParts, GivesFirst, Writes, FirstWrites, Source, FirstSource, IsPlace, FirstStays, Returns, IsFine}
 use Rattle.soundness.specs.Sound.{calls_nothing}
 use Rattle.soundness.proofs.Instructions.{not_anonymous, not_borrower, not_observer}
 use Rattle.scope_laws.specs.Code.{roots}
@@ -92,9 +90,9 @@ module _ (s : Typing) (own_law : OwnsByShape s.table)
   owned_end ps p xs h none a has name moved = elim (Has-append_cases ps (p ∷ []) a has) [
     | inl l ↦ h a l name moved
     | inr r ↦ elim r [
-        | inl e ↦ absurd (none name (subst (λ (z : Placed). Has (adds z.act) (Moved name)) (sym e) moved))
-        | inr never ↦ absurd never
-      ]
+      | inl e ↦ absurd (none name (subst (λ (z : Placed). Has (adds z.act) (Moved name)) (sym e) moved))
+      | inr never ↦ absurd never
+    ]
   ]
 
   moved_root : (m : PlaceName) (qs : List (List Sel)) (name : PlaceName) → Has (map (λ q. Moved (extend m q)) qs) (Moved name) → m.root ≡ name.root
@@ -107,9 +105,9 @@ module _ (s : Typing) (own_law : OwnsByShape s.table)
   owned_name p x steps t ps leads h a has name moved = elim (Has-append_cases ps (placed p (used s (name_of x steps) t) ∷ []) a has) [
     | inl l ↦ (let found = h a l name moved in (inr found.0, found.1))
     | inr r ↦ elim r [
-        | inl e ↦ by_type (is_owning s.table t) refl (subst (λ (z : Placed). Has (adds z.act) (Moved name)) (sym e) moved)
-        | inr never ↦ absurd never
-      ]
+      | inl e ↦ by_type (is_owning s.table t) refl (subst (λ (z : Placed). Has (adds z.act) (Moved name)) (sym e) moved)
+      | inr never ↦ absurd never
+    ]
   ]
     where
       by_type : (b : Bool) → is_owning s.table t ≡ b

@@ -1,5 +1,5 @@
 -- An accepted program of the first class whose subprograms are in order is ready.
-use Rattle.std.proofs.Common.{◌≡◌, refl, sym, ap, ◌∙◌, subst, ◌⊎◌, inl, inr, ℕ, zero, suc, ◌+◌, ◌≤◌, ◌<◌, Bool, true, false, not, ◌&&◌, ◌||◌, List, [], ◌∷◌, ◌++◌, map, length, get_or, arith, Some, None}
+use Rattle.std.proofs.Common.{◌≡◌, refl, sym, ap, ◌∙◌, subst, ◌⊎◌, inl, inr, ℕ, suc, ◌≤◌, ◌<◌, Bool, true, false, ◌||◌, List, [], ◌∷◌, length, get_or, arith}
 use Rattle.std.specs.Prelude.{reverse}
 use Rattle.std.proofs.lemmas.List.{length-map}
 use Rattle.spark_base.specs.Lists.{Has}
@@ -12,10 +12,9 @@ use Rattle.type_definitions.specs.Types.{Table, is_owning}
 use Rattle.typed_tree.specs.Trees.{TypedTree, Name}
 use Rattle.typed_tree.specs.Programs.{TypedSub, TypedProgram}
 use Rattle.flow_paths.specs.declared.report.Effects.{Effects}
-use Rattle.flow_paths.specs.Instructions.{Instruction, Skip, Declare, Assign, Call, Output, Input, Release, Test, Choose, Start, Next, Evaluate, LeaveLoop, Hold, EndScope, Finish, Fall}
+use Rattle.flow_paths.specs.Instructions.{Instruction, Declare, Assign, Input, Release, EndScope, Finish}
 use Rattle.flow_paths.specs.Objects.{Typing, object_at, is_formal, is_package_object}
 use Rattle.flow_paths.specs.Points.{NamedPoint, FlowPoint}
-use Rattle.flow_paths.specs.Prep.{Setting}
 use Rattle.flow_paths.specs.Laid.{FlowSub, FlowProgram, NamedSub, unnumbered, named_sub, named_subs, elaborated, all_named, sub_temporaries, kept_roots, sub_facts, sub_points, elaboration_points, number_in, flow_sub, typing_of, flow_typing, flow_program, flow_named}
 use Rattle.flow_paths.specs.Paths.{ControlPath, facts_before}
 use Rattle.flow_paths.specs.Acts.{acts_of}
@@ -28,13 +27,13 @@ use Rattle.soundness.specs.Typed.{OwnsByShape}
 use Rattle.soundness.specs.Sound.{Accepted, IsFirstClass, IsNamedSub, calls_nothing}
 use Rattle.soundness.specs.Ready.{root_of, stored_at, AreScoped, AreNew, AreElaborated, HasMain, IsReady}
 use Rattle.soundness.proofs.Points.{IsLaid, all_laid, flow_at, typing_same, sub_there, named_has}
-use Rattle.scope_laws.specs.Code.{is_formed, objects_of, roots, are_seen}
+use Rattle.scope_laws.specs.Code.{roots, are_seen}
 use Rattle.scope_laws.specs.Order.{IsCounted, IsOrdered, named_in, IsSeen}
 use Rattle.scope_laws.proofs.Lists.{and_first, and_second, all_has}
 use Rattle.scope_laws.proofs.Successors.{sub_counted, has_first}
-use Rattle.scope_laws.proofs.Ordered.{IsTemporary, sub_ordered, package_ordered}
+use Rattle.scope_laws.proofs.Ordered.{sub_ordered, package_ordered}
 use Rattle.scope_laws.proofs.Seen.{sub_seen}
-use Rattle.ready_laws.specs.InOrder.{own_nothing, IsBody, IsLocal, IsSub, IsInOrder}
+use Rattle.ready_laws.specs.InOrder.{own_nothing, IsInOrder}
 use Rattle.ready_laws.proofs.Temporaries.{no_temporaries}
 use Rattle.ready_laws.proofs.Moves.{instruction_owned}
 use Rattle.ready_laws.proofs.Facts.{new_there}
@@ -140,9 +139,10 @@ module _ (table : Table) (typed : TypedProgram) (effects : Effects) (accepted : 
   body_is_ordered named (sub, has, n, above, e) p there =
       all_has (IsOrdered IsOwn (reverse sub.formals)) (sub_points (setting_from own n sub) sub) p
       (sub_ordered (setting_from own n sub) IsOwn (λ x what temporary. (let below = what.0 in let is = temporary.1 in omega (arith, above, below, is))) sub
-      (order.bodies sub (in_subs sub has)).settled
-      ((order.bodies sub (in_subs sub has)).once,
-      (λ x there. (((order.bodies sub (in_subs sub has)).numbered x there).1, (order.local sub has).own x there))))
+      (order.bodies sub (in_subs sub has)).settled (
+        (order.bodies sub (in_subs sub has)).once,
+        (λ x there. (((order.bodies sub (in_subs sub has)).numbered x there).1, (order.local sub has).own x there)),
+      ))
       (subst (λ (z : NamedSub). Has z.points p) (sym e) there)
 
   body_is_seen : (named : NamedSub) → OfBody named → (p : NamedPoint) → Has named.points p → IsSeen (is_package_object own) p
@@ -253,7 +253,7 @@ module _ (table : Table) (typed : TypedProgram) (effects : Effects) (accepted : 
       (subst (λ (z : FlowSub). Has z.points p) (sub_there table typed 0 packages packages_stand) has)
 
   pub are_elaborated : AreElaborated program
-  are_elaborated = record { declared = declared_there; unmoved = unmoved_there; }
+  are_elaborated = record { declared = declared_there; unmoved = unmoved_there }
     where
       declared_there : (p : FlowPoint) → Has (sub_of program 0).points p → (x : ℕ) × (v : TypedTree) × (p.instr ≡ Declare x v)
       declared_there p has =

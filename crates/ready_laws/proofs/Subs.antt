@@ -1,10 +1,10 @@
 -- The subprograms of the layout are those of the typed program, by their numbers.
-use Rattle.std.proofs.Common.{◌≡◌, refl, sym, ap, ◌∙◌, subst, ◌⊎◌, inl, inr, ℕ, zero, suc, ◌+◌, ◌≤◌, List, [], ◌∷◌, ◌++◌, length, arith}
+use Rattle.std.proofs.Common.{◌≡◌, refl, sym, ap, ◌∙◌, subst, ◌⊎◌, inl, inr, ℕ, suc, ◌+◌, ◌≤◌, List, [], ◌∷◌, ◌++◌, length, arith}
 use Rattle.spark_base.specs.Lists.{Has}
 use Rattle.typed_tree.specs.Programs.{TypedSub}
 use Rattle.flow_paths.specs.Objects.{Typing}
 use Rattle.flow_paths.specs.Prep.{Setting}
-use Rattle.flow_paths.specs.Laid.{Temporary, NamedSub, numbers_from, sub_temporaries, named_sub, named_subs, elaborated, all_named}
+use Rattle.flow_paths.specs.Laid.{NamedSub, numbers_from, sub_temporaries, named_sub, named_subs, elaborated, all_named}
 use Rattle.soundness.specs.Sound.{IsNamedSub}
 use Rattle.ready_laws.specs.InOrder.{IsSub}
 
@@ -37,9 +37,11 @@ named_at : (s : Typing) (n : ℕ) (subs front : List TypedSub) (sub : TypedSub) 
 named_at s n [] [] sub rest is = cc
 named_at s n [] (x ∷ front) sub rest is = cc
 named_at s n (y ∷ subs) [] sub rest is =
-    let same : y ≡ sub = cc in
-    (n, subst (λ z. IsNamedSub (named_subs s n (z ∷ subs)) 0 (named_sub s n (sub_temporaries s sub) sub)) (sym same)
-    ([], named_subs s (n + length (sub_temporaries s sub)) subs, refl, refl))
+    let same : y ≡ sub = cc in (
+      n,
+      subst (λ z. IsNamedSub (named_subs s n (z ∷ subs)) 0 (named_sub s n (sub_temporaries s sub) sub)) (sym same)
+          ([], named_subs s (n + length (sub_temporaries s sub)) subs, refl, refl),
+    )
 named_at s n (y ∷ subs) (x ∷ front) sub rest is =
     let more : subs ≡ front ++ sub ∷ rest = cc in
     let found = named_at s (n + length (sub_temporaries s y)) subs front sub rest more in

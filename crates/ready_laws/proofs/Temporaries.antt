@@ -1,6 +1,6 @@
 -- A program without calls has no temporaries.
-use Rattle.std.proofs.Common.{◌≡◌, refl, sym, ap, ◌∙◌, subst, ◌⊎◌, inl, inr, ℕ, suc, ◌+◌, Bool, true, false, List, [], ◌∷◌, ◌++◌, map, length, arith, if◌then◌else◌}
-use Rattle.std.specs.Prelude.{Option, Some, None, flat_map, drop, reverse, is_some}
+use Rattle.std.proofs.Common.{◌≡◌, refl, sym, ap, ◌∙◌, inl, inr, ℕ, suc, ◌+◌, Bool, true, false, List, [], ◌∷◌, ◌++◌, map, length, arith, if◌then◌else◌}
+use Rattle.std.specs.Prelude.{Some, flat_map, drop, reverse, is_some}
 use Rattle.std.specs.List.{AllByRecursion}
 use Rattle.std.proofs.lemmas.Grind.{common_steps}
 use Rattle.spark_base.specs.Lists.{Has}
@@ -15,10 +15,10 @@ use Rattle.flow_paths.specs.Instructions.{Instruction, Finish, Evaluate}
 use Rattle.flow_paths.specs.Instructions as instruction
 use Rattle.flow_paths.specs.Objects.{Typing}
 use Rattle.flow_paths.specs.Names.{has_call}
-use Rattle.flow_paths.specs.Points.{Place, PointName, row_at, NamedPoint, point, entry, FlowPoint, flow_point}
-use Rattle.flow_paths.specs.Prep.{Setting, with_held, prep}
-use Rattle.flow_paths.specs.Layout.{Around, within_loop, within_block, with_scope, declared, from, ending, ends, closing, unless_empty, choices_of, laid, laid_branches, laid_branch, laid_whens, laid_when}
-use Rattle.flow_paths.specs.Laid.{Temporary, temporary_object, filled, temporaries, numbers_from, unnumbered, around_body, scope_at_end, procedure_end, function_end, body_points, sub_points, elaboration_points, sub_temporaries, NamedSub, named_sub, named_subs, elaborated, all_named, frame_of, kept_roots, sub_facts, FlowSub, FlowProgram, flow_sub, typing_of, flow_program, flow_named, number_in}
+use Rattle.flow_paths.specs.Points.{Place, PointName, row_at, NamedPoint, point, FlowPoint, flow_point}
+use Rattle.flow_paths.specs.Prep.{Setting, prep}
+use Rattle.flow_paths.specs.Layout.{Around, within_loop, within_block, with_scope, declared, from, ending, ends, closing, laid, laid_branches, laid_branch, laid_whens, laid_when}
+use Rattle.flow_paths.specs.Laid.{Temporary, temporary_object, filled, temporaries, numbers_from, unnumbered, around_body, scope_at_end, procedure_end, function_end, sub_points, sub_temporaries, NamedSub, named_sub, named_subs, all_named, frame_of, kept_roots, sub_facts, FlowSub, flow_sub, typing_of, flow_program, flow_named, number_in}
 use Rattle.soundness.specs.Sound.{calls_nothing}
 use Rattle.scope_laws.proofs.Lists.{all_both, all_one}
 

@@ -1,6 +1,6 @@
 -- What is asked of a typed program, subprogram by subprogram, so that it is ready. Nothing here speaks of
 -- points, paths or facts.
-use Rattle.std.specs.Prelude.{◌≡◌, ℕ, suc, ◌≤◌, ◌<◌, Bool, true, false, not, ◌&&◌, List, [], ◌∷◌, ◌++◌, length, Some, None}
+use Rattle.std.specs.Prelude.{◌≡◌, ℕ, suc, ◌≤◌, ◌<◌, Bool, true, false, not, ◌&&◌, List, ◌∷◌, ◌++◌, length, Some, None}
 use Rattle.std.specs.List.{list_all}
 use Rattle.spark_base.specs.Lists.{Has}
 use Rattle.type_definitions.specs.Types.{Table, is_owning}

@@ -1,6 +1,6 @@
 -- An object isn't in scope where it is declared, and is the last one where its scope ends.
-use Rattle.std.proofs.Common.{◌≡◌, refl, sym, ap, ◌∙◌, subst, ◌⊎◌, inl, inr, ℕ, suc, ◌+◌, Bool, true, false, not, ◌&&◌, ◌||◌, ◌==◌, eq-eqb, List, [], ◌∷◌, ◌++◌, length, arith, if◌then◌else◌}
-use Rattle.std.specs.Prelude.{Option, Some, None, flat_map, drop, filter, reverse, is_some}
+use Rattle.std.proofs.Common.{◌≡◌, refl, sym, ap, ◌∙◌, subst, inl, inr, ℕ, suc, Bool, true, false, ◌&&◌, ◌||◌, eq-eqb, List, [], ◌∷◌, ◌++◌, length, arith, if◌then◌else◌}
+use Rattle.std.specs.Prelude.{flat_map, drop, reverse, is_some}
 use Rattle.std.specs.List.{AllByRecursion}
 use Rattle.std.proofs.lemmas.Grind.{common_steps}
 use Rattle.spark_base.specs.Lists.{Has}
@@ -15,9 +15,9 @@ use Rattle.flow_paths.specs.Objects.{has_scope_end}
 use Rattle.flow_paths.specs.Names.{has_call}
 use Rattle.flow_paths.specs.Points.{Place, PointName, row_at, NamedPoint, point, entry}
 use Rattle.flow_paths.specs.Prep.{Setting, held, with_held, prep}
-use Rattle.flow_paths.specs.Layout.{Around, within_loop, within_block, with_scope, declared, from, ending, ends, closing, uses, uses_both, unless_empty, choices_of, laid, laid_branches, laid_branch, laid_whens, laid_when}
+use Rattle.flow_paths.specs.Layout.{Around, within_loop, within_block, with_scope, declared, from, ending, ends, closing, uses_both, laid, laid_branches, laid_branch, laid_whens, laid_when}
 use Rattle.flow_paths.specs.Laid.{around_body, scope_at_end, procedure_end, function_end, body_points, sub_points, elaboration_points, declared_within}
-use Rattle.flow_paths.specs.Scopes.{is_ready, is_last, is_within, leaves_silently, is_declaration, is_undeclaring, is_settled}
+use Rattle.flow_paths.specs.Scopes.{is_ready, is_last, leaves_silently, is_declaration, is_undeclaring, is_settled}
 use Rattle.flow_paths.proofs.Unwinding.{Unwinds, Loose, unwinds_silent}
 use Rattle.flow_paths.proofs.StatementScopes.{after, after_undeclaring, after_more, ended}
 use Rattle.scope_laws.specs.Code.{Once, objects_of}

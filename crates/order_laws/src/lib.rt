@@ -1,0 +1,2 @@
+//! Subprograms
+#![tactic(auto)]
