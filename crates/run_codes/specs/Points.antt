@@ -1,5 +1,5 @@
 -- What the points of a lowered program do, and its runs.
-use Rattle.std.specs.Prelude.{ℕ, zero, suc, ◌+◌, ◌-◌, Bool, true, false, not, ◌&&◌, ◌==◌, List, [], ◌∷◌, ◌++◌, map, flat_map, reverse, take, drop, length, sum, get_or, slice_get, nat_le, nat_lt, Option, Some, None, ℤ, pos, negsuc, ◌+ℤ◌, unsigned_abs, int_le, int_lt, if◌then◌else◌}
+use Rattle.std.specs.Prelude.{ℕ, zero, suc, ◌+◌, ◌-◌, Bool, true, false, not, ◌&&◌, ◌==◌, List, [], ◌∷◌, ◌++◌, map, flat_map, reverse, take, drop, length, sum, get_or, slice_get, nat_le, nat_lt, Option, Some, None, option_and_then, ℤ, pos, negsuc, ◌+ℤ◌, unsigned_abs, int_le, int_lt, if◌then◌else◌}
 use Rattle.std.specs.Char.{to_ascii_uppercase}
 use Rattle.std.specs.Cmp.Lexicographic.{pointwise}
 use Rattle.spark_base.specs.declared.position.Pos.{Pos}
@@ -18,11 +18,13 @@ use Rattle.machine.specs.Words.{access_offsets}
 use Rattle.machine.specs.Memory.{Peak}
 use Rattle.machine.specs.Evaluate.{Exception, ConstraintError, ProgramError, StorageError, DataError, EndError, Trap, Touched, Twice, literals}
 use Rattle.machine.specs.States.{Leak, Ending, Normal, Raised, Spent, Trapped, stack_words}
-use Rattle.machine.specs.Run.{Run}
+use Rattle.flow_paths.specs.Laid.{FlowProgram}
+use Rattle.machine.specs.States as machine
+use Rattle.machine.specs.Run.{Run, main_of}
 use Rattle.run_codes.specs.Codes.{Code, Place, InFrame, Fill, Actual, ByValue, From, To, Piece, Bytes, NumberImage, LiteralImage, Choice, Does, Go, Put, Store, Assign, Call, Output, Input, Release, Test, Choose, Start, Next, EvaluateLeft, EvaluateRight, Hold, EndPointer, EndScope, Finish, Fall, Point, Room, Object, Counter, Sub}
 use Rattle.run_codes.specs.Flat.{Flat, Count, Stop, Raises, Traps, Memory, Got, Given, Stops, Broken, and_then, found, kinds, most_cells, constraint, touched, is_zero, is_above, truth, is_between, word, Spot, InStack, InCell, spot, words_at, held, stored, moved_out, Made, Done, Halted, Failed, made_then, reads, without_cell, default_words, filled}
 use Rattle.run_codes.specs.Lowered.{no_index}
-use Rattle.run_codes.specs.Programs.{Program}
+use Rattle.run_codes.specs.Programs.{Program, lowered_program}
 
 -- ---- states
 
@@ -559,3 +561,15 @@ run_given (Goes s) = Some (run_with Spent s)
 run_given (Ends e s) = Some (run_with e s)
 run_given Wants = None
 run_given Fails = None
+
+abbrev pub is_declaring : FlowProgram → Bool
+is_declaring program = nat_lt 0 (length (machine.sub_of program 0).points)
+
+-- The run of a program as it is lowered.
+unfoldable pub lowered_run : FlowProgram → List ℕ → ℕ → Option Run
+lowered_run program input n = option_and_then by (lowered_program program)
+  where
+    by : Program → Option Run
+    by p =
+        let main : ℕ = main_of program.main in
+        run_given (run_of program.table p (is_declaring program) (machine.sub_of program main).pos main input n)
