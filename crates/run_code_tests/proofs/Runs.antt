@@ -7,6 +7,7 @@ use Rattle.flow_tests.proofs.Sources as flows
 use Rattle.machine.specs.Run.{run}
 use Rattle.machine_tests.proofs.Running.{running}
 use Rattle.machine_tests.proofs.Sources as runs
+use Rattle.run_code_tests.proofs.Sources as sources
 use Rattle.run_codes.specs.Flat.{word, indexes, filled}
 use Rattle.run_codes.specs.Lowered.{lowered, led, value, parts, first_value}
 use Rattle.run_codes.specs.Programs.{taken_types, pieces, choices_of, lowered_program}
@@ -162,6 +163,34 @@ short_circuits_runs = refl
 two_slots_runs : lowered_run (flow runs.two_slots) [] 100 ≡ Some (run (flow runs.two_slots) [] 100)
 unfolding lowering
 two_slots_runs = refl
+
+copying_back_runs : lowered_run (flow sources.copying_back) [] 300 ≡ Some (run (flow sources.copying_back) [] 300)
+unfolding lowering
+copying_back_runs = refl
+
+deep_indexes_runs : lowered_run (flow sources.deep_indexes) [] 300 ≡ Some (run (flow sources.deep_indexes) [] 300)
+unfolding lowering
+deep_indexes_runs = refl
+
+loops_and_choices_runs : lowered_run (flow sources.loops_and_choices) [] 300 ≡ Some (run (flow sources.loops_and_choices) [] 300)
+unfolding lowering
+loops_and_choices_runs = refl
+
+package_state_runs : lowered_run (flow sources.package_state) [] 300 ≡ Some (run (flow sources.package_state) [] 300)
+unfolding lowering
+package_state_runs = refl
+
+touched_runs : lowered_run (flow sources.touched) [] 300 ≡ Some (run (flow sources.touched) [] 300)
+unfolding lowering
+touched_runs = refl
+
+twice_runs : lowered_run (flow sources.twice) [] 300 ≡ Some (run (flow sources.twice) [] 300)
+unfolding lowering
+twice_runs = refl
+
+waiting_values_runs : lowered_run (flow sources.waiting_values) [] 300 ≡ Some (run (flow sources.waiting_values) [] 300)
+unfolding lowering
+waiting_values_runs = refl
 
 -- ---- with input and budgets
 
