@@ -4,3 +4,5 @@ pub mod Flat
 pub mod Lowered
 pub mod Programs
 pub mod Points
+-- what the lemmas go by
+pub mod Related

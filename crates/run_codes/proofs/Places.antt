@@ -1,0 +1,243 @@
+-- A place of the lowering leads where the machine's leads: components, elements, what is designated, and the
+-- word that stands there.
+use Rattle.std.proofs.Common.{◌≡◌, ℕ, zero, suc, ◌+◌, ◌-◌, ◌*◌, ◌<◌, ◌≤◌, true, false, Bool, not, ◌&&◌, IsTrue, List, [], ◌∷◌, ◌++◌, map, length, get_or, take, drop, sum, refl, sym, ap, subst, ◌∙◌, arith, Option, Some, None, slice_get, ℤ, pos, negsuc, nat_lt, if◌then◌else◌}
+use Rattle.std.specs.Prelude.{unsigned_abs}
+use Rattle.std.proofs.lemmas.Grind.{common_steps}
+use Rattle.std.proofs.lemmas.List.{drop-drop}
+use Rattle.run_values.specs.declared.value.Value.{Value}
+use Rattle.run_values.specs.declared.value.Kind.{Kind}
+use Rattle.run_values.specs.declared.value.Kind.TheVariants as sort
+use Rattle.run_values.specs.Values.{kind}
+use Rattle.reuse_heap.specs.Cells.{Cell as StoredCell}
+use Rattle.type_definitions.specs.declared.table.Shape.{Shape}
+use Rattle.type_definitions.specs.declared.table.Shape.TheVariants as shape
+use Rattle.type_definitions.specs.declared.table.Component.{Component}
+use Rattle.type_definitions.specs.Types.{Table, shape_of, components_of, view_of, span, words}
+use Rattle.flow_paths.specs.Objects.{Typing, designated, designated_of}
+use Rattle.machine.specs.Words.{Word, Null, Cell, component_type, words_before, no_component, element_type, element_of}
+use Rattle.machine.specs.Typed.{Sort, Whole, Position, Pointer, sorts, repeated_sorts, field_count, is_record, designates}
+use Rattle.machine.specs.Memory.{Memory, Slot, HeapCell, Place, cell, slots_at, words_of}
+use Rattle.machine.specs.Evaluate.{Now, Evaluated, Done, followed_by, ConstraintError, Touched, Step, ToComponent, ToElement, ToDesignated, walked, stepped, component_place, element_place, cell_place, designated_place}
+use Rattle.machine.specs.Evaluate as machine
+use Rattle.run_codes.specs.Codes.{Code, InFrame, InPackages, Behind}
+use Rattle.run_codes.specs.Codes as codes
+use Rattle.run_codes.specs.Flat.{Flat, Got, Given, Stops, Broken, Stop, Raises, Traps, and_then, found, kind_of, same_kind, word_of, words_in, touched, value_word, behind, behind_at, constraint, most_cells, word, indexes}
+use Rattle.run_codes.specs.Flat as flat
+use Rattle.run_codes.specs.Lowered.{load, moved_by}
+use Rattle.run_codes.specs.Related.{Designates, PointsTo, Stands, SlotStands, AllStand, AllKinds, CellStands, HaveCells, IsTable, Seen, table, now, types, Stand, IsSeen, Stopped, Same, IsPlace, IsTouch, InCell, IsDesignated, IsBehind, Leads}
+use Rattle.run_codes.proofs.Parts.{many, all_sorts, before, component_stands, component_kinds, element_stands, element_kinds, first_word, first_value, words-drop}
+
+-- ---- small facts
+
+pub impossible : {A B : Type 0} (a : A) → None ≡ Some a → B
+impossible a is = absurd (never a is)
+  where
+    never : {A : Type 0} (a : A) → None ≡ Some a → ⊥
+    never a is = cc
+
+pub some_same : {A : Type 0} (a b : A) → Some a ≡ Some b → a ≡ b
+some_same a b is = cc
+
+pub given_same : {A : Type 0} (a b : A) → Given a ≡ Given b → a ≡ b
+given_same a b is = cc
+
+pub if_some : {A : Type 0} (b : Bool) (x : Option A) (a : A) → (if b then x else None) ≡ Some a → (b ≡ true) × (x ≡ Some a)
+if_some true x a is = (refl, is)
+if_some false x a is = impossible a is
+
+pub if_none : {A : Type 0} (b : Bool) (x : Option A) (a : A) → (if b then None else x) ≡ Some a → (b ≡ false) × (x ≡ Some a)
+if_none true x a is = impossible a is
+if_none false x a is = (refl, is)
+
+pub both_true : (a b : Bool) → (a && b) ≡ true → (a ≡ true) × (b ≡ true)
+both_true true b is = (refl, is)
+both_true false b is = absurd (never is)
+  where
+    never : false ≡ true → ⊥
+    never e = cc
+
+pub below : (i n : ℕ) → nat_lt i n ≡ true → i < n
+below i n is = grind arith
+
+pub is_below : (i n : ℕ) → i < n → nat_lt i n ≡ true
+is_below i n is = grind arith
+
+-- What is given at the end was given on the way.
+pub given_on : {A B : Type 0} (got : Got A) (f : A → Got B) (b : B) → and_then got f ≡ Given b → (a : A) × (got ≡ Given a) × (f a ≡ Given b)
+given_on (Given a) f b is = (a, refl, is)
+given_on (Stops s) f b is = absurd (never s b is)
+  where
+    never : {B : Type 0} (s : Stop) (b : B) → Stops s ≡ Given b → ⊥
+    never s b is = cc
+given_on Broken f b is = absurd (never b is)
+  where
+    never : {B : Type 0} (b : B) → Broken ≡ Given b → ⊥
+    never b is = cc
+
+-- ---- the machine's evaluation in two steps
+
+pub twice : {A B C : Type 0} (ev : Evaluated A) (f : A → Now → Evaluated B) (g : B → Now → Evaluated C)
+    → followed_by (followed_by ev f) g ≡ followed_by ev (λ a now. followed_by (f a now) g)
+twice (Done a now) f g = refl
+twice (machine.Raises e now) f g = refl
+twice (machine.Traps t now) f g = refl
+
+pub no_step : (s : Typing) (ev : Evaluated Place) → followed_by ev (walked s []) ≡ ev
+no_step s (Done p now) = refl
+no_step s (machine.Raises e now) = refl
+no_step s (machine.Traps t now) = refl
+
+pub one_step : (s : Typing) (step : Step) (way : List Step) (ev : Evaluated Place)
+    → followed_by ev (walked s (step ∷ way)) ≡ followed_by (followed_by ev (stepped s step)) (walked s way)
+one_step s step way (Done p now) = refl
+one_step s step way (machine.Raises e now) = refl
+one_step s step way (machine.Traps t now) = refl
+
+pub stopped_on : {A B : Type 0} (m : Memory) (stop : Stop) (ev : Evaluated A) (f : A → Now → Evaluated B) → Stopped m stop ev → Stopped m stop (followed_by ev f)
+stopped_on m (Raises x) ev f s = (s.0, ap (λ y. followed_by y f) s.1, s.2)
+stopped_on m (Traps t) ev f s = (s.0, ap (λ y. followed_by y f) s.1, s.2)
+stopped_on m flat.Memory ev f s = tt
+
+pub stopped_by : {A : Type 0} (m : Memory) (stop : Stop) (ev other : Evaluated A) → ev ≡ other → Stopped m stop other → Stopped m stop ev
+stopped_by m (Raises x) ev other is s = (s.0, is ∙ s.1, s.2)
+stopped_by m (Traps t) ev other is s = (s.0, is ∙ s.1, s.2)
+stopped_by m flat.Memory ev other is s = tt
+
+pub same_by : (e : Seen) (s : Sort) (k : ℕ) (ev other : Evaluated (List Word)) (got : Got ℤ) → ev ≡ other → Same e s k other got → Same e s k ev got
+same_by e s k ev other got is same = subst (λ x. Same e s k x got) (sym is) same
+
+-- ---- components
+
+component_is : (table : Table) (t i : ℕ) (components : List Component) → shape_of table t ≡ shape.Fields components
+    → component_type table t i ≡ (get_or components i no_component).of
+component_is table t i components is = ap (λ sh. (get_or (components_of sh) i no_component).of) is
+
+before_is : (table : Table) (t i : ℕ) (components : List Component) → shape_of table t ≡ shape.Fields components
+    → words_before table t i ≡ before table i components
+before_is table t i components is = ap (λ sh. sum (map (λ (c : Component). words table c.of) (take i (components_of sh)))) is
+
+-- ---- parts of a place, a component or an element
+
+-- A step that adds an offset to a place, of whose words it keeps a part.
+pub record IsPart (e : Seen) (step : Step) (t u by : ℕ) : Type 0 where
+  pub place : Place → Place
+  pub leads : (p : Place) (n : Now) → stepped e.site.typing step p n ≡ Done (place p) n
+  pub base : (p : Place) → (place p).base ≡ p.base
+  pub at : (p : Place) → p.of ≡ t → (place p).at ≡ p.at + by
+  pub of : (p : Place) → p.of ≡ t → (place p).of ≡ u
+  pub stand : (xs : List Slot) (zs : List ℤ) → Stand e (sorts (table e) t) xs zs → Stand e (sorts (table e) u) (drop by xs) (drop by zs)
+  pub kinds : (vs : List Value) → AllKinds (sorts (table e) t) vs → AllKinds (sorts (table e) u) (drop by vs)
+
+part_place : (e : Seen) (step : Step) (k t u by : ℕ) (zs zs' : List ℤ) (ev : Evaluated Place) → IsPart e step t u by → zs' ≡ drop by zs
+    → IsPlace e k t zs ev → IsPlace e k u zs' (followed_by ev (stepped e.site.typing step))
+part_place e step k t u by zs zs' ev part here is =
+    let slots : List Slot = slots_at e.site.typing e.memory is.p.base in
+    let all = part.stand (drop is.p.at slots) zs is.stand in
+    let moved : Stand e (sorts (table e) u) (drop (is.p.at + by) slots) (drop by zs) =
+    subst (λ l. Stand e (sorts (table e) u) l (drop by zs)) (drop-drop by is.p.at slots) all in
+    let there : Stand e (sorts (table e) u) (drop (part.place is.p).at slots) (drop by zs) =
+    subst (λ n. Stand e (sorts (table e) u) (drop n slots) (drop by zs)) (sym (part.at is.p is.of)) moved in
+    let based : Stand e (sorts (table e) u) (drop (part.place is.p).at (slots_at e.site.typing e.memory (part.place is.p).base)) (drop by zs) =
+    subst (λ b. Stand e (sorts (table e) u) (drop (part.place is.p).at (slots_at e.site.typing e.memory b)) (drop by zs)) (sym (part.base is.p)) there in
+    record {
+      p = part.place is.p;
+      gives = ap (λ x. followed_by x (stepped e.site.typing step)) is.gives ∙ part.leads is.p (now e k);
+      of = part.of is.p is.of;
+      stand = subst (λ l. Stand e (sorts (table e) u) (drop (part.place is.p).at (slots_at e.site.typing e.memory (part.place is.p).base)) l) (sym here) based;
+    }
+
+part_touch : (e : Seen) (step : Step) (freed : Bool) (k t u by : ℕ) (zs zs' : List ℤ) (ev : Evaluated Place) → IsPart e step t u by → zs' ≡ drop by zs
+    → IsTouch e freed k t zs ev → IsTouch e freed k u zs' (followed_by ev (stepped e.site.typing step))
+part_touch e step true k t u by zs zs' ev part here is = stopped_on e.memory (Traps Touched) ev (stepped e.site.typing step) is
+part_touch e step false k t u by zs zs' ev part here is = part_place e step k t u by zs zs' ev part here is
+
+part_cell : (e : Seen) (step : Step) (k t u by n o : ℕ) (ev : Evaluated Place) → IsPart e step t u by
+    → InCell e k t n o ev → InCell e k u n (o + by) (followed_by ev (stepped e.site.typing step))
+part_cell e step k t u by n o ev part is = record {
+  c = is.c;
+  there = is.there;
+  within = is.within;
+  kinds = subst (λ l. AllKinds (sorts (table e) u) l) (drop-drop by o is.c.words) (part.kinds (drop o is.c.words) is.kinds);
+  leads = part_touch e step is.c.freed k t u by (drop o (words_in is.c.words)) (drop (o + by) (words_in is.c.words)) ev part
+    (sym (drop-drop by o (words_in is.c.words))) is.leads;
+}
+
+part_designated : (e : Seen) (step : Step) (n k t u by o : ℕ) (ev : Evaluated Place) → IsPart e step t u by
+    → IsDesignated e n k t o ev → IsDesignated e n k u (o + by) (followed_by ev (stepped e.site.typing step))
+part_designated e step zero k t u by o ev part is = stopped_on e.memory constraint ev (stepped e.site.typing step) is
+part_designated e step (suc n) k t u by o ev part is = part_cell e step k t u by n o ev part is
+
+part_behind : (e : Seen) (step : Step) (got : Got ℤ) (k t u by o : ℕ) (ev : Evaluated Place) → IsPart e step t u by
+    → IsBehind e got k t o ev → IsBehind e got k u (o + by) (followed_by ev (stepped e.site.typing step))
+part_behind e step (Given z) k t u by o ev part is = part_designated e step (unsigned_abs z) k t u by o ev part is
+part_behind e step (Stops s) k t u by o ev part is = stopped_on e.memory s ev (stepped e.site.typing step) is
+part_behind e step Broken k t u by o ev part is = absurd is
+
+-- Where a place is a part further on.
+pub record IsFurther (p q : codes.Place) (o r by : ℕ) : Type 0 where
+  pub frame : (at : ℕ) (i : Code) → p ≡ InFrame at i → (to : ℕ) × (j : Code) × (q ≡ InFrame to j) × (to + r ≡ at + o + by)
+  pub packages : (at : ℕ) (i : Code) → p ≡ InPackages at i → (to : ℕ) × (j : Code) × (q ≡ InPackages to j) × (to + r ≡ at + o + by)
+  pub behind : (a : Code) (at : ℕ) (i : Code) → p ≡ Behind a at i → (to : ℕ) × (j : Code) × (q ≡ Behind a to j) × (to + r ≡ at + o + by)
+
+pub leads_part : (e : Seen) (step : Step) (p q : codes.Place) (o r k t u by : ℕ) (ev : Evaluated Place) → IsPart e step t u by → IsFurther p q o r by
+    → Leads e p o k t ev → Leads e q r k u (followed_by ev (stepped e.site.typing step))
+leads_part e step (InFrame at i) q o r k t u by ev part further is =
+    let f = further.frame at i refl in
+    let sum : e.flat.base + f.0 + r ≡ e.flat.base + at + o + by = omega (arith, f.3) in
+    let zs : List ℤ = e.flat.stack in
+    subst (λ l. Leads e l r k u (followed_by ev (stepped e.site.typing step))) (sym f.2)
+    (part_place e step k t u by (drop (e.flat.base + at + o) zs) (drop (e.flat.base + f.0 + r) zs) ev part
+    (ap (λ n. drop n zs) sum ∙ sym (drop-drop by (e.flat.base + at + o) zs)) is)
+leads_part e step (InPackages at i) q o r k t u by ev part further is =
+    let f = further.packages at i refl in
+    let zs : List ℤ = e.flat.stack in
+    subst (λ l. Leads e l r k u (followed_by ev (stepped e.site.typing step))) (sym f.2)
+    (part_place e step k t u by (drop (at + o) zs) (drop (f.0 + r) zs) ev part (ap (λ n. drop n zs) f.3 ∙ sym (drop-drop by (at + o) zs)) is)
+leads_part e step (Behind a at i) q o r k t u by ev part further is =
+    let f = further.behind a at i refl in
+    subst (λ l. Leads e l r k u (followed_by ev (stepped e.site.typing step))) (sym f.2)
+    (subst (λ n. IsBehind e (word e.flat a) k u n (followed_by ev (stepped e.site.typing step))) (sym f.3)
+    (part_behind e step (word e.flat a) k t u by (at + o) ev part is))
+
+-- A component.
+pub component_part : (e : Seen) → IsTable (table e) → (t i : ℕ) (components : List Component) → shape_of (table e) t ≡ shape.Fields components → i < length components
+    → IsPart e (ToComponent i) t (component_type (table e) t i) (words_before (table e) t i)
+component_part e laws t i components is lt = record {
+  place = component_place (table e) i;
+  leads = λ p n. refl;
+  base = λ p. refl;
+  at = λ p of. ap (λ u. p.at + words_before (table e) u i) of;
+  of = λ p of. ap (λ u. component_type (table e) u i) of;
+  stand = λ xs zs all.
+    let part = component_stands (table e) (types e.memory) components i xs zs lt (subst (λ l. Stand e l xs zs) (laws.fields t components is) all) in
+    let typed : Stand e (sorts (table e) (component_type (table e) t i)) (drop (before (table e) i components) xs) (drop (before (table e) i components) zs) =
+    subst (λ d. Stand e (sorts (table e) d) (drop (before (table e) i components) xs) (drop (before (table e) i components) zs)) (sym (component_is (table e) t i components is)) part in
+    subst (λ n. Stand e (sorts (table e) (component_type (table e) t i)) (drop n xs) (drop n zs)) (sym (before_is (table e) t i components is)) typed;
+  kinds = λ vs all.
+    let part = component_kinds (table e) components i vs lt (subst (λ l. AllKinds l vs) (laws.fields t components is) all) in
+    let typed : AllKinds (sorts (table e) (component_type (table e) t i)) (drop (before (table e) i components) vs) =
+    subst (λ d. AllKinds (sorts (table e) d) (drop (before (table e) i components) vs)) (sym (component_is (table e) t i components is)) part in
+    subst (λ n. AllKinds (sorts (table e) (component_type (table e) t i)) (drop n vs)) (sym (before_is (table e) t i components is)) typed;
+}
+
+-- An element.
+pub element_part : (e : Seen) → IsTable (table e) → (t n element : ℕ) (low high : ℤ) → shape_of (table e) t ≡ shape.Elements low high element → n < span low high
+    → IsPart e (ToElement n) t (element_type (table e) t) (n * words (table e) (element_type (table e) t))
+element_part e laws t n element low high is lt =
+    let of_is : element_type (table e) t ≡ element = ap element_of is in
+    let size : ℕ = words (table e) (element_type (table e) t) in
+    let all_is : sorts (table e) t ≡ repeated_sorts (span low high) (sorts (table e) (element_type (table e) t)) =
+    laws.elements t element low high is ∙ ap (λ u. repeated_sorts (span low high) (sorts (table e) u)) (sym of_is) in
+    record {
+      place = element_place (table e) n;
+      leads = λ p m. refl;
+      base = λ p. refl;
+      at = λ p of. ap (λ u. p.at + n * words (table e) (element_type (table e) u)) of;
+      of = λ p of. ap (λ u. element_type (table e) u) of;
+      stand = λ xs zs all.
+        element_stands (table e) (types e.memory) (span low high) (sorts (table e) (element_type (table e) t)) size n xs zs (many (table e) (element_type (table e) t)) lt
+        (subst (λ l. Stand e l xs zs) all_is all);
+      kinds = λ vs all.
+        element_kinds (span low high) (sorts (table e) (element_type (table e) t)) size n vs (many (table e) (element_type (table e) t)) lt
+        (subst (λ l. AllKinds l vs) all_is all);
+    }

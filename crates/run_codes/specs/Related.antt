@@ -1,0 +1,193 @@
+-- Which words of the executor stand for the memory of the machine.
+--
+-- What stands for access values and cells is told by `PointsTo`, `IsMarked` and `CellStands` alone.
+use Rattle.std.specs.Prelude.{◌≡◌, ◌⊎◌, ◌≤◌, ◌<◌, ℕ, zero, suc, ◌+◌, Bool, true, false, ◌&&◌, ◌==◌, IsTrue, List, [], ◌∷◌, map, filter, flat_map, length, take, drop, get_or, slice_get, Option, Some, ℤ, pos, negsuc, unsigned_abs}
+use Rattle.spark_base.specs.Lists.{Has}
+use Rattle.run_values.specs.declared.value.Value.{Value}
+use Rattle.run_values.specs.Values.{kind}
+use Rattle.run_values.specs.Arithmetic.{is_integer}
+use Rattle.reuse_heap.specs.Cells.{Cell as StoredCell}
+use Rattle.type_definitions.specs.declared.table.Shape.TheVariants as shape
+use Rattle.type_definitions.specs.declared.table.Component.{Component}
+use Rattle.type_definitions.specs.Types.{Table, shape_of, span, words}
+use Rattle.type_definitions.specs.Entries.{integer}
+use Rattle.flow_paths.specs.Objects.{Typing, object_at, is_package_object}
+use Rattle.machine.specs.Words.{Word, Int, Enumerated, Null, Cell}
+use Rattle.machine.specs.Typed.{Sort, Whole, Position, Pointer, sorts, repeated_sorts, same_designated}
+use Rattle.machine.specs.Memory.{Memory, Slot, Place, HeapCell, Peak, cell, slots_at, fresh, live_words, live_count, OfVariable}
+use Rattle.machine.specs.Evaluate.{Here, Now, Evaluated, Done}
+use Rattle.machine.specs.Evaluate as machine
+use Rattle.run_codes.specs.Codes as codes
+use Rattle.run_codes.specs.Flat.{Flat, Count, Got, Given, Stops, Broken, Stop, Raises, Traps, kind_of, word_of, words_in, most_cells}
+use Rattle.run_codes.specs.Flat as flat
+use Rattle.run_codes.specs.Lowered.{Site, offset_of, package_offset, words_before_value}
+
+-- ---- words
+
+-- The types of the cells that were made, the first one first.
+abbrev pub types : Memory → List ℕ
+types m = map (λ (c : HeapCell). c.of) m.cells
+
+-- The cell with a number from 0 has words of the sorts of the designated type.
+pub record Designates (table : Table) (made : List ℕ) (d n : ℕ) : Type 0 where
+  pub within : n < length made
+  pub sorts : sorts table (get_or made n integer) ≡ sorts table d
+
+abbrev pub PointsTo : Table → List ℕ → ℕ → Word → ℕ → Type 0
+PointsTo table made d w zero = w ≡ Null
+PointsTo table made d w (suc n) = (w ≡ Cell (suc n)) × Designates table made d n
+
+-- A word of a sort has this value.
+abbrev pub Stands : Table → List ℕ → Sort → Word → ℤ → Type 0
+Stands table made Whole w z = (w ≡ Int z) × IsTrue (is_integer z)
+Stands table made Position w z = (w ≡ Enumerated (unsigned_abs z)) × (z ≡ pos (unsigned_abs z)) × IsTrue (is_integer z)
+Stands table made (Pointer d) w z = PointsTo table made d w (unsigned_abs z)
+
+-- The number of a cell has a minus where it is gone.
+abbrev pub IsMarked : Sort → Bool → ℤ → Type 0
+IsMarked (Pointer d) gone (pos zero) = Unit {0}
+IsMarked (Pointer d) gone (pos (suc n)) = gone ≡ false
+IsMarked (Pointer d) gone (negsuc n) = gone ≡ true
+IsMarked s gone z = Unit {0}
+
+abbrev pub SlotStands : Table → List ℕ → Sort → Slot → ℤ → Type 0
+SlotStands table made s x z = Stands table made s x.word z × IsMarked s x.gone z
+
+-- The slots begin with words of these sorts, for which these stand.
+abbrev pub AllStand : Table → List ℕ → List Sort → List Slot → List ℤ → Type 0
+AllStand table made [] xs zs = Unit {0}
+AllStand table made (s ∷ all) (x ∷ xs) (z ∷ zs) = SlotStands table made s x z × AllStand table made all xs zs
+AllStand table made (s ∷ all) _ _ = ⊥
+
+-- A value of these sorts.
+pub record IsValue (table : Table) (made : List ℕ) (all : List Sort) (ws : List Word) (zs : List ℤ) : Type 0 where
+  pub stand : AllStand table made all (fresh ws) zs
+  pub words : length ws ≡ length all
+  pub numbers : length zs ≡ length all
+
+-- ---- cells
+
+-- Those of a cell have the kinds of these sorts.
+abbrev pub AllKinds : List Sort → List Value → Type 0
+AllKinds [] vs = Unit {0}
+AllKinds (s ∷ all) (v ∷ vs) = (kind v ≡ kind_of s) × AllKinds all vs
+AllKinds (s ∷ all) [] = ⊥
+
+pub record CellStands (table : Table) (made : List ℕ) (c : HeapCell) (k : StoredCell) : Type 0 where
+  pub words : AllStand table made (sorts table c.of) c.slots (words_in k.words)
+  pub kinds : AllKinds (sorts table c.of) k.words
+  pub size : length c.slots ≡ length k.words
+  pub freed : c.freed ≡ k.freed
+
+-- Each cell that was made is in the store.
+abbrev pub HaveCells : Table → Memory → Flat → Type 0
+HaveCells table m f =
+    (n : ℕ) → n < length m.cells → (k : StoredCell) × (slice_get f.cells n ≡ Some k) × CellStands table (types m) (cell m (suc n)) k
+
+-- The counts are those of the machine.
+pub record Counted (m : Memory) (f : Flat) : Type 0 where
+  pub made : length f.cells ≡ length m.cells
+  pub few : length m.cells ≤ most_cells
+  pub live : f.live ≡ live_words m
+  pub freed : f.freed ≡ length (filter (λ (c : HeapCell). c.freed) m.cells)
+  pub peaks : map (λ (c : Count). record { size = c.size; count = c.peak }) f.counts ≡ m.peaks
+  pub sizes : (c : Count) → Has f.counts c → c.live ≡ live_count c.size m.cells
+
+-- ---- what is known of a table of types
+
+pub record IsTable (table : Table) : Type 0 where
+  pub whole : (t : ℕ) (low high : ℤ) → shape_of table t ≡ shape.Whole low high → sorts table t ≡ Whole ∷ []
+  pub listed : (t low high : ℕ) → (literals : _) → shape_of table t ≡ shape.Listed literals low high → sorts table t ≡ Position ∷ []
+  pub access : (t d : ℕ) (constant named : Bool) → shape_of table t ≡ shape.Access d constant named → sorts table t ≡ Pointer d ∷ []
+  pub fields : (t : ℕ) (components : List Component) → shape_of table t ≡ shape.Fields components
+      → sorts table t ≡ flat_map (λ (c : Component). sorts table c.of) components
+  pub elements : (t element : ℕ) (low high : ℤ) → shape_of table t ≡ shape.Elements low high element
+      → sorts table t ≡ repeated_sorts (span low high) (sorts table element)
+  pub same : (t u : ℕ) → same_designated table t u ≡ true → sorts table t ≡ sorts table u
+
+-- ---- what an evaluation goes by
+
+-- The objects of a site in a frame, the machine's memory and the values that the point takes, and the flat
+-- memory.
+pub record Seen : Type 0 where
+  pub site : Site
+  pub frame : ℕ
+  pub memory : Memory
+  pub waits : List (List Word)
+  pub flat : Flat
+
+abbrev pub table : Seen → Table
+table e = e.site.typing.table
+
+abbrev pub here : Seen → Here
+here e = record { typing = e.site.typing; frame = e.frame; rest = e.flat.rest }
+
+-- So many values were taken.
+abbrev pub now : Seen → ℕ → Now
+now e k = record { memory = e.memory; waits = drop k e.waits }
+
+abbrev pub Stand : Seen → List Sort → List Slot → List ℤ → Type 0
+Stand e all xs zs = AllStand (table e) (types e.memory) all xs zs
+
+-- What is read is there: the objects of the frame and of packages, the cells, the values that wait.
+pub record IsSeen (e : Seen) : Type 0 where
+  pub laws : IsTable (table e)
+  pub own : (x at : ℕ) → offset_of e.site x ≡ Some at → is_package_object e.site.typing x ≡ false
+      → Stand e (sorts (table e) (object_at e.site.typing x).of) (slots_at e.site.typing e.memory (OfVariable e.frame x)) (drop (e.flat.base + at) e.flat.stack)
+  pub packages : (x at : ℕ) → package_offset e.site x ≡ Some at → is_package_object e.site.typing x ≡ true
+      → Stand e (sorts (table e) (object_at e.site.typing x).of) (slots_at e.site.typing e.memory (OfVariable 0 x)) (drop at e.flat.stack)
+  pub cells : HaveCells (table e) e.memory e.flat
+  pub few : length e.memory.cells ≤ most_cells
+  pub waits : (k t : ℕ) → slice_get e.site.takes k ≡ Some t
+      → IsValue (table e) (types e.memory) (sorts (table e) t) (get_or e.waits k []) (take (words (table e) t) (drop (words_before_value e.site k) e.flat.waits))
+
+-- ---- results
+
+-- The machine stops as well, with the memory that it had. Memory may always be out.
+abbrev pub Stopped : {A : Type 0} → Memory → Stop → Evaluated A → Type 0
+Stopped m (Raises x) ev = (n : Now) × (ev ≡ machine.Raises x n) × (n.memory ≡ m)
+Stopped m (Traps t) ev = (n : Now) × (ev ≡ machine.Traps t n) × (n.memory ≡ m)
+Stopped m flat.Memory ev = Unit {0}
+
+-- The executor gives a word of this sort where the machine gives it, after so many values were taken, and
+-- stops where that stops.
+abbrev pub Same : Seen → Sort → ℕ → Evaluated (List Word) → Got ℤ → Type 0
+Same e s k ev (Given z) = (w : Word) × (ev ≡ Done (w ∷ []) (now e k)) × Stands (table e) (types e.memory) s w z
+Same e s k ev (Stops stop) = Stopped e.memory stop ev
+Same e s k ev Broken = ⊥
+
+-- ---- places
+
+-- A place of the machine with this type, whose words stand in these.
+pub record IsPlace (e : Seen) (k t : ℕ) (zs : List ℤ) (ev : Evaluated Place) : Type 0 where
+  pub p : Place
+  pub gives : ev ≡ Done p (now e k)
+  pub of : p.of ≡ t
+  pub stand : Stand e (sorts (table e) t) (drop p.at (slots_at e.site.typing e.memory p.base)) zs
+
+abbrev pub IsTouch : Seen → Bool → ℕ → ℕ → List ℤ → Evaluated Place → Type 0
+IsTouch e true k t zs ev = Stopped e.memory (Traps machine.Touched) ev
+IsTouch e false k t zs ev = IsPlace e k t zs ev
+
+-- The same in the cell n of the list, from an offset on, or a touch of it where it is freed.
+pub record InCell (e : Seen) (k t n o : ℕ) (ev : Evaluated Place) : Type 0 where
+  pub c : StoredCell
+  pub there : slice_get e.flat.cells n ≡ Some c
+  pub within : n < length e.memory.cells
+  pub kinds : AllKinds (sorts (table e) t) (drop o c.words)
+  pub leads : IsTouch e c.freed k t (drop o (words_in c.words)) ev
+
+abbrev pub IsDesignated : Seen → ℕ → ℕ → ℕ → ℕ → Evaluated Place → Type 0
+IsDesignated e zero k t o ev = Stopped e.memory flat.constraint ev
+IsDesignated e (suc n) k t o ev = InCell e k t n o ev
+
+abbrev pub IsBehind : Seen → Got ℤ → ℕ → ℕ → ℕ → Evaluated Place → Type 0
+IsBehind e (Given z) k t o ev = IsDesignated e (unsigned_abs z) k t o ev
+IsBehind e (Stops stop) k t o ev = Stopped e.memory stop ev
+IsBehind e Broken k t o ev = ⊥
+
+-- A place of the lowering, whose own index is a number, is one of the machine.
+abbrev pub Leads : Seen → codes.Place → ℕ → ℕ → ℕ → Evaluated Place → Type 0
+Leads e (codes.InFrame at i) o k t ev = IsPlace e k t (drop (e.flat.base + at + o) e.flat.stack) ev
+Leads e (codes.InPackages at i) o k t ev = IsPlace e k t (drop (at + o) e.flat.stack) ev
+Leads e (codes.Behind p at i) o k t ev = IsBehind e (flat.word e.flat p) k t (at + o) ev
