@@ -126,6 +126,16 @@ component_kinds table (c ∷ cs) (suc i) vs within all =
     kinds_on (sorts table (get_or cs i no_component).of) n (before table i cs) (before table (suc i) (c ∷ cs)) vs (before_more table i c cs)
     (component_kinds table cs i (drop n vs) (omega (arith, within)) behind)
 
+-- A component lies within its record.
+pub component_inside : (table : Table) (cs : List Component) (i : ℕ) → i < length cs
+    → before table i cs + length (sorts table (get_or cs i no_component).of) ≤ length (all_sorts table cs)
+component_inside table [] i within = absurd (omega (arith, within))
+component_inside table (c ∷ cs) zero within = omega (arith, length-append (sorts table c.of) (all_sorts table cs))
+component_inside table (c ∷ cs) (suc i) within =
+    let rest = component_inside table cs i (omega (arith, within)) in
+    let all = length-append (sorts table c.of) (all_sorts table cs) in
+    omega (arith, rest, all, before_more table i c cs, many table c.of)
+
 -- ---- the elements of an array
 
 next_offset : (i size : ℕ) → suc i * size ≡ size + i * size
@@ -151,6 +161,13 @@ element_kinds (suc n) all size (suc i) vs long within stand =
     let rest : AllKinds (repeated_sorts n all) (drop size vs) =
     subst (λ k. AllKinds (repeated_sorts n all) (drop k vs)) long (second_kinds all (repeated_sorts n all) vs stand) in
     kinds_on all size (i * size) (suc i * size) vs (next_offset i size) (element_kinds n all size i (drop size vs) long (omega (arith, within)) rest)
+
+pub element_inside : (i count size : ℕ) → i < count → i * size + size ≤ count * size
+element_inside i zero size within = absurd (omega (arith, within))
+element_inside zero (suc n) size within = let more = next_offset n size in let none = none_of size in omega (arith, more, none)
+element_inside (suc i) (suc n) size within =
+    let rest = element_inside i n size (omega (arith, within)) in
+    let a = next_offset i size in let b = next_offset n size in omega (arith, rest, a, b)
 
 -- ---- the first word
 

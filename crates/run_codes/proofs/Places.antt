@@ -25,7 +25,7 @@ use Rattle.run_codes.specs.Flat.{Flat, Got, Given, Stops, Broken, Stop, Raises, 
 use Rattle.run_codes.specs.Flat as flat
 use Rattle.run_codes.specs.Lowered.{load, moved_by}
 use Rattle.run_codes.specs.Related.{Designates, PointsTo, Stands, SlotStands, AllStand, AllKinds, CellStands, HaveCells, IsTable, Seen, table, now, types, Stand, IsSeen, Stopped, Same, IsPlace, IsTouch, InCell, IsDesignated, IsBehind, Leads}
-use Rattle.run_codes.proofs.Parts.{many, all_sorts, before, component_stands, component_kinds, element_stands, element_kinds, first_word, first_value, words-drop}
+use Rattle.run_codes.proofs.Parts.{many, all_sorts, before, repeated_long, component_stands, component_kinds, component_inside, element_stands, element_kinds, element_inside, first_word, first_value, words-drop}
 
 -- ---- small facts
 
@@ -127,6 +127,7 @@ pub record IsPart (e : Seen) (step : Step) (t u by : ℕ) : Type 0 where
   pub of : (p : Place) → p.of ≡ t → (place p).of ≡ u
   pub stand : (xs : List Slot) (zs : List ℤ) → Stand e (sorts (table e) t) xs zs → Stand e (sorts (table e) u) (drop by xs) (drop by zs)
   pub kinds : (vs : List Value) → AllKinds (sorts (table e) t) vs → AllKinds (sorts (table e) u) (drop by vs)
+  pub inside : by + length (sorts (table e) u) ≤ length (sorts (table e) t)
 
 part_place : (e : Seen) (step : Step) (k t u by : ℕ) (zs zs' : List ℤ) (ev : Evaluated Place) → IsPart e step t u by → zs' ≡ drop by zs
     → IsPlace e k t zs ev → IsPlace e k u zs' (followed_by ev (stepped e.site.typing step))
@@ -157,9 +158,11 @@ part_cell e step k t u by n o ev part is = record {
   c = is.c;
   there = is.there;
   within = is.within;
+  small = is.small;
+  inside = omega (arith, is.inside, part.inside);
   kinds = subst (λ l. AllKinds (sorts (table e) u) l) (drop-drop by o is.c.words) (part.kinds (drop o is.c.words) is.kinds);
   leads = part_touch e step is.c.freed k t u by (drop o (words_in is.c.words)) (drop (o + by) (words_in is.c.words)) ev part
-    (sym (drop-drop by o (words_in is.c.words))) is.leads;
+      (sym (drop-drop by o (words_in is.c.words))) is.leads;
 }
 
 part_designated : (e : Seen) (step : Step) (n k t u by o : ℕ) (ev : Evaluated Place) → IsPart e step t u by
@@ -209,15 +212,21 @@ component_part e laws t i components is lt = record {
   at = λ p of. ap (λ u. p.at + words_before (table e) u i) of;
   of = λ p of. ap (λ u. component_type (table e) u i) of;
   stand = λ xs zs all.
-    let part = component_stands (table e) (types e.memory) components i xs zs lt (subst (λ l. Stand e l xs zs) (laws.fields t components is) all) in
-    let typed : Stand e (sorts (table e) (component_type (table e) t i)) (drop (before (table e) i components) xs) (drop (before (table e) i components) zs) =
-    subst (λ d. Stand e (sorts (table e) d) (drop (before (table e) i components) xs) (drop (before (table e) i components) zs)) (sym (component_is (table e) t i components is)) part in
-    subst (λ n. Stand e (sorts (table e) (component_type (table e) t i)) (drop n xs) (drop n zs)) (sym (before_is (table e) t i components is)) typed;
+      let part = component_stands (table e) (types e.memory) components i xs zs lt (subst (λ l. Stand e l xs zs) (laws.fields t components is) all) in
+      let typed : Stand e (sorts (table e) (component_type (table e) t i)) (drop (before (table e) i components) xs) (drop (before (table e) i components) zs) =
+      subst (λ d. Stand e (sorts (table e) d) (drop (before (table e) i components) xs) (drop (before (table e) i components) zs)) (sym (component_is (table e) t i components is)) part in
+      subst (λ n. Stand e (sorts (table e) (component_type (table e) t i)) (drop n xs) (drop n zs)) (sym (before_is (table e) t i components is)) typed;
   kinds = λ vs all.
-    let part = component_kinds (table e) components i vs lt (subst (λ l. AllKinds l vs) (laws.fields t components is) all) in
-    let typed : AllKinds (sorts (table e) (component_type (table e) t i)) (drop (before (table e) i components) vs) =
-    subst (λ d. AllKinds (sorts (table e) d) (drop (before (table e) i components) vs)) (sym (component_is (table e) t i components is)) part in
-    subst (λ n. AllKinds (sorts (table e) (component_type (table e) t i)) (drop n vs)) (sym (before_is (table e) t i components is)) typed;
+      let part = component_kinds (table e) components i vs lt (subst (λ l. AllKinds l vs) (laws.fields t components is) all) in
+      let typed : AllKinds (sorts (table e) (component_type (table e) t i)) (drop (before (table e) i components) vs) =
+      subst (λ d. AllKinds (sorts (table e) d) (drop (before (table e) i components) vs)) (sym (component_is (table e) t i components is)) part in
+      subst (λ n. AllKinds (sorts (table e) (component_type (table e) t i)) (drop n vs)) (sym (before_is (table e) t i components is)) typed;
+  inside =
+      let fits = component_inside (table e) components i lt in
+      let of_is = ap (λ d. length (sorts (table e) d)) (component_is (table e) t i components is) in
+      let by_is = before_is (table e) t i components is in
+      let all_is = ap (λ (l : List Sort). length l) (laws.fields t components is) in
+      omega (arith, fits, of_is, by_is, all_is);
 }
 
 -- An element.
@@ -235,9 +244,15 @@ element_part e laws t n element low high is lt =
       at = λ p of. ap (λ u. p.at + n * words (table e) (element_type (table e) u)) of;
       of = λ p of. ap (λ u. element_type (table e) u) of;
       stand = λ xs zs all.
-        element_stands (table e) (types e.memory) (span low high) (sorts (table e) (element_type (table e) t)) size n xs zs (many (table e) (element_type (table e) t)) lt
-        (subst (λ l. Stand e l xs zs) all_is all);
+          element_stands (table e) (types e.memory) (span low high) (sorts (table e) (element_type (table e) t)) size n xs zs (many (table e) (element_type (table e) t)) lt
+          (subst (λ l. Stand e l xs zs) all_is all);
       kinds = λ vs all.
-        element_kinds (span low high) (sorts (table e) (element_type (table e) t)) size n vs (many (table e) (element_type (table e) t)) lt
-        (subst (λ l. AllKinds l vs) all_is all);
+          element_kinds (span low high) (sorts (table e) (element_type (table e) t)) size n vs (many (table e) (element_type (table e) t)) lt
+          (subst (λ l. AllKinds l vs) all_is all);
+      inside =
+          let long = many (table e) (element_type (table e) t) in
+          let all_long = ap (λ (l : List Sort). length l) all_is ∙ repeated_long (span low high) (sorts (table e) (element_type (table e) t)) in
+          let fits : n * size + size ≤ span low high * size = element_inside n (span low high) size lt in
+          let same : span low high * length (sorts (table e) (element_type (table e) t)) ≡ span low high * size = ap (λ k. span low high * k) long in
+          omega (arith, long, all_long, fits, same);
     }

@@ -25,12 +25,6 @@ use Rattle.machine.specs.Evaluate.{Exception, ConstraintError, StorageError, Tra
 use Rattle.machine.specs.Typed.{Sort, Whole, Position, Pointer, sorts}
 use Rattle.run_codes.specs.Codes.{Code, Number, Local, Global, Via, Scaled, Plus, Unary, Binary, Short, IsNull, Waiting, EndOfFile, Nothing, Place, InFrame, InPackages, Behind, Fill, Checked, Pointer as LookedAt, MovedPointer, Copied, Moved, Waited, New, Default, Repeated, Both, Empty}
 
--- How many cells of a size aren't freed, and the most that weren't at once.
-pub record Count : Type 0 where
-  pub size : ℕ
-  pub live : ℕ
-  pub peak : ℕ
-
 -- While a point is evaluated: the words of all frames, and where the one that runs begins; the cells, how
 -- many of them are freed, and how many words the others have; the words of the values that the point
 -- takes; and the rest of the input.
@@ -40,7 +34,6 @@ pub record Flat : Type 0 where
   pub cells : List Cell
   pub freed : ℕ
   pub live : ℕ
-  pub counts : List Count
   pub waits : List ℤ
   pub rest : List ℕ
 
@@ -137,6 +130,10 @@ value_gone v = v
 abbrev pub most_cells : ℕ
 most_cells = 144115188075855872
 
+-- Offsets in cells, too.
+abbrev pub most_offsets : ℕ
+most_offsets = 4294967296
+
 abbrev pub constraint : Stop
 constraint = Raises ConstraintError
 
@@ -152,7 +149,7 @@ value_word k (Some v) = if same_kind (kind v) k then Given (word_of v) else Brok
 abbrev pub behind_at : Flat → ℕ → Kind → ℕ → Got ℤ
 behind_at m o k zero = Stops constraint
 behind_at m o k (suc n) =
-    if nat_lt n most_cells then touched (slice_get m.cells n) (λ c. value_word k (slice_get c.words o)) else Broken
+    if nat_lt n most_cells && nat_lt o most_offsets then touched (slice_get m.cells n) (λ c. value_word k (slice_get c.words o)) else Broken
 
 abbrev pub behind : Flat → ℕ → Kind → ℤ → Got ℤ
 behind m o k w = behind_at m o k (unsigned_abs w)
@@ -254,7 +251,7 @@ pub data Spot : Type 0 where
 abbrev pub cell_spot : Flat → ℕ → ℕ → Got Spot
 cell_spot m o zero = Stops constraint
 cell_spot m o (suc n) =
-    if nat_lt n most_cells then touched (slice_get m.cells n) (λ c. Given (InCell n o)) else Broken
+    if nat_lt n most_cells && nat_lt o most_offsets then touched (slice_get m.cells n) (λ c. Given (InCell n o)) else Broken
 
 abbrev pub spot : Flat → Place → Got Spot
 spot m (InFrame at i) = and_then (word m i) (λ o. Given (InStack (m.base + at + unsigned_abs o)))
@@ -271,7 +268,7 @@ front (k ∷ ks) [] = Broken
 front (k ∷ ks) (z ∷ zs) = and_then (front ks zs) (λ more. Given (z ∷ more))
 
 abbrev pub front_of_cell : ℕ → List Kind → Cell → Got (List ℤ)
-front_of_cell o ks c = if have_kinds ks (drop o c.words) then front ks (drop o (words_in c.words)) else Broken
+front_of_cell o ks c = if nat_lt (o + length ks) most_offsets && have_kinds ks (drop o c.words) then front ks (drop o (words_in c.words)) else Broken
 
 -- The words of these kinds at a spot, the marks of what is gone among them.
 abbrev pub words_at : Flat → Spot → List Kind → Got (List ℤ)
@@ -343,22 +340,10 @@ reads m Broken f = Failed
 
 -- ---- cells that are made and freed
 
-abbrev pub one_more : ℕ → List Count → List Count
-one_more size [] = record { size = size; live = 1; peak = 1 } ∷ []
-one_more size (c ∷ rest) =
-    if c.size == size
-    then record c { live = c.live + 1; peak = if nat_le c.peak (c.live + 1) then c.live + 1 else c.peak } ∷ rest
-    else c ∷ one_more size rest
-
-abbrev pub one_less : ℕ → List Count → List Count
-one_less size [] = []
-one_less size (c ∷ rest) = if c.size == size then record c { live = c.live - 1 } ∷ rest else c ∷ one_less size rest
-
 abbrev pub with_cell : Flat → List Value → Flat
 with_cell m vs = record m {
   cells = allocated m.cells vs;
   live = m.live + length vs;
-  counts = one_more (length vs) m.counts;
 }
 
 -- A new cell, and its number.
@@ -373,7 +358,6 @@ without_cell m n size = record m {
   cells = released m.cells n;
   freed = suc m.freed;
   live = m.live - size;
-  counts = one_less size m.counts;
 }
 
 -- ---- values

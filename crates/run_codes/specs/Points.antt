@@ -15,14 +15,13 @@ use Rattle.run_values.specs.Images.{image}
 use Rattle.run_values.specs.Items.{next_item}
 use Rattle.reuse_heap.specs.Cells.{Cell}
 use Rattle.machine.specs.Words.{access_offsets}
-use Rattle.machine.specs.Memory.{Peak}
 use Rattle.machine.specs.Evaluate.{Exception, ConstraintError, ProgramError, StorageError, DataError, EndError, Trap, Touched, Twice, literals}
 use Rattle.machine.specs.States.{Leak, Ending, Normal, Raised, Spent, Trapped, stack_words}
 use Rattle.flow_paths.specs.Laid.{FlowProgram}
 use Rattle.machine.specs.States as machine
 use Rattle.machine.specs.Run.{Run, main_of}
 use Rattle.run_codes.specs.Codes.{Code, Place, InFrame, Fill, Actual, ByValue, From, To, Piece, Bytes, NumberImage, LiteralImage, Choice, Does, Go, Put, Store, Assign, Call, Output, Input, Release, Test, Choose, Start, Next, EvaluateLeft, EvaluateRight, Hold, EndPointer, EndScope, Finish, Fall, Point, Room, Object, Counter, Sub}
-use Rattle.run_codes.specs.Flat.{Flat, Count, Stop, Raises, Traps, Memory, Got, Given, Stops, Broken, and_then, found, kinds, most_cells, constraint, touched, is_zero, is_above, truth, is_between, word, Spot, InStack, InCell, spot, words_at, held, stored, moved_out, Made, Done, Halted, Failed, made_then, reads, without_cell, default_words, filled}
+use Rattle.run_codes.specs.Flat.{Flat, Stop, Raises, Traps, Memory, Got, Given, Stops, Broken, and_then, found, kinds, most_cells, constraint, touched, is_zero, is_above, truth, is_between, word, Spot, InStack, InCell, spot, words_at, held, stored, moved_out, Made, Done, Halted, Failed, made_then, reads, without_cell, default_words, filled}
 use Rattle.run_codes.specs.Lowered.{no_index}
 use Rattle.run_codes.specs.Programs.{Program, lowered_program}
 
@@ -106,7 +105,6 @@ abbrev pub given_up : Flat → Flat → Flat
 given_up before m = record before {
   cells = before.cells ++ map as_freed (drop (length before.cells) m.cells);
   freed = before.freed + (length m.cells - length before.cells);
-  counts = m.counts;
 }
 
 abbrev pub ended : Turn → Ending → Flat → Outcome
@@ -505,7 +503,7 @@ step table program input s = stepped table program input s s.frames
 -- ---- runs
 
 abbrev pub no_memory : Flat
-no_memory = record { stack = []; base = 0; cells = []; freed = 0; live = 0; counts = []; waits = []; rest = [] }
+no_memory = record { stack = []; base = 0; cells = []; freed = 0; live = 0; waits = []; rest = [] }
 
 -- The package objects are declared first; without a point for them, the main procedure begins at once.
 abbrev pub state_at_start : Table → Program → Bool → State
@@ -540,10 +538,28 @@ run_of table program declares at main input n =
     then within n table program input (state_at_start table program declares)
     else Ends (Raised StorageError at) (state_at_start table program declares)
 
-abbrev pub peak_of : Count → Peak
-peak_of c = record { size = c.size; count = c.peak }
+-- What a run gives, but for the greatest counts of cells.
+pub record Ran : Type 0 where
+  pub output : List ℕ
+  pub leaks : List Leak
+  pub ending : Ending
+  pub steps : ℕ
+  pub made : ℕ
+  pub freed : ℕ
+  pub leaked : ℕ
 
-abbrev pub run_with : Ending → State → Run
+abbrev pub ran_of : Run → Ran
+ran_of r = record {
+  output = r.output;
+  leaks = r.leaks;
+  ending = r.ending;
+  steps = r.steps;
+  made = r.made;
+  freed = r.freed;
+  leaked = r.leaked;
+}
+
+abbrev pub run_with : Ending → State → Ran
 run_with e s = record {
   output = s.output;
   leaks = s.leaks;
@@ -552,11 +568,10 @@ run_with e s = record {
   made = length s.memory.cells;
   freed = s.memory.freed;
   leaked = length s.leaks;
-  peaks = map peak_of s.memory.counts;
 }
 
--- What a run gives, where memory isn't wanted.
-abbrev pub run_given : Outcome → Option Run
+-- Where memory isn't wanted.
+abbrev pub run_given : Outcome → Option Ran
 run_given (Goes s) = Some (run_with Spent s)
 run_given (Ends e s) = Some (run_with e s)
 run_given Wants = None
@@ -566,10 +581,10 @@ abbrev pub is_declaring : FlowProgram → Bool
 is_declaring program = nat_lt 0 (length (machine.sub_of program 0).points)
 
 -- The run of a program as it is lowered.
-unfoldable pub lowered_run : FlowProgram → List ℕ → ℕ → Option Run
+unfoldable pub lowered_run : FlowProgram → List ℕ → ℕ → Option Ran
 lowered_run program input n = option_and_then by (lowered_program program)
   where
-    by : Program → Option Run
+    by : Program → Option Ran
     by p =
         let main : ℕ = main_of program.main in
         run_given (run_of program.table p (is_declaring program) (machine.sub_of program main).pos main input n)

@@ -2,7 +2,6 @@
 --
 -- What stands for access values and cells is told by `PointsTo`, `IsMarked` and `CellStands` alone.
 use Rattle.std.specs.Prelude.{◌≡◌, ◌⊎◌, ◌≤◌, ◌<◌, ℕ, zero, suc, ◌+◌, Bool, true, false, ◌&&◌, ◌==◌, IsTrue, List, [], ◌∷◌, map, filter, flat_map, length, take, drop, get_or, slice_get, Option, Some, ℤ, pos, negsuc, unsigned_abs}
-use Rattle.spark_base.specs.Lists.{Has}
 use Rattle.run_values.specs.declared.value.Value.{Value}
 use Rattle.run_values.specs.Values.{kind}
 use Rattle.run_values.specs.Arithmetic.{is_integer}
@@ -14,11 +13,11 @@ use Rattle.type_definitions.specs.Entries.{integer}
 use Rattle.flow_paths.specs.Objects.{Typing, object_at, is_package_object}
 use Rattle.machine.specs.Words.{Word, Int, Enumerated, Null, Cell}
 use Rattle.machine.specs.Typed.{Sort, Whole, Position, Pointer, sorts, repeated_sorts, same_designated}
-use Rattle.machine.specs.Memory.{Memory, Slot, Place, HeapCell, Peak, cell, slots_at, fresh, live_words, live_count, OfVariable}
-use Rattle.machine.specs.Evaluate.{Here, Now, Evaluated, Done}
+use Rattle.machine.specs.Memory.{Memory, Slot, Place, HeapCell, cell, slots_at, fresh, live_words, OfVariable}
+use Rattle.machine.specs.Evaluate.{Here, Now, Evaluated, Done, heap_words}
 use Rattle.machine.specs.Evaluate as machine
 use Rattle.run_codes.specs.Codes as codes
-use Rattle.run_codes.specs.Flat.{Flat, Count, Got, Given, Stops, Broken, Stop, Raises, Traps, kind_of, word_of, words_in, most_cells}
+use Rattle.run_codes.specs.Flat.{Flat, Got, Given, Stops, Broken, Stop, Raises, Traps, kind_of, word_of, words_in, most_cells}
 use Rattle.run_codes.specs.Flat as flat
 use Rattle.run_codes.specs.Lowered.{Site, offset_of, package_offset, words_before_value}
 
@@ -77,6 +76,8 @@ pub record CellStands (table : Table) (made : List ℕ) (c : HeapCell) (k : Stor
   pub words : AllStand table made (sorts table c.of) c.slots (words_in k.words)
   pub kinds : AllKinds (sorts table c.of) k.words
   pub size : length c.slots ≡ length k.words
+  pub room : length k.words ≡ length (sorts table c.of)
+  pub small : length k.words ≤ heap_words
   pub freed : c.freed ≡ k.freed
 
 -- Each cell that was made is in the store.
@@ -84,14 +85,12 @@ abbrev pub HaveCells : Table → Memory → Flat → Type 0
 HaveCells table m f =
     (n : ℕ) → n < length m.cells → (k : StoredCell) × (slice_get f.cells n ≡ Some k) × CellStands table (types m) (cell m (suc n)) k
 
--- The counts are those of the machine.
+-- What is counted is what the machine has.
 pub record Counted (m : Memory) (f : Flat) : Type 0 where
   pub made : length f.cells ≡ length m.cells
   pub few : length m.cells ≤ most_cells
   pub live : f.live ≡ live_words m
   pub freed : f.freed ≡ length (filter (λ (c : HeapCell). c.freed) m.cells)
-  pub peaks : map (λ (c : Count). record { size = c.size; count = c.peak }) f.counts ≡ m.peaks
-  pub sizes : (c : Count) → Has f.counts c → c.live ≡ live_count c.size m.cells
 
 -- ---- what is known of a table of types
 
@@ -174,6 +173,8 @@ pub record InCell (e : Seen) (k t n o : ℕ) (ev : Evaluated Place) : Type 0 whe
   pub c : StoredCell
   pub there : slice_get e.flat.cells n ≡ Some c
   pub within : n < length e.memory.cells
+  pub small : length c.words ≤ heap_words
+  pub inside : o + length (sorts (table e) t) ≤ length c.words
   pub kinds : AllKinds (sorts (table e) t) (drop o c.words)
   pub leads : IsTouch e c.freed k t (drop o (words_in c.words)) ev
 
