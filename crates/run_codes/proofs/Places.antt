@@ -17,11 +17,11 @@ use Rattle.flow_paths.specs.Objects.{Typing, designated, designated_of}
 use Rattle.machine.specs.Words.{Word, Null, Cell, component_type, words_before, no_component, element_type, element_of}
 use Rattle.machine.specs.Typed.{Sort, Whole, Position, Pointer, sorts, repeated_sorts, field_count, is_record, designates}
 use Rattle.machine.specs.Memory.{Memory, Slot, HeapCell, Place, cell, slots_at, words_of}
-use Rattle.machine.specs.Evaluate.{Now, Evaluated, Done, followed_by, ConstraintError, Touched, Step, ToComponent, ToElement, ToDesignated, walked, stepped, component_place, element_place, cell_place, designated_place}
+use Rattle.machine.specs.Evaluate.{Now, Evaluated, Done, followed_by, ConstraintError, Touched, heap_words, Step, ToComponent, ToElement, ToDesignated, walked, stepped, component_place, element_place, cell_place, designated_place}
 use Rattle.machine.specs.Evaluate as machine
 use Rattle.run_codes.specs.Codes.{Code, InFrame, InPackages, Behind}
 use Rattle.run_codes.specs.Codes as codes
-use Rattle.run_codes.specs.Flat.{Flat, Got, Given, Stops, Broken, Stop, Raises, Traps, and_then, found, kind_of, same_kind, word_of, words_in, touched, value_word, behind, behind_at, constraint, most_cells, word, indexes}
+use Rattle.run_codes.specs.Flat.{Flat, Got, Given, Stops, Broken, Stop, Raises, Traps, and_then, found, kind_of, same_kind, word_of, words_in, touched, value_word, behind, behind_at, constraint, most_cells, most_offsets, word, indexes}
 use Rattle.run_codes.specs.Flat as flat
 use Rattle.run_codes.specs.Lowered.{load, moved_by}
 use Rattle.run_codes.specs.Related.{Designates, PointsTo, Stands, SlotStands, AllStand, AllKinds, CellStands, HaveCells, IsTable, Seen, table, now, types, Stand, IsSeen, Stopped, Same, IsPlace, IsTouch, InCell, IsDesignated, IsBehind, Leads}
@@ -256,3 +256,154 @@ element_part e laws t n element low high is lt =
           let same : span low high * length (sorts (table e) (element_type (table e) t)) ≡ span low high * size = ap (λ k. span low high * k) long in
           omega (arith, long, all_long, fits, same);
     }
+
+-- ---- the word at a place
+
+-- The first of the slots and of the words.
+pub record Head (table : Table) (made : List ℕ) (st : Sort) (xs : List Slot) (zs : List ℤ) : Type 0 where
+  pub x : Slot
+  pub more : List Slot
+  pub z : ℤ
+  pub others : List ℤ
+  pub slots : xs ≡ x ∷ more
+  pub words : zs ≡ z ∷ others
+  pub stands : SlotStands table made st x z
+
+pub head_stands : (table : Table) (made : List ℕ) (st : Sort) (xs : List Slot) (zs : List ℤ) → AllStand table made (st ∷ []) xs zs → Head table made st xs zs
+head_stands table made st [] zs all = absurd all
+head_stands table made st (x ∷ xs) [] all = absurd all
+head_stands table made st (x ∷ xs) (z ∷ zs) all =
+    record { x = x; more = xs; z = z; others = zs; slots = refl; words = refl; stands = all.0 }
+
+pub record HeadKind (st : Sort) (vs : List Value) : Type 0 where
+  pub v : Value
+  pub others : List Value
+  pub values : vs ≡ v ∷ others
+  pub is_kind : kind v ≡ kind_of st
+
+pub head_kind : (st : Sort) (vs : List Value) → AllKinds (st ∷ []) vs → HeadKind st vs
+head_kind st [] all = absurd all
+head_kind st (v ∷ vs) all = record { v = v; others = vs; values = refl; is_kind = all.0 }
+
+abbrev pub holds : Typing → Place → Now → Evaluated (List Word)
+holds s p now = Done (words_of s now.memory p) now
+
+in_place : (e : Seen) (k t : ℕ) (st : Sort) (zs others : List ℤ) (z : ℤ) (ev : Evaluated Place)
+    → sorts (table e) t ≡ st ∷ [] → zs ≡ z ∷ others → IsPlace e k t zs ev
+    → Same e st k (followed_by ev (holds e.site.typing)) (Given z)
+in_place e k t st zs others z ev sort here is =
+    let slots : List Slot = drop is.p.at (slots_at e.site.typing e.memory is.p.base) in
+    let all : Stand e (st ∷ []) slots zs = subst (λ l. Stand e l slots zs) sort is.stand in
+    let head = head_stands (table e) (types e.memory) st slots zs all in
+    let one : words (table e) is.p.of ≡ 1 = ap (words (table e)) is.of ∙ sym (many (table e) t) ∙ ap (λ (l : List Sort). length l) sort in
+    let same : head.z ≡ z = cons_same head.z z head.others others (sym head.words ∙ here) in
+    let shown : words_of e.site.typing e.memory is.p ≡ head.x.word ∷ [] =
+    ap (λ n. map (λ (slot : Slot). slot.word) (take n slots)) one ∙ ap (λ l. map (λ (slot : Slot). slot.word) (take 1 l)) head.slots in
+    (head.x.word,
+    ap (λ x. followed_by x (holds e.site.typing)) is.gives ∙ ap (λ ws. Done ws (now e k)) shown,
+    subst (λ y. Stands (table e) (types e.memory) st head.x.word y) same head.stands.0)
+  where
+    cons_same : (a b : ℤ) (l r : List ℤ) → a ∷ l ≡ b ∷ r → a ≡ b
+    cons_same a b l r is = cc
+
+kind_same : (k : Kind) → same_kind k k ≡ true
+kind_same sort.Int = refl
+kind_same sort.Enum = refl
+kind_same sort.Access = refl
+
+touched_word : (c : StoredCell) (k : Kind) (o : ℕ) (v : Value) → slice_get c.words o ≡ Some v → kind v ≡ k
+    → touched (Some c) (λ c. value_word k (slice_get c.words o)) ≡ (if c.freed then Stops (Traps Touched) else Given (word_of v))
+touched_word c k o v there is =
+    ap (λ g. if c.freed then Stops (Traps Touched) else value_word k g) there
+    ∙ ap (λ j. if c.freed then Stops (Traps Touched) else (if same_kind j k then Given (word_of v) else Broken)) is
+    ∙ ap (λ b. if c.freed then Stops (Traps Touched) else (if b then Given (word_of v) else Broken)) (kind_same k)
+
+in_touch : (e : Seen) (freed : Bool) (k t : ℕ) (st : Sort) (zs others : List ℤ) (v : Value) (ev : Evaluated Place)
+    → sorts (table e) t ≡ st ∷ [] → zs ≡ word_of v ∷ others → IsTouch e freed k t zs ev
+    → Same e st k (followed_by ev (holds e.site.typing)) (if freed then Stops (Traps Touched) else Given (word_of v))
+in_touch e true k t st zs others v ev sort here is = stopped_on e.memory (Traps Touched) ev (holds e.site.typing) is
+in_touch e false k t st zs others v ev sort here is = in_place e k t st zs others (word_of v) ev sort here is
+
+-- A cell within the bounds of the store.
+pub in_bounds : (n o : ℕ) → n < most_cells → o ≤ heap_words → (nat_lt n most_cells && nat_lt o most_offsets) ≡ true
+in_bounds n o few small = grind arith
+
+in_cell : (e : Seen) → length e.memory.cells ≤ most_cells → (k t n o : ℕ) (st : Sort) (ev : Evaluated Place)
+    → sorts (table e) t ≡ st ∷ [] → InCell e k t n o ev
+    → Same e st k (followed_by ev (holds e.site.typing)) (behind_at e.flat o (kind_of st) (suc n))
+in_cell e few k t n o st ev sort is =
+    let head = head_kind st (drop o is.c.words) (subst (λ l. AllKinds l (drop o is.c.words)) sort is.kinds) in
+    let value : slice_get is.c.words o ≡ Some head.v = first_value o is.c.words head.others head.v head.values in
+    let first : drop o (words_in is.c.words) ≡ word_of head.v ∷ words_in head.others = words-drop o is.c.words ∙ ap words_in head.values in
+    let bounds : (nat_lt n most_cells && nat_lt o most_offsets) ≡ true = in_bounds n o (omega (arith, few, is.within)) (omega (arith, is.small, is.inside)) in
+    let there : behind_at e.flat o (kind_of st) (suc n) ≡ (if is.c.freed then Stops (Traps Touched) else Given (word_of head.v)) =
+    ap (λ b. if b then touched (slice_get e.flat.cells n) (λ c. value_word (kind_of st) (slice_get c.words o)) else Broken) bounds
+    ∙ ap (λ g. touched g (λ c. value_word (kind_of st) (slice_get c.words o))) is.there
+    ∙ touched_word is.c (kind_of st) o head.v value head.is_kind in
+    subst (λ g. Same e st k (followed_by ev (holds e.site.typing)) g) (sym there)
+    (in_touch e is.c.freed k t st (drop o (words_in is.c.words)) (words_in head.others) head.v ev sort first is.leads)
+
+in_designated : (e : Seen) → length e.memory.cells ≤ most_cells → (n k t o : ℕ) (st : Sort) (ev : Evaluated Place)
+    → sorts (table e) t ≡ st ∷ [] → IsDesignated e n k t o ev
+    → Same e st k (followed_by ev (holds e.site.typing)) (behind_at e.flat o (kind_of st) n)
+in_designated e few zero k t o st ev sort is = stopped_on e.memory constraint ev (holds e.site.typing) is
+in_designated e few (suc n) k t o st ev sort is = in_cell e few k t n o st ev sort is
+
+is_behind : (e : Seen) → length e.memory.cells ≤ most_cells → (got : Got ℤ) (k t o : ℕ) (st : Sort) (ev : Evaluated Place)
+    → sorts (table e) t ≡ st ∷ [] → IsBehind e got k t o ev
+    → Same e st k (followed_by ev (holds e.site.typing)) (and_then got (behind e.flat o (kind_of st)))
+is_behind e few (Given z) k t o st ev sort is = in_designated e few (unsigned_abs z) k t o st ev sort is
+is_behind e few (Stops stop) k t o st ev sort is = stopped_on e.memory stop ev (holds e.site.typing) is
+is_behind e few Broken k t o st ev sort is = absurd is
+
+-- All indexes of a place: its last one.
+abbrev pub place_indexes : Flat → codes.Place → Got ℤ
+place_indexes m (InFrame at i) = word m i
+place_indexes m (InPackages at i) = word m i
+place_indexes m (Behind p at i) = and_then (indexes m p) (λ x. word m i)
+
+pub load_indexes : (m : Flat) (k : Kind) (p : codes.Place) → indexes m (load k p) ≡ place_indexes m p
+unfolding indexes
+load_indexes m k (InFrame at i) = refl
+load_indexes m k (InPackages at i) = refl
+load_indexes m k (Behind p at i) = refl
+
+-- The word of a place that leads somewhere.
+pub loads : (e : Seen) → length e.memory.cells ≤ most_cells → (k t o : ℕ) (st : Sort) (p : codes.Place) (ev : Evaluated Place)
+    → sorts (table e) t ≡ st ∷ [] → place_indexes e.flat p ≡ Given (pos o) → Leads e p o k t ev
+    → Same e st k (followed_by ev (holds e.site.typing)) (word e.flat (load (kind_of st) p))
+unfolding word indexes
+loads e few k t o st (InFrame at i) ev sort index is =
+    let zs : List ℤ = drop (e.flat.base + at + o) e.flat.stack in
+    let slots : List Slot = drop is.p.at (slots_at e.site.typing e.memory is.p.base) in
+    let head = head_stands (table e) (types e.memory) st slots zs (subst (λ l. Stand e l slots zs) sort is.stand) in
+    let there : word e.flat (load (kind_of st) (InFrame at i)) ≡ Given head.z =
+    ap (λ g. and_then g (λ o. found (slice_get e.flat.stack (e.flat.base + at + unsigned_abs o)))) index
+    ∙ ap found (first_word (e.flat.base + at + o) e.flat.stack head.others head.z head.words) in
+    subst (λ g. Same e st k (followed_by ev (holds e.site.typing)) g) (sym there) (in_place e k t st zs head.others head.z ev sort head.words is)
+loads e few k t o st (InPackages at i) ev sort index is =
+    let zs : List ℤ = drop (at + o) e.flat.stack in
+    let slots : List Slot = drop is.p.at (slots_at e.site.typing e.memory is.p.base) in
+    let head = head_stands (table e) (types e.memory) st slots zs (subst (λ l. Stand e l slots zs) sort is.stand) in
+    let there : word e.flat (load (kind_of st) (InPackages at i)) ≡ Given head.z =
+    ap (λ g. and_then g (λ o. found (slice_get e.flat.stack (at + unsigned_abs o)))) index
+    ∙ ap found (first_word (at + o) e.flat.stack head.others head.z head.words) in
+    subst (λ g. Same e st k (followed_by ev (holds e.site.typing)) g) (sym there) (in_place e k t st zs head.others head.z ev sort head.words is)
+loads e few k t o st (Behind p at i) ev sort index is =
+    let seen = given_on (indexes e.flat p) (λ x. word e.flat i) (pos o) index in
+    let there : word e.flat (load (kind_of st) (Behind p at i)) ≡ and_then (word e.flat p) (behind e.flat (at + o) (kind_of st)) =
+    ap (λ g. and_then g (λ x. and_then (word e.flat i) (λ o. and_then (word e.flat p) (behind e.flat (at + unsigned_abs o) (kind_of st))))) seen.1
+    ∙ ap (λ g. and_then g (λ o. and_then (word e.flat p) (behind e.flat (at + unsigned_abs o) (kind_of st)))) seen.2 in
+    subst (λ g. Same e st k (followed_by ev (holds e.site.typing)) g) (sym there) (is_behind e few (word e.flat p) k t (at + o) st ev sort is)
+
+-- ---- dereferences
+
+-- The type of a place, where there is one.
+abbrev pub OfType : ℕ → Evaluated Place → Type 0
+OfType t (Done p now) = p.of ≡ t
+OfType t _ = Unit {0}
+
+of_stopped : (t : ℕ) (m : Memory) (stop : Stop) (ev : Evaluated Place) → (stop ≡ flat.Memory → ⊥) → Stopped m stop ev → OfType t ev
+of_stopped t m (Raises x) ev sure is = subst (λ x. OfType t x) (sym is.1) tt
+of_stopped t m (Traps x) ev sure is = subst (λ x. OfType t x) (sym is.1) tt
+of_stopped t m flat.Memory ev sure is = absurd (sure refl)
