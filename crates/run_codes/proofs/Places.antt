@@ -3,7 +3,7 @@
 use Rattle.std.proofs.Common.{◌≡◌, ℕ, zero, suc, ◌+◌, ◌-◌, ◌*◌, ◌<◌, ◌≤◌, true, false, Bool, not, ◌&&◌, IsTrue, List, [], ◌∷◌, ◌++◌, map, length, get_or, take, drop, sum, refl, sym, ap, subst, ◌∙◌, arith, Option, Some, None, slice_get, ℤ, pos, negsuc, nat_lt, if◌then◌else◌}
 use Rattle.std.specs.Prelude.{unsigned_abs}
 use Rattle.std.proofs.lemmas.Grind.{common_steps}
-use Rattle.std.proofs.lemmas.List.{drop-drop}
+use Rattle.std.proofs.lemmas.List.{drop-drop, length-map}
 use Rattle.run_values.specs.declared.value.Value.{Value}
 use Rattle.run_values.specs.declared.value.Kind.{Kind}
 use Rattle.run_values.specs.declared.value.Kind.TheVariants as sort
@@ -13,17 +13,18 @@ use Rattle.type_definitions.specs.declared.table.Shape.{Shape}
 use Rattle.type_definitions.specs.declared.table.Shape.TheVariants as shape
 use Rattle.type_definitions.specs.declared.table.Component.{Component}
 use Rattle.type_definitions.specs.Types.{Table, shape_of, components_of, view_of, span, words}
+use Rattle.type_definitions.specs.Entries.{integer}
 use Rattle.flow_paths.specs.Objects.{Typing, designated, designated_of}
 use Rattle.machine.specs.Words.{Word, Null, Cell, component_type, words_before, no_component, element_type, element_of}
 use Rattle.machine.specs.Typed.{Sort, Whole, Position, Pointer, sorts, repeated_sorts, field_count, is_record, designates}
-use Rattle.machine.specs.Memory.{Memory, Slot, HeapCell, Place, cell, slots_at, words_of}
+use Rattle.machine.specs.Memory.{Memory, Slot, HeapCell, Place, no_cell, cell, slots_at, words_of}
 use Rattle.machine.specs.Evaluate.{Now, Evaluated, Done, followed_by, ConstraintError, Touched, heap_words, Step, ToComponent, ToElement, ToDesignated, walked, stepped, component_place, element_place, cell_place, designated_place}
 use Rattle.machine.specs.Evaluate as machine
 use Rattle.run_codes.specs.Codes.{Code, InFrame, InPackages, Behind}
 use Rattle.run_codes.specs.Codes as codes
 use Rattle.run_codes.specs.Flat.{Flat, Got, Given, Stops, Broken, Stop, Raises, Traps, and_then, found, kind_of, same_kind, word_of, words_in, touched, value_word, behind, behind_at, constraint, most_cells, most_offsets, word, indexes}
 use Rattle.run_codes.specs.Flat as flat
-use Rattle.run_codes.specs.Lowered.{load, moved_by}
+use Rattle.run_codes.specs.Lowered.{no_index, load}
 use Rattle.run_codes.specs.Related.{Designates, PointsTo, Stands, SlotStands, AllStand, AllKinds, CellStands, HaveCells, IsTable, Seen, table, now, types, Stand, IsSeen, Stopped, Same, IsPlace, IsTouch, InCell, IsDesignated, IsBehind, Leads}
 use Rattle.run_codes.proofs.Parts.{many, all_sorts, before, repeated_long, component_stands, component_kinds, component_inside, element_stands, element_kinds, element_inside, first_word, first_value, words-drop}
 
@@ -96,12 +97,12 @@ one_step s step way (machine.Traps t now) = refl
 pub stopped_on : {A B : Type 0} (m : Memory) (stop : Stop) (ev : Evaluated A) (f : A → Now → Evaluated B) → Stopped m stop ev → Stopped m stop (followed_by ev f)
 stopped_on m (Raises x) ev f s = (s.0, ap (λ y. followed_by y f) s.1, s.2)
 stopped_on m (Traps t) ev f s = (s.0, ap (λ y. followed_by y f) s.1, s.2)
-stopped_on m flat.Memory ev f s = tt
+stopped_on m flat.Memory ev f s = absurd s
 
 pub stopped_by : {A : Type 0} (m : Memory) (stop : Stop) (ev other : Evaluated A) → ev ≡ other → Stopped m stop other → Stopped m stop ev
 stopped_by m (Raises x) ev other is s = (s.0, is ∙ s.1, s.2)
 stopped_by m (Traps t) ev other is s = (s.0, is ∙ s.1, s.2)
-stopped_by m flat.Memory ev other is s = tt
+stopped_by m flat.Memory ev other is s = absurd s
 
 pub same_by : (e : Seen) (s : Sort) (k : ℕ) (ev other : Evaluated (List Word)) (got : Got ℤ) → ev ≡ other → Same e s k other got → Same e s k ev got
 same_by e s k ev other got is same = subst (λ x. Same e s k x got) (sym is) same
@@ -177,27 +178,24 @@ part_behind e step (Stops s) k t u by o ev part is = stopped_on e.memory s ev (s
 part_behind e step Broken k t u by o ev part is = absurd is
 
 -- Where a place is a part further on.
-pub record IsFurther (p q : codes.Place) (o r by : ℕ) : Type 0 where
-  pub frame : (at : ℕ) (i : Code) → p ≡ InFrame at i → (to : ℕ) × (j : Code) × (q ≡ InFrame to j) × (to + r ≡ at + o + by)
-  pub packages : (at : ℕ) (i : Code) → p ≡ InPackages at i → (to : ℕ) × (j : Code) × (q ≡ InPackages to j) × (to + r ≡ at + o + by)
-  pub behind : (a : Code) (at : ℕ) (i : Code) → p ≡ Behind a at i → (to : ℕ) × (j : Code) × (q ≡ Behind a to j) × (to + r ≡ at + o + by)
+abbrev pub IsFurther : codes.Place → codes.Place → ℕ → ℕ → ℕ → Type 0
+IsFurther (InFrame at i) q o r by = (to : ℕ) × (j : Code) × (q ≡ InFrame to j) × (to + r ≡ at + o + by)
+IsFurther (InPackages at i) q o r by = (to : ℕ) × (j : Code) × (q ≡ InPackages to j) × (to + r ≡ at + o + by)
+IsFurther (Behind a at i) q o r by = (to : ℕ) × (j : Code) × (q ≡ Behind a to j) × (to + r ≡ at + o + by)
 
 pub leads_part : (e : Seen) (step : Step) (p q : codes.Place) (o r k t u by : ℕ) (ev : Evaluated Place) → IsPart e step t u by → IsFurther p q o r by
     → Leads e p o k t ev → Leads e q r k u (followed_by ev (stepped e.site.typing step))
-leads_part e step (InFrame at i) q o r k t u by ev part further is =
-    let f = further.frame at i refl in
+leads_part e step (InFrame at i) q o r k t u by ev part f is =
     let sum : e.flat.base + f.0 + r ≡ e.flat.base + at + o + by = omega (arith, f.3) in
     let zs : List ℤ = e.flat.stack in
     subst (λ l. Leads e l r k u (followed_by ev (stepped e.site.typing step))) (sym f.2)
     (part_place e step k t u by (drop (e.flat.base + at + o) zs) (drop (e.flat.base + f.0 + r) zs) ev part
     (ap (λ n. drop n zs) sum ∙ sym (drop-drop by (e.flat.base + at + o) zs)) is)
-leads_part e step (InPackages at i) q o r k t u by ev part further is =
-    let f = further.packages at i refl in
+leads_part e step (InPackages at i) q o r k t u by ev part f is =
     let zs : List ℤ = e.flat.stack in
     subst (λ l. Leads e l r k u (followed_by ev (stepped e.site.typing step))) (sym f.2)
     (part_place e step k t u by (drop (at + o) zs) (drop (f.0 + r) zs) ev part (ap (λ n. drop n zs) f.3 ∙ sym (drop-drop by (at + o) zs)) is)
-leads_part e step (Behind a at i) q o r k t u by ev part further is =
-    let f = further.behind a at i refl in
+leads_part e step (Behind a at i) q o r k t u by ev part f is =
     subst (λ l. Leads e l r k u (followed_by ev (stepped e.site.typing step))) (sym f.2)
     (subst (λ n. IsBehind e (word e.flat a) k u n (followed_by ev (stepped e.site.typing step))) (sym f.3)
     (part_behind e step (word e.flat a) k t u by (at + o) ev part is))
@@ -403,7 +401,113 @@ abbrev pub OfType : ℕ → Evaluated Place → Type 0
 OfType t (Done p now) = p.of ≡ t
 OfType t _ = Unit {0}
 
-of_stopped : (t : ℕ) (m : Memory) (stop : Stop) (ev : Evaluated Place) → (stop ≡ flat.Memory → ⊥) → Stopped m stop ev → OfType t ev
-of_stopped t m (Raises x) ev sure is = subst (λ x. OfType t x) (sym is.1) tt
-of_stopped t m (Traps x) ev sure is = subst (λ x. OfType t x) (sym is.1) tt
-of_stopped t m flat.Memory ev sure is = absurd (sure refl)
+of_stopped : (t : ℕ) (m : Memory) (stop : Stop) (ev : Evaluated Place) → Stopped m stop ev → OfType t ev
+of_stopped t m (Raises x) ev is = subst (λ x. OfType t x) (sym is.1) tt
+of_stopped t m (Traps x) ev is = subst (λ x. OfType t x) (sym is.1) tt
+of_stopped t m flat.Memory ev is = absurd is
+
+of_place : (e : Seen) (k t : ℕ) (zs : List ℤ) (ev : Evaluated Place) → IsPlace e k t zs ev → OfType t ev
+of_place e k t zs ev is = subst (λ x. OfType t x) (sym is.gives) is.of
+
+of_touch : (e : Seen) (freed : Bool) (k t : ℕ) (zs : List ℤ) (ev : Evaluated Place) → IsTouch e freed k t zs ev → OfType t ev
+of_touch e true k t zs ev is = of_stopped t e.memory (Traps Touched) ev is
+of_touch e false k t zs ev is = of_place e k t zs ev is
+
+of_designated : (e : Seen) (n k t o : ℕ) (ev : Evaluated Place) → IsDesignated e n k t o ev → OfType t ev
+of_designated e zero k t o ev is = of_stopped t e.memory constraint ev is
+of_designated e (suc n) k t o ev is = of_touch e is.c.freed k t (drop o (words_in is.c.words)) ev is.leads
+
+of_behind : (e : Seen) (got : Got ℤ) (k t o : ℕ) (ev : Evaluated Place) → IsBehind e got k t o ev → OfType t ev
+of_behind e (Given z) k t o ev is = of_designated e (unsigned_abs z) k t o ev is
+of_behind e (Stops stop) k t o ev is = of_stopped t e.memory stop ev is
+of_behind e Broken k t o ev is = absurd is
+
+pub of_leads : (e : Seen) (p : codes.Place) (o k t : ℕ) (ev : Evaluated Place) → Leads e p o k t ev → OfType t ev
+of_leads e (InFrame at i) o k t ev is = of_place e k t (drop (e.flat.base + at + o) e.flat.stack) ev is
+of_leads e (InPackages at i) o k t ev is = of_place e k t (drop (at + o) e.flat.stack) ev is
+of_leads e (Behind a at i) o k t ev is = of_behind e (word e.flat a) k t (at + o) ev is
+
+-- A dereference looks at the word, and goes to what it designates.
+dereferenced : (s : Typing) (t d : ℕ) (ev : Evaluated Place) → designated s.table t ≡ d → OfType t ev
+    → followed_by ev (stepped s ToDesignated) ≡ followed_by (followed_by ev (holds s)) (designated_place d)
+dereferenced s t d (Done p now) is of = ap (λ u. designated_place u (words_of s now.memory p) now) (ap (designated s.table) of ∙ is)
+dereferenced s t d (machine.Raises x now) is of = refl
+dereferenced s t d (machine.Traps x now) is of = refl
+
+cell_touch : (e : Seen) (k d n : ℕ) (freed : Bool) (zs : List ℤ) → (cell e.memory (suc n)).freed ≡ freed
+    → Stand e (sorts (table e) d) (cell e.memory (suc n)).slots zs
+    → IsTouch e freed k d zs (designated_place d (Cell (suc n) ∷ []) (now e k))
+cell_touch e k d n true zs is stand =
+    (now e k, ap (λ b. if b then machine.Traps Touched (now e k) else Done (cell_place d (suc n)) (now e k)) is, refl)
+cell_touch e k d n false zs is stand = record {
+  p = cell_place d (suc n);
+  gives = ap (λ b. if b then machine.Traps Touched (now e k) else Done (cell_place d (suc n)) (now e k)) is;
+  of = refl;
+  stand = stand;
+}
+
+-- The types of cells are those of their objects.
+pub type_at : (cells : List HeapCell) (n : ℕ) → get_or (map (λ (c : HeapCell). c.of) cells) n integer ≡ (get_or cells n no_cell).of
+type_at [] n = refl
+type_at (c ∷ cells) zero = refl
+type_at (c ∷ cells) (suc n) = type_at cells n
+
+to_cell : (e : Seen) → HaveCells (table e) e.memory e.flat → (k d n : ℕ) → Designates (table e) (types e.memory) d n
+    → InCell e k d n 0 (designated_place d (Cell (suc n) ∷ []) (now e k))
+to_cell e have k d n made =
+    let inside : n < length e.memory.cells = subst (λ j. n < j) (length-map e.memory.cells (λ (c : HeapCell). c.of)) made.within in
+    let there = have n inside in
+    let stands = there.2 in
+    let of_is : sorts (table e) (cell e.memory (suc n)).of ≡ sorts (table e) d = ap (sorts (table e)) (sym (type_at e.memory.cells n)) ∙ made.sorts in
+    let long : length (sorts (table e) (cell e.memory (suc n)).of) ≡ length (sorts (table e) d) = ap (λ (l : List Sort). length l) of_is in
+    record {
+      c = there.0;
+      there = there.1;
+      within = inside;
+      small = stands.small;
+      inside = omega (arith, long, stands.room);
+      kinds = subst (λ l. AllKinds l there.0.words) of_is stands.kinds;
+      leads = cell_touch e k d n there.0.freed (words_in there.0.words) stands.freed
+        (subst (λ l. Stand e l (cell e.memory (suc n)).slots (words_in there.0.words)) of_is stands.words);
+    }
+
+to_designated : (e : Seen) → HaveCells (table e) e.memory e.flat → (k d n : ℕ) (w : Word) (ev : Evaluated (List Word)) → ev ≡ Done (w ∷ []) (now e k)
+    → PointsTo (table e) (types e.memory) d w n → IsDesignated e n k d 0 (followed_by ev (designated_place d))
+to_designated e have k d zero w ev is null =
+    (now e k, ap (λ x. followed_by x (designated_place d)) is ∙ ap (λ x. designated_place d (x ∷ []) (now e k)) null, refl)
+to_designated e have k d (suc n) w ev is points =
+    subst (λ x. InCell e k d n 0 (followed_by x (designated_place d))) (sym is)
+    (subst (λ x. InCell e k d n 0 (designated_place d (x ∷ []) (now e k))) (sym points.0) (to_cell e have k d n points.1))
+
+to_behind : (e : Seen) → HaveCells (table e) e.memory e.flat → (got : Got ℤ) (k d : ℕ) (ev : Evaluated (List Word)) → Same e (Pointer d) k ev got
+    → IsBehind e got k d 0 (followed_by ev (designated_place d))
+to_behind e have (Given z) k d ev same = to_designated e have k d (unsigned_abs z) same.0 ev same.1 same.2
+to_behind e have (Stops stop) k d ev same = stopped_on e.memory stop ev (designated_place d) same
+to_behind e have Broken k d ev same = absurd same
+
+-- A type that designates is an access type.
+record Designating (table : Table) (t d : ℕ) : Type 0 where
+  sort : sorts table t ≡ Pointer d ∷ []
+  is_designated : designated table t ≡ d
+
+designating : (table : Table) → IsTable table → (sh : Shape) (t d : ℕ) → shape_of table t ≡ sh → designates sh ≡ Some d → Designating table t d
+designating table laws (shape.Access u constant named) t d is sure =
+    let same : u ≡ d = some_same u d sure in
+    record {
+      sort = subst (λ x. sorts table t ≡ Pointer x ∷ []) same (laws.access t u constant named is);
+      is_designated = ap (λ x. designated_of t (view_of x)) is ∙ same;
+    }
+designating table laws (shape.Whole low high) t d is sure = impossible d sure
+designating table laws (shape.Listed literals low high) t d is sure = impossible d sure
+designating table laws (shape.Fields components) t d is sure = impossible d sure
+designating table laws (shape.Elements low high element) t d is sure = impossible d sure
+designating table laws (shape.Same of) t d is sure = impossible d sure
+
+pub leads_designated : (e : Seen) → IsSeen e → (p : codes.Place) (o k t d : ℕ) (ev : Evaluated Place)
+    → designates (shape_of (table e) t) ≡ Some d → place_indexes e.flat p ≡ Given (pos o) → Leads e p o k t ev
+    → Leads e (Behind (load sort.Access p) 0 no_index) 0 k d (followed_by ev (stepped e.site.typing ToDesignated))
+leads_designated e seen p o k t d ev sure index is =
+    let access = designating (table e) seen.laws (shape_of (table e) t) t d refl sure in
+    subst (λ x. IsBehind e (word e.flat (load sort.Access p)) k d 0 x) (sym (dereferenced e.site.typing t d ev access.is_designated (of_leads e p o k t ev is)))
+    (to_behind e seen.cells (word e.flat (load sort.Access p)) k d (followed_by ev (holds e.site.typing))
+    (loads e seen.few k t o (Pointer d) p ev access.sort index is))

@@ -3,6 +3,7 @@
 -- A word is a value of Integer, a position, or an access value: 0 for null, and else the number of a cell
 -- from 1. Where an access value was moved away, the number stands with a minus.
 use Rattle.std.specs.Prelude.{ℕ, zero, suc, ◌+◌, ◌-◌, ◌*◌, Bool, true, false, not, ◌&&◌, ◌||◌, ◌==◌, List, [], ◌∷◌, ◌++◌, map, length, take, drop, slice_get, nat_lt, nat_le, Option, Some, None, ℤ, pos, negsuc, ◌+ℤ◌, ◌-ℤ◌, unsigned_abs, neg_ℤ, int_lt, int_le, if◌then◌else◌}
+use Rattle.std.specs.List.{list_all}
 use Rattle.resolved_tree.specs.declared.operator.Operator.{Operator}
 use Rattle.resolved_tree.specs.declared.operator.Operator.TheVariants as operator
 use Rattle.resolved_tree.specs.declared.operator.UnaryOperator.{UnaryOperator}
@@ -62,6 +63,14 @@ abbrev pub found : {A : Type 0} → Option A → Got A
 found None = Broken
 found (Some a) = Given a
 
+-- Numbers of cells stay far below those of handles.
+abbrev pub most_cells : ℕ
+most_cells = 144115188075855872
+
+-- Offsets in cells, too.
+abbrev pub most_offsets : ℕ
+most_offsets = 4294967296
+
 -- ---- words and values
 
 -- The words at the front have some kinds.
@@ -117,6 +126,21 @@ abbrev pub as_fresh : Kind → ℤ → ℤ
 as_fresh sort.Access z = pos (unsigned_abs z)
 as_fresh _ z = z
 
+-- A word is one of a kind.
+abbrev pub is_word : Kind → ℤ → Bool
+is_word sort.Int z = is_integer z
+is_word sort.Enum z = is_integer z && int_le (pos 0) z
+is_word sort.Access z = nat_le (unsigned_abs z) most_cells
+
+abbrev pub are_words : List Kind → List ℤ → Bool
+are_words [] [] = true
+are_words (k ∷ ks) (z ∷ zs) = is_word k z && are_words ks zs
+are_words _ _ = false
+
+-- The number of an access value, gone or not.
+abbrev pub access : ℤ → Got ℤ
+access z = if is_word sort.Access z then Given (pos (unsigned_abs z)) else Broken
+
 abbrev pub as_gone : ℤ → ℤ
 as_gone z = neg_ℤ (pos (unsigned_abs z))
 
@@ -125,14 +149,6 @@ value_gone (value.Cell h) = if nat_lt h gone_from then value.Cell (h + gone_from
 value_gone v = v
 
 -- ---- cells that are looked at
-
--- Numbers of cells stay far below those of handles.
-abbrev pub most_cells : ℕ
-most_cells = 144115188075855872
-
--- Offsets in cells, too.
-abbrev pub most_offsets : ℕ
-most_offsets = 4294967296
 
 abbrev pub constraint : Stop
 constraint = Raises ConstraintError
@@ -210,9 +226,11 @@ is_between low high w = int_le low w && int_le w high
 abbrev pub checked : ℤ → ℤ → ℤ → Got ℤ
 checked low high w = if is_between low high w then Given w else Stops constraint
 
+abbrev pub offset : ℕ → Got ℤ
+offset n = if nat_lt n most_offsets then Given (pos n) else Broken
+
 abbrev pub scaled : ℤ → ℤ → ℕ → ℤ → Got ℤ
-scaled low high size w =
-    if is_between low high w then Given (pos (unsigned_abs (w -ℤ low) * size)) else Stops constraint
+scaled low high size w = if is_between low high w then offset (unsigned_abs (w -ℤ low) * size) else Stops constraint
 
 -- ---- expressions
 
@@ -225,7 +243,7 @@ unfoldable mutual
   word m (Via p at i k) =
       and_then (indexes m p) (λ x. and_then (word m i) (λ o. and_then (word m p) (behind m (at + unsigned_abs o) k)))
   word m (Scaled i low high size) = and_then (word m i) (scaled low high size)
-  word m (Plus a b) = and_then (word m a) (λ x. and_then (word m b) (λ y. Given (x +ℤ y)))
+  word m (Plus a b) = and_then (word m a) (λ x. and_then (word m b) (λ y. offset (unsigned_abs x + unsigned_abs y)))
   word m (Unary op a) = and_then (word m a) (operated_alone op)
   word m (Binary op a b) = and_then (word m a) (λ x. and_then (word m b) (operated op x))
   word m (Short op a b) = and_then (word m a) (λ x. if decides op x then Given x else word m b)
@@ -261,14 +279,18 @@ spot m (Behind p at i) =
 
 -- ---- what stands at a place
 
--- As many words as there are kinds.
+-- As many words as there are kinds, each one of its kind.
 abbrev pub front : List Kind → List ℤ → Got (List ℤ)
 front [] zs = Given []
 front (k ∷ ks) [] = Broken
-front (k ∷ ks) (z ∷ zs) = and_then (front ks zs) (λ more. Given (z ∷ more))
+front (k ∷ ks) (z ∷ zs) = if is_word k z then and_then (front ks zs) (λ more. Given (z ∷ more)) else Broken
+
+-- Words of these kinds stand in a cell from an offset on.
+abbrev pub are_in : ℕ → List Kind → Cell → Bool
+are_in o ks c = nat_lt (o + length ks) most_offsets && have_kinds ks (drop o c.words)
 
 abbrev pub front_of_cell : ℕ → List Kind → Cell → Got (List ℤ)
-front_of_cell o ks c = if nat_lt (o + length ks) most_offsets && have_kinds ks (drop o c.words) then front ks (drop o (words_in c.words)) else Broken
+front_of_cell o ks c = if are_in o ks c then front ks (drop o (words_in c.words)) else Broken
 
 -- The words of these kinds at a spot, the marks of what is gone among them.
 abbrev pub words_at : Flat → Spot → List Kind → Got (List ℤ)
@@ -300,7 +322,7 @@ stored m (InStack n) ks zs =
     if nat_le (n + length zs) (length m.stack) then Given (with_stack m (spliced n zs m.stack)) else Broken
 stored m (InCell n o) ks zs =
     touched (slice_get m.cells n)
-    (λ c. if (length ks == length zs) && have_kinds ks (drop o c.words) then Given (with_words m n o (values ks zs)) else Broken)
+    (λ c. if are_words ks zs && are_in o ks c then Given (with_words m n o (values ks zs)) else Broken)
 
 -- Words at some offsets are gone.
 abbrev pub all_gone : List ℕ → List ℤ → List ℤ
@@ -311,13 +333,21 @@ abbrev pub values_gone : List ℕ → List Value → List Value
 values_gone [] vs = vs
 values_gone (o ∷ rest) vs = values_gone rest (at_number o value_gone vs)
 
+-- Access values stand at these offsets.
+abbrev pub is_pointer : Option Kind → Bool
+is_pointer (Some sort.Access) = true
+is_pointer _ = false
+
+abbrev pub are_pointers : List Kind → List ℕ → Bool
+are_pointers ks gone = list_all (λ o. is_pointer (slice_get ks o)) gone
+
 abbrev pub moved_out : Flat → Spot → List Kind → List ℕ → Got Flat
 moved_out m (InStack n) ks gone =
-    if nat_le (n + length ks) (length m.stack)
-    then Given (with_stack m (spliced n (all_gone gone (take (length ks) (drop n m.stack))) m.stack)) else Broken
+    if are_pointers ks gone
+    then and_then (front ks (drop n m.stack)) (λ zs. Given (with_stack m (spliced n (all_gone gone zs) m.stack))) else Broken
 moved_out m (InCell n o) ks gone =
     touched (slice_get m.cells n)
-    (λ c. if have_kinds ks (drop o c.words) then Given (with_words m n o (values_gone gone (take (length ks) (drop o c.words)))) else Broken)
+    (λ c. if are_pointers ks gone && are_in o ks c then Given (with_words m n o (values_gone gone (take (length ks) (drop o c.words)))) else Broken)
 
 -- ---- evaluation that moves and makes
 
@@ -349,9 +379,10 @@ with_cell m vs = record m {
 -- A new cell, and its number.
 abbrev pub made : Flat → List Kind → List ℤ → Made (List ℤ)
 made m ks zs =
-    if nat_le (m.live + length zs) heap_words
+    if not (are_words ks zs) then Failed
+    else (if nat_le (m.live + length zs) heap_words
     then (if nat_lt (length m.cells) most_cells then Done (pos (suc (length m.cells)) ∷ []) (with_cell m (values ks zs)) else Halted Memory m)
-    else Halted (Raises StorageError) m
+    else Halted (Raises StorageError) m)
 
 abbrev pub without_cell : Flat → ℕ → ℕ → Flat
 without_cell m n size = record m {
@@ -382,7 +413,7 @@ some_words n zs = if nat_le n (length zs) then Given (take n zs) else Broken
 
 unfoldable pub filled : Table → Fill → Flat → Made (List ℤ)
 filled table (Checked c low high) m = reads m (and_then (word m c) (checked low high)) (λ w. Done (w ∷ []) m)
-filled table (LookedAt c) m = reads m (word m c) (λ w. Done (pos (unsigned_abs w) ∷ []) m)
+filled table (LookedAt c) m = reads m (and_then (word m c) access) (λ w. Done (w ∷ []) m)
 filled table (MovedPointer p) m =
     reads m (spot m p) (λ s. reads m (held m s (sort.Access ∷ [])) (λ zs. reads m (moved_out m s (sort.Access ∷ []) (0 ∷ [])) (Done zs)))
 filled table (Copied p of) m = reads m (spot m p) (λ s. reads m (held m s (kinds table of)) (λ zs. Done zs m))

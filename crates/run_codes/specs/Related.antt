@@ -94,6 +94,10 @@ pub record Counted (m : Memory) (f : Flat) : Type 0 where
 
 -- ---- what is known of a table of types
 
+-- No type has more words.
+abbrev pub most_words : ℕ
+most_words = 65536
+
 pub record IsTable (table : Table) : Type 0 where
   pub whole : (t : ℕ) (low high : ℤ) → shape_of table t ≡ shape.Whole low high → sorts table t ≡ Whole ∷ []
   pub listed : (t low high : ℕ) → (literals : _) → shape_of table t ≡ shape.Listed literals low high → sorts table t ≡ Position ∷ []
@@ -103,6 +107,7 @@ pub record IsTable (table : Table) : Type 0 where
   pub elements : (t element : ℕ) (low high : ℤ) → shape_of table t ≡ shape.Elements low high element
       → sorts table t ≡ repeated_sorts (span low high) (sorts table element)
   pub same : (t u : ℕ) → same_designated table t u ≡ true → sorts table t ≡ sorts table u
+  pub small : (t : ℕ) → words table t ≤ most_words
 
 -- ---- what an evaluation goes by
 
@@ -142,11 +147,11 @@ pub record IsSeen (e : Seen) : Type 0 where
 
 -- ---- results
 
--- The machine stops as well, with the memory that it had. Memory may always be out.
+-- The machine stops as well, with the memory that it had. What only reads wants no memory.
 abbrev pub Stopped : {A : Type 0} → Memory → Stop → Evaluated A → Type 0
 Stopped m (Raises x) ev = (n : Now) × (ev ≡ machine.Raises x n) × (n.memory ≡ m)
 Stopped m (Traps t) ev = (n : Now) × (ev ≡ machine.Traps t n) × (n.memory ≡ m)
-Stopped m flat.Memory ev = Unit {0}
+Stopped m flat.Memory ev = ⊥
 
 -- The executor gives a word of this sort where the machine gives it, after so many values were taken, and
 -- stops where that stops.
