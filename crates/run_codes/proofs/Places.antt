@@ -296,10 +296,11 @@ in_place e k t st zs others z ev sort here is =
     let one : words (table e) is.p.of ≡ 1 = ap (words (table e)) is.of ∙ sym (many (table e) t) ∙ ap (λ (l : List Sort). length l) sort in
     let same : head.z ≡ z = cons_same head.z z head.others others (sym head.words ∙ here) in
     let shown : words_of e.site.typing e.memory is.p ≡ head.x.word ∷ [] =
-    ap (λ n. map (λ (slot : Slot). slot.word) (take n slots)) one ∙ ap (λ l. map (λ (slot : Slot). slot.word) (take 1 l)) head.slots in
-    (head.x.word,
-    ap (λ x. followed_by x (holds e.site.typing)) is.gives ∙ ap (λ ws. Done ws (now e k)) shown,
-    subst (λ y. Stands (table e) (types e.memory) st head.x.word y) same head.stands.0)
+    ap (λ n. map (λ (slot : Slot). slot.word) (take n slots)) one ∙ ap (λ l. map (λ (slot : Slot). slot.word) (take 1 l)) head.slots in (
+      head.x.word,
+      ap (λ x. followed_by x (holds e.site.typing)) is.gives ∙ ap (λ ws. Done ws (now e k)) shown,
+      subst (λ y. Stands (table e) (types e.memory) st head.x.word y) same head.stands.0,
+    )
   where
     cons_same : (a b : ℤ) (l r : List ℤ) → a ∷ l ≡ b ∷ r → a ≡ b
     cons_same a b l r is = cc
@@ -468,7 +469,7 @@ to_cell e have k d n made =
       inside = omega (arith, long, stands.room);
       kinds = subst (λ l. AllKinds l there.0.words) of_is stands.kinds;
       leads = cell_touch e k d n there.0.freed (words_in there.0.words) stands.freed
-        (subst (λ l. Stand e l (cell e.memory (suc n)).slots (words_in there.0.words)) of_is stands.words);
+          (subst (λ l. Stand e l (cell e.memory (suc n)).slots (words_in there.0.words)) of_is stands.words);
     }
 
 to_designated : (e : Seen) → HaveCells (table e) e.memory e.flat → (k d n : ℕ) (w : Word) (ev : Evaluated (List Word)) → ev ≡ Done (w ∷ []) (now e k)
