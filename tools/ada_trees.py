@@ -79,7 +79,7 @@ def tokens(text, file=0):
 # another part has that token too; "word" is the position of that token, and ["word"] that of one
 # that may be missing. `pos` is the position of the operator, number or text beside it. A part in
 # any other writing is spelled by its own parts, and read by the method of that name: one that may
-# be missing has a question mark. Behind it may stand in braces the operator of the further
+# be missing has a question mark. After it may stand in braces the operator of the further
 # operands, which they have as {0} and {1}.
 FORMS = {
     "identifier": "pos text",
@@ -261,7 +261,7 @@ def spelling(tree, operator=()):
 
 
 def parts_of(tree):
-    """The parts of a tree, each behind its writing."""
+    """The parts of a tree, each after its writing."""
     return zip(FORMS[tree.form].split(" "), tree.parts, strict=True)
 
 
@@ -422,7 +422,7 @@ class Reader:
         return Tree(form, [pos, first, *operand.parts, rest])
 
     def operand(self, words):
-        """A further operand, behind these words."""
+        """A further operand, after these words."""
         short = len(words) == 2
         form = "short_operand.FurtherShortOperand" if short else "operand.FurtherOperand"
         return Tree(form, [self.word(word) for word in words] + [self.rel()])

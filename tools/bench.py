@@ -151,7 +151,7 @@ def chained(number, before, i):
 
 
 def type_chain():
-    """100,000 types, each made of the one before, and below them all a private type whose full one stands behind."""
+    """100,000 types, each made of the one before, and below them all a private type whose full one comes after them."""
     lines = ["package P is", "type A0 is private;"]
     lines += [chained("A%d" % i, "A%d" % (i - 1), i) for i in range(1, 100_000)]
     lines += ["private", "type A0 is (First);", "end P;"]

@@ -147,8 +147,8 @@ def is_defined(name, path, texts):
     if path not in texts:
         texts[path] = path.read_text()
     before = r"^\s*(?:(?:abbrev|unfoldable|pub|data|record|enum|struct|fn|const)\s+)*"
-    behind = r"[^\n=]*?:(?!:)" if path.suffix == ".antt" else r"\s*[({,:]"
-    return re.search(before + re.escape(name) + r"(?![\w'])" + behind, texts[path], re.M) is not None
+    after = r"[^\n=]*?:(?!:)" if path.suffix == ".antt" else r"\s*[({,:]"
+    return re.search(before + re.escape(name) + r"(?![\w'])" + after, texts[path], re.M) is not None
 
 
 def faults_of_names(page, section, texts):

@@ -36,7 +36,7 @@ FAULTS, MET = [], set()
 
 # Examples of P1, P3 and N1 that are no construct of Ada, or none that the table has.
 PLAIN = """P1_cut_short P1_function_without_return P1_missing_semicolon P1_mixed_operators P1_mixed_short_circuit P1_no_statement
-P1_second_else P1_sign_behind_operator P1_two_relations N1_undeclared N1_use_of_procedure""".split()
+P1_second_else P1_sign_after_operator P1_two_relations N1_undeclared N1_use_of_procedure""".split()
 
 # A program with a report.
 EXAMPLE = str(DATA / "rules" / "O1_use_after_free.adb")
@@ -55,7 +55,7 @@ WHERE = {
     "O1_freed_in_a_loop.adb:16:14": [16],
     "O1_moved_element.adb:19:12": [17],
     "O1_moved_part.adb:17:9": [16],
-    "O1_second_turn_of_a_loop.adb:13:20": [14],
+    "O1_second_iteration_of_a_loop.adb:13:20": [14],
     "O3_borrowed_by_a_traversal_call.adb:31:7": [29],
     "O3_ring.adb:14:4": [14],
     "O3_write_gives_nothing_back.adb:15:9": [13],
@@ -179,7 +179,7 @@ def faults_below(path, files, line, below):
         yield "a fault below " + line
     if not any("%s: %s" % (it.code, errors_page.title_of(it.code)) in text for text in below):
         yield "no title below " + line
-    told_of = [text for text in below if re.search(r" lines? \d|earlier turn", text)]
+    told_of = [text for text in below if re.search(r" lines? \d|earlier iteration", text)]
     if it.word in ("moved", "borrowed", "observed") and not told_of:
         yield "no line where the name was given away or lent: " + line
 

@@ -29,7 +29,7 @@ def bare(path):
 
 
 def names_of(crate):
-    """What the crate's text names before a `::` or behind `Rattle.`."""
+    """What the crate's text names before a `::` or after `Rattle.`."""
     found = set()
     for part in ("src", "specs", "proofs"):
         for path in sorted((TOP / "crates" / crate / part).glob("**/*")):

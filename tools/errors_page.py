@@ -186,7 +186,7 @@ ROWS = [
         title="a syntax error",
         meaning="""
             This is the first token that no valid program could have here, after the tokens before it. The mistake is
-            at this token or before it: a missing semicolon, say, is found at the token behind it. Where the file ends
+            at this token or before it: a missing semicolon, say, is found at the token after it. Where the file ends
             too early the position is that of its end. Most constructs of Ada that the subset leaves out are refused here,
             too, though they are right Ada: aspects, expression functions, defaults, subprograms within subprograms,
             conditional expressions and [others](LEFT_OUT.md).
@@ -348,8 +348,8 @@ ROWS = [
         code="Y2",
         title="a type with too many access parts",
         meaning="""
-            The type has more than 64 components that own an object, at any depth, or one that lies behind more than 16
-            selectors. All elements of an array count as one. The position is the identifier of the type. This is a
+            The type has more than 64 components that own an object, at any depth, or one that more than 16
+            selectors lead to. All elements of an array count as one. The position is the identifier of the type. This is a
             limit of `spark` and not of Ada.
             """,
         bad="refusals/Y2_65_access_parts.adb",
@@ -446,7 +446,7 @@ ROWS = [
         meaning="""
             An access value, or a record or array with one, is moved by assigning it, so it stands only where its new
             owner can be told: not in parentheses, not in a constant, not as an `in` actual unless it is a name or
-            `null`, and behind `others =>` only as `null`. Ada has none of these rules.
+            `null`, and after `others =>` only as `null`. Ada has none of these rules.
             """,
         bad="refusals/K5_parentheses.adb",
         good="accepted/K5_no_parentheses.adb",
@@ -478,11 +478,11 @@ ROWS = [
         code="K7",
         title="an expression that isn't static",
         meaning="""
-            The bounds of arrays and subtypes and named numbers have to be known before a run: they are made of numbers,
-            literals, static constants, First and Last of scalar subtypes, and operators, and each value on the way is
-            an Integer. K7 also stands at the bound of a subtype outside its parent's bounds, at the mark of an object
-            whose subtype has no values, and at 2147483648 unless it is the operand of a minus sign. Ada allows other
-            bounds of arrays and subtypes, and subtypes without values.
+            The bounds of arrays and subtypes and named numbers have to be known before a run: they are made of
+            numbers, literals, static constants, First and Last of scalar subtypes, and operators, and each
+            intermediate value is an Integer. K7 also stands at the bound of a subtype outside its parent's
+            bounds, at the mark of an object whose subtype has no values, and at 2147483648 unless it is the operand of
+            a minus sign. Ada allows other bounds of arrays and subtypes, and subtypes without values.
             """,
         bad="refusals/K7_variable_as_bound.adb",
         good="accepted/K7_constant_as_bound.adb",
@@ -519,7 +519,7 @@ ROWS = [
         good="accepted/M1_eight_steps.adb",
         mended=[
             ("Go by steps: with a loop", "M1_loop"),
-            ("With an observer or a borrower that is along the way", "M1_observer"),
+            ("With an observer or a borrower of a part of the path", "M1_observer"),
         ],
     ),
     Row(
@@ -566,11 +566,11 @@ ROWS = [
         code="O1",
         title="a read of what was moved away or is borrowed",
         meaning="""
-            `X.all` is read while X is moved: an assignment such as `Y := X` made Y the owner on some way to this
-            position, and X was given no value since. In a run X would still hold the address, and the object behind it
-            may be freed or changed through Y at any time. With the word `borrowed`, a borrower has the object, or what
+            `X.all` is read while X is moved: an assignment such as `Y := X` made Y the owner on some path to this
+            position, and X was given no value since. In a run X would still hold the address, and the object
+            there may be freed or changed through Y at any time. With the word `borrowed`, a borrower has the object, or what
             leads to it, until its block ends. Conditions play no part: each branch may be taken, and a loop may have
-            any number of turns.
+            any number of iterations.
             """,
         bad="rules/O1_moved_on_a_branch.adb",
         good="accepted/O1_read_on_the_other_branch.adb",
@@ -596,7 +596,7 @@ ROWS = [
         mended=[
             ("Compare the new owner", "O2_look_at_the_new_owner"),
             ("Compare the borrower", "O2_look_at_the_borrower"),
-            ("Assign `null` to the name after the move", "O2_null_behind_the_move"),
+            ("Assign `null` to the name after the move", "O2_null_after_the_move"),
         ],
     ),
     Row(
@@ -609,11 +609,11 @@ ROWS = [
             object that nobody owns any more.
             """,
         bad="rules/O3_observed.adb",
-        good="accepted/O3_written_behind_the_observer.adb",
+        good="accepted/O3_written_after_the_observer.adb",
         mended=[
             ("Write through the new owner", "O3_through_the_new_owner"),
             ("Write through the borrower", "O3_through_the_borrower"),
-            ("Write after the end of the block", "O3_written_behind_the_observer"),
+            ("Write after the end of the block", "O3_written_after_the_observer"),
             ("Move the value back first", "O3_write_after_move_back"),
             ("Give X a new object", "O3_whole_object_after_move"),
         ],
@@ -625,13 +625,13 @@ ROWS = [
             X is assigned to another name while it is moved, so one object would have two owners; or while an object
             borrows or observes it, so the new owner could free or change what the other one looks at.
             """,
-        bad="rules/O4_second_turn_of_a_loop.adb",
-        good="accepted/O4_new_value_in_each_turn.adb",
+        bad="rules/O4_second_iteration_of_a_loop.adb",
+        good="accepted/O4_new_value_in_each_iteration.adb",
         mended=[
             ("Assign from the present owner", "O4_from_the_new_owner"),
-            ("Give X a new value between the two moves", "O4_new_value_in_each_turn"),
+            ("Give X a new value between the two moves", "O4_new_value_in_each_iteration"),
             ("To have the number twice, allocate a second object with a copy of it: `Z := new Integer'(Y.all);`", "O4_copied"),
-            ("Of what is lent, end the block first", "O4_moved_behind_the_block"),
+            ("Of what is lent, end the block first", "O4_moved_after_the_block"),
             ("Of an element of an array, a value for one element doesn't help, since no index is known. Let a procedure with an `in out` formal take it out", "O4_element_by_a_procedure"),
         ],
     ),
@@ -664,7 +664,7 @@ ROWS = [
         good="accepted/O6_two_observers.adb",
         mended=[
             ("Observe the borrower, in a block within its own", "O6_of_the_borrower"),
-            ("End the block of the borrower before", "O6_behind_the_block"),
+            ("End the block of the borrower before", "O6_after_the_block"),
             ("Of what was moved, observe the new owner", "O6_new_owner"),
         ],
     ),
@@ -693,7 +693,7 @@ ROWS = [
         bad="rules/O8_moved_part_at_the_end.adb",
         good="accepted/O8_part_given_a_value.adb",
         mended=[
-            ("Give the part a value on each way out of the block", "O8_part_given_a_value"),
+            ("Give the part a value on each path out of the block", "O8_part_given_a_value"),
             ("Of an element of an array, let a procedure with an `in out` formal take it out and leave `null`, since a value for one element doesn't help", "O8_element_by_a_procedure"),
         ],
     ),
@@ -708,7 +708,7 @@ ROWS = [
         bad="rules/O9_formal_moved.adb",
         good="accepted/O9_formal_given_back.adb",
         mended=[
-            ("Give it a value on each way out, `null` at least", "O9_formal_given_back"),
+            ("Give it a value on each path out, `null` at least", "O9_formal_given_back"),
             ("Return before the move", "O9_return_before_the_move"),
             ("Observe it in place of moving it", "O9_observed"),
             ("Of an element of an array a value doesn't help, since no index is known ([reported](../crates/spark_examples/data/rules/O9_element_given_a_value.adb)). Let a procedure with an `in out` formal take it out and leave `null`", "O9_element_by_a_procedure"),
@@ -729,7 +729,7 @@ ROWS = [
         mended=[
             ("Pass the new owner", "O10_new_owner"),
             ("Of a name with a moved part, give the part a value first", "O10_part_given_a_value"),
-            ("Call after the end of the block", "O10_out_behind_the_block"),
+            ("Call after the end of the block", "O10_out_after_the_block"),
             ("Let a function do what only reads", "O10_in_of_a_function"),
         ],
     ),
@@ -737,15 +737,16 @@ ROWS = [
         code="O11",
         title="a call that uses a package object that was moved away or is lent",
         meaning="""
-            The called subprogram, or one that it calls in turn, reads or writes the package object. Where it writes it,
-            the object may be neither moved nor lent; where it only reads it, neither moved nor borrowed. `spark` finds
-            what is read and written from the bodies. The position is the call, and the name is the object.
+            The called subprogram, or one that it calls, directly or not, reads or writes the package object. Where it
+            writes it, the object may be neither moved nor lent; where it only reads it, neither moved nor borrowed.
+            `spark` finds what is read and written from the bodies. The position is the call, and the name is the
+            object.
             """,
         bad="rules/O11_written_while_observed.adb",
         good="accepted/O11_read_while_observed.adb",
         mended=[
-            ("Call it after the end of the block", "O11_called_behind_the_block"),
-            ("Give the object its value back before the call", "O11_used_behind_the_move_back"),
+            ("Call it after the end of the block", "O11_called_after_the_block"),
+            ("Give the object its value back before the call", "O11_used_after_the_move_back"),
         ],
     ),
     Row(
@@ -757,10 +758,10 @@ ROWS = [
             twice in a row is no report: a free makes the name null, and freeing null has no effect.
             """,
         bad="rules/O14_observed.adb",
-        good="accepted/O14_freed_behind_the_block.adb",
+        good="accepted/O14_freed_after_the_block.adb",
         mended=[
             ("Free the new owner instead", "O14_free_of_new_owner"),
-            ("Free after the end of the block", "O14_freed_behind_the_block"),
+            ("Free after the end of the block", "O14_freed_after_the_block"),
         ],
     ),
     Row(
@@ -800,10 +801,10 @@ ROWS = [
         title="a change of what may only be looked at",
         meaning="""
             What an observer designates may only be looked at; so may an `in` formal of a procedure and what it leads
-            to, unless the formal is of an access type and something behind it is meant; and in a function all formals
-            and package objects. Here such a thing is written, moved, freed, borrowed or passed to be written. A function
-            also has no output and no input, and calls no procedure that writes a package object; the position is that
-            call then. For `in` formals and functions Ada allows it.
+            to, unless the formal is of an access type and something that it designates is meant; and in a function all
+            formals and package objects. Here such a thing is written, moved, freed, borrowed or passed to be written.
+            A function also has no output and no input, and calls no procedure that writes a package object; the
+            position is that call then. For `in` formals and functions Ada allows it.
             """,
         bad="rules/V1_part_of_an_in_record.adb",
         good="accepted/V1_part_of_an_in_out_record.adb",

@@ -312,9 +312,9 @@ class Resolver:
         return Tree("Others", [tree.parts[0], self.expr(tree.parts[3])])
 
     def allocator(self, tree):
-        pos, mark, *behind = tree.parts
+        pos, mark, *rest = tree.parts
         made = self.mark(mark)
-        values = [(None, self.expr(it)) for it in behind if isinstance(it, Tree)]
+        values = [(None, self.expr(it)) for it in rest if isinstance(it, Tree)]
         return Tree("New", [pos, made, Tree("Arguments", values)])
 
     LEVELS = {
@@ -544,7 +544,7 @@ class Resolver:
     # -- subprograms
 
     def front(self, tree, form=None):
-        """The front of a subprogram, whose region is open behind it."""
+        """The front of a subprogram, whose region is open after it."""
         is_function = tree.form == "subspec.Function"
         made = self.declared(tree.parts[1], form or ("function" if is_function else "procedure"))
         self.scopes.open_region()

@@ -12,8 +12,8 @@
 
 data/cases.txt says which lemmas a crate has. A line `== MODULE: TITLE` begins a module. A line as
 `no_body_1 N5 no_body_1.adb:24:29` is a case: the name of the lemma, the rule that is broken first,
-and where; or `one none one.adb`, where none is. Behind it may stand `of COUNT`: then its files are
-1.adb to COUNT.adb in a folder of its name. Any other line stands above the cases behind it.
+and where; or `one none one.adb`, where none is. After it may stand `of COUNT`: then its files are
+1.adb to COUNT.adb in a folder of its name. Any other line stands above the cases after it.
 """
 import argparse
 import pathlib
@@ -236,7 +236,7 @@ class Case(NamedTuple):
 class Module(NamedTuple):
     name: str
     title: str
-    # cases, and texts that stand above those behind them
+    # cases, and texts that stand above those after them
     parts: list
 
 

@@ -1,4 +1,4 @@
---  K7: each value on the way is within Integer.
+--  K7: each intermediate value is within Integer.
 --> spark check K7_no_overflow.adb
 --> status 0
 --> out accepted

@@ -1,4 +1,4 @@
---  M1: an observer that is along the way begins a new name.
+--  M1: an observer of a part of the path begins a new name.
 --> spark check M1_observer.adb
 --> status 0
 --> out accepted

@@ -1,4 +1,4 @@
---  O3: a list is moved behind a new head.
+--  O3: a list gets a new head, which owns the old one.
 --> spark check O3_new_head.adb
 --> status 0
 --> out accepted

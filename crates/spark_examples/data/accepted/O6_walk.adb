@@ -1,4 +1,4 @@
---  O6: an observer walks along a list; what it leaves behind stays observed.
+--  O6: an observer walks along a list; the cells that it has passed stay observed.
 --> spark check O6_walk.adb
 --> status 0
 --> out accepted

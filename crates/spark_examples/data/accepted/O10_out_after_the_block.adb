@@ -1,5 +1,5 @@
 --  O10: after the block of the observer the object may be an out actual.
---> spark check O10_out_behind_the_block.adb
+--> spark check O10_out_after_the_block.adb
 --> status 0
 --> out accepted
 package Numbers is

@@ -1,7 +1,7 @@
 --  O4: the second iteration of a loop moves again what the first one moved.
---> spark check O4_second_turn_of_a_loop.adb
+--> spark check O4_second_iteration_of_a_loop.adb
 --> status 1
---> err O4_second_turn_of_a_loop.adb:12:12: O4 X: moved
+--> err O4_second_iteration_of_a_loop.adb:12:12: O4 X: moved
 with Ada.Text_IO;
 procedure Main is
    type Int_Ptr is access Integer;

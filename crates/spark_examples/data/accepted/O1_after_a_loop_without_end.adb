@@ -1,7 +1,7 @@
---  O3: a cell can't be put after itself, since it is moved before its component is written.
---> spark check O3_cell_behind_itself.adb
---> status 1
---> err O3_cell_behind_itself.adb:20:1: O3 X.all.Next: moved
+--  O1: no path leads past a loop without an exit, so that a read there breaks no rule.
+--> spark check O1_after_a_loop_without_end.adb
+--> status 0
+--> out accepted
 with Ada.Text_IO; use Ada.Text_IO;
 with Ada.Integer_Text_IO; use Ada.Integer_Text_IO;
 with Ada.Unchecked_Deallocation;
@@ -15,7 +15,7 @@ procedure Main is
    type Int_Ptr is access Integer;
    procedure Free is new Ada.Unchecked_Deallocation (Cell, List);
    procedure Drop is new Ada.Unchecked_Deallocation (Integer, Int_Ptr);
-X : List := new Cell'(1, null);
+X, Y : Int_Ptr;
 begin
-X.Next := X;
+Y := X; loop null; end loop; Put (Integer'Image (X.all));
 end Main;

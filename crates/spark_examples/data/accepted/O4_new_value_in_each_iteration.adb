@@ -1,5 +1,5 @@
 --  O4: each iteration moves a value of its own.
---> spark check O4_new_value_in_each_turn.adb
+--> spark check O4_new_value_in_each_iteration.adb
 --> status 0
 --> out accepted
 with Ada.Text_IO;

@@ -1,5 +1,5 @@
 --  O1: each iteration gives back what it moves, so the next one may read it.
---> spark check O1_moved_back_in_each_turn.adb
+--> spark check O1_moved_back_in_each_iteration.adb
 --> status 0
 --> out accepted
 procedure Main is

@@ -1,5 +1,5 @@
 --  O2: a name that is null again may be compared.
---> spark check O2_null_behind_the_move.adb
+--> spark check O2_null_after_the_move.adb
 --> status 0
 --> out accepted
 procedure Main is

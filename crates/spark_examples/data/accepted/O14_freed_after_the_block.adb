@@ -1,5 +1,5 @@
 --  O14: after the block of the observer the object may be freed.
---> spark check O14_freed_behind_the_block.adb
+--> spark check O14_freed_after_the_block.adb
 --> status 0
 --> out accepted
 with Ada.Text_IO;

@@ -1,5 +1,5 @@
 --  O11: after the block of the observer a call may write the package object.
---> spark check O11_called_behind_the_block.adb
+--> spark check O11_called_after_the_block.adb
 --> status 0
 --> out accepted
 package Store is

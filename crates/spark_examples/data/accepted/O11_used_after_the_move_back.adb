@@ -1,5 +1,5 @@
 --  O11: the package object has its value again before the call.
---> spark check O11_used_behind_the_move_back.adb
+--> spark check O11_used_after_the_move_back.adb
 --> status 0
 --> out accepted
 package Store is

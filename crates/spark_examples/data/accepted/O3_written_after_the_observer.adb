@@ -1,5 +1,5 @@
 --  O3: after the block of the observer the object may be written again.
---> spark check O3_written_behind_the_observer.adb
+--> spark check O3_written_after_the_observer.adb
 --> status 0
 --> out accepted
 procedure Main is

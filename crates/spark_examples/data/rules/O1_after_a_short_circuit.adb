@@ -1,7 +1,7 @@
 --  O1: the left operand of a short circuit guards nothing, since conditions play no part.
---> spark check O1_behind_a_short_circuit.adb
+--> spark check O1_after_a_short_circuit.adb
 --> status 1
---> err O1_behind_a_short_circuit.adb:14:25: O1 X.all: moved
+--> err O1_after_a_short_circuit.adb:14:25: O1 X.all: moved
 with Ada.Text_IO;
 procedure Main is
    type Int_Ptr is access Integer;

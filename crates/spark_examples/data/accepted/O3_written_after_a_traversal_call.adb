@@ -1,5 +1,5 @@
 --  O3: after the block the list may be written again.
---> spark check O3_written_behind_a_traversal_call.adb
+--> spark check O3_written_after_a_traversal_call.adb
 --> status 0
 --> out accepted
 package Lists is

@@ -1,5 +1,5 @@
 --  K1: a private type may designate itself.
---> spark check K1_private_behind_access.adb
+--> spark check K1_private_through_access.adb
 --> status 0
 --> out accepted
 package Box is

@@ -1,7 +1,7 @@
 --  P1: a sign stands at the front of a simple expression alone.
---> spark check P1_sign_behind_operator.adb
+--> spark check P1_sign_after_operator.adb
 --> status 2
---> err P1_sign_behind_operator.adb:8:13: P1 syntax
+--> err P1_sign_after_operator.adb:8:13: P1 syntax
 procedure Main is
    N : Integer;
 begin

@@ -1,5 +1,5 @@
 --  O3: after the block of the borrower the object may be written again.
---> spark check O3_written_behind_the_block.adb
+--> spark check O3_written_after_the_block.adb
 --> status 0
 --> out accepted
 procedure Main is

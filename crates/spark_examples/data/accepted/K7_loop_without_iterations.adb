@@ -1,5 +1,5 @@
 --  K7: a loop over a subtype without values has no iteration.
---> spark check K7_loop_without_turns.adb
+--> spark check K7_loop_without_iterations.adb
 --> status 0
 --> out accepted
 procedure Main is

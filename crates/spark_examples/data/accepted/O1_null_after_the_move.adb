@@ -1,5 +1,5 @@
 --  O1: X is given null after the move, so that it may be tested and read.
---> spark check O1_null_behind_the_move.adb
+--> spark check O1_null_after_the_move.adb
 --> status 0
 --> out accepted
 with Ada.Text_IO;
