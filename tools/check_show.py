@@ -12,6 +12,8 @@ Without --program it runs the script `spark`. Status 1 where something is wrong;
 - At each refused source of the table the construct is named, and none is named at a plain mistake.
 - Each example and program is as its head says, those in `natural`, as they are written in SPARK, and in `reduced`,
   changed for `spark`, among them.
+- `--left-out` finds each row of the table in its refused source, and the first refusal of each program in `natural`;
+  it finds nothing in an accepted program or row.
 - `--order`, `--explain`, `--sarif` and a missing file do what is said of them.
 """
 import argparse
@@ -257,10 +259,55 @@ def try_rows():
                 continue
             line.file = named[line.file]
             try:
-                SPARK_SHOW.Reader(paths).meaning(line)
+                reader = SPARK_SHOW.Reader(paths)
+                reader.meaning(line)
                 SPARK_SHOW.ordered(paths)
+                list(SPARK_SHOW.left_out(reader.program.texts))
             except Exception as error:
                 fault("%s: %r" % (what, error))
+
+
+# ---- what is left out
+
+
+def found(files):
+    """The constructs that `--left-out` finds in files with these bytes: code, construct, line."""
+    texts = {name: SPARK_SHOW.Text(name, data) for name, data in files}
+    for line, instead in SPARK_SHOW.left_out(texts):
+        split = re.fullmatch(r"(.*):(\d+):(\d+): ([A-Z]\d) (.*)", line)
+        if split is None or not instead:
+            fault("--left-out prints %s, %s" % (line, instead))
+        else:
+            yield split[4], split[5], int(split[2])
+
+
+def accepted():
+    """Programs that no code of a refusal stands for: a name, and the files with their bytes."""
+    for path, files, status, _, _ in examples():
+        if status != 2:
+            yield str(path.relative_to(DATA)), [(file, (path.parent / file).read_bytes()) for file in files]
+    for what, files, wanted in rows():
+        if wanted in ("accepted", "typed"):
+            yield what, [(file, "\n".join(lines).encode()) for file, lines in files]
+
+
+def try_left_out(program):
+    """What `--left-out` finds, and that it finds nothing where nothing is left out."""
+    for it in left_out_page.constructs():
+        told = {(code, construct) for code, construct, _ in found([("f.adb", it.refused.encode())])}
+        if (it.code, it.name) not in told:
+            fault("--left-out doesn't find %s" % it.name)
+    for what, files in accepted():
+        for code, construct, line in found(files):
+            fault("--left-out: %s, line %d: %s %s" % (what, line, code, construct))
+    for path in sorted(DATA.glob("natural/*.adb")):
+        made = run(path.parent, SHOW, "--program", program, path.name).stderr.decode()
+        refusal = re.search(r":(\d+):\d+: (\w\d) .*\n(?:.*\n)*?.*likely left out: (.*) \(docs", made)
+        if not refusal or (refusal[2], refusal[3], int(refusal[1])) not in found([(path.name, path.read_bytes())]):
+            fault("--left-out doesn't find the first refusal of " + path.name)
+        made = run(path.parent, SHOW, "--left-out", path.name)
+        if made.returncode != 2 or "in its place: " not in made.stdout.decode() or "there may be more" not in made.stderr.decode():
+            fault("--left-out %s: status %d" % (path.name, made.returncode))
 
 
 # ---- the words of spark-show
@@ -305,6 +352,10 @@ def try_words(program):
         fault("spark-show: status %d where nothing can be written" % made.returncode)
     for words, status, wanted in (
         (["--explain", "Z9"], 6, "no code Z9"),
+        (["--left-out", EXAMPLE], 0, "0 found"),
+        (["--left-out", "absent.adb"], 7, "absent.adb: No such file"),
+        (["--left-out"], 6, "spark-show [--program PATH]"),
+        (["--left-out", "--order", EXAMPLE], 6, "--order: usage: 1 to 64 files"),
         (["--program", program, "absent.adb"], 7, "there is no file absent.adb"),
         (["--program", program, "tools"], 7, "tools is no file"),
         (["--program", program, "-x"], 6, "-x: usage: 1 to 64 files"),
@@ -401,6 +452,7 @@ def main():
     count = try_examples(program)
     try_constructs(program)
     try_rows()
+    try_left_out(program)
     try_order(program)
     try_words(program)
     try_absent(program)

@@ -46,6 +46,18 @@ HEAD = """
 place. The [table](../crates/spark_examples/data/tables/left_out.txt) has two sources for each row, one that is refused
 and one that is accepted; GNAT accepts both. `tools/spark-show` names the construct that is likely meant at a refusal.
 
+**All at once.** `spark` stops at the first refusal. `spark-show --left-out FILE...` prints each construct of this page
+that it finds in the files, with its position, its code and what to write in its place:
+
+```
+queue.adb:22:23: P1 a default of a component
+      = in its place: give the value where the object is made: `X : R := (A => 0);`
+```
+
+It looks for words, without the rules of names and types, so it may miss some; it passes over what stands in contracts
+and pragmas, which goes with them. Tested: it finds each row of this page in its refused source, and nothing in any
+accepted program of the examples. What `spark check` says is the answer.
+
 **The whole program is given.** `spark` looks into the body of each subprogram that is called, so each package that a
 `with` clause names is given too, with its body (N1 and N5 otherwise), but for the few of Ada that it knows. A unit with
 something that can't be replaced isn't left out either: give a body in its place that keeps to the subset, and that
