@@ -18,8 +18,8 @@ use Rattle.typed_programs.specs.Parts.{HoldsProgram}
 use Rattle.type_rules.proofs.Checked.{passed, no_fault, within, typed}
 use Rattle.type_rules.proofs.check.type_check.Goals as goal
 
-pub told-requires-said : goal.told-requires-said
-told-requires-said c =
+pub told-requires-clause-said : goal.told-requires-clause-said
+told-requires-clause-said c =
     said_of c.in-Err.refusal c.in_ok-settled.settled.known (map (code_at c.lowered.new.rows) c.as_slice-units.result.now) _ c.in-Err.ensures c.in_ok-settled.ensures
 
 pub returns-in-Err-clause-judges : goal.returns-in-Err-clause-judges
