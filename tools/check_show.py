@@ -20,6 +20,7 @@ import argparse
 import importlib.machinery
 import importlib.util
 import json
+import os
 import pathlib
 import re
 import subprocess
@@ -70,19 +71,38 @@ WHERE = {
     "main.adb:23:39": [14],
 }
 
-# The required properties of the objects that a log has, by the schema of SARIF 2.1.0.
-REQUIRED = {
-    "log": ["version", "runs"],
-    "run": ["tool"],
-    "tool": ["driver"],
-    "driver": ["name"],
-    "rule": ["id"],
-    "shortDescription": ["text"],
-    "result": ["message"],
-    "message": ["text"],
-    "invocation": ["executionSuccessful"],
-    "notification": ["message"],
+# The objects of a log, as SARIF 2.1.0 has them: the properties that spark-show writes, those with a star required.
+# Any other property is a fault. A name in place of a type is that of an object, a set is what a word may be, and a
+# number the least that is allowed.
+SHAPES = {
+    "log": {"$schema": str, "version*": {"2.1.0"}, "runs*": ["run"]},
+    "run": {
+        "tool*": "tool",
+        "columnKind": {"utf16CodeUnits", "unicodeCodePoints"},
+        "invocations": ["invocation"],
+        "results": ["result"],
+    },
+    "tool": {"driver*": "driver"},
+    "driver": {"name*": str, "rules": ["rule"]},
+    "rule": {"id*": str, "shortDescription": "message", "fullDescription": "message", "help": "message"},
+    "message": {"text*": str},
+    "invocation": {"executionSuccessful*": bool, "exitCode": 0, "toolExecutionNotifications": ["notification"]},
+    "notification": {"message*": "message", "level": {"none", "note", "warning", "error"}},
+    "result": {
+        "ruleId": str,
+        "ruleIndex": 0,
+        "level": {"none", "note", "warning", "error"},
+        "message*": "message",
+        "locations": ["location"],
+        "relatedLocations": ["location"],
+    },
+    "location": {"physicalLocation": "place", "message": "message"},
+    "place": {"artifactLocation*": "artifact", "region": "region"},
+    "artifact": {"uri*": str},
+    "region": {"startLine*": 1, "startColumn": 1},
 }
+# A reference by RFC 3986: an absolute one of this scheme, or a relative one whose first segment has no colon.
+REFERENCE = r"(file:///|(?!/)(?![^/]*:))([A-Za-z0-9_.~!$&'()*+,;=:@/-]|%[0-9A-F]{2})+"
 
 
 def fault(text):
@@ -146,7 +166,7 @@ def try_example(program, example):
     with tempfile.TemporaryDirectory() as folder:
         log = pathlib.Path(folder, "log")
         made = run(path.parent, SHOW, "--program", program, "--sarif", log, *files)
-        faults = ["--sarif: " + it for it in faults_of_results(json.loads(log.read_text()), files, status, err)]
+        faults = ["--sarif: " + it for it in faults_of_results(read_log(log), files, status, err)]
     if (plain.returncode, plain.stdout, plain.stderr.decode("latin-1").splitlines()) != (
         status,
         "".join(line + "\n" for line in out).encode(),
@@ -375,32 +395,52 @@ def try_words(program):
 # ---- SARIF
 
 
-def lacking(kind, made):
-    """The required properties that an object of a log hasn't."""
-    return ["%s of %s" % (it, kind) for it in REQUIRED[kind] if it not in made]
+def faults_of_shape(shape, made, name):
+    """What of a log isn't of a shape: a type, a word of a set, a number from a least one on, an object or a list."""
+    if isinstance(shape, list):
+        if not isinstance(made, list):
+            return [name + " is no list"]
+        return [text for it in made for text in faults_of_shape(shape[0], it, name)]
+    if isinstance(shape, str):
+        known = {it.rstrip("*"): part for it, part in SHAPES[shape].items()}
+        found = ["%s has no %s" % (name, it[:-1]) for it in SHAPES[shape] if it.endswith("*") and it[:-1] not in made]
+        for key, part in made.items():
+            found += faults_of_shape(known[key], part, key) if key in known else ["%s has a property %s" % (name, key)]
+        return found
+    if isinstance(shape, set):
+        is_right = made in shape
+    elif isinstance(shape, int) and not isinstance(shape, bool):
+        is_right = type(made) is int and made >= shape
+    else:
+        is_right = type(made) is shape and made != ""
+    return [] if is_right else ["%s is %r" % (name, made)]
 
 
 def faults_of_log(log):
-    """What a log lacks by the schema, and positions that don't count from 1."""
-    found = lacking("log", log)
+    """What isn't in a log as SARIF 2.1.0 has it."""
+    found = faults_of_shape("log", log, "the log")
+    if found:
+        return found
     for made in log["runs"]:
-        found += lacking("run", made) + lacking("tool", made["tool"]) + lacking("driver", made["tool"]["driver"])
-        rules = made["tool"]["driver"]["rules"]
-        for rule in rules:
-            found += lacking("rule", rule) + lacking("shortDescription", rule["shortDescription"])
+        rules = [it["id"] for it in made["tool"]["driver"]["rules"]]
+        if len(set(rules)) != len(rules):
+            found.append("two rules have one id")
         for result in made["results"]:
-            found += lacking("result", result) + lacking("message", result["message"])
-            if rules[result["ruleIndex"]]["id"] != result["ruleId"]:
-                found.append("a rule with another index")
+            if rules[result["ruleIndex"]] != result["ruleId"]:
+                found.append("a rule has another index")
             for place in result["locations"] + result.get("relatedLocations", []):
-                region = place["physicalLocation"]["region"]
-                if not place["physicalLocation"]["artifactLocation"]["uri"] or region["startLine"] < 1 or region.get("startColumn", 1) < 1:
-                    found.append("a location without its place")
-        for invocation in made["invocations"]:
-            found += lacking("invocation", invocation)
-            for it in invocation.get("toolExecutionNotifications", []):
-                found += lacking("notification", it)
+                uri = place["physicalLocation"]["artifactLocation"]["uri"]
+                if not re.fullmatch(REFERENCE, uri):
+                    found.append("%s is no reference" % uri)
     return found
+
+
+def read_log(path):
+    """A log, which has to be UTF-8 without a mark before it, and text of Unicode throughout."""
+    data = path.read_bytes()
+    log = json.loads(data.decode("utf-8"))
+    json.dumps(log, ensure_ascii=False).encode("utf-8")
+    return log
 
 
 def faults_of_results(log, files, status, err):
@@ -425,16 +465,28 @@ def faults_of_results(log, files, status, err):
         yield "another version or status"
 
 
-def try_absent(program):
-    """The log of a run that couldn't read a file."""
-    with tempfile.TemporaryDirectory() as folder:
-        log = pathlib.Path(folder, "log")
-        run(folder, SHOW, "--program", program, "--sarif", log, "absent.adb")
-        made = json.loads(log.read_text())
-    for text in faults_of_log(made):
-        fault("--sarif absent.adb: " + text)
-    if made["runs"][0]["invocations"][0]["executionSuccessful"]:
-        fault("--sarif absent.adb: it is called a success")
+def try_names(program):
+    """The logs of runs with names of files that aren't plain, and of one that couldn't read a file."""
+    with tempfile.TemporaryDirectory() as name:
+        folder = pathlib.Path(name)
+        log = folder / "log"
+        source = pathlib.Path(EXAMPLE).read_bytes()
+        not_read = ["absent.adb", os.fsdecode(b"\xff.adb")]
+        names = ["a:b.adb", "a b#?%.adb", "\u00e9.adb", "./sub/.//c.adb", str(folder / "d.adb"), *not_read]
+        (folder / "sub").mkdir()
+        for file in names:
+            if file != "absent.adb":
+                pathlib.Path(folder, file).write_bytes(source)
+            status = run(folder, SHOW, "--program", program, "--sarif", log, file).returncode
+            made = read_log(log)
+            for text in faults_of_log(made):
+                fault("--sarif %s: %s" % (ascii(file), text))
+            is_read = made["runs"][0]["invocations"][0]["executionSuccessful"]
+            if is_read != (status == 1) or is_read != (file not in not_read):
+                fault("--sarif %s: status %d" % (ascii(file), status))
+        for file, uri in (("./sub/.//c.adb", "sub/c.adb"), ("a:b.adb", "a%3Ab.adb"), ("/a/b.adb", "file:///a/b.adb")):
+            if SPARK_SHOW.uri(file) != uri:
+                fault("--sarif: the uri of %s is %s" % (file, SPARK_SHOW.uri(file)))
 
 
 def executable(program):
@@ -455,7 +507,7 @@ def main():
     try_left_out(program)
     try_order(program)
     try_words(program)
-    try_absent(program)
+    try_names(program)
     constructs = len(left_out_page.constructs())
     print("\n".join(FAULTS + ["%d programs and %d constructs, %d faults" % (count, constructs, len(FAULTS))]))
     return 1 if FAULTS else 0
