@@ -19,6 +19,7 @@ import argparse
 import pathlib
 import re
 import sys
+import textwrap
 from typing import NamedTuple, Optional
 
 import ada_trees
@@ -209,6 +210,11 @@ class ResolvedTerms(Terms):
         return "program %d (%s)" % (count, super().listed(units))
 
 
+def comment(text):
+    """A text as lines of a comment, as `rt fmt` wraps them."""
+    return textwrap.wrap(text, 100, initial_indent="-- ", subsequent_indent="-- ", break_long_words=False, break_on_hyphens=False)
+
+
 def wrapped(text, indent="    "):
     """The lines of a text, broken at blanks outside of quotes."""
     lines, line = [], ""
@@ -308,7 +314,7 @@ class Lemmas:
     def text(self, module):
         lines = []
         for part in module.parts:
-            lines += [""] + (self.lemma(part) if isinstance(part, Case) else ["-- " + part])
+            lines += [""] + (self.lemma(part) if isinstance(part, Case) else comment(part))
         body = re.sub(r"(\n-- .*\n)\n", r"\1", "\n".join(lines) + "\n")
         made = "this of the sources that data/cases.txt has under its name."
         head = ["-- " + module.title, "--", "-- tools/tree_terms.py makes " + made]
