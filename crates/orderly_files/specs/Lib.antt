@@ -1,0 +1,4 @@
+pub mod Regions
+pub mod Numbered
+pub mod Ended
+pub mod Apart
