@@ -30,7 +30,7 @@ use Rattle.part_offsets.specs.Parts.{type_in, offset_in, has_part, owns_one, is_
 use Rattle.soundness.specs.Seen.{in_hand, owner_word, content, trunk, steps_in, word_in, seen, home}
 use Rattle.soundness.specs.Changes.{Alike as AlikeTypes}
 use Rattle.soundness.specs.Typed.{Matches, OwnsByShape, Kept, Spot}
-use Rattle.soundness.specs.Needed.{Stays, Gives, GivesParts, GivesFirst, IndexLaw}
+use Rattle.typed_laws.specs.Needed.{Stays, Gives, GivesParts, GivesFirst, IndexLaw}
 use Rattle.soundness.proofs.Joined.{trunk_trunk, not_inside}
 use Rattle.soundness.proofs.Contents.{bool_cases, word_yes, word_no}
 use Rattle.soundness.proofs.Steps.{hand_past, no_leaf, plain_shape, matches_words, room, taken_slots, alike}

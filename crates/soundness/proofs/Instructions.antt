@@ -44,7 +44,7 @@ use Rattle.part_offsets.proofs.Ranges.{leaf_end, leaf_part}
 use Rattle.soundness.specs.Seen.{Content, content, word_in, owner_at, owner_word, trunk, steps_in, seen, home}
 use Rattle.soundness.specs.Changes.{Alike as AlikeTypes, Checks, leaks_at}
 use Rattle.soundness.specs.Typed.{Matches, OwnsByShape, Kept, Spot}
-use Rattle.soundness.specs.Needed.{Stays, Writes, Leads, Source, FirstSource}
+use Rattle.typed_laws.specs.Needed.{Stays, Writes, Leads, Source, FirstSource}
 use Rattle.soundness.specs.Sound.{view_of, IsTrap}
 use Rattle.soundness.proofs.Contents.{bool_cases, word_yes, word_no, word_part, word_root, checks_made, all_checks}
 use Rattle.soundness.proofs.Joined.{trunk_trunk, below_cell}

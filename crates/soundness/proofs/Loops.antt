@@ -25,7 +25,7 @@ use Rattle.owned_ways.proofs.Assigned.{same_sound}
 use Rattle.part_offsets.specs.Parts.{offset_in, IsSettled}
 use Rattle.soundness.specs.Seen.{content, trunk, steps_in, word_in, seen, home}
 use Rattle.soundness.specs.Typed.{OwnsByShape, Kept, Spot}
-use Rattle.soundness.specs.Needed.{Stays}
+use Rattle.typed_laws.specs.Needed.{Stays}
 use Rattle.soundness.proofs.Joined.{trunk_trunk, not_inside}
 use Rattle.soundness.proofs.Contents.{bool_cases, word_no}
 use Rattle.soundness.proofs.Memories.{put_other, removed_other}

@@ -2,7 +2,7 @@
 use Rattle.std.proofs.Common.{◌≡◌, refl, ap, ◌+◌, ◌<◌, Bool, true, false, ◌&&◌, ℤ, ◌-ℤ◌, int_le, unsigned_abs, arith, if◌then◌else◌}
 use Rattle.std.proofs.lemmas.Int.{ints}
 use Rattle.type_definitions.specs.Types.{span}
-use Rattle.soundness.specs.Needed.{IndexLaw}
+use Rattle.typed_laws.specs.Needed.{IndexLaw}
 
 both_true : (a b : Bool) → a && b ≡ true → (a ≡ true) × (b ≡ true)
 both_true true b e = (refl, e)

@@ -27,7 +27,7 @@ use Rattle.owned_ways.proofs.Assigned.{same_sound}
 use Rattle.part_offsets.specs.Parts.{IsSettled}
 use Rattle.soundness.specs.Seen.{in_hand, word_in, seen, home}
 use Rattle.soundness.specs.Typed.{OwnsByShape, Kept}
-use Rattle.soundness.specs.Needed.{Stays, Source}
+use Rattle.typed_laws.specs.Needed.{Stays, Source}
 use Rattle.soundness.proofs.Contents.{word_no}
 use Rattle.soundness.proofs.Steps.{no_leaf}
 use Rattle.soundness.proofs.Scalars.{acts}

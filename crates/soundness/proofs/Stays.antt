@@ -28,7 +28,7 @@ use Rattle.owned_ways.specs.Ways as ways
 use Rattle.part_offsets.specs.Parts.{IsSettled}
 use Rattle.soundness.specs.Seen.{content, trunk, seen, home}
 use Rattle.soundness.specs.Typed.{OwnsByShape, Kept, Spot}
-use Rattle.soundness.specs.Needed.{Stays, Leads, IndexLaw}
+use Rattle.typed_laws.specs.Needed.{Stays, Leads, IndexLaw}
 use Rattle.soundness.proofs.Walks.{way_along, Lead, Walked, walk}
 use Rattle.std.proofs.lemmas.List.{length-map}
 use Rattle.soundness.proofs.Steps.{plain_shape, room, taken_slots}

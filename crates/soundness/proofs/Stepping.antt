@@ -35,7 +35,7 @@ use Rattle.owned_ways.specs.Ways as ways
 use Rattle.owned_ways.proofs.Locations.{reaches_along, named_along as rooted_along}
 use Rattle.soundness.specs.Seen.{content, word_in, home}
 use Rattle.soundness.specs.Typed.{Kept}
-use Rattle.soundness.specs.Needed.{IsFine, Source, FirstSource, FirstWrites, FirstStays}
+use Rattle.typed_laws.specs.Needed.{IsFine, Source, FirstSource, FirstWrites, FirstStays}
 use Rattle.soundness.specs.Sound.{calls_nothing, Stage, facts_of, Elsewhere, AreStages, AreFirst, InScope, IsNamedSub, IsAtPoint, view_of, IsSound, LeadsOn, StepsLeadOn}
 use Rattle.soundness.specs.Ready.{stored_at, IsReady}
 use Rattle.soundness.proofs.Contents.{bool_cases, word_root}

@@ -26,7 +26,7 @@ use Rattle.part_offsets.specs.Parts.{IsSettled}
 use Rattle.soundness.specs.Seen.{seen, home}
 use Rattle.soundness.specs.Changes.{leaks_at}
 use Rattle.soundness.specs.Typed.{OwnsByShape, Kept}
-use Rattle.soundness.specs.Needed.{Leads, Gives, IndexLaw}
+use Rattle.typed_laws.specs.Needed.{Leads, Gives, IndexLaw}
 use Rattle.soundness.proofs.Moments.{stored_sound}
 use Rattle.soundness.proofs.Walks.{way_along, Walked}
 use Rattle.soundness.proofs.Scalars.{after_append, allows_both, acts, acts_append, number_along, named_along}

@@ -25,7 +25,7 @@ use Rattle.owned_ways.specs.Ways as ways
 use Rattle.part_offsets.specs.Parts.{IsSettled}
 use Rattle.soundness.specs.Seen.{content, word_in, seen, home}
 use Rattle.soundness.specs.Typed.{Kept}
-use Rattle.soundness.specs.Needed.{AreFine}
+use Rattle.typed_laws.specs.Needed.{AreFine}
 
 -- ---- the program
 

@@ -1,19 +1,16 @@
 -- What a memory keeps, and where a place of the machine stands.
-use Rattle.std.specs.Prelude.{◌≡◌, ◌⊎◌, ℕ, ◌≤◌, Bool, true, List, length, get_or}
+use Rattle.std.specs.Prelude.{◌≡◌, ℕ, ◌≤◌, Bool, true, List, length, get_or}
 use Rattle.type_definitions.specs.declared.table.Shape.TheVariants as shape
-use Rattle.type_definitions.specs.Types.{Table, shape_of, words, full, is_scalar, is_owning, owns_of}
+use Rattle.type_definitions.specs.Types.{Table, shape_of, words, is_owning, owns_of}
 use Rattle.flow_paths.specs.Objects.{Typing, object_at}
 use Rattle.machine.specs.Words as machine
 use Rattle.machine.specs.Memory.{Memory, Base, OfVariable, OfCell, Place, variable_slots, cell, no_slot}
 use Rattle.machine.specs.States.{Waiting}
+pub use Rattle.typed_laws.specs.Needed.{Matches}
 use Rattle.owned_ways.specs.Ways.{Step, Loc, OfRoot}
 use Rattle.owned_ways.specs.Ways as ways
 use Rattle.part_offsets.specs.Parts.{type_in, offset_in, has_part}
 use Rattle.soundness.specs.Seen.{Content, content, trunk, steps_in}
-
--- Two types with one definition, or two scalar types.
-abbrev pub Matches : Table → ℕ → ℕ → Type 0
-Matches table t u = (shape_of table t ≡ shape_of table u) ⊎ ((is_scalar (full table t) ≡ true) × (is_scalar (full table u) ≡ true))
 
 abbrev pub IsCell : Typing → Memory → ℕ → ℕ → Type 0
 IsCell s m d n = (1 ≤ n) × (n ≤ length m.cells) × Matches s.table d (cell m n).of

@@ -3,8 +3,8 @@
 //!
 //! A memory is seen by location, and what is in hand with it (`specs/Seen.antt`); what a step
 //! changes is told by contents (`specs/Changes.antt`). `specs/Typed.antt` says when words have the
-//! types of what they stand in, `specs/Needed.antt` what is asked of the expressions of a program,
-//! and `specs/Sound.antt` what is to hold at each moment.
+//! types of what they stand in, and `specs/Sound.antt` what is to hold at each moment. What is asked
+//! of the expressions and instructions of a program stands in `typed_laws/specs/Needed.antt`.
 //!
 //! The functions of the machine's memory do what the steps of `owned_ways` do (`proofs/Steps.antt`,
 //! `Ends`, `Fresh`, `Frees`), and keep states sound (`Moments`) and words typed (`Lasting`). Names

@@ -1,5 +1,5 @@
 -- An expression that has a type gives what soundness asks for.
-use Rattle.std.proofs.Common.{◌≡◌, refl, sym, ap, ◌∙◌, subst, ◌⊎◌, inl, inr, ℕ, suc, Bool, true, false, if◌then◌else◌}
+use Rattle.std.proofs.Common.{◌≡◌, refl, sym, ap, ◌∙◌, subst, ◌⊎◌, inl, inr, ℕ, suc, Bool, true, false, ◌||◌, if◌then◌else◌}
 use Rattle.type_definitions.specs.declared.table.Shape.{Shape}
 use Rattle.type_definitions.specs.declared.table.Shape.TheVariants as shape
 use Rattle.type_definitions.specs.Types.{Table, shape_of, full, view_of, is_scalar, is_owning, words, words_of}
@@ -11,7 +11,7 @@ use Rattle.resolved_tree.specs.declared.operator.UnaryOperator.TheVariants as un
 use Rattle.typed_tree.specs.Trees.{TypedTree, Number, Literal, Text, Name, Component as IntoComponent, Designated, Element, Call, EndOfFile, Parens, Image, Unary, Binary, Short, IsNull, Aggregate, Alike, New, NoMore, More}
 use Rattle.typed_tree.specs.Trees as typed
 use Rattle.flow_paths.specs.Objects.{Typing, object_at}
-use Rattle.machine.specs.Typed.{same_kind}
+use Rattle.machine.specs.Typed.{same_kind, is_record, is_array}
 use Rattle.machine.specs.Words.{element_of, element_type}
 use Rattle.machine.specs.Evaluate.{part_type}
 use Rattle.typed_laws.specs.Fine.{Agree, counts, lists, operator_type, Has, HasParts, HasFirst}
@@ -34,6 +34,11 @@ matches table t u (inr e) = inr (kind_scalar (shape_of table t) (shape_of table 
 agree_scalar : (table : Table) (t u : ℕ) → Agree table t u → is_scalar (full table t) ≡ is_scalar (full table u)
 agree_scalar table t u (inl e) = ap (λ z. is_scalar (view_of z)) (one_shape table t u e)
 agree_scalar table t u (inr e) = let both = kind_scalar (shape_of table t) (shape_of table u) e in both.0 ∙ sym both.1
+
+composite_scalar : (z : Shape) → is_record z || is_array z ≡ true → is_scalar (view_of z) ≡ true → ⊥
+composite_scalar (shape.Whole a b) e f = cc
+composite_scalar (shape.Listed k a b) e f = cc
+composite_scalar z e f = cc
 
 no_access : (z : Shape) (d : ℕ) (k n : Bool) → z ≡ shape.Access d k n → is_scalar (view_of z) ≡ true → ⊥
 no_access z d k n e h = let g = ap (λ x. is_scalar (view_of x)) e in cc
@@ -62,7 +67,7 @@ module _ (y : Typing) (whole : counts (shape_of y.table integer) ≡ true) (list
     stays (IsNull equal (Name p x steps of)) t has scalar = leads steps (object_at y x).of of has.1.0
     stays (IsNull equal (Call p sub actuals)) t has scalar = tt
     stays (IsNull equal e) t has scalar = absurd has.1
-    stays (Aggregate of es) t has scalar = (let g = agree_scalar y.table of t has.0 in let h = has.3 in cc)
+    stays (Aggregate of es) t has scalar = absurd (composite_scalar (shape_of y.table of) has.3 (agree_scalar y.table of t has.0 ∙ scalar))
     stays (Alike of e) t has scalar = (let g = agree_scalar y.table of t has.0 in let h = ap (λ z. is_scalar (view_of z)) has.4 in cc)
     stays (New of v) t has scalar = absurd (no_access (shape_of y.table t) has.0 has.1 has.2 has.3 scalar)
     stays (Number v) t has scalar = tt
@@ -99,10 +104,11 @@ module _ (y : Typing) (whole : counts (shape_of y.table integer) ≡ true) (list
     gives (Name p x steps of) t has = (leads steps (object_at y x).of of has.0, matches y.table of t has.1)
     gives typed.Null t has = word_law t ∙ ap (words_of (words y.table)) has.3
     gives (Call p sub actuals) t has = (has.0, has.1, matches y.table has.0 t has.2)
-    gives (Aggregate of es) t has = (matches y.table of t has.0, has.1, gives_parts es of 0 has.2)
+    gives (Aggregate of es) t has = (matches y.table of t has.0, has.3, has.1, gives_parts es of 0 has.2)
     gives (Alike of e) t has =
         let element : element_type y.table of ≡ has.3 = ap element_of has.4 in (
           matches y.table of t has.0,
+          ap is_array has.4,
           subst (λ z. (is_owning y.table z ≡ false) ⊎ (e ≡ typed.Null)) (sym element) has.5,
           subst (λ z. Gives y z e) (sym element) (gives e has.3 has.6),
         )
@@ -110,7 +116,7 @@ module _ (y : Typing) (whole : counts (shape_of y.table integer) ≡ true) (list
     gives (Number v) t has = shape_view (shape_of y.table t) (either_left _ _ has.0)
     gives (Literal n) t has = shape_view (shape_of y.table t) (either_right _ _ has)
     gives EndOfFile t has = shape_view (shape_of y.table t) (either_right _ _ has)
-    gives (Parens e) t has = (has.0, gives e t has.1)
+    gives (Parens e) t has = gives e t has.1
     gives (Unary op e) t has = (sym (agree_scalar y.table (unary_type op) t has.0) ∙ unary_scalar op, stays e (unary_type op) has.1 (unary_scalar op))
     gives (Binary op a b) t has = (sym (agree_scalar y.table (operator_type op) t has.1) ∙ operator_scalar op, stays a has.2 has.5 has.4, stays b has.2 has.6 has.4)
     gives (Short op p a q b) t has = (sym (agree_scalar y.table boolean t has.0) ∙ truth_scalar, stays a boolean has.1 truth_scalar, stays b boolean has.2 truth_scalar)
@@ -126,7 +132,8 @@ module _ (y : Typing) (whole : counts (shape_of y.table integer) ≡ true) (list
 
     gives_parts : (es : TypedTree) (t i : ℕ) → HasParts y t i es → GivesParts y t i es
     gives_parts (More e rest) t i has = (gives e (part_type (shape_of y.table t) i) has.0, gives_parts rest t (suc i) has.1)
-    gives_parts e t i has = tt
+    gives_parts NoMore t i has = tt
+    gives_parts e t i has = absurd has
 
     gives_first : (v : TypedTree) (t : ℕ) → HasFirst y t v → GivesFirst y t v
     gives_first (More e rest) t has = (has.0, gives e t has.1)

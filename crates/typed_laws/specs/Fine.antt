@@ -23,7 +23,7 @@ use Rattle.flow_paths.specs.Objects.{Typing, object_at, sub_at}
 use Rattle.run_values.specs.Arithmetic.{is_integer}
 use Rattle.machine.specs.Words.{component_type}
 use Rattle.machine.specs.Evaluate.{part_type}
-use Rattle.machine.specs.Typed.{tree_count, field_count, same_kind}
+use Rattle.machine.specs.Typed.{tree_count, field_count, is_record, is_array, same_kind}
 
 -- ---- types
 
@@ -34,6 +34,11 @@ counts _ = false
 abbrev pub lists : Shape → Bool
 lists (shape.Listed literals low high) = true
 lists _ = false
+
+-- By the name of another type.
+abbrev pub renames : Shape → Bool
+renames (shape.Same of) = true
+renames _ = false
 
 -- One type, or two scalar types of one sort.
 abbrev pub Agree : Table → ℕ → ℕ → Type 0
@@ -74,7 +79,7 @@ unfoldable mutual
   Has s want (typed.Short op p a q b) = Agree s.table boolean want × Has s boolean a × Has s boolean b
   Has s want (typed.IsNull equal e) = Agree s.table boolean want × Pointed s e
   Has s want (typed.Aggregate t es) =
-      Agree s.table t want × (tree_count es ≡ field_count (shape_of s.table t)) × HasParts s t 0 es × (is_scalar (full s.table t) ≡ false)
+      Agree s.table t want × (tree_count es ≡ field_count (shape_of s.table t)) × HasParts s t 0 es × (is_record (shape_of s.table t) || is_array (shape_of s.table t) ≡ true)
   -- of what stands for each element nothing owns but null
   Has s want (typed.Alike t e) =
       Agree s.table t want × (low : ℤ) × (high : ℤ) × (of : ℕ) × (shape_of s.table t ≡ shape.Elements low high of)
@@ -91,7 +96,8 @@ unfoldable mutual
 
   pub HasParts : Typing → ℕ → ℕ → TypedTree → Type 0
   HasParts s t i (typed.More e rest) = Has s (part_type (shape_of s.table t) i) e × HasParts s t (suc i) rest
-  HasParts s t i e = Unit {0}
+  HasParts s t i typed.NoMore = Unit {0}
+  HasParts s t i e = ⊥
 
   pub HasFirst : Typing → ℕ → TypedTree → Type 0
   HasFirst s t (typed.More e rest) = (rest ≡ typed.NoMore) × Has s t e
@@ -120,6 +126,8 @@ pub record Laws (known : Known) (made : ℕ → Type 0) : Type 0 where
   pub listed : lists (shape_of known.table boolean) ≡ true
   pub integers : made integer
   pub booleans : made boolean
+  -- a type that is meant has a definition of its own
+  pub defined : (t : ℕ) → made t → renames (shape_of known.table t) ≡ false
   -- a type whose definition is a range of Integer is based on it, and no other is
   pub numeric : (t : ℕ) → made t → counts (shape_of known.table t) ≡ true → base known.table t ≡ integer
   pub component : (t i : ℕ) → made t → made (component_type known.table t i)
