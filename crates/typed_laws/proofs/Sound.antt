@@ -27,7 +27,7 @@ kind_scalar (shape.Whole u v) b e = cc
 kind_scalar (shape.Listed k u v) b e = cc
 kind_scalar a b e = cc
 
-matches : (table : Table) (t u : ℕ) → Agree table t u → Matches table t u
+pub matches : (table : Table) (t u : ℕ) → Agree table t u → Matches table t u
 matches table t u (inl e) = inl (one_shape table t u e)
 matches table t u (inr e) = inr (kind_scalar (shape_of table t) (shape_of table u) e)
 

@@ -13,7 +13,7 @@ use Rattle.type_definitions.specs.declared.table.ObjectInfo.{ObjectInfo}
 use Rattle.type_definitions.specs.declared.table.Shape.{Shape}
 use Rattle.type_definitions.specs.declared.table.Shape.TheVariants as shape
 use Rattle.type_definitions.specs.declared.table.Known.{Known}
-use Rattle.type_definitions.specs.Types.{Table, shape_of, fields, base, full, is_owning, is_scalar, is_untyped, is_bounded, owns_of}
+use Rattle.type_definitions.specs.Types.{Table, shape_of, fields, base, full, is_owning, is_scalar, is_untyped, is_bounded, owns_of, words, words_of}
 use Rattle.type_definitions.specs.Entries.{entry_of, integer, boolean, same_word}
 use Rattle.type_definitions.specs.Expressions.{is_arithmetic, is_logical, operand_type, unary_type, profile_of}
 use Rattle.typed_tree.specs.Trees.{TypedTree}
@@ -34,11 +34,6 @@ counts _ = false
 abbrev pub lists : Shape → Bool
 lists (shape.Listed literals low high) = true
 lists _ = false
-
--- By the name of another type.
-abbrev pub renames : Shape → Bool
-renames (shape.Same of) = true
-renames _ = false
 
 -- One type, or two scalar types of one sort.
 abbrev pub Agree : Table → ℕ → ℕ → Type 0
@@ -120,14 +115,15 @@ unfoldable mutual
 pub record Laws (known : Known) (made : ℕ → Type 0) : Type 0 where
   pub same : (t u : ℕ) → made t → made u → base known.table t ≡ base known.table u → Agree known.table t u
   pub owns : (t : ℕ) → is_owning known.table t ≡ owns_of (is_owning known.table) (shape_of known.table t)
+  pub word_law : (t : ℕ) → words known.table t ≡ words_of (words known.table) (shape_of known.table t)
   pub based : (t : ℕ) → made t → made (base known.table t)
   pub base_of : (t : ℕ) → made t → base known.table (base known.table t) ≡ base known.table t
   pub whole : counts (shape_of known.table integer) ≡ true
   pub listed : lists (shape_of known.table boolean) ≡ true
   pub integers : made integer
   pub booleans : made boolean
-  -- a type that is meant has a definition of its own
-  pub defined : (t : ℕ) → made t → renames (shape_of known.table t) ≡ false
+  -- a definition is none by the name of another type
+  pub plain : (t of : ℕ) → shape_of known.table t ≡ shape.Same of → ⊥
   -- a type whose definition is a range of Integer is based on it, and no other is
   pub numeric : (t : ℕ) → made t → counts (shape_of known.table t) ≡ true → base known.table t ≡ integer
   pub component : (t i : ℕ) → made t → made (component_type known.table t i)
@@ -136,6 +132,8 @@ pub record Laws (known : Known) (made : ℕ → Type 0) : Type 0 where
   pub object : (d : ℕ) (o : ObjectInfo) → entry_of known d ≡ entry.Object o → made o.of
   pub literal : (d t n : ℕ) → entry_of known d ≡ entry.Literal t n → made t × (lists (shape_of known.table t) ≡ true)
   pub typed : (d : ℕ) → entry_of known d ≡ entry.Type → made d
+  -- an instance of Unchecked_Deallocation is of a named access type
+  pub freed : (d t : ℕ) → entry_of known d ≡ entry.Instance t → made t × (to : ℕ) × (shape_of known.table t ≡ shape.Access to false true)
   -- which type is meant is known, and so are the bounds of an array
   pub certain : (t : ℕ) → made t → is_untyped known.table t ≡ false
   pub bounded : (t : ℕ) → made t → is_bounded known.table t ≡ true
