@@ -1,4 +1,4 @@
 -- when an expression has a type, and what that asks for
 pub mod Fine
--- what soundness asks of expressions
+-- what soundness asks of expressions and instructions
 pub mod Needed

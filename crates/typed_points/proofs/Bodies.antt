@@ -1,22 +1,18 @@
 -- Code that breaks no sentence: its instructions are as soundness needs them.
-use Rattle.std.proofs.Common.{◌≡◌, refl, sym, ap, ◌∙◌, subst, ℕ, ◌+◌, Bool, true, false, ◌&&◌, List, [], ◌∷◌, ◌++◌, map, Option, Some, None}
+use Rattle.std.proofs.Common.{◌≡◌, sym, subst, ℕ, ◌+◌, Bool, true, ◌&&◌, List, [], ◌∷◌, ◌++◌, Option}
 use Rattle.std.specs.List.{AllByRecursion}
-use Rattle.resolved_tree.specs.Trees.{Tree, NoMore, More, Code, Objects, Numbers, Skip, Assign, Call, Exit, Return, If, Branch, Case, When, Loop, While, For, Block, SubBody, Package, PackageBody, code_items}
-use Rattle.resolved_tree.specs.Trees as resolved
+use Rattle.resolved_tree.specs.Trees.{NoMore, More, Code, Objects, Numbers, Skip, Assign, Call, Exit, Return, If, Branch, Case, When, Loop, While, For, Block, code_items}
 use Rattle.type_definitions.specs.Types.{full, is_scalar}
-use Rattle.type_definitions.specs.Entries.{integer, boolean}
+use Rattle.type_definitions.specs.Entries.{boolean}
 use Rattle.type_definitions.specs.Faults.{demand}
-use Rattle.type_definitions.specs.Names.{Context}
 use Rattle.type_definitions.specs.Expressions.{faults, own_type}
 use Rattle.type_definitions.specs.declared.judgement.Where.TheVariants as stands
-use Rattle.type_definitions.specs.Statements.{target_faults, assign_faults, range_faults, type_or_integer, is_one_choice, coverage}
-use Rattle.type_definitions.specs.Declarations.{code_faults, alternatives_faults, alternative_faults, choices_faults, selector_faults, choices_of, is_last, object_faults, bound_faults, starting, first_number}
-use Rattle.type_definitions.specs.Gathered.{indicated}
-use Rattle.typed_tree.specs.Trees.{TypedTree, TypedCode, typed_code_list}
-use Rattle.typed_tree.specs.Trees as typed
+use Rattle.type_definitions.specs.Statements.{target_faults, range_faults, type_or_integer, is_one_choice, coverage}
+use Rattle.type_definitions.specs.Declarations.{code_faults, alternatives_faults, alternative_faults, choices_faults, selector_faults, choices_of, is_last}
+use Rattle.typed_tree.specs.Trees.{TypedCode, typed_code_list}
 use Rattle.typed_tree.specs.declared.object.Object.{Object}
-use Rattle.typed_tree.specs.Expressions.{Site, typed_expression}
-use Rattle.typed_tree.specs.Statements.{scope_count, statements, plain_statements, typed_body}
+use Rattle.typed_tree.specs.Expressions.{Site}
+use Rattle.typed_tree.specs.Statements.{scope_count, statements, typed_body}
 use Rattle.flow_paths.specs.Objects.{Typing, Signature}
 use Rattle.typed_laws.specs.Fine.{Laws}
 use Rattle.typed_laws.proofs.Agreeing.{nil_left, nil_right}

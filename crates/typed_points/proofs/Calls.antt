@@ -1,5 +1,5 @@
 -- Statements that call: an instance of Unchecked_Deallocation, input and output.
-use Rattle.std.proofs.Common.{◌≡◌, refl, sym, ap, ◌∙◌, subst, ◌⊎◌, inl, inr, ℕ, Bool, true, false, not, ◌&&◌, ◌||◌, List, [], ◌∷◌, ◌++◌, nat_eq, Option, Some, None, if◌then◌else◌}
+use Rattle.std.proofs.Common.{◌≡◌, refl, sym, subst, ℕ, Bool, true, false, List, [], ◌∷◌, ◌++◌, nat_eq, Option, Some, None}
 use Rattle.std.proofs.lemmas.Bool.{eqb-true}
 use Rattle.spark_base.specs.declared.position.Pos.{Pos}
 use Rattle.resolved_tree.specs.Trees.{Tree, Named, Applied, Argument, NoMore, More, position}
@@ -7,7 +7,6 @@ use Rattle.type_definitions.specs.declared.table.Entry.{Entry}
 use Rattle.type_definitions.specs.declared.table.Entry.TheVariants as entry
 use Rattle.type_definitions.specs.declared.table.Predefined.{Predefined}
 use Rattle.type_definitions.specs.declared.table.Predefined.TheVariants as predefined
-use Rattle.type_definitions.specs.declared.table.Shape.TheVariants as shape
 use Rattle.type_definitions.specs.declared.judgement.Fault.{Fault}
 use Rattle.type_definitions.specs.declared.judgement.Own.TheVariants as own
 use Rattle.type_definitions.specs.declared.judgement.Reading.{Reading}
@@ -17,10 +16,10 @@ use Rattle.type_definitions.specs.Types.{Table, base, shape_of, is_untyped}
 use Rattle.type_definitions.specs.Entries.{entry_of, integer}
 use Rattle.type_definitions.specs.Faults.{demand}
 use Rattle.type_definitions.specs.Names.{Context, reading_of}
-use Rattle.type_definitions.specs.Expressions.{Given, own_of, own_type, inside, around, around_string, around_variable, is_of, is_variable, associates, given_names, reading_faults, call_arguments}
-use Rattle.type_definitions.specs.Statements.{name_x, actuals_of, variable_argument, text_argument, is_one, is_no, called, call_faults}
+use Rattle.type_definitions.specs.Expressions.{own_of, inside, around, around_string, around_variable, is_of, is_variable, associates, given_names, reading_faults, call_arguments}
+use Rattle.type_definitions.specs.Statements.{name_x, actuals_of, variable_argument, text_argument, is_one, called, call_faults}
 use Rattle.type_definitions.specs.Statements as rules
-use Rattle.typed_tree.specs.Trees.{TypedTree, TypedCode}
+use Rattle.typed_tree.specs.Trees.{TypedCode}
 use Rattle.typed_tree.specs.declared.object.Object.{Object}
 use Rattle.typed_tree.specs.Expressions.{Site, typed_expression, typed_first}
 use Rattle.typed_tree.specs.Statements.{typed_text, typed_call, call_of, predefined_call}

@@ -1,14 +1,14 @@
 -- The points of a program whose code is as soundness needs it are so.
-use Rattle.std.proofs.Common.{◌≡◌, refl, sym, ap, ◌∙◌, subst, ◌⊎◌, inl, inr, ℕ, ◌+◌, Bool, true, false, List, [], ◌∷◌, ◌++◌, map, length, Option, Some, None}
+use Rattle.std.proofs.Common.{◌≡◌, refl, sym, ap, ◌∙◌, subst, inl, inr, ℕ, ◌+◌, true, List, [], ◌∷◌, map, length}
 use Rattle.std.specs.List.{AllByRecursion}
 use Rattle.spark_base.specs.Lists.{Has}
 use Rattle.spark_base.proofs.Lists.{Has-map_from}
 use Rattle.type_definitions.specs.Types.{Table}
 use Rattle.typed_tree.specs.Programs.{TypedSub, TypedProgram}
 use Rattle.flow_paths.specs.Objects.{Typing, Signature}
-use Rattle.flow_paths.specs.Points.{NamedPoint, FlowPoint, flow_point}
+use Rattle.flow_paths.specs.Points.{FlowPoint, flow_point}
 use Rattle.flow_paths.specs.Prep.{Setting}
-use Rattle.flow_paths.specs.Laid.{Temporary, NamedSub, FlowSub, FlowProgram, signature, typing_of, flow_typing, named_sub, named_subs, sub_temporaries, numbers_from, unnumbered, elaborated, all_named, frame_of, kept_roots, sub_facts, number_in, flow_sub, flow_named, flow_program}
+use Rattle.flow_paths.specs.Laid.{Temporary, NamedSub, FlowSub, signature, typing_of, flow_typing, named_subs, sub_temporaries, numbers_from, unnumbered, all_named, frame_of, kept_roots, sub_facts, number_in, flow_sub, flow_named, flow_program}
 use Rattle.typed_laws.specs.Needed.{IsFine, AreFine}
 use Rattle.typed_points.specs.Code.{IsFineCode, IsFinePoint, is_whole, AreUndivided}
 use Rattle.typed_points.proofs.Points.{sub_fine, elaboration_fine}

@@ -1,5 +1,5 @@
 -- The law: the points of a program without a fault of typing are as soundness needs them.
-use Rattle.std.proofs.Common.{◌≡◌, refl, sym, ap, ◌∙◌, subst, ◌⊎◌, inl, inr, ℕ, ◌+◌, Bool, true, false, List, [], ◌∷◌, ◌++◌, Option, Some, None, if◌then◌else◌}
+use Rattle.std.proofs.Common.{◌≡◌, refl, subst, inl, inr, ℕ, ◌+◌, true, false, List, [], ◌∷◌, ◌++◌, Option, Some, None, if◌then◌else◌}
 use Rattle.std.specs.Prelude.{flat_map}
 use Rattle.std.specs.List.{AllByRecursion}
 use Rattle.spark_base.specs.Lists.{Has}
@@ -10,14 +10,13 @@ use Rattle.type_definitions.specs.Faults.{first, precedes}
 use Rattle.type_definitions.specs.Gathered.{declared_number, in_subprogram, in_visible, in_hidden}
 use Rattle.type_definitions.specs.Declarations.{code_faults, body_faults, in_body}
 use Rattle.type_definitions.specs.Whole.{TypeFault, outside, unit_faults, main_faults, sentence_faults, type_sizes, decided, fault_known, told, known_of, known_with, type_fault}
-use Rattle.typed_tree.specs.Trees.{TypedCode}
 use Rattle.typed_tree.specs.declared.object.Object.{Object}
 use Rattle.typed_tree.specs.Expressions.{Site}
 use Rattle.typed_tree.specs.Statements.{scope_count, statements}
 use Rattle.typed_tree.specs.Programs.{TypedSub, placed, over_units, subs_in, site_of, typed_program}
 use Rattle.typed_tree.specs.Programs as programs
 use Rattle.flow_paths.specs.Objects.{Typing, Signature}
-use Rattle.flow_paths.specs.Laid.{FlowProgram, flow_program}
+use Rattle.flow_paths.specs.Laid.{flow_program}
 use Rattle.typed_laws.specs.Fine.{Laws}
 use Rattle.typed_laws.specs.Needed.{AreFine}
 use Rattle.typed_laws.proofs.Agreeing.{nil_left, nil_right}

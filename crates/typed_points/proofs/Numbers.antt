@@ -1,13 +1,13 @@
 -- Objects and subprograms by number: an object that is declared has the type that is known of its
 -- declaration, and a subprogram with a body has the result of its profile.
-use Rattle.std.proofs.Common.{◌≡◌, refl, sym, ap, ◌∙◌, subst, ◌⊎◌, inl, inr, ℕ, suc, ◌+◌, Bool, true, false, not, cond, List, [], ◌∷◌, ◌++◌, map, get_or, nat_eq, arith, Option, Some, None}
+use Rattle.std.proofs.Common.{◌≡◌, refl, sym, ap, ◌∙◌, subst, inl, inr, ℕ, suc, ◌+◌, Bool, true, false, not, cond, List, [], ◌∷◌, ◌++◌, map, get_or, nat_eq, arith, Some, None}
 use Rattle.std.specs.Prelude.{flat_map}
 use Rattle.std.specs.List.{AllByRecursion, position_or_len}
 use Rattle.std.proofs.lemmas.Bool.{eqb-true, eq-eqb}
 use Rattle.spark_base.specs.Lists.{Has}
 use Rattle.place_names.specs.declared.act.Mode.{Mode}
 use Rattle.place_names.specs.declared.act.Mode.TheVariants as mode
-use Rattle.resolved_tree.specs.Trees.{More, Code, Objects, Numbers, Formals, Front, SubBody, Package, PackageBody, If, Branch, Case, When, Loop, While, For, Block, code_items}
+use Rattle.resolved_tree.specs.Trees.{More, Code, Objects, Numbers, Formals, SubBody, Package, PackageBody, If, Branch, Case, When, Loop, While, For, Block, code_items}
 use Rattle.type_definitions.specs.declared.table.Known.{Known}
 use Rattle.type_definitions.specs.declared.table.ObjectInfo.{ObjectInfo}
 use Rattle.type_definitions.specs.declared.table.Entry.TheVariants as entry
@@ -17,7 +17,7 @@ use Rattle.type_definitions.specs.Gathered.{declared_number, declared_text, in_h
 use Rattle.typed_tree.specs.declared.object.Object.{Object}
 use Rattle.typed_tree.specs.Expressions.{Site, object_number, sub_number, object_type}
 use Rattle.typed_tree.specs.Statements.{scope_count}
-use Rattle.typed_tree.specs.Programs.{TypedSub, DeclaredObject, Home, over_units, object_of, objects_of, formals_of, front_formals, local, in_package, package_text, objects_in, program_objects, text_io, bodies_in, site_of, placed, subs_in, elaboration, typed_program}
+use Rattle.typed_tree.specs.Programs.{TypedSub, DeclaredObject, Home, over_units, object_of, formals_of, front_formals, local, in_package, package_text, objects_in, program_objects, text_io, bodies_in, site_of, placed, subs_in, elaboration, typed_program}
 use Rattle.flow_paths.specs.Objects.{Signature, object_at, sub_at}
 use Rattle.flow_paths.specs.Laid.{signature}
 use Rattle.typed_laws.specs.Fine.{Denotes}

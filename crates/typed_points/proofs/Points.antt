@@ -1,5 +1,5 @@
 -- The points of code whose instructions are as soundness needs them are so.
-use Rattle.std.proofs.Common.{◌≡◌, refl, ℕ, suc, Bool, true, false, List, [], ◌∷◌, ◌++◌, length, if◌then◌else◌}
+use Rattle.std.proofs.Common.{◌≡◌, ℕ, suc, Bool, true, false, List, [], ◌∷◌, ◌++◌, length, if◌then◌else◌}
 use Rattle.std.specs.Prelude.{Option, Some, None, flat_map, drop, reverse, is_some}
 use Rattle.std.specs.List.{AllByRecursion}
 use Rattle.spark_base.specs.declared.position.Pos.{Pos}
@@ -12,7 +12,7 @@ use Rattle.flow_paths.specs.Objects.{Typing}
 use Rattle.flow_paths.specs.Names.{has_call}
 use Rattle.flow_paths.specs.Points.{Place, PointName, row_at, NamedPoint, point, entry}
 use Rattle.flow_paths.specs.Prep.{Setting, with_held, prep}
-use Rattle.flow_paths.specs.Layout.{Around, within_loop, within_block, with_scope, declared, from, ending, ends, closing, uses, uses_both, uses_second_first, unless_empty, choices_of, laid, laid_branches, laid_branch, laid_whens, laid_when}
+use Rattle.flow_paths.specs.Layout.{Around, within_loop, within_block, with_scope, declared, from, ending, ends, closing, uses, uses_both, unless_empty, choices_of, laid, laid_branches, laid_branch, laid_whens, laid_when}
 use Rattle.flow_paths.specs.Laid.{around_body, scope_at_end, procedure_end, function_end, body_points, sub_points, elaboration_points}
 use Rattle.typed_laws.specs.Needed.{IsFine}
 use Rattle.typed_points.specs.Code.{IsFineCode, IsFinePoint}

@@ -1,37 +1,36 @@
 -- Sources of assignments, of objects and of results, those of anonymous access types among them.
-use Rattle.std.proofs.Common.{◌≡◌, refl, sym, ap, ◌∙◌, subst, ◌⊎◌, inl, inr, ℕ, Bool, true, false, not, ◌&&◌, ◌||◌, List, [], ◌∷◌, ◌++◌, nat_eq, ℤ, negsuc, Option, Some, None, if◌then◌else◌}
+use Rattle.std.proofs.Common.{◌≡◌, refl, sym, ap, ◌∙◌, subst, inl, ℕ, Bool, true, false, not, ◌&&◌, List, [], ◌++◌, nat_eq, ℤ, negsuc, if◌then◌else◌}
 use Rattle.spark_base.specs.declared.position.Pos.{Pos}
 use Rattle.resolved_tree.specs.declared.operator.Operator.{Operator}
 use Rattle.resolved_tree.specs.declared.operator.Operator.TheVariants as operator
-use Rattle.resolved_tree.specs.Trees.{Tree, Number, Text, Null, Named, Parens, Unary, Binary, Aggregate, Others, New, position}
+use Rattle.resolved_tree.specs.Trees.{Tree, Number, Null, Named, Unary, Binary, position}
 use Rattle.type_definitions.specs.declared.table.Entry.{Entry}
 use Rattle.type_definitions.specs.declared.table.Shape.{Shape}
 use Rattle.type_definitions.specs.declared.table.Shape.TheVariants as shape
 use Rattle.type_definitions.specs.declared.judgement.View.{View}
 use Rattle.type_definitions.specs.declared.judgement.View.TheVariants as view
-use Rattle.type_definitions.specs.declared.judgement.Fault.{Fault}
 use Rattle.type_definitions.specs.declared.judgement.Reading.{Reading}
 use Rattle.type_definitions.specs.declared.judgement.Reading.TheVariants as reading
 use Rattle.type_definitions.specs.declared.judgement.Where.TheVariants as stands
 use Rattle.type_definitions.specs.Types.{Table, full, shape_of, view_of}
 use Rattle.type_definitions.specs.Entries.{entry_of, integer}
-use Rattle.type_definitions.specs.Faults.{demand, K2, K6}
+use Rattle.type_definitions.specs.Faults.{demand, K2}
 use Rattle.type_definitions.specs.Statics.{is_alone}
 use Rattle.type_definitions.specs.Gathered.{natural_of}
 use Rattle.type_definitions.specs.Names.{Context, reading_of, is_end}
-use Rattle.type_definitions.specs.Expressions.{Given, own_of, own_type, inside, reading_faults, given_names, call_arguments, is_anonymous, is_variable, is_null, is_arithmetic, behind, way_of, unary_type, operand_type, name_faults, faults}
-use Rattle.type_definitions.specs.Statements.{source_faults, source_name, source_fits, other_source, formal_source, return_source, is_source, keeps_constant, designates, is_name, is_formal, is_object_entry, target_faults, assign_faults, target_reading}
+use Rattle.type_definitions.specs.Expressions.{own_of, own_type, inside, reading_faults, given_names, call_arguments, is_anonymous, is_variable, is_null, behind, way_of, unary_type, faults}
+use Rattle.type_definitions.specs.Statements.{source_faults, source_name, source_fits, formal_source, return_source, designates, is_name, is_formal, is_object_entry, target_faults, assign_faults, target_reading}
 use Rattle.typed_tree.specs.Trees.{TypedTree, Name}
 use Rattle.typed_tree.specs.Trees as typed
 use Rattle.typed_tree.specs.declared.object.Object.{Object}
-use Rattle.typed_tree.specs.Expressions.{Site, typed_expression, typed_name, operands, compared, value_of_type, number, object_type, typed_steps, typed_actuals, typed_imaged, called_function}
+use Rattle.typed_tree.specs.Expressions.{Site, typed_expression, typed_name, operands, value_of_type, number, object_type, typed_steps, typed_actuals, typed_imaged, called_function}
 use Rattle.typed_tree.specs.Statements.{type_read}
 use Rattle.flow_paths.specs.Objects.{Typing, Signature, object_at}
 use Rattle.flow_paths.specs.Objects as flow
 use Rattle.typed_laws.specs.Fine.{Laws, IsMeant}
 use Rattle.typed_laws.specs.Fine as fine
 use Rattle.typed_laws.specs.Needed.{IsPlace, IsView, Source}
-use Rattle.typed_laws.proofs.Agreeing.{holds, and_left, nil_left, nil_right}
+use Rattle.typed_laws.proofs.Agreeing.{holds, nil_left, nil_right}
 use Rattle.typed_laws.proofs.Assigns as assigns
 use Rattle.typed_laws.proofs.Sound.{leads, matches}
 use Rattle.typed_points.proofs.Flags.{flagged, at_flags, typed_same, meant_same, reading_same}

@@ -1,39 +1,36 @@
 -- Declarations of objects, and statements without statements in them but calls.
-use Rattle.std.proofs.Common.{◌≡◌, refl, sym, ap, ◌∙◌, subst, ◌⊎◌, inl, inr, ℕ, Bool, true, false, not, ◌&&◌, ◌||◌, List, [], ◌∷◌, ◌++◌, map, Option, Some, None, if◌then◌else◌}
+use Rattle.std.proofs.Common.{◌≡◌, refl, sym, ap, ◌∙◌, subst, inl, inr, ℕ, Bool, true, false, not, ◌&&◌, ◌||◌, List, [], ◌++◌, map, Option, Some, None, if◌then◌else◌}
 use Rattle.std.specs.Prelude.{is_none, is_some}
 use Rattle.std.specs.List.{AllByRecursion}
 use Rattle.spark_base.specs.declared.position.Pos.{Pos}
 use Rattle.resolved_tree.specs.declared.node.Mark.{Mark}
-use Rattle.resolved_tree.specs.Trees.{Tree, Named, NoMore, More, position, Code, Plain, Anonymous, Bounds, Marked, Constrained, RangeOf, Objects, Numbers, code_items}
+use Rattle.resolved_tree.specs.Trees.{Tree, Named, NoMore, More, position, Code, Plain, Anonymous, Bounds, Marked, Constrained, RangeOf, code_items}
 use Rattle.type_definitions.specs.declared.table.Known.{Known}
 use Rattle.type_definitions.specs.declared.table.Profile.{Profile}
-use Rattle.type_definitions.specs.declared.table.Shape.{Shape}
-use Rattle.type_definitions.specs.declared.table.Shape.TheVariants as shape
 use Rattle.type_definitions.specs.declared.judgement.View.{View}
 use Rattle.type_definitions.specs.declared.judgement.View.TheVariants as view
-use Rattle.type_definitions.specs.declared.judgement.Fault.{Fault}
 use Rattle.type_definitions.specs.declared.judgement.Where.TheVariants as stands
 use Rattle.type_definitions.specs.Types.{Table, full, shape_of, view_of, base, is_owning, is_scalar}
-use Rattle.type_definitions.specs.Entries.{entry_of, integer, boolean, marked, denotes_type, is_complete}
+use Rattle.type_definitions.specs.Entries.{entry_of, integer, marked, denotes_type, is_complete}
 use Rattle.type_definitions.specs.Faults.{demand, K3}
 use Rattle.type_definitions.specs.Names.{Context, seen, reading_of}
 use Rattle.type_definitions.specs.Expressions.{faults, inside, own_type, mark_faults, is_anonymous, profile_of, result_type, scalar_own}
-use Rattle.type_definitions.specs.Statements.{source_faults, return_source, returned, sub_profile, range_faults, scalar_mark, type_or_integer, condition, static_faults}
+use Rattle.type_definitions.specs.Statements.{return_source, returned, sub_profile, range_faults, scalar_mark, type_or_integer}
 use Rattle.type_definitions.specs.Gathered.{indicated, is_anonymous_indication, parameter_type, declared_number}
 use Rattle.type_definitions.specs.Declarations.{indication_faults, is_single, first_pos, first_number, in_package, starting, has_one, initial_faults, objects_faults, object_faults, bound_faults, selector_faults}
 use Rattle.typed_tree.specs.Trees.{TypedTree, TypedCode}
 use Rattle.typed_tree.specs.Trees as typed
 use Rattle.typed_tree.specs.declared.object.Object.{Object}
-use Rattle.typed_tree.specs.Expressions.{Site, object_number, typed_expression, typed_optional}
+use Rattle.typed_tree.specs.Expressions.{Site, typed_expression, typed_optional}
 use Rattle.typed_tree.specs.Statements.{typed_object, returned_type, typed_range, range_of, bounds_seen, array_seen}
-use Rattle.flow_paths.specs.Objects.{Typing, Signature, object_at}
-use Rattle.typed_laws.specs.Fine.{counts, lists, Laws, IsMeant}
-use Rattle.typed_laws.specs.Needed.{Stays, FirstSource, FirstStays, Source, Returns}
-use Rattle.typed_laws.proofs.Agreeing.{holds, and_left, and_right, nil_left, nil_right, either_left, either_right, agree_lists}
+use Rattle.flow_paths.specs.Objects.{Typing, Signature}
+use Rattle.typed_laws.specs.Fine.{Laws, IsMeant}
+use Rattle.typed_laws.specs.Needed.{Stays, FirstSource, Source, Returns}
+use Rattle.typed_laws.proofs.Agreeing.{holds, and_left, nil_left, nil_right, either_right, agree_lists}
 use Rattle.typed_laws.proofs.Readings.{seen_scalar}
 use Rattle.typed_laws.proofs.Cases.{mark_denotes, marked_is, shape_view}
 use Rattle.typed_points.specs.Code.{IsFineCode}
-use Rattle.typed_points.specs.Meant.{IsMeantOptional, IsIndicated, AreDeclared, AreNumbers, IsMeantRange, IsParameter}
+use Rattle.typed_points.specs.Meant.{IsMeantOptional, AreDeclared, AreNumbers, IsMeantRange}
 use Rattle.typed_points.proofs.Flags.{flagged, own_same}
 use Rattle.typed_points.proofs.Values.{seen_full, numbers, has_at, given, scalar_at, scalar_stays, bound_stays, source_at}
 use Rattle.typed_points.proofs.Sources.{one_anonymous, source_viewed, return_viewed}
@@ -138,10 +135,12 @@ module _ (s : Site) (objects : List Object) (subs : List Signature) (made : ℕ 
     pub named_numbers_fine : (result : Option ℕ) (ids : Code) (e : Tree) → AreNumbers s y ids → IsMeant s y e → bound_faults (starting c) integer e ≡ []
         → Fine result (map (typed_object s (typed.More (typed_expression s integer e) typed.NoMore)) (code_items ids))
     named_numbers_fine result ids e h meant none =
-        numbers_fine result ids (typed.More (typed_expression s integer e) typed.NoMore) h
-        (refl, inr (given s objects subs made laws (typed_expression s integer e) integer
-        (has_at s objects subs made laws looped (in_package s.context) e stands.Elsewhere integer meant laws.integers
-        (nil_left (faults (starting c) stands.Elsewhere integer e) _ none))))
+        numbers_fine result ids (typed.More (typed_expression s integer e) typed.NoMore) h (
+          refl,
+          inr (given s objects subs made laws (typed_expression s integer e) integer
+              (has_at s objects subs made laws looped (in_package s.context) e stands.Elsewhere integer meant laws.integers
+              (nil_left (faults (starting c) stands.Elsewhere integer e) _ none))),
+        )
 
     -- ---- return
 

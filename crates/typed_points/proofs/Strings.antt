@@ -1,11 +1,11 @@
 -- String expressions.
-use Rattle.std.proofs.Common.{◌≡◌, refl, sym, ap, ◌∙◌, subst, ◌⊎◌, inl, inr, ℕ, Bool, true, false, not, ◌&&◌, ◌||◌, List, [], ◌∷◌, ◌++◌, ℤ, pos, Option, Some, None, if◌then◌else◌}
+use Rattle.std.proofs.Common.{◌≡◌, refl, sym, ap, ◌∙◌, subst, ℕ, Bool, true, false, ◌||◌, List, [], ◌++◌, ℤ, pos, Option, Some, None, if◌then◌else◌}
 use Rattle.spark_base.specs.declared.position.Pos.{Pos}
 use Rattle.resolved_tree.specs.declared.operator.Attribute.{Attribute}
 use Rattle.resolved_tree.specs.declared.operator.Attribute.TheVariants as attribute
 use Rattle.resolved_tree.specs.declared.operator.Operator.{Operator}
 use Rattle.resolved_tree.specs.declared.operator.Operator.TheVariants as operator
-use Rattle.resolved_tree.specs.Trees.{Tree, Number, Text, Null, Named, Parens, Unary, Binary, Aggregate, Others, New, Selected, All, Applied, Attr, Argument, NoMore, More, position}
+use Rattle.resolved_tree.specs.Trees.{Tree, Number, Text, Named, Parens, Unary, Binary, Applied, Attr, Argument, NoMore, More, position}
 use Rattle.type_definitions.specs.declared.table.Entry.{Entry}
 use Rattle.type_definitions.specs.declared.table.Entry.TheVariants as entry
 use Rattle.type_definitions.specs.declared.table.Predefined.TheVariants as predefined
@@ -18,16 +18,12 @@ use Rattle.type_definitions.specs.declared.judgement.Own.TheVariants as own
 use Rattle.type_definitions.specs.declared.judgement.Reading.{Reading}
 use Rattle.type_definitions.specs.declared.judgement.Reading.TheVariants as reading
 use Rattle.type_definitions.specs.declared.judgement.Role.TheVariants as role
-use Rattle.type_definitions.specs.declared.judgement.Way.TheVariants as way
 use Rattle.type_definitions.specs.declared.judgement.Where.TheVariants as stands
 use Rattle.type_definitions.specs.declared.judgement.Fault.{Fault}
-use Rattle.type_definitions.specs.Types.{Table, base, is_scalar, is_untyped}
+use Rattle.type_definitions.specs.Types.{base, is_scalar, is_untyped}
 use Rattle.type_definitions.specs.Entries.{entry_of, integer, boolean}
-use Rattle.type_definitions.specs.Faults.{demand}
 use Rattle.type_definitions.specs.Names.{Context, seen, step, along, led_on, ended, is_end, is_index, is_imaged, is_call, reading_if, of_entry, of_function, ended_at, array_attribute, scalar_attribute, type_attribute, reading_of}
 use Rattle.type_definitions.specs.Expressions.{own_of, own_type, inside, around, around_string, around_operands, around_parens, arguments, behind, way_of, reading_faults, given_names, call_arguments, is_string, is_unknown, operand_type, is_null, is_join, is_arithmetic}
-use Rattle.typed_tree.specs.Trees.{TypedTree}
-use Rattle.typed_tree.specs.Trees as typed
 use Rattle.typed_tree.specs.declared.object.Object.{Object}
 use Rattle.typed_tree.specs.Expressions.{Site, typed_expression, typed_name, typed_imaged, typed_first, typed_steps, typed_actuals, object_type, called_function, operands}
 use Rattle.flow_paths.specs.Objects.{Typing, Signature}

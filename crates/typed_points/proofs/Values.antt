@@ -1,22 +1,14 @@
 -- Expressions at their places in statements.
-use Rattle.std.proofs.Common.{◌≡◌, refl, sym, ap, ◌∙◌, subst, ◌⊎◌, inl, inr, ℕ, ℤ, Bool, true, false, not, ◌&&◌, ◌||◌, List, [], ◌++◌, nat_eq, Option, Some, None, if◌then◌else◌}
-use Rattle.std.proofs.lemmas.Bool.{eqb-true}
-use Rattle.spark_base.specs.declared.position.Pos.{Pos}
-use Rattle.resolved_tree.specs.declared.operator.Operator.{Operator}
-use Rattle.resolved_tree.specs.Trees.{Tree, Number, Text, Null, Named, Parens, Unary, Binary, Aggregate, Others, New, Argument, NoMore, More, position}
-use Rattle.type_definitions.specs.declared.table.Entry.{Entry}
-use Rattle.type_definitions.specs.declared.table.Entry.TheVariants as entry
+use Rattle.std.proofs.Common.{◌≡◌, refl, ap, subst, inl, inr, ℕ, ℤ, Bool, true, false, ◌||◌, List, [], if◌then◌else◌}
+use Rattle.resolved_tree.specs.Trees.{Tree, Number, Text, Null, Named, Parens, Unary, Binary, Aggregate, Others, New, NoMore, More}
 use Rattle.type_definitions.specs.declared.table.Shape.{Shape}
 use Rattle.type_definitions.specs.declared.table.Shape.TheVariants as shape
-use Rattle.type_definitions.specs.declared.judgement.View.{View}
-use Rattle.type_definitions.specs.declared.judgement.View.TheVariants as view
 use Rattle.type_definitions.specs.declared.judgement.Own.{Own}
 use Rattle.type_definitions.specs.declared.judgement.Own.TheVariants as own
 use Rattle.type_definitions.specs.declared.judgement.Where.{Where}
 use Rattle.type_definitions.specs.declared.judgement.Where.TheVariants as stands
-use Rattle.type_definitions.specs.Types.{Table, full, shape_of, view_of, is_untyped, is_owning, is_scalar, base}
+use Rattle.type_definitions.specs.Types.{Table, full, shape_of, view_of, is_untyped, is_scalar}
 use Rattle.type_definitions.specs.Entries.{integer, boolean}
-use Rattle.type_definitions.specs.Faults.{demand}
 use Rattle.type_definitions.specs.Names.{Context, seen, reading_of}
 use Rattle.type_definitions.specs.Expressions.{own_type, around, inside, faults, scalar_own, is_join, is_arithmetic}
 use Rattle.type_definitions.specs.Statements.{condition}
@@ -26,9 +18,9 @@ use Rattle.typed_tree.specs.declared.object.Object.{Object}
 use Rattle.typed_tree.specs.Expressions.{Site, typed_expression, typed_optional}
 use Rattle.flow_paths.specs.Objects.{Typing, Signature}
 use Rattle.machine.specs.Typed.{is_record, is_array}
-use Rattle.typed_laws.specs.Fine.{counts, lists, Has, Laws, IsMeant}
-use Rattle.typed_laws.specs.Needed.{Gives, Stays, FirstSource, FirstStays, Source}
-use Rattle.typed_laws.proofs.Agreeing.{of_known, holds, and_left, nil_left, nil_right, either_left, either_right}
+use Rattle.typed_laws.specs.Fine.{Has, Laws, IsMeant}
+use Rattle.typed_laws.specs.Needed.{Gives, Stays, FirstStays, Source}
+use Rattle.typed_laws.proofs.Agreeing.{of_known, nil_left, nil_right, either_left, either_right}
 use Rattle.typed_laws.proofs.Readings.{seen_scalar}
 use Rattle.typed_laws.proofs.Steps.{typing}
 use Rattle.typed_laws.proofs.Cases.{not_demanding, shape_view}

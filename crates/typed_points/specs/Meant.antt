@@ -1,6 +1,6 @@
 -- What is asked of code beside that it breaks no sentence: it is code of the grammar, and its
 -- identifiers denote what the program declares.
-use Rattle.std.specs.Prelude.{◌≡◌, ℕ, Bool, true, false, List}
+use Rattle.std.specs.Prelude.{◌≡◌, ℕ, false, List}
 use Rattle.spark_base.specs.Lists.{Has}
 use Rattle.resolved_tree.specs.Trees.{Tree, NoMore, More, Code, Anonymous, Bounds, Constrained, Objects, Numbers, Assign, Call, Exit, Return, If, Branch, Case, When, Loop, While, For, Block, SubBody, Package, PackageBody}
 use Rattle.type_definitions.specs.declared.table.Known.{Known}
