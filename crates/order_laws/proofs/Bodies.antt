@@ -21,7 +21,7 @@ use Rattle.scope_laws.specs.Code as scope
 use Rattle.scope_laws.proofs.Lists.{and_first, and_second, both_true, all_both}
 use Rattle.ready_laws.specs.InOrder.{declares_only}
 use Rattle.order_laws.specs.Written.{is_declaration, are_declarations, are_statements, is_statement, are_branches, is_branch, are_alternatives, is_alternative}
-use Rattle.order_laws.specs.Placed.{is_placed}
+use Rattle.order_laws.specs.Placed.{is_placed, are_placed_branches, is_placed_branch, are_placed_alternatives, is_placed_alternative}
 
 -- ---- declarations
 
@@ -32,7 +32,7 @@ each_declares : (s : Site) (v : TypedTree) (ids : List Code) → AllByRecursion 
 each_declares s v [] = tt
 each_declares s v (d ∷ ids) = (refl, each_declares s v ids)
 
-one_declares : (s : Site) (n : ℕ) (c : Code) → is_declaration c ≡ true → AllByRecursion IsDeclare (statements s n c)
+pub one_declares : (s : Site) (n : ℕ) (c : Code) → is_declaration c ≡ true → AllByRecursion IsDeclare (statements s n c)
 unfolding statements
 one_declares s n (Objects ids constant i v) h = each_declares s _ (code_items ids)
 one_declares s n (Numbers ids e) h = each_declares s _ (code_items ids)
@@ -87,15 +87,28 @@ inner : (looped : Bool) (cs : List TypedCode) → Written looped cs → IsInner 
 inner looped cs h =
     let all = list_written looped cs h in (both_true (is_placed (typed_code_list cs)) (is_undeclaring (typed_code_list cs)) all.1 all.0, all.2)
 
--- the branches of an `if`, and what stands behind `else`
-both_inner : (looped : Bool) (bs cs : List TypedCode) → Written looped bs → Written looped cs
-    → (is_placed (typed_code_list bs) && (is_placed (typed_code_list cs) && is_undeclaring (typed_code_list cs)) ≡ true)
+-- The branches of an `if`, and what stands behind `else`.
+abbrev IsBranch : Bool → TypedCode → Type 0
+IsBranch looped c = (is_placed_branch c ≡ true) × (is_formed looped c ≡ true)
+
+list_branches : (looped : Bool) (cs : List TypedCode) → AllByRecursion (IsBranch looped) cs
+    → (are_placed_branches (typed_code_list cs) ≡ true) × (is_formed looped (typed_code_list cs) ≡ true)
+unfolding are_placed_branches is_formed
+list_branches looped [] h = (refl, refl)
+list_branches looped (c ∷ cs) h =
+    let more = list_branches looped cs h.1 in (
+      both_true (is_placed_branch c) (are_placed_branches (typed_code_list cs)) h.0.0 more.0,
+      both_true (is_formed looped c) (is_formed looped (typed_code_list cs)) h.0.1 more.1,
+    )
+
+both_inner : (looped : Bool) (bs cs : List TypedCode) → AllByRecursion (IsBranch looped) bs → Written looped cs
+    → (are_placed_branches (typed_code_list bs) && (is_placed (typed_code_list cs) && is_undeclaring (typed_code_list cs)) ≡ true)
     × (is_formed looped (typed_code_list bs) && is_formed looped (typed_code_list cs) ≡ true)
 both_inner looped bs cs h g =
-    let first = list_written looped bs h in
+    let first = list_branches looped bs h in
     let second = inner looped cs g in (
-      both_true (is_placed (typed_code_list bs)) (is_placed (typed_code_list cs) && is_undeclaring (typed_code_list cs)) first.1 second.0,
-      both_true (is_formed looped (typed_code_list bs)) (is_formed looped (typed_code_list cs)) first.2 second.1,
+      both_true (are_placed_branches (typed_code_list bs)) (is_placed (typed_code_list cs) && is_undeclaring (typed_code_list cs)) first.0 second.0,
+      both_true (is_formed looped (typed_code_list bs)) (is_formed looped (typed_code_list cs)) first.1 second.1,
     )
 
 -- Declarations, and statements behind them.
@@ -135,22 +148,20 @@ call_written s looped _ = (refl, refl, refl)
 
 -- An alternative of a `case`.
 abbrev IsAlternative : Bool → TypedCode → Type 0
-IsAlternative looped c = (is_undeclaring c ≡ true) × (is_placed c ≡ true) × (scope.is_formed_alternative looped c ≡ true)
+IsAlternative looped c = (is_placed_alternative c ≡ true) × (scope.is_formed_alternative looped c ≡ true)
 
 list_alternatives : (looped : Bool) (cs : List TypedCode) → AllByRecursion (IsAlternative looped) cs
-    → (is_undeclaring (typed_code_list cs) ≡ true) × (is_placed (typed_code_list cs) ≡ true) × (scope.are_alternatives looped (typed_code_list cs) ≡ true)
-unfolding is_undeclaring is_placed scope.are_alternatives
-list_alternatives looped [] h = (refl, refl, refl)
+    → (are_placed_alternatives (typed_code_list cs) ≡ true) × (scope.are_alternatives looped (typed_code_list cs) ≡ true)
+unfolding are_placed_alternatives scope.are_alternatives
+list_alternatives looped [] h = (refl, refl)
 list_alternatives looped (c ∷ cs) h =
     let more = list_alternatives looped cs h.1 in (
-      both_true (is_undeclaring c) (is_undeclaring (typed_code_list cs)) h.0.0 more.0,
-      both_true (is_placed c) (is_placed (typed_code_list cs) && (flow.is_declaration c || is_undeclaring (typed_code_list cs))) h.0.1
-      (both_true (is_placed (typed_code_list cs)) (flow.is_declaration c || is_undeclaring (typed_code_list cs)) more.1 (or_right (flow.is_declaration c) _ more.0)),
-      both_true (scope.is_formed_alternative looped c) (scope.are_alternatives looped (typed_code_list cs)) h.0.2 more.2,
+      both_true (is_placed_alternative c) (are_placed_alternatives (typed_code_list cs)) h.0.0 more.0,
+      both_true (scope.is_formed_alternative looped c) (scope.are_alternatives looped (typed_code_list cs)) h.0.1 more.1,
     )
 
 mutual
-  unfolding statements are_statements is_statement are_branches is_branch are_alternatives is_alternative is_undeclaring is_placed is_formed scope.are_alternatives scope.is_formed_alternative
+  unfolding statements are_statements is_statement are_branches is_branch are_alternatives is_alternative is_undeclaring is_placed is_placed_branch is_placed_alternative is_formed scope.are_alternatives scope.is_formed_alternative
 
   pub all_written : (s : Site) (n : ℕ) (looped : Bool) (c : Code) → are_statements looped c ≡ true → Written looped (statements s n c)
   all_written s n looped (More a rest) h =
@@ -171,7 +182,7 @@ mutual
       (branches_written s n looped branches (and_first (are_branches looped branches) (are_statements looped otherwise) h))
       (all_written s (n + scope_count branches) looped otherwise (and_second (are_branches looped branches) (are_statements looped otherwise) h)) in
       ((refl, whole.0, whole.1), tt)
-  one_written s n looped (Case p e whens) h = (let first = list_alternatives looped (statements s n whens) (alternatives_written s n looped whens h) in ((refl, first.1, first.2), tt))
+  one_written s n looped (Case p e whens) h = (let first = list_alternatives looped (statements s n whens) (alternatives_written s n looped whens h) in ((refl, first.0, first.1), tt))
   one_written s n looped (Loop p stmts) h = (let first = inner true (statements s n stmts) (all_written s n true stmts h) in ((refl, first.0, first.1), tt))
   one_written s n looped (While p e stmts) h =
       (let first = inner true (statements s n stmts) (all_written s n true stmts h) in ((refl, first.0, first.1), tt))
@@ -185,17 +196,17 @@ mutual
   one_written s n looped NoMore h = tt
   one_written s n looped _ h = cc
 
-  branches_written : (s : Site) (n : ℕ) (looped : Bool) (c : Code) → are_branches looped c ≡ true → Written looped (statements s n c)
+  branches_written : (s : Site) (n : ℕ) (looped : Bool) (c : Code) → are_branches looped c ≡ true → AllByRecursion (IsBranch looped) (statements s n c)
   branches_written s n looped (More a rest) h =
-      all_both (IsWritten looped) (statements s n a) (statements s (n + scope_count a) rest)
+      all_both (IsBranch looped) (statements s n a) (statements s (n + scope_count a) rest)
       (branch_written s n looped a (and_first (is_branch looped a) (are_branches looped rest) h))
       (branches_written s (n + scope_count a) looped rest (and_second (is_branch looped a) (are_branches looped rest) h))
   branches_written s n looped NoMore h = tt
   branches_written s n looped _ h = cc
 
-  branch_written : (s : Site) (n : ℕ) (looped : Bool) (c : Code) → is_branch looped c ≡ true → Written looped (statements s n c)
+  branch_written : (s : Site) (n : ℕ) (looped : Bool) (c : Code) → is_branch looped c ≡ true → AllByRecursion (IsBranch looped) (statements s n c)
   branch_written s n looped (Branch p e stmts) h =
-      (let first = inner looped (statements s n stmts) (all_written s n looped stmts h) in ((refl, first.0, first.1), tt))
+      (let first = inner looped (statements s n stmts) (all_written s n looped stmts h) in ((first.0, first.1), tt))
   branch_written s n looped NoMore h = tt
   branch_written s n looped _ h = cc
 
@@ -209,7 +220,7 @@ mutual
 
   alternative_written : (s : Site) (n : ℕ) (looped : Bool) (c : Code) → is_alternative looped c ≡ true → AllByRecursion (IsAlternative looped) (statements s n c)
   alternative_written s n looped (When choices stmts) h =
-      (let first = inner looped (statements s n stmts) (all_written s n looped stmts h) in ((refl, first.0, first.1), tt))
+      (let first = inner looped (statements s n stmts) (all_written s n looped stmts h) in ((first.0, first.1), tt))
   alternative_written s n looped NoMore h = tt
   alternative_written s n looped _ h = cc
 
