@@ -9,3 +9,6 @@ pub mod Units
 pub mod First
 pub mod Mains
 pub mod Whole
+-- accepted programs
+pub mod Faults
+pub mod Accepted

@@ -112,15 +112,15 @@ main_at s us is m front items stmts end has =
 
 -- ---- a procedure has no result
 
-nothing_left : (a b : List Fault) → a ++ b ≡ [] → a ≡ []
+pub nothing_left : (a b : List Fault) → a ++ b ≡ [] → a ≡ []
 nothing_left [] b e = refl
 nothing_left (x ∷ a) b e = cc
 
-nothing_right : (a b : List Fault) → a ++ b ≡ [] → b ≡ []
+pub nothing_right : (a b : List Fault) → a ++ b ≡ [] → b ≡ []
 nothing_right [] b e = e
 nothing_right (x ∷ a) b e = cc
 
-demanded : (n : ℕ) (p : Pos) (b : Bool) → demand n p b ≡ [] → b ≡ true
+pub demanded : (n : ℕ) (p : Pos) (b : Bool) → demand n p b ≡ [] → b ≡ true
 demanded n p true e = refl
 demanded n p false e = cc
 
