@@ -1,5 +1,5 @@
 -- An expression that is lowered gives what it gives on the machine, and a name leads where it leads there.
-use Rattle.std.proofs.Common.{◌≡◌, ℕ, zero, suc, ◌+◌, ◌-◌, ◌*◌, ◌<◌, ◌≤◌, true, false, Bool, not, ◌&&◌, IsTrue, List, [], ◌∷◌, length, drop, refl, sym, ap, subst, ◌∙◌, arith, Option, Some, None, ℤ, pos, negsuc, nat_lt, if◌then◌else◌}
+use Rattle.std.proofs.Common.{◌≡◌, ◌⊎◌, inl, inr, ℕ, zero, suc, ◌+◌, ◌-◌, ◌*◌, ◌<◌, ◌≤◌, true, false, Bool, not, ◌&&◌, IsTrue, List, [], ◌∷◌, length, drop, refl, sym, ap, subst, ◌∙◌, arith, Option, Some, None, ℤ, pos, negsuc, nat_lt, if◌then◌else◌}
 use Rattle.std.specs.Prelude.{option_and_then, unsigned_abs, int_le, ◌-ℤ◌, nat_le, ◌==◌}
 use Rattle.std.specs.Ordering.{int_eq}
 use Rattle.resolved_tree.specs.declared.operator.Operator.{Operator}
@@ -29,7 +29,7 @@ use Rattle.run_codes.specs.Flat as flat
 use Rattle.run_codes.specs.Lowered.{Site, offset_of, package_offset, no_index, Placed, in_frame, in_packages, option_map, object_place, load, moved_by, joined, indexed_by, component_of, element_of, designated_of, Lowered, of_sort, sort_of, whole_code, is_taken, loaded, named, is_nth, words_before_value, unary, binary, short_circuit, null_test, max_position, lowered, led}
 use Rattle.run_codes.specs.Lowered as lowering
 use Rattle.run_codes.specs.Related.{Stands, AllStand, IsTable, most_words, Seen, table, here, now, types, Stand, IsSeen, Stopped, Same, IsPlace, Leads}
-use Rattle.run_codes.proofs.Parts.{many}
+use Rattle.run_codes.proofs.Parts.{many, whole_split, split_inside}
 use Rattle.run_codes.proofs.Places.{impossible, some_same, given_same, if_some, if_none, both_true, below, twice, no_step, one_step, stopped_on, stopped_by, same_by, IsPart, leads_part, component_part, element_part, holds, place_indexes, loads, OfType, of_leads, leads_designated}
 use Rattle.run_codes.proofs.Operators.{truth_same, wholes, wholes_compared, positions_joined, positions_compared, whole_one, position_one, decides_same, null_tested, one_same, two_same}
 use Rattle.run_codes.proofs.Indexes.{offset_given, moved_further, indexed_further, moved_indexes, indexed_given, indexed_stops, indexed_stopped, designated_given, designated_stopped, load_stops, element_within}
@@ -233,7 +233,7 @@ on_element e seen k j index rest i low high p q element o ev is_array first smal
     by : (b : Bool) → is_between low high z ≡ b → Walked e k j (Element index low high rest) q ev (place_indexes e.flat q.place)
     by true sure =
         let part = element_part e seen.laws p.of n element low high is_array (element_within low high z sure) in
-        let inside : n * size + length (sorts (table e) (element_type (table e) p.of)) ≤ length (sorts (table e) p.of) = part.inside in
+        let inside = split_inside (sorts (table e) p.of) (sorts (table e) (element_type (table e) p.of)) (n * size) part.split in
         let scaled_is = scaled_in e.flat i low high z size got sure (omega (arith, inside, small)) in
         let given = indexed_given e.flat (Scaled i low high size) o (n * size) p.place (omega (arith, inside, small)) first scaled_is in
         let further = leads_part e (ToElement n) p.place (element_place (table e) i low high p) o (o + n * size) j p.of (element_type (table e) p.of) (n * size) ev part
@@ -290,6 +290,15 @@ begins_own e seen x j at own there = record {
         subst (λ n. Stand e (sorts (table e) (object_at e.site.typing x).of) (slots_at e.site.typing e.memory (variable_place (here e) x).base) (drop n e.flat.stack)) (sym sum)
         (subst (λ b. Stand e (sorts (table e) (object_at e.site.typing x).of) (slots_at e.site.typing e.memory (OfVariable (if b then 0 else e.frame) x)) (drop (e.flat.base + at) e.flat.stack))
         (sym own) (seen.own x at there own));
+    from = record {
+      frame = e.frame;
+      object = x;
+      start = e.flat.base + at;
+      lies = inl (record { at = at; there = there; own = own; runs = refl; begins = refl });
+      base = ap (λ b. OfVariable (if b then 0 else e.frame) x) own;
+      at = refl;
+      split = whole_split (sorts (table e) (object_at e.site.typing x).of);
+    };
   };
 }
 
@@ -308,6 +317,15 @@ begins_package e seen x j at held there = record {
         subst (λ n. Stand e (sorts (table e) (object_at e.site.typing x).of) (slots_at e.site.typing e.memory (variable_place (here e) x).base) (drop n e.flat.stack)) (sym sum)
         (subst (λ b. Stand e (sorts (table e) (object_at e.site.typing x).of) (slots_at e.site.typing e.memory (OfVariable (if b then 0 else e.frame) x)) (drop at e.flat.stack))
         (sym held) (seen.packages x at there held));
+    from = record {
+      frame = 0;
+      object = x;
+      start = at;
+      lies = inr (record { there = there; packages = held; first = refl });
+      base = ap (λ b. OfVariable (if b then 0 else e.frame) x) held;
+      at = refl;
+      split = whole_split (sorts (table e) (object_at e.site.typing x).of);
+    };
   };
 }
 
@@ -578,7 +596,7 @@ mutual
       let n : ℕ = words_before (table e) p.of i in
       let r : Placed = record { place = moved_by n p.place; of = component_type (table e) p.of i } in
       let part = component_part e seen.laws p.of i there.components there.shape there.within in
-      let inside : n + length (sorts (table e) r.of) ≤ length (sorts (table e) p.of) = part.inside in
+      let inside = split_inside (sorts (table e) p.of) (sorts (table e) r.of) n part.split in
       let further = leads_part e (ToComponent i) p.place r.place o o j p.of r.of n ev part (moved_further n o p.place) leads in
       on_step e k k j (ToComponent i) (IntoComponent i rest) rest q ev (place_indexes e.flat q.place) refl refl
       (walks e seen rest k j r q o (followed_by ev (stepped e.site.typing (ToComponent i))) (subst (λ z. led c k z rest ≡ Some q) there.is on.2)

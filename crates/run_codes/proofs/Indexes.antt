@@ -16,7 +16,7 @@ pub stops_on : {A B : Type 0} (got : Got A) (f : A → Got B) (s : Stop) → got
 stops_on got f s is = ap (λ g. and_then g f) is
 
 -- What stops at the same place stops the same way, whatever comes last.
-last_stops : {A : Type 0} (got : Got A) (x y : Got A) (s : Stop) → (x ≡ Stops s → y ≡ Stops s) → and_then got (λ a. x) ≡ Stops s → and_then got (λ a. y) ≡ Stops s
+pub last_stops : {A : Type 0} (got : Got A) (x y : Got A) (s : Stop) → (x ≡ Stops s → y ≡ Stops s) → and_then got (λ a. x) ≡ Stops s → and_then got (λ a. y) ≡ Stops s
 last_stops (Given a) x y s on is = on is
 last_stops (Stops t) x y s on is = is
 last_stops Broken x y s on is = is

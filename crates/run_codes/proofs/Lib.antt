@@ -4,3 +4,6 @@ pub mod Operators
 pub mod Indexes
 pub mod Waits
 pub mod Expressions
+pub mod Spots
+pub mod Held
+pub mod Stores

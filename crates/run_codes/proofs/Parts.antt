@@ -1,5 +1,5 @@
 -- Parts of what stands for other words.
-use Rattle.std.proofs.Common.{◌≡◌, ◌⊎◌, inl, inr, ℕ, zero, suc, ◌+◌, ◌-◌, ◌*◌, ◌<◌, ◌≤◌, true, false, Bool, IsTrue, List, [], ◌∷◌, ◌++◌, map, flat_map, length, get_or, take, drop, sum, refl, sym, ap, subst, ◌∙◌, arith, length-append, Option, Some, None, slice_get, ℤ}
+use Rattle.std.proofs.Common.{◌≡◌, ◌⊎◌, inl, inr, ℕ, zero, suc, ◌+◌, ◌-◌, ◌*◌, ◌<◌, ◌≤◌, true, false, Bool, IsTrue, List, [], ◌∷◌, ◌++◌, map, flat_map, length, get_or, take, drop, sum, refl, sym, ap, subst, ◌∙◌, arith, length-append, append-nil, Option, Some, None, slice_get, ℤ}
 use Rattle.std.proofs.lemmas.List.{drop-drop}
 use Rattle.std.proofs.lemmas.List.Sums.{sum_by-cons}
 use Rattle.std.proofs.lemmas.Grind.{common_steps}
@@ -13,7 +13,7 @@ use Rattle.machine.specs.Words.{Word, no_component}
 use Rattle.machine.specs.Typed.{Sort, sorts, sorts_of, sorts_within, repeated_sorts}
 use Rattle.machine.specs.Memory.{Slot}
 use Rattle.run_codes.specs.Flat.{word_of, words_in, kind_of}
-use Rattle.run_codes.specs.Related.{SlotStands, AllStand, AllKinds}
+use Rattle.run_codes.specs.Related.{SlotStands, AllStand, AllKinds, IsSplit}
 
 -- ---- sorts
 
@@ -136,6 +136,48 @@ component_inside table (c ∷ cs) (suc i) within =
     let all = length-append (sorts table c.of) (all_sorts table cs) in
     omega (arith, rest, all, before_more table i c cs, many table c.of)
 
+-- ---- parts among other sorts
+
+regroup : (a b c d e : List Sort) → a ++ ((b ++ (c ++ d)) ++ e) ≡ (a ++ b) ++ (c ++ (d ++ e))
+regroup [] [] [] d e = refl
+regroup [] [] (x ∷ c) d e = ap (λ l. x ∷ l) (regroup [] [] c d e)
+regroup [] (x ∷ b) c d e = ap (λ l. x ∷ l) (regroup [] b c d e)
+regroup (x ∷ a) b c d e = ap (λ l. x ∷ l) (regroup a b c d e)
+
+grouped : (a b c d : List Sort) → a ++ (b ++ (c ++ d)) ≡ (a ++ b) ++ (c ++ d)
+grouped [] b c d = refl
+grouped (x ∷ a) b c d = ap (λ l. x ∷ l) (grouped a b c d)
+
+pub join_split : (all part more : List Sort) (n k : ℕ) → IsSplit all n part → IsSplit part k more → IsSplit all (n + k) more
+join_split all part more n k a b = record {
+  front = a.front ++ b.front;
+  rest = b.rest ++ a.rest;
+  is = a.is ∙ ap (λ l. a.front ++ (l ++ a.rest)) b.is ∙ regroup a.front b.front more b.rest a.rest;
+  long = length-append a.front b.front ∙ ap (λ i. i + length b.front) a.long ∙ ap (λ i. n + i) b.long;
+}
+
+pub whole_split : (all : List Sort) → IsSplit all 0 all
+whole_split all = record { front = []; rest = []; is = sym (append-nil all); long = refl }
+
+pub split_inside : (all part : List Sort) (n : ℕ) → IsSplit all n part → n + length part ≤ length all
+split_inside all part n s =
+    let whole = ap (λ (l : List Sort). length l) s.is ∙ length-append s.front (part ++ s.rest) in
+    let rest = length-append part s.rest in
+    omega (arith, whole, rest, s.long)
+
+pub component_split : (table : Table) (cs : List Component) (i : ℕ) → i < length cs
+    → IsSplit (all_sorts table cs) (before table i cs) (sorts table (get_or cs i no_component).of)
+component_split table [] i within = absurd (omega (arith, within))
+component_split table (c ∷ cs) zero within = record { front = []; rest = all_sorts table cs; is = refl; long = refl }
+component_split table (c ∷ cs) (suc i) within =
+    let s = component_split table cs i (omega (arith, within)) in
+    record {
+      front = sorts table c.of ++ s.front;
+      rest = s.rest;
+      is = ap (λ l. sorts table c.of ++ l) s.is ∙ grouped (sorts table c.of) s.front (sorts table (get_or cs i no_component).of) s.rest;
+      long = length-append (sorts table c.of) s.front ∙ ap (λ k. k + length s.front) (many table c.of) ∙ ap (λ k. words table c.of + k) s.long ∙ sym (before_more table i c cs);
+    }
+
 -- ---- the elements of an array
 
 next_offset : (i size : ℕ) → suc i * size ≡ size + i * size
@@ -168,6 +210,18 @@ element_inside zero (suc n) size within = let more = next_offset n size in let n
 element_inside (suc i) (suc n) size within =
     let rest = element_inside i n size (omega (arith, within)) in
     let a = next_offset i size in let b = next_offset n size in omega (arith, rest, a, b)
+
+pub element_split : (count : ℕ) (all : List Sort) (size i : ℕ) → length all ≡ size → i < count → IsSplit (repeated_sorts count all) (i * size) all
+element_split zero all size i long within = absurd (omega (arith, within))
+element_split (suc n) all size zero long within = record { front = []; rest = repeated_sorts n all; is = refl; long = sym (none_of size) }
+element_split (suc n) all size (suc i) long within =
+    let s = element_split n all size i long (omega (arith, within)) in
+    record {
+      front = all ++ s.front;
+      rest = s.rest;
+      is = ap (λ l. all ++ l) s.is ∙ grouped all s.front all s.rest;
+      long = length-append all s.front ∙ ap (λ k. k + length s.front) long ∙ ap (λ k. size + k) s.long ∙ sym (next_offset i size);
+    }
 
 -- ---- the first word
 

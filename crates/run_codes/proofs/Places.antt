@@ -14,7 +14,7 @@ use Rattle.type_definitions.specs.declared.table.Shape.TheVariants as shape
 use Rattle.type_definitions.specs.declared.table.Component.{Component}
 use Rattle.type_definitions.specs.Types.{Table, shape_of, components_of, view_of, span, words}
 use Rattle.type_definitions.specs.Entries.{integer}
-use Rattle.flow_paths.specs.Objects.{Typing, designated, designated_of}
+use Rattle.flow_paths.specs.Objects.{Typing, object_at, designated, designated_of}
 use Rattle.machine.specs.Words.{Word, Null, Cell, component_type, words_before, no_component, element_type, element_of}
 use Rattle.machine.specs.Typed.{Sort, Whole, Position, Pointer, sorts, repeated_sorts, field_count, is_record, designates}
 use Rattle.machine.specs.Memory.{Memory, Slot, HeapCell, Place, no_cell, cell, slots_at, words_of}
@@ -22,11 +22,11 @@ use Rattle.machine.specs.Evaluate.{Now, Evaluated, Done, followed_by, Constraint
 use Rattle.machine.specs.Evaluate as machine
 use Rattle.run_codes.specs.Codes.{Code, InFrame, InPackages, Behind}
 use Rattle.run_codes.specs.Codes as codes
-use Rattle.run_codes.specs.Flat.{Flat, Got, Given, Stops, Broken, Stop, Raises, Traps, and_then, found, kind_of, same_kind, word_of, words_in, touched, value_word, behind, behind_at, constraint, most_cells, most_offsets, word, indexes}
+use Rattle.run_codes.specs.Flat.{Flat, Got, Given, Stops, Broken, Stop, Raises, Traps, and_then, found, kind_of, same_kind, word_of, words_in, touched, value_word, behind, behind_at, constraint, most_cells, most_offsets, Spot, word, indexes}
 use Rattle.run_codes.specs.Flat as flat
 use Rattle.run_codes.specs.Lowered.{no_index, load}
-use Rattle.run_codes.specs.Related.{Designates, PointsTo, Stands, SlotStands, AllStand, AllKinds, CellStands, HaveCells, IsTable, Seen, table, now, types, Stand, IsSeen, Stopped, Same, IsPlace, IsTouch, InCell, IsDesignated, IsBehind, Leads}
-use Rattle.run_codes.proofs.Parts.{many, all_sorts, before, repeated_long, component_stands, component_kinds, component_inside, element_stands, element_kinds, element_inside, first_word, first_value, words-drop}
+use Rattle.run_codes.specs.Related.{Designates, PointsTo, Stands, SlotStands, AllStand, AllKinds, CellStands, HaveCells, IsTable, Seen, table, now, types, Stand, IsSeen, Stopped, Same, IsSplit, IsFrom, IsPlace, IsTouch, InCell, IsDesignated, IsBehind, Leads}
+use Rattle.run_codes.proofs.Parts.{many, all_sorts, before, component_stands, component_kinds, component_split, element_stands, element_kinds, element_split, join_split, whole_split, split_inside, first_word, first_value, words-drop}
 
 -- ---- small facts
 
@@ -128,30 +128,59 @@ pub record IsPart (e : Seen) (step : Step) (t u by : ℕ) : Type 0 where
   pub of : (p : Place) → p.of ≡ t → (place p).of ≡ u
   pub stand : (xs : List Slot) (zs : List ℤ) → Stand e (sorts (table e) t) xs zs → Stand e (sorts (table e) u) (drop by xs) (drop by zs)
   pub kinds : (vs : List Value) → AllKinds (sorts (table e) t) vs → AllKinds (sorts (table e) u) (drop by vs)
-  pub inside : by + length (sorts (table e) u) ≤ length (sorts (table e) t)
+  pub split : IsSplit (sorts (table e) t) by (sorts (table e) u)
 
-part_place : (e : Seen) (step : Step) (k t u by : ℕ) (zs zs' : List ℤ) (ev : Evaluated Place) → IsPart e step t u by → zs' ≡ drop by zs
-    → IsPlace e k t zs ev → IsPlace e k u zs' (followed_by ev (stepped e.site.typing step))
-part_place e step k t u by zs zs' ev part here is =
+-- A spot further on.
+abbrev pub further_spot : ℕ → Spot → Spot
+further_spot by (flat.InStack n) = flat.InStack (n + by)
+further_spot by (flat.InCell n o) = flat.InCell n (o + by)
+
+part_from : (e : Seen) (step : Step) (t u by : ℕ) (w : Spot) (p : Place) (part : IsPart e step t u by) → p.of ≡ t → IsFrom e p t w → IsFrom e (part.place p) u (further_spot by w)
+part_from e step t u by (flat.InStack n) p part of f =
+    let at : (part.place p).at ≡ p.at + by = part.at p of in
+    record {
+      frame = f.frame;
+      object = f.object;
+      start = f.start;
+      lies = f.lies;
+      base = part.base p ∙ f.base;
+      at = omega (arith, f.at, at);
+      split = subst (λ k. IsSplit (sorts (table e) (object_at e.site.typing f.object).of) k (sorts (table e) u)) (sym at)
+          (join_split (sorts (table e) (object_at e.site.typing f.object).of) (sorts (table e) t) (sorts (table e) u) p.at by f.split part.split);
+    }
+part_from e step t u by (flat.InCell n o) p part of f =
+    let at : (part.place p).at ≡ p.at + by = part.at p of in
+    record {
+      base = part.base p ∙ f.base;
+      at = omega (arith, f.at, at);
+      within = f.within;
+      split = subst (λ k. IsSplit (sorts (table e) (cell e.memory (suc n)).of) k (sorts (table e) u)) (sym at)
+          (join_split (sorts (table e) (cell e.memory (suc n)).of) (sorts (table e) t) (sorts (table e) u) p.at by f.split part.split);
+    }
+
+part_place : (e : Seen) (step : Step) (k t u by : ℕ) (w w' : Spot) (zs zs' : List ℤ) (ev : Evaluated Place) → IsPart e step t u by → w' ≡ further_spot by w → zs' ≡ drop by zs
+    → IsPlace e k t w zs ev → IsPlace e k u w' zs' (followed_by ev (stepped e.site.typing step))
+part_place e step k t u by w w' zs zs' ev part there here is =
     let slots : List Slot = slots_at e.site.typing e.memory is.p.base in
     let all = part.stand (drop is.p.at slots) zs is.stand in
     let moved : Stand e (sorts (table e) u) (drop (is.p.at + by) slots) (drop by zs) =
     subst (λ l. Stand e (sorts (table e) u) l (drop by zs)) (drop-drop by is.p.at slots) all in
-    let there : Stand e (sorts (table e) u) (drop (part.place is.p).at slots) (drop by zs) =
+    let placed : Stand e (sorts (table e) u) (drop (part.place is.p).at slots) (drop by zs) =
     subst (λ n. Stand e (sorts (table e) u) (drop n slots) (drop by zs)) (sym (part.at is.p is.of)) moved in
     let based : Stand e (sorts (table e) u) (drop (part.place is.p).at (slots_at e.site.typing e.memory (part.place is.p).base)) (drop by zs) =
-    subst (λ b. Stand e (sorts (table e) u) (drop (part.place is.p).at (slots_at e.site.typing e.memory b)) (drop by zs)) (sym (part.base is.p)) there in
+    subst (λ b. Stand e (sorts (table e) u) (drop (part.place is.p).at (slots_at e.site.typing e.memory b)) (drop by zs)) (sym (part.base is.p)) placed in
     record {
       p = part.place is.p;
       gives = ap (λ x. followed_by x (stepped e.site.typing step)) is.gives ∙ part.leads is.p (now e k);
       of = part.of is.p is.of;
       stand = subst (λ l. Stand e (sorts (table e) u) (drop (part.place is.p).at (slots_at e.site.typing e.memory (part.place is.p).base)) l) (sym here) based;
+      from = subst (λ s. IsFrom e (part.place is.p) u s) (sym there) (part_from e step t u by w is.p part is.of is.from);
     }
 
-part_touch : (e : Seen) (step : Step) (freed : Bool) (k t u by : ℕ) (zs zs' : List ℤ) (ev : Evaluated Place) → IsPart e step t u by → zs' ≡ drop by zs
-    → IsTouch e freed k t zs ev → IsTouch e freed k u zs' (followed_by ev (stepped e.site.typing step))
-part_touch e step true k t u by zs zs' ev part here is = stopped_on e.memory (Traps Touched) ev (stepped e.site.typing step) is
-part_touch e step false k t u by zs zs' ev part here is = part_place e step k t u by zs zs' ev part here is
+part_touch : (e : Seen) (step : Step) (freed : Bool) (k t u by : ℕ) (w w' : Spot) (zs zs' : List ℤ) (ev : Evaluated Place) → IsPart e step t u by → w' ≡ further_spot by w → zs' ≡ drop by zs
+    → IsTouch e freed k t w zs ev → IsTouch e freed k u w' zs' (followed_by ev (stepped e.site.typing step))
+part_touch e step true k t u by w w' zs zs' ev part there here is = stopped_on e.memory (Traps Touched) ev (stepped e.site.typing step) is
+part_touch e step false k t u by w w' zs zs' ev part there here is = part_place e step k t u by w w' zs zs' ev part there here is
 
 part_cell : (e : Seen) (step : Step) (k t u by n o : ℕ) (ev : Evaluated Place) → IsPart e step t u by
     → InCell e k t n o ev → InCell e k u n (o + by) (followed_by ev (stepped e.site.typing step))
@@ -160,9 +189,11 @@ part_cell e step k t u by n o ev part is = record {
   there = is.there;
   within = is.within;
   small = is.small;
-  inside = omega (arith, is.inside, part.inside);
+  inside =
+      let fits = split_inside (sorts (table e) t) (sorts (table e) u) by part.split in
+      omega (arith, is.inside, fits);
   kinds = subst (λ l. AllKinds (sorts (table e) u) l) (drop-drop by o is.c.words) (part.kinds (drop o is.c.words) is.kinds);
-  leads = part_touch e step is.c.freed k t u by (drop o (words_in is.c.words)) (drop (o + by) (words_in is.c.words)) ev part
+  leads = part_touch e step is.c.freed k t u by (flat.InCell n o) (flat.InCell n (o + by)) (drop o (words_in is.c.words)) (drop (o + by) (words_in is.c.words)) ev part refl
       (sym (drop-drop by o (words_in is.c.words))) is.leads;
 }
 
@@ -189,12 +220,13 @@ leads_part e step (InFrame at i) q o r k t u by ev part f is =
     let sum : e.flat.base + f.0 + r ≡ e.flat.base + at + o + by = omega (arith, f.3) in
     let zs : List ℤ = e.flat.stack in
     subst (λ l. Leads e l r k u (followed_by ev (stepped e.site.typing step))) (sym f.2)
-    (part_place e step k t u by (drop (e.flat.base + at + o) zs) (drop (e.flat.base + f.0 + r) zs) ev part
+    (part_place e step k t u by (flat.InStack (e.flat.base + at + o)) (flat.InStack (e.flat.base + f.0 + r)) (drop (e.flat.base + at + o) zs) (drop (e.flat.base + f.0 + r) zs) ev part
+    (ap (λ n. flat.InStack n) sum)
     (ap (λ n. drop n zs) sum ∙ sym (drop-drop by (e.flat.base + at + o) zs)) is)
 leads_part e step (InPackages at i) q o r k t u by ev part f is =
     let zs : List ℤ = e.flat.stack in
     subst (λ l. Leads e l r k u (followed_by ev (stepped e.site.typing step))) (sym f.2)
-    (part_place e step k t u by (drop (at + o) zs) (drop (f.0 + r) zs) ev part (ap (λ n. drop n zs) f.3 ∙ sym (drop-drop by (at + o) zs)) is)
+    (part_place e step k t u by (flat.InStack (at + o)) (flat.InStack (f.0 + r)) (drop (at + o) zs) (drop (f.0 + r) zs) ev part (ap (λ n. flat.InStack n) f.3) (ap (λ n. drop n zs) f.3 ∙ sym (drop-drop by (at + o) zs)) is)
 leads_part e step (Behind a at i) q o r k t u by ev part f is =
     subst (λ l. Leads e l r k u (followed_by ev (stepped e.site.typing step))) (sym f.2)
     (subst (λ n. IsBehind e (word e.flat a) k u n (followed_by ev (stepped e.site.typing step))) (sym f.3)
@@ -219,12 +251,13 @@ component_part e laws t i components is lt = record {
       let typed : AllKinds (sorts (table e) (component_type (table e) t i)) (drop (before (table e) i components) vs) =
       subst (λ d. AllKinds (sorts (table e) d) (drop (before (table e) i components) vs)) (sym (component_is (table e) t i components is)) part in
       subst (λ n. AllKinds (sorts (table e) (component_type (table e) t i)) (drop n vs)) (sym (before_is (table e) t i components is)) typed;
-  inside =
-      let fits = component_inside (table e) components i lt in
-      let of_is = ap (λ d. length (sorts (table e) d)) (component_is (table e) t i components is) in
-      let by_is = before_is (table e) t i components is in
-      let all_is = ap (λ (l : List Sort). length l) (laws.fields t components is) in
-      omega (arith, fits, of_is, by_is, all_is);
+  split =
+      let part = component_split (table e) components i lt in
+      let typed : IsSplit (all_sorts (table e) components) (before (table e) i components) (sorts (table e) (component_type (table e) t i)) =
+      subst (λ d. IsSplit (all_sorts (table e) components) (before (table e) i components) (sorts (table e) d)) (sym (component_is (table e) t i components is)) part in
+      let all : IsSplit (sorts (table e) t) (before (table e) i components) (sorts (table e) (component_type (table e) t i)) =
+      subst (λ l. IsSplit l (before (table e) i components) (sorts (table e) (component_type (table e) t i))) (sym (laws.fields t components is)) typed in
+      subst (λ n. IsSplit (sorts (table e) t) n (sorts (table e) (component_type (table e) t i))) (sym (before_is (table e) t i components is)) all;
 }
 
 -- An element.
@@ -247,12 +280,9 @@ element_part e laws t n element low high is lt =
       kinds = λ vs all.
           element_kinds (span low high) (sorts (table e) (element_type (table e) t)) size n vs (many (table e) (element_type (table e) t)) lt
           (subst (λ l. AllKinds l vs) all_is all);
-      inside =
-          let long = many (table e) (element_type (table e) t) in
-          let all_long = ap (λ (l : List Sort). length l) all_is ∙ repeated_long (span low high) (sorts (table e) (element_type (table e) t)) in
-          let fits : n * size + size ≤ span low high * size = element_inside n (span low high) size lt in
-          let same : span low high * length (sorts (table e) (element_type (table e) t)) ≡ span low high * size = ap (λ k. span low high * k) long in
-          omega (arith, long, all_long, fits, same);
+      split =
+          subst (λ l. IsSplit l (n * size) (sorts (table e) (element_type (table e) t))) (sym all_is)
+          (element_split (span low high) (sorts (table e) (element_type (table e) t)) size n (many (table e) (element_type (table e) t)) lt);
     }
 
 -- ---- the word at a place
@@ -286,10 +316,10 @@ head_kind st (v ∷ vs) all = record { v = v; others = vs; values = refl; is_kin
 abbrev pub holds : Typing → Place → Now → Evaluated (List Word)
 holds s p now = Done (words_of s now.memory p) now
 
-in_place : (e : Seen) (k t : ℕ) (st : Sort) (zs others : List ℤ) (z : ℤ) (ev : Evaluated Place)
-    → sorts (table e) t ≡ st ∷ [] → zs ≡ z ∷ others → IsPlace e k t zs ev
+in_place : (e : Seen) (k t : ℕ) (w : Spot) (st : Sort) (zs others : List ℤ) (z : ℤ) (ev : Evaluated Place)
+    → sorts (table e) t ≡ st ∷ [] → zs ≡ z ∷ others → IsPlace e k t w zs ev
     → Same e st k (followed_by ev (holds e.site.typing)) (Given z)
-in_place e k t st zs others z ev sort here is =
+in_place e k t w st zs others z ev sort here is =
     let slots : List Slot = drop is.p.at (slots_at e.site.typing e.memory is.p.base) in
     let all : Stand e (st ∷ []) slots zs = subst (λ l. Stand e l slots zs) sort is.stand in
     let head = head_stands (table e) (types e.memory) st slots zs all in
@@ -317,11 +347,11 @@ touched_word c k o v there is =
     ∙ ap (λ j. if c.freed then Stops (Traps Touched) else (if same_kind j k then Given (word_of v) else Broken)) is
     ∙ ap (λ b. if c.freed then Stops (Traps Touched) else (if b then Given (word_of v) else Broken)) (kind_same k)
 
-in_touch : (e : Seen) (freed : Bool) (k t : ℕ) (st : Sort) (zs others : List ℤ) (v : Value) (ev : Evaluated Place)
-    → sorts (table e) t ≡ st ∷ [] → zs ≡ word_of v ∷ others → IsTouch e freed k t zs ev
+in_touch : (e : Seen) (freed : Bool) (k t : ℕ) (w : Spot) (st : Sort) (zs others : List ℤ) (v : Value) (ev : Evaluated Place)
+    → sorts (table e) t ≡ st ∷ [] → zs ≡ word_of v ∷ others → IsTouch e freed k t w zs ev
     → Same e st k (followed_by ev (holds e.site.typing)) (if freed then Stops (Traps Touched) else Given (word_of v))
-in_touch e true k t st zs others v ev sort here is = stopped_on e.memory (Traps Touched) ev (holds e.site.typing) is
-in_touch e false k t st zs others v ev sort here is = in_place e k t st zs others (word_of v) ev sort here is
+in_touch e true k t w st zs others v ev sort here is = stopped_on e.memory (Traps Touched) ev (holds e.site.typing) is
+in_touch e false k t w st zs others v ev sort here is = in_place e k t w st zs others (word_of v) ev sort here is
 
 -- A cell within the bounds of the store.
 pub in_bounds : (n o : ℕ) → n < most_cells → o ≤ heap_words → (nat_lt n most_cells && nat_lt o most_offsets) ≡ true
@@ -340,7 +370,7 @@ in_cell e few k t n o st ev sort is =
     ∙ ap (λ g. touched g (λ c. value_word (kind_of st) (slice_get c.words o))) is.there
     ∙ touched_word is.c (kind_of st) o head.v value head.is_kind in
     subst (λ g. Same e st k (followed_by ev (holds e.site.typing)) g) (sym there)
-    (in_touch e is.c.freed k t st (drop o (words_in is.c.words)) (words_in head.others) head.v ev sort first is.leads)
+    (in_touch e is.c.freed k t (flat.InCell n o) st (drop o (words_in is.c.words)) (words_in head.others) head.v ev sort first is.leads)
 
 in_designated : (e : Seen) → length e.memory.cells ≤ most_cells → (n k t o : ℕ) (st : Sort) (ev : Evaluated Place)
     → sorts (table e) t ≡ st ∷ [] → IsDesignated e n k t o ev
@@ -379,7 +409,7 @@ loads e few k t o st (InFrame at i) ev sort index is =
     let there : word e.flat (load (kind_of st) (InFrame at i)) ≡ Given head.z =
     ap (λ g. and_then g (λ o. found (slice_get e.flat.stack (e.flat.base + at + unsigned_abs o)))) index
     ∙ ap found (first_word (e.flat.base + at + o) e.flat.stack head.others head.z head.words) in
-    subst (λ g. Same e st k (followed_by ev (holds e.site.typing)) g) (sym there) (in_place e k t st zs head.others head.z ev sort head.words is)
+    subst (λ g. Same e st k (followed_by ev (holds e.site.typing)) g) (sym there) (in_place e k t (flat.InStack (e.flat.base + at + o)) st zs head.others head.z ev sort head.words is)
 loads e few k t o st (InPackages at i) ev sort index is =
     let zs : List ℤ = drop (at + o) e.flat.stack in
     let slots : List Slot = drop is.p.at (slots_at e.site.typing e.memory is.p.base) in
@@ -387,7 +417,7 @@ loads e few k t o st (InPackages at i) ev sort index is =
     let there : word e.flat (load (kind_of st) (InPackages at i)) ≡ Given head.z =
     ap (λ g. and_then g (λ o. found (slice_get e.flat.stack (at + unsigned_abs o)))) index
     ∙ ap found (first_word (at + o) e.flat.stack head.others head.z head.words) in
-    subst (λ g. Same e st k (followed_by ev (holds e.site.typing)) g) (sym there) (in_place e k t st zs head.others head.z ev sort head.words is)
+    subst (λ g. Same e st k (followed_by ev (holds e.site.typing)) g) (sym there) (in_place e k t (flat.InStack (at + o)) st zs head.others head.z ev sort head.words is)
 loads e few k t o st (Behind p at i) ev sort index is =
     let seen = given_on (indexes e.flat p) (λ x. word e.flat i) (pos o) index in
     let there : word e.flat (load (kind_of st) (Behind p at i)) ≡ and_then (word e.flat p) (behind e.flat (at + o) (kind_of st)) =
@@ -407,16 +437,16 @@ of_stopped t m (Raises x) ev is = subst (λ x. OfType t x) (sym is.1) tt
 of_stopped t m (Traps x) ev is = subst (λ x. OfType t x) (sym is.1) tt
 of_stopped t m flat.Memory ev is = absurd is
 
-of_place : (e : Seen) (k t : ℕ) (zs : List ℤ) (ev : Evaluated Place) → IsPlace e k t zs ev → OfType t ev
-of_place e k t zs ev is = subst (λ x. OfType t x) (sym is.gives) is.of
+of_place : (e : Seen) (k t : ℕ) (w : Spot) (zs : List ℤ) (ev : Evaluated Place) → IsPlace e k t w zs ev → OfType t ev
+of_place e k t w zs ev is = subst (λ x. OfType t x) (sym is.gives) is.of
 
-of_touch : (e : Seen) (freed : Bool) (k t : ℕ) (zs : List ℤ) (ev : Evaluated Place) → IsTouch e freed k t zs ev → OfType t ev
-of_touch e true k t zs ev is = of_stopped t e.memory (Traps Touched) ev is
-of_touch e false k t zs ev is = of_place e k t zs ev is
+of_touch : (e : Seen) (freed : Bool) (k t : ℕ) (w : Spot) (zs : List ℤ) (ev : Evaluated Place) → IsTouch e freed k t w zs ev → OfType t ev
+of_touch e true k t w zs ev is = of_stopped t e.memory (Traps Touched) ev is
+of_touch e false k t w zs ev is = of_place e k t w zs ev is
 
 of_designated : (e : Seen) (n k t o : ℕ) (ev : Evaluated Place) → IsDesignated e n k t o ev → OfType t ev
 of_designated e zero k t o ev is = of_stopped t e.memory constraint ev is
-of_designated e (suc n) k t o ev is = of_touch e is.c.freed k t (drop o (words_in is.c.words)) ev is.leads
+of_designated e (suc n) k t o ev is = of_touch e is.c.freed k t (flat.InCell n o) (drop o (words_in is.c.words)) ev is.leads
 
 of_behind : (e : Seen) (got : Got ℤ) (k t o : ℕ) (ev : Evaluated Place) → IsBehind e got k t o ev → OfType t ev
 of_behind e (Given z) k t o ev is = of_designated e (unsigned_abs z) k t o ev is
@@ -424,8 +454,8 @@ of_behind e (Stops stop) k t o ev is = of_stopped t e.memory stop ev is
 of_behind e Broken k t o ev is = absurd is
 
 pub of_leads : (e : Seen) (p : codes.Place) (o k t : ℕ) (ev : Evaluated Place) → Leads e p o k t ev → OfType t ev
-of_leads e (InFrame at i) o k t ev is = of_place e k t (drop (e.flat.base + at + o) e.flat.stack) ev is
-of_leads e (InPackages at i) o k t ev is = of_place e k t (drop (at + o) e.flat.stack) ev is
+of_leads e (InFrame at i) o k t ev is = of_place e k t (flat.InStack (e.flat.base + at + o)) (drop (e.flat.base + at + o) e.flat.stack) ev is
+of_leads e (InPackages at i) o k t ev is = of_place e k t (flat.InStack (at + o)) (drop (at + o) e.flat.stack) ev is
 of_leads e (Behind a at i) o k t ev is = of_behind e (word e.flat a) k t (at + o) ev is
 
 -- A dereference looks at the word, and goes to what it designates.
@@ -436,15 +466,22 @@ dereferenced s t d (machine.Raises x now) is of = refl
 dereferenced s t d (machine.Traps x now) is of = refl
 
 cell_touch : (e : Seen) (k d n : ℕ) (freed : Bool) (zs : List ℤ) → (cell e.memory (suc n)).freed ≡ freed
+    → n < length e.memory.cells → sorts (table e) (cell e.memory (suc n)).of ≡ sorts (table e) d
     → Stand e (sorts (table e) d) (cell e.memory (suc n)).slots zs
-    → IsTouch e freed k d zs (designated_place d (Cell (suc n) ∷ []) (now e k))
-cell_touch e k d n true zs is stand =
+    → IsTouch e freed k d (flat.InCell n 0) zs (designated_place d (Cell (suc n) ∷ []) (now e k))
+cell_touch e k d n true zs is within of_is stand =
     (now e k, ap (λ b. if b then machine.Traps Touched (now e k) else Done (cell_place d (suc n)) (now e k)) is, refl)
-cell_touch e k d n false zs is stand = record {
+cell_touch e k d n false zs is within of_is stand = record {
   p = cell_place d (suc n);
   gives = ap (λ b. if b then machine.Traps Touched (now e k) else Done (cell_place d (suc n)) (now e k)) is;
   of = refl;
   stand = stand;
+  from = record {
+    base = refl;
+    at = refl;
+    within = within;
+    split = subst (λ l. IsSplit l 0 (sorts (table e) d)) (sym of_is) (whole_split (sorts (table e) d));
+  };
 }
 
 -- The types of cells are those of their objects.
@@ -468,7 +505,7 @@ to_cell e have k d n made =
       small = stands.small;
       inside = omega (arith, long, stands.room);
       kinds = subst (λ l. AllKinds l there.0.words) of_is stands.kinds;
-      leads = cell_touch e k d n there.0.freed (words_in there.0.words) stands.freed
+      leads = cell_touch e k d n there.0.freed (words_in there.0.words) stands.freed inside of_is
           (subst (λ l. Stand e l (cell e.memory (suc n)).slots (words_in there.0.words)) of_is stands.words);
     }
 

@@ -1,7 +1,8 @@
 -- Which words of the executor stand for the memory of the machine.
 --
 -- What stands for access values and cells is told by `PointsTo`, `IsMarked` and `CellStands` alone.
-use Rattle.std.specs.Prelude.{◌≡◌, ◌⊎◌, ◌≤◌, ◌<◌, ℕ, zero, suc, ◌+◌, Bool, true, false, ◌&&◌, ◌==◌, IsTrue, List, [], ◌∷◌, map, filter, flat_map, length, take, drop, get_or, slice_get, Option, Some, ℤ, pos, negsuc, unsigned_abs}
+use Rattle.std.specs.Prelude.{◌≡◌, ◌⊎◌, ◌≤◌, ◌<◌, ℕ, zero, suc, ◌+◌, Bool, true, false, ◌&&◌, ◌==◌, IsTrue, List, [], ◌∷◌, ◌++◌, map, filter, flat_map, length, take, drop, get_or, slice_get, Option, Some, ℤ, pos, negsuc, unsigned_abs}
+use Rattle.spark_base.specs.Lists.{Has}
 use Rattle.run_values.specs.declared.value.Value.{Value}
 use Rattle.run_values.specs.Values.{kind}
 use Rattle.run_values.specs.Arithmetic.{is_integer}
@@ -13,11 +14,11 @@ use Rattle.type_definitions.specs.Entries.{integer}
 use Rattle.flow_paths.specs.Objects.{Typing, object_at, is_package_object}
 use Rattle.machine.specs.Words.{Word, Int, Enumerated, Null, Cell}
 use Rattle.machine.specs.Typed.{Sort, Whole, Position, Pointer, sorts, repeated_sorts, same_designated}
-use Rattle.machine.specs.Memory.{Memory, Slot, Place, HeapCell, cell, slots_at, fresh, live_words, OfVariable}
+use Rattle.machine.specs.Memory.{Memory, Slot, Place, HeapCell, cell, slots_at, fresh, live_words, OfVariable, OfCell}
 use Rattle.machine.specs.Evaluate.{Here, Now, Evaluated, Done, heap_words}
 use Rattle.machine.specs.Evaluate as machine
 use Rattle.run_codes.specs.Codes as codes
-use Rattle.run_codes.specs.Flat.{Flat, Got, Given, Stops, Broken, Stop, Raises, Traps, kind_of, word_of, words_in, most_cells}
+use Rattle.run_codes.specs.Flat.{Flat, Got, Given, Stops, Broken, Stop, Raises, Traps, kind_of, word_of, words_in, most_cells, Spot}
 use Rattle.run_codes.specs.Flat as flat
 use Rattle.run_codes.specs.Lowered.{Site, offset_of, package_offset, words_before_value}
 
@@ -160,18 +161,65 @@ Same e s k ev (Given z) = (w : Word) × (ev ≡ Done (w ∷ []) (now e k)) × St
 Same e s k ev (Stops stop) = Stopped e.memory stop ev
 Same e s k ev Broken = ⊥
 
+-- ---- where places lie
+
+-- Sorts stand at an offset among others.
+pub record IsSplit (all : List Sort) (offset : ℕ) (part : List Sort) : Type 0 where
+  pub front : List Sort
+  pub rest : List Sort
+  pub is : all ≡ front ++ (part ++ rest)
+  pub long : length front ≡ offset
+
+-- An object lies from an index of the stack on: in the frame, or among those of packages.
+pub record LiesOwn (e : Seen) (frame x start : ℕ) : Type 0 where
+  pub at : ℕ
+  pub there : offset_of e.site x ≡ Some at
+  pub own : is_package_object e.site.typing x ≡ false
+  pub runs : frame ≡ e.frame
+  pub begins : start ≡ e.flat.base + at
+
+pub record LiesInPackages (e : Seen) (frame x start : ℕ) : Type 0 where
+  pub there : package_offset e.site x ≡ Some start
+  pub packages : is_package_object e.site.typing x ≡ true
+  pub first : frame ≡ 0
+
+abbrev pub LiesIn : Seen → ℕ → ℕ → ℕ → Type 0
+LiesIn e frame x start = LiesOwn e frame x start ⊎ LiesInPackages e frame x start
+
+-- A place of the machine, with a type, is a part of an object from this index of the stack on.
+pub record InObject (e : Seen) (p : Place) (t n : ℕ) : Type 0 where
+  pub frame : ℕ
+  pub object : ℕ
+  pub start : ℕ
+  pub lies : LiesIn e frame object start
+  pub base : p.base ≡ OfVariable frame object
+  pub at : n ≡ start + p.at
+  pub split : IsSplit (sorts (table e) (object_at e.site.typing object).of) p.at (sorts (table e) t)
+
+-- The same of a cell with a number from 0.
+pub record InHeap (e : Seen) (p : Place) (t n o : ℕ) : Type 0 where
+  pub base : p.base ≡ OfCell (suc n)
+  pub at : o ≡ p.at
+  pub within : n < length e.memory.cells
+  pub split : IsSplit (sorts (table e) (cell e.memory (suc n)).of) p.at (sorts (table e) t)
+
+abbrev pub IsFrom : Seen → Place → ℕ → Spot → Type 0
+IsFrom e p t (flat.InStack n) = InObject e p t n
+IsFrom e p t (flat.InCell n o) = InHeap e p t n o
+
 -- ---- places
 
--- A place of the machine with this type, whose words stand in these.
-pub record IsPlace (e : Seen) (k t : ℕ) (zs : List ℤ) (ev : Evaluated Place) : Type 0 where
+-- A place of the machine with this type, which is this spot, and whose words stand in these.
+pub record IsPlace (e : Seen) (k t : ℕ) (w : Spot) (zs : List ℤ) (ev : Evaluated Place) : Type 0 where
   pub p : Place
   pub gives : ev ≡ Done p (now e k)
   pub of : p.of ≡ t
   pub stand : Stand e (sorts (table e) t) (drop p.at (slots_at e.site.typing e.memory p.base)) zs
+  pub from : IsFrom e p t w
 
-abbrev pub IsTouch : Seen → Bool → ℕ → ℕ → List ℤ → Evaluated Place → Type 0
-IsTouch e true k t zs ev = Stopped e.memory (Traps machine.Touched) ev
-IsTouch e false k t zs ev = IsPlace e k t zs ev
+abbrev pub IsTouch : Seen → Bool → ℕ → ℕ → Spot → List ℤ → Evaluated Place → Type 0
+IsTouch e true k t w zs ev = Stopped e.memory (Traps machine.Touched) ev
+IsTouch e false k t w zs ev = IsPlace e k t w zs ev
 
 -- The same in the cell n of the list, from an offset on, or a touch of it where it is freed.
 pub record InCell (e : Seen) (k t n o : ℕ) (ev : Evaluated Place) : Type 0 where
@@ -181,7 +229,7 @@ pub record InCell (e : Seen) (k t n o : ℕ) (ev : Evaluated Place) : Type 0 whe
   pub small : length c.words ≤ heap_words
   pub inside : o + length (sorts (table e) t) ≤ length c.words
   pub kinds : AllKinds (sorts (table e) t) (drop o c.words)
-  pub leads : IsTouch e c.freed k t (drop o (words_in c.words)) ev
+  pub leads : IsTouch e c.freed k t (flat.InCell n o) (drop o (words_in c.words)) ev
 
 abbrev pub IsDesignated : Seen → ℕ → ℕ → ℕ → ℕ → Evaluated Place → Type 0
 IsDesignated e zero k t o ev = Stopped e.memory flat.constraint ev
@@ -194,6 +242,57 @@ IsBehind e Broken k t o ev = ⊥
 
 -- A place of the lowering, whose own index is a number, is one of the machine.
 abbrev pub Leads : Seen → codes.Place → ℕ → ℕ → ℕ → Evaluated Place → Type 0
-Leads e (codes.InFrame at i) o k t ev = IsPlace e k t (drop (e.flat.base + at + o) e.flat.stack) ev
-Leads e (codes.InPackages at i) o k t ev = IsPlace e k t (drop (at + o) e.flat.stack) ev
+Leads e (codes.InFrame at i) o k t ev =
+    IsPlace e k t (flat.InStack (e.flat.base + at + o)) (drop (e.flat.base + at + o) e.flat.stack) ev
+Leads e (codes.InPackages at i) o k t ev = IsPlace e k t (flat.InStack (at + o)) (drop (at + o) e.flat.stack) ev
 Leads e (codes.Behind p at i) o k t ev = IsBehind e (flat.word e.flat p) k t (at + o) ev
+
+-- What stands at a spot: words of the stack, or of a cell that isn't freed.
+pub record InLive (e : Seen) (t n o : ℕ) (zs : List ℤ) : Type 0 where
+  pub c : StoredCell
+  pub there : slice_get e.flat.cells n ≡ Some c
+  pub live : c.freed ≡ false
+  pub small : length c.words ≤ heap_words
+  pub inside : o + length (sorts (table e) t) ≤ length c.words
+  pub kinds : AllKinds (sorts (table e) t) (drop o c.words)
+  pub words : zs ≡ drop o (words_in c.words)
+
+abbrev pub IsThere : Seen → ℕ → Spot → List ℤ → Type 0
+IsThere e t (flat.InStack n) zs = zs ≡ drop n e.flat.stack
+IsThere e t (flat.InCell n o) zs = InLive e t n o zs
+
+-- The spot of a place is that of the machine's, or both stop.
+abbrev pub SpotSame : Seen → ℕ → ℕ → Evaluated Place → Got Spot → Type 0
+SpotSame e k t ev (Given w) = (zs : List ℤ) × IsPlace e k t w zs ev × IsThere e t w zs
+SpotSame e k t ev (Stops s) = Stopped e.memory s ev
+SpotSame e k t ev Broken = ⊥
+
+-- ---- all of the memory
+
+-- An object of a frame that lies from an index of the stack on.
+pub record Lying : Type 0 where
+  pub frame : ℕ
+  pub object : ℕ
+  pub at : ℕ
+
+abbrev pub lying_sorts : Typing → Lying → List Sort
+lying_sorts s l = sorts s.table (object_at s l.object).of
+
+pub record Related (s : Typing) (all : List Lying) (m : Memory) (f : Flat) : Type 0 where
+  pub objects : (l : Lying) → Has all l
+      → AllStand s.table (types m) (lying_sorts s l) (slots_at s m (OfVariable l.frame l.object)) (drop l.at f.stack)
+  pub cells : HaveCells s.table m f
+  pub counted : Counted m f
+
+-- One object lies before another one.
+abbrev pub IsBefore : Typing → Lying → Lying → Type 0
+IsBefore s l k = l.at + length (lying_sorts s l) ≤ k.at
+
+abbrev pub IsSame : Lying → Lying → Type 0
+IsSame l k = (l.frame ≡ k.frame) × (l.object ≡ k.object) × (l.at ≡ k.at)
+
+-- Objects lie in the stack, and no two share a word.
+pub record AreApart (s : Typing) (all : List Lying) (n : ℕ) : Type 0 where
+  pub within : (l : Lying) → Has all l → l.at + length (lying_sorts s l) ≤ n
+  pub apart : (l k : Lying) → Has all l → Has all k
+      → IsSame l k ⊎ ((((l.frame == k.frame) && (l.object == k.object)) ≡ false) × (IsBefore s l k ⊎ IsBefore s k l))
