@@ -75,7 +75,7 @@ list_written looped (c ∷ cs) h =
     let more = list_written looped cs h.1 in (
       both_true (is_undeclaring c) (is_undeclaring (typed_code_list cs)) h.0.0 more.0,
       both_true (is_placed c) (is_placed (typed_code_list cs) && (flow.is_declaration c || is_undeclaring (typed_code_list cs))) h.0.1
-      (both_true (is_placed (typed_code_list cs)) (flow.is_declaration c || is_undeclaring (typed_code_list cs)) more.1 (or_right (flow.is_declaration c) _ more.0)),
+          (both_true (is_placed (typed_code_list cs)) (flow.is_declaration c || is_undeclaring (typed_code_list cs)) more.1 (or_right (flow.is_declaration c) _ more.0)),
       both_true (is_formed looped c) (is_formed looped (typed_code_list cs)) h.0.2 more.2,
     )
 

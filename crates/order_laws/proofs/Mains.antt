@@ -63,10 +63,10 @@ aligned_at known (e ∷ ds) [] h d has = absurd h
 aligned_at known (e ∷ ds) (sub ∷ subs) h d has = elim (either (nat_eq d e)) [
   | inl here ↦ (sub, ([], subs, refl, sym (number_here d e ds here)), h.0 ∙ ap (result_in known) (sym (same_number d e here)))
   | inr other ↦ (let later = aligned_at known ds subs h.1 d (behind has other) in (
-      later.0,
-      (let at = later.1 in (sub ∷ at.0, at.1, ap (λ z. sub ∷ z) at.2, ap suc at.3 ∙ suc_is (position_or_len (nat_eq d) ds) ∙ sym (number_later d e ds other))),
-      later.2,
-    ))
+    later.0,
+    (let at = later.1 in (sub ∷ at.0, at.1, ap (λ z. sub ∷ z) at.2, ap suc at.3 ∙ suc_is (position_or_len (nat_eq d) ds) ∙ sym (number_later d e ds other))),
+    later.2,
+  ))
 ]
   where
     itself : (d e : ℕ) → nat_eq d e ≡ false → e ≡ d → ⊥
@@ -102,10 +102,13 @@ pub main_at : (s : Site) (us : List Code) → s.bodies ≡ flat_map bodies_in us
     → (n : ℕ) × (sub_number s (front_number front) ≡ suc n) × (sub : TypedSub) × IsSub (over_units (subs_in s) m us) n sub
     × (sub.result ≡ result_in s.context.known (front_number front))
 main_at s us is m front items stmts end has =
-    let found = aligned_at s.context.known (flat_map bodies_in us) (over_units (subs_in s) m us) (units_aligned s m us) (front_number front) (in_units us front items stmts end has) in
-    (position_or_len (nat_eq (front_number front)) (flat_map bodies_in us),
-    ap (λ ds. position_or_len (nat_eq (front_number front)) ds + 1) is ∙ suc_is (position_or_len (nat_eq (front_number front)) (flat_map bodies_in us)),
-    found.0, found.1, found.2)
+    let found = aligned_at s.context.known (flat_map bodies_in us) (over_units (subs_in s) m us) (units_aligned s m us) (front_number front) (in_units us front items stmts end has) in (
+      position_or_len (nat_eq (front_number front)) (flat_map bodies_in us),
+      ap (λ ds. position_or_len (nat_eq (front_number front)) ds + 1) is ∙ suc_is (position_or_len (nat_eq (front_number front)) (flat_map bodies_in us)),
+      found.0,
+      found.1,
+      found.2,
+    )
   where
     suc_is : (n : ℕ) → n + 1 ≡ suc n
     suc_is n = omega arith

@@ -54,14 +54,14 @@ one_place : (xs : List ℕ) (d e : ℕ) → Has xs d → Has xs e → position_o
 one_place [] d e has there same = absurd has
 one_place (x ∷ xs) d e has there same = elim (either (nat_eq d x)) [
   | inl here ↦ elim (either (nat_eq e x)) [
-      | inl other ↦ same_number d x here ∙ sym (same_number e x other)
-      | inr other ↦ absurd (zero_more (position_or_len (nat_eq e) xs) (sym (number_here d x xs here) ∙ same ∙ number_later e x xs other))
-    ]
+    | inl other ↦ same_number d x here ∙ sym (same_number e x other)
+    | inr other ↦ absurd (zero_more (position_or_len (nat_eq e) xs) (sym (number_here d x xs here) ∙ same ∙ number_later e x xs other))
+  ]
   | inr here ↦ elim (either (nat_eq e x)) [
-      | inl other ↦ absurd (zero_more (position_or_len (nat_eq d) xs) (sym (number_here e x xs other) ∙ sym same ∙ number_later d x xs here))
-      | inr other ↦ one_place xs d e (behind d x xs here has) (behind e x xs other there)
-          (one_less (position_or_len (nat_eq d) xs) (position_or_len (nat_eq e) xs) (sym (number_later d x xs here) ∙ same ∙ number_later e x xs other))
-    ]
+    | inl other ↦ absurd (zero_more (position_or_len (nat_eq d) xs) (sym (number_here e x xs other) ∙ sym same ∙ number_later d x xs here))
+    | inr other ↦ one_place xs d e (behind d x xs here has) (behind e x xs other there)
+        (one_less (position_or_len (nat_eq d) xs) (position_or_len (nat_eq e) xs) (sym (number_later d x xs here) ∙ same ∙ number_later e x xs other))
+  ]
 ]
 
 place_below : (xs : List ℕ) (d : ℕ) → Has xs d → position_or_len (nat_eq d) xs < length xs
@@ -188,7 +188,7 @@ module _ (s : Site) (all : List DeclaredObject) (is : s.objects ≡ map number_o
         found.0,
         found.1,
         ap (λ k. get_or (text_io ∷ map object_of all) k text_io) here ∙ one_on (position_or_len (nat_eq (found.0).number) (map number_of all))
-        ∙ object_there all found.0 once (part_has some all part found.0 found.1),
+            ∙ object_there all found.0 once (part_has some all part found.0 found.1),
       )
     where
       more : (n : ℕ) → n + 1 ≡ 1 + n

@@ -147,15 +147,37 @@ module _ (units : List Code) where
   -- with more objects
   more_left : (s : Site) (all more : List DeclaredObject) (sub : TypedSub) → IsBodyOf units s all sub → IsBodyOf units s (all ++ more) sub
   more_left s all more sub b = record {
-    site = b.site; same = b.same; scope = b.scope; front = b.front; items = b.items; stmts = b.stmts; end = b.end; is = b.is;
-    declarations = b.declarations; statements = b.statements; home = b.home; around = b.around; next = b.next;
+    site = b.site;
+    same = b.same;
+    scope = b.scope;
+    front = b.front;
+    items = b.items;
+    stmts = b.stmts;
+    end = b.end;
+    is = b.is;
+    declarations = b.declarations;
+    statements = b.statements;
+    home = b.home;
+    around = b.around;
+    next = b.next;
     part = part_left (objects_in units b.home b.around b.next (SubBody b.front b.items b.stmts b.end)) all more b.part;
   }
 
   more_right : (s : Site) (all before : List DeclaredObject) (sub : TypedSub) → IsBodyOf units s all sub → IsBodyOf units s (before ++ all) sub
   more_right s all before sub b = record {
-    site = b.site; same = b.same; scope = b.scope; front = b.front; items = b.items; stmts = b.stmts; end = b.end; is = b.is;
-    declarations = b.declarations; statements = b.statements; home = b.home; around = b.around; next = b.next;
+    site = b.site;
+    same = b.same;
+    scope = b.scope;
+    front = b.front;
+    items = b.items;
+    stmts = b.stmts;
+    end = b.end;
+    is = b.is;
+    declarations = b.declarations;
+    statements = b.statements;
+    home = b.home;
+    around = b.around;
+    next = b.next;
     part = part_right (objects_in units b.home b.around b.next (SubBody b.front b.items b.stmts b.end)) all before b.part;
   }
 
@@ -163,10 +185,19 @@ module _ (units : List Code) where
       → (sub : TypedSub) → Has (typed_sub site n front items stmts end ∷ []) sub → IsBodyOf units s (objects_in units h a m (SubBody front items stmts end)) sub
   body_of s site h a n m front items stmts end same e sub (inr never) = absurd never
   body_of s site h a n m front items stmts end same e sub (inl is) = record {
-    site = site; same = same; scope = n; front = front; items = items; stmts = stmts; end = end; is = is;
+    site = site;
+    same = same;
+    scope = n;
+    front = front;
+    items = items;
+    stmts = stmts;
+    end = end;
+    is = is;
     declarations = and_first (are_declarations items) (are_statements false stmts) e;
     statements = and_second (are_declarations items) (are_statements false stmts) e;
-    home = h; around = a; next = m;
+    home = h;
+    around = a;
+    next = m;
     part = part_whole (objects_in units h a m (SubBody front items stmts end));
   }
 
@@ -227,15 +258,16 @@ module _ (units : List Code) where
       let first : List DeclaredObject = objects_in units h b.next (b.next + 1) b.items in
       let second : List DeclaredObject = objects_in units h b.next (b.next + 1 + scope_count b.items) b.stmts in
       let inner_same = body_same (placed (in_subprogram b.front) b.site) units h b.next (b.scope + 1) (b.next + 1) b.items b.stmts b.declarations b.statements in
-      let formals_are = formals_same b.site units h b.next (front_formals b.front) in
-      ((formals ++ first) ++ second,
-      ap code.objects_of (sym b.is) ∙ ap (λ xs. xs ++ declared_within (typed_body (placed (in_subprogram b.front) b.site) (b.scope + 1) b.items b.stmts)) formals_are
-      ∙ ap (λ xs. numbers b.site formals ++ xs) inner_same ∙ sym (numbers_append b.site formals (first ++ second))
-      ∙ ap (numbers b.site) (sym (append_assoc formals first second)) ∙ same_site b.site ((formals ++ first) ++ second) b.same,
-      b.part,
-      all_both IsLocal (formals ++ first) second
-      (all_both IsLocal formals first (formals_local units h refl b.next (front_formals b.front)) (declarations_local units h refl b.next (b.next + 1) b.items b.declarations))
-      (statements_local units h refl b.next (b.next + 1 + scope_count b.items) false b.stmts b.statements))
+      let formals_are = formals_same b.site units h b.next (front_formals b.front) in (
+        (formals ++ first) ++ second,
+        ap code.objects_of (sym b.is) ∙ ap (λ xs. xs ++ declared_within (typed_body (placed (in_subprogram b.front) b.site) (b.scope + 1) b.items b.stmts)) formals_are
+            ∙ ap (λ xs. numbers b.site formals ++ xs) inner_same ∙ sym (numbers_append b.site formals (first ++ second))
+            ∙ ap (numbers b.site) (sym (append_assoc formals first second)) ∙ same_site b.site ((formals ++ first) ++ second) b.same,
+        b.part,
+        all_both IsLocal (formals ++ first) second
+            (all_both IsLocal formals first (formals_local units h refl b.next (front_formals b.front)) (declarations_local units h refl b.next (b.next + 1) b.items b.declarations))
+            (statements_local units h refl b.next (b.next + 1 + scope_count b.items) false b.stmts b.statements),
+      )
     where
       numbers_append : (z : Site) (os us : List DeclaredObject) → numbers z (os ++ us) ≡ numbers z os ++ numbers z us
       numbers_append z [] us = refl

@@ -209,12 +209,12 @@ module _ (table : Table) (known : Known) (units : List Code) (written : (u : Cod
           settled = settled sub has;
           once = subst Once (sym os.1) (part_numbers_once site all refl once os.0 os.2);
           numbered = λ x there. (let within = part_numbers_within site all refl once os.0 os.2 x (subst (λ xs. Has xs x) os.1 there) in
-          (within.0, subst (λ n. x < n) (sym (ap length objects_are ∙ counted all)) within.1));
+              (within.0, subst (λ n. x < n) (sym (ap length objects_are ∙ counted all)) within.1));
         },
         λ x there. (let o = part_object site all refl once os.0 os.2 x (subst (λ xs. Has xs x) os.1 there) in
-        ap (λ us. is_some (get_or us x text_io).«package» && not (is_state (get_or us x text_io).kind)) objects_are
-        ∙ outside (get_or (text_io ∷ map (λ (u : DeclaredObject). u.object) all) x text_io)
-        (ap (λ (z : Object). z.«package») o.2 ∙ all_has IsLocal os.0 o.0 os.3 o.1)),
+            ap (λ us. is_some (get_or us x text_io).«package» && not (is_state (get_or us x text_io).kind)) objects_are
+            ∙ outside (get_or (text_io ∷ map (λ (u : DeclaredObject). u.object) all) x text_io)
+            (ap (λ (z : Object). z.«package») o.2 ∙ all_has IsLocal os.0 o.0 os.3 o.1)),
         (placed sub has).1,
       )
     where
@@ -239,7 +239,7 @@ module _ (table : Table) (known : Known) (units : List Code) (written : (u : Cod
         settled = settled_from own lasting first.body (declares_placed declarations declare) (λ x has. absurd (no_parameters declarations declare x has));
         once = subst Once (sym os.1) (part_numbers_once site all refl once os.0 os.2);
         numbered = λ x there. (let within = part_numbers_within site all refl once os.0 os.2 x (subst (λ xs. Has xs x) os.1 there) in
-        (within.0, subst (λ n. x < n) (sym (ap length objects_are ∙ counted all)) within.1));
+            (within.0, subst (λ n. x < n) (sym (ap length objects_are ∙ counted all)) within.1));
       }
 
   each_is : (sub : TypedSub) → Has program.subs sub → IsBody own sub
@@ -269,7 +269,7 @@ module _ (table : Table) (known : Known) (units : List Code) (written : (u : Cod
         declares = declares_alone declarations declare;
         unmoved = unmoved;
         bodies = each_is;
-        local = λ sub has. record { own = (body_is sub has).1; formals = formals sub has; seen = seen sub has; };
+        local = λ sub has. record { own = (body_is sub has).1; formals = formals sub has; seen = seen sub has };
         number = there.0;
         main = sub;
         is_main = is ∙ ap Some (unit.5 ∙ there.1);
