@@ -386,7 +386,7 @@ regions_behind now (e.EndsWithName id expected) other are = are
 
 -- ---- the beginning of a package
 
--- Behind the identifier of a package its region begins.
+-- After the identifier of a package its region begins.
 abbrev pub package_begun : Known → FoldedIdentifier → Known
 package_begun now id = known_behind (known_behind (known_behind now (e.Declares form.Package id)) e.DeclarationsEnd) e.RegionOpens
 
