@@ -7,3 +7,6 @@ pub mod Expressions
 pub mod Spots
 pub mod Held
 pub mod Stores
+pub mod Cells
+pub mod Seeing
+pub mod Heaps

@@ -296,3 +296,8 @@ pub record AreApart (s : Typing) (all : List Lying) (n : ℕ) : Type 0 where
   pub within : (l : Lying) → Has all l → l.at + length (lying_sorts s l) ≤ n
   pub apart : (l k : Lying) → Has all l → Has all k
       → IsSame l k ⊎ ((((l.frame == k.frame) && (l.object == k.object)) ≡ false) × (IsBefore s l k ⊎ IsBefore s k l))
+
+-- The objects of a site lie in the stack: those of its frame, and those of packages.
+pub record IsSited (c : Site) (frame base : ℕ) (all : List Lying) : Type 0 where
+  pub own : (x at : ℕ) → offset_of c x ≡ Some at → is_package_object c.typing x ≡ false → Has all (record { frame = frame; object = x; at = base + at })
+  pub packages : (x at : ℕ) → package_offset c x ≡ Some at → is_package_object c.typing x ≡ true → Has all (record { frame = 0; object = x; at = at })
