@@ -12,3 +12,4 @@ pub mod Whole
 -- accepted programs
 pub mod Faults
 pub mod Accepted
+pub mod Starting
