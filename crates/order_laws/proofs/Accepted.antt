@@ -15,6 +15,7 @@ use Rattle.ready_laws.proofs.Temporaries.{no_temporaries}
 use Rattle.ready_laws.proofs.Ready.{is_ready_program}
 use Rattle.order_laws.specs.Orderly.{typed_of, IsOrderly}
 use Rattle.order_laws.proofs.Faults.{units_faultless}
+use Rattle.order_laws.proofs.Unmoved.{package_values}
 use Rattle.order_laws.proofs.Whole.{in_order}
 
 module _ (p : Program) (effects : Effects) (no_fault : type_fault p ≡ None) (accepted : Accepted (known_of p).table (typed_of p) effects)
@@ -25,7 +26,8 @@ module _ (p : Program) (effects : Effects) (no_fault : type_fault p ≡ None) (a
   is_in_order : IsInOrder table (typed_of p)
   is_in_order =
       in_order table (known_of p) p.units orderly.written orderly.once owns accepted.fine (no_temporaries table (typed_of p) class.no_calls)
-      orderly.formals orderly.seen orderly.unmoved (units_faultless p no_fault) orderly.main orderly.is_main
+      orderly.formals orderly.seen (package_values (known_of p) p.units orderly.whole orderly.written (units_faultless p no_fault))
+      (units_faultless p no_fault) orderly.main orderly.is_main
 
   pub accepted_ready : IsReady table (typed_of p) effects
   accepted_ready =

@@ -1,5 +1,5 @@
 -- The typed code of resolved code as the grammar has it: declarations before statements, exits in loops.
-use Rattle.std.proofs.Common.{◌≡◌, refl, sym, ap, ◌∙◌, subst, ℕ, ◌+◌, Bool, true, false, ◌&&◌, ◌||◌, List, [], ◌∷◌, ◌++◌, map, arith}
+use Rattle.std.proofs.Common.{◌≡◌, refl, ℕ, ◌+◌, Bool, true, false, ◌&&◌, ◌||◌, List, [], ◌∷◌, ◌++◌, map}
 use Rattle.std.specs.List.{AllByRecursion}
 use Rattle.resolved_tree.specs.Trees.{Tree, Code, Incomplete, Private, TypeDecl, Subtype, ConstrainedSubtype, Objects, Numbers, Instance, SubDecl, SubBody, Package, PackageBody, Skip, Assign, Call, Exit, Return, If, Branch, Case, When, Loop, While, For, Block, NoMore, More, code_items}
 use Rattle.resolved_tree.specs.Trees as resolved
@@ -13,13 +13,12 @@ use Rattle.type_definitions.specs.Entries.{entry_of}
 use Rattle.typed_tree.specs.Trees.{TypedTree, TypedCode, typed_code_list}
 use Rattle.typed_tree.specs.Trees as typed
 use Rattle.typed_tree.specs.Expressions.{Site}
-use Rattle.typed_tree.specs.Statements.{scope_count, statements, plain_statements, typed_objects, typed_object, typed_call, call_of, predefined_call, typed_body}
+use Rattle.typed_tree.specs.Statements.{scope_count, statements, typed_object, typed_call, call_of, predefined_call, typed_body}
 use Rattle.flow_paths.specs.Scopes.{is_undeclaring}
 use Rattle.flow_paths.specs.Scopes as flow
 use Rattle.scope_laws.specs.Code.{is_formed}
 use Rattle.scope_laws.specs.Code as scope
 use Rattle.scope_laws.proofs.Lists.{and_first, and_second, both_true, all_both}
-use Rattle.ready_laws.specs.InOrder.{declares_only}
 use Rattle.order_laws.specs.Written.{is_declaration, are_declarations, are_statements, is_statement, are_branches, is_branch, are_alternatives, is_alternative}
 use Rattle.order_laws.specs.Placed.{is_placed, are_placed_branches, is_placed_branch, are_placed_alternatives, is_placed_alternative}
 

@@ -1,5 +1,5 @@
 -- The subprogram of the package objects declares them one by one, and each has a number of its own.
-use Rattle.std.proofs.Common.{◌≡◌, refl, sym, ap, ◌∙◌, subst, ◌⊎◌, inl, inr, ℕ, ◌+◌, ◌≤◌, ◌<◌, Bool, true, false, ◌&&◌, ◌||◌, List, [], ◌∷◌, ◌++◌, map, length}
+use Rattle.std.proofs.Common.{◌≡◌, refl, inl, inr, ℕ, ◌+◌, true, ◌||◌, List, [], ◌∷◌, ◌++◌}
 use Rattle.std.specs.List.{AllByRecursion}
 use Rattle.spark_base.specs.Lists.{Has}
 use Rattle.resolved_tree.specs.Trees.{Code, Incomplete, Private, TypeDecl, Subtype, ConstrainedSubtype, Objects, Numbers, Instance, SubDecl, SubBody, Package, PackageBody, NoMore, More}
@@ -12,7 +12,7 @@ use Rattle.typed_tree.specs.Programs.{DeclaredObject, Home, objects_in, in_packa
 use Rattle.flow_paths.specs.Laid.{declared_within}
 use Rattle.scope_laws.proofs.Lists.{and_first, and_second, both_true, all_both}
 use Rattle.ready_laws.specs.InOrder.{declares_only}
-use Rattle.order_laws.specs.Written.{is_declaration, are_declarations, are_statements, is_body, are_parts, is_procedure, is_unit}
+use Rattle.order_laws.specs.Written.{is_declaration, are_declarations, is_body, are_parts, is_unit}
 use Rattle.order_laws.specs.Placed.{is_placed, parameters}
 use Rattle.order_laws.proofs.Bodies.{IsDeclare, one_declares, all_declare}
 use Rattle.order_laws.proofs.Numbers.{numbers, declared_in, two, one_declaration, declarations_same}

@@ -5,11 +5,12 @@ pub mod Settled
 pub mod Numbers
 pub mod Parts
 pub mod Units
--- the package objects, the main procedure, and all of a program
+-- the package objects, and the main procedure
 pub mod First
 pub mod Mains
-pub mod Whole
--- accepted programs
 pub mod Faults
-pub mod Accepted
 pub mod Starting
+pub mod Unmoved
+-- all of a program
+pub mod Whole
+pub mod Accepted

@@ -1,11 +1,11 @@
 -- The main procedure has its number among the subprograms, and no result.
-use Rattle.std.proofs.Common.{◌≡◌, refl, sym, ap, ◌∙◌, subst, ◌⊎◌, inl, inr, ℕ, zero, suc, ◌+◌, Bool, true, false, not, ◌&&◌, ◌||◌, cond, nat_eq, List, [], ◌∷◌, ◌++◌, map, length, arith, Option, Some, None}
+use Rattle.std.proofs.Common.{◌≡◌, refl, sym, ap, ◌∙◌, subst, inl, inr, ℕ, suc, ◌+◌, Bool, true, false, nat_eq, List, [], ◌∷◌, ◌++◌, arith, Option, Some, None}
 use Rattle.std.specs.Prelude.{flat_map}
 use Rattle.std.specs.List.{position_or_len}
 use Rattle.spark_base.specs.Lists.{Has}
 use Rattle.spark_base.proofs.Lists.{Has-append_left, Has-append_right}
 use Rattle.spark_base.specs.declared.position.Pos.{Pos}
-use Rattle.resolved_tree.specs.Trees.{Code, Front, SubBody, Package, PackageBody, NoMore, More}
+use Rattle.resolved_tree.specs.Trees.{Code, Front, SubBody, PackageBody, NoMore, More}
 use Rattle.type_definitions.specs.declared.judgement.Fault.{Fault}
 use Rattle.type_definitions.specs.declared.table.Known.{Known}
 use Rattle.type_definitions.specs.declared.table.Profile.{Profile}
@@ -15,11 +15,10 @@ use Rattle.type_definitions.specs.Entries.{entry_of}
 use Rattle.type_definitions.specs.Expressions.{profile_of}
 use Rattle.type_definitions.specs.Gathered.{front_number, in_hidden, declared_number, formal_infos, anonymous_result}
 use Rattle.type_definitions.specs.Declarations.{code_faults, body_faults, front_faults, front_pos, agrees, in_body, same_formals, same_result}
-use Rattle.type_definitions.specs.Whole.{outside}
 use Rattle.typed_tree.specs.Expressions.{Site, sub_number}
 use Rattle.typed_tree.specs.Statements.{scope_count}
-use Rattle.typed_tree.specs.Programs.{TypedSub, typed_sub, subs_in, placed, bodies_in, over_units, main_of}
-use Rattle.scope_laws.proofs.Lists.{and_first, and_second}
+use Rattle.typed_tree.specs.Programs.{TypedSub, subs_in, placed, bodies_in, over_units, main_of}
+use Rattle.scope_laws.proofs.Lists.{and_second}
 use Rattle.ready_laws.specs.InOrder.{IsSub}
 use Rattle.order_laws.specs.Written.{is_procedure}
 use Rattle.order_laws.proofs.Parts.{either, same_number, number_here, number_later}

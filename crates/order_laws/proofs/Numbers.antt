@@ -1,11 +1,8 @@
 -- The objects of a body have numbers of their own, where each declaration of an object has one.
-use Rattle.std.proofs.Common.{◌≡◌, refl, sym, ap, ◌∙◌, subst, ◌⊎◌, inl, inr, ℕ, zero, suc, ◌+◌, ◌≤◌, ◌<◌, Bool, true, false, not, ◌&&◌, cond, nat_eq, List, [], ◌∷◌, ◌++◌, map, length, get_or, arith, Some, None}
-use Rattle.std.specs.Prelude.{flat_map, Option, is_some}
-use Rattle.std.specs.List.{AllByRecursion, position_or_len}
+use Rattle.std.proofs.Common.{◌≡◌, refl, sym, ap, ◌∙◌, ℕ, ◌+◌, Bool, true, false, List, [], ◌∷◌, ◌++◌, map, arith}
+use Rattle.std.specs.Prelude.{flat_map}
 use Rattle.std.proofs.lemmas.Grind.{common_steps}
-use Rattle.std.proofs.lemmas.List.{length-map, append_assoc}
-use Rattle.spark_base.specs.Lists.{Has}
-use Rattle.spark_base.proofs.Lists.{Has-append_left, Has-append_right, Has-append_cases, Has-map, Has-map_from}
+use Rattle.std.proofs.lemmas.List.{append_assoc}
 use Rattle.place_names.specs.declared.act.Mode.{Mode}
 use Rattle.place_names.specs.declared.act.Mode.TheVariants as mode
 use Rattle.resolved_tree.specs.Trees.{Tree, Code, Incomplete, Private, TypeDecl, Subtype, ConstrainedSubtype, Objects, Numbers, Instance, Formals, Front, SubDecl, SubBody, Package, PackageBody, Skip, Assign, Call, Exit, Return, If, Branch, Case, When, Loop, While, For, Block, NoMore, More, code_items}
@@ -17,16 +14,13 @@ use Rattle.type_definitions.specs.declared.table.Predefined.TheVariants as prede
 use Rattle.type_definitions.specs.Entries.{entry_of, integer, boolean}
 use Rattle.type_definitions.specs.Expressions.{call_arguments}
 use Rattle.type_definitions.specs.Gathered.{declared_number}
-use Rattle.spark_base.specs.declared.position.Pos.{Pos}
-use Rattle.typed_tree.specs.declared.object.Object.{Object}
 use Rattle.typed_tree.specs.Trees.{TypedTree, TypedCode, typed_code_list}
 use Rattle.typed_tree.specs.Trees as typed
 use Rattle.typed_tree.specs.Expressions.{Site, object_number, typed_expression}
 use Rattle.typed_tree.specs.Statements.{scope_count, statements, typed_object, typed_call, call_of, predefined_call, typed_range, typed_choices, typed_body}
-use Rattle.typed_tree.specs.Programs.{DeclaredObject, Home, objects_in, objects_of, object_of, formals_of, front_formals, formal_numbers, local, text_io}
+use Rattle.typed_tree.specs.Programs.{DeclaredObject, Home, objects_in, object_of, formals_of, formal_numbers}
 use Rattle.flow_paths.specs.Laid.{declared_within}
-use Rattle.scope_laws.specs.Code.{Once}
-use Rattle.scope_laws.proofs.Lists.{and_first, and_second, all_both}
+use Rattle.scope_laws.proofs.Lists.{and_first, and_second}
 use Rattle.order_laws.specs.Written.{is_declaration, are_declarations, are_statements, is_statement, are_branches, is_branch, are_alternatives, is_alternative}
 
 -- ---- the numbers of declarations

@@ -1,22 +1,15 @@
 -- The objects of a body are those of a part of the program, and each has a number of its own.
-use Rattle.std.proofs.Common.{◌≡◌, refl, sym, ap, ◌∙◌, subst, ◌⊎◌, inl, inr, ℕ, zero, suc, ◌+◌, ◌≤◌, ◌<◌, Bool, true, false, not, ◌&&◌, ◌||◌, cond, nat_eq, List, [], ◌∷◌, ◌++◌, map, length, get_or, arith, Some, None}
-use Rattle.std.specs.Prelude.{flat_map, Option, is_some}
-use Rattle.std.specs.List.{AllByRecursion, position_or_len}
+use Rattle.std.proofs.Common.{◌≡◌, refl, sym, ap, ◌∙◌, subst, ◌⊎◌, inl, inr, ℕ, ◌+◌, ◌≤◌, ◌<◌, Bool, true, false, not, cond, nat_eq, List, [], ◌∷◌, ◌++◌, map, length, get_or, arith}
+use Rattle.std.specs.List.{position_or_len}
 use Rattle.std.proofs.lemmas.Grind.{common_steps}
-use Rattle.std.proofs.lemmas.List.{length-map, append_assoc}
+use Rattle.std.proofs.lemmas.List.{length-map}
 use Rattle.spark_base.specs.Lists.{Has}
-use Rattle.spark_base.proofs.Lists.{Has-append_left, Has-append_right, Has-append_cases, Has-map, Has-map_from}
-use Rattle.spark_base.specs.declared.position.Pos.{Pos}
-use Rattle.resolved_tree.specs.Trees.{Code, Incomplete, Private, TypeDecl, Subtype, ConstrainedSubtype, Objects, Numbers, Instance, SubDecl, SubBody, Package, PackageBody, NoMore, More}
+use Rattle.spark_base.proofs.Lists.{Has-map, Has-map_from}
 use Rattle.typed_tree.specs.declared.object.Object.{Object}
 use Rattle.typed_tree.specs.Expressions.{Site, object_number}
-use Rattle.typed_tree.specs.Statements.{scope_count}
-use Rattle.typed_tree.specs.Programs.{TypedSub, DeclaredObject, Home, objects_in, formals_of, front_formals, formal_numbers, local, in_package, package_text, text_io, typed_sub, subs_in, placed, over_units}
-use Rattle.type_definitions.specs.Gathered.{in_hidden, in_subprogram, declared_number}
-use Rattle.scope_laws.specs.Code.{Once, objects_of}
-use Rattle.scope_laws.proofs.Lists.{and_first, and_second, once_left, once_right}
-use Rattle.order_laws.specs.Written.{is_declaration, are_declarations, are_statements, is_body, are_parts, is_procedure, is_unit}
-use Rattle.order_laws.proofs.Numbers.{numbers, body_same, formals_same}
+use Rattle.typed_tree.specs.Programs.{DeclaredObject, text_io}
+use Rattle.scope_laws.specs.Code.{Once}
+use Rattle.order_laws.proofs.Numbers.{numbers}
 
 -- ---- lists of numbers
 

@@ -1,12 +1,7 @@
 -- The initial values of package objects name no object of an owning type: a sentence of typing forbids it.
-use Rattle.std.proofs.Common.{◌≡◌, refl, sym, ap, ◌∙◌, subst, ◌⊎◌, inl, inr, ℕ, zero, suc, ◌+◌, Bool, true, false, not, ◌&&◌, ◌||◌, nat_eq, List, [], ◌∷◌, ◌++◌, map, length, get_or, arith, ℤ, Option, Some, None, if◌then◌else◌}
-use Rattle.std.specs.Prelude.{flat_map, is_none}
-use Rattle.std.specs.List.{AllByRecursion, position_or_len}
-use Rattle.std.proofs.lemmas.Grind.{common_steps}
-use Rattle.spark_base.specs.Lists.{Has}
+use Rattle.std.proofs.Common.{◌≡◌, refl, ap, ◌∙◌, subst, ℕ, ◌+◌, Bool, true, false, not, ◌&&◌, nat_eq, List, [], ◌∷◌, ◌++◌, map, arith, ℤ, if◌then◌else◌}
+use Rattle.std.specs.List.{AllByRecursion}
 use Rattle.spark_base.specs.declared.position.Pos.{Pos}
-use Rattle.place_names.specs.declared.act.Mode.{Mode}
-use Rattle.place_names.specs.declared.act.Mode.TheVariants as mode
 use Rattle.resolved_tree.specs.declared.operator.Operator.{Operator}
 use Rattle.resolved_tree.specs.declared.operator.Operator.TheVariants as operator
 use Rattle.resolved_tree.specs.Trees.{Tree, Number, Text, Named, Parens, Unary, Binary, Aggregate, Others, New, Selected, All, Applied, Attr, Argument, position}
@@ -30,13 +25,12 @@ use Rattle.type_definitions.specs.Statics.{is_alone}
 use Rattle.type_definitions.specs.Expressions.{Given, all_by_position, root_owning, reading_faults, given_names, call_arguments, way_of, onward, around, around_parens, around_operands, around_role, is_loose, role_type, aggregates, parts_role, repeats, repeated_type, mark_faults, inside, arguments, within_suffix, behind, unary_type, operand_type, is_null}
 use Rattle.type_definitions.specs.declared.judgement.Where.TheVariants as stands
 use Rattle.type_definitions.specs.Gathered.{natural_of}
-use Rattle.typed_tree.specs.declared.node.ShortCircuit.TheVariants as short
 use Rattle.typed_tree.specs.Trees.{TypedTree, typed_list}
 use Rattle.typed_tree.specs.Trees as typed
-use Rattle.typed_tree.specs.Expressions.{Site, object_number, number, value_of_type, designating, element, typed_name, compared, operands, has_name, named_value, arranged, role_names, arguments_given, typed_expression, typed_steps, typed_step, typed_actuals, typed_imaged, typed_first, typed_values, typed_optional}
+use Rattle.typed_tree.specs.Expressions.{Site, object_number, number, value_of_type, designating, element, typed_name, operands, has_name, named_value, arranged, typed_expression, typed_steps, typed_step, typed_actuals, typed_imaged, typed_first, typed_values}
 use Rattle.flow_paths.specs.Objects.{Typing, object_at}
 use Rattle.scope_laws.specs.Code.{roots}
-use Rattle.scope_laws.proofs.Lists.{and_first, and_second, both_true, all_both}
+use Rattle.scope_laws.proofs.Lists.{and_first, and_second, both_true}
 use Rattle.ready_laws.specs.InOrder.{own_nothing}
 use Rattle.order_laws.proofs.Mains.{nothing_left, nothing_right, demanded}
 

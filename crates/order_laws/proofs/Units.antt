@@ -1,26 +1,24 @@
 -- The subprograms of typed programs: their objects are those of a part of the program.
-use Rattle.std.proofs.Common.{◌≡◌, refl, sym, ap, ◌∙◌, subst, ◌⊎◌, inl, inr, ℕ, zero, suc, ◌+◌, ◌≤◌, ◌<◌, Bool, true, false, not, ◌&&◌, ◌||◌, nat_eq, List, [], ◌∷◌, ◌++◌, map, length, get_or, arith, Some, None}
-use Rattle.std.specs.Prelude.{flat_map, Option}
+use Rattle.std.proofs.Common.{◌≡◌, refl, sym, ap, ◌∙◌, inl, inr, ℕ, ◌+◌, Bool, true, false, ◌&&◌, ◌||◌, nat_eq, List, [], ◌∷◌, ◌++◌, map, None}
+use Rattle.std.specs.Prelude.{flat_map}
 use Rattle.std.specs.List.{AllByRecursion, position_or_len}
 use Rattle.std.proofs.lemmas.List.{append_assoc}
 use Rattle.spark_base.specs.Lists.{Has}
-use Rattle.spark_base.proofs.Lists.{Has-append_left, Has-append_right, Has-append_cases}
+use Rattle.spark_base.proofs.Lists.{Has-append_cases}
 use Rattle.spark_base.specs.declared.position.Pos.{Pos}
-use Rattle.resolved_tree.specs.Trees.{Code, Incomplete, Private, TypeDecl, Subtype, ConstrainedSubtype, Objects, Numbers, Instance, Formals, Front, SubDecl, SubBody, Package, PackageBody, Skip, Assign, Call, Exit, Return, If, Branch, Case, When, Loop, While, For, Block, NoMore, More, code_items}
+use Rattle.resolved_tree.specs.Trees.{Code, Incomplete, Private, TypeDecl, Subtype, ConstrainedSubtype, Objects, Numbers, Instance, Formals, SubDecl, SubBody, Package, PackageBody, Skip, Assign, Call, Exit, Return, If, Branch, Case, When, Loop, While, For, Block, NoMore, More, code_items}
 use Rattle.place_names.specs.declared.act.Mode.{Mode}
 use Rattle.place_names.specs.declared.act.Mode.TheVariants as mode
-use Rattle.type_definitions.specs.Gathered.{in_visible, in_hidden, in_subprogram, declared_number, declared_text}
-use Rattle.typed_tree.specs.declared.object.Object.{Object}
-use Rattle.typed_tree.specs.Trees.{TypedCode, typed_code_list}
+use Rattle.type_definitions.specs.Gathered.{in_hidden, in_subprogram, declared_number}
 use Rattle.typed_tree.specs.Expressions.{Site, object_number}
 use Rattle.flow_paths.specs.Laid.{declared_within}
-use Rattle.typed_tree.specs.Statements.{scope_count, statements, typed_body}
-use Rattle.typed_tree.specs.Programs.{TypedSub, DeclaredObject, Home, objects_in, object_of, objects_of, formals_of, front_formals, formal_numbers, local, in_package, package_text, typed_sub, subs_in, placed, elaborated, over_units}
+use Rattle.typed_tree.specs.Statements.{scope_count, typed_body}
+use Rattle.typed_tree.specs.Programs.{TypedSub, DeclaredObject, Home, objects_in, object_of, formals_of, front_formals, local, in_package, package_text, typed_sub, subs_in, placed, over_units}
 use Rattle.scope_laws.specs.Code as code
 use Rattle.scope_laws.proofs.Lists.{and_first, and_second, all_both}
 use Rattle.order_laws.specs.Written.{is_declaration, are_declarations, are_statements, is_statement, are_branches, is_branch, are_alternatives, is_alternative, is_body, are_parts, is_procedure, is_unit}
 use Rattle.order_laws.proofs.Numbers.{numbers, body_same, formals_same}
-use Rattle.order_laws.proofs.Parts.{IsPart, part_whole, part_none, part_both, part_left, part_right}
+use Rattle.order_laws.proofs.Parts.{IsPart, part_whole, part_left, part_right}
 
 -- ---- objects of no package
 

@@ -1,6 +1,6 @@
 -- The subprograms of a typed program whose resolved code is as the grammar has it, and in which each declaration
 -- of an object has a number of its own.
-use Rattle.std.proofs.Common.{◌≡◌, refl, sym, ap, ◌∙◌, subst, ◌⊎◌, inl, inr, ℕ, zero, suc, ◌+◌, ◌≤◌, ◌<◌, Bool, true, false, not, ◌&&◌, ◌||◌, List, [], ◌∷◌, ◌++◌, map, length, get_or, arith, Some, None, if◌then◌else◌}
+use Rattle.std.proofs.Common.{◌≡◌, refl, sym, ap, ◌∙◌, subst, inl, inr, ℕ, zero, suc, ◌+◌, ◌<◌, true, false, not, ◌&&◌, List, [], ◌∷◌, ◌++◌, map, length, get_or, arith, Some, None, if◌then◌else◌}
 use Rattle.std.specs.Prelude.{flat_map, is_some}
 use Rattle.std.specs.List.{AllByRecursion}
 use Rattle.std.proofs.lemmas.List.{length-map}
@@ -8,7 +8,7 @@ use Rattle.spark_base.specs.Lists.{Has}
 use Rattle.spark_base.proofs.Lists.{Has-append_left, Has-append_right, Has-map}
 use Rattle.place_names.specs.declared.act.Mode.{Mode}
 use Rattle.place_names.specs.declared.act.Mode.TheVariants as mode
-use Rattle.resolved_tree.specs.Trees.{Code, Objects, Numbers, Formals, Front, SubBody, Package, PackageBody, If, Branch, Case, When, Loop, While, For, Block, NoMore, More, code_items}
+use Rattle.resolved_tree.specs.Trees.{Code, Objects, Numbers, Formals, SubBody, Package, PackageBody, If, Branch, Case, When, Loop, While, For, Block, More, code_items}
 use Rattle.type_definitions.specs.declared.table.Kind.{Kind}
 use Rattle.type_definitions.specs.declared.table.Kind.TheVariants as kind
 use Rattle.type_definitions.specs.declared.table.Known.{Known}
@@ -20,18 +20,15 @@ use Rattle.type_definitions.specs.Gathered.{declared_number, declared_text}
 use Rattle.type_definitions.specs.Declarations.{code_faults}
 use Rattle.type_definitions.specs.Whole.{outside}
 use Rattle.typed_tree.specs.declared.object.Object.{Object}
-use Rattle.typed_tree.specs.declared.object.ObjectKind.{ObjectKind}
-use Rattle.typed_tree.specs.declared.object.ObjectKind.TheVariants as object_kind
-use Rattle.typed_tree.specs.Trees.{TypedTree, TypedCode}
+use Rattle.typed_tree.specs.Trees.{TypedCode}
 use Rattle.typed_tree.specs.Expressions.{Site}
 use Rattle.typed_tree.specs.Statements.{scope_count}
-use Rattle.typed_tree.specs.Programs.{TypedSub, TypedProgram, DeclaredObject, Home, objects_in, object_of, objects_of, formals_of, front_formals, local, in_package, package_text, kind_of, entry_kind, program_objects, text_io, site_of, subs_in, elaborated, elaboration, over_units, typed_program}
-use Rattle.flow_paths.specs.Instructions as instruction
+use Rattle.typed_tree.specs.Programs.{TypedSub, TypedProgram, DeclaredObject, Home, objects_in, object_of, formals_of, front_formals, local, in_package, package_text, kind_of, entry_kind, program_objects, text_io, site_of, subs_in, elaborated, elaboration, over_units, typed_program}
 use Rattle.flow_paths.specs.Objects.{Typing, object_at, is_formal, is_package_object, is_state}
-use Rattle.flow_paths.specs.Points.{NamedPoint, FlowPoint, entry}
+use Rattle.flow_paths.specs.Points.{NamedPoint, entry}
 use Rattle.flow_paths.specs.Layout.{laid}
-use Rattle.flow_paths.specs.Laid.{FlowProgram, NamedSub, around_body, procedure_end, function_end, sub_points, sub_temporaries, named_sub, named_subs, all_named, flow_sub, typing_of, flow_typing, flow_program, flow_named}
-use Rattle.flow_paths.specs.Scopes.{is_temporary, leaves_silently, is_settled}
+use Rattle.flow_paths.specs.Laid.{NamedSub, around_body, procedure_end, function_end, sub_temporaries, named_sub, named_subs, all_named, flow_sub, typing_of, flow_typing, flow_program, flow_named}
+use Rattle.flow_paths.specs.Scopes.{is_temporary, is_settled}
 use Rattle.soundness.specs.Typed.{OwnsByShape}
 use Rattle.soundness.specs.Needed.{IsFine, AreFine}
 use Rattle.soundness.proofs.Points.{flow_at, typing_same}
@@ -46,8 +43,7 @@ use Rattle.order_laws.proofs.Bodies.{IsDeclare, typed_body_written}
 use Rattle.order_laws.proofs.First.{units_declare, declares_alone, declares_placed, no_parameters, units_some}
 use Rattle.order_laws.proofs.Mains.{main_unit, main_at, procedure_result}
 use Rattle.order_laws.proofs.Settled.{settled_from, starts, scalar_silent}
-use Rattle.order_laws.proofs.Numbers.{numbers}
-use Rattle.order_laws.proofs.Parts.{number_of, IsPart, part_numbers_once, part_numbers_within, part_object}
+use Rattle.order_laws.proofs.Parts.{number_of, part_numbers_once, part_numbers_within, part_object}
 use Rattle.order_laws.proofs.Units.{IsLocal, IsBodyOf, units_of, body_objects}
 
 -- ---- kinds of objects

@@ -1,14 +1,15 @@
 -- What is asked of the resolved code of an accepted program so that it is ready: beside what typing and the
 -- reports say.
-use Rattle.std.specs.Prelude.{◌≡◌, ℕ, true, List, map, Some}
+use Rattle.std.specs.Prelude.{◌≡◌, ℕ, true, false, List, map, Some}
 use Rattle.spark_base.specs.Lists.{Has}
 use Rattle.resolved_tree.specs.Trees.{Code, Program}
+use Rattle.type_definitions.specs.Types.{is_owning}
+use Rattle.type_definitions.specs.Entries.{integer}
 use Rattle.type_definitions.specs.Whole.{known_of}
-use Rattle.typed_tree.specs.Programs.{TypedSub, TypedProgram, DeclaredObject, program_objects, site_of, subs_in, elaboration, over_units, typed_program}
+use Rattle.typed_tree.specs.Programs.{TypedSub, TypedProgram, DeclaredObject, program_objects, site_of, subs_in, over_units, typed_program}
 use Rattle.flow_paths.specs.Objects.{Typing, is_formal, is_package_object}
 use Rattle.flow_paths.specs.Laid.{typing_of}
 use Rattle.scope_laws.specs.Code.{Once, body_seen}
-use Rattle.ready_laws.specs.InOrder.{names_no_owner}
 use Rattle.order_laws.specs.Written.{is_unit}
 
 -- The typed program, its typing, and its subprograms with a body in the text.
@@ -30,8 +31,8 @@ pub record IsOrderly (p : Program) : Type 0 where
   pub formals : (sub : TypedSub) → Has (bodies_of p) sub → (x : ℕ) → Has sub.formals x → is_formal (typing_in p) x ≡ true
   -- what names denote is in scope where they stand, or an object of a package
   pub seen : (sub : TypedSub) → Has (bodies_of p) sub → body_seen (is_package_object (typing_in p)) sub ≡ true
-  -- initial values of package objects name no object of an owning type
-  pub unmoved : names_no_owner (typing_in p) (elaboration (site_of (known_of p) p.units) p.units).body ≡ true
+  -- Integer owns nothing
+  pub whole : is_owning (known_of p).table integer ≡ false
   -- there is a main procedure
   pub main : ℕ
   pub is_main : (typed_of p).main ≡ Some main
