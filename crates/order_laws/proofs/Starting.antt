@@ -250,4 +250,3 @@ module _ (own : Typing) (s : Site) (b : Bool) (started : b ≡ true)
         (nothing_left (within_suffix c (onward c a way) (Applied args)) (behind c (onward c (Applied args) (onward c a way)) rest)
         (nothing_right (within_suffix c way a) (behind c (onward c a way) (resolved.More (Applied args) rest)) faults))
     imaged_none _ way faults = refl
-
