@@ -82,7 +82,7 @@ freed_kept (suc n) g (c ∷ cells) keeps = freed_more c (at_number n g cells) ce
 pub cell_changed : (s : Typing) (all : List Lying) (m : Memory) (f : Flat) (n : ℕ) (slots : List Slot) (change : StoredCell → StoredCell)
     → Related s all m f → n < length m.cells → length slots ≡ length (cell m (suc n)).slots
     → ((k : StoredCell) → slice_get f.cells n ≡ Some k → CellStands s.table (types m) (cell m (suc n)) k
-        → CellStands s.table (types m) (record (cell m (suc n)) { slots = slots }) (change k))
+    → CellStands s.table (types m) (record (cell m (suc n)) { slots = slots }) (change k))
     → Related s all (put (OfCell (suc n)) slots m) (record f { cells = changed change f.cells n })
 cell_changed s all m f n slots change related within long on = record {
   objects = λ l has. subst (λ t. AllStand s.table t (lying_sorts s l) (slots_at s m (OfVariable l.frame l.object)) (drop l.at f.stack)) (sym kept) (related.objects l has);
@@ -109,12 +109,14 @@ cell_changed s all m f n slots change related within long on = record {
 
     have : (k : ℕ) → k < length m.cells → (b : Bool) → (n == k) ≡ b
         → (c : StoredCell) × (slice_get (changed change f.cells n) k ≡ Some c)
-          × CellStands s.table (map (λ (c : HeapCell). c.of) (at_number n g m.cells)) (get_or (at_number n g m.cells) k no_cell) c
+        × CellStands s.table (map (λ (c : HeapCell). c.of) (at_number n g m.cells)) (get_or (at_number n g m.cells) k no_cell) c
     have k lt false other =
-        let old = related.cells k lt in
-        (old.0, stored_other n k change f.cells other ∙ old.1,
-        subst (λ t. CellStands s.table t (get_or (at_number n g m.cells) k no_cell) old.0) (sym kept)
-        (subst (λ c. CellStands s.table (types m) c old.0) (sym (number_other n k g m.cells other)) old.2))
+        let old = related.cells k lt in (
+          old.0,
+          stored_other n k change f.cells other ∙ old.1,
+          subst (λ t. CellStands s.table t (get_or (at_number n g m.cells) k no_cell) old.0) (sym kept)
+              (subst (λ c. CellStands s.table (types m) c old.0) (sym (number_other n k g m.cells other)) old.2),
+        )
     have k lt true same =
         let old = related.cells n within in
         let is : n ≡ k = same_number n k same in

@@ -20,7 +20,7 @@ use Rattle.run_codes.proofs.Stores.{splice, spliced_is, object_changed, stored_i
 
 pub seen_from : (e : Seen) (all : List Lying) → IsTable (table e) → Related e.site.typing all e.memory e.flat → IsSited e.site e.frame e.flat.base all
     → ((k t : ℕ) → slice_get e.site.takes k ≡ Some t
-        → IsValue (table e) (types e.memory) (sorts (table e) t) (get_or e.waits k []) (take (words (table e) t) (drop (words_before_value e.site k) e.flat.waits)))
+    → IsValue (table e) (types e.memory) (sorts (table e) t) (get_or e.waits k []) (take (words (table e) t) (drop (words_before_value e.site k) e.flat.waits)))
     → IsSeen e
 seen_from e all laws related sited waits = record {
   laws = laws;
