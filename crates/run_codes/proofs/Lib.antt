@@ -10,3 +10,4 @@ pub mod Stores
 pub mod Cells
 pub mod Seeing
 pub mod Heaps
+pub mod Moves

@@ -32,7 +32,7 @@ seen_from e all laws related sited waits = record {
 }
 
 -- Where a place lies, an object lies.
-lies_there : (e : Seen) (all : List Lying) (frame x start : ℕ) → IsSited e.site e.frame e.flat.base all → LiesIn e frame x start
+pub lies_there : (e : Seen) (all : List Lying) (frame x start : ℕ) → IsSited e.site e.frame e.flat.base all → LiesIn e frame x start
     → Has all (record { frame = frame; object = x; at = start })
 lies_there e all frame x start sited lies = elim lies [
   | inl own ↦ own_there own

@@ -178,20 +178,29 @@ object_changed s all m f l n a slots new related apart here is inside stand = re
       ])
     ]
 
--- A value is stored in a part of an object.
+-- A part of an object has other slots.
+pub slots_in_stack : (s : Typing) (all : List Lying) (m : Memory) (f : Flat) (l : Lying) (p : Place) (n : ℕ) (part : List Sort) (ys : List Slot) (zs : List ℤ)
+    → Related s all m f → AreApart s all (length f.stack) → Has all l → p.base ≡ OfVariable l.frame l.object → n ≡ l.at + p.at
+    → IsSplit (lying_sorts s l) p.at part → p.at + length part ≤ length (lying_sorts s l)
+    → length ys ≡ length part → length zs ≡ length part → AllStand s.table (types m) part ys zs
+    → Related s all (with_slots s p ys m) (with_stack f (spliced n zs f.stack))
+slots_in_stack s all m f l p n part ys zs related apart here base is split inside long_ys long_zs value =
+    let old : List Slot = variable_slots s l.frame l.object m.variables in
+    let stand = split_replaced s.table (types m) (lying_sorts s l) part p.at old ys (drop l.at f.stack) zs split long_ys long_zs (related.objects l here) value in
+    let fits : p.at + length zs ≤ length (lying_sorts s l) = subst (λ k. p.at + k ≤ length (lying_sorts s l)) (sym long_zs) inside in
+    let changed = object_changed s all m f l n p.at (splice p.at ys old) zs related apart here is fits stand in
+    let slots_are : splice p.at ys old ≡ (take p.at old ++ ys) ++ drop (p.at + length ys) old = sym (spliced_is p.at ys old) in
+    let moved : Related s all (put (OfVariable l.frame l.object) ((take p.at old ++ ys) ++ drop (p.at + length ys) old) m) (with_stack f (splice n zs f.stack)) =
+    subst (λ x. Related s all (put (OfVariable l.frame l.object) x m) (with_stack f (splice n zs f.stack))) slots_are changed in
+    let based : Related s all (with_slots s p ys m) (with_stack f (splice n zs f.stack)) =
+    subst (λ b. Related s all (put b ((take p.at (slots_at s m b) ++ ys) ++ drop (p.at + length ys) (slots_at s m b)) m) (with_stack f (splice n zs f.stack))) (sym base) moved in
+    subst (λ x. Related s all (with_slots s p ys m) (with_stack f x)) (sym (spliced_is n zs f.stack)) based
+
+-- A value is stored there.
 pub stored_in_stack : (s : Typing) (all : List Lying) (m : Memory) (f : Flat) (l : Lying) (p : Place) (n : ℕ) (part : List Sort) (ws : List Word) (zs : List ℤ)
     → Related s all m f → AreApart s all (length f.stack) → Has all l → p.base ≡ OfVariable l.frame l.object → n ≡ l.at + p.at
     → IsSplit (lying_sorts s l) p.at part → p.at + length part ≤ length (lying_sorts s l) → IsValue s.table (types m) part ws zs
     → Related s all (stored s p ws m) (with_stack f (spliced n zs f.stack))
 stored_in_stack s all m f l p n part ws zs related apart here base is split inside value =
-    let old : List Slot = variable_slots s l.frame l.object m.variables in
-    let fresh_long : length (fresh ws) ≡ length part = length-map ws (λ w. record { word = w; gone = false }) ∙ value.words in
-    let stand = split_replaced s.table (types m) (lying_sorts s l) part p.at old (fresh ws) (drop l.at f.stack) zs split fresh_long value.numbers (related.objects l here) value.stand in
-    let fits : p.at + length zs ≤ length (lying_sorts s l) = subst (λ k. p.at + k ≤ length (lying_sorts s l)) (sym value.numbers) inside in
-    let changed = object_changed s all m f l n p.at (splice p.at (fresh ws) old) zs related apart here is fits stand in
-    let slots_are : splice p.at (fresh ws) old ≡ (take p.at old ++ fresh ws) ++ drop (p.at + length (fresh ws)) old = sym (spliced_is p.at (fresh ws) old) in
-    let moved : Related s all (put (OfVariable l.frame l.object) ((take p.at old ++ fresh ws) ++ drop (p.at + length (fresh ws)) old) m) (with_stack f (splice n zs f.stack)) =
-    subst (λ x. Related s all (put (OfVariable l.frame l.object) x m) (with_stack f (splice n zs f.stack))) slots_are changed in
-    let based : Related s all (stored s p ws m) (with_stack f (splice n zs f.stack)) =
-    subst (λ b. Related s all (put b ((take p.at (slots_at s m b) ++ fresh ws) ++ drop (p.at + length (fresh ws)) (slots_at s m b)) m) (with_stack f (splice n zs f.stack))) (sym base) moved in
-    subst (λ x. Related s all (stored s p ws m) (with_stack f x)) (sym (spliced_is n zs f.stack)) based
+    slots_in_stack s all m f l p n part (fresh ws) zs related apart here base is split inside
+    (length-map ws (λ w. record { word = w; gone = false }) ∙ value.words) value.numbers value.stand

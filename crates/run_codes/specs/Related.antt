@@ -12,7 +12,7 @@ use Rattle.type_definitions.specs.declared.table.Component.{Component}
 use Rattle.type_definitions.specs.Types.{Table, shape_of, span, words}
 use Rattle.type_definitions.specs.Entries.{integer}
 use Rattle.flow_paths.specs.Objects.{Typing, object_at, is_package_object}
-use Rattle.machine.specs.Words.{Word, Int, Enumerated, Null, Cell}
+use Rattle.machine.specs.Words.{Word, Int, Enumerated, Null, Cell, access_offsets}
 use Rattle.machine.specs.Typed.{Sort, Whole, Position, Pointer, sorts, repeated_sorts, same_designated}
 use Rattle.machine.specs.Memory.{Memory, Slot, Place, HeapCell, cell, slots_at, fresh, live_words, OfVariable, OfCell}
 use Rattle.machine.specs.Evaluate.{Here, Now, Evaluated, Done, heap_words}
@@ -109,6 +109,7 @@ pub record IsTable (table : Table) : Type 0 where
       → sorts table t ≡ repeated_sorts (span low high) (sorts table element)
   pub same : (t u : ℕ) → same_designated table t u ≡ true → sorts table t ≡ sorts table u
   pub small : (t : ℕ) → words table t ≤ most_words
+  pub accesses : (t o : ℕ) → Has (access_offsets table t) o → (d : ℕ) × (slice_get (sorts table t) o ≡ Some (Pointer d))
 
 -- ---- what an evaluation goes by
 
