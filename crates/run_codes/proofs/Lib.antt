@@ -11,3 +11,4 @@ pub mod Cells
 pub mod Seeing
 pub mod Heaps
 pub mod Moves
+pub mod News
