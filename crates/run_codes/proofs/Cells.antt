@@ -1,20 +1,17 @@
 -- A store into a cell keeps what stands for the machine's memory.
-use Rattle.std.proofs.Common.{◌≡◌, ◌⊎◌, inl, inr, ℕ, zero, suc, ◌+◌, ◌-◌, ◌<◌, ◌≤◌, true, false, Bool, not, ◌&&◌, List, [], ◌∷◌, ◌++◌, map, filter, length, take, drop, get_or, sum, refl, sym, ap, subst, ◌∙◌, arith, Option, Some, None, slice_get, ℤ, pos, negsuc, nat_lt, if◌then◌else◌, length-append}
-use Rattle.std.specs.Prelude.{◌==◌, unsigned_abs}
+use Rattle.std.proofs.Common.{◌≡◌, ℕ, zero, suc, ◌+◌, ◌-◌, ◌<◌, ◌≤◌, true, false, List, [], ◌∷◌, ◌++◌, map, length, drop, get_or, refl, sym, ap, subst, ◌∙◌, arith, Some, slice_get, ℤ, pos, negsuc, nat_lt, if◌then◌else◌}
+use Rattle.std.specs.Prelude.{◌==◌}
 use Rattle.std.proofs.lemmas.List.{length-map}
-use Rattle.std.proofs.lemmas.List.Sums.{sum_by-cons}
 use Rattle.run_values.specs.declared.value.Value.{Value}
-use Rattle.run_values.specs.declared.value.Value.TheVariants as value
-use Rattle.run_values.specs.declared.value.Kind.{Kind}
 use Rattle.run_values.specs.declared.value.Kind.TheVariants as sort
 use Rattle.run_values.specs.Values.{kind}
 use Rattle.reuse_heap.specs.Cells.{Cell as StoredCell, changed}
 use Rattle.type_definitions.specs.Types.{Table}
 use Rattle.machine.specs.Words.{Word}
-use Rattle.machine.specs.Typed.{Sort, Whole, Position, Pointer, sorts}
-use Rattle.machine.specs.Memory.{Slot, HeapCell, no_cell, at_number, cell_words, live_cells, fresh}
+use Rattle.machine.specs.Typed.{Sort, Whole, Position, Pointer}
+use Rattle.machine.specs.Memory.{HeapCell, no_cell, at_number, fresh}
 use Rattle.run_codes.specs.Flat.{kind_of, word_of, words_in, value_of, access_value, values, gone_from, most_cells}
-use Rattle.run_codes.specs.Related.{PointsTo, SlotStands, AllStand, AllKinds, IsSplit}
+use Rattle.run_codes.specs.Related.{SlotStands, AllStand, AllKinds, IsSplit}
 use Rattle.run_codes.proofs.Stores.{splice}
 
 -- ---- values and their words

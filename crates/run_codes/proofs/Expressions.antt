@@ -1,6 +1,6 @@
 -- An expression that is lowered gives what it gives on the machine, and a name leads where it leads there.
-use Rattle.std.proofs.Common.{◌≡◌, ◌⊎◌, inl, inr, ℕ, zero, suc, ◌+◌, ◌-◌, ◌*◌, ◌<◌, ◌≤◌, true, false, Bool, not, ◌&&◌, IsTrue, List, [], ◌∷◌, length, drop, refl, sym, ap, subst, ◌∙◌, arith, Option, Some, None, ℤ, pos, negsuc, nat_lt, if◌then◌else◌}
-use Rattle.std.specs.Prelude.{option_and_then, unsigned_abs, int_le, ◌-ℤ◌, nat_le, ◌==◌}
+use Rattle.std.proofs.Common.{◌≡◌, inl, inr, ℕ, ◌+◌, ◌*◌, ◌<◌, ◌≤◌, true, false, Bool, not, ◌&&◌, IsTrue, List, [], ◌∷◌, length, drop, refl, sym, ap, subst, ◌∙◌, arith, Option, Some, None, ℤ, pos, nat_lt, if◌then◌else◌}
+use Rattle.std.specs.Prelude.{option_and_then, unsigned_abs, ◌-ℤ◌, nat_le, ◌==◌}
 use Rattle.std.specs.Ordering.{int_eq}
 use Rattle.resolved_tree.specs.declared.operator.Operator.{Operator}
 use Rattle.resolved_tree.specs.declared.operator.UnaryOperator.{UnaryOperator}
@@ -11,15 +11,15 @@ use Rattle.run_values.specs.Items.{at_end}
 use Rattle.type_definitions.specs.declared.table.Shape.{Shape}
 use Rattle.type_definitions.specs.declared.table.Shape.TheVariants as shape
 use Rattle.type_definitions.specs.declared.table.Component.{Component}
-use Rattle.type_definitions.specs.Types.{Table, shape_of, span, words, is_owning}
+use Rattle.type_definitions.specs.Types.{Table, shape_of, words, is_owning}
 use Rattle.type_definitions.specs.Entries.{boolean}
 use Rattle.typed_tree.specs.Trees.{TypedTree, Name, Component as IntoComponent, Designated, Element, Call, EndOfFile, Parens, NoMore}
 use Rattle.typed_tree.specs.Trees as typed
-use Rattle.flow_paths.specs.Objects.{Typing, object_at, sub_at, is_package_object}
+use Rattle.flow_paths.specs.Objects.{object_at, sub_at, is_package_object}
 use Rattle.flow_paths.specs.Names.{has_call, waiting}
 use Rattle.machine.specs.Words.{Word, Int, Enumerated, component_type, words_before, element_type}
 use Rattle.machine.specs.Typed.{Sort, Whole, Position, Pointer, sorts, takes_whole, takes_truth, compares_words, is_not, field_count, is_record, has_bounds, designates}
-use Rattle.machine.specs.Memory.{Memory, Place, OfVariable, slots_at, words_of, moved_out}
+use Rattle.machine.specs.Memory.{Place, OfVariable, slots_at, words_of, moved_out}
 use Rattle.machine.specs.Evaluate.{Here, Now, Evaluated, Done, followed_by, ConstraintError, Step, ToComponent, ToElement, ToDesignated, steps_of, walked, stepped, variable_place, Use, AsValue, AsView, held, taken, held_or_taken, evaluate, waited, operated, operated_alone, given, truth, is_null, decides, indexed}
 use Rattle.machine.specs.Evaluate as machine
 use Rattle.run_codes.specs.Codes.{Code, Number, Scaled, Unary, Binary, Short, IsNull, Waiting, InFrame, InPackages, Behind}
@@ -28,9 +28,9 @@ use Rattle.run_codes.specs.Flat.{Flat, Got, Given, Stops, Broken, Stop, Raises, 
 use Rattle.run_codes.specs.Flat as flat
 use Rattle.run_codes.specs.Lowered.{Site, offset_of, package_offset, no_index, Placed, in_frame, in_packages, option_map, object_place, load, moved_by, joined, indexed_by, component_of, element_of, designated_of, Lowered, of_sort, sort_of, whole_code, is_taken, loaded, named, is_nth, words_before_value, unary, binary, short_circuit, null_test, max_position, lowered, led}
 use Rattle.run_codes.specs.Lowered as lowering
-use Rattle.run_codes.specs.Related.{Stands, AllStand, IsTable, most_words, Seen, table, here, now, types, Stand, IsSeen, Stopped, Same, IsPlace, Leads}
+use Rattle.run_codes.specs.Related.{Stands, IsTable, most_words, Seen, table, here, now, types, Stand, IsSeen, Stopped, Same, Leads}
 use Rattle.run_codes.proofs.Parts.{many, whole_split, split_inside}
-use Rattle.run_codes.proofs.Places.{impossible, some_same, given_same, if_some, if_none, both_true, below, twice, no_step, one_step, stopped_on, stopped_by, same_by, IsPart, leads_part, component_part, element_part, holds, place_indexes, loads, OfType, of_leads, leads_designated}
+use Rattle.run_codes.proofs.Places.{impossible, some_same, if_some, if_none, both_true, below, no_step, one_step, stopped_on, stopped_by, same_by, leads_part, component_part, element_part, holds, place_indexes, loads, OfType, of_leads, leads_designated}
 use Rattle.run_codes.proofs.Operators.{truth_same, wholes, wholes_compared, positions_joined, positions_compared, whole_one, position_one, decides_same, null_tested, one_same, two_same}
 use Rattle.run_codes.proofs.Indexes.{offset_given, moved_further, indexed_further, moved_indexes, indexed_given, indexed_stops, indexed_stopped, designated_given, designated_stopped, load_stops, element_within}
 use Rattle.run_codes.proofs.Waits.{nth_there, waited_word, takes_none}

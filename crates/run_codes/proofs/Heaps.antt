@@ -1,20 +1,17 @@
 -- A value stored in a part of a cell keeps all that stands for the machine's memory.
-use Rattle.std.proofs.Common.{◌≡◌, ◌⊎◌, inl, inr, ℕ, zero, suc, ◌+◌, ◌-◌, ◌<◌, ◌≤◌, true, false, Bool, not, ◌&&◌, List, [], ◌∷◌, ◌++◌, map, filter, length, take, drop, get_or, sum, refl, sym, ap, subst, ◌∙◌, arith, Option, Some, None, slice_get, ℤ, if◌then◌else◌}
+use Rattle.std.proofs.Common.{◌≡◌, ℕ, zero, suc, ◌+◌, ◌<◌, ◌≤◌, true, false, Bool, not, List, [], ◌∷◌, ◌++◌, map, filter, length, take, drop, get_or, sum, refl, sym, ap, subst, ◌∙◌, arith, Some, slice_get, ℤ, if◌then◌else◌}
 use Rattle.std.specs.Prelude.{◌==◌}
 use Rattle.std.proofs.lemmas.List.{length-map}
 use Rattle.std.proofs.lemmas.List.Sums.{sum_by-cons}
-use Rattle.spark_base.specs.Lists.{Has}
 use Rattle.run_values.specs.declared.value.Value.{Value}
-use Rattle.run_values.specs.declared.value.Kind.{Kind}
 use Rattle.reuse_heap.specs.Cells.{Cell as StoredCell, changed}
 use Rattle.type_definitions.specs.Types.{Table}
-use Rattle.type_definitions.specs.Entries.{integer}
 use Rattle.flow_paths.specs.Objects.{Typing}
 use Rattle.machine.specs.Words.{Word}
 use Rattle.machine.specs.Typed.{Sort, sorts}
-use Rattle.machine.specs.Memory.{Memory, Slot, HeapCell, Place, OfVariable, OfCell, no_cell, cell, at_number, cell_words, live_cells, live_words, fresh, slots_at, put, stored}
+use Rattle.machine.specs.Memory.{Memory, Slot, HeapCell, Place, OfVariable, OfCell, no_cell, cell, at_number, cell_words, live_cells, fresh, slots_at, put, stored}
 use Rattle.run_codes.specs.Flat.{Flat, kinds, kind_of, words_in, values, spliced, with_words, most_cells}
-use Rattle.run_codes.specs.Related.{AllStand, AllKinds, IsValue, IsSplit, CellStands, HaveCells, Counted, types, Lying, lying_sorts, Related}
+use Rattle.run_codes.specs.Related.{AllStand, IsValue, IsSplit, CellStands, types, Lying, lying_sorts, Related}
 use Rattle.run_codes.proofs.Parts.{split_inside}
 use Rattle.run_codes.proofs.Stores.{splice, spliced_is, split_replaced}
 use Rattle.run_codes.proofs.Cells.{values_words, values_kinds, values_long, split_kinds, words_spliced, splice_long, number_same, number_other, number_long, number_types, stored_same, stored_other, stored_long}

@@ -1,20 +1,18 @@
 -- What stands at a spot is the value that the machine finds there.
-use Rattle.std.proofs.Common.{◌≡◌, ℕ, zero, suc, ◌+◌, ◌<◌, ◌≤◌, true, false, Bool, ◌&&◌, IsTrue, List, [], ◌∷◌, map, length, take, drop, refl, sym, ap, subst, ◌∙◌, arith, Option, Some, None, slice_get, ℤ, pos, negsuc, nat_lt, if◌then◌else◌}
+use Rattle.std.proofs.Common.{◌≡◌, ℕ, zero, suc, ◌+◌, ◌<◌, ◌≤◌, true, false, ◌&&◌, List, [], ◌∷◌, map, length, take, drop, refl, sym, ap, subst, ◌∙◌, arith, ℤ, pos, negsuc, nat_lt, if◌then◌else◌}
 use Rattle.std.specs.Prelude.{unsigned_abs, int_le, nat_le}
 use Rattle.std.proofs.lemmas.List.{length-map}
 use Rattle.run_values.specs.declared.value.Value.{Value}
 use Rattle.run_values.specs.declared.value.Kind.{Kind}
 use Rattle.run_values.specs.declared.value.Kind.TheVariants as sort
-use Rattle.run_values.specs.Values.{kind}
-use Rattle.run_values.specs.Arithmetic.{is_integer}
 use Rattle.reuse_heap.specs.Cells.{Cell as StoredCell}
 use Rattle.type_definitions.specs.Types.{Table, words}
 use Rattle.machine.specs.Words.{Word}
 use Rattle.machine.specs.Typed.{Sort, Whole, Position, Pointer, sorts}
 use Rattle.machine.specs.Memory.{Slot, HeapCell, Place, fresh, slots_at, words_of}
 use Rattle.machine.specs.Evaluate.{Evaluated, Touched, heap_words}
-use Rattle.run_codes.specs.Flat.{Flat, Got, Given, Stops, Broken, Traps, and_then, kind_of, kinds, same_kind, is_word, have_kinds, are_in, front, front_of_cell, words_at, all_fresh, as_fresh, held, touched, most_cells, most_offsets, Spot, InStack, InCell, words_in}
-use Rattle.run_codes.specs.Related.{PointsTo, Stands, IsMarked, SlotStands, AllStand, AllKinds, IsValue, Seen, table, types, IsPlace, InLive, IsThere}
+use Rattle.run_codes.specs.Flat.{Given, Stops, Broken, Traps, and_then, kind_of, kinds, same_kind, is_word, have_kinds, are_in, front, front_of_cell, words_at, all_fresh, as_fresh, held, touched, most_cells, most_offsets, Spot, InStack, InCell, words_in}
+use Rattle.run_codes.specs.Related.{PointsTo, Stands, SlotStands, AllStand, AllKinds, IsValue, Seen, table, types, IsPlace, IsThere}
 use Rattle.run_codes.proofs.Parts.{many}
 
 -- ---- words of kinds

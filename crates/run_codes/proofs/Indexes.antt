@@ -1,5 +1,5 @@
 -- Indexes of places: where a name leads on, they are evaluated as before, and one more after them.
-use Rattle.std.proofs.Common.{◌≡◌, ℕ, zero, suc, ◌+◌, ◌-◌, ◌*◌, ◌<◌, ◌≤◌, true, false, Bool, ◌&&◌, List, [], ◌∷◌, refl, sym, ap, subst, ◌∙◌, arith, Option, Some, None, ℤ, pos, negsuc, nat_lt, if◌then◌else◌}
+use Rattle.std.proofs.Common.{◌≡◌, ℕ, zero, ◌+◌, ◌<◌, ◌≤◌, true, ◌&&◌, refl, ap, ◌∙◌, arith, ℤ, pos, nat_lt, if◌then◌else◌}
 use Rattle.std.specs.Prelude.{unsigned_abs, int_le, ◌-ℤ◌, slice_get}
 use Rattle.run_values.specs.declared.value.Kind.{Kind}
 use Rattle.type_definitions.specs.Types.{span}

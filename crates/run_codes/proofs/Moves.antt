@@ -1,16 +1,13 @@
 -- What is moved out of an object is gone on both sides.
-use Rattle.std.proofs.Common.{◌≡◌, ◌⊎◌, inl, inr, ℕ, zero, suc, ◌+◌, ◌<◌, ◌≤◌, true, false, Bool, ◌&&◌, List, [], ◌∷◌, ◌++◌, map, length, take, drop, refl, sym, ap, subst, ◌∙◌, arith, Option, Some, None, slice_get, ℤ, pos, negsuc, if◌then◌else◌}
-use Rattle.std.specs.List.{list_all}
+use Rattle.std.proofs.Common.{◌≡◌, inl, inr, ℕ, zero, suc, true, ◌&&◌, List, [], ◌∷◌, map, length, take, drop, refl, sym, ap, subst, ◌∙◌, Some, slice_get, ℤ, pos, negsuc, if◌then◌else◌}
 use Rattle.spark_base.specs.Lists.{Has}
-use Rattle.run_values.specs.declared.value.Kind.{Kind}
-use Rattle.run_values.specs.declared.value.Kind.TheVariants as sort
 use Rattle.type_definitions.specs.Types.{Table, words}
-use Rattle.machine.specs.Words.{Word, access_offsets}
-use Rattle.machine.specs.Typed.{Sort, Whole, Position, Pointer, sorts}
+use Rattle.machine.specs.Words.{access_offsets}
+use Rattle.machine.specs.Typed.{Sort, Pointer, sorts}
 use Rattle.machine.specs.Memory.{Slot, Place, at_number, gone_at, slots_at, slots_of, with_slots}
 use Rattle.machine.specs.Memory as machine
 use Rattle.machine.specs.Evaluate.{Evaluated}
-use Rattle.run_codes.specs.Flat.{Flat, Got, Given, Broken, and_then, kind_of, kinds, front, all_gone, as_gone, is_pointer, are_pointers, spliced, with_stack, moved_out, most_cells, InStack}
+use Rattle.run_codes.specs.Flat.{Flat, Given, Broken, and_then, kind_of, kinds, front, all_gone, as_gone, is_pointer, are_pointers, spliced, with_stack, moved_out, InStack}
 use Rattle.run_codes.specs.Related.{SlotStands, AllStand, IsTable, Seen, table, types, IsPlace, IsThere, Lying, lying_sorts, Related, AreApart, IsSited}
 use Rattle.run_codes.proofs.Parts.{many, split_inside}
 use Rattle.run_codes.proofs.Places.{some_same}

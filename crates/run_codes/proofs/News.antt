@@ -1,11 +1,9 @@
 -- A cell that is made on both sides keeps what stands for the machine's memory.
-use Rattle.std.proofs.Common.{◌≡◌, ◌⊎◌, inl, inr, ℕ, zero, suc, ◌+◌, ◌<◌, ◌≤◌, true, false, Bool, not, ◌&&◌, List, [], ◌∷◌, ◌++◌, map, filter, length, drop, get_or, sum, refl, sym, ap, subst, ◌∙◌, arith, Option, Some, None, slice_get, ℤ, pos, negsuc, if◌then◌else◌, length-append}
+use Rattle.std.proofs.Common.{◌≡◌, inl, inr, ℕ, zero, suc, ◌+◌, ◌<◌, ◌≤◌, true, false, Bool, not, List, [], ◌∷◌, ◌++◌, map, filter, length, drop, get_or, sum, refl, sym, ap, subst, ◌∙◌, arith, Some, slice_get, ℤ, if◌then◌else◌, length-append}
 use Rattle.std.specs.Prelude.{unsigned_abs}
 use Rattle.std.proofs.lemmas.List.{length-map}
 use Rattle.std.proofs.lemmas.List.Sums.{sum_by-cons}
 use Rattle.std.proofs.lemmas.Bool.{cases_lt}
-use Rattle.spark_base.specs.Lists.{Has}
-use Rattle.run_values.specs.declared.value.Value.{Value}
 use Rattle.reuse_heap.specs.Cells.{Cell as StoredCell}
 use Rattle.type_definitions.specs.Types.{Table}
 use Rattle.type_definitions.specs.Entries.{integer}
@@ -14,8 +12,8 @@ use Rattle.machine.specs.Words.{Word}
 use Rattle.machine.specs.Typed.{Sort, Whole, Position, Pointer, sorts}
 use Rattle.machine.specs.Memory.{Memory, Slot, HeapCell, OfVariable, no_cell, cell, cell_words, live_cells, live_words, fresh, slots_at, with_new_cell}
 use Rattle.machine.specs.Evaluate.{heap_words}
-use Rattle.run_codes.specs.Flat.{Flat, kinds, kind_of, words_in, values, with_cell, most_cells}
-use Rattle.run_codes.specs.Related.{PointsTo, Designates, Stands, SlotStands, AllStand, AllKinds, IsValue, CellStands, Counted, types, Lying, lying_sorts, Related}
+use Rattle.run_codes.specs.Flat.{Flat, kinds, words_in, values, with_cell, most_cells}
+use Rattle.run_codes.specs.Related.{PointsTo, Designates, Stands, AllStand, IsValue, CellStands, types, Lying, lying_sorts, Related}
 use Rattle.run_codes.proofs.Cells.{values_words, values_kinds, values_long}
 
 -- ---- more cells

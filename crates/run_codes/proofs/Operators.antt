@@ -1,6 +1,6 @@
 -- What operators give over words without tags is what they give on the machine.
-use Rattle.std.proofs.Common.{◌≡◌, ℕ, zero, suc, ◌+◌, true, false, Bool, not, ◌&&◌, ◌||◌, IsTrue, List, [], ◌∷◌, refl, sym, ap, subst, ◌∙◌, arith, Option, Some, None, ℤ, pos, negsuc, nat_lt, nat_eq, if◌then◌else◌}
-use Rattle.std.specs.Prelude.{unsigned_abs, int_le, int_lt, nat_le, int_div, int_rem, ◌+ℤ◌, ◌-ℤ◌, ◌*ℤ◌, neg_ℤ, ◌==◌}
+use Rattle.std.proofs.Common.{◌≡◌, ℕ, zero, suc, true, false, Bool, not, ◌&&◌, ◌||◌, IsTrue, List, [], ◌∷◌, refl, sym, ap, subst, ◌∙◌, arith, Option, Some, None, ℤ, pos, if◌then◌else◌}
+use Rattle.std.specs.Prelude.{unsigned_abs, int_le, int_lt, int_div, int_rem, ◌+ℤ◌, ◌-ℤ◌, ◌*ℤ◌, neg_ℤ, ◌==◌}
 use Rattle.resolved_tree.specs.declared.operator.Operator.{Operator}
 use Rattle.resolved_tree.specs.declared.operator.Operator.TheVariants as operator
 use Rattle.resolved_tree.specs.declared.operator.UnaryOperator.{UnaryOperator}
@@ -10,13 +10,12 @@ use Rattle.typed_tree.specs.declared.node.ShortCircuit.TheVariants as short
 use Rattle.run_values.specs.Arithmetic.{is_integer, fits, int_mod, sum, difference, product, quotient, modulus, remainder, negation, absolute}
 use Rattle.type_definitions.specs.Entries.{integer, boolean}
 use Rattle.type_definitions.specs.Statics as statics
-use Rattle.machine.specs.Words.{Word, Int, Enumerated, Null, Cell}
+use Rattle.machine.specs.Words.{Word, Int, Enumerated}
 use Rattle.machine.specs.Typed.{Sort, Whole, Position, Pointer, takes_whole, takes_truth, compares_words, is_not}
-use Rattle.machine.specs.Evaluate.{Now, Evaluated, Done, followed_by, ConstraintError, operated, operated_alone, given, truth, is_null, decides, is_true}
-use Rattle.machine.specs.Evaluate as machine
+use Rattle.machine.specs.Evaluate.{Now, Evaluated, Done, followed_by, operated, operated_alone, given, truth, is_null, decides, is_true}
 use Rattle.run_codes.specs.Flat.{Got, Given, Stops, Broken, Stop, and_then, applied, applied_alone, constraint, is_zero, is_above}
 use Rattle.run_codes.specs.Flat as flat
-use Rattle.run_codes.specs.Related.{Stands, PointsTo, Seen, table, now, types, Stopped, Same}
+use Rattle.run_codes.specs.Related.{Stands, PointsTo, Seen, table, now, types, Same}
 use Rattle.run_codes.proofs.Places.{if_some, some_same, same_by, stopped_on}
 
 -- ---- values of Integer, and truths

@@ -1,19 +1,17 @@
 -- Parts of what stands for other words.
-use Rattle.std.proofs.Common.{◌≡◌, ◌⊎◌, inl, inr, ℕ, zero, suc, ◌+◌, ◌-◌, ◌*◌, ◌<◌, ◌≤◌, true, false, Bool, IsTrue, List, [], ◌∷◌, ◌++◌, map, flat_map, length, get_or, take, drop, sum, refl, sym, ap, subst, ◌∙◌, arith, length-append, append-nil, Option, Some, None, slice_get, ℤ}
+use Rattle.std.proofs.Common.{◌≡◌, ℕ, zero, suc, ◌+◌, ◌*◌, ◌<◌, ◌≤◌, List, [], ◌∷◌, ◌++◌, map, flat_map, length, get_or, take, drop, sum, refl, sym, ap, subst, ◌∙◌, arith, length-append, append-nil, Some, slice_get, ℤ}
 use Rattle.std.proofs.lemmas.List.{drop-drop}
 use Rattle.std.proofs.lemmas.List.Sums.{sum_by-cons}
-use Rattle.std.proofs.lemmas.Grind.{common_steps}
 use Rattle.run_values.specs.declared.value.Value.{Value}
-use Rattle.run_values.specs.Values.{kind}
 use Rattle.type_definitions.specs.declared.table.Component.{Component}
 use Rattle.type_definitions.specs.declared.table.Shape.{Shape}
 use Rattle.type_definitions.specs.declared.table.Shape.TheVariants as shape
 use Rattle.type_definitions.specs.Types.{Table, shape_found, span, words, words_of, words_within}
-use Rattle.machine.specs.Words.{Word, no_component}
+use Rattle.machine.specs.Words.{no_component}
 use Rattle.machine.specs.Typed.{Sort, sorts, sorts_of, sorts_within, repeated_sorts}
 use Rattle.machine.specs.Memory.{Slot}
-use Rattle.run_codes.specs.Flat.{word_of, words_in, kind_of}
-use Rattle.run_codes.specs.Related.{SlotStands, AllStand, AllKinds, IsSplit}
+use Rattle.run_codes.specs.Flat.{words_in}
+use Rattle.run_codes.specs.Related.{AllStand, AllKinds, IsSplit}
 
 -- ---- sorts
 

@@ -1,8 +1,7 @@
 -- A place of the lowering leads where the machine's leads: components, elements, what is designated, and the
 -- word that stands there.
-use Rattle.std.proofs.Common.{◌≡◌, ℕ, zero, suc, ◌+◌, ◌-◌, ◌*◌, ◌<◌, ◌≤◌, true, false, Bool, not, ◌&&◌, IsTrue, List, [], ◌∷◌, ◌++◌, map, length, get_or, take, drop, sum, refl, sym, ap, subst, ◌∙◌, arith, Option, Some, None, slice_get, ℤ, pos, negsuc, nat_lt, if◌then◌else◌}
+use Rattle.std.proofs.Common.{◌≡◌, ℕ, zero, suc, ◌+◌, ◌*◌, ◌<◌, ◌≤◌, true, false, Bool, ◌&&◌, List, [], ◌∷◌, map, length, get_or, take, drop, sum, refl, sym, ap, subst, ◌∙◌, arith, Option, Some, None, slice_get, ℤ, pos, nat_lt, if◌then◌else◌}
 use Rattle.std.specs.Prelude.{unsigned_abs}
-use Rattle.std.proofs.lemmas.Grind.{common_steps}
 use Rattle.std.proofs.lemmas.List.{drop-drop, length-map}
 use Rattle.run_values.specs.declared.value.Value.{Value}
 use Rattle.run_values.specs.declared.value.Kind.{Kind}
@@ -15,8 +14,8 @@ use Rattle.type_definitions.specs.declared.table.Component.{Component}
 use Rattle.type_definitions.specs.Types.{Table, shape_of, components_of, view_of, span, words}
 use Rattle.type_definitions.specs.Entries.{integer}
 use Rattle.flow_paths.specs.Objects.{Typing, object_at, designated, designated_of}
-use Rattle.machine.specs.Words.{Word, Null, Cell, component_type, words_before, no_component, element_type, element_of}
-use Rattle.machine.specs.Typed.{Sort, Whole, Position, Pointer, sorts, repeated_sorts, field_count, is_record, designates}
+use Rattle.machine.specs.Words.{Word, Cell, component_type, words_before, no_component, element_type, element_of}
+use Rattle.machine.specs.Typed.{Sort, Pointer, sorts, repeated_sorts, designates}
 use Rattle.machine.specs.Memory.{Memory, Slot, HeapCell, Place, no_cell, cell, slots_at, words_of}
 use Rattle.machine.specs.Evaluate.{Now, Evaluated, Done, followed_by, ConstraintError, Touched, heap_words, Step, ToComponent, ToElement, ToDesignated, walked, stepped, component_place, element_place, cell_place, designated_place}
 use Rattle.machine.specs.Evaluate as machine
@@ -25,7 +24,7 @@ use Rattle.run_codes.specs.Codes as codes
 use Rattle.run_codes.specs.Flat.{Flat, Got, Given, Stops, Broken, Stop, Raises, Traps, and_then, found, kind_of, same_kind, word_of, words_in, touched, value_word, behind, behind_at, constraint, most_cells, most_offsets, Spot, word, indexes}
 use Rattle.run_codes.specs.Flat as flat
 use Rattle.run_codes.specs.Lowered.{no_index, load}
-use Rattle.run_codes.specs.Related.{Designates, PointsTo, Stands, SlotStands, AllStand, AllKinds, CellStands, HaveCells, IsTable, Seen, table, now, types, Stand, IsSeen, Stopped, Same, IsSplit, IsFrom, IsPlace, IsTouch, InCell, IsDesignated, IsBehind, Leads}
+use Rattle.run_codes.specs.Related.{Designates, PointsTo, Stands, SlotStands, AllStand, AllKinds, HaveCells, IsTable, Seen, table, now, types, Stand, IsSeen, Stopped, Same, IsSplit, IsFrom, IsPlace, IsTouch, InCell, IsDesignated, IsBehind, Leads}
 use Rattle.run_codes.proofs.Parts.{many, all_sorts, before, component_stands, component_kinds, component_split, element_stands, element_kinds, element_split, join_split, whole_split, split_inside, first_word, first_value, words-drop}
 
 -- ---- small facts

@@ -1,20 +1,16 @@
 -- The spot of a place that is lowered is that of the machine's place.
-use Rattle.std.proofs.Common.{◌≡◌, ℕ, zero, suc, ◌+◌, ◌<◌, ◌≤◌, true, false, Bool, ◌&&◌, List, [], ◌∷◌, length, drop, refl, sym, ap, subst, ◌∙◌, arith, Option, Some, None, slice_get, ℤ, pos, nat_lt, if◌then◌else◌}
+use Rattle.std.proofs.Common.{◌≡◌, ℕ, zero, suc, ◌+◌, ◌≤◌, true, false, Bool, ◌&&◌, length, drop, refl, sym, ap, subst, ◌∙◌, arith, Some, None, slice_get, ℤ, pos, nat_lt, if◌then◌else◌}
 use Rattle.std.specs.Prelude.{option_and_then, unsigned_abs, ◌==◌}
-use Rattle.reuse_heap.specs.Cells.{Cell as StoredCell}
 use Rattle.typed_tree.specs.Trees.{TypedTree, Name}
-use Rattle.typed_tree.specs.Trees as typed
 use Rattle.flow_paths.specs.Names.{waiting}
-use Rattle.machine.specs.Typed.{sorts}
 use Rattle.machine.specs.Memory.{Place}
-use Rattle.machine.specs.Evaluate.{Now, Evaluated, Done, followed_by, Touched, Step, steps_of, walked, variable_place, place_of, heap_words}
+use Rattle.machine.specs.Evaluate.{Evaluated, Done, followed_by, Touched, steps_of, walked, variable_place, place_of}
 use Rattle.run_codes.specs.Codes.{InFrame, InPackages, Behind}
 use Rattle.run_codes.specs.Codes as codes
-use Rattle.run_codes.specs.Flat.{Flat, Got, Given, Stops, Broken, Stop, Traps, and_then, is_broken, touched, constraint, most_cells, most_offsets, Spot, InStack, InCell, cell_spot, spot, word, words_in, indexes}
+use Rattle.run_codes.specs.Flat.{Flat, Got, Given, Stops, Broken, Stop, Traps, and_then, is_broken, touched, most_cells, most_offsets, InStack, InCell, cell_spot, spot, word, words_in, indexes}
 use Rattle.run_codes.specs.Lowered.{Site, Placed, object_place, led, place}
-use Rattle.run_codes.specs.Related.{Seen, table, here, now, IsSeen, Stopped, IsTouch, InCell as Cellwise, IsDesignated, IsBehind, Leads, IsThere, SpotSame}
+use Rattle.run_codes.specs.Related.{Seen, here, now, IsSeen, IsTouch, InCell as Cellwise, IsDesignated, IsBehind, Leads, SpotSame}
 use Rattle.run_codes.proofs.Places.{impossible, some_same, given_on, if_some, stopped_on, in_bounds, place_indexes}
-use Rattle.run_codes.proofs.Indexes.{stops_on, last_stops}
 use Rattle.run_codes.proofs.Expressions.{and_then_some, begins, Walked, walks}
 
 -- ---- cells

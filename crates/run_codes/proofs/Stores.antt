@@ -1,5 +1,5 @@
 -- A store into an object keeps what stands for the machine's memory.
-use Rattle.std.proofs.Common.{◌≡◌, ◌⊎◌, inl, inr, ℕ, zero, suc, ◌+◌, ◌-◌, ◌<◌, ◌≤◌, true, false, Bool, ◌&&◌, List, [], ◌∷◌, ◌++◌, length, take, drop, refl, sym, ap, subst, ◌∙◌, arith, ℤ, if◌then◌else◌}
+use Rattle.std.proofs.Common.{◌≡◌, ◌⊎◌, inl, inr, ℕ, zero, suc, ◌+◌, ◌-◌, ◌≤◌, true, false, Bool, ◌&&◌, List, [], ◌∷◌, ◌++◌, length, take, drop, refl, sym, ap, subst, ◌∙◌, arith, ℤ, if◌then◌else◌}
 use Rattle.std.specs.Prelude.{◌==◌}
 use Rattle.std.proofs.lemmas.List.{drop-drop, length-map}
 use Rattle.std.proofs.lemmas.Slice.{drop-append-drop}
@@ -10,7 +10,7 @@ use Rattle.machine.specs.Words.{Word}
 use Rattle.machine.specs.Typed.{Sort}
 use Rattle.machine.specs.Memory.{Memory, Slot, Variable, Place, OfVariable, fresh, slots_at, variable_slots, is_variable, with_variable, put, with_slots, stored}
 use Rattle.run_codes.specs.Flat.{Flat, spliced, with_stack}
-use Rattle.run_codes.specs.Related.{SlotStands, AllStand, IsValue, IsSplit, types, Lying, lying_sorts, Related, IsBefore, IsSame, AreApart}
+use Rattle.run_codes.specs.Related.{AllStand, IsValue, IsSplit, types, Lying, lying_sorts, Related, IsBefore, IsSame, AreApart}
 use Rattle.run_codes.proofs.Places.{both_true}
 
 -- ---- lists in which some are replaced

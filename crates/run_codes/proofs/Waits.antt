@@ -1,21 +1,18 @@
 -- Values that wait, and expressions that take none.
-use Rattle.std.proofs.Common.{◌≡◌, ℕ, zero, suc, ◌+◌, ◌<◌, ◌≤◌, true, false, Bool, ◌||◌, ◌&&◌, List, [], ◌∷◌, map, length, get_or, take, drop, sum, refl, sym, ap, subst, ◌∙◌, arith, Option, Some, None, slice_get, ℤ, if◌then◌else◌}
+use Rattle.std.proofs.Common.{◌≡◌, ℕ, zero, suc, ◌+◌, true, false, Bool, ◌||◌, List, [], ◌∷◌, length, get_or, take, drop, refl, sym, ap, subst, ◌∙◌, arith, Option, Some, None, slice_get, ℤ, if◌then◌else◌}
 use Rattle.std.specs.Prelude.{◌==◌}
 use Rattle.std.proofs.lemmas.List.{drop-drop}
-use Rattle.type_definitions.specs.Types.{words, shape_of}
-use Rattle.typed_tree.specs.Trees.{TypedTree, Name, Component as IntoComponent, Designated, Element, Call, EndOfFile, Parens, Image, Unary, Binary, Short, IsNull, Aggregate, Alike, New, NoMore, More, Number, Literal, Null, Text}
+use Rattle.type_definitions.specs.Types.{words}
+use Rattle.typed_tree.specs.Trees.{TypedTree, Name, Component as IntoComponent, Designated, Element, Call, Parens, Image, Unary, Binary, Short, IsNull, Aggregate, Alike, New, More}
 use Rattle.flow_paths.specs.Names.{has_call, waiting}
 use Rattle.machine.specs.Words.{Word}
 use Rattle.machine.specs.Typed.{Sort, sorts}
-use Rattle.machine.specs.Memory.{fresh}
-use Rattle.machine.specs.Evaluate.{Now, Evaluated, Done, waited}
+use Rattle.machine.specs.Evaluate.{Done, waited}
 use Rattle.run_codes.specs.Codes.{Waiting}
-use Rattle.run_codes.specs.Flat.{Got, Given, found, word}
-use Rattle.run_codes.specs.Lowered.{Site, is_nth, words_before_value, Lowered, sort_of, option_map}
-use Rattle.run_codes.specs.Lowered as lowering
-use Rattle.run_codes.specs.Related.{Stands, IsValue, IsTable, Seen, table, here, now, types, IsSeen, Same}
+use Rattle.run_codes.specs.Flat.{found, word}
+use Rattle.run_codes.specs.Lowered.{Site, is_nth, words_before_value}
+use Rattle.run_codes.specs.Related.{Stands, IsValue, Seen, table, now, types, IsSeen, Same}
 use Rattle.run_codes.proofs.Parts.{many, first_word}
-use Rattle.run_codes.proofs.Places.{if_some, some_same, impossible}
 
 -- ---- lists
 

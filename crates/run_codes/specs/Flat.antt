@@ -2,7 +2,7 @@
 --
 -- A word is a value of Integer, a position, or an access value: 0 for null, and else the number of a cell
 -- from 1. Where an access value was moved away, the number stands with a minus.
-use Rattle.std.specs.Prelude.{ℕ, zero, suc, ◌+◌, ◌-◌, ◌*◌, Bool, true, false, not, ◌&&◌, ◌||◌, ◌==◌, List, [], ◌∷◌, ◌++◌, map, length, take, drop, slice_get, nat_lt, nat_le, Option, Some, None, ℤ, pos, negsuc, ◌+ℤ◌, ◌-ℤ◌, unsigned_abs, neg_ℤ, int_lt, int_le, if◌then◌else◌}
+use Rattle.std.specs.Prelude.{ℕ, zero, suc, ◌+◌, ◌-◌, ◌*◌, Bool, true, false, not, ◌&&◌, ◌||◌, ◌==◌, List, [], ◌∷◌, ◌++◌, map, length, take, drop, slice_get, nat_lt, nat_le, Option, Some, None, ℤ, pos, negsuc, ◌-ℤ◌, unsigned_abs, neg_ℤ, int_lt, int_le, if◌then◌else◌}
 use Rattle.std.specs.List.{list_all}
 use Rattle.resolved_tree.specs.declared.operator.Operator.{Operator}
 use Rattle.resolved_tree.specs.declared.operator.Operator.TheVariants as operator
@@ -22,7 +22,7 @@ use Rattle.reuse_heap.specs.Cells.{Cell, allocated, changed, released}
 use Rattle.machine.specs.Words as machine
 use Rattle.machine.specs.Words.{default, access_offsets}
 use Rattle.machine.specs.Memory.{at_number}
-use Rattle.machine.specs.Evaluate.{Exception, ConstraintError, StorageError, Trap, Touched, Twice, heap_words}
+use Rattle.machine.specs.Evaluate.{Exception, ConstraintError, StorageError, Trap, Touched, heap_words}
 use Rattle.machine.specs.Typed.{Sort, Whole, Position, Pointer, sorts}
 use Rattle.run_codes.specs.Codes.{Code, Number, Local, Global, Via, Scaled, Plus, Unary, Binary, Short, IsNull, Waiting, EndOfFile, Nothing, Place, InFrame, InPackages, Behind, Fill, Checked, Pointer as LookedAt, MovedPointer, Copied, Moved, Waited, New, Default, Repeated, Both, Empty}
 

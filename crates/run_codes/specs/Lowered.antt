@@ -1,5 +1,5 @@
 -- From typed expressions to codes. What isn't typed has none.
-use Rattle.std.specs.Prelude.{ℕ, suc, zero, ◌+◌, Bool, true, false, not, ◌&&◌, ◌==◌, List, [], ◌∷◌, ◌++◌, map, length, sum, take, slice_get, nat_lt, nat_le, Option, Some, None, option_and_then, ℤ, pos, if◌then◌else◌}
+use Rattle.std.specs.Prelude.{ℕ, suc, zero, ◌+◌, Bool, true, false, ◌&&◌, ◌==◌, List, [], ◌∷◌, map, sum, take, slice_get, nat_lt, nat_le, Option, Some, None, option_and_then, ℤ, pos, if◌then◌else◌}
 use Rattle.resolved_tree.specs.declared.operator.Operator.{Operator}
 use Rattle.resolved_tree.specs.declared.operator.UnaryOperator.{UnaryOperator}
 use Rattle.typed_tree.specs.declared.node.ShortCircuit.{ShortCircuit}
@@ -15,7 +15,7 @@ use Rattle.typed_tree.specs.Trees as typed
 use Rattle.flow_paths.specs.Objects.{Typing, object_at, sub_at, is_package_object}
 use Rattle.flow_paths.specs.Names.{has_call, waiting}
 use Rattle.machine.specs.Words.{component_type, words_before, element_type, element_count}
-use Rattle.machine.specs.Typed.{Sort, Whole, Position, Pointer, sorts, same_sort, same_sorts, is_pointer, points_to, takes_whole, takes_truth, compares_words, is_not, field_count, is_record, is_array, has_bounds, designates, tree_count}
+use Rattle.machine.specs.Typed.{Sort, Whole, Position, Pointer, sorts, same_sorts, is_pointer, points_to, takes_whole, takes_truth, compares_words, is_not, field_count, is_record, is_array, has_bounds, designates, tree_count}
 use Rattle.machine.specs.Evaluate.{Use, AsValue, AsView, part_type}
 use Rattle.run_codes.specs.Codes.{Code, Number, Local, Global, Via, Scaled, Plus, Unary, Binary, Short, IsNull, Waiting, Place, InFrame, InPackages, Behind, Fill, Checked, Pointer as LookedAt, MovedPointer, Copied, Moved, Waited, Default, Repeated, Both, Empty}
 use Rattle.run_codes.specs.Codes as codes

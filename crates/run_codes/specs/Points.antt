@@ -1,5 +1,5 @@
 -- What the points of a lowered program do, and its runs.
-use Rattle.std.specs.Prelude.{ℕ, zero, suc, ◌+◌, ◌-◌, Bool, true, false, not, ◌&&◌, ◌==◌, List, [], ◌∷◌, ◌++◌, map, flat_map, reverse, take, drop, length, sum, get_or, slice_get, nat_le, nat_lt, Option, Some, None, option_and_then, ℤ, pos, negsuc, ◌+ℤ◌, unsigned_abs, int_le, int_lt, if◌then◌else◌}
+use Rattle.std.specs.Prelude.{ℕ, zero, suc, ◌+◌, ◌-◌, Bool, true, not, ◌&&◌, ◌==◌, List, [], ◌∷◌, ◌++◌, map, flat_map, reverse, take, drop, length, sum, get_or, slice_get, nat_le, nat_lt, Option, Some, None, option_and_then, ℤ, pos, negsuc, ◌+ℤ◌, unsigned_abs, int_le, int_lt, if◌then◌else◌}
 use Rattle.std.specs.Char.{to_ascii_uppercase}
 use Rattle.std.specs.Cmp.Lexicographic.{pointwise}
 use Rattle.spark_base.specs.declared.position.Pos.{Pos}
@@ -15,14 +15,13 @@ use Rattle.run_values.specs.Images.{image}
 use Rattle.run_values.specs.Items.{next_item}
 use Rattle.reuse_heap.specs.Cells.{Cell}
 use Rattle.machine.specs.Words.{access_offsets}
-use Rattle.machine.specs.Evaluate.{Exception, ConstraintError, ProgramError, StorageError, DataError, EndError, Trap, Touched, Twice, literals}
+use Rattle.machine.specs.Evaluate.{ProgramError, StorageError, DataError, EndError, Twice, literals}
 use Rattle.machine.specs.States.{Leak, Ending, Normal, Raised, Spent, Trapped, stack_words}
 use Rattle.flow_paths.specs.Laid.{FlowProgram}
 use Rattle.machine.specs.States as machine
 use Rattle.machine.specs.Run.{Run, main_of}
-use Rattle.run_codes.specs.Codes.{Code, Place, InFrame, Fill, Actual, ByValue, From, To, Piece, Bytes, NumberImage, LiteralImage, Choice, Does, Go, Put, Store, Assign, Call, Output, Input, Release, Test, Choose, Start, Next, EvaluateLeft, EvaluateRight, Hold, EndPointer, EndScope, Finish, Fall, Point, Room, Object, Counter, Sub}
-use Rattle.run_codes.specs.Flat.{Flat, Stop, Raises, Traps, Memory, Got, Given, Stops, Broken, and_then, found, kinds, most_cells, constraint, touched, is_zero, is_above, truth, is_between, word, Spot, InStack, InCell, spot, words_at, held, stored, moved_out, Made, Done, Halted, Failed, made_then, reads, without_cell, default_words, filled}
-use Rattle.run_codes.specs.Lowered.{no_index}
+use Rattle.run_codes.specs.Codes.{Code, Place, Fill, Actual, ByValue, From, To, Piece, Bytes, NumberImage, LiteralImage, Choice, Does, Go, Put, Store, Assign, Call, Output, Input, Release, Test, Choose, Start, Next, EvaluateLeft, EvaluateRight, Hold, EndPointer, EndScope, Finish, Fall, Point, Room, Object, Counter, Sub}
+use Rattle.run_codes.specs.Flat.{Flat, Stop, Raises, Traps, Memory, Got, Given, Stops, Broken, and_then, found, kinds, most_cells, constraint, touched, is_zero, is_between, word, Spot, InStack, InCell, spot, words_at, held, stored, moved_out, Made, Done, Halted, Failed, made_then, reads, without_cell, default_words, filled}
 use Rattle.run_codes.specs.Programs.{Program, lowered_program}
 
 -- ---- states

@@ -1,5 +1,5 @@
 -- From programs that are laid out to programs as they are run.
-use Rattle.std.specs.Prelude.{ℕ, suc, zero, ◌+◌, Bool, true, false, not, ◌&&◌, ◌||◌, ◌==◌, List, [], ◌∷◌, ◌++◌, map, flat_map, length, sum, take, slice_get, nat_lt, Option, Some, None, is_some, option_and_then, ℤ, pos, negsuc, if◌then◌else◌}
+use Rattle.std.specs.Prelude.{ℕ, suc, zero, ◌+◌, Bool, true, false, not, ◌==◌, List, [], ◌∷◌, ◌++◌, map, flat_map, length, slice_get, nat_lt, Option, Some, None, is_some, option_and_then, ℤ, pos, negsuc, if◌then◌else◌}
 use Rattle.std.specs.List.{list_any}
 use Rattle.spark_base.specs.declared.position.Pos.{Pos}
 use Rattle.place_names.specs.declared.act.Mode.TheVariants as mode
@@ -20,14 +20,13 @@ use Rattle.flow_paths.specs.Objects as objects
 use Rattle.flow_paths.specs.Names.{has_call, waiting, first}
 use Rattle.flow_paths.specs.Points.{FlowPoint}
 use Rattle.flow_paths.specs.Laid.{FlowSub, FlowProgram, flow_typing, result_of}
-use Rattle.machine.specs.Words.{default}
 use Rattle.machine.specs.Typed.{Sort, Whole, Position, Pointer}
 use Rattle.machine.specs.Evaluate.{Use, AsValue, AsView}
-use Rattle.machine.specs.States.{no_sub, sub_of, stack_words}
+use Rattle.machine.specs.States.{sub_of, stack_words}
 use Rattle.run_codes.specs.Codes.{Code, Number, Place, InFrame, Fill, Checked, Pointer as LookedAt, Default, Actual, From, To, Piece, Bytes, NumberImage, LiteralImage, Choice, Does, Put, Store, Point, Room, Object, Counter, Sub}
 use Rattle.run_codes.specs.Codes as codes
 use Rattle.run_codes.specs.Flat.{default_words}
-use Rattle.run_codes.specs.Lowered.{Kept, offset_from, Site, offset_of, no_index, Placed, option_map, Lowered, Scalar, scalar_of, same_scalar, one_type, lowered, place, value, first_value}
+use Rattle.run_codes.specs.Lowered.{Kept, Site, offset_of, no_index, Placed, option_map, Lowered, Scalar, scalar_of, same_scalar, one_type, lowered, place, value}
 
 -- ---- the objects of a subprogram
 

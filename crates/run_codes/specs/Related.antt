@@ -1,7 +1,7 @@
 -- Which words of the executor stand for the memory of the machine.
 --
 -- What stands for access values and cells is told by `PointsTo`, `IsMarked` and `CellStands` alone.
-use Rattle.std.specs.Prelude.{◌≡◌, ◌⊎◌, ◌≤◌, ◌<◌, ℕ, zero, suc, ◌+◌, Bool, true, false, ◌&&◌, ◌==◌, IsTrue, List, [], ◌∷◌, ◌++◌, map, filter, flat_map, length, take, drop, get_or, slice_get, Option, Some, ℤ, pos, negsuc, unsigned_abs}
+use Rattle.std.specs.Prelude.{◌≡◌, ◌⊎◌, ◌≤◌, ◌<◌, ℕ, zero, suc, ◌+◌, Bool, true, false, ◌&&◌, ◌==◌, IsTrue, List, [], ◌∷◌, ◌++◌, map, filter, flat_map, length, take, drop, get_or, slice_get, Some, ℤ, pos, negsuc, unsigned_abs}
 use Rattle.spark_base.specs.Lists.{Has}
 use Rattle.run_values.specs.declared.value.Value.{Value}
 use Rattle.run_values.specs.Values.{kind}
