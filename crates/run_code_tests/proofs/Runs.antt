@@ -1,7 +1,6 @@
 -- What small sources do as they are lowered is what they do on the machine.
-use Rattle.std.proofs.Common.{◌≡◌, refl, ℕ, List, []}
-use Rattle.std.specs.Prelude.{codes, Option, Some}
-use Rattle.resolved_tree.specs.Trees.{Program}
+use Rattle.std.proofs.Common.{◌≡◌, refl, []}
+use Rattle.std.specs.Prelude.{codes, Some}
 use Rattle.flow_tests.proofs.Flow.{flow}
 use Rattle.flow_tests.proofs.Sources as flows
 use Rattle.machine.specs.Run.{run}

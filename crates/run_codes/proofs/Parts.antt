@@ -53,7 +53,7 @@ pub many : (table : Table) (t : ℕ) → length (sorts table t) ≡ words table 
 unfolding sorts words
 many table t = within_long (length table) table t
 
--- ---- the front, and what is behind it
+-- ---- the front, and what comes after it
 
 pub first_stand : (table : Table) (made : List ℕ) (a b : List Sort) (xs : List Slot) (zs : List ℤ) → AllStand table made (a ++ b) xs zs → AllStand table made a xs zs
 first_stand table made [] b xs zs all = tt

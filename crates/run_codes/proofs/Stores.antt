@@ -22,7 +22,7 @@ splice n new all = (take n all ++ new) ++ drop (length new) (drop n all)
 pub spliced_is : {A : Type 0} (n : ℕ) (new all : List A) → spliced n new all ≡ splice n new all
 spliced_is n new all = ap (λ l. (take n all ++ new) ++ l) (sym (drop-drop (length new) n all))
 
--- Behind some that stay.
+-- After some that stay.
 splice_on : {A : Type 0} (at a n : ℕ) (new all : List A) → n ≡ at + a → at ≤ length all → drop at (splice n new all) ≡ splice a new (drop at all)
 splice_on zero a n new all is le = ap (λ k. splice k new all) (is ∙ none a)
   where
@@ -64,7 +64,7 @@ front_replaced table made (s ∷ part) rest (x ∷ xs) (y ∷ ys) [] (w ∷ ws) 
 front_replaced table made (s ∷ part) rest (x ∷ xs) (y ∷ ys) (z ∷ zs) (w ∷ ws) ly lw is new =
     (new.0, front_replaced table made part rest xs ys zs ws (omega (arith, ly)) (omega (arith, lw)) is.1 new.1)
 
--- Others stand behind the front.
+-- Others stand after the front.
 part_replaced : (table : Table) (made : List ℕ) (front part rest : List Sort) (xs ys : List Slot) (zs ws : List ℤ) → length ys ≡ length part → length ws ≡ length part
     → AllStand table made (front ++ (part ++ rest)) xs zs → AllStand table made part ys ws
     → AllStand table made (front ++ (part ++ rest)) (splice (length front) ys xs) (splice (length front) ws zs)

@@ -28,7 +28,7 @@ pub record Kept : Type 0 where
   pub object : ℕ
   pub loops : Bool
 
--- The words of a loop, which lie behind its parameter: its bounds, and whether its first turn is to come.
+-- The words of a loop, which lie after its parameter: its bounds, and whether its first turn is to come.
 abbrev pub loop_words : ℕ
 loop_words = 3
 

@@ -127,7 +127,7 @@ is_loop x (k ∷ rest) = if k.object == x then k.loops else is_loop x rest
 abbrev pub own_offset : Around → ℕ → Option ℕ
 own_offset a x = if (if is_package_object (typing a) x then a.is_first else not a.is_first) then offset_of a.site x else None
 
--- The same of the parameter of a loop, whose words lie behind it.
+-- The same of the parameter of a loop, whose words lie after it.
 abbrev pub own_loop : Around → ℕ → Option ℕ
 own_loop a x = if is_loop x a.site.own then own_offset a x else None
 
