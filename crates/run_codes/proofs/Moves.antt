@@ -39,10 +39,10 @@ one_gone table made (s ∷ all) (suc o) d (x ∷ xs) (z ∷ zs) is stand = (stan
 abbrev pub Accesses : List Sort → List ℕ → Type 0
 Accesses all offsets = (o : ℕ) → Has offsets o → (d : ℕ) × (slice_get all o ≡ Some (Pointer d))
 
-has_first : (o : ℕ) (rest : List ℕ) → Has (o ∷ rest) o
+pub has_first : (o : ℕ) (rest : List ℕ) → Has (o ∷ rest) o
 has_first o rest = inl refl
 
-has_later : (o k : ℕ) (rest : List ℕ) → Has rest k → Has (o ∷ rest) k
+pub has_later : (o k : ℕ) (rest : List ℕ) → Has rest k → Has (o ∷ rest) k
 has_later o k rest is = inr is
 
 pub all_gone_stand : (table : Table) (made : List ℕ) (all : List Sort) (offsets : List ℕ) (xs : List Slot) (zs : List ℤ) → Accesses all offsets
@@ -53,35 +53,35 @@ all_gone_stand table made all (o ∷ rest) xs zs access is =
     all_gone_stand table made all rest (at_number o machine.as_gone xs) (at_number o as_gone zs) (λ k has. access k (has_later o k rest has))
     (one_gone table made all o first.0 xs zs first.1 is)
 
-number_long : {A : Type 0} (o : ℕ) (g : A → A) (xs : List A) → length (at_number o g xs) ≡ length xs
+pub number_long : {A : Type 0} (o : ℕ) (g : A → A) (xs : List A) → length (at_number o g xs) ≡ length xs
 number_long o g [] = refl
 number_long zero g (x ∷ xs) = refl
 number_long (suc o) g (x ∷ xs) = ap suc (number_long o g xs)
 
-gone_long : (offsets : List ℕ) (xs : List Slot) → length (gone_at offsets xs) ≡ length xs
+pub gone_long : (offsets : List ℕ) (xs : List Slot) → length (gone_at offsets xs) ≡ length xs
 gone_long [] xs = refl
 gone_long (o ∷ rest) xs = gone_long rest (at_number o machine.as_gone xs) ∙ number_long o machine.as_gone xs
 
-all_gone_long : (offsets : List ℕ) (zs : List ℤ) → length (all_gone offsets zs) ≡ length zs
+pub all_gone_long : (offsets : List ℕ) (zs : List ℤ) → length (all_gone offsets zs) ≡ length zs
 all_gone_long [] zs = refl
 all_gone_long (o ∷ rest) zs = all_gone_long rest (at_number o as_gone zs) ∙ number_long o as_gone zs
 
 -- ---- as many as there are sorts
 
-taken_stand : (table : Table) (made : List ℕ) (all : List Sort) (xs : List Slot) (zs : List ℤ) → AllStand table made all xs zs
+pub taken_stand : (table : Table) (made : List ℕ) (all : List Sort) (xs : List Slot) (zs : List ℤ) → AllStand table made all xs zs
     → AllStand table made all (take (length all) xs) (take (length all) zs)
 taken_stand table made [] xs zs is = tt
 taken_stand table made (s ∷ all) [] zs is = absurd is
 taken_stand table made (s ∷ all) (x ∷ xs) [] is = absurd is
 taken_stand table made (s ∷ all) (x ∷ xs) (z ∷ zs) is = (is.0, taken_stand table made all xs zs is.1)
 
-taken_slots : (table : Table) (made : List ℕ) (all : List Sort) (xs : List Slot) (zs : List ℤ) → AllStand table made all xs zs → length (take (length all) xs) ≡ length all
+pub taken_slots : (table : Table) (made : List ℕ) (all : List Sort) (xs : List Slot) (zs : List ℤ) → AllStand table made all xs zs → length (take (length all) xs) ≡ length all
 taken_slots table made [] xs zs is = refl
 taken_slots table made (s ∷ all) [] zs is = absurd is
 taken_slots table made (s ∷ all) (x ∷ xs) [] is = absurd is
 taken_slots table made (s ∷ all) (x ∷ xs) (z ∷ zs) is = ap suc (taken_slots table made all xs zs is.1)
 
-taken_words : (table : Table) (made : List ℕ) (all : List Sort) (xs : List Slot) (zs : List ℤ) → AllStand table made all xs zs → length (take (length all) zs) ≡ length all
+pub taken_words : (table : Table) (made : List ℕ) (all : List Sort) (xs : List Slot) (zs : List ℤ) → AllStand table made all xs zs → length (take (length all) zs) ≡ length all
 taken_words table made [] xs zs is = refl
 taken_words table made (s ∷ all) [] zs is = absurd is
 taken_words table made (s ∷ all) (x ∷ xs) [] is = absurd is

@@ -67,7 +67,7 @@ cell_more table made more c k is = record {
   freed = is.freed;
 }
 
-types_more : (cells : List HeapCell) (c : HeapCell) → map (λ (c : HeapCell). c.of) (cells ++ c ∷ []) ≡ map (λ (c : HeapCell). c.of) cells ++ c.of ∷ []
+pub types_more : (cells : List HeapCell) (c : HeapCell) → map (λ (c : HeapCell). c.of) (cells ++ c ∷ []) ≡ map (λ (c : HeapCell). c.of) cells ++ c.of ∷ []
 types_more [] c = refl
 types_more (b ∷ cells) c = ap (λ l. b.of ∷ l) (types_more cells c)
 
