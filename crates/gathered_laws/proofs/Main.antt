@@ -1,6 +1,6 @@
 -- What is known of a program speaks of types alone, after both turns of gathering; and so much of
 -- what typed expressions ask of tables holds.
-use Rattle.std.proofs.Common.{◌≡◌, ◌⊎◌, inl, inr, refl, sym, ap, ◌∙◌, subst, ℕ, zero, suc, ◌-◌, ◌<◌, ◌≤◌, Bool, true, false, List, [], ◌∷◌, ◌++◌, flat_map, get_or, nat_eq, replicate, arith, ℤ, Option, Some, None}
+use Rattle.std.proofs.Common.{◌≡◌, ◌⊎◌, inl, inr, refl, sym, ap, ◌∙◌, subst, ℕ, zero, suc, ◌-◌, ◌<◌, ◌≤◌, Bool, true, false, List, [], ◌∷◌, ◌++◌, flat_map, get_or, nat_eq, replicate, arith, IsTrue, ℤ, Option, Some, None}
 use Rattle.std.specs.Prelude.{slice_get}
 use Rattle.std.proofs.lemmas.Bool.{eqb-true}
 use Rattle.std.specs.List.{AllByRecursion}
@@ -20,11 +20,15 @@ use Rattle.type_definitions.specs.Entries.{entry_of, integer, boolean}
 use Rattle.type_definitions.specs.Names.{Context}
 use Rattle.type_definitions.specs.Expressions.{profile_of}
 use Rattle.type_definitions.specs.Gathered.{gather}
-use Rattle.type_definitions.specs.Whole.{predefined_types, predefined_entries, at_first, outside, gather_units, known_from, known_of}
+use Rattle.type_definitions.specs.Whole.{predefined_types, predefined_entries, at_first, outside, gather_units, known_from, known_of, type_fault}
+use Rattle.type_sizes.specs.Formed.{all_formed}
+use Rattle.settled_types.specs.Orderly.{IsOrderly}
+use Rattle.settled_types.proofs.Main.{whole as whole_types}
 use Rattle.machine.specs.Words.{component_type, no_component}
 use Rattle.typed_laws.specs.Fine.{counts, lists, Laws}
 use Rattle.gathered_laws.specs.Left.{Left}
 use Rattle.gathered_laws.specs.Made.{type_numbers, IsMade, IsMadeOf, SpeaksOf, AreTypes}
+use Rattle.gathered_laws.proofs.Numbered.{program_high}
 use Rattle.gathered_laws.proofs.Gathered.{Good, gathered}
 
 module _ (is : ℕ → Type 0) (low : (t : ℕ) → t < 5 → is t) where
@@ -144,12 +148,8 @@ module _ (is : ℕ → Type 0) (low : (t : ℕ) → t < 5 → is t) where
         entries = start.entries;
       })
 
--- The numbers that the program declares aren't those of what is predefined.
-abbrev pub IsNumbered : Program → Type 0
-IsNumbered p = (d : ℕ) → Has (flat_map type_numbers p.units) d → 5 ≤ d
-
-pub are_types : (p : Program) → IsNumbered p → AreTypes (IsMade p.units) (known_of p)
-are_types p numbered = both_turns (IsMade p.units) (λ t less. inl less) p (λ d has. (inr has, numbered d has))
+pub are_types : (p : Program) → IsOrderly p → AreTypes (IsMade p.units) (known_of p)
+are_types p orderly = both_turns (IsMade p.units) (λ t less. inl less) p (λ d has. (inr has, program_high p orderly d has))
 
 -- ---- what typed expressions ask of tables
 
@@ -218,16 +218,17 @@ module _ (is : ℕ → Type 0) (low : (t : ℕ) → t < 5 → is t) (known : Kno
   listed = ap lists (predefined_shape 3 (omega arith) refl)
 
 -- The laws, where those hold that aren't proved here. (`Left` says which.)
-pub all_laws : (p : Program) → IsNumbered p → Left (known_of p) (IsMade p.units) → Laws (known_of p) (IsMade p.units)
-all_laws p numbered left =
+pub all_laws : (p : Program) → IsTrue (all_formed p.units) → IsOrderly p → type_fault p ≡ None → Left (known_of p) (IsMade p.units) → Laws (known_of p) (IsMade p.units)
+all_laws p formed orderly none left =
     let is = IsMade p.units in
     let low : (t : ℕ) → t < 5 → is t = λ t less. inl less in
     let known = known_of p in
-    let are = are_types p numbered in record {
+    let are = are_types p orderly in
+    let wholes = whole_types p formed orderly none in record {
       same = left.same;
-      owns = left.owns;
-      plain = left.plain;
-      word_law = left.word_law;
+      owns = wholes.own_law;
+      plain = wholes.plain;
+      word_law = wholes.word_law;
       based = λ t m. are.bases t;
       base_of = left.base_of;
       whole = whole is low known are;

@@ -4,7 +4,7 @@ use Rattle.type_definitions.specs.declared.table.Component.{Component}
 use Rattle.type_definitions.specs.declared.table.Entry.TheVariants as entry
 use Rattle.type_definitions.specs.declared.table.Known.{Known}
 use Rattle.type_definitions.specs.declared.table.Shape.TheVariants as shape
-use Rattle.type_definitions.specs.Types.{shape_of, fields, base, is_owning, owns_of, words, words_of}
+use Rattle.type_definitions.specs.Types.{shape_of, fields, base}
 use Rattle.type_definitions.specs.Entries.{entry_of, integer, same_word}
 use Rattle.type_definitions.specs.Expressions.{by_name, no_component}
 use Rattle.typed_laws.specs.Fine.{Agree, counts, lists}
@@ -12,9 +12,6 @@ use Rattle.typed_laws.specs.Fine.{Agree, counts, lists}
 -- These are fields of `Laws`, word for word but for `literal`.
 pub record Left (known : Known) (made : ℕ → Type 0) : Type 0 where
   pub same : (t u : ℕ) → made t → made u → base known.table t ≡ base known.table u → Agree known.table t u
-  pub owns : (t : ℕ) → is_owning known.table t ≡ owns_of (is_owning known.table) (shape_of known.table t)
-  pub plain : (t of : ℕ) → shape_of known.table t ≡ shape.Same of → ⊥
-  pub word_law : (t : ℕ) → words known.table t ≡ words_of (words known.table) (shape_of known.table t)
   pub base_of : (t : ℕ) → made t → base known.table (base known.table t) ≡ base known.table t
   pub numeric : (t : ℕ) → made t → counts (shape_of known.table t) ≡ true → base known.table t ≡ integer
   pub literal : (d t n : ℕ) → entry_of known d ≡ entry.Literal t n → lists (shape_of known.table t) ≡ true
