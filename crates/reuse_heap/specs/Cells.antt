@@ -1,6 +1,6 @@
 -- Cells, as a heap that uses none again keeps them: a list, in the order of their allocation. A
 -- handle with the number h designates the cell h of the list, from 0.
-use Rattle.std.specs.Prelude.{◌≡◌, ℕ, zero, suc, Bool, true, false, IsTrue, Option, Some, IsSomeAnd, option_and_then, List, [], ◌∷◌, ◌++◌, slice_get, slice_set}
+use Rattle.std.specs.Prelude.{◌≡◌, ℕ, zero, suc, Bool, true, false, IsTrue, Option, None, Some, IsSomeAnd, option_and_then, List, [], ◌∷◌, ◌++◌, slice_get, slice_set}
 use Rattle.run_values.specs.declared.value.Value.{Value}
 use Rattle.run_values.specs.declared.value.Kind.{Kind}
 use Rattle.run_values.specs.Values.{kind}
@@ -26,6 +26,10 @@ Holds cells h at k = IsSomeAnd (word_at cells h at) (λ v. kind v ≡ k)
 -- The cell was allocated, and freed.
 abbrev pub IsFreed : List Cell → ℕ → Type 0
 IsFreed cells h = IsSomeAnd (slice_get cells h) (λ c. IsTrue c.freed)
+
+abbrev pub is_freed : Option Cell → Bool
+is_freed None = false
+is_freed (Some c) = c.freed
 
 -- One cell is changed, and all others stay.
 abbrev pub changed : (Cell → Cell) → List Cell → ℕ → List Cell

@@ -1,7 +1,8 @@
 //! A heap that uses no cell again.
 ghost use Rattle.std.specs.Prelude.{◌≡◌, ◌<◌, ◌^◌, ◌↔◌, [], length, IsErr, IfOk, IfErr, OnOk, OnErr};
 ghost use Rattle.run_values.specs.Values.{kind as kind_of};
-ghost use Rattle.reuse_heap.specs.Cells.{Holds, HasWord, IsFreed, allocated, written, released};
+ghost use Rattle.std.specs.Prelude.{slice_get};
+ghost use Rattle.reuse_heap.specs.Cells.{Holds, HasWord, IsFreed, is_freed, allocated, written, released};
 
 use crate::cell::Extent;
 use crate::trap::Trap;
@@ -108,6 +109,14 @@ impl TrapStore {
         }
         extent.freed = true;
         Ok(())
+    }
+
+    /// Whether the cell was freed.
+    pub fn is_freed(&self, h: Handle) -> bool
+        requires { h < length self.now }
+        ensures { result ≡ is_freed (slice_get self.now h) }
+    {
+        self.extents[h.number() as usize].freed
     }
 
     /// How many cells were allocated.

@@ -1,0 +1,37 @@
+//! Why a step isn't done.
+
+use reuse_heap::Trap;
+use std::alloc::{AllocError, AllocFailed};
+
+/// A predefined exception (Ada 2012, 11.1 and A.13).
+#[derive(Clone, Copy, Debug, PartialEq, Eq)]
+pub enum Exception {
+    ConstraintError,
+    ProgramError,
+    StorageError,
+    DataError,
+    EndError,
+}
+
+/// Why a step isn't done.
+#[derive(Clone, Copy, Debug, PartialEq, Eq)]
+pub enum Stop {
+    /// An exception is raised.
+    Raises(Exception),
+    /// A freed cell was touched, or freed again.
+    Traps(Trap),
+    /// There is too little memory.
+    Memory,
+}
+
+impl From<AllocError> for Stop {
+    fn from(_: AllocError) -> Self {
+        Stop::Memory
+    }
+}
+
+impl<T: Drop> From<AllocFailed<T>> for Stop {
+    fn from(_: AllocFailed<T>) -> Self {
+        Stop::Memory
+    }
+}

@@ -1,0 +1,199 @@
+//! The words of a run: those of all frames, those of values that wait, and the cells.
+ghost use Rattle.std.specs.Prelude.{◌≡◌, ◌+◌, false, [], slice_get, set, unsigned_abs};
+ghost use Rattle.code_rows.specs.Stops.{shown};
+ghost use Rattle.run_codes.specs.Flat.{Given, found, is_broken, behind, cell_spot};
+ghost use Rattle.run_values.specs.Items as items;
+ghost use Rattle.run_memory.specs.Memory.{flat};
+ghost use Rattle.run_memory.specs.Spots.{shown_spot};
+
+use crate::values::word_of;
+use code_rows::{Exception, Stop};
+use reuse_heap::{Trap, TrapStore};
+use run_values::{Handle, Kind, at_end};
+use std::alloc::Global;
+use std::marker::Model;
+
+/// Where words stand: from an index of the stack on, or in a cell from an offset on.
+#[derive(Clone, Copy)]
+pub enum Spot {
+    Stack { index: usize },
+    Cell { cell: Handle, at: u32 },
+}
+
+/// The words of all frames, those of values that wait, the cells, and the input.
+pub struct Memory<'s> {
+    stack: Vec<i64>,
+    // where the frame that runs begins
+    base: usize,
+    // words of values that wait, and where those begin that the point takes
+    waits: Vec<i64>,
+    taken: usize,
+    store: &'s mut TrapStore,
+    // how many cells are freed, and words of the others
+    freed: u64,
+    live: u64,
+    input: &'s [u8],
+    // where the rest of the input begins
+    read: usize,
+}
+
+impl<'s> Model for Memory<'s> {
+    ghost use Rattle.std.specs.Prelude.{◌≤◌, length};
+    ghost use Rattle.run_memory.specs.Memory.{Kept};
+
+    ghost Value = { Kept };
+
+    ghost view = { λ m. record {
+      stack = m.stack.items;
+      base = m.base;
+      waits = m.waits.items;
+      taken = m.taken;
+      cells = m.store.now;
+      freed = m.freed;
+      live = m.live;
+      input = m.input.now;
+      read = m.read;
+    } };
+
+    ghost invariant = { λ m. (m.taken ≤ length m.waits.items) × (m.read ≤ length m.input.now) };
+}
+
+impl Drop for Memory<'_> {
+    fn drop(self) {
+        let Self {
+            stack: _,
+            base: _,
+            waits: _,
+            taken: _,
+            store: _,
+            freed: _,
+            live: _,
+            input: _,
+            read: _,
+        } = self;
+    }
+}
+
+impl<'s> Memory<'s> {
+    /// No words.
+    pub fn new(alloc: Global, store: &'s mut TrapStore, input: &'s [u8]) -> Memory<'s>
+        ensures stack { result.stack ≡ [] }
+        ensures base { result.base ≡ 0 }
+        ensures waits { result.waits ≡ [] }
+        ensures cells { result.cells ≡ store.old }
+        ensures freed { result.freed ≡ 0 }
+        ensures live { result.live ≡ 0 }
+        ensures input { result.input ≡ input.now }
+        ensures read { result.read ≡ 0 }
+    {
+        Memory {
+            stack: Vec::new(alloc),
+            base: 0,
+            waits: Vec::new(alloc),
+            taken: 0,
+            store,
+            freed: 0,
+            live: 0,
+            input,
+            read: 0,
+        }
+    }
+
+    // ---- words
+
+    /// The word at an offset in the frame.
+    pub fn local(&self, at: u32) -> i64
+        requires { is_broken (found (slice_get self.now.stack (self.now.base + at))) ≡ false }
+        ensures { found (slice_get self.now.stack (self.now.base + at)) ≡ Given result }
+    {
+        self.stack[self.base + at as usize]
+    }
+
+    /// The word at two offsets in the frame.
+    pub fn local_at(&self, at: u32, index: i64) -> i64
+        requires { is_broken (found (slice_get self.now.stack (self.now.base + at + unsigned_abs index))) ≡ false }
+        ensures { found (slice_get self.now.stack (self.now.base + at + unsigned_abs index)) ≡ Given result }
+    {
+        self.stack[self.base + at as usize + index.unsigned_abs() as usize]
+    }
+
+    /// The word at an offset among the package objects.
+    pub fn global(&self, at: u32) -> i64
+        requires { is_broken (found (slice_get self.now.stack at)) ≡ false }
+        ensures { found (slice_get self.now.stack at) ≡ Given result }
+    {
+        self.stack[at as usize]
+    }
+
+    /// The word at two offsets among the package objects.
+    pub fn global_at(&self, at: u32, index: i64) -> i64
+        requires { is_broken (found (slice_get self.now.stack (at + unsigned_abs index))) ≡ false }
+        ensures { found (slice_get self.now.stack (at + unsigned_abs index)) ≡ Given result }
+    {
+        self.stack[at as usize + index.unsigned_abs() as usize]
+    }
+
+    /// The word at an offset among those that the point takes.
+    pub fn waiting(&self, at: u32) -> i64
+        requires { is_broken (found (slice_get (flat self.now).waits at)) ≡ false }
+        ensures { found (slice_get (flat self.now).waits at) ≡ Given result }
+    {
+        self.waits.as_slice()[self.taken..][at as usize]
+    }
+
+    /// The word of a kind at an offset in the cell that an access value designates.
+    pub fn behind(&self, pointer: i64, at: u64, kind: Kind) -> Result<i64, Stop>
+        requires { is_broken (behind (flat self.now) at kind pointer) ≡ false }
+        ensures { behind (flat self.now) at kind pointer ≡ shown result }
+    {
+        if pointer == 0 {
+            return Err(Stop::Raises(Exception::ConstraintError));
+        }
+        let cell = Handle::new(pointer.unsigned_abs() - 1);
+        if self.store.is_freed(cell) {
+            return Err(Stop::Traps(Trap::Touched));
+        }
+        match self.store.read(cell, at as u32, kind) {
+            Ok(value) => Ok(word_of(value)),
+            Err(trap) => Err(Stop::Traps(trap)),
+        }
+    }
+
+    /// Puts a word at an offset in the frame.
+    pub fn put(&mut self, at: u32, word: i64)
+        requires { is_broken (found (slice_get self.old.stack (self.old.base + at))) ≡ false }
+        ensures { self.new ≡ record self.old { stack = set self.old.stack (self.old.base + at) word } }
+    {
+        let index = self.base + at as usize;
+        self.stack[index] = word;
+    }
+
+    // ---- places
+
+    /// The place at an offset in the cell that an access value designates.
+    pub fn spot_behind(&self, pointer: i64, at: u64) -> Result<Spot, Stop>
+        requires { is_broken (cell_spot (flat self.now) at (unsigned_abs pointer)) ≡ false }
+        ensures { cell_spot (flat self.now) at (unsigned_abs pointer) ≡ shown_spot result }
+    {
+        if pointer == 0 {
+            return Err(Stop::Raises(Exception::ConstraintError));
+        }
+        let cell = Handle::new(pointer.unsigned_abs() - 1);
+        if self.store.is_freed(cell) {
+            return Err(Stop::Traps(Trap::Touched));
+        }
+        Ok(Spot::Cell {
+            cell,
+            at: at as u32,
+        })
+    }
+
+    // ---- input
+
+    /// Whether the input is at its end.
+    pub fn at_end(&self) -> bool
+        ensures { result ≡ items.at_end (flat self.now).rest }
+    {
+        at_end(self.input, self.read)
+    }
+}
