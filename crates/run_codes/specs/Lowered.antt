@@ -1,5 +1,5 @@
 -- From typed expressions to codes. What isn't typed has none.
-use Rattle.std.specs.Prelude.{ℕ, suc, zero, ◌+◌, Bool, true, false, ◌&&◌, ◌==◌, List, [], ◌∷◌, map, sum, take, slice_get, nat_lt, nat_le, Option, Some, None, option_and_then, ℤ, pos, if◌then◌else◌}
+use Rattle.std.specs.Prelude.{ℕ, suc, zero, ◌+◌, Bool, true, false, ◌&&◌, ◌||◌, ◌==◌, List, [], ◌∷◌, map, sum, take, slice_get, nat_lt, nat_le, Option, Some, None, is_some, option_and_then, ℤ, pos, if◌then◌else◌}
 use Rattle.resolved_tree.specs.declared.operator.Operator.{Operator}
 use Rattle.resolved_tree.specs.declared.operator.UnaryOperator.{UnaryOperator}
 use Rattle.typed_tree.specs.declared.node.ShortCircuit.{ShortCircuit}
@@ -271,6 +271,13 @@ scalar table want l =
 abbrev pub one_type : Table → ℕ → ℕ → Bool
 one_type table t u = same_sorts table (sorts table t) (sorts table u)
 
+abbrev pub is_access : Shape → Bool
+is_access s = is_some (designates s)
+
+-- A type of which there are aggregates.
+abbrev pub is_composite : Shape → Bool
+is_composite s = is_record s || is_array s
+
 -- What a place has, as a value that a place of a type takes.
 abbrev pub place_value : Table → Use → ℕ → Placed → Option Fill
 place_value table u want p =
@@ -281,7 +288,7 @@ place_value table u want p =
     by_shape (shape.Whole low high) false = Some (Checked (load sort.Int p.place) low high)
     by_shape (shape.Listed literals low high) true = None
     by_shape (shape.Listed literals low high) false = Some (Checked (load sort.Enum p.place) (pos low) (pos high))
-    by_shape (shape.Access designated constant named) true = Some (MovedPointer p.place)
+    by_shape (shape.Access designated constant named) true = if is_access (shape_of table p.of) then Some (MovedPointer p.place) else None
     by_shape (shape.Access designated constant named) false = Some (LookedAt (load sort.Access p.place))
     by_shape _ true = Some (Moved p.place p.of)
     by_shape _ false = Some (Copied p.place p.of)
@@ -297,6 +304,9 @@ waited_value c k want t =
     by_shape (shape.Access designated constant named) at = LookedAt (Waiting at)
     by_shape _ at = Waited at (words c.typing.table t)
 
+abbrev pub are_composite : Table → ℕ → ℕ → Bool
+are_composite table want t = is_composite (shape_of table want) && is_composite (shape_of table t)
+
 abbrev pub both : Option Fill → Option Fill → Option Fill
 both (Some a) (Some b) = Some (Both a b)
 both _ _ = None
@@ -309,9 +319,10 @@ unfoldable mutual
   value c k u want (Call p sub actuals) = option_and_then (waited_value c k want) (sub_at c.typing sub).result
   value c k u want (Parens e) = value c k AsValue want e
   value c k u want (Aggregate t es) =
-      if one_type c.typing.table t want && (tree_count es == field_count (shape_of c.typing.table t)) then parts c k t 0 es else None
+      if are_composite c.typing.table want t && (one_type c.typing.table t want && (tree_count es == field_count (shape_of c.typing.table t)))
+      then parts c k t 0 es else None
   value c k u want (Alike t e) =
-      if one_type c.typing.table t want && is_array (shape_of c.typing.table t)
+      if are_composite c.typing.table want t && (one_type c.typing.table t want && is_array (shape_of c.typing.table t))
       then option_map (λ v. Repeated v (element_count c.typing.table t)) (value c k AsValue (element_type c.typing.table t) e) else None
   value c k u want (New t v) =
       if points_to c.typing.table t (sorts c.typing.table want) then option_map (λ a. codes.New a t) (first_value c k t v) else None
@@ -326,6 +337,6 @@ unfoldable mutual
 
   -- an initial value, or what an object without one has
   pub first_value : Site → ℕ → ℕ → TypedTree → Option Fill
-  first_value c k t (More e rest) = value c k AsValue t e
+  first_value c k t (More e NoMore) = value c k AsValue t e
   first_value c k t NoMore = Some (Default t)
   first_value c k t _ = None
