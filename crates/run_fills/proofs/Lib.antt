@@ -1,0 +1,9 @@
+pub mod Wholes
+pub mod Single
+pub mod Values
+pub mod Names
+pub mod Gone
+pub mod Moved
+pub mod Made
+pub mod Placed
+pub mod Fills

@@ -1,0 +1,2 @@
+-- what the lemmas go by
+pub mod Filled
