@@ -84,7 +84,7 @@ tokens_ascend (t ∷ rest) ordered =
     ascends_both (token_position (told t)) (token_positions (map told rest)) (one_ascends t.kind t.pos t.text.now)
     (tokens_ascend rest (λ i j d below within. ordered (suc i) (suc j) d (omega (arith, below)) (omega (arith, within))))
     (λ p q here later. subst (λ from. Precedes from q) (token_has t.kind t.pos t.text.now p here)
-        (stands_at (Precedes t.pos) rest (λ k d within. ordered 0 (suc k) d (omega arith) (omega (arith, within))) q later))
+    (stands_at (Precedes t.pos) rest (λ k d within. ordered 0 (suc k) d (omega arith) (omega (arith, within))) q later))
 
 bare_positions : (ms : List WeighedToken) → token_positions (bare ms) ≡ spelled_positions ms
 bare_positions [] = refl

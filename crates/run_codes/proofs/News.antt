@@ -18,7 +18,7 @@ use Rattle.run_codes.proofs.Cells.{values_words, values_kinds, values_long}
 
 -- ---- more cells
 
-get_before : {A : Type 0} (all more : List A) (n : ℕ) (d : A) → n < length all → get_or (all ++ more) n d ≡ get_or all n d
+pub get_before : {A : Type 0} (all more : List A) (n : ℕ) (d : A) → n < length all → get_or (all ++ more) n d ≡ get_or all n d
 get_before [] more n d lt = absurd (omega (arith, lt))
 get_before (a ∷ all) more zero d lt = refl
 get_before (a ∷ all) more (suc n) d lt = get_before all more n d (omega (arith, lt))
@@ -27,7 +27,7 @@ get_last : {A : Type 0} (all : List A) (a d : A) → get_or (all ++ a ∷ []) (l
 get_last [] a d = refl
 get_last (b ∷ all) a d = get_last all a d
 
-slice_before : {A : Type 0} (all more : List A) (n : ℕ) (a : A) → slice_get all n ≡ Some a → slice_get (all ++ more) n ≡ Some a
+pub slice_before : {A : Type 0} (all more : List A) (n : ℕ) (a : A) → slice_get all n ≡ Some a → slice_get (all ++ more) n ≡ Some a
 slice_before [] more n a is = cc
 slice_before (b ∷ all) more zero a is = is
 slice_before (b ∷ all) more (suc n) a is = slice_before all more n a is
@@ -57,7 +57,7 @@ all_more table made more (s ∷ all) [] zs is = absurd is
 all_more table made more (s ∷ all) (x ∷ xs) [] is = absurd is
 all_more table made more (s ∷ all) (x ∷ xs) (z ∷ zs) is = ((stands_more table made more s x.word z is.0.0, is.0.1), all_more table made more all xs zs is.1)
 
-cell_more : (table : Table) (made more : List ℕ) (c : HeapCell) (k : StoredCell) → CellStands table made c k → CellStands table (made ++ more) c k
+pub cell_more : (table : Table) (made more : List ℕ) (c : HeapCell) (k : StoredCell) → CellStands table made c k → CellStands table (made ++ more) c k
 cell_more table made more c k is = record {
   words = all_more table made more (sorts table c.of) c.slots (words_in k.words) is.words;
   kinds = is.kinds;

@@ -7,3 +7,5 @@ pub mod Moved
 pub mod Made
 pub mod Placed
 pub mod Fills
+pub mod GivenUp
+pub mod Leaks
