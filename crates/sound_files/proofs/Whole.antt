@@ -2,11 +2,9 @@
 -- type, or of an anonymous access type.
 use Rattle.std.proofs.Common.{◌≡◌, refl, sym, subst, ℕ, zero, suc, ◌+◌, ◌≤◌, Bool, true, false, not, ◌||◌, List, [], ◌∷◌, set, length, arith, Some, if◌then◌else◌}
 use Rattle.std.specs.Prelude.{slice_get}
-use Rattle.spark_base.specs.declared.position.Pos.{Pos}
 use Rattle.resolved_tree.specs.Trees.{More, Code, Anonymous, Enumeration, Incomplete, Private, TypeDecl, Subtype, ConstrainedSubtype, Objects, Numbers, Instance, Formals, Front, SubDecl, SubBody, Package, PackageBody, If, Branch, Case, When, Loop, While, For, Block, Program}
 use Rattle.type_definitions.specs.declared.table.Info.{Info}
 use Rattle.type_definitions.specs.declared.table.Shape.TheVariants as shape
-use Rattle.type_definitions.specs.declared.table.InitialValue.{InitialValue}
 use Rattle.type_definitions.specs.declared.table.Entry.TheVariants as entry
 use Rattle.type_definitions.specs.declared.table.Kind.TheVariants as kind
 use Rattle.type_definitions.specs.Types.{Table, info, base, full, shape_found, owns_of, owns_within, is_owning}
