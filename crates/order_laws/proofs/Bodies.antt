@@ -86,7 +86,7 @@ inner : (looped : Bool) (cs : List TypedCode) → Written looped cs → IsInner 
 inner looped cs h =
     let all = list_written looped cs h in (both_true (is_placed (typed_code_list cs)) (is_undeclaring (typed_code_list cs)) all.1 all.0, all.2)
 
--- The branches of an `if`, and what stands behind `else`.
+-- The branches of an `if`, and what stands after `else`.
 abbrev IsBranch : Bool → TypedCode → Type 0
 IsBranch looped c = (is_placed_branch c ≡ true) × (is_formed looped c ≡ true)
 
@@ -110,7 +110,7 @@ both_inner looped bs cs h g =
       both_true (is_formed looped (typed_code_list bs)) (is_formed looped (typed_code_list cs)) first.1 second.1,
     )
 
--- Declarations, and statements behind them.
+-- Declarations, and statements after them.
 pub body_written : (looped : Bool) (ds cs : List TypedCode) → AllByRecursion IsDeclare ds → Written looped cs
     → (is_placed (typed_code_list (ds ++ cs)) ≡ true) × (is_formed looped (typed_code_list (ds ++ cs)) ≡ true)
 unfolding is_placed is_formed

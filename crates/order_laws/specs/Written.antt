@@ -1,4 +1,4 @@
--- Resolved code as the grammar has it: declarations stand in declarative parts and statements behind them,
+-- Resolved code as the grammar has it: declarations stand in declarative parts and statements after them,
 -- bodies stand in package bodies, and each exit in a loop.
 use Rattle.std.specs.Prelude.{Bool, true, false, ◌&&◌, ◌||◌}
 use Rattle.resolved_tree.specs.Trees.{Code, Incomplete, Private, TypeDecl, Subtype, ConstrainedSubtype, Objects, Numbers, Instance, Front, SubDecl, SubBody, Package, PackageBody, Skip, Assign, Call, Exit, Return, If, Branch, Case, When, Loop, While, For, Block, NoMore, More}

@@ -57,7 +57,7 @@ last_out x y (z ∷ rest) last within ne = elim (any_either (y == z) (is_within 
   | inr later ↦ ap (is_within y) (drop_none rest) ∙ later
 ]
 
--- What is in scope at an instruction is so behind it, but for an object whose scope ends there.
+-- What is in scope at an instruction is so after it, but for an object whose scope ends there.
 behind_within : (i : Instruction) (scope : List ℕ) (x : ℕ) → calls_nothing i ≡ true → ((y : ℕ) → i ≡ EndScope y → is_within x (drop 1 scope) ≡ true)
     → is_within x scope ≡ true → is_within x (brought i scope) ≡ true
 behind_within (Declare y v) scope x calls ends within = or_right (x == y) (is_within x scope) within
@@ -224,7 +224,7 @@ module _ (table : Table) (typed : TypedProgram) (effects : Effects) (class : IsF
         behind_is : scope_behind p ≡ brought p.instr p.scope
         behind_is = ap (λ k. brought p.instr (drop k p.scope)) (takes_none p.instr calls_none) ∙ ap (brought p.instr) (drop_none p.scope)
 
-        -- what they know is in scope behind the instruction
+        -- what they know is in scope after the instruction
         within_behind : (before : List ℕ) (name : PlaceName) → Has (facts_before points (n ∷ before)) (Moved name) → is_within name.root p.scope ≡ true
             → is_within name.root (scope_behind p) ≡ true
         within_behind before name has within =

@@ -227,7 +227,7 @@ module _ (s : Typing) (own_law : OwnsByShape s.table)
 
   -- ---- instructions
 
-  -- The place of a name, with an act that moves nothing, behind other acts.
+  -- The place of a name, with an act that moves nothing, after other acts.
   place_owned : (target : TypedTree) (u : ℕ) → IsPlace s target u → (a : PlaceName → Act) → ((m : PlaceName) → MovesNone (a m)) → (front : List Placed) (xs : List ℕ)
       → Owned front xs → Owned ((front ++ index_acts s target) ++ naming (written target) a) (xs ++ roots target)
   unfolding roots

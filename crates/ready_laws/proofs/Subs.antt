@@ -12,7 +12,7 @@ use Rattle.ready_laws.specs.InOrder.{IsSub}
 abbrev pub setting_from : Typing → ℕ → TypedSub → Setting
 setting_from s n sub = record { typing = s; temporary = numbers_from n (sub_temporaries s sub) }
 
--- A subprogram of the layout is that of a body; its temporaries have numbers behind all objects.
+-- A subprogram of the layout is that of a body; its temporaries have numbers after all objects.
 abbrev pub IsOfBody : Typing → List TypedSub → NamedSub → Type 0
 IsOfBody s subs named =
     (sub : TypedSub) × Has subs sub × (n : ℕ) × (length s.objects ≤ n) × (named_sub s n (sub_temporaries s sub) sub ≡ named)

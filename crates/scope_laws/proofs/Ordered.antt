@@ -107,7 +107,7 @@ module _ (s : Setting) (is : ℕ → Type 0) (apart : (x : ℕ) → is x → IsT
   fresh_right : (xs ys scope : List ℕ) → Fresh (xs ++ ys) scope → Fresh ys scope
   fresh_right xs ys scope f = (once_right xs ys f.0, λ x has. f.1 x (Has-append_right xs ys x has))
 
-  -- behind a part that declares some of them
+  -- after a part that declares some of them
   fresh_behind : (xs ys ds scope : List ℕ) → ((x : ℕ) → Has ds x → Has xs x) → Fresh (xs ++ ys) scope → Fresh ys (reverse ds ++ scope)
   fresh_behind xs ys ds scope part f = (once_right xs ys f.0, each)
     where
@@ -257,7 +257,7 @@ module _ (s : Setting) (is : ℕ → Type 0) (apart : (x : ℕ) → is x → IsT
   prep_ordered formals (New t e) at scope k = prep_ordered formals e (0 ∷ at) scope k
   prep_ordered formals _ at scope k = tt
 
-  -- what is ordered by itself, behind its Prep
+  -- what is ordered by itself, after its Prep
   used : (formals : List ℕ) (at : Place) (e : TypedTree) (scope : List ℕ) (q : NamedPoint) → IsOrdered is formals q
       → Ordered formals (prep s e (0 ∷ at) scope (row_at at 0 ∷ []) ++ q ∷ [])
   used formals at e scope q h = one_more formals (prep s e (0 ∷ at) scope (row_at at 0 ∷ [])) q (prep_ordered formals e (0 ∷ at) scope (row_at at 0 ∷ [])) h
