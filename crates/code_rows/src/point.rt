@@ -79,7 +79,7 @@ pub enum Does {
         kind: Kind,
         next: u32,
     },
-    /// A value of a type is stored at a place, where `pos` is there behind its leak checks.
+    /// A value of a type is stored at a place, where `pos` is there after its leak checks.
     Assign {
         place: Place,
         value: u32,
@@ -108,7 +108,7 @@ pub enum Does {
         high: i32,
         next: u32,
     },
-    /// The cell of a type that a place designates is freed behind its leak checks.
+    /// The cell of a type that a place designates is freed after its leak checks.
     Release {
         place: Place,
         of: u32,

@@ -100,7 +100,7 @@ fn elements_before(index: i64, low: i32, high: i32) -> u64
     (index - low as i64) as u64
 }
 
-/// The offset of an element behind so many others of a size.
+/// The offset of an element after so many others of a size.
 fn offset_behind(count: u64, size: u32) -> i64
     requires { is_broken (flat.offset (count * size)) ≡ false }
     ensures { flat.offset (count * size) ≡ flat.Given result }
