@@ -1,5 +1,5 @@
 -- Lists of positions that ascend.
-use Rattle.std.proofs.Common.{◌≡◌, ◌⊎◌, inl, inr, ℕ, zero, suc, ◌<◌, ◌≤◌, arith, refl, sym, ap, ◌∙◌, subst, List, [], ◌∷◌, ◌++◌, map, length}
+use Rattle.std.proofs.Common.{◌≡◌, inl, inr, ℕ, suc, ◌≤◌, arith, refl, sym, ap, ◌∙◌, subst, List, [], ◌∷◌, ◌++◌, map}
 use Rattle.std.specs.List.{flat_map, All, AllPairs}
 use Rattle.std.proofs.lemmas.List.{append-nil}
 use Rattle.std.proofs.lemmas.List.Concat.{flat_map-append}
@@ -11,14 +11,14 @@ use Rattle.spark_base.proofs.Positions.{file-Precedes}
 use Rattle.ada_lexer.specs.declared.token.Token.{Token}
 use Rattle.ada_lexer.specs.declared.token.TokenKind.{TokenKind}
 use Rattle.ada_lexer.specs.declared.token.TokenKind.TheVariants as kind
-use Rattle.token_reading.specs.Spelled.{Spelled, EndOfFile, told, told_as}
+use Rattle.token_reading.specs.Spelled.{EndOfFile, told, told_as}
 use Rattle.token_reading.specs.Weights.{WeighedToken, bare}
 use Rattle.token_reading.specs.Sources.{file_of}
 use Rattle.ada_tree.specs.declared.unit.SourceUnit.{SourceUnit}
 use Rattle.ada_tree.specs.Spelling.{source_spelling}
 use Rattle.name_events.specs.Outline.{unit_events, source_events}
 use Rattle.file_positions.specs.Order.{Ascends, IsLeftOf, token_position, token_positions, spelled_positions, event_position, event_positions}
-use Rattle.file_positions.specs.Texts.{IsText, AreParsed}
+use Rattle.file_positions.specs.Texts.{AreParsed}
 use Rattle.file_positions.proofs.Rows.{left_both}
 use Rattle.file_positions.proofs.Units.{file_follows}
 

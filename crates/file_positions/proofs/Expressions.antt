@@ -1,6 +1,5 @@
 -- The identifiers of expressions stand in the order of their events.
-use Rattle.std.proofs.Common.{ℕ, suc, ◌≡◌, inl, inr, refl, List, [], ◌∷◌, ◌++◌, map}
-use Rattle.spark_base.specs.declared.position.Pos.{Pos}
+use Rattle.std.proofs.Common.{ℕ, suc}
 use Rattle.ada_lexer.specs.declared.token.Reserved.{Reserved}
 use Rattle.ada_tree.specs.declared.expression.Aggregate.{Aggregate, Row_of-Arg, end_of-Arg, more_of-Arg, Row_of-NextArg, end_of-NextArg, more_of-NextArg, Row_of-Expr, end_of-Expr, more_of-Expr}
 use Rattle.ada_tree.specs.declared.expression.Aggregate.TheVariants as aggregate
@@ -40,13 +39,10 @@ use Rattle.ada_tree.specs.declared.range.NextChoice.{NextChoice}
 use Rattle.ada_tree.specs.declared.range.NextChoice.TheVariants as next_choice
 use Rattle.ada_tree.specs.Spelling.{name_spelling, suffixes_spelling, suffix_spelling, arg_box, next_args_spelling, next_arg_spelling, arg_spelling, expr_box, expr_spelling, operands_spelling, operand_spelling, short_operands_spelling, short_operand_spelling, rel_box, rel_spelling, sum_box, sum_spelling, next_terms_spelling, next_term_spelling, term_spelling, next_factors_spelling, next_factor_spelling, factor_spelling, primary_spelling, name_box, aggregate_box, aggregate_spelling, range_spelling, choice_spelling, next_choice_spelling}
 use Rattle.token_reading.specs.declared.side.Side.{Side}
-use Rattle.token_reading.specs.declared.side.Side.TheVariants.{Apart, Within}
-use Rattle.name_events.specs.declared.event.Event.{Event}
-use Rattle.name_events.specs.declared.event.Event.TheVariants as e
-use Rattle.name_events.specs.declared.event.Clause.TheVariants as clause
+use Rattle.token_reading.specs.declared.side.Side.TheVariants.{Within}
 use Rattle.name_events.specs.ExpressionOutline.{selector, selectors, name_events, suffixes_events, suffix_events, arg_box_events, next_args_events, next_arg_events, arg_events, expr_box_events, expr_events, operands_events, operand_events, short_operands_events, short_operand_events, rel_box_events, rel_events, sum_box_events, sum_events, next_terms_events, next_term_events, term_events, next_factors_events, next_factor_events, factor_events, primary_events, name_box_events, aggregate_box_events, aggregate_events, range_events, choice_events, next_choice_events}
 use Rattle.file_positions.specs.Order.{Follows}
-use Rattle.file_positions.proofs.Rows.{none, both, past, behind, ahead, dotted_follows, mentioned, GoesOn, no_more, one_more, whole_name}
+use Rattle.file_positions.proofs.Rows.{none, both, past, ahead, dotted_follows, mentioned, GoesOn, no_more, one_more, whole_name}
 
 mutual
   unfolding selector selectors name_events suffixes_events suffix_events arg_box_events next_args_events next_arg_events arg_events expr_box_events expr_events operands_events operand_events short_operands_events short_operand_events rel_box_events rel_events sum_box_events sum_events next_terms_events next_term_events term_events next_factors_events next_factor_events factor_events primary_events name_box_events aggregate_box_events aggregate_events name_spelling suffixes_spelling suffix_spelling arg_box next_args_spelling next_arg_spelling arg_spelling expr_box expr_spelling operands_spelling operand_spelling short_operands_spelling short_operand_spelling rel_box rel_spelling sum_box sum_spelling next_terms_spelling next_term_spelling term_spelling next_factors_spelling next_factor_spelling factor_spelling primary_spelling name_box aggregate_box aggregate_spelling

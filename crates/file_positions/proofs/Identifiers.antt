@@ -1,5 +1,5 @@
 -- The identifiers of parsed files have ascending positions, so no two have one.
-use Rattle.std.proofs.Common.{◌≡◌, inl, inr, ℕ, Bool, true, false, ◌&&◌, List, [], ◌∷◌, ◌++◌, map, if◌then◌else◌, nat_eq, refl, sym, ap, ◌∙◌, subst, arith, true≢false}
+use Rattle.std.proofs.Common.{◌≡◌, inl, ℕ, Bool, true, false, ◌&&◌, List, [], ◌∷◌, ◌++◌, map, if◌then◌else◌, nat_eq, refl, sym, subst, arith, true≢false}
 use Rattle.std.specs.List.{flat_map}
 use Rattle.std.proofs.lemmas.List.{map-append}
 use Rattle.spark_base.specs.declared.position.Pos.{Pos}
@@ -18,10 +18,10 @@ use Rattle.name_events.specs.Declarations.{is_package}
 use Rattle.name_events.specs.Outline.{source_events}
 use Rattle.name_events.specs.Known.{Known, source_package}
 use Rattle.name_events.specs.KnownBehind.{known_behind, known_at_first}
-use Rattle.name_events.specs.Denotes.{known_of, meaning, selected_meaning, occurrences, occurrences_from}
+use Rattle.name_events.specs.Denotes.{known_of, meaning, selected_meaning, occurrences_from}
 use Rattle.name_events.specs.Identified.{identified, identified_at, identified_from, identified_use, identified_body, same_position}
 use Rattle.std.proofs.Common.{Option, Some, None}
-use Rattle.file_positions.specs.Order.{Ascends, IsLeftOf, event_position, event_positions, name_positions}
+use Rattle.file_positions.specs.Order.{Ascends, IsLeftOf, event_position, event_positions}
 use Rattle.file_positions.specs.Texts.{AreParsed}
 use Rattle.file_positions.proofs.Rows.{left_both}
 use Rattle.file_positions.proofs.Ascending.{left_ascends, events_ascend}

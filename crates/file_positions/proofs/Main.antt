@@ -1,6 +1,5 @@
 -- No two identifiers of parsed files have one position.
-use Rattle.std.proofs.Common.{◌≡◌, List, [], ◌∷◌, map}
-use Rattle.spark_base.specs.declared.position.Pos.{Pos}
+use Rattle.std.proofs.Common.{List, [], ◌∷◌, map}
 use Rattle.spark_base.proofs.Lists.{Has-map}
 use Rattle.ada_lexer.specs.declared.token.Token.{Token}
 use Rattle.ada_tree.specs.declared.unit.SourceUnit.{SourceUnit}

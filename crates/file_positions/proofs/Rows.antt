@@ -1,5 +1,5 @@
 -- Parts in a row, events and tokens.
-use Rattle.std.proofs.Common.{◌≡◌, ◌⊎◌, inl, inr, refl, sym, List, [], ◌∷◌, ◌++◌, map, Option, Some, None, subst, append_assoc}
+use Rattle.std.proofs.Common.{◌≡◌, inl, inr, refl, sym, List, [], ◌∷◌, ◌++◌, map, Option, Some, None, subst, append_assoc}
 use Rattle.std.specs.List.{flat_map}
 use Rattle.std.proofs.lemmas.List.Concat.{flat_map-append}
 use Rattle.spark_base.specs.declared.position.Pos.{Pos}
@@ -17,11 +17,11 @@ use Rattle.ada_tree.specs.declared.identifier.NextDotted.{NextDotted}
 use Rattle.ada_tree.specs.declared.identifier.NextPart.{NextPart}
 use Rattle.ada_tree.specs.declared.identifier.NextPart.TheVariants as next_part
 use Rattle.token_reading.specs.declared.side.Side.{Side}
-use Rattle.token_reading.specs.declared.side.Side.TheVariants.{Apart, Within}
+use Rattle.token_reading.specs.declared.side.Side.TheVariants.{Apart}
 use Rattle.name_events.specs.declared.declaration.DeclarationForm.{DeclarationForm}
 use Rattle.name_events.specs.declared.event.Clause.{Clause}
 use Rattle.name_events.specs.declared.event.FoldedIdentifier.{FoldedIdentifier}
-use Rattle.ada_tree.specs.Spelling.{optional, id_mark, symbol, word, next_identifier_spelling, next_part_spelling, dotted_spelling, defining_spelling}
+use Rattle.ada_tree.specs.Spelling.{optional, id_mark, symbol, next_identifier_spelling, next_part_spelling, dotted_spelling, defining_spelling}
 use Rattle.file_positions.specs.Order.{IsLeftOf, token_position, event_position, event_positions, spelled_positions, Follows}
 
 pub left_behind : (ps us bs : List Pos) → IsLeftOf ps bs → IsLeftOf ps (us ++ bs)

@@ -1,18 +1,13 @@
 -- The identifiers of items and statements stand in the order of their events.
-use Rattle.std.proofs.Common.{ℕ, suc, ◌≡◌, refl, List, [], ◌∷◌, ◌++◌, map, Option, Some, None}
+use Rattle.std.proofs.Common.{ℕ, suc, refl, List, [], ◌∷◌, ◌++◌, map}
 use Rattle.std.specs.List.{flat_map}
-use Rattle.spark_base.specs.declared.position.Pos.{Pos}
 use Rattle.token_reading.specs.Weights.{WeighedToken}
-use Rattle.token_reading.specs.declared.side.Side.TheVariants.{Apart, Within}
+use Rattle.token_reading.specs.declared.side.Side.TheVariants.{Apart}
 use Rattle.ada_tree.specs.declared.declaration.Item.{Item}
 use Rattle.ada_tree.specs.declared.declaration.Item.TheVariants as item
 use Rattle.ada_tree.specs.declared.declaration.UseClause.{UseClause}
-use Rattle.ada_tree.specs.declared.identifier.Dotted.{Dotted}
 use Rattle.ada_tree.specs.declared.identifier.NextDotted.{NextDotted}
 use Rattle.ada_tree.specs.declared.identifier.NextDotted.TheVariants as next_dotted
-use Rattle.ada_tree.specs.declared.identifier.Identifier.{Identifier}
-use Rattle.ada_tree.specs.declared.identifier.NextIdentifier.{NextIdentifier}
-use Rattle.ada_tree.specs.declared.identifier.NextIdentifier.TheVariants as next_id
 use Rattle.ada_tree.specs.declared.declaration.Component.{Component}
 use Rattle.ada_tree.specs.declared.declaration.Component.TheVariants as component
 use Rattle.ada_tree.specs.declared.declaration.Indication.{Indication}
@@ -25,14 +20,10 @@ use Rattle.ada_tree.specs.declared.statement.Elsif.{Elsif}
 use Rattle.ada_tree.specs.declared.statement.Elsif.TheVariants as branch
 use Rattle.ada_tree.specs.declared.statement.When.{When}
 use Rattle.ada_tree.specs.declared.statement.When.TheVariants as alternative
-use Rattle.ada_tree.specs.Spelling.{word, optional_word, dotted_spelling, next_dotted_spelling, expr_spelling, next_arg_spelling, name_spelling, choice_spelling, next_choice_spelling, range_spelling, defining_spelling, indication_spelling, component_spelling, use_spelling, pragma_spelling, item_spelling, stmts_box, stmts_spelling, stmt_box, next_stmts_spelling, stmt_spelling, elsifs_spelling, elsif_spelling, when_box, next_whens_spelling, when_spelling}
-use Rattle.name_events.specs.declared.event.Event.{Event}
+use Rattle.ada_tree.specs.Spelling.{optional_word, next_dotted_spelling, next_arg_spelling, next_choice_spelling, indication_spelling, component_spelling, use_spelling, item_spelling, stmts_box, stmts_spelling, stmt_box, next_stmts_spelling, stmt_spelling, elsifs_spelling, elsif_spelling, when_box, next_whens_spelling, when_spelling}
 use Rattle.name_events.specs.declared.event.Event.TheVariants as e
 use Rattle.name_events.specs.declared.event.Clause.{Clause}
-use Rattle.name_events.specs.declared.event.Clause.TheVariants as clause
-use Rattle.name_events.specs.declared.declaration.DeclarationForm.{DeclarationForm}
-use Rattle.name_events.specs.declared.declaration.DeclarationForm.TheVariants as form
-use Rattle.name_events.specs.ExpressionOutline.{declares, mention, mentions, next_dotted_name, name_events, next_arg_events, expr_events, range_events, choice_events, next_choice_events}
+use Rattle.name_events.specs.ExpressionOutline.{mention, next_dotted_name, next_arg_events, expr_events, range_events, next_choice_events}
 use Rattle.name_events.specs.Outline.{indication_events, component_events, use_events, subtype_events, type_events, item_events, simple_events, stmts_events, stmt_box_events, stmt_list_events, stmt_events, stmts_box_events, elsifs_events, elsif_events, when_box_events, whens_events, when_events}
 use Rattle.file_positions.specs.Order.{Follows}
 use Rattle.file_positions.proofs.Rows.{none, both, grouped, ungrouped, past, behind, ahead, each, silent, declared, all_declared, defined, dotted_follows, mentioned, components_follow}

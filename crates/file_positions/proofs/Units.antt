@@ -1,17 +1,9 @@
 -- The identifiers of units and files stand in the order of their events.
-use Rattle.std.proofs.Common.{ℕ, suc, ◌≡◌, refl, List, [], ◌∷◌, ◌++◌, map, Option, Some, None, subst, ◌∙◌}
+use Rattle.std.proofs.Common.{ℕ, suc, ◌≡◌, refl, List, [], ◌∷◌, ◌++◌, Option, Some, None, subst, ◌∙◌}
 use Rattle.std.proofs.lemmas.List.{append-nil}
 use Rattle.std.specs.List.{flat_map}
-use Rattle.spark_base.specs.declared.position.Pos.{Pos}
 use Rattle.token_reading.specs.Weights.{WeighedToken}
-use Rattle.token_reading.specs.declared.side.Side.TheVariants.{Apart, Within}
-use Rattle.ada_tree.specs.declared.declaration.Item.{Item}
-use Rattle.ada_tree.specs.declared.declaration.Item.TheVariants as item
-use Rattle.ada_tree.specs.declared.declaration.UseClause.{UseClause}
-use Rattle.ada_tree.specs.declared.identifier.Dotted.{Dotted}
-use Rattle.ada_tree.specs.declared.identifier.Identifier.{Identifier}
-use Rattle.ada_tree.specs.declared.declaration.Indication.{Indication}
-use Rattle.ada_tree.specs.declared.declaration.Indication.TheVariants as indication
+use Rattle.token_reading.specs.declared.side.Side.TheVariants.{Apart}
 use Rattle.ada_tree.specs.declared.subprogram.Subspec.{Subspec}
 use Rattle.ada_tree.specs.declared.subprogram.Subspec.TheVariants as subspec
 use Rattle.ada_tree.specs.declared.subprogram.Formals.{Formals}
@@ -31,15 +23,12 @@ use Rattle.ada_tree.specs.declared.unit.PackageBody.{PackageBody}
 use Rattle.ada_tree.specs.declared.unit.BodyPart.{BodyPart}
 use Rattle.ada_tree.specs.declared.unit.BodyPart.TheVariants as body_part
 use Rattle.ada_tree.specs.declared.unit.SubprogramBody.{SubprogramBody}
-use Rattle.ada_tree.specs.Spelling.{optional, optional_word, optional_id, next_dotted_spelling, stmts_spelling, item_spelling, anonymous_spelling, dotted_spelling, mode_spelling, formal_spelling, next_formal_spelling, formals_spelling, subspec_spelling, decl_spelling, subprogram_spelling, body_part_spelling, private_spelling, package_spelling, package_body_spelling, context_spelling, unit_spelling, source_spelling}
+use Rattle.ada_tree.specs.Spelling.{optional, optional_word, mode_spelling, formal_spelling, next_formal_spelling, formals_spelling, subspec_spelling, decl_spelling, subprogram_spelling, body_part_spelling, private_spelling, package_spelling, package_body_spelling, context_spelling, unit_spelling, source_spelling}
 use Rattle.name_events.specs.declared.event.Event.{Event}
 use Rattle.name_events.specs.declared.event.Event.TheVariants as e
-use Rattle.name_events.specs.declared.event.Clause.{Clause}
-use Rattle.name_events.specs.declared.event.Clause.TheVariants as clause
 use Rattle.name_events.specs.declared.declaration.DeclarationForm.{DeclarationForm}
-use Rattle.name_events.specs.declared.declaration.DeclarationForm.TheVariants as form
-use Rattle.name_events.specs.ExpressionOutline.{folded, each_of, folded_identifier, declares, mention, mentions, next_dotted_name}
-use Rattle.name_events.specs.Outline.{formal_events, next_formal_events, formals_events, subspec_events, body_form, subspec_name, closing_events, subprogram_events, decl_events, body_part_events, private_events, package_events, package_body_events, has_with, with_events, context_events, unit_front, unit_events, source_events}
+use Rattle.name_events.specs.ExpressionOutline.{folded}
+use Rattle.name_events.specs.Outline.{formal_events, next_formal_events, formals_events, subspec_events, body_form, subspec_name, subprogram_events, decl_events, body_part_events, private_events, package_events, package_body_events, with_events, context_events, unit_front, unit_events}
 use Rattle.file_positions.specs.Order.{event_position, event_positions, Follows}
 use Rattle.file_positions.proofs.Rows.{none, both, past, behind, ahead, each, maybe, silent, declared, defined, dotted_follows, closing_follows, body_declared, withs_silent, quiet_row}
 use Rattle.file_positions.proofs.Statements.{indication_follows, next_dotteds, use_follows, item_follows, items_follow, stmts_follow}

@@ -1,12 +1,11 @@
 -- Positions in the order of the tokens of a text.
-use Rattle.std.specs.Prelude.{◌≡◌, ◌⊎◌, List, [], ◌∷◌, ◌++◌, map}
+use Rattle.std.specs.Prelude.{◌≡◌, ◌⊎◌, List, [], ◌∷◌, map}
 use Rattle.std.specs.List.{flat_map}
 use Rattle.spark_base.specs.declared.position.Pos.{Pos}
 use Rattle.spark_base.specs.Positions.{Precedes}
 use Rattle.spark_base.specs.Lists.{Has}
 use Rattle.token_reading.specs.Spelled.{Spelled, Word, Ident, Number, Str, Delimiter, EndOfFile}
 use Rattle.token_reading.specs.Weights.{WeighedToken}
-use Rattle.name_events.specs.declared.event.FoldedIdentifier.{FoldedIdentifier}
 use Rattle.name_events.specs.declared.event.FoldedName.{FoldedName}
 use Rattle.name_events.specs.declared.event.Event.{Event}
 use Rattle.name_events.specs.declared.event.Event.TheVariants as e
