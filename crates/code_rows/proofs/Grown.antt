@@ -7,18 +7,18 @@ use Rattle.resolved_tree.specs.Nodes.{grown, are_below}
 use Rattle.code_rows.specs.declared.node.Node.{Node}
 use Rattle.code_rows.specs.declared.node.Node.TheVariants as node
 use Rattle.run_codes.specs.Codes.{Code, Nothing}
-use Rattle.code_rows.specs.Rows.{is_below, code_of, code_at}
+use Rattle.code_rows.specs.Rows.{is_below, code_of, code_at, Grew, Holds}
 
-and_both : (a b : Bool) → IsTrue a → IsTrue b → IsTrue (a && b)
+pub and_both : (a b : Bool) → IsTrue a → IsTrue b → IsTrue (a && b)
 and_both a b p q = grind arith
 
-and_first : (a b : Bool) → IsTrue (a && b) → IsTrue a
+pub and_first : (a b : Bool) → IsTrue (a && b) → IsTrue a
 and_first a b p = grind arith
 
-and_second : (a b : Bool) → IsTrue (a && b) → IsTrue b
+pub and_second : (a b : Bool) → IsTrue (a && b) → IsTrue b
 and_second a b p = grind arith
 
-end_at : {T : Type 0} (made : List T) (t none : T) (i : ℕ) → i ≡ length made → get_or (made ++ t ∷ []) i none ≡ t
+pub end_at : {T : Type 0} (made : List T) (t none : T) (i : ℕ) → i ≡ length made → get_or (made ++ t ∷ []) i none ≡ t
 end_at made t none i e = rw e (get_or-append_seam made t [] none)
 
 -- ---- rows of any nodes
@@ -45,7 +45,7 @@ module _ {N T : Type 0} (make : (ℕ → T) → N → T) (none : T) where
       let longer : i < length (made ++ more) = grind (arith, common_steps) in
       grown_keeps (made ++ more) rest i longer ∙ get_or_append_left made more none i lt
 
-  grown_old : (nodes : List N) (n : N) (i : ℕ) → i < length nodes
+  pub grown_old : (nodes : List N) (n : N) (i : ℕ) → i < length nodes
       → get_or (grown make none [] (nodes ++ n ∷ [])) i none ≡ get_or (grown make none [] nodes) i none
   grown_old nodes n i lt =
       let all : List T = grown make none [] nodes in
@@ -53,7 +53,7 @@ module _ {N T : Type 0} (make : (ℕ → T) → N → T) (none : T) where
       ap (λ made. get_or made i none) (grown_end [] nodes n)
       ∙ get_or_append_left all (make (λ i. get_or all i none) n ∷ []) none i within
 
-  grown_last : (nodes : List N) (n : N)
+  pub grown_last : (nodes : List N) (n : N)
       → get_or (grown make none [] (nodes ++ n ∷ [])) (length nodes) none
       ≡ make (λ i. get_or (grown make none [] nodes) i none) n
   grown_last nodes n =
@@ -72,11 +72,11 @@ module _ {N : Type 0} (below : ℕ → N → Bool) where
       and_both (below k m) (are_below below (k + 1) (rest ++ n ∷ [])) (and_first (below k m) (are_below below (k + 1) rest) all)
       (below_end_at (k + 1) j rest n s (and_second (below k m) (are_below below (k + 1) rest) all) is)
 
-  below_end : (nodes : List N) (n : N) → IsTrue (are_below below 0 nodes) → IsTrue (below (length nodes) n)
+  pub below_end : (nodes : List N) (n : N) → IsTrue (are_below below 0 nodes) → IsTrue (below (length nodes) n)
       → IsTrue (are_below below 0 (nodes ++ n ∷ []))
   below_end nodes n all is = below_end_at 0 (length nodes) nodes n (omega arith) all is
 
-  below_at : (nodes : List N) (k i j : ℕ) (d : N) → i < length nodes → j ≡ k + i → IsTrue (are_below below k nodes)
+  pub below_at : (nodes : List N) (k i j : ℕ) (d : N) → i < length nodes → j ≡ k + i → IsTrue (are_below below k nodes)
       → IsTrue (below j (get_or nodes i d))
   below_at [] k i j d lt e all = absurd (omega (arith, lt))
   below_at (m ∷ rest) k zero j d lt e all =
@@ -84,7 +84,7 @@ module _ {N : Type 0} (below : ℕ → N → Bool) where
   below_at (m ∷ rest) k (suc i) j d lt e all =
       below_at rest (k + 1) i j d (grind (arith, common_steps, lt)) (omega (arith, e)) (and_second (below k m) (are_below below (k + 1) rest) all)
 
-below_more : {N : Type 0} (below wider : ℕ → N → Bool) → ((k : ℕ) (n : N) → IsTrue (below k n) → IsTrue (wider k n))
+pub below_more : {N : Type 0} (below wider : ℕ → N → Bool) → ((k : ℕ) (n : N) → IsTrue (below k n) → IsTrue (wider k n))
     → (k : ℕ) (nodes : List N) → IsTrue (are_below below k nodes) → IsTrue (are_below wider k nodes)
 below_more below wider more k [] all = all
 below_more below wider more k (m ∷ rest) all =
@@ -92,7 +92,7 @@ below_more below wider more k (m ∷ rest) all =
     (below_more below wider more (k + 1) rest (and_second (below k m) (are_below below (k + 1) rest) all))
 
 -- What nodes make is the same by another maker that makes the same of each node.
-grown_same : {N T : Type 0} (make other : (ℕ → T) → N → T) (none : T) (below : ℕ → N → Bool)
+pub grown_same : {N T : Type 0} (make other : (ℕ → T) → N → T) (none : T) (below : ℕ → N → Bool)
     → ((f : ℕ → T) (k : ℕ) (n : N) → IsTrue (below k n) → make f n ≡ other f n)
     → (made : List T) (k : ℕ) (nodes : List N) → IsTrue (are_below below k nodes)
     → grown make none made nodes ≡ grown other none made nodes
@@ -106,7 +106,7 @@ grown_same make other none below same made k (m ∷ rest) all =
 -- Each is made of those with lower numbers.
 module _ {N T : Type 0} (make : (ℕ → T) → N → T) (none : T) (below : ℕ → N → Bool)
     (same : (f g : ℕ → T) (k : ℕ) (n : N) → ((i : ℕ) → i < k → f i ≡ g i) → IsTrue (below k n) → make f n ≡ make g n) where
-  grown_at : (nodes : List N) (made : List T) (k i j : ℕ) (d : N) → k ≡ length made → i < length nodes → j ≡ k + i
+  pub grown_at : (nodes : List N) (made : List T) (k i j : ℕ) (d : N) → k ≡ length made → i < length nodes → j ≡ k + i
       → IsTrue (are_below below k nodes)
       → get_or (grown make none made nodes) j none
       ≡ make (λ i. get_or (grown make none made nodes) i none) (get_or nodes i d)
@@ -155,3 +155,33 @@ node_code nodes i d n is lt all = rw is (grown_at code_of Nothing is_below code_
 pub node_below : (nodes : List Node) (i : ℕ) (d n : Node) → n ≡ get_or nodes i d → i < length nodes
     → IsTrue (are_below is_below 0 nodes) → IsTrue (is_below i n)
 node_below nodes i d n is lt all = rw is (below_at is_below nodes 0 i i d lt (omega arith) all)
+
+pub order_node : (nodes : List Node) (n : Node) → IsTrue (are_below is_below 0 nodes) → IsTrue (is_below (length nodes) n)
+    → IsTrue (are_below is_below 0 (nodes ++ n ∷ []))
+order_node nodes n all is = below_end is_below nodes n all is
+
+pub grew_node : (nodes : List Node) (n : Node) → Grew nodes (nodes ++ n ∷ [])
+unfolding code_at
+grew_node nodes n = record {
+  more = grind (arith, common_steps);
+  same = grown_old code_of Nothing nodes n;
+}
+
+pub last_node : (nodes : List Node) (n : Node) → Holds (nodes ++ n ∷ []) (length nodes) (code_of (code_at nodes) n)
+unfolding code_at
+last_node nodes n = (grind (arith, common_steps), grown_last code_of Nothing nodes n)
+
+pub grew_none : (nodes : List Node) → Grew nodes nodes
+grew_none nodes = record { more = omega arith; same = λ i lt. refl }
+
+pub grew_on : (a b c : List Node) → Grew a b → Grew b c → Grew a c
+grew_on a b c p q = record {
+  more = omega (arith, p.more, q.more);
+  same = λ i lt. q.same i (omega (arith, lt, p.more)) ∙ p.same i lt;
+}
+
+pub kept : (a b : List Node) (i : ℕ) → Grew a b → i < length a → code_at b i ≡ code_at a i
+kept a b i p lt = p.same i lt
+
+pub kept_there : (a b : List Node) (i : ℕ) → Grew a b → i < length a → i < length b
+kept_there a b i p lt = omega (arith, lt, p.more)

@@ -1,3 +1,4 @@
 -- what the public contracts rest on
 pub mod Rows
+pub mod Values
 pub mod Stops

@@ -68,3 +68,12 @@ code_at nodes i = get_or (grown code_of Nothing [] nodes) i Nothing
 -- The parts of each node stand before it.
 abbrev pub in_order : List Node → Bool
 in_order nodes = are_below is_below 0 nodes
+
+-- Nodes were added after others, whose expressions are still there.
+pub record Grew (old new : List Node) : Type 0 where
+  pub more : length old ≤ length new
+  pub same : (i : ℕ) → i < length old → code_at new i ≡ code_at old i
+
+-- The expression with the number n is there.
+abbrev pub Holds : List Node → ℕ → Code → Type 0
+Holds nodes n c = (n < length nodes) × (code_at nodes n ≡ c)

@@ -3,11 +3,14 @@
 //!
 //! `Nodes` keeps expressions that only read as rows of nodes, whose parts are numbers of nodes before
 //! them. Which expression of `run_codes` a row stands for, `specs/Rows.antt` says; some kinds of
-//! nodes stand for frequent forms. `Stop` is why a step isn't done (`specs/Stops.antt`).
+//! nodes stand for frequent forms. `Fills` keeps values of any type in the same way, over the nodes
+//! (`specs/Values.antt`). What is added leaves all that is there as it is. `Stop` is why a step isn't
+//! done (`specs/Stops.antt`).
 #![tactic(auto)]
 
 mod codes;
 mod fill;
+mod fills;
 mod node;
 mod nodes;
 mod place;
@@ -16,6 +19,7 @@ mod stop;
 
 pub use codes::Codes;
 pub use fill::Fill;
+pub use fills::Fills;
 pub use node::Node;
 pub use nodes::Nodes;
 pub use place::Place;

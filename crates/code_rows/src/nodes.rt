@@ -1,6 +1,6 @@
 //! Expressions in rows.
-ghost use Rattle.std.specs.Prelude.{◌≡◌, ◌<◌, length, IsTrue};
-ghost use Rattle.code_rows.specs.Rows.{is_below, code_of, code_at};
+ghost use Rattle.std.specs.Prelude.{◌≡◌, ◌<◌, [], length, IfSome, IsTrue};
+ghost use Rattle.code_rows.specs.Rows.{is_below, code_of, code_at, Grew, Holds};
 
 use crate::node::Node;
 use std::alloc::Global;
@@ -31,7 +31,9 @@ impl Drop for Nodes {
 
 impl Nodes {
     /// No expressions.
-    pub fn new(alloc: Global) -> Nodes {
+    pub fn new(alloc: Global) -> Nodes
+        ensures { result ≡ [] }
+    {
         Nodes {
             nodes: Vec::new(alloc),
         }
@@ -51,5 +53,18 @@ impl Nodes {
         ensures below { IsTrue (is_below i result) }
     {
         self.nodes[i as usize]
+    }
+
+    /// Adds an expression that a node makes of those that are there, and gives its number: none where
+    /// there are too many, or too little memory. What was there stays.
+    #[tactic(auto, using(crate::proofs::Grown::order_node, crate::proofs::Grown::grew_node, crate::proofs::Grown::last_node, crate::proofs::Grown::grew_none))]
+    pub fn push(&mut self, node: Node) -> Option<u32>
+        requires { IsTrue (is_below (length self.old) node) }
+        ensures code { IfSome result (λ n. Holds self.new n (code_of (code_at self.old) node)) }
+        ensures grew { Grew self.old self.new }
+    {
+        let number = u32::try_from(self.nodes.len()).ok()?;
+        self.nodes.push(node).ok()?;
+        Some(number)
     }
 }
