@@ -1,0 +1,12 @@
+pub mod Runs
+pub mod Waits
+pub mod Goes
+pub mod Ends
+pub mod Tests
+pub mod Operands
+pub mod Choices
+pub mod Texts
+pub mod Stacks
+pub mod Steps
+pub mod Lowering
+pub mod Undeclared

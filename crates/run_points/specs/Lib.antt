@@ -1,0 +1,6 @@
+-- what both sides come to
+pub mod Outcomes
+-- what stands for the states of the machine
+pub mod States
+-- what stands while a step is made
+pub mod Turns
