@@ -18,19 +18,6 @@ use Rattle.run_codes.specs.Related.{AllStand, IsValue, IsTable, Seen, table, typ
 use Rattle.run_codes.proofs.Parts.{split_inside}
 use Rattle.run_codes.proofs.Stores.{splice, spliced_is, object_changed, stored_in_stack}
 
-pub seen_from : (e : Seen) (all : List Lying) → IsTable (table e) → Related e.site.typing all e.memory e.flat → IsSited e.site e.frame e.flat.base all
-    → ((k t : ℕ) → slice_get e.site.takes k ≡ Some t
-    → IsValue (table e) (types e.memory) (sorts (table e) t) (get_or e.waits k []) (take (words (table e) t) (drop (words_before_value e.site k) e.flat.waits)))
-    → IsSeen e
-seen_from e all laws related sited waits = record {
-  laws = laws;
-  own = λ x at there own. related.objects (record { frame = e.frame; object = x; at = e.flat.base + at }) (sited.own x at there own);
-  packages = λ x at there package_object. related.objects (record { frame = 0; object = x; at = at }) (sited.packages x at there package_object);
-  cells = related.cells;
-  few = related.counted.few;
-  waits = waits;
-}
-
 -- Where a place lies, an object lies.
 pub lies_there : (e : Seen) (all : List Lying) (frame x start : ℕ) → IsSited e.site e.frame e.flat.base all → LiesIn e frame x start
     → Has all (record { frame = frame; object = x; at = start })
@@ -46,6 +33,20 @@ lies_there e all frame x start sited lies = elim lies [
 
     first_there : LiesInPackages e frame x start → Has all (record { frame = frame; object = x; at = start })
     first_there first = subst (λ n. Has all (record { frame = n; object = x; at = start })) (sym first.first) (sited.packages x start first.there first.packages)
+
+pub seen_from : (e : Seen) (all : List Lying) → IsTable (table e) → Related e.site.typing all e.memory e.flat → AreApart e.site.typing all (length e.flat.stack) → IsSited e.site e.frame e.flat.base all
+    → ((k t : ℕ) → slice_get e.site.takes k ≡ Some t
+    → IsValue (table e) (types e.memory) (sorts (table e) t) (get_or e.waits k []) (take (words (table e) t) (drop (words_before_value e.site k) e.flat.waits)))
+    → IsSeen e
+seen_from e all laws related apart sited waits = record {
+  room = λ frame x start lies. apart.within (record { frame = frame; object = x; at = start }) (lies_there e all frame x start sited lies);
+  laws = laws;
+  own = λ x at there own. related.objects (record { frame = e.frame; object = x; at = e.flat.base + at }) (sited.own x at there own);
+  packages = λ x at there package_object. related.objects (record { frame = 0; object = x; at = at }) (sited.packages x at there package_object);
+  cells = related.cells;
+  few = related.counted.few;
+  waits = waits;
+}
 
 -- A value is stored at a place in the stack.
 pub store_at_place : (e : Seen) (all : List Lying) (k t n : ℕ) (zs : List ℤ) (ev : Evaluated Place) (ws : List Word) (new : List ℤ)

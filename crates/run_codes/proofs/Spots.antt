@@ -1,15 +1,18 @@
 -- The spot of a place that is lowered is that of the machine's place.
 use Rattle.std.proofs.Common.{◌≡◌, ℕ, zero, suc, ◌+◌, ◌≤◌, true, false, Bool, ◌&&◌, length, drop, refl, sym, ap, subst, ◌∙◌, arith, Some, None, slice_get, ℤ, pos, nat_lt, if◌then◌else◌}
-use Rattle.std.specs.Prelude.{option_and_then, unsigned_abs, ◌==◌}
+use Rattle.std.specs.Prelude.{nat_le, option_and_then, unsigned_abs, ◌==◌}
 use Rattle.typed_tree.specs.Trees.{TypedTree, Name}
 use Rattle.flow_paths.specs.Names.{waiting}
+use Rattle.flow_paths.specs.Objects.{object_at}
+use Rattle.machine.specs.Typed.{sorts}
 use Rattle.machine.specs.Memory.{Place}
 use Rattle.machine.specs.Evaluate.{Evaluated, Done, followed_by, Touched, steps_of, walked, variable_place, place_of}
 use Rattle.run_codes.specs.Codes.{InFrame, InPackages, Behind}
 use Rattle.run_codes.specs.Codes as codes
-use Rattle.run_codes.specs.Flat.{Flat, Got, Given, Stops, Broken, Stop, Traps, and_then, is_broken, touched, most_cells, most_offsets, InStack, InCell, cell_spot, spot, word, words_in, indexes}
+use Rattle.run_codes.specs.Flat.{Flat, Got, Given, Stops, Broken, Stop, Traps, and_then, is_broken, touched, most_cells, most_offsets, InStack, InCell, cell_spot, stack_spot, spot, word, words_in, indexes}
 use Rattle.run_codes.specs.Lowered.{Site, Placed, object_place, led, place}
-use Rattle.run_codes.specs.Related.{Seen, here, now, IsSeen, IsTouch, InCell as Cellwise, IsDesignated, IsBehind, Leads, SpotSame}
+use Rattle.run_codes.specs.Related.{Seen, table, here, now, IsSeen, IsTouch, InCell as Cellwise, IsDesignated, IsBehind, Leads, InObject, SpotSame}
+use Rattle.run_codes.proofs.Parts.{split_inside}
 use Rattle.run_codes.proofs.Places.{impossible, some_same, given_on, if_some, stopped_on, in_bounds, place_indexes}
 use Rattle.run_codes.proofs.Expressions.{and_then_some, begins, Walked, walks}
 
@@ -44,20 +47,31 @@ behind_same e few Broken k t o ev is = absurd is
 
 -- ---- places
 
-pub leads_same : (e : Seen) → length e.memory.cells ≤ most_cells → (p : codes.Place) (o k t : ℕ) (ev : Evaluated Place) → place_indexes e.flat p ≡ Given (pos o) → Leads e p o k t ev
+within : (a b : ℕ) → a ≤ b → nat_le a b ≡ true
+within a b le = grind arith
+
+in_stack : (e : Seen) → IsSeen e → (p : Place) (t n : ℕ) → InObject e p t n → stack_spot e.flat n ≡ Given (InStack n)
+in_stack e seen p t n is =
+    let room = seen.room is.frame is.object is.start is.lies in
+    let inside = split_inside (sorts (table e) (object_at e.site.typing is.object).of) (sorts (table e) t) p.at is.split in
+    ap (λ b. if b then Given (InStack n) else Broken) (within n (length e.flat.stack) (omega (arith, room, inside, is.at)))
+
+pub leads_same : (e : Seen) → IsSeen e → (p : codes.Place) (o k t : ℕ) (ev : Evaluated Place) → place_indexes e.flat p ≡ Given (pos o) → Leads e p o k t ev
     → SpotSame e k t ev (spot e.flat p)
-leads_same e few (InFrame at i) o k t ev index is =
-    subst (λ g. SpotSame e k t ev g) (sym (ap (λ g. and_then g (λ o. Given (InStack (e.flat.base + at + unsigned_abs o)))) index))
+leads_same e seen (InFrame at i) o k t ev index is =
+    subst (λ g. SpotSame e k t ev g)
+    (sym (ap (λ g. and_then g (λ o. stack_spot e.flat (e.flat.base + at + unsigned_abs o))) index ∙ in_stack e seen is.p t (e.flat.base + at + o) is.from))
     (drop (e.flat.base + at + o) e.flat.stack, is, refl)
-leads_same e few (InPackages at i) o k t ev index is =
-    subst (λ g. SpotSame e k t ev g) (sym (ap (λ g. and_then g (λ o. Given (InStack (at + unsigned_abs o)))) index))
+leads_same e seen (InPackages at i) o k t ev index is =
+    subst (λ g. SpotSame e k t ev g)
+    (sym (ap (λ g. and_then g (λ o. stack_spot e.flat (at + unsigned_abs o))) index ∙ in_stack e seen is.p t (at + o) is.from))
     (drop (at + o) e.flat.stack, is, refl)
-leads_same e few (Behind p at i) o k t ev index is =
-    let seen = given_on (indexes e.flat p) (λ x. word e.flat i) (pos o) index in
+leads_same e seen (Behind p at i) o k t ev index is =
+    let last = given_on (indexes e.flat p) (λ x. word e.flat i) (pos o) index in
     let there : spot e.flat (Behind p at i) ≡ and_then (word e.flat p) (λ w. cell_spot e.flat (at + o) (unsigned_abs w)) =
-    ap (λ g. and_then g (λ x. and_then (word e.flat i) (λ o. and_then (word e.flat p) (λ w. cell_spot e.flat (at + unsigned_abs o) (unsigned_abs w))))) seen.1
-    ∙ ap (λ g. and_then g (λ o. and_then (word e.flat p) (λ w. cell_spot e.flat (at + unsigned_abs o) (unsigned_abs w)))) seen.2 in
-    subst (λ g. SpotSame e k t ev g) (sym there) (behind_same e few (word e.flat p) k t (at + o) ev is)
+    ap (λ g. and_then g (λ x. and_then (word e.flat i) (λ o. and_then (word e.flat p) (λ w. cell_spot e.flat (at + unsigned_abs o) (unsigned_abs w))))) last.1
+    ∙ ap (λ g. and_then g (λ o. and_then (word e.flat p) (λ w. cell_spot e.flat (at + unsigned_abs o) (unsigned_abs w)))) last.2 in
+    subst (λ g. SpotSame e k t ev g) (sym there) (behind_same e seen.few (word e.flat p) k t (at + o) ev is)
 
 stop_at : {A B : Type 0} (got : Got A) (f : A → Got B) (s : Stop) → got ≡ Stops s → and_then got f ≡ Stops s
 stop_at got f s is = ap (λ g. and_then g f) is
@@ -76,8 +90,8 @@ stop_last Broken x y s on is = absurd (never (ap (λ g. is_broken g) is))
     never x = cc
 
 pub spot_stops : (m : Flat) (s : Stop) (p : codes.Place) → place_indexes m p ≡ Stops s → spot m p ≡ Stops s
-spot_stops m s (InFrame at i) x = stop_at (word m i) (λ o. Given (InStack (m.base + at + unsigned_abs o))) s x
-spot_stops m s (InPackages at i) x = stop_at (word m i) (λ o. Given (InStack (at + unsigned_abs o))) s x
+spot_stops m s (InFrame at i) x = stop_at (word m i) (λ o. stack_spot m (m.base + at + unsigned_abs o)) s x
+spot_stops m s (InPackages at i) x = stop_at (word m i) (λ o. stack_spot m (at + unsigned_abs o)) s x
 spot_stops m s (Behind a at i) x =
     stop_last (indexes m a) (word m i) (and_then (word m i) (λ o. and_then (word m a) (λ w. cell_spot m (at + unsigned_abs o) (unsigned_abs w)))) s
     (λ y. stop_at (word m i) (λ o. and_then (word m a) (λ w. cell_spot m (at + unsigned_abs o) (unsigned_abs w))) s y) x
@@ -94,7 +108,7 @@ name_spot e seen k x steps q (Given y) index w =
     let j : ℕ = k + waiting steps in
     let ends = ap (λ g. followed_by g (λ way n. walked e.site.typing way (variable_place (here e) x) n)) w.1 in
     subst (λ v. SpotSame e j q.of v (spot e.flat q.place)) (sym ends)
-    (leads_same e seen.few q.place w.2 j q.of (walked e.site.typing w.0 (variable_place (here e) x) (now e j)) (index ∙ ap (λ z. Given z) w.3) w.4)
+    (leads_same e seen q.place w.2 j q.of (walked e.site.typing w.0 (variable_place (here e) x) (now e j)) (index ∙ ap (λ z. Given z) w.3) w.4)
 name_spot e seen k x steps q (Stops s) index w =
     subst (λ g. SpotSame e (k + waiting steps) q.of (followed_by (steps_of (here e) steps (now e k)) (λ way n. walked e.site.typing way (variable_place (here e) x) n)) g)
     (sym (spot_stops e.flat s q.place index))

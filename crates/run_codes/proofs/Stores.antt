@@ -23,7 +23,7 @@ pub spliced_is : {A : Type 0} (n : ℕ) (new all : List A) → spliced n new all
 spliced_is n new all = ap (λ l. (take n all ++ new) ++ l) (sym (drop-drop (length new) n all))
 
 -- After some that stay.
-splice_on : {A : Type 0} (at a n : ℕ) (new all : List A) → n ≡ at + a → at ≤ length all → drop at (splice n new all) ≡ splice a new (drop at all)
+pub splice_on : {A : Type 0} (at a n : ℕ) (new all : List A) → n ≡ at + a → at ≤ length all → drop at (splice n new all) ≡ splice a new (drop at all)
 splice_on zero a n new all is le = ap (λ k. splice k new all) (is ∙ none a)
   where
     none : (a : ℕ) → 0 + a ≡ a
@@ -33,7 +33,7 @@ splice_on (suc at) a zero new (x ∷ all) is le = absurd (omega (arith, is))
 splice_on (suc at) a (suc n) new (x ∷ all) is le = splice_on at a n new all (omega (arith, is)) (omega (arith, le))
 
 -- What stands after them stays.
-splice_after : {A : Type 0} (n q : ℕ) (new all : List A) → n + length new ≤ q → n ≤ length all → drop q (splice n new all) ≡ drop q all
+pub splice_after : {A : Type 0} (n q : ℕ) (new all : List A) → n + length new ≤ q → n ≤ length all → drop q (splice n new all) ≡ drop q all
 splice_after zero q new all le inside = drop-append-drop (length new) all new q (omega (arith, le)) refl
 splice_after (suc n) q new [] le inside = absurd (omega (arith, inside))
 splice_after (suc n) zero new (x ∷ all) le inside = absurd (omega (arith, le))
@@ -42,7 +42,7 @@ splice_after (suc n) (suc q) new (x ∷ all) le inside = splice_after n q new al
 -- ---- what stands for others
 
 -- What stands before them stays.
-stand_before : (table : Table) (made : List ℕ) (all : List Sort) (xs : List Slot) (zs : List ℤ) (n : ℕ) (new : List ℤ) → length all ≤ n
+pub stand_before : (table : Table) (made : List ℕ) (all : List Sort) (xs : List Slot) (zs : List ℤ) (n : ℕ) (new : List ℤ) → length all ≤ n
     → AllStand table made all xs zs → AllStand table made all xs (splice n new zs)
 stand_before table made [] xs zs n new le is = tt
 stand_before table made (s ∷ all) [] zs n new le is = absurd is

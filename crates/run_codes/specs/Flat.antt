@@ -271,9 +271,13 @@ cell_spot m o zero = Stops constraint
 cell_spot m o (suc n) =
     if nat_lt n most_cells && nat_lt o most_offsets then touched (slice_get m.cells n) (λ c. Given (InCell n o)) else Broken
 
+-- Within the stack.
+abbrev pub stack_spot : Flat → ℕ → Got Spot
+stack_spot m n = if nat_le n (length m.stack) then Given (InStack n) else Broken
+
 abbrev pub spot : Flat → Place → Got Spot
-spot m (InFrame at i) = and_then (word m i) (λ o. Given (InStack (m.base + at + unsigned_abs o)))
-spot m (InPackages at i) = and_then (word m i) (λ o. Given (InStack (at + unsigned_abs o)))
+spot m (InFrame at i) = and_then (word m i) (λ o. stack_spot m (m.base + at + unsigned_abs o))
+spot m (InPackages at i) = and_then (word m i) (λ o. stack_spot m (at + unsigned_abs o))
 spot m (Behind p at i) =
     and_then (indexes m p) (λ x. and_then (word m i) (λ o. and_then (word m p) (λ w. cell_spot m (at + unsigned_abs o) (unsigned_abs w))))
 

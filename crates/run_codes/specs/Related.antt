@@ -135,6 +135,22 @@ now e k = record { memory = e.memory; waits = drop k e.waits }
 abbrev pub Stand : Seen → List Sort → List Slot → List ℤ → Type 0
 Stand e all xs zs = AllStand (table e) (types e.memory) all xs zs
 
+-- An object lies from an index of the stack on: in the frame, or among those of packages.
+pub record LiesOwn (e : Seen) (frame x start : ℕ) : Type 0 where
+  pub at : ℕ
+  pub there : offset_of e.site x ≡ Some at
+  pub own : is_package_object e.site.typing x ≡ false
+  pub runs : frame ≡ e.frame
+  pub begins : start ≡ e.flat.base + at
+
+pub record LiesInPackages (e : Seen) (frame x start : ℕ) : Type 0 where
+  pub there : package_offset e.site x ≡ Some start
+  pub packages : is_package_object e.site.typing x ≡ true
+  pub first : frame ≡ 0
+
+abbrev pub LiesIn : Seen → ℕ → ℕ → ℕ → Type 0
+LiesIn e frame x start = LiesOwn e frame x start ⊎ LiesInPackages e frame x start
+
 -- What is read is there: the objects of the frame and of packages, the cells, the values that wait.
 pub record IsSeen (e : Seen) : Type 0 where
   pub laws : IsTable (table e)
@@ -142,6 +158,8 @@ pub record IsSeen (e : Seen) : Type 0 where
       → Stand e (sorts (table e) (object_at e.site.typing x).of) (slots_at e.site.typing e.memory (OfVariable e.frame x)) (drop (e.flat.base + at) e.flat.stack)
   pub packages : (x at : ℕ) → package_offset e.site x ≡ Some at → is_package_object e.site.typing x ≡ true
       → Stand e (sorts (table e) (object_at e.site.typing x).of) (slots_at e.site.typing e.memory (OfVariable 0 x)) (drop at e.flat.stack)
+  pub room : (frame x start : ℕ) → LiesIn e frame x start
+      → start + length (sorts (table e) (object_at e.site.typing x).of) ≤ length e.flat.stack
   pub cells : HaveCells (table e) e.memory e.flat
   pub few : length e.memory.cells ≤ most_cells
   pub waits : (k t : ℕ) → slice_get e.site.takes k ≡ Some t
@@ -170,22 +188,6 @@ pub record IsSplit (all : List Sort) (offset : ℕ) (part : List Sort) : Type 0 
   pub rest : List Sort
   pub is : all ≡ front ++ (part ++ rest)
   pub long : length front ≡ offset
-
--- An object lies from an index of the stack on: in the frame, or among those of packages.
-pub record LiesOwn (e : Seen) (frame x start : ℕ) : Type 0 where
-  pub at : ℕ
-  pub there : offset_of e.site x ≡ Some at
-  pub own : is_package_object e.site.typing x ≡ false
-  pub runs : frame ≡ e.frame
-  pub begins : start ≡ e.flat.base + at
-
-pub record LiesInPackages (e : Seen) (frame x start : ℕ) : Type 0 where
-  pub there : package_offset e.site x ≡ Some start
-  pub packages : is_package_object e.site.typing x ≡ true
-  pub first : frame ≡ 0
-
-abbrev pub LiesIn : Seen → ℕ → ℕ → ℕ → Type 0
-LiesIn e frame x start = LiesOwn e frame x start ⊎ LiesInPackages e frame x start
 
 -- A place of the machine, with a type, is a part of an object from this index of the stack on.
 pub record InObject (e : Seen) (p : Place) (t n : ℕ) : Type 0 where
