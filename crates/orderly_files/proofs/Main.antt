@@ -91,7 +91,7 @@ longer_behind now (e.PackageBodyOpens id) = by (source_package now.ended id.name
     by (Some d) = omega arith
 longer_behind now _ = omega arith
 
-longer_all : (events : List Event) (now : Known) → length now.declared ≤ length (known_behind_all now events).declared
+pub longer_all : (events : List Event) (now : Known) → length now.declared ≤ length (known_behind_all now events).declared
 longer_all [] now = omega arith
 longer_all (event ∷ rest) now =
     let a = longer_behind now event in let b = longer_all rest (known_behind now event) in omega (arith, a, b)
@@ -219,14 +219,17 @@ first_types = record {
 
 -- ---- files
 
+-- Each identifier that is declared has the number of its declaration by its position.
+pub files_numbered : (files : Files) → AreApart (identified files) → AreNumbered (length (decl_infos files)) (identified files) known_at_first (source_events files)
+unfolding identified known_of decl_infos
+files_numbered files apart =
+    let numbers : List Identified = identified files in
+    let whole : Known = known_of files in
+    let long : length whole.declared ≤ length (decl_infos files) = let a = length-map whole.declared info_of in omega (arith, a) in
+    all_numbered numbers apart whole (length (decl_infos files)) (source_events files) known_at_first first_indexed (λ x is. is) long
+
 -- The code of these files is in order.
 pub files_in_order : (files : Files) → AreApart (identified files) → AllEnded at_start (lowered_files (identified files) files)
     → IsOrderly (program_of (identified files) (length (decl_infos files)) files)
-unfolding identified known_of decl_infos
 files_in_order files apart ended =
-    let numbers : List Identified = identified files in
-    let count : ℕ = length (decl_infos files) in
-    let whole : Known = known_of files in
-    let long : length whole.declared ≤ count = let a = length-map whole.declared info_of in omega (arith, a) in
-    files_orderly count numbers files at_start known_at_first first_regions first_types
-    (all_numbered numbers apart whole count (source_events files) known_at_first first_indexed (λ x is. is) long) ended
+    files_orderly (length (decl_infos files)) (identified files) files at_start known_at_first first_regions first_types (files_numbered files apart) ended
