@@ -1,1 +1,5 @@
 pub mod Whole
+pub mod Written
+pub mod Once
+pub mod Main
+pub mod Examples

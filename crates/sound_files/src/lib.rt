@@ -1,5 +1,10 @@
-//! What the code of files has of what soundness asks of resolved code: laws, for readers.
+//! The runs of accepted files are sound, under the premises that are left: definitions and laws, for
+//! readers.
 //!
-//! In the table of a program that declares in order, Integer owns nothing (`proofs/Whole.antt`): one of
-//! the premises of `order_laws` (`IsOrderly`). Nothing here runs.
+//! `order_laws` says what is asked of the resolved code of a program beside what typing and the reports
+//! say (`IsOrderly`). Here is what the code of files has of it: Integer owns nothing, where the code
+//! declares in order (`proofs/Whole.antt`); units are as the grammar has them, with each exit in a loop
+//! (`Written`); and each declaration of an object has a number of its own (`Once`). What is left stands
+//! in `specs/Left.antt`. `Main` joins this with the types of files, and `Examples` has a program whose
+//! code is orderly. Nothing here runs.
 #![tactic(auto)]
