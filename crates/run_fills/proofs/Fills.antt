@@ -1,11 +1,10 @@
 -- A value that is lowered is made and moved as on the machine.
-use Rattle.std.proofs.Common.{◌≡◌, ℕ, zero, suc, ◌+◌, ◌<◌, ◌≤◌, true, false, Bool, ◌&&◌, ◌||◌, IsTrue, List, [], ◌∷◌, ◌++◌, map, length, get_or, refl, sym, ap, subst, ◌∙◌, arith, Option, Some, None, ℤ, pos, nat_eq, if◌then◌else◌, append-nil}
-use Rattle.std.specs.Prelude.{option_and_then, flat_map, ◌==◌}
+use Rattle.std.proofs.Common.{◌≡◌, ℕ, zero, suc, ◌+◌, true, false, ◌&&◌, ◌||◌, List, [], ◌∷◌, ◌++◌, length, refl, sym, ap, subst, ◌∙◌, arith, Option, Some, None, ℤ, pos, nat_eq}
+use Rattle.std.specs.Prelude.{flat_map, ◌==◌}
 use Rattle.type_definitions.specs.declared.table.Component.{Component}
 use Rattle.type_definitions.specs.declared.table.Shape.{Shape}
 use Rattle.type_definitions.specs.declared.table.Shape.TheVariants as shape
 use Rattle.type_definitions.specs.Types.{Table, shape_of, meant_type, span}
-use Rattle.type_definitions.specs.Entries.{integer}
 use Rattle.typed_tree.specs.Trees.{TypedTree, Name, Call, Parens, Aggregate, Alike, New, NoMore, More}
 use Rattle.typed_tree.specs.Trees as typed
 use Rattle.flow_paths.specs.Objects.{sub_at}
@@ -13,14 +12,13 @@ use Rattle.flow_paths.specs.Names.{waiting}
 use Rattle.machine.specs.Words.{Word, Null, element_type, element_count, element_of, count_of, default, repeated}
 use Rattle.machine.specs.Typed.{Sort, Whole, Position, Pointer, sorts, same_sorts, same_designated, same_kind, repeated_sorts, is_pointer, is_array, points_to, field_count, tree_count}
 use Rattle.machine.specs.Memory.{Memory}
-use Rattle.machine.specs.Evaluate.{Here, Now, Evaluated, Done, followed_by, Step, steps_of, walked, variable_place, place_of, Use, AsValue, AsView, held_or_taken, waited, evaluate, parts_of, initial, allocated, checked, part_type}
-use Rattle.machine.specs.Evaluate as machine
+use Rattle.machine.specs.Evaluate.{Here, Now, Evaluated, Done, followed_by, steps_of, walked, variable_place, place_of, Use, AsValue, held_or_taken, evaluate, parts_of, initial, allocated, checked, part_type}
 use Rattle.run_codes.specs.Codes.{Number, Fill, Pointer as LookedAt, Default, Repeated, Both, Empty}
 use Rattle.run_codes.specs.Codes as codes
 use Rattle.run_codes.specs.Flat.{Flat, Given, Made, made_then, kinds, word, filled, default_words, made}
 use Rattle.run_codes.specs.Flat as flat
-use Rattle.run_codes.specs.Lowered.{Site, option_map, Lowered, lowered, place, place_value, waited_value, scalar, one_type, is_composite, are_composite, both, value, parts, first_value}
-use Rattle.run_codes.specs.Related.{IsValue, IsTable, Seen, table, here, now, types, Same, Lying}
+use Rattle.run_codes.specs.Lowered.{Site, option_map, lowered, place, place_value, waited_value, scalar, one_type, is_composite, are_composite, both, value, parts, first_value}
+use Rattle.run_codes.specs.Related.{IsTable, Seen, table, here, now, types, Lying}
 use Rattle.run_codes.proofs.Places.{impossible, some_same, if_some, both_true, twice}
 use Rattle.run_codes.proofs.Expressions.{and_then_some, map_some, simulates}
 use Rattle.run_fills.specs.Filled.{IsWhole, at, Later, Filled}

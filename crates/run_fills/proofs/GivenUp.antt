@@ -1,10 +1,10 @@
 -- What a step that stops leaves: the memory before it, with the cells that it made, which are freed.
-use Rattle.std.proofs.Common.{◌≡◌, ◌⊎◌, inl, inr, ℕ, zero, suc, ◌+◌, ◌-◌, ◌<◌, ◌≤◌, true, false, Bool, not, List, [], ◌∷◌, ◌++◌, map, filter, length, drop, get_or, sum, refl, sym, ap, subst, ◌∙◌, arith, Option, Some, None, slice_get, ℤ, if◌then◌else◌, length-append, append-nil}
+use Rattle.std.proofs.Common.{◌≡◌, inl, inr, ℕ, zero, suc, ◌+◌, ◌-◌, ◌<◌, ◌≤◌, true, false, Bool, not, List, [], ◌∷◌, ◌++◌, map, filter, length, drop, get_or, sum, refl, sym, ap, subst, ◌∙◌, arith, Some, slice_get, if◌then◌else◌, length-append}
 use Rattle.std.proofs.lemmas.List.{length-map, map-append, length-drop}
 use Rattle.std.proofs.lemmas.Bool.{cases_lt}
 use Rattle.reuse_heap.specs.Cells.{Cell as StoredCell}
 use Rattle.flow_paths.specs.Objects.{Typing}
-use Rattle.machine.specs.Memory.{Memory, HeapCell, OfVariable, no_cell, cell, cell_words, live_cells, live_words, slots_at, as_freed, given_up}
+use Rattle.machine.specs.Memory.{Memory, HeapCell, OfVariable, no_cell, cell, cell_words, live_cells, slots_at, as_freed, given_up}
 use Rattle.run_codes.specs.Flat.{Flat, most_cells}
 use Rattle.run_codes.specs.Points as points
 use Rattle.run_codes.specs.Related.{AllStand, CellStands, Seen, types, Lying, lying_sorts, Related}

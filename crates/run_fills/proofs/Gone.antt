@@ -1,25 +1,21 @@
 -- What is moved out of a cell is gone on both sides.
-use Rattle.std.proofs.Common.{◌≡◌, ℕ, zero, suc, ◌+◌, ◌-◌, ◌<◌, ◌≤◌, true, false, Bool, ◌&&◌, List, [], ◌∷◌, ◌++◌, map, length, take, drop, refl, sym, ap, subst, ◌∙◌, arith, Option, Some, None, slice_get, ℤ, pos, negsuc, nat_lt, if◌then◌else◌}
-use Rattle.std.specs.Prelude.{neg_ℤ, unsigned_abs}
+use Rattle.std.proofs.Common.{◌≡◌, ℕ, zero, suc, ◌+◌, ◌-◌, ◌≤◌, true, false, Bool, List, [], ◌∷◌, ◌++◌, length, take, drop, refl, sym, ap, subst, ◌∙◌, arith, Some, None, slice_get, ℤ, pos, negsuc, nat_lt, if◌then◌else◌}
 use Rattle.std.proofs.lemmas.List.{length-map}
-use Rattle.spark_base.specs.Lists.{Has}
 use Rattle.run_values.specs.declared.value.Value.{Value}
 use Rattle.run_values.specs.declared.value.Value.TheVariants as value
-use Rattle.run_values.specs.declared.value.Kind.{Kind}
 use Rattle.run_values.specs.declared.value.Kind.TheVariants as sort
 use Rattle.run_values.specs.Values.{kind}
 use Rattle.reuse_heap.specs.Cells.{Cell as StoredCell}
-use Rattle.type_definitions.specs.Types.{Table, words}
-use Rattle.machine.specs.Words.{access_offsets}
-use Rattle.machine.specs.Typed.{Sort, Whole, Position, Pointer, sorts}
+use Rattle.type_definitions.specs.Types.{Table}
+use Rattle.machine.specs.Typed.{Sort, Pointer, sorts}
 use Rattle.machine.specs.Memory.{Slot, HeapCell, at_number, gone_at}
-use Rattle.run_codes.specs.Flat.{word_of, words_in, value_gone, values_gone, as_gone, all_gone, gone_from, kind_of, spliced}
+use Rattle.run_codes.specs.Flat.{word_of, words_in, value_gone, values_gone, as_gone, all_gone, gone_from, kind_of}
 use Rattle.run_codes.specs.Related.{AllStand, AllKinds, CellStands, IsSplit}
 use Rattle.run_codes.proofs.Parts.{first_stand, second_stand, first_kinds, second_kinds, split_inside, words-drop}
 use Rattle.run_codes.proofs.Places.{some_same}
-use Rattle.run_codes.proofs.Stores.{splice, spliced_is, split_replaced}
+use Rattle.run_codes.proofs.Stores.{splice, split_replaced}
 use Rattle.run_codes.proofs.Cells.{split_kinds, words_spliced, splice_long}
-use Rattle.run_codes.proofs.Moves.{Accesses, has_first, has_later, all_gone_stand, number_long, gone_long, taken_stand, taken_slots, taken_words}
+use Rattle.run_codes.proofs.Moves.{Accesses, has_first, has_later, all_gone_stand, number_long, gone_long, taken_stand, taken_slots}
 
 -- ---- values that are gone
 

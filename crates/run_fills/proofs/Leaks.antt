@@ -1,10 +1,10 @@
 -- The leak checks of a place fail where they fail on the machine.
-use Rattle.std.proofs.Common.{◌≡◌, ◌⊎◌, inl, inr, ℕ, zero, suc, ◌+◌, ◌<◌, ◌≤◌, true, false, Bool, List, [], ◌∷◌, ◌++◌, map, length, take, drop, get_or, refl, sym, ap, subst, ◌∙◌, arith, Option, Some, None, slice_get, ℤ, pos, negsuc, append_assoc}
+use Rattle.std.proofs.Common.{◌≡◌, inl, inr, ℕ, zero, suc, ◌+◌, List, [], ◌∷◌, ◌++◌, map, length, take, drop, get_or, refl, sym, ap, subst, ◌∙◌, Some, None, slice_get, ℤ, pos, negsuc, append_assoc}
 use Rattle.std.specs.Prelude.{flat_map}
 use Rattle.spark_base.specs.Lists.{Has}
 use Rattle.spark_base.specs.declared.position.Pos.{Pos}
 use Rattle.type_definitions.specs.Types.{Table, parts}
-use Rattle.machine.specs.Words.{Word, Null, Cell, offsets, access_offsets}
+use Rattle.machine.specs.Words.{Cell, offsets, access_offsets}
 use Rattle.machine.specs.Typed.{Sort, Pointer, sorts}
 use Rattle.machine.specs.Memory.{Slot, no_slot, slots_at}
 use Rattle.machine.specs.Evaluate.{Evaluated}
@@ -16,7 +16,6 @@ use Rattle.run_codes.specs.Points.{leak, leaks_in, leaks_at}
 use Rattle.run_codes.specs.Related.{SlotStands, AllStand, Seen, table, types, IsPlace, IsThere, Lying}
 use Rattle.run_codes.proofs.Places.{some_same}
 use Rattle.run_codes.proofs.Held.{is_held}
-use Rattle.run_codes.proofs.Moves.{has_first, has_later}
 use Rattle.run_fills.specs.Filled.{IsWhole}
 use Rattle.run_fills.proofs.GivenUp.{get_dropped}
 

@@ -1,22 +1,21 @@
 -- A new cell, and its number.
-use Rattle.std.proofs.Common.{◌≡◌, ℕ, zero, suc, ◌+◌, ◌<◌, ◌≤◌, true, false, Bool, not, ◌&&◌, IsTrue, List, [], ◌∷◌, ◌++◌, map, length, get_or, refl, sym, ap, subst, ◌∙◌, arith, Option, Some, None, ℤ, pos, nat_lt, if◌then◌else◌, length-append}
-use Rattle.std.specs.Prelude.{nat_le, unsigned_abs}
+use Rattle.std.proofs.Common.{◌≡◌, ℕ, suc, ◌+◌, ◌≤◌, true, false, Bool, not, ◌&&◌, List, [], ◌∷◌, ◌++◌, map, length, get_or, refl, sym, ap, subst, ◌∙◌, arith, ℤ, pos, nat_lt, if◌then◌else◌, length-append}
+use Rattle.std.specs.Prelude.{nat_le}
 use Rattle.std.proofs.lemmas.List.{length-map}
-use Rattle.run_values.specs.declared.value.Kind.{Kind}
 use Rattle.type_definitions.specs.Types.{Table}
 use Rattle.type_definitions.specs.Entries.{integer}
 use Rattle.machine.specs.Words.{Word, Cell}
 use Rattle.machine.specs.Typed.{Sort, Pointer, sorts, same_designated}
-use Rattle.machine.specs.Memory.{Memory, Slot, HeapCell, fresh, live_words, with_new_cell}
+use Rattle.machine.specs.Memory.{Memory, HeapCell, fresh, live_words, with_new_cell}
 use Rattle.machine.specs.Evaluate.{Now, Evaluated, Done, followed_by, allocated, checked, StorageError, heap_words}
 use Rattle.machine.specs.Evaluate as machine
 use Rattle.run_codes.specs.Flat.{Flat, Made, Failed, Raises, kind_of, kinds, is_word, are_words, values, with_cell, most_cells, made}
 use Rattle.run_codes.specs.Flat as flat
-use Rattle.run_codes.specs.Related.{Designates, PointsTo, AllStand, IsValue, Seen, table, here, now, types, Lying}
+use Rattle.run_codes.specs.Related.{PointsTo, AllStand, IsValue, Seen, table, here, now, types, Lying}
 use Rattle.run_codes.proofs.Places.{below}
 use Rattle.run_codes.proofs.Held.{stands_word}
 use Rattle.run_codes.proofs.News.{cell_made, types_more}
-use Rattle.run_fills.specs.Filled.{IsWhole, Later, Filled}
+use Rattle.run_fills.specs.Filled.{IsWhole, Filled}
 use Rattle.run_fills.proofs.Wholes.{unchanged, later_from}
 use Rattle.run_fills.proofs.Single.{one_value, checked_fits, pointer_fits, few_types}
 

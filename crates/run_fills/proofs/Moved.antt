@@ -1,34 +1,30 @@
 -- What is moved out of a place, and the value that was there.
-use Rattle.std.proofs.Common.{◌≡◌, ℕ, zero, suc, ◌+◌, ◌-◌, ◌<◌, ◌≤◌, true, false, Bool, ◌&&◌, List, [], ◌∷◌, ◌++◌, map, length, take, drop, refl, sym, ap, subst, ◌∙◌, arith, Option, Some, None, slice_get, ℤ, pos, if◌then◌else◌, append-nil}
+use Rattle.std.proofs.Common.{◌≡◌, ℕ, zero, suc, ◌+◌, true, ◌&&◌, List, [], ◌++◌, length, take, drop, refl, sym, ap, subst, ◌∙◌, arith, ℤ, if◌then◌else◌, append-nil}
 use Rattle.std.proofs.lemmas.List.{length-map}
 use Rattle.run_values.specs.declared.value.Value.{Value}
 use Rattle.run_values.specs.declared.value.Kind.{Kind}
-use Rattle.run_values.specs.declared.value.Kind.TheVariants as sort
 use Rattle.reuse_heap.specs.Cells.{Cell as StoredCell}
-use Rattle.type_definitions.specs.declared.table.Shape.{Shape}
-use Rattle.type_definitions.specs.Types.{Table, shape_of, words, is_owning}
-use Rattle.flow_paths.specs.Objects.{Typing}
+use Rattle.type_definitions.specs.Types.{words, is_owning}
 use Rattle.machine.specs.Words.{Word, access_offsets, fits_type}
 use Rattle.machine.specs.Typed.{Sort, sorts, same_sorts}
 use Rattle.machine.specs.Memory.{Memory, Slot, HeapCell, Place, Base, OfVariable, OfCell, cell, put, gone_at, slots_at, slots_of, with_slots, words_of}
 use Rattle.machine.specs.Memory as machine
-use Rattle.machine.specs.Evaluate.{Here, Now, Evaluated, Done, followed_by, taken, checked, Touched}
+use Rattle.machine.specs.Evaluate.{Now, Evaluated, Done, followed_by, taken, checked, Touched}
 use Rattle.run_codes.specs.Codes as codes
 use Rattle.run_codes.specs.Flat.{Flat, Got, Given, Stops, Broken, Traps, and_then, touched, kind_of, kinds, is_word, front, are_in, all_gone, values_gone, are_pointers, spliced, with_stack, with_words, reads, all_fresh, Spot, InStack, InCell, spot, held, most_cells}
 use Rattle.run_codes.specs.Flat as flat
-use Rattle.run_codes.specs.Related.{AllStand, CellStands, IsValue, Seen, table, here, now, types, IsPlace, InLive, IsThere, SpotSame, Lying, lying_sorts, Related}
+use Rattle.run_codes.specs.Related.{CellStands, IsValue, Seen, table, here, now, types, IsPlace, IsThere, SpotSame, Lying, lying_sorts, Related}
 use Rattle.run_codes.proofs.Parts.{many, split_inside}
-use Rattle.run_codes.proofs.Places.{some_same, given_same, stopped_on, OfType}
+use Rattle.run_codes.proofs.Places.{some_same, given_same, stopped_on}
 use Rattle.run_codes.proofs.Stores.{splice, spliced_is}
 use Rattle.run_codes.proofs.Cells.{splice_long, number_types}
 use Rattle.run_codes.proofs.Heaps.{cell_changed}
-use Rattle.run_codes.proofs.Held.{IsHeld, is_held, in_cell_there}
+use Rattle.run_codes.proofs.Held.{is_held, in_cell_there}
 use Rattle.run_codes.proofs.Seeing.{lies_there}
 use Rattle.run_codes.proofs.Moves.{Accesses, pointers_there, moved_from_stack, all_gone_long, taken_words}
 use Rattle.run_fills.specs.Filled.{IsWhole, Later, Filled}
 use Rattle.run_fills.proofs.Wholes.{later_from, value_later, stopped_halts}
 use Rattle.run_fills.proofs.Values.{value_as}
-use Rattle.run_fills.proofs.Names.{scalar_shape, loose_fits, of_spot}
 use Rattle.run_fills.proofs.Single.{checked_fits}
 use Rattle.run_fills.proofs.Gone.{gone_in_cell}
 

@@ -1,5 +1,5 @@
 -- What a name has, as a value: looked at, or copied.
-use Rattle.std.proofs.Common.{◌≡◌, ℕ, zero, suc, ◌+◌, ◌<◌, ◌≤◌, true, false, Bool, ◌&&◌, List, [], ◌∷◌, length, take, drop, refl, sym, ap, subst, ◌∙◌, arith, Option, Some, None, slice_get, ℤ, pos, if◌then◌else◌}
+use Rattle.std.proofs.Common.{◌≡◌, ℕ, ◌+◌, true, false, Bool, List, [], ◌∷◌, length, take, refl, sym, ap, subst, ◌∙◌, Some, None, ℤ, if◌then◌else◌}
 use Rattle.std.specs.Prelude.{option_and_then, ◌==◌}
 use Rattle.type_definitions.specs.declared.table.Shape.{Shape}
 use Rattle.type_definitions.specs.declared.table.Shape.TheVariants as shape
@@ -15,8 +15,8 @@ use Rattle.run_codes.specs.Codes as codes
 use Rattle.run_codes.specs.Flat.{Flat, Got, Given, Stops, Broken, Stop, Raises, Traps, kind_of, kinds, reads, all_fresh, Spot, spot, held, word}
 use Rattle.run_codes.specs.Flat as flat
 use Rattle.run_codes.specs.Lowered.{Site, Placed, object_place, led, place, load, is_composite}
-use Rattle.run_codes.specs.Related.{IsValue, Seen, table, here, now, types, IsSeen, Stopped, Same, IsPlace, IsThere, SpotSame, Lying}
-use Rattle.run_codes.proofs.Places.{impossible, some_same, if_some, twice, stopped_on, same_by, place_indexes, loads, holds, OfType}
+use Rattle.run_codes.specs.Related.{Seen, table, here, now, types, IsSeen, Stopped, Same, IsPlace, SpotSame, Lying}
+use Rattle.run_codes.proofs.Places.{impossible, some_same, if_some, stopped_on, same_by, place_indexes, loads, holds, OfType}
 use Rattle.run_codes.proofs.Indexes.{load_stops}
 use Rattle.run_codes.proofs.Expressions.{and_then_some, begins, Walked, walks}
 use Rattle.run_codes.proofs.Held.{is_held}

@@ -1,24 +1,23 @@
 -- Values of expressions that only read, of names, and of calls that were made before.
-use Rattle.std.proofs.Common.{◌≡◌, ℕ, zero, suc, ◌+◌, ◌<◌, ◌≤◌, true, false, Bool, ◌&&◌, ◌||◌, IsTrue, List, [], ◌∷◌, ◌++◌, map, length, take, drop, get_or, refl, sym, ap, subst, ◌∙◌, arith, Option, Some, None, slice_get, ℤ, pos, nat_eq, if◌then◌else◌}
-use Rattle.std.specs.Prelude.{option_and_then, nat_le, unsigned_abs, is_some}
-use Rattle.run_values.specs.declared.value.Kind.{Kind}
+use Rattle.std.proofs.Common.{◌≡◌, ℕ, zero, suc, ◌+◌, ◌≤◌, true, false, Bool, ◌&&◌, List, [], ◌∷◌, map, length, take, drop, get_or, refl, sym, ap, subst, ◌∙◌, arith, Option, Some, None, slice_get, ℤ, pos, if◌then◌else◌}
+use Rattle.std.specs.Prelude.{option_and_then, nat_le, unsigned_abs}
 use Rattle.run_values.specs.declared.value.Kind.TheVariants as sort
 use Rattle.type_definitions.specs.declared.table.Shape.{Shape}
 use Rattle.type_definitions.specs.declared.table.Shape.TheVariants as shape
-use Rattle.type_definitions.specs.Types.{Table, shape_of, meant_type, words, is_owning}
+use Rattle.type_definitions.specs.Types.{Table, shape_of, words, is_owning}
 use Rattle.typed_tree.specs.Trees.{TypedTree}
 use Rattle.flow_paths.specs.Names.{waiting}
-use Rattle.machine.specs.Words.{Word, access_offsets, fits_type}
-use Rattle.machine.specs.Typed.{Sort, Whole, Position, Pointer, sorts, same_sort, same_sorts, same_designated, same_kind, designates}
+use Rattle.machine.specs.Words.{Word, fits_type}
+use Rattle.machine.specs.Typed.{Sort, Whole, Position, Pointer, sorts, same_sort, same_sorts, same_designated}
 use Rattle.machine.specs.Memory.{Place}
-use Rattle.machine.specs.Evaluate.{Here, Now, Evaluated, Done, followed_by, place_of, Use, AsValue, AsView, taken, held_or_taken, waited, checked}
+use Rattle.machine.specs.Evaluate.{Evaluated, Done, followed_by, place_of, Use, AsValue, AsView, taken, held_or_taken, waited, checked}
 use Rattle.run_codes.specs.Codes.{Code, Waiting, Fill, Checked, Pointer as LookedAt, MovedPointer, Copied, Moved, Waited}
 use Rattle.run_codes.specs.Flat.{Flat, Got, Given, Broken, Made, reads, kind_of, kinds, some_words, word, filled, spot}
 use Rattle.run_codes.specs.Flat as flat
-use Rattle.run_codes.specs.Lowered.{Site, Placed, load, place, place_value, waited_value, one_type, is_nth, is_taken, is_access, words_before_value, Scalar, scalar_of, same_scalar}
-use Rattle.run_codes.specs.Related.{PointsTo, Stands, AllStand, IsValue, Seen, table, here, now, types, IsSeen, Same, SpotSame, Lying}
+use Rattle.run_codes.specs.Lowered.{Placed, load, place, place_value, waited_value, one_type, is_nth, is_taken, is_access, words_before_value, Scalar, scalar_of, same_scalar}
+use Rattle.run_codes.specs.Related.{IsValue, Seen, table, here, now, types, IsSeen, Same, SpotSame, Lying}
 use Rattle.run_codes.proofs.Parts.{many}
-use Rattle.run_codes.proofs.Places.{impossible, some_same, if_some, both_true, OfType, holds}
+use Rattle.run_codes.proofs.Places.{impossible, some_same, if_some, both_true, holds}
 use Rattle.run_codes.proofs.Expressions.{is_held}
 use Rattle.run_codes.proofs.Spots.{place_same}
 use Rattle.run_codes.proofs.Waits.{nth_there, waited_is, waited_word}

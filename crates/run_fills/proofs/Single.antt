@@ -1,21 +1,20 @@
 -- Values of one word: scalars within bounds, and access values that are looked at.
-use Rattle.std.proofs.Common.{◌≡◌, ℕ, zero, suc, ◌+◌, ◌<◌, ◌≤◌, true, false, Bool, ◌&&◌, IsTrue, List, [], ◌∷◌, ◌++◌, map, length, refl, sym, ap, subst, ◌∙◌, arith, Option, Some, None, ℤ, pos, negsuc, if◌then◌else◌}
-use Rattle.std.specs.Prelude.{unsigned_abs, int_le, nat_le}
+use Rattle.std.proofs.Common.{◌≡◌, ℕ, zero, suc, ◌≤◌, true, false, Bool, ◌&&◌, List, [], ◌∷◌, length, refl, sym, ap, subst, ◌∙◌, arith, ℤ, pos, if◌then◌else◌}
+use Rattle.std.specs.Prelude.{unsigned_abs, nat_le}
 use Rattle.std.proofs.lemmas.List.{length-map}
-use Rattle.run_values.specs.Arithmetic.{is_integer}
 use Rattle.run_values.specs.declared.value.Kind.TheVariants as sort
 use Rattle.type_definitions.specs.declared.table.Shape.TheVariants as shape
 use Rattle.type_definitions.specs.declared.judgement.View.{View}
 use Rattle.type_definitions.specs.declared.judgement.View.TheVariants as view
 use Rattle.type_definitions.specs.Types.{Table, shape_of, view_of}
-use Rattle.machine.specs.Words.{Word, Int, Enumerated, Null, Cell, within_view, are_within, fits_type}
+use Rattle.machine.specs.Words.{Word, Null, Cell, within_view, are_within, fits_type}
 use Rattle.machine.specs.Typed.{Sort, Whole, Position, Pointer, sorts, same_designated}
 use Rattle.machine.specs.Memory.{HeapCell}
 use Rattle.machine.specs.Evaluate.{Here, Now, Evaluated, Done, followed_by, checked, ConstraintError}
 use Rattle.machine.specs.Evaluate as machine
 use Rattle.run_codes.specs.Flat.{Flat, Got, Given, Stops, Broken, Made, and_then, reads, access, constraint, is_between, is_word, most_cells}
 use Rattle.run_codes.specs.Flat as flat
-use Rattle.run_codes.specs.Related.{Designates, PointsTo, Stands, IsMarked, IsValue, IsTable, Seen, table, here, now, types, Same, Lying}
+use Rattle.run_codes.specs.Related.{PointsTo, Stands, IsMarked, IsValue, IsTable, Seen, table, here, now, types, Same, Lying}
 use Rattle.run_codes.proofs.Held.{stands_word}
 use Rattle.run_codes.proofs.Places.{stopped_on}
 use Rattle.run_fills.specs.Filled.{IsWhole, Filled}

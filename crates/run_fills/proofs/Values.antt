@@ -1,5 +1,5 @@
 -- Values of other types with the same sorts, values one after the other, and those of objects without one.
-use Rattle.std.proofs.Common.{◌≡◌, ℕ, zero, suc, ◌+◌, true, false, Bool, ◌&&◌, IsTrue, List, [], ◌∷◌, ◌++◌, map, length, refl, sym, ap, subst, ◌∙◌, arith, Option, Some, None, slice_get, ℤ, pos, negsuc, nat_eq, if◌then◌else◌, length-append}
+use Rattle.std.proofs.Common.{◌≡◌, ℕ, zero, suc, ◌+◌, true, false, Bool, IsTrue, List, [], ◌∷◌, ◌++◌, map, length, refl, sym, ap, subst, ◌∙◌, arith, slice_get, ℤ, pos, negsuc, nat_eq, if◌then◌else◌, length-append}
 use Rattle.std.specs.Prelude.{flat_map, unsigned_abs}
 use Rattle.run_values.specs.Arithmetic.{is_integer}
 use Rattle.type_definitions.specs.declared.table.Component.{Component}
@@ -12,7 +12,7 @@ use Rattle.machine.specs.Typed.{Sort, Whole, Position, Pointer, sorts, sorts_wit
 use Rattle.machine.specs.Memory.{Slot, fresh}
 use Rattle.run_codes.specs.Flat.{untagged, default_words}
 use Rattle.run_codes.specs.Flat as flat
-use Rattle.run_codes.specs.Related.{Stands, IsMarked, SlotStands, AllStand, IsValue, IsTable}
+use Rattle.run_codes.specs.Related.{IsMarked, SlotStands, AllStand, IsValue, IsTable}
 use Rattle.run_codes.proofs.Places.{both_true}
 use Rattle.run_fills.specs.Filled.{HasParts}
 use Rattle.run_fills.proofs.Single.{one_value, points_as}

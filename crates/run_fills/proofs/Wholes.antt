@@ -1,15 +1,14 @@
 -- Evaluations one after the other: what stands for the machine's memory, stands later.
-use Rattle.std.proofs.Common.{◌≡◌, ℕ, zero, suc, ◌+◌, ◌<◌, ◌≤◌, true, false, Bool, List, [], ◌∷◌, ◌++◌, length, take, drop, get_or, refl, sym, ap, subst, ◌∙◌, arith, Option, Some, None, slice_get, ℤ, append_assoc, append-nil}
+use Rattle.std.proofs.Common.{◌≡◌, ℕ, List, [], ◌++◌, length, take, drop, get_or, refl, sym, ap, subst, ◌∙◌, ℤ, append_assoc, append-nil}
 use Rattle.type_definitions.specs.Types.{Table, words}
 use Rattle.machine.specs.Words.{Word}
 use Rattle.machine.specs.Typed.{Sort, sorts}
 use Rattle.machine.specs.Memory.{Memory, fresh}
-use Rattle.machine.specs.Evaluate.{Here, Now, Evaluated, Done, followed_by}
-use Rattle.machine.specs.Evaluate as machine
+use Rattle.machine.specs.Evaluate.{Now, Evaluated, Done, followed_by}
 use Rattle.run_codes.specs.Flat.{Flat, Got, Given, Stops, Broken, Stop, Raises, Traps, Made, Failed, made_then, reads}
 use Rattle.run_codes.specs.Flat as flat
 use Rattle.run_codes.specs.Lowered.{words_before_value}
-use Rattle.run_codes.specs.Related.{AllStand, IsValue, Seen, table, here, now, types, IsSeen, Stopped, Lying, Related, AreApart, IsSited}
+use Rattle.run_codes.specs.Related.{IsValue, Seen, table, here, now, types, IsSeen, Stopped, Lying, Related, AreApart, IsSited}
 use Rattle.run_codes.proofs.Seeing.{seen_from}
 use Rattle.run_codes.proofs.News.{all_more}
 use Rattle.run_fills.specs.Filled.{IsWhole, at, Later, Halts, Filled}

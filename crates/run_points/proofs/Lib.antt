@@ -7,6 +7,7 @@ pub mod Operands
 pub mod Choices
 pub mod Texts
 pub mod Stacks
+pub mod Undeclared
+pub mod Puts
 pub mod Steps
 pub mod Lowering
-pub mod Undeclared

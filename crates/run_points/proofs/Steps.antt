@@ -23,12 +23,13 @@ use Rattle.run_codes.specs.Points.{Frame, State, Outcome, Wants, Fails, done, ar
 use Rattle.run_codes.proofs.Places.{some_same}
 use Rattle.run_points.specs.Outcomes.{IsSeenAlike, IsAlike, GivesAlike}
 use Rattle.run_points.specs.States.{Laid, StateStands, MainBegins}
-use Rattle.run_points.specs.Turns.{Turns, turn, flat_turn, around, around_sub, TurnStands, IsLowered, HasTypes, DoesAlike, is_open, OpenAlike}
+use Rattle.run_points.specs.Turns.{Turns, turn, flat_turn, around, around_sub, TurnStands, IsLowered, HasTypes, DoesAlike, OpensAlike, OpenAlike}
 use Rattle.run_points.proofs.Runs.{run_alike, given_alike}
 use Rattle.run_points.proofs.Tests.{mapped, go_alike, fall_alike, test_alike}
 use Rattle.run_points.proofs.Operands.{left_alike, right_alike}
 use Rattle.run_points.proofs.Choices.{choose_alike}
 use Rattle.run_points.proofs.Texts.{output_alike}
+use Rattle.run_points.proofs.Puts.{declare_alike}
 
 -- ---- how many values are taken
 
@@ -91,7 +92,7 @@ leave_alike : (b : Turns) (laid : Laid) → TurnStands b laid → MainBegins b.p
 leave_alike b laid is begins (More e rest) d lowers = test_alike b laid is begins e d lowers
 leave_alike b laid is begins _ d lowers = go_alike b laid is begins d lowers
 
-turn_alike : (b : Turns) (laid : Laid) → TurnStands b laid → MainBegins b.program b.lowered → (i : Instruction) → (is_open i ≡ true → DoesAlike b i) → DoesAlike b i
+turn_alike : (b : Turns) (laid : Laid) → TurnStands b laid → MainBegins b.program b.lowered → (i : Instruction) → OpensAlike b i → DoesAlike b i
 turn_alike b laid is begins Skip rest d lowers = go_alike b laid is begins d lowers
 turn_alike b laid is begins (Output text line) rest d lowers = output_alike b laid is begins text line d lowers
 turn_alike b laid is begins (Test e) rest d lowers = test_alike b laid is begins e d lowers
@@ -100,16 +101,16 @@ turn_alike b laid is begins (Evaluate t e (Some op)) rest d lowers = left_alike 
 turn_alike b laid is begins (Evaluate t e None) rest d lowers = right_alike b laid is begins e d lowers
 turn_alike b laid is begins (LeaveLoop e) rest d lowers = leave_alike b laid is begins e d lowers
 turn_alike b laid is begins Fall rest d lowers = subst (λ x. IsAlike (StateStands b.program) (machine_step.turn (turn b) Fall) (done (flat_turn b x) x)) (some_same codes.Fall d lowers) (fall_alike b laid is)
-turn_alike b laid is begins (Declare x v) rest d lowers = rest refl d lowers
-turn_alike b laid is begins (Assign target e) rest d lowers = rest refl d lowers
-turn_alike b laid is begins (instruction.Call sub e result) rest d lowers = rest refl d lowers
-turn_alike b laid is begins (Input target) rest d lowers = rest refl d lowers
-turn_alike b laid is begins (Release e) rest d lowers = rest refl d lowers
-turn_alike b laid is begins (Start x reversed low high) rest d lowers = rest refl d lowers
-turn_alike b laid is begins (Next x reversed low high) rest d lowers = rest refl d lowers
-turn_alike b laid is begins (Hold v) rest d lowers = rest refl d lowers
-turn_alike b laid is begins (EndScope x) rest d lowers = rest refl d lowers
-turn_alike b laid is begins Finish rest d lowers = rest refl d lowers
+turn_alike b laid is begins (Declare x v) rest d lowers = declare_alike b laid is begins x v rest d lowers
+turn_alike b laid is begins (Assign target e) rest d lowers = rest d lowers refl
+turn_alike b laid is begins (instruction.Call sub e result) rest d lowers = rest d lowers refl
+turn_alike b laid is begins (Input target) rest d lowers = rest d lowers refl
+turn_alike b laid is begins (Release e) rest d lowers = rest d lowers refl
+turn_alike b laid is begins (Start x reversed low high) rest d lowers = rest d lowers refl
+turn_alike b laid is begins (Next x reversed low high) rest d lowers = rest d lowers refl
+turn_alike b laid is begins (Hold v) rest d lowers = rest d lowers refl
+turn_alike b laid is begins (EndScope x) rest d lowers = rest d lowers refl
+turn_alike b laid is begins Finish rest d lowers = rest d lowers refl
 
 -- ---- the step
 
@@ -176,6 +177,7 @@ frames_alike program p input has lowered begins rest s g (f ∷ fs) (h ∷ gs) i
     taken_stands : are_taken (flat_turn b codes.Finish) ≡ true → TurnStands b is.laid
     taken_stands taken = record {
       laws = has.laws;
+      parts = has.parts;
       truth = has.truth;
       memory = is.memory;
       frame = is.frames.0;
@@ -188,7 +190,7 @@ frames_alike program p input has lowered begins rest s g (f ∷ fs) (h ∷ gs) i
         → IsAlike (StateStands program) (machine_step.turn (turn b) fp.instr) (if taken then done (flat_turn b d) d else Wants)
     by d lowers false none = tt
     by d lowers true taken =
-        turn_alike b is.laid (taken_stands taken) begins fp.instr (λ still. rest b is.laid refl refl (taken_stands taken) still) d lowers
+        turn_alike b is.laid (taken_stands taken) begins fp.instr (rest b is.laid refl refl (taken_stands taken)) d lowers
 
 -- A step from states that stand for each other.
 pub step_alike : (program : FlowProgram) (p : Program) (input : List ℕ) → HasTypes program → IsLowered program p → MainBegins program p → OpenAlike program p

@@ -1,5 +1,5 @@
 -- An evaluation of the machine leaves objects of frames that aren't there without a value.
-use Rattle.std.proofs.Common.{◌≡◌, ℕ, zero, suc, ◌+◌, ◌<◌, ◌≤◌, true, false, Bool, List, [], ◌∷◌, ◌++◌, length, take, drop, arith, Option, Some, None, nat_le, ℤ, int_le, if◌then◌else◌}
+use Rattle.std.proofs.Common.{ℕ, zero, suc, ◌+◌, ◌<◌, true, false, Bool, List, [], ◌∷◌, ◌++◌, length, take, drop, arith, Option, Some, None, nat_le, ℤ, int_le, if◌then◌else◌}
 use Rattle.std.specs.Prelude.{not, ◌&&◌, ◌-ℤ◌, unsigned_abs}
 use Rattle.typed_tree.specs.declared.node.ShortCircuit.{ShortCircuit}
 use Rattle.resolved_tree.specs.declared.operator.Operator.{Operator}
@@ -34,7 +34,7 @@ LowPlace s n (Done p now) = IsLow n p.base × AreUndeclared s n now.memory
 LowPlace s n (Raises e now) = AreUndeclared s n now.memory
 LowPlace s n (Traps t now) = AreUndeclared s n now.memory
 
-keeps_on : {A B : Type 0} (s : Typing) (n : ℕ) (ev : Evaluated A) (f : A → Now → Evaluated B) → Keeps s n ev
+pub keeps_on : {A B : Type 0} (s : Typing) (n : ℕ) (ev : Evaluated A) (f : A → Now → Evaluated B) → Keeps s n ev
     → ((a : A) (now : Now) → AreUndeclared s n now.memory → Keeps s n (f a now)) → Keeps s n (followed_by ev f)
 keeps_on s n (Done a now) f is on = on a now is
 keeps_on s n (Raises e now) f is on = is
@@ -115,7 +115,7 @@ alone_low : (s : Typing) (n : ℕ) (op : UnaryOperator) (a : List Word) (now : N
 alone_low s n op (a ∷ []) now is = given_low s n (one op (record { base = if is_whole a then integer else boolean; value = value_of a; sound = true })) now is
 alone_low s n op _ now is = is
 
-checked_low : (h : Here) (n t : ℕ) (ws : List Word) (now : Now) → AreUndeclared h.typing n now.memory → Keeps h.typing n (checked h t ws now)
+pub checked_low : (h : Here) (n t : ℕ) (ws : List Word) (now : Now) → AreUndeclared h.typing n now.memory → Keeps h.typing n (checked h t ws now)
 checked_low h n t ws now is = by (fits_type h.typing.table t ws)
   where
     by : (b : Bool) → Keeps h.typing n (if b then Done ws now else Raises ConstraintError now)

@@ -11,6 +11,7 @@ use Rattle.machine.specs.Words.{Word}
 use Rattle.machine.specs.Typed.{sorts}
 use Rattle.machine.specs.States.{Waiting}
 use Rattle.run_codes.specs.Codes.{Finish}
+use Rattle.run_codes.specs.Lowered.{words_before_value}
 use Rattle.run_codes.specs.Points.{Held, taken, start}
 use Rattle.run_codes.specs.Related.{IsValue, IsSeen, IsSited, Related, table, types}
 use Rattle.run_codes.proofs.Parts.{many}
@@ -135,10 +136,12 @@ at_start b laid is = record {
 pub sited : (b : Turns) (laid : Laid) → TurnStands b laid → IsSited (site_of b.program b.frame.sub b.takes) (length b.outer) b.flat_frame.base laid.objects
 sited b laid is = record { own = is.frame.sited.own; packages = is.frame.sited.packages }
 
-pub is_seen : (b : Turns) (laid : Laid) → TurnStands b laid → IsSeen (seen b)
-is_seen b laid is =
-    seen_from (seen b) laid.objects is.laws (at_start b laid is) is.memory.apart (sited b laid is)
-    (λ k t there. kth_stands (flow_typing b.program).table (types b.memory) k t b.takes (reverse (take n b.frame.waits)) (taken (flat_turn b Finish)) given same there)
+-- The k-th value that the point takes.
+pub seen_waits : (b : Turns) (laid : Laid) → TurnStands b laid → (k t : ℕ) → slice_get b.takes k ≡ Some t
+    → IsValue (table (seen b)) (types b.memory) (sorts (table (seen b)) t) (get_or (seen b).waits k [])
+    (take (words (table (seen b)) t) (drop (words_before_value (seen b).site k) (seen b).flat.waits))
+seen_waits b laid is k t there =
+    kth_stands (flow_typing b.program).table (types b.memory) k t b.takes (reverse (take n b.frame.waits)) (taken (flat_turn b Finish)) given same there
   where
     n : ℕ
     n = length b.takes
@@ -150,3 +153,6 @@ is_seen b laid is =
 
     same : b.takes ≡ map (λ (h : Held). h.of) (taken (flat_turn b Finish))
     same = same_types b.takes (map (λ (h : Held). h.of) (taken (flat_turn b Finish))) is.taken
+
+pub is_seen : (b : Turns) (laid : Laid) → TurnStands b laid → IsSeen (seen b)
+is_seen b laid is = seen_from (seen b) laid.objects is.laws (at_start b laid is) is.memory.apart (sited b laid is) (seen_waits b laid is)

@@ -1,5 +1,5 @@
 -- What stands while a step is made on both sides.
-use Rattle.std.specs.Prelude.{◌≡◌, ◌<◌, ℕ, ◌+◌, Bool, true, false, ◌==◌, List, [], ◌∷◌, map, reverse, length, take, drop, get_or, slice_get, nat_lt, Some}
+use Rattle.std.specs.Prelude.{◌≡◌, ◌<◌, ℕ, ◌+◌, Bool, true, false, not, ◌==◌, List, [], ◌∷◌, map, reverse, length, take, drop, get_or, slice_get, nat_lt, Some}
 use Rattle.spark_base.specs.Lists.{Has}
 use Rattle.type_definitions.specs.Entries.{boolean}
 use Rattle.flow_paths.specs.Scopes.{taken}
@@ -13,11 +13,12 @@ use Rattle.machine.specs.States.{Waiting, Leak, stack_words, sub_of}
 use Rattle.machine.specs.States as machine
 use Rattle.machine.specs.Step as machine_step
 use Rattle.machine.specs.Run.{no_point}
-use Rattle.run_codes.specs.Codes.{Does, Finish, Point}
+use Rattle.run_codes.specs.Codes.{Does, Put, Finish, Point}
 use Rattle.run_codes.specs.Flat.{Flat}
 use Rattle.run_codes.specs.Programs.{Program, Around, does, point, sub_rows}
 use Rattle.run_codes.specs.Points.{Frame, State, Turn, start, are_taken, done}
 use Rattle.run_codes.specs.Related.{types, IsTable, Seen, Related}
+use Rattle.run_fills.specs.Filled.{HasParts}
 use Rattle.run_points.specs.Outcomes.{IsAlike}
 use Rattle.run_points.specs.States.{StateStands, first_point, site_of, Laid, LoopAt, FrameStands, FramesStand, MemoryStands, AreUndeclared}
 
@@ -97,6 +98,7 @@ seen b = record {
 
 pub record TurnStands (b : Turns) (laid : Laid) : Type 0 where
   pub laws : IsTable (flow_typing b.program).table
+  pub parts : HasParts (flow_typing b.program).table
   pub truth : sorts (flow_typing b.program).table boolean ≡ Position ∷ []
   pub memory : MemoryStands b.program laid (length (b.frame ∷ b.outer)) b.memory b.flat
   pub frame : FrameStands b.program laid (types b.memory) b.flat.stack (length b.outer) b.frame b.flat_frame
@@ -133,26 +135,36 @@ pub record IsLowered (program : FlowProgram) (p : Program) : Type 0 where
 -- What is known of the types of a program.
 pub record HasTypes (program : FlowProgram) : Type 0 where
   pub laws : IsTable (flow_typing program).table
+  pub parts : HasParts (flow_typing program).table
   pub truth : sorts (flow_typing program).table boolean ≡ Position ∷ []
 
 -- An instruction does on both sides the same.
 abbrev pub DoesAlike : Turns → Instruction → Type 0
 DoesAlike b i = (d : Does) → does (around b) b.point i ≡ Some d → IsAlike (StateStands b.program) (machine_step.turn (turn b) i) (done (flat_turn b d) d)
 
--- The instructions that this isn't proved of.
-abbrev pub is_open : Instruction → Bool
-is_open (instruction.Declare x v) = true
-is_open (instruction.Assign target e) = true
-is_open (instruction.Call sub e result) = true
-is_open (instruction.Input target) = true
-is_open (instruction.Release e) = true
-is_open (instruction.Start x reversed low high) = true
-is_open (instruction.Next x reversed low high) = true
-is_open (instruction.Hold v) = true
-is_open (instruction.EndScope x) = true
-is_open instruction.Finish = true
-is_open _ = false
+-- One word goes to an offset in the frame.
+abbrev pub is_put : Does → Bool
+is_put (Put at v n) = true
+is_put _ = false
+
+-- What this isn't proved of: an instruction, and what it is lowered to.
+abbrev pub is_open : Instruction → Does → Bool
+is_open (instruction.Declare x v) d = not (is_put d)
+is_open (instruction.Assign target e) d = true
+is_open (instruction.Call sub e result) d = true
+is_open (instruction.Input target) d = true
+is_open (instruction.Release e) d = true
+is_open (instruction.Start x reversed low high) d = true
+is_open (instruction.Next x reversed low high) d = true
+is_open (instruction.Hold v) d = true
+is_open (instruction.EndScope x) d = true
+is_open instruction.Finish d = true
+is_open _ d = false
+
+-- An instruction does on both sides the same, where it is open.
+abbrev pub OpensAlike : Turns → Instruction → Type 0
+OpensAlike b i =
+    (d : Does) → does (around b) b.point i ≡ Some d → is_open i d ≡ true → IsAlike (StateStands b.program) (machine_step.turn (turn b) i) (done (flat_turn b d) d)
 
 abbrev pub OpenAlike : FlowProgram → Program → Type 0
-OpenAlike program p =
-    (b : Turns) (laid : Laid) → b.program ≡ program → b.lowered ≡ p → TurnStands b laid → is_open b.point.instr ≡ true → DoesAlike b b.point.instr
+OpenAlike program p = (b : Turns) (laid : Laid) → b.program ≡ program → b.lowered ≡ p → TurnStands b laid → OpensAlike b b.point.instr
