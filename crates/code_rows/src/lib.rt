@@ -1,5 +1,5 @@
-//! Programs as they are run, in rows: expressions, values, places and points, with offsets, kinds,
-//! bounds and targets in place.
+//! Programs as they are run, in rows: expressions, values and places, with offsets, kinds and bounds
+//! in place.
 //!
 //! `Nodes` keeps expressions that only read as rows of nodes, whose parts are numbers of nodes before
 //! them. Which expression of `run_codes` a row stands for, `specs/Rows.antt` says; some kinds of
@@ -8,20 +8,16 @@
 //! done (`specs/Stops.antt`).
 #![tactic(auto)]
 
-mod codes;
 mod fill;
 mod fills;
 mod node;
 mod nodes;
 mod place;
-mod point;
 mod stop;
 
-pub use codes::Codes;
 pub use fill::Fill;
 pub use fills::Fills;
 pub use node::Node;
 pub use nodes::Nodes;
 pub use place::Place;
-pub use point::{Actual, Choice, Does, NONE, Slot, Sub, Text};
 pub use stop::{Exception, Stop};
