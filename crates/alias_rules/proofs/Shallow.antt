@@ -257,6 +257,10 @@ actuals_named s b (x ∷ formals) actuals a h = elim (list_or actuals) [
 
 -- ---- the calls of a program
 
+pub procedures_lead_nowhere : (table : Table) (given : Option ℕ) → is_some given ≡ false → traverses table given ≡ false
+procedures_lead_nowhere table None is = refl
+procedures_lead_nowhere table (Some t) is = cc
+
 -- of a procedure, or of a function that doesn't traverse
 ways_are : (s : Typing) (sub : Signature) → traverses s.table sub.result ≡ false → passings s sub ≡ map (passing s (not (is_some sub.result))) sub.formals
 ways_are s sub e =

@@ -1,8 +1,8 @@
 //! The reports on the actuals of all calls.
-ghost use Rattle.std.specs.Prelude.{◌≡◌, None, map, flat_map, IfOk, OnOk};
+ghost use Rattle.std.specs.Prelude.{◌≡◌, None, is_some, map, flat_map, IfOk, OnOk};
 ghost use Rattle.spark_base.specs.Lists.{Has};
 ghost use Rattle.typed_tree.specs.Nodes.{typed_at};
-ghost use Rattle.flow_paths.specs.Objects.{sub_at, traverses};
+ghost use Rattle.flow_paths.specs.Objects.{sub_at};
 ghost use Rattle.flow_paths.specs.Aliases.{passed, alias_reports};
 ghost use Rattle.flow_paths.specs.Reports.{report_of};
 ghost use Rattle.laid_program.specs.Programs.{program_of};
@@ -15,7 +15,6 @@ use crate::order::are_ordered;
 use crate::rules::{globals, overlaps};
 use flow_paths::{Effects, Instr, Point, Report};
 use laid_program::Laid;
-use program_typing::is_anonymous;
 use spark_base::Listed;
 use std::alloc::{AllocError, Global};
 
@@ -41,14 +40,11 @@ fn given(laid: &Laid, callee: u32) -> Option<u32>
     }
 }
 
-/// Whether a subprogram gives an anonymous access value.
-fn traverses(laid: &Laid, callee: u32) -> bool
-    ensures { result ≡ traverses laid.now.table (sub_at (known laid.now) callee).result }
+/// Whether a subprogram is a function.
+fn is_function(laid: &Laid, callee: u32) -> bool
+    ensures { result ≡ is_some (sub_at (known laid.now) callee).result }
 {
-    match given(laid, callee) {
-        Some(t) => is_anonymous(laid.table.view(t)),
-        None => false,
-    }
+    given(laid, callee).is_some()
 }
 
 /// The reports of one call of a procedure.
@@ -90,10 +86,10 @@ fn report_point(
             actuals,
             result: None,
         } => {
-            if traverses(laid, *sub) {
-                return Err(AllocError);
+            if is_function(laid, *sub) {
+                return Ok(());
             }
-            Ok(report_call(alloc, laid, effects, ordered, *sub, *actuals, reports)?)
+            report_call(alloc, laid, effects, ordered, *sub, *actuals, reports)
         }
         _ => Ok(()),
     }

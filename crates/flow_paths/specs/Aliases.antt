@@ -1,6 +1,6 @@
 -- The rules on the actuals of one call of a procedure, which look at the text without paths
 -- (docs/FLOW.md, "Actuals that overlap"): A1 and A2.
-use Rattle.std.specs.Prelude.{ℕ, Bool, not, ◌&&◌, ◌||◌, List, [], ◌∷◌, ◌++◌, flat_map, Option, Some, None, if◌then◌else◌}
+use Rattle.std.specs.Prelude.{ℕ, Bool, not, ◌&&◌, ◌||◌, List, [], ◌∷◌, ◌++◌, flat_map, Option, Some, None, is_some, if◌then◌else◌}
 use Rattle.place_names.specs.Names.{overlaps}
 use Rattle.place_names.specs.declared.rule.Rule.TheVariants as rule
 use Rattle.place_names.specs.Reports.{Report}
@@ -75,7 +75,8 @@ passed_reports s effects callee actuals = overlap_reports s actuals ++ flat_map 
 
 -- Calls of functions give none.
 abbrev pub call_reports : Typing → Effects → Instruction → List Report
-call_reports s effects (Call callee actuals None) = passed_reports s effects callee (passed (sub_at s callee).formals actuals)
+call_reports s effects (Call callee actuals None) =
+    if is_some (sub_at s callee).result then [] else passed_reports s effects callee (passed (sub_at s callee).formals actuals)
 call_reports s effects _ = []
 
 -- What A1 and A2 report of a program.

@@ -68,7 +68,7 @@ fn check_causes(
     check_units(alloc, rows, &settled, units)
 }
 
-/// Whether it is for want of memory.
+/// Whether it says that memory ran out.
 fn is_memory(refusal: &TypeRefusal) -> bool
     ensures { IsTrue result ↔ (refusal.now ≡ TypeRefusal.Memory) }
 {
