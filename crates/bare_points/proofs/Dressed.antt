@@ -17,6 +17,7 @@ use Rattle.numbered_points.specs.Prepared.{Maker, temporary, make, next_of, prep
 use Rattle.numbered_points.specs.Statements.{around_loop, around_block, ended, closed, used, used_both, whens_begin, laid_numbers, branches_numbers, branch_numbers, whens_numbers, when_numbers}
 use Rattle.numbered_points.specs.Programs.{body_ways, body_numbers, end_numbers, sub_numbers, package_numbers}
 use Rattle.bare_points.specs.Bare.{Bare, strip, dress, laying_of}
+use Rattle.bare_points.specs.declared.own_objects.Ends.{Ends}
 use Rattle.bare_points.specs.Spans.{ends_of, code_span, branches_span, branch_span, whens_span, when_span}
 use Rattle.bare_points.specs.BarePrepared.{bare_prepared}
 use Rattle.bare_points.specs.BareLaid.{bare_ended, bare_closed, bare_used, bare_used_both, whens_start, bare_laid, bare_branches, bare_branch, bare_whens, bare_when}
@@ -248,18 +249,18 @@ redressed g sub t = ap (map (dress g)) (sub_stripped g sub t) ∙ sub_dressed g 
 
 -- ---- objects by a list
 
--- A list that tells of each object whether its scope ends at a point.
-pub laying_same : (g : Maker) (ends : List Bool) → ((x : ℕ) → get_or ends x false ≡ has_scope_end g.frame.typing x)
+-- A test by a list that tells of each object whether its scope ends at a point.
+pub laying_same : (g : Maker) (ends : Ends) → ((x : ℕ) → ends_of ends x ≡ has_scope_end g.frame.typing x)
     → record { ends = ends_of ends; counted = g.counted } ≡ laying_of g
 laying_same g ends tells = λ i. record { ends = λ x. tells x i; counted = g.counted }
 
 -- The points of a subprogram are the bare ones that such a list gives, with acts and leak checks.
-pub sub_laid : (g : Maker) (sub : TypedSub) (t : ℕ) (ends : List Bool) → ((x : ℕ) → get_or ends x false ≡ has_scope_end g.frame.typing x)
+pub sub_laid : (g : Maker) (sub : TypedSub) (t : ℕ) (ends : Ends) → ((x : ℕ) → ends_of ends x ≡ has_scope_end g.frame.typing x)
     → map (dress g) (bare_sub (record { ends = ends_of ends; counted = g.counted }) sub.body sub.end (is_some sub.result) t) ≡ sub_numbers g sub t
 sub_laid g sub t ends tells =
     ap (λ l. map (dress g) (bare_sub l sub.body sub.end (is_some sub.result) t)) (laying_same g ends tells) ∙ sub_dressed g sub t
 
-pub package_laid : (g : Maker) (sub : TypedSub) (ends : List Bool) → ((x : ℕ) → get_or ends x false ≡ has_scope_end g.frame.typing x)
+pub package_laid : (g : Maker) (sub : TypedSub) (ends : Ends) → ((x : ℕ) → ends_of ends x ≡ has_scope_end g.frame.typing x)
     → map (dress g) (bare_package (record { ends = ends_of ends; counted = g.counted }) sub.body) ≡ package_numbers g sub
 package_laid g sub ends tells =
     ap (λ l. map (dress g) (bare_package l sub.body)) (laying_same g ends tells) ∙ package_dressed g sub

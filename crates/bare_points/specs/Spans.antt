@@ -1,14 +1,15 @@
 -- How many points there are (`numbered_points/specs/Extents.antt`), by a test that tells of which
 -- objects the scope ends at a point.
-use Rattle.std.specs.Prelude.{ℕ, Bool, false, List, filter, reverse, length, get_or}
+use Rattle.std.specs.Prelude.{ℕ, Bool, List, filter, reverse, length, get_or}
 use Rattle.typed_tree.specs.Trees.{TypedTree, TypedCode, Declare, Assign, Skip, Output, Input, Release, If, Branch, Case, When, Loop, While, For, Exit, Return, Block}
 use Rattle.typed_tree.specs.Trees as typed
 use Rattle.flow_paths.specs.Layout.{declared}
+use Rattle.bare_points.specs.declared.own_objects.Ends.{Ends}
 use Rattle.numbered_points.specs.Extents.{Extent, extent, nothing, using, both, in_turns, ending_with}
 
--- The test that a list of truth values by object number gives.
-abbrev pub ends_of : List Bool → ℕ → Bool
-ends_of ends x = get_or ends x false
+-- The test that a list of truth values by object number gives, and the answer for other numbers.
+abbrev pub ends_of : Ends → ℕ → Bool
+ends_of ends x = get_or ends.own.now x ends.other
 
 -- The objects that code declares itself whose scopes end at points, the last one first.
 abbrev pub owned : (ℕ → Bool) → TypedCode → List ℕ

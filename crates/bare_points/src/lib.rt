@@ -10,7 +10,8 @@
 //! `proofs/Dressed.antt` shows that they are those of `numbered_points` with acts and leak checks
 //! left out (`docs/FLOW.md`, "Points").
 //!
-//! Whose scopes end at points is told by a list of truth values by object number. A subprogram with
+//! Whose scopes end at points is told by a list of truth values by object number, and one for other
+//! numbers. A subprogram with
 //! more than 16,384 points is told before one is laid out. The only error is out of memory, and
 //! more points or temporaries than numbers count are too much for it.
 //!
@@ -31,7 +32,7 @@ mod subs;
 mod ways;
 
 pub use layout::Layout;
-pub use own_objects::owned;
+pub use own_objects::{Ends, owned};
 pub use prep::{Prep, preps};
 pub use sizes::{Sizes, spans};
 pub use span::Span;

@@ -1,5 +1,5 @@
 //! The objects whose scopes end with a block.
-ghost use Rattle.std.specs.Prelude.{◌≡◌, ◌<◌, ◌++◌, length, get_or, IfOk, OnOk, false};
+ghost use Rattle.std.specs.Prelude.{◌≡◌, ◌<◌, ◌++◌, length, get_or, IfOk, OnOk};
 ghost use Rattle.typed_tree.specs.Nodes.{typed_code_at};
 ghost use Rattle.flow_paths.specs.Layout.{declared};
 ghost use Rattle.bare_points.specs.Spans.{ends_of, owned};
@@ -39,13 +39,22 @@ fn within(rows: &TypedRows, code: usize, found: &mut Vec<u32>) -> Result<(), All
     one(rows, i, found)
 }
 
+/// Whether scopes end at points of their own.
+#[derive(Clone, Copy)]
+pub struct Ends<'p> {
+    /// By the number of an object, whether its scope does.
+    pub own: &'p [bool],
+    /// Whether that of an object whose number isn't among these does.
+    pub other: bool,
+}
+
 /// Whether the scope of an object ends at a point.
-fn has_end(ends: &[bool], x: u32) -> bool
-    ensures { result ≡ ends_of ends.now x }
+fn has_end(ends: Ends<'_>, x: u32) -> bool
+    ensures { result ≡ ends_of ends x }
 {
-    match ends.get(x as usize) {
+    match ends.own.get(x as usize) {
         Some(has) => *has,
-        None => false,
+        None => ends.other,
     }
 }
 
@@ -53,11 +62,11 @@ fn has_end(ends: &[bool], x: u32) -> bool
 pub fn owned(
     alloc: Global,
     rows: &TypedRows,
-    ends: &[bool],
+    ends: Ends<'_>,
     code: usize,
 ) -> Result<Vec<u32>, AllocError>
     requires { code < length rows.now.1 }
-    ensures { IfOk result (λ made. made.items ≡ owned (ends_of ends.now) (typed_code_at rows.now code)) }
+    ensures { IfOk result (λ made. made.items ≡ owned (ends_of ends) (typed_code_at rows.now code)) }
 {
     let mut found = Vec::new(alloc);
     within(rows, code, &mut found)?;

@@ -28,9 +28,9 @@ site w = frames.site w.acts
 pub record IsReady (w : SubWriter) : Type 0 where
   pub rows : w.sizes.rows.now ≡ w.acts.rows.now
   pub preps : ArePreps w.sizes.rows.now (length w.sizes.rows.now.0) w.sizes.preps.now
-  pub spans : AreSpans w.sizes.rows.now (ends_of w.sizes.ends.now) (length w.sizes.rows.now.1) w.sizes.spans.now
+  pub spans : AreSpans w.sizes.rows.now (ends_of w.sizes.ends) (length w.sizes.rows.now.1) w.sizes.spans.now
   pub whole : length w.sizes.spans.now ≡ length w.sizes.rows.now.1
-  pub ends : (x : ℕ) → get_or w.sizes.ends.now x false ≡ has_scope_end (site w) x
+  pub ends : (x : ℕ) → ends_of w.sizes.ends x ≡ has_scope_end (site w) x
   pub words : AreWords (site w) w.acts.rows.now (length w.acts.rows.now.1) w.words.now
 
 -- The subprograms that stand in its rows.

@@ -1,9 +1,11 @@
 //! The parts of a typed program, by number.
-ghost use Rattle.std.specs.Prelude.{◌≡◌, ℕ, false, get_or, map, IfOk};
+ghost use Rattle.std.specs.Prelude.{◌≡◌, ℕ, map, IfOk};
 ghost use Rattle.flow_paths.specs.Objects.{has_scope_end};
+ghost use Rattle.bare_points.specs.Spans.{ends_of};
 ghost use Rattle.program_typing.specs.Typings.{typing};
 ghost use Rattle.lay_out.specs.Known.{has_end, signature_of};
 
+use bare_points::Ends;
 use program_typing::{ProgramTyping, Signature, is_anonymous};
 use spark_base::Listed;
 use std::alloc::{AllocError, Global};
@@ -51,7 +53,7 @@ fn has_end(known: &ProgramTyping<'_>, of: u32) -> bool
 }
 
 /// For each object, in order, whether its scope ends at a point of its own.
-fn ends_of(alloc: Global, known: &ProgramTyping<'_>) -> Result<Vec<bool>, AllocError>
+pub(crate) fn scope_ends(alloc: Global, known: &ProgramTyping<'_>) -> Result<Vec<bool>, AllocError>
     ensures { IfOk result (λ ends. ends.items ≡ map (λ x. has_end (typing known.now) x.of) (typing known.now).objects) }
 {
     let mut ends = Vec::new(alloc);
@@ -62,14 +64,13 @@ fn ends_of(alloc: Global, known: &ProgramTyping<'_>) -> Result<Vec<bool>, AllocE
 }
 
 /// By the number of an object, whether its scope ends at a point of its own. Numbers that name no
-/// object count as Integer objects, which have no scope end: a table that says otherwise isn't that
-/// of a program.
-pub(crate) fn scope_ends(alloc: Global, known: &ProgramTyping<'_>) -> Result<Vec<bool>, AllocError>
-    ensures { IfOk result (λ ends. (x : ℕ) → get_or ends.items x false ≡ has_scope_end (typing known.now) x) }
+/// object count as Integer objects.
+pub(crate) fn ends_by<'p>(known: &ProgramTyping<'_>, own: &'p [bool]) -> Ends<'p>
+    requires { own.now ≡ map (λ x. has_end (typing known.now) x.of) (typing known.now).objects }
+    ensures { (x : ℕ) → ends_of result x ≡ has_scope_end (typing known.now) x }
 {
-    if has_end(known, INTEGER) {
-        return Err(AllocError);
+    Ends {
+        own,
+        other: has_end(known, INTEGER),
     }
-    let ends = ends_of(alloc, known)?;
-    Ok(ends)
 }
