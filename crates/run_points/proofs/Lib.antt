@@ -1,5 +1,6 @@
 pub mod Runs
 pub mod Waits
+pub mod More
 pub mod Goes
 pub mod Ends
 pub mod Tests
@@ -8,6 +9,15 @@ pub mod Choices
 pub mod Texts
 pub mod Stacks
 pub mod Undeclared
-pub mod Puts
+pub mod Halts
+pub mod Taken
+pub mod Owning
+pub mod Scalars
+pub mod Spotted
+pub mod Storing
+pub mod Declares
+pub mod Assigns
+pub mod Inputs
+pub mod LoopLists
 pub mod Steps
 pub mod Lowering

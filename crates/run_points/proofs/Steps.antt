@@ -29,7 +29,9 @@ use Rattle.run_points.proofs.Tests.{mapped, go_alike, fall_alike, test_alike}
 use Rattle.run_points.proofs.Operands.{left_alike, right_alike}
 use Rattle.run_points.proofs.Choices.{choose_alike}
 use Rattle.run_points.proofs.Texts.{output_alike}
-use Rattle.run_points.proofs.Puts.{declare_alike}
+use Rattle.run_points.proofs.Declares.{declare_alike}
+use Rattle.run_points.proofs.Assigns.{assign_alike}
+use Rattle.run_points.proofs.Inputs.{input_alike}
 
 -- ---- how many values are taken
 
@@ -101,10 +103,10 @@ turn_alike b laid is begins (Evaluate t e (Some op)) rest d lowers = left_alike 
 turn_alike b laid is begins (Evaluate t e None) rest d lowers = right_alike b laid is begins e d lowers
 turn_alike b laid is begins (LeaveLoop e) rest d lowers = leave_alike b laid is begins e d lowers
 turn_alike b laid is begins Fall rest d lowers = subst (λ x. IsAlike (StateStands b.program) (machine_step.turn (turn b) Fall) (done (flat_turn b x) x)) (some_same codes.Fall d lowers) (fall_alike b laid is)
-turn_alike b laid is begins (Declare x v) rest d lowers = declare_alike b laid is begins x v rest d lowers
-turn_alike b laid is begins (Assign target e) rest d lowers = rest d lowers refl
+turn_alike b laid is begins (Declare x v) rest d lowers = declare_alike b laid is begins x v d lowers
+turn_alike b laid is begins (Assign target e) rest d lowers = assign_alike b laid is begins target e d lowers
 turn_alike b laid is begins (instruction.Call sub e result) rest d lowers = rest d lowers refl
-turn_alike b laid is begins (Input target) rest d lowers = rest d lowers refl
+turn_alike b laid is begins (Input target) rest d lowers = input_alike b laid is begins target d lowers
 turn_alike b laid is begins (Release e) rest d lowers = rest d lowers refl
 turn_alike b laid is begins (Start x reversed low high) rest d lowers = rest d lowers refl
 turn_alike b laid is begins (Next x reversed low high) rest d lowers = rest d lowers refl
@@ -136,7 +138,7 @@ frames_alike program p input has lowered begins rest s g [] [] is =
 frames_alike program p input has lowered begins rest s g [] (h ∷ gs) is = absurd is.frames
 frames_alike program p input has lowered begins rest s g (f ∷ fs) [] is = absurd is.frames
 frames_alike program p input has lowered begins rest s g (f ∷ fs) (h ∷ gs) is =
-    let q = lowered.points f.sub f.next is.frames.0.within is.frames.0.few in
+    let q = lowered.points f.sub f.next is.runs is.frames.0.few in
     let d = mapped (λ d. record { takes = takes; does = d; pos = fp.pos }) (does (with_takes (around_sub program f.sub) takes) fp fp.instr) q.0 q.2 in
     let there : slice_get p.points h.next ≡ Some (record { takes = takes; does = d.0; pos = fp.pos }) =
     ap (λ n. slice_get p.points n) is.frames.0.next ∙ q.1 ∙ ap (λ x. Some x) (sym d.2) in
@@ -181,6 +183,7 @@ frames_alike program p input has lowered begins rest s g (f ∷ fs) (h ∷ gs) i
       truth = has.truth;
       memory = is.memory;
       frame = is.frames.0;
+      runs = is.runs;
       outer = is.frames.1;
       many = many_taken (flow_typing program) fp.instr;
       taken = taken;

@@ -81,7 +81,7 @@ variable_low h n x low = by (is_package_object h.typing x)
     by true = first h.frame n low
     by false = low
 
-put_low : (s : Typing) (n : ℕ) (b : Base) (slots : List Slot) (m : Memory) → IsLow n b → AreUndeclared s n m → AreUndeclared s n (put b slots m)
+pub put_low : (s : Typing) (n : ℕ) (b : Base) (slots : List Slot) (m : Memory) → IsLow n b → AreUndeclared s n m → AreUndeclared s n (put b slots m)
 put_low s n (OfVariable frame x) slots m low is = undeclared_on s n frame x slots m low is
 put_low s n (OfCell zero) slots m low is = is
 put_low s n (OfCell (suc k)) slots m low is = is

@@ -1,5 +1,5 @@
 -- Which states of the executor stand for those of the machine.
-use Rattle.std.specs.Prelude.{◌≡◌, ◌⊎◌, ◌≤◌, ◌<◌, ℕ, zero, suc, ◌+◌, false, ◌&&◌, ◌==◌, List, [], ◌∷◌, ◌++◌, length, take, drop, get_or, nat_lt, Option, Some, None, ℤ, if◌then◌else◌}
+use Rattle.std.specs.Prelude.{◌≡◌, ◌⊎◌, ◌≤◌, ◌<◌, ℕ, zero, suc, ◌+◌, false, ◌&&◌, ◌==◌, true, List, [], ◌∷◌, ◌++◌, length, take, drop, get_or, nat_lt, Option, Some, None, ℤ, if◌then◌else◌}
 use Rattle.spark_base.specs.Lists.{Has}
 use Rattle.type_definitions.specs.Types.{Table}
 use Rattle.type_definitions.specs.Entries.{integer}
@@ -10,8 +10,8 @@ use Rattle.machine.specs.Typed.{sorts}
 use Rattle.machine.specs.Memory.{Memory, Place, OfVariable, OfCell, fresh, slots_at}
 use Rattle.machine.specs.States.{Waiting, Loop, stack_words, sub_of}
 use Rattle.machine.specs.States as machine
-use Rattle.machine.specs.Step.{loop_of, main_frame}
-use Rattle.run_codes.specs.Flat.{truth, Flat, Spot, InStack, InCell}
+use Rattle.machine.specs.Step.{no_loop, loop_of, main_frame}
+use Rattle.run_codes.specs.Flat.{kinds, are_words, truth, Flat, Spot, InStack, InCell}
 use Rattle.run_codes.specs.Lowered.{Site, offset_of}
 use Rattle.run_codes.specs.Programs.{Program, objects_of, is_loop}
 use Rattle.run_codes.specs.Points.{Held, Return, Frame, State, with_frame, frame_of, sub_at}
@@ -65,6 +65,16 @@ abbrev pub LoopsStand : List LoopAt → ℕ → List ℤ → List Loop → Type 
 LoopsStand counters d stack loops =
     (c : LoopAt) → Has counters c → c.frame ≡ d → take 3 (drop c.at stack) ≡ loop_words (loop_of c.parameter loops)
 
+-- The bounds are words of the parameter's kind.
+pub record IsBounded (s : Typing) (l : Loop) : Type 0 where
+  pub low : are_words (kinds s.table (object_at s l.parameter).of) (l.low ∷ []) ≡ true
+  pub high : are_words (kinds s.table (object_at s l.parameter).of) (l.high ∷ []) ≡ true
+
+-- So are those of all loops of a frame, which has one loop of a parameter at most.
+abbrev pub AreBounded : Typing → List Loop → Type 0
+AreBounded s [] = Unit {0}
+AreBounded s (l ∷ rest) = IsBounded s l × (loop_of l.parameter rest ≡ no_loop) × AreBounded s rest
+
 abbrev pub IsSameLoop : LoopAt → LoopAt → Type 0
 IsSameLoop b c = (b.frame ≡ c.frame) × (b.parameter ≡ c.parameter) × (b.at ≡ c.at)
 
@@ -104,10 +114,19 @@ pub record Laid : Type 0 where
   pub objects : List Lying
   pub loops : List LoopAt
 
+-- The next point of a frame is one of its subprogram.
+abbrev pub Runs : FlowProgram → machine.Frame → Type 0
+Runs program f = f.next < length (sub_of program f.sub).points
+
+abbrev pub FirstRuns : FlowProgram → List machine.Frame → Type 0
+FirstRuns program [] = Unit {0}
+FirstRuns program (f ∷ fs) = Runs program f
+
 -- A frame with a number: its next point, its words, what waits, where it lies, its loops, its returns.
 pub record FrameStands (program : FlowProgram) (laid : Laid) (made : List ℕ) (stack : List ℤ) (d : ℕ) (f : machine.Frame) (g : Frame) : Type 0 where
   pub next : g.next ≡ first_point program.subs f.sub + f.next
-  pub within : f.next < length (sub_of program f.sub).points
+  -- that of the package objects may have none, where none is declared
+  pub within : Runs program f ⊎ (f.sub ≡ 0)
   pub words : g.words ≡ (sub_of program f.sub).words
   pub few : nat_lt stack_words (sub_of program f.sub).words ≡ false
   pub waits : WaitsStand (flow_typing program).table made f.waits g.waits
@@ -116,6 +135,7 @@ pub record FrameStands (program : FlowProgram) (laid : Laid) (made : List ℕ) (
   pub first : f.sub ≡ 0 → (d ≡ 0) × (g.base ≡ 0)
   pub turning : (x at : ℕ) → loop_offset (site_of program f.sub []) x ≡ Some at → Has laid.loops (record { frame = d; parameter = x; at = g.base + (at + 1) })
   pub loops : LoopsStand laid.loops d stack f.loops
+  pub bounds : AreBounded (flow_typing program) f.loops
   pub returns : ReturnsStand (site_of program f.sub []) laid.objects made f.returns g.returns
 
 -- Frames have numbers from that of the package objects on, which stands last.
@@ -143,6 +163,7 @@ pub record StateStands (program : FlowProgram) (s : machine.State) (g : State) :
   pub laid : Laid
   pub memory : MemoryStands program laid (length s.frames) s.memory g.memory
   pub frames : FramesStand program laid (types s.memory) g.memory.stack s.frames g.frames
+  pub runs : FirstRuns program s.frames
   pub at : g.at ≡ s.at
   pub output : g.output ≡ s.output
   pub leaks : g.leaks ≡ s.leaks
