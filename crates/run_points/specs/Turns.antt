@@ -134,6 +134,7 @@ pub record IsLowered (program : FlowProgram) (p : Program) : Type 0 where
   pub points : (n k : ℕ) → k < length (sub_of program n).points → nat_lt stack_words (sub_of program n).words ≡ false
       → (q : Point) × (slice_get p.points (first_point program.subs n + k) ≡ Some q) × (point (around_sub program n) (get_or (sub_of program n).points k no_point) ≡ Some q)
   pub subs : p.subs ≡ sub_rows (flow_typing program) 0 program.subs
+  pub main : p.main ≡ program.main
 
 -- What is known of the types of a program.
 pub record HasTypes (program : FlowProgram) : Type 0 where
@@ -147,13 +148,8 @@ DoesAlike b i = (d : Does) → does (around b) b.point i ≡ Some d → IsAlike 
 
 -- What this isn't proved of.
 abbrev pub is_open : Instruction → Bool
-is_open (instruction.Call sub e result) = true
-is_open (instruction.Release e) = true
 is_open (instruction.Start x reversed low high) = true
 is_open (instruction.Next x reversed low high) = true
-is_open (instruction.Hold v) = true
-is_open (instruction.EndScope x) = true
-is_open instruction.Finish = true
 is_open _ = false
 
 -- An instruction does on both sides the same, where it is open.
