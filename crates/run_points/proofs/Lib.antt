@@ -19,5 +19,7 @@ pub mod Declares
 pub mod Assigns
 pub mod Inputs
 pub mod LoopLists
+pub mod Undeclares
+pub mod Loops
 pub mod Steps
 pub mod Lowering
