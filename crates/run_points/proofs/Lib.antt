@@ -20,6 +20,7 @@ pub mod Assigns
 pub mod Inputs
 pub mod LoopLists
 pub mod Undeclares
+pub mod Loops
 pub mod Leaking
 pub mod Keeping
 pub mod Flags
