@@ -50,7 +50,7 @@ pub struct Ends<'p> {
 
 /// Whether the scope of an object ends at a point.
 fn has_end(ends: Ends<'_>, x: u32) -> bool
-    ensures { result ≡ ends_of ends x }
+    ensures { result ≡ ends_of ends.entry x }
 {
     match ends.own.get(x as usize) {
         Some(has) => *has,
@@ -66,7 +66,7 @@ pub fn owned(
     code: usize,
 ) -> Result<Vec<u32>, AllocError>
     requires { code < length rows.now.1 }
-    ensures { IfOk result (λ made. made.items ≡ owned (ends_of ends) (typed_code_at rows.now code)) }
+    ensures { IfOk result (λ made. made.items ≡ owned (ends_of ends.entry) (typed_code_at rows.now code)) }
 {
     let mut found = Vec::new(alloc);
     within(rows, code, &mut found)?;

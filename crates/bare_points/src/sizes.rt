@@ -250,7 +250,7 @@ pub fn spans(
 ) -> Result<Listed<Span>, AllocError>
     requires { ArePreps rows.now (length rows.now.0) preps.now }
     ensures length { IfOk result (λ made. length made ≡ length rows.now.1) }
-    ensures spans { IfOk result (λ made. AreSpans rows.now (ends_of ends) (length rows.now.1) made) }
+    ensures spans { IfOk result (λ made. AreSpans rows.now (ends_of ends.entry) (length rows.now.1) made) }
 {
     let mut made = Listed::new(alloc);
     'nodes: for i in 0..rows.code_len() {
