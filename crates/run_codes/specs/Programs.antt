@@ -134,6 +134,14 @@ own_loop a x = if is_loop x a.site.own then own_offset a x else None
 abbrev pub on_going : Around → FlowPoint → (Option ℕ → Option Does) → Option Does
 on_going a p f = option_and_then f (going a p 0)
 
+-- The same where there is a point that follows: what begins a frame or a loop isn't the last package object.
+abbrev pub on_next : Around → FlowPoint → (Option ℕ → Option Does) → Option Does
+on_next a p f = option_and_then by (going a p 0)
+  where
+    by : Option ℕ → Option Does
+    by None = None
+    by (Some n) = f (Some n)
+
 abbrev pub type_of : Around → ℕ → ℕ
 type_of a x = (object_at (typing a) x).of
 
@@ -290,7 +298,7 @@ assigned a p target e =
 
 abbrev pub called : Around → FlowPoint → ℕ → TypedTree → Option Does
 called a p sub e =
-    option_and_then (λ all. on_going a p (λ n. Some (codes.Call sub all n)))
+    option_and_then (λ all. on_next a p (λ n. Some (codes.Call sub all n)))
     (actuals a.site p.pos 0 (passings (typing a) (sub_at (typing a) sub)) (sub_at (typing a) sub).formals e)
 
 abbrev pub input_to : Around → FlowPoint → Placed → Option Does
@@ -314,7 +322,7 @@ chosen a p e all =
 abbrev pub started : Around → FlowPoint → ℕ → TypedTree → TypedTree → Option Does
 started a p x low high =
     option_and_then (λ at. option_and_then (λ (s : Scalar).
-    option_and_then (λ l. option_and_then (λ h. on_going a p (λ n. Some (codes.Start at (at + 1) l h s.low s.high n)))
+    option_and_then (λ l. option_and_then (λ h. on_next a p (λ n. Some (codes.Start at (at + 1) l h s.low s.high n)))
     (option_and_then (scalar_code s.sort) (lowered a.site (waiting low) AsValue high)))
     (option_and_then (scalar_code s.sort) (lowered a.site 0 AsValue low)))
     (scalar_of (shape_of (typing a).table (type_of a x)))) (own_loop a x)

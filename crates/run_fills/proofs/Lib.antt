@@ -3,6 +3,7 @@ pub mod Single
 pub mod Values
 pub mod Names
 pub mod Gone
+pub mod Outside
 pub mod Moved
 pub mod Made
 pub mod Placed

@@ -20,7 +20,7 @@ use Rattle.run_fills.proofs.Wholes.{unchanged, later_from}
 use Rattle.run_fills.proofs.Single.{one_value, checked_fits, pointer_fits, few_types}
 
 -- The words of a value are of their kinds.
-are_there : (table : Table) (made : List ℕ) (all : List Sort) (ws : List Word) (zs : List ℤ) → length made ≤ most_cells → length zs ≡ length all → AllStand table made all (fresh ws) zs
+pub are_there : (table : Table) (made : List ℕ) (all : List Sort) (ws : List Word) (zs : List ℤ) → length made ≤ most_cells → length zs ≡ length all → AllStand table made all (fresh ws) zs
     → are_words (map kind_of all) zs ≡ true
 are_there table made [] ws [] few long is = refl
 are_there table made [] ws (z ∷ zs) few long is = absurd (omega (arith, long))
@@ -113,6 +113,6 @@ made_filled e all whole j t want d ws zs sort same value =
       (let room = at_most (e.flat.live + length zs) heap_words fits in
           let number_few = below (length e.flat.cells) most_cells few in
           let same_count = whole.related.counted.made in
-          later_from e all m f (t ∷ []) whole grown (cell_made e.site.typing all e.memory e.flat t ws zs whole.related value (omega (arith, room)) (omega (arith, number_few, same_count))) refl refl refl refl),
+          later_from e all m f (t ∷ []) whole grown (cell_made e.site.typing all e.memory e.flat t ws zs whole.related value (omega (arith, room)) (omega (arith, number_few, same_count))) refl refl refl refl (λ c k out. refl)),
       number,
     )

@@ -27,6 +27,7 @@ use Rattle.run_fills.proofs.Wholes.{later_from, value_later, stopped_halts}
 use Rattle.run_fills.proofs.Values.{value_as}
 use Rattle.run_fills.proofs.Single.{checked_fits}
 use Rattle.run_fills.proofs.Gone.{gone_in_cell}
+use Rattle.run_fills.proofs.Outside.{object_outside}
 
 -- ---- what a change of slots keeps
 
@@ -73,7 +74,8 @@ from_stack e all whole k t n zs ev is there =
       gives = computed;
       later = later_from e all (machine.moved_out e.site.typing is.p e.memory) (with_stack e.flat (spliced n new e.flat.stack)) [] whole (no_types e is.p)
           (subst (λ f. Related e.site.typing all (machine.moved_out e.site.typing is.p e.memory) f) same moved.related)
-          (ap (λ (l : List ℤ). length l) (spliced_is n new e.flat.stack) ∙ splice_long n new e.flat.stack (omega (arith, is.from.at, within, inside, long))) refl refl refl;
+          (ap (λ (l : List ℤ). length l) (spliced_is n new e.flat.stack) ∙ splice_long n new e.flat.stack (omega (arith, is.from.at, within, inside, long))) refl refl refl
+          (λ c j out. object_outside e.site.typing all l n is.p.at new e.flat.stack c j has is.from.at (omega (arith, inside, long)) within out);
     }
 
 -- ---- out of a cell
@@ -120,7 +122,7 @@ from_cell e all whole k t n o zs ev is there =
       gives = computed;
       later = later_from e all (machine.moved_out e.site.typing is.p e.memory) (with_words e.flat n o us) [] whole (no_types e is.p)
           (subst (λ u. Related e.site.typing all (with_slots e.site.typing is.p (gone_at (access_offsets (table e) u) (slots_of e.site.typing e.memory is.p)) e.memory) (with_words e.flat n o us)) (sym is.of) sized)
-          refl refl refl refl;
+          refl refl refl refl (λ c j out. refl);
     }
   where
     gone_words : ℕ → ℕ → StoredCell → Got Flat

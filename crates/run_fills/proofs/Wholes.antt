@@ -11,7 +11,7 @@ use Rattle.run_codes.specs.Lowered.{words_before_value}
 use Rattle.run_codes.specs.Related.{IsValue, Seen, table, here, now, types, IsSeen, Stopped, Lying, Related, AreApart, IsSited}
 use Rattle.run_codes.proofs.Seeing.{seen_from}
 use Rattle.run_codes.proofs.News.{all_more}
-use Rattle.run_fills.specs.Filled.{IsWhole, at, Later, Halts, Filled}
+use Rattle.run_fills.specs.Filled.{IsWhole, at, IsOutside, Later, Halts, Filled}
 
 pub seen : (e : Seen) (all : List Lying) → IsWhole e all → IsSeen e
 seen e all is = seen_from e all is.laws is.related is.apart is.sited is.waits
@@ -25,12 +25,13 @@ value_more table made more all ws zs is =
 -- ---- later memories
 
 pub unchanged : (e : Seen) (all : List Lying) → IsWhole e all → Later e all e.memory e.flat
-unchanged e all is = record { whole = is; more = []; grown = sym (append-nil (types e.memory)); rest = refl }
+unchanged e all is = record { whole = is; more = []; grown = sym (append-nil (types e.memory)); long = refl; base = refl; rest = refl; elsewhere = λ c n out. refl }
 
--- More cells, and as many words in the stack.
+-- More cells, and as many words in the stack, where those in no object are as before.
 pub later_from : (e : Seen) (all : List Lying) (m : Memory) (f : Flat) (more : List ℕ) → IsWhole e all → types m ≡ types e.memory ++ more → Related e.site.typing all m f
-    → length f.stack ≡ length e.flat.stack → f.base ≡ e.flat.base → f.waits ≡ e.flat.waits → f.rest ≡ e.flat.rest → Later e all m f
-later_from e all m f more is grown related long base waits rest = record {
+    → length f.stack ≡ length e.flat.stack → f.base ≡ e.flat.base → f.waits ≡ e.flat.waits → f.rest ≡ e.flat.rest
+    → ((c n : ℕ) → IsOutside e.site.typing all c n → take n (drop c f.stack) ≡ take n (drop c e.flat.stack)) → Later e all m f
+later_from e all m f more is grown related long base waits rest elsewhere = record {
   whole = record {
     laws = is.laws;
     parts = is.parts;
@@ -44,7 +45,10 @@ later_from e all m f more is grown related long base waits rest = record {
   };
   more = more;
   grown = grown;
+  long = long;
+  base = base;
   rest = rest;
+  elsewhere = elsewhere;
 }
 
 pub later_on : (e : Seen) (all : List Lying) (m n : Memory) (f g : Flat) → Later e all m f → Later (at e m f) all n g → Later e all n g
@@ -52,7 +56,10 @@ later_on e all m n f g a b = record {
   whole = b.whole;
   more = a.more ++ b.more;
   grown = b.grown ∙ ap (λ l. l ++ b.more) a.grown ∙ append_assoc (types e.memory) a.more b.more;
+  long = b.long ∙ a.long;
+  base = b.base ∙ a.base;
   rest = b.rest ∙ a.rest;
+  elsewhere = λ c n out. b.elsewhere c n out ∙ a.elsewhere c n out;
 }
 
 pub value_later : (e : Seen) (all : List Lying) (m : Memory) (f : Flat) (want : List Sort) (ws : List Word) (zs : List ℤ) → Later e all m f

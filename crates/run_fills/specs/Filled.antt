@@ -1,8 +1,10 @@
 -- When a value that is moved or made is that of the machine, with what is left in memory.
-use Rattle.std.specs.Prelude.{◌≡◌, ℕ, Bool, true, IsTrue, List, [], ◌∷◌, ◌++◌, length, take, drop, get_or, slice_get, Some, ℤ, pos}
+use Rattle.std.specs.Prelude.{◌≡◌, ◌⊎◌, ◌≤◌, ℕ, ◌+◌, Bool, true, IsTrue, List, [], ◌∷◌, ◌++◌, length, take, drop, get_or, slice_get, Some, ℤ, pos}
+use Rattle.spark_base.specs.Lists.{Has}
 use Rattle.run_values.specs.Arithmetic.{is_integer}
 use Rattle.type_definitions.specs.declared.table.Shape.TheVariants as shape
 use Rattle.type_definitions.specs.Types.{Table, shape_found, shape_of, words, is_owning}
+use Rattle.flow_paths.specs.Objects.{Typing}
 use Rattle.machine.specs.Words.{Word, access_offsets}
 use Rattle.machine.specs.Typed.{Sort, sorts}
 use Rattle.machine.specs.Memory.{Memory}
@@ -11,7 +13,7 @@ use Rattle.machine.specs.Evaluate as machine
 use Rattle.run_codes.specs.Flat.{Flat, Stop, Raises, Traps, Made, Failed}
 use Rattle.run_codes.specs.Flat as flat
 use Rattle.run_codes.specs.Lowered.{words_before_value}
-use Rattle.run_codes.specs.Related.{IsValue, IsTable, Seen, table, types, Lying, Related, AreApart, IsSited}
+use Rattle.run_codes.specs.Related.{IsValue, IsTable, Seen, table, types, Lying, lying_sorts, Related, AreApart, IsSited}
 
 -- ---- what is known of a table of types, besides
 
@@ -38,12 +40,20 @@ pub record IsWhole (e : Seen) (all : List Lying) : Type 0 where
 abbrev pub at : Seen → Memory → Flat → Seen
 at e m f = record e { memory = m; flat = f }
 
--- They stand for each other still, and cells were made after those that there were.
+-- So many words of the stack lie in no object.
+abbrev pub IsOutside : Typing → List Lying → ℕ → ℕ → Type 0
+IsOutside s all c n = (l : Lying) → Has all l → (l.at + length (lying_sorts s l) ≤ c) ⊎ (c + n ≤ l.at)
+
+-- They stand for each other still, cells were made after those that there were, and what lies in no object
+-- is as before.
 pub record Later (e : Seen) (all : List Lying) (m : Memory) (f : Flat) : Type 0 where
   pub whole : IsWhole (at e m f) all
   pub more : List ℕ
   pub grown : types m ≡ types e.memory ++ more
+  pub long : length f.stack ≡ length e.flat.stack
+  pub base : f.base ≡ e.flat.base
   pub rest : f.rest ≡ e.flat.rest
+  pub elsewhere : (c n : ℕ) → IsOutside e.site.typing all c n → take n (drop c f.stack) ≡ take n (drop c e.flat.stack)
 
 -- ---- results
 

@@ -95,7 +95,7 @@ pub goes_alike : (b : Turns) (laid : Laid) → TurnStands b laid → MainBegins 
     → (m : Memory) (f : Flat) → IsKept b laid m f → LoopsStand laid.loops (length b.outer) f.stack b.frame.loops
     → IsAlike (StateStands b.program) (machine_step.goes (turn b) m k) (goes (flat_turn b d) f n)
 goes_alike b laid is begins d k n goes m f kept turning =
-    after_stands b laid is begins d k n goes (machine_step.waiting (turn b)) (waiting (flat_turn b d)) (waits_on b laid is d) b.frame.loops m f kept turning
+    after_stands b laid is begins d k n goes (machine_step.waiting (turn b)) (waiting (flat_turn b d)) (waits_on b laid is d) b.frame.loops m f kept turning is.frame.bounds
 
 -- Nothing changed.
 pub goes_on : (b : Turns) (laid : Laid) → TurnStands b laid → MainBegins b.program b.lowered → (d : Does) (k : ℕ) (n : Option ℕ) → going (around b) b.point k ≡ Some n

@@ -1,5 +1,5 @@
 -- A step that goes on leaves states that stand for each other.
-use Rattle.std.proofs.Common.{◌≡◌, ◌⊎◌, inl, inr, ℕ, zero, suc, ◌+◌, ◌<◌, ◌≤◌, false, List, [], ◌∷◌, length, take, drop, refl, sym, ap, subst, ◌∙◌, Option, Some, None, arith, slice_get, nat_lt, ℤ, if◌then◌else◌}
+use Rattle.std.proofs.Common.{◌≡◌, ◌⊎◌, inl, inr, ℕ, zero, suc, ◌+◌, ◌<◌, ◌≤◌, false, List, [], ◌∷◌, length, take, drop, refl, sym, ap, subst, ◌∙◌, Option, Some, None, arith, slice_get, nat_lt, ℤ, if◌then◌else◌, append-nil}
 use Rattle.std.specs.Prelude.{◌==◌}
 use Rattle.spark_base.specs.Lists.{Has}
 use Rattle.flow_paths.specs.Laid.{FlowProgram, flow_typing}
@@ -14,9 +14,10 @@ use Rattle.run_codes.specs.Programs.{Around, going}
 use Rattle.run_codes.specs.Points.{Held, Frame, State, Turn, start, counted, after}
 use Rattle.run_codes.specs.Related.{types, lying_sorts}
 use Rattle.run_codes.proofs.Places.{if_some, some_same, below}
-use Rattle.run_points.specs.States.{Laid, LoopAt, LoopsStand, WaitsStand, FrameStands, FramesStand, StateStands, MainBegins, main_begun}
+use Rattle.run_points.specs.States.{Laid, LoopAt, LoopsStand, AreBounded, WaitsStand, FrameStands, FramesStand, StateStands, MainBegins, main_begun}
 use Rattle.run_points.specs.Turns.{Turns, state, turn, flat_state, flat_turn, around, TurnStands, IsKept}
 use Rattle.run_points.proofs.Waits.{at_start}
+use Rattle.run_points.proofs.More.{frames_more}
 
 -- ---- successors
 
@@ -61,7 +62,10 @@ frames_kept program laid made stack other d (f ∷ fs) (g ∷ gs) low same is = 
     first = is.0.first;
     turning = is.0.turning;
     loops = λ c has of. same c has (apart c.frame (length fs) d of low) ∙ is.0.loops c has of;
+    bounds = is.0.bounds;
     returns = is.0.returns;
+    below = is.0.below;
+    loops_below = is.0.loops_below;
   },
   frames_kept program laid made stack other d fs gs (omega (arith, low)) same is.1,
 )
@@ -78,6 +82,7 @@ counted_stands program s g is = record {
   laid = is.laid;
   memory = is.memory;
   frames = is.frames;
+  runs = is.runs;
   at = is.at;
   output = is.output;
   leaks = is.leaks;
@@ -103,12 +108,12 @@ begun_stands program t s f h m (x ∷ outer) [] table begins is = absurd is.fram
 
 -- The frame that ran, at a point, with these values waiting and these loops.
 frame_after : (b : Turns) (laid : Laid) → TurnStands b laid → (ws : List Waiting) (hs : List Held) → WaitsStand (flow_typing b.program).table (types b.memory) ws hs
-    → (loops : List Loop) (f : Flat) → LoopsStand laid.loops (length b.outer) f.stack loops → (i n : ℕ)
+    → (loops : List Loop) (f : Flat) → LoopsStand laid.loops (length b.outer) f.stack loops → AreBounded (flow_typing b.program) loops → (i n : ℕ)
     → n ≡ (around b).first + i → i < (around b).count
     → FrameStands b.program laid (types b.memory) f.stack (length b.outer) (record b.frame { waits = ws; loops = loops; next = i }) (record b.flat_frame { waits = hs; next = n })
-frame_after b laid is ws hs waits loops f turning i n next within = record {
+frame_after b laid is ws hs waits loops f turning bounds i n next within = record {
   next = next;
-  within = within;
+  within = inl within;
   words = is.frame.words;
   few = is.frame.few;
   waits = waits;
@@ -116,18 +121,21 @@ frame_after b laid is ws hs waits loops f turning i n next within = record {
   first = is.frame.first;
   turning = is.frame.turning;
   loops = turning;
+  bounds = bounds;
   returns = is.frame.returns;
+  below = is.frame.below;
+  loops_below = is.frame.loops_below;
 }
 
 state_after : (b : Turns) (laid : Laid) → TurnStands b laid → (ws : List Waiting) (hs : List Held) → WaitsStand (flow_typing b.program).table (types b.memory) ws hs
-    → (loops : List Loop) (m : Memory) (f : Flat) → IsKept b laid m f → LoopsStand laid.loops (length b.outer) f.stack loops → (i n : ℕ)
+    → (loops : List Loop) (m : Memory) (f : Flat) → IsKept b laid m f → LoopsStand laid.loops (length b.outer) f.stack loops → AreBounded (flow_typing b.program) loops → (i n : ℕ)
     → n ≡ (around b).first + i → i < (around b).count
     → StateStands b.program (record (state b) { frames = record b.frame { waits = ws; loops = loops; next = i } ∷ b.outer; memory = m })
     (record (flat_state b) { memory = f; frames = record b.flat_frame { waits = hs; next = n } ∷ b.flat_outer })
-state_after b laid is ws hs waits loops m f kept turning i n next within =
+state_after b laid is ws hs waits loops m f kept turning bounds i n next within =
     let d : ℕ = length b.outer in
     let frames : FramesStand b.program laid (types b.memory) f.stack (record b.frame { waits = ws; loops = loops; next = i } ∷ b.outer) (record b.flat_frame { waits = hs; next = n } ∷ b.flat_outer) = (
-      frame_after b laid is ws hs waits loops f turning i n next within,
+      frame_after b laid is ws hs waits loops f turning bounds i n next within,
       frames_kept b.program laid (types b.memory) b.flat.stack f.stack d b.outer b.flat_outer (same d) kept.loops is.outer,
     ) in
     record {
@@ -141,10 +149,14 @@ state_after b laid is ws hs waits loops m f kept turning i n next within =
           apart = is.memory.loops_apart.apart;
         };
         undeclared = kept.undeclared;
+        low = is.memory.low;
+        loops_low = is.memory.loops_low;
       };
       frames =
           subst (λ made. FramesStand b.program laid made f.stack (record b.frame { waits = ws; loops = loops; next = i } ∷ b.outer) (record b.flat_frame { waits = hs; next = n } ∷ b.flat_outer))
-          (sym kept.made) frames;
+          (sym kept.made)
+          (frames_more b.program laid (types b.memory) kept.more f.stack (record b.frame { waits = ws; loops = loops; next = i } ∷ b.outer) (record b.flat_frame { waits = hs; next = n } ∷ b.flat_outer) frames);
+      runs = within;
       at = refl;
       output = refl;
       leaks = refl;
@@ -157,11 +169,11 @@ state_after b laid is ws hs waits loops m f kept turning i n next within =
 -- The step goes to the k-th successor.
 pub after_stands : (b : Turns) (laid : Laid) → TurnStands b laid → MainBegins b.program b.lowered → (d : Does) (k : ℕ) (n : Option ℕ) → going (around b) b.point k ≡ Some n
     → (ws : List Waiting) (hs : List Held) → WaitsStand (flow_typing b.program).table (types b.memory) ws hs
-    → (loops : List Loop) (m : Memory) (f : Flat) → IsKept b laid m f → LoopsStand laid.loops (length b.outer) f.stack loops
+    → (loops : List Loop) (m : Memory) (f : Flat) → IsKept b laid m f → LoopsStand laid.loops (length b.outer) f.stack loops → AreBounded (flow_typing b.program) loops
     → StateStands b.program
     (machine_step.counted (record (state b) { frames = machine_step.led (turn b) (record b.frame { waits = ws; loops = loops }) (successor (turn b) k); memory = m }))
     (after (flat_turn b d) hs f n)
-after_stands b laid is begins d k n goes ws hs waits loops m f kept turning = elim (way b k n goes) [
+after_stands b laid is begins d k n goes ws hs waits loops m f kept turning bounds = elim (way b k n goes) [
   | inl on ↦ subst (λ o. After o n) (sym on.1) (subst (λ z. After (Some on.0) z) (sym on.2) (at_point on.0 on.3))
   | inr out ↦ subst (λ o. After o n) (sym out.0) (subst (λ z. After None z) (sym out.1) outside)
 ]
@@ -175,21 +187,22 @@ after_stands b laid is begins d k n goes ws hs waits loops m f kept turning = el
     at_point i within =
         counted_stands b.program (record (state b) { frames = record b.frame { waits = ws; loops = loops; next = i } ∷ b.outer; memory = m })
         (record (flat_state b) { memory = f; frames = record b.flat_frame { waits = hs; next = (around b).first + i } ∷ b.flat_outer })
-        (state_after b laid is ws hs waits loops m f kept turning i ((around b).first + i) refl within)
+        (state_after b laid is ws hs waits loops m f kept turning bounds i ((around b).first + i) refl within)
 
     outside : After None None
     outside = counted_stands b.program
         (record (state b) { frames = machine_step.begun b.program (record b.frame { waits = ws; loops = loops }) b.outer; memory = m })
         (flat_begun (flat_turn b d) (record b.flat_frame { waits = hs }) f b.flat_outer)
         (begun_stands b.program (flat_turn b d) (record (state b) { memory = m }) (record b.frame { waits = ws; loops = loops }) (record b.flat_frame { waits = hs }) f b.outer b.flat_outer
-        refl begins (state_after b laid is ws hs waits loops m f kept turning b.frame.next b.flat_frame.next is.frame.next is.frame.within))
+        refl begins (state_after b laid is ws hs waits loops m f kept turning bounds b.frame.next b.flat_frame.next is.frame.next is.runs))
 
 -- ---- nothing is changed
 
 pub unchanged : (b : Turns) (laid : Laid) → TurnStands b laid → IsKept b laid b.memory (start (flat_turn b Finish))
 unchanged b laid is = record {
   related = at_start b laid is;
-  made = refl;
+  more = [];
+  made = sym (append-nil (types b.memory));
   long = refl;
   undeclared = is.memory.undeclared;
   loops = λ c has other. refl;

@@ -47,7 +47,7 @@ pub waits_alike : (b : Turns) (laid : Laid) → TurnStands b laid → MainBegins
     → (ws : List Waiting) (hs : List Held) → WaitsStand (flow_typing b.program).table (types b.memory) ws hs
     → IsAlike (StateStands b.program) (machine.Goes (machine_step.behind (turn b) ws b.memory k)) (Goes (after (flat_turn b d) hs (seen b).flat n))
 waits_alike b laid is begins d k n goes ws hs waits =
-    after_stands b laid is begins d k n goes ws hs waits b.frame.loops b.memory (seen b).flat (unchanged b laid is) is.frame.loops
+    after_stands b laid is begins d k n goes ws hs waits b.frame.loops b.memory (seen b).flat (unchanged b laid is) is.frame.loops is.frame.bounds
 
 pub left_alike : (b : Turns) (laid : Laid) → TurnStands b laid → MainBegins b.program b.lowered → (e : TypedTree) (op : ShortCircuit) (d : Does)
     → operand (around b) b.point e (Some op) ≡ Some d → DoneAlike b (machine_step.operand (turn b) e (Some op)) d

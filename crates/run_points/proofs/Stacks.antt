@@ -1,5 +1,5 @@
 -- What is stored in an object keeps the rest, words of loops among it.
-use Rattle.std.proofs.Common.{◌≡◌, ◌⊎◌, inl, inr, ℕ, zero, suc, ◌+◌, ◌-◌, ◌<◌, ◌≤◌, true, false, Bool, not, ◌&&◌, List, [], ◌∷◌, length, take, drop, refl, sym, ap, subst, ◌∙◌, Some, None, arith, ℤ, if◌then◌else◌}
+use Rattle.std.proofs.Common.{◌≡◌, ◌⊎◌, inl, inr, ℕ, zero, suc, ◌+◌, ◌-◌, ◌<◌, ◌≤◌, true, false, Bool, not, ◌&&◌, List, [], ◌∷◌, length, take, drop, refl, sym, ap, subst, ◌∙◌, Some, None, arith, ℤ, if◌then◌else◌, append-nil}
 use Rattle.std.specs.Prelude.{◌==◌}
 use Rattle.spark_base.specs.Lists.{Has}
 use Rattle.flow_paths.specs.Objects.{Typing, object_at, is_package_object}
@@ -16,31 +16,12 @@ use Rattle.run_codes.proofs.Places.{if_some}
 use Rattle.run_codes.proofs.Stores.{splice, spliced_is, splice_on, splice_after, stand_before, with_others}
 use Rattle.run_codes.proofs.Cells.{splice_long}
 use Rattle.run_codes.proofs.Seeing.{declared_in_stack}
+use Rattle.run_fills.proofs.Outside.{block_kept}
 use Rattle.run_points.specs.States.{Laid, LoopAt, LoopsStand, AreUndeclared}
 use Rattle.run_points.specs.Turns.{Turns, around, seen, TurnStands, IsKept}
 use Rattle.run_points.proofs.Waits.{at_start, sited}
 
 -- ---- words elsewhere
-
-before_kept : {A : Type 0} (c n : ℕ) (new all : List A) → c + 3 ≤ n → n ≤ length all → take 3 (drop c (splice n new all)) ≡ take 3 (drop c all)
-before_kept zero (suc (suc (suc n))) new (x ∷ y ∷ z ∷ all) le inside = refl
-before_kept zero (suc (suc (suc n))) new [] le inside = absurd (omega (arith, inside))
-before_kept zero (suc (suc (suc n))) new (x ∷ []) le inside = absurd (omega (arith, inside))
-before_kept zero (suc (suc (suc n))) new (x ∷ y ∷ []) le inside = absurd (omega (arith, inside))
-before_kept zero zero new all le inside = absurd (omega (arith, le))
-before_kept zero (suc zero) new all le inside = absurd (omega (arith, le))
-before_kept zero (suc (suc zero)) new all le inside = absurd (omega (arith, le))
-before_kept (suc c) zero new all le inside = absurd (omega (arith, le))
-before_kept (suc c) (suc n) new [] le inside = absurd (omega (arith, inside))
-before_kept (suc c) (suc n) new (x ∷ all) le inside = before_kept c n new all (omega (arith, le)) (omega (arith, inside))
-
--- Three words that lie apart from what is stored.
-pub three_kept : (c n : ℕ) (new all : List ℤ) → n + length new ≤ length all → ((c + 3 ≤ n) ⊎ (n + length new ≤ c)) → take 3 (drop c (spliced n new all)) ≡ take 3 (drop c all)
-three_kept c n new all inside apart =
-    ap (λ l. take 3 (drop c l)) (spliced_is n new all) ∙ elim apart [
-      | inl before ↦ before_kept c n new all before (omega (arith, inside))
-      | inr after ↦ ap (take 3) (splice_after n c new all after (omega (arith, inside)))
-    ]
 
 pub spliced_long : (n : ℕ) (new all : List ℤ) → n + length new ≤ length all → length (spliced n new all) ≡ length all
 spliced_long n new all inside = ap (λ (l : List ℤ). length l) (spliced_is n new all) ∙ splice_long n new all inside
@@ -61,7 +42,7 @@ pub loops_kept : (b : Turns) (laid : Laid) → TurnStands b laid → (l : Lying)
     → take 3 (drop c.at (spliced n new b.flat.stack)) ≡ take 3 (drop c.at b.flat.stack)
 loops_kept b laid is l n a new has at inside c there =
     let whole = is.memory.apart.within l has in
-    three_kept c.at n new b.flat.stack (omega (arith, whole, inside, at)) (elim (is.memory.loops_apart.objects l c has there) [
+    block_kept c.at 3 n new b.flat.stack (omega (arith, whole, inside, at)) (elim (is.memory.loops_apart.objects l c has there) [
       | inl object_first ↦ inr (omega (arith, object_first, inside, at))
       | inr loop_first ↦ inl (omega (arith, loop_first, at))
     ])
@@ -101,7 +82,8 @@ declared_kept b laid is x at there ws zs value =
     let whole = is.memory.apart.within l there in
     record {
       related = declared_in_stack (flow_typing b.program) laid.objects b.memory (seen b).flat l ws zs (at_start b laid is) is.memory.apart there value;
-      made = refl;
+      more = [];
+      made = sym (append-nil (types b.memory));
       long = spliced_long l.at zs b.flat.stack (omega (arith, whole, value.numbers));
       undeclared = undeclared_on (flow_typing b.program) (suc (length b.outer)) (length b.outer) x (fresh ws) b.memory (last (length b.outer)) is.memory.undeclared;
       loops = λ c has other. loops_kept b laid is l l.at 0 zs there (none l.at) (omega (arith, value.numbers)) c has;

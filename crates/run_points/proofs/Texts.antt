@@ -123,6 +123,7 @@ with_output program s g o u same is = record {
   laid = is.laid;
   memory = is.memory;
   frames = is.frames;
+  runs = is.runs;
   at = is.at;
   output = same;
   leaks = is.leaks;
@@ -143,7 +144,7 @@ written : (b : Turns) (laid : Laid) → TurnStands b laid → MainBegins b.progr
     })))
 written b laid is begins line d n goes k ev (Given bytes) same =
     let on = after_stands b laid is begins d 0 n goes (machine_step.waiting (turn b)) (points.waiting (flat_turn b d)) (waits_on b laid is d) b.frame.loops b.memory (seen b).flat
-    (unchanged b laid is) is.frame.loops in
+    (unchanged b laid is) is.frame.loops is.frame.bounds in
     let s : machine.State = machine_step.behind (turn b) (machine_step.waiting (turn b)) b.memory 0 in
     let g : State = after (flat_turn b d) (points.waiting (flat_turn b d)) (seen b).flat n in
     subst (λ v. IsAlike (StateStands b.program)

@@ -1,5 +1,5 @@
 -- Which states of the executor stand for those of the machine.
-use Rattle.std.specs.Prelude.{◌≡◌, ◌⊎◌, ◌≤◌, ◌<◌, ℕ, zero, suc, ◌+◌, false, ◌&&◌, ◌==◌, List, [], ◌∷◌, ◌++◌, length, take, drop, get_or, nat_lt, Option, Some, None, ℤ, if◌then◌else◌}
+use Rattle.std.specs.Prelude.{◌≡◌, ◌⊎◌, ◌≤◌, ◌<◌, ℕ, zero, suc, ◌+◌, false, ◌&&◌, ◌==◌, true, List, [], ◌∷◌, ◌++◌, length, take, drop, get_or, nat_lt, Option, Some, None, ℤ, if◌then◌else◌}
 use Rattle.spark_base.specs.Lists.{Has}
 use Rattle.type_definitions.specs.Types.{Table}
 use Rattle.type_definitions.specs.Entries.{integer}
@@ -7,12 +7,12 @@ use Rattle.flow_paths.specs.Objects.{Typing, object_at, is_package_object}
 use Rattle.flow_paths.specs.Laid.{FlowSub, FlowProgram, flow_typing}
 use Rattle.machine.specs.Words.{default}
 use Rattle.machine.specs.Typed.{sorts}
-use Rattle.machine.specs.Memory.{Memory, Place, OfVariable, OfCell, fresh, slots_at}
+use Rattle.machine.specs.Memory.{Memory, Place, Base, OfVariable, OfCell, fresh, slots_at}
 use Rattle.machine.specs.States.{Waiting, Loop, stack_words, sub_of}
 use Rattle.machine.specs.States as machine
-use Rattle.machine.specs.Step.{loop_of, main_frame}
-use Rattle.run_codes.specs.Flat.{truth, Flat, Spot, InStack, InCell}
-use Rattle.run_codes.specs.Lowered.{Site, offset_of}
+use Rattle.machine.specs.Step.{no_loop, loop_of, main_frame}
+use Rattle.run_codes.specs.Flat.{kinds, are_words, truth, Flat, Spot, InStack, InCell}
+use Rattle.run_codes.specs.Lowered.{Site, offset_of, one_type}
 use Rattle.run_codes.specs.Programs.{Program, objects_of, is_loop}
 use Rattle.run_codes.specs.Points.{Held, Return, Frame, State, with_frame, frame_of, sub_at}
 use Rattle.run_codes.specs.Related.{types, IsValue, IsSplit, Lying, lying_sorts, Related, AreApart, IsSited}
@@ -65,6 +65,16 @@ abbrev pub LoopsStand : List LoopAt → ℕ → List ℤ → List Loop → Type 
 LoopsStand counters d stack loops =
     (c : LoopAt) → Has counters c → c.frame ≡ d → take 3 (drop c.at stack) ≡ loop_words (loop_of c.parameter loops)
 
+-- The bounds are words of the parameter's kind.
+pub record IsBounded (s : Typing) (l : Loop) : Type 0 where
+  pub low : are_words (kinds s.table (object_at s l.parameter).of) (l.low ∷ []) ≡ true
+  pub high : are_words (kinds s.table (object_at s l.parameter).of) (l.high ∷ []) ≡ true
+
+-- So are those of all loops of a frame, which has one loop of a parameter at most.
+abbrev pub AreBounded : Typing → List Loop → Type 0
+AreBounded s [] = Unit {0}
+AreBounded s (l ∷ rest) = IsBounded s l × (loop_of l.parameter rest ≡ no_loop) × AreBounded s rest
+
 abbrev pub IsSameLoop : LoopAt → LoopAt → Type 0
 IsSameLoop b c = (b.frame ≡ c.frame) × (b.parameter ≡ c.parameter) × (b.at ≡ c.at)
 
@@ -84,18 +94,26 @@ PlaceStands s all made p (InStack n) =
 PlaceStands s all made p (InCell n o) =
     (p.base ≡ OfCell (suc n)) × (o ≡ p.at) × (n < length made) × IsSplit (sorts s.table (get_or made n integer)) p.at (sorts s.table p.of)
 
-pub record ReturnStands (c : Site) (all : List Lying) (made : List ℕ) (r : machine.Return) (q : Return) : Type 0 where
+-- A variable of a frame below one, or a cell.
+abbrev pub IsLow : ℕ → Base → Type 0
+IsLow n (OfVariable frame x) = frame < n
+IsLow n (OfCell k) = Unit {0}
+
+-- What a frame with a number copies back goes to places of the formal's type, in frames below it and in cells.
+pub record ReturnStands (c : Site) (all : List Lying) (d : ℕ) (made : List ℕ) (r : machine.Return) (q : Return) : Type 0 where
   pub own : is_package_object c.typing r.formal ≡ false
   pub at : offset_of c r.formal ≡ Some q.at
   pub from : q.from ≡ (object_at c.typing r.formal).of
   pub of : q.of ≡ r.to.of
   pub to : PlaceStands c.typing all made r.to q.to
+  pub low : IsLow d r.to.base
+  pub fits : one_type c.typing.table r.to.of (object_at c.typing r.formal).of ≡ true
 
-abbrev pub ReturnsStand : Site → List Lying → List ℕ → List machine.Return → List Return → Type 0
-ReturnsStand c all made [] [] = Unit {0}
-ReturnsStand c all made (r ∷ rs) (q ∷ qs) = ReturnStands c all made r q × ReturnsStand c all made rs qs
-ReturnsStand c all made [] (q ∷ qs) = ⊥
-ReturnsStand c all made (r ∷ rs) [] = ⊥
+abbrev pub ReturnsStand : Site → List Lying → ℕ → List ℕ → List machine.Return → List Return → Type 0
+ReturnsStand c all d made [] [] = Unit {0}
+ReturnsStand c all d made (r ∷ rs) (q ∷ qs) = ReturnStands c all d made r q × ReturnsStand c all d made rs qs
+ReturnsStand c all d made [] (q ∷ qs) = ⊥
+ReturnsStand c all d made (r ∷ rs) [] = ⊥
 
 -- ---- frames
 
@@ -104,10 +122,19 @@ pub record Laid : Type 0 where
   pub objects : List Lying
   pub loops : List LoopAt
 
+-- The next point of a frame is one of its subprogram.
+abbrev pub Runs : FlowProgram → machine.Frame → Type 0
+Runs program f = f.next < length (sub_of program f.sub).points
+
+abbrev pub FirstRuns : FlowProgram → List machine.Frame → Type 0
+FirstRuns program [] = Unit {0}
+FirstRuns program (f ∷ fs) = Runs program f
+
 -- A frame with a number: its next point, its words, what waits, where it lies, its loops, its returns.
 pub record FrameStands (program : FlowProgram) (laid : Laid) (made : List ℕ) (stack : List ℤ) (d : ℕ) (f : machine.Frame) (g : Frame) : Type 0 where
   pub next : g.next ≡ first_point program.subs f.sub + f.next
-  pub within : f.next < length (sub_of program f.sub).points
+  -- that of the package objects may have none, where none is declared
+  pub within : Runs program f ⊎ (f.sub ≡ 0)
   pub words : g.words ≡ (sub_of program f.sub).words
   pub few : nat_lt stack_words (sub_of program f.sub).words ≡ false
   pub waits : WaitsStand (flow_typing program).table made f.waits g.waits
@@ -116,7 +143,11 @@ pub record FrameStands (program : FlowProgram) (laid : Laid) (made : List ℕ) (
   pub first : f.sub ≡ 0 → (d ≡ 0) × (g.base ≡ 0)
   pub turning : (x at : ℕ) → loop_offset (site_of program f.sub []) x ≡ Some at → Has laid.loops (record { frame = d; parameter = x; at = g.base + (at + 1) })
   pub loops : LoopsStand laid.loops d stack f.loops
-  pub returns : ReturnsStand (site_of program f.sub []) laid.objects made f.returns g.returns
+  pub bounds : AreBounded (flow_typing program) f.loops
+  pub returns : ReturnsStand (site_of program f.sub []) laid.objects d made f.returns g.returns
+  -- frames below lie below
+  pub below : (l : Lying) → Has laid.objects l → l.frame < d → l.at + length (lying_sorts (flow_typing program) l) ≤ g.base
+  pub loops_below : (c : LoopAt) → Has laid.loops c → c.frame < d → c.at + 3 ≤ g.base
 
 -- Frames have numbers from that of the package objects on, which stands last.
 abbrev pub FramesStand : FlowProgram → Laid → List ℕ → List ℤ → List machine.Frame → List Frame → Type 0
@@ -138,11 +169,14 @@ pub record MemoryStands (program : FlowProgram) (laid : Laid) (frames : ℕ) (m 
   pub apart : AreApart (flow_typing program) laid.objects (length f.stack)
   pub loops_apart : LoopsApart (flow_typing program) laid.objects laid.loops (length f.stack)
   pub undeclared : AreUndeclared (flow_typing program) frames m
+  pub low : (l : Lying) → Has laid.objects l → l.frame < frames
+  pub loops_low : (c : LoopAt) → Has laid.loops c → c.frame < frames
 
 pub record StateStands (program : FlowProgram) (s : machine.State) (g : State) : Type 0 where
   pub laid : Laid
   pub memory : MemoryStands program laid (length s.frames) s.memory g.memory
   pub frames : FramesStand program laid (types s.memory) g.memory.stack s.frames g.frames
+  pub runs : FirstRuns program s.frames
   pub at : g.at ≡ s.at
   pub output : g.output ≡ s.output
   pub leaks : g.leaks ≡ s.leaks

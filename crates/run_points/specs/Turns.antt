@@ -1,5 +1,5 @@
 -- What stands while a step is made on both sides.
-use Rattle.std.specs.Prelude.{◌≡◌, ◌<◌, ℕ, ◌+◌, Bool, true, false, not, ◌==◌, List, [], ◌∷◌, map, reverse, length, take, drop, get_or, slice_get, nat_lt, Some}
+use Rattle.std.specs.Prelude.{◌≡◌, ◌<◌, ℕ, ◌+◌, Bool, true, false, ◌==◌, List, [], ◌∷◌, ◌++◌, map, reverse, length, take, drop, get_or, slice_get, nat_lt, Some}
 use Rattle.spark_base.specs.Lists.{Has}
 use Rattle.type_definitions.specs.Entries.{boolean}
 use Rattle.flow_paths.specs.Scopes.{taken}
@@ -13,14 +13,14 @@ use Rattle.machine.specs.States.{Waiting, Leak, stack_words, sub_of}
 use Rattle.machine.specs.States as machine
 use Rattle.machine.specs.Step as machine_step
 use Rattle.machine.specs.Run.{no_point}
-use Rattle.run_codes.specs.Codes.{Does, Put, Finish, Point}
+use Rattle.run_codes.specs.Codes.{Does, Finish, Point}
 use Rattle.run_codes.specs.Flat.{Flat}
 use Rattle.run_codes.specs.Programs.{Program, Around, does, point, sub_rows}
 use Rattle.run_codes.specs.Points.{Frame, State, Turn, start, are_taken, done}
 use Rattle.run_codes.specs.Related.{types, IsTable, Seen, Related}
 use Rattle.run_fills.specs.Filled.{HasParts}
 use Rattle.run_points.specs.Outcomes.{IsAlike}
-use Rattle.run_points.specs.States.{StateStands, first_point, site_of, Laid, LoopAt, FrameStands, FramesStand, MemoryStands, AreUndeclared}
+use Rattle.run_points.specs.States.{StateStands, first_point, site_of, Laid, LoopAt, Runs, FrameStands, FramesStand, MemoryStands, AreUndeclared}
 
 -- A step on both sides: what they share, what the machine has, and what the executor has.
 pub record Turns : Type 0 where
@@ -102,14 +102,17 @@ pub record TurnStands (b : Turns) (laid : Laid) : Type 0 where
   pub truth : sorts (flow_typing b.program).table boolean ≡ Position ∷ []
   pub memory : MemoryStands b.program laid (length (b.frame ∷ b.outer)) b.memory b.flat
   pub frame : FrameStands b.program laid (types b.memory) b.flat.stack (length b.outer) b.frame b.flat_frame
+  pub runs : Runs b.program b.frame
   pub outer : FramesStand b.program laid (types b.memory) b.flat.stack b.outer b.flat_outer
   pub many : taken b.point.instr ≡ length b.takes
   pub taken : are_taken (flat_turn b Finish) ≡ true
 
--- A memory after the step stands as well: no cell was made, and words of loops in other frames are as before.
+-- A memory after the step stands as well: cells were made after those that there were, and words of loops
+-- in other frames are as before.
 pub record IsKept (b : Turns) (laid : Laid) (m : Memory) (f : Flat) : Type 0 where
   pub related : Related (flow_typing b.program) laid.objects m f
-  pub made : types m ≡ types b.memory
+  pub more : List ℕ
+  pub made : types m ≡ types b.memory ++ more
   pub long : length f.stack ≡ length b.flat.stack
   pub undeclared : AreUndeclared (flow_typing b.program) (length (b.frame ∷ b.outer)) m
   pub loops : (c : LoopAt) → Has laid.loops c → (c.frame == length b.outer) ≡ false → take 3 (drop c.at f.stack) ≡ take 3 (drop c.at b.flat.stack)
@@ -131,6 +134,7 @@ pub record IsLowered (program : FlowProgram) (p : Program) : Type 0 where
   pub points : (n k : ℕ) → k < length (sub_of program n).points → nat_lt stack_words (sub_of program n).words ≡ false
       → (q : Point) × (slice_get p.points (first_point program.subs n + k) ≡ Some q) × (point (around_sub program n) (get_or (sub_of program n).points k no_point) ≡ Some q)
   pub subs : p.subs ≡ sub_rows (flow_typing program) 0 program.subs
+  pub main : p.main ≡ program.main
 
 -- What is known of the types of a program.
 pub record HasTypes (program : FlowProgram) : Type 0 where
@@ -142,29 +146,16 @@ pub record HasTypes (program : FlowProgram) : Type 0 where
 abbrev pub DoesAlike : Turns → Instruction → Type 0
 DoesAlike b i = (d : Does) → does (around b) b.point i ≡ Some d → IsAlike (StateStands b.program) (machine_step.turn (turn b) i) (done (flat_turn b d) d)
 
--- One word goes to an offset in the frame.
-abbrev pub is_put : Does → Bool
-is_put (Put at v n) = true
-is_put _ = false
-
--- What this isn't proved of: an instruction, and what it is lowered to.
-abbrev pub is_open : Instruction → Does → Bool
-is_open (instruction.Declare x v) d = not (is_put d)
-is_open (instruction.Assign target e) d = true
-is_open (instruction.Call sub e result) d = true
-is_open (instruction.Input target) d = true
-is_open (instruction.Release e) d = true
-is_open (instruction.Start x reversed low high) d = true
-is_open (instruction.Next x reversed low high) d = true
-is_open (instruction.Hold v) d = true
-is_open (instruction.EndScope x) d = true
-is_open instruction.Finish d = true
-is_open _ d = false
+-- What this isn't proved of.
+abbrev pub is_open : Instruction → Bool
+is_open (instruction.Start x reversed low high) = true
+is_open (instruction.Next x reversed low high) = true
+is_open _ = false
 
 -- An instruction does on both sides the same, where it is open.
 abbrev pub OpensAlike : Turns → Instruction → Type 0
 OpensAlike b i =
-    (d : Does) → does (around b) b.point i ≡ Some d → is_open i d ≡ true → IsAlike (StateStands b.program) (machine_step.turn (turn b) i) (done (flat_turn b d) d)
+    (d : Does) → does (around b) b.point i ≡ Some d → is_open i ≡ true → IsAlike (StateStands b.program) (machine_step.turn (turn b) i) (done (flat_turn b d) d)
 
 abbrev pub OpenAlike : FlowProgram → Program → Type 0
 OpenAlike program p = (b : Turns) (laid : Laid) → b.program ≡ program → b.lowered ≡ p → TurnStands b laid → OpensAlike b b.point.instr
