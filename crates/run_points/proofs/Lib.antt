@@ -21,5 +21,7 @@ pub mod Inputs
 pub mod LoopLists
 pub mod Undeclares
 pub mod Loops
+pub mod Parameters
+pub mod NextTurns
 pub mod Steps
 pub mod Lowering

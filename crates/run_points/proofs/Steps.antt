@@ -32,6 +32,8 @@ use Rattle.run_points.proofs.Texts.{output_alike}
 use Rattle.run_points.proofs.Declares.{declare_alike}
 use Rattle.run_points.proofs.Assigns.{assign_alike}
 use Rattle.run_points.proofs.Inputs.{input_alike}
+use Rattle.run_points.proofs.Loops.{start_alike}
+use Rattle.run_points.proofs.NextTurns.{next_alike}
 
 -- ---- how many values are taken
 
@@ -94,25 +96,25 @@ leave_alike : (b : Turns) (laid : Laid) → TurnStands b laid → MainBegins b.p
 leave_alike b laid is begins (More e rest) d lowers = test_alike b laid is begins e d lowers
 leave_alike b laid is begins _ d lowers = go_alike b laid is begins d lowers
 
-turn_alike : (b : Turns) (laid : Laid) → TurnStands b laid → MainBegins b.program b.lowered → (i : Instruction) → OpensAlike b i → DoesAlike b i
-turn_alike b laid is begins Skip rest d lowers = go_alike b laid is begins d lowers
-turn_alike b laid is begins (Output text line) rest d lowers = output_alike b laid is begins text line d lowers
-turn_alike b laid is begins (Test e) rest d lowers = test_alike b laid is begins e d lowers
-turn_alike b laid is begins (Choose e choices) rest d lowers = choose_alike b laid is begins e choices d lowers
-turn_alike b laid is begins (Evaluate t e (Some op)) rest d lowers = left_alike b laid is begins e op d lowers
-turn_alike b laid is begins (Evaluate t e None) rest d lowers = right_alike b laid is begins e d lowers
-turn_alike b laid is begins (LeaveLoop e) rest d lowers = leave_alike b laid is begins e d lowers
-turn_alike b laid is begins Fall rest d lowers = subst (λ x. IsAlike (StateStands b.program) (machine_step.turn (turn b) Fall) (done (flat_turn b x) x)) (some_same codes.Fall d lowers) (fall_alike b laid is)
-turn_alike b laid is begins (Declare x v) rest d lowers = declare_alike b laid is begins x v d lowers
-turn_alike b laid is begins (Assign target e) rest d lowers = assign_alike b laid is begins target e d lowers
-turn_alike b laid is begins (instruction.Call sub e result) rest d lowers = rest d lowers refl
-turn_alike b laid is begins (Input target) rest d lowers = input_alike b laid is begins target d lowers
-turn_alike b laid is begins (Release e) rest d lowers = rest d lowers refl
-turn_alike b laid is begins (Start x reversed low high) rest d lowers = rest d lowers refl
-turn_alike b laid is begins (Next x reversed low high) rest d lowers = rest d lowers refl
-turn_alike b laid is begins (Hold v) rest d lowers = rest d lowers refl
-turn_alike b laid is begins (EndScope x) rest d lowers = rest d lowers refl
-turn_alike b laid is begins Finish rest d lowers = rest d lowers refl
+turn_alike : (b : Turns) (laid : Laid) → TurnStands b laid → MainBegins b.program b.lowered → (i : Instruction) → b.point.instr ≡ i → OpensAlike b i → DoesAlike b i
+turn_alike b laid is begins Skip here rest d lowers = go_alike b laid is begins d lowers
+turn_alike b laid is begins (Output text line) here rest d lowers = output_alike b laid is begins text line d lowers
+turn_alike b laid is begins (Test e) here rest d lowers = test_alike b laid is begins e d lowers
+turn_alike b laid is begins (Choose e choices) here rest d lowers = choose_alike b laid is begins e choices d lowers
+turn_alike b laid is begins (Evaluate t e (Some op)) here rest d lowers = left_alike b laid is begins e op d lowers
+turn_alike b laid is begins (Evaluate t e None) here rest d lowers = right_alike b laid is begins e d lowers
+turn_alike b laid is begins (LeaveLoop e) here rest d lowers = leave_alike b laid is begins e d lowers
+turn_alike b laid is begins Fall here rest d lowers = subst (λ x. IsAlike (StateStands b.program) (machine_step.turn (turn b) Fall) (done (flat_turn b x) x)) (some_same codes.Fall d lowers) (fall_alike b laid is)
+turn_alike b laid is begins (Declare x v) here rest d lowers = declare_alike b laid is begins x v d lowers
+turn_alike b laid is begins (Assign target e) here rest d lowers = assign_alike b laid is begins target e d lowers
+turn_alike b laid is begins (instruction.Call sub e result) here rest d lowers = rest d lowers refl
+turn_alike b laid is begins (Input target) here rest d lowers = input_alike b laid is begins target d lowers
+turn_alike b laid is begins (Release e) here rest d lowers = rest d lowers refl
+turn_alike b laid is begins (Start x reversed low high) here rest d lowers = start_alike b laid is begins x reversed low high d lowers
+turn_alike b laid is begins (Next x reversed low high) here rest d lowers = next_alike b laid is begins x reversed low high here d lowers
+turn_alike b laid is begins (Hold v) here rest d lowers = rest d lowers refl
+turn_alike b laid is begins (EndScope x) here rest d lowers = rest d lowers refl
+turn_alike b laid is begins Finish here rest d lowers = rest d lowers refl
 
 -- ---- the step
 
@@ -193,7 +195,7 @@ frames_alike program p input has lowered begins rest s g (f ∷ fs) (h ∷ gs) i
         → IsAlike (StateStands program) (machine_step.turn (turn b) fp.instr) (if taken then done (flat_turn b d) d else Wants)
     by d lowers false none = tt
     by d lowers true taken =
-        turn_alike b is.laid (taken_stands taken) begins fp.instr (rest b is.laid refl refl (taken_stands taken)) d lowers
+        turn_alike b is.laid (taken_stands taken) begins fp.instr refl (rest b is.laid refl refl (taken_stands taken)) d lowers
 
 -- A step from states that stand for each other.
 pub step_alike : (program : FlowProgram) (p : Program) (input : List ℕ) → HasTypes program → IsLowered program p → MainBegins program p → OpenAlike program p

@@ -149,8 +149,6 @@ DoesAlike b i = (d : Does) → does (around b) b.point i ≡ Some d → IsAlike 
 abbrev pub is_open : Instruction → Bool
 is_open (instruction.Call sub e result) = true
 is_open (instruction.Release e) = true
-is_open (instruction.Start x reversed low high) = true
-is_open (instruction.Next x reversed low high) = true
 is_open (instruction.Hold v) = true
 is_open (instruction.EndScope x) = true
 is_open instruction.Finish = true
