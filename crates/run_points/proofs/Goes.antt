@@ -64,6 +64,8 @@ frames_kept program laid made stack other d (f ∷ fs) (g ∷ gs) low same is = 
     loops = λ c has of. same c has (apart c.frame (length fs) d of low) ∙ is.0.loops c has of;
     bounds = is.0.bounds;
     returns = is.0.returns;
+    below = is.0.below;
+    loops_below = is.0.loops_below;
   },
   frames_kept program laid made stack other d fs gs (omega (arith, low)) same is.1,
 )
@@ -121,6 +123,8 @@ frame_after b laid is ws hs waits loops f turning bounds i n next within = recor
   loops = turning;
   bounds = bounds;
   returns = is.frame.returns;
+  below = is.frame.below;
+  loops_below = is.frame.loops_below;
 }
 
 state_after : (b : Turns) (laid : Laid) → TurnStands b laid → (ws : List Waiting) (hs : List Held) → WaitsStand (flow_typing b.program).table (types b.memory) ws hs
@@ -145,6 +149,8 @@ state_after b laid is ws hs waits loops m f kept turning bounds i n next within 
           apart = is.memory.loops_apart.apart;
         };
         undeclared = kept.undeclared;
+        low = is.memory.low;
+        loops_low = is.memory.loops_low;
       };
       frames =
           subst (λ made. FramesStand b.program laid made f.stack (record b.frame { waits = ws; loops = loops; next = i } ∷ b.outer) (record b.flat_frame { waits = hs; next = n } ∷ b.flat_outer))

@@ -126,6 +126,7 @@ is_lowered program p is =
     subst (λ p. IsLowered program p) found.2 (record {
       points = λ n k low few. is_there s (objects_of (sub_of program 0)) 0 true program.subs found.0 found.1 n k (first_point program.subs n) (n == 0) (none (first_point program.subs n)) refl low few;
       subs = refl;
+      main = refl;
     })
   where
     none : (n : ℕ) → n ≡ 0 + n

@@ -28,7 +28,7 @@ waits_more table made more (w ∷ ws) [] is = absurd is
 
 -- ---- what is copied back
 
-place_more : (s : Typing) (all : List Lying) (made more : List ℕ) (p : Place) (w : Spot) → PlaceStands s all made p w → PlaceStands s all (made ++ more) p w
+pub place_more : (s : Typing) (all : List Lying) (made more : List ℕ) (p : Place) (w : Spot) → PlaceStands s all made p w → PlaceStands s all (made ++ more) p w
 place_more s all made more p (InStack n) is = is
 place_more s all made more p (InCell n o) is = (
   is.0,
@@ -40,14 +40,14 @@ place_more s all made more p (InCell n o) is = (
     within : (n a b c : ℕ) → n < a → c ≡ a + b → n < c
     within n a b c low is = omega (arith, low, is)
 
-returns_more : (c : Site) (all : List Lying) (made more : List ℕ) (rs : List machine.Return) (qs : List Return) → ReturnsStand c all made rs qs → ReturnsStand c all (made ++ more) rs qs
-returns_more c all made more [] [] is = tt
-returns_more c all made more (r ∷ rs) (q ∷ qs) is = (
-  record { own = is.0.own; at = is.0.at; from = is.0.from; of = is.0.of; to = place_more c.typing all made more r.to q.to is.0.to },
-  returns_more c all made more rs qs is.1,
+pub returns_more : (c : Site) (all : List Lying) (d : ℕ) (made more : List ℕ) (rs : List machine.Return) (qs : List Return) → ReturnsStand c all d made rs qs → ReturnsStand c all d (made ++ more) rs qs
+returns_more c all d made more [] [] is = tt
+returns_more c all d made more (r ∷ rs) (q ∷ qs) is = (
+  record { own = is.0.own; at = is.0.at; from = is.0.from; of = is.0.of; to = place_more c.typing all made more r.to q.to is.0.to; low = is.0.low; fits = is.0.fits },
+  returns_more c all d made more rs qs is.1,
 )
-returns_more c all made more [] (q ∷ qs) is = absurd is
-returns_more c all made more (r ∷ rs) [] is = absurd is
+returns_more c all d made more [] (q ∷ qs) is = absurd is
+returns_more c all d made more (r ∷ rs) [] is = absurd is
 
 -- ---- frames
 
@@ -66,7 +66,9 @@ frames_more program laid made more stack (f ∷ fs) (g ∷ gs) is = (
     turning = is.0.turning;
     loops = is.0.loops;
     bounds = is.0.bounds;
-    returns = returns_more (site_of program f.sub []) laid.objects made more f.returns g.returns is.0.returns;
+    returns = returns_more (site_of program f.sub []) laid.objects (length fs) made more f.returns g.returns is.0.returns;
+    below = is.0.below;
+    loops_below = is.0.loops_below;
   },
   frames_more program laid made more stack fs gs is.1,
 )

@@ -26,11 +26,10 @@ use Rattle.run_codes.proofs.Stores.{stored_in_stack}
 use Rattle.run_fills.specs.Filled.{Later}
 use Rattle.run_fills.proofs.Single.{one_value}
 use Rattle.run_fills.proofs.Wholes.{unchanged}
-use Rattle.run_points.specs.States.{LoopsStand, Laid}
+use Rattle.run_points.specs.States.{IsLow, LoopsStand, Laid}
 use Rattle.run_points.specs.Turns.{Turns, turn, around, seen, TurnStands, IsKept}
 use Rattle.run_points.proofs.Waits.{at_start}
 use Rattle.run_points.proofs.Stacks.{spliced_long, own_object, own_there}
-use Rattle.run_points.proofs.Undeclared.{IsLow}
 use Rattle.run_points.proofs.Halts.{is_whole}
 use Rattle.run_points.proofs.Storing.{loops_stored, stored_low, stored_types}
 use Rattle.run_points.proofs.LoopLists.{bounds_of}

@@ -53,15 +53,17 @@ start_alike program p false = by p.main
     by None = record { output = refl; leaks = refl; steps = refl; made = refl; freed = refl }
     by (Some main) = record { output = refl; leaks = refl; steps = refl; made = refl; freed = refl }
 
--- The states with which runs begin are a premise, too.
+-- The states with which runs begin are a premise, too. Where the first frames have too many words, there is no step.
 pub run_alike : (R : machine.State → State → Type 0) (program : FlowProgram) (p : Program) (input : List ℕ)
-    → ((s : machine.State) (g : State) → R s g → IsAlike R (machine_run.step program input s) (step (flow_typing program).table p input g))
+    → (main n : ℕ)
+    → (nat_le (frame_words program (frame_at_start main [] ∷ frame_at_start 0 [] ∷ [])) stack_words ≡ true
+    → (s : machine.State) (g : State) → R s g → IsAlike R (machine_run.step program input s) (step (flow_typing program).table p input g))
     → ((s : machine.State) (g : State) → R s g → IsSeenAlike s g)
-    → p.subs ≡ sub_rows (flow_typing program) 0 program.subs → (main n : ℕ)
+    → p.subs ≡ sub_rows (flow_typing program) 0 program.subs
     → (nat_le (frame_words program (frame_at_start main [] ∷ frame_at_start 0 [] ∷ [])) stack_words ≡ true
     → R (machine_run.state_at_start program) (state_at_start (flow_typing program).table p (is_declaring program)))
     → IsAlike R (machine_run.run_of program main input n) (run_of (flow_typing program).table p (is_declaring program) (sub_of program main).pos main input n)
-run_alike R program p input steps same subs main n start =
+run_alike R program p input main n steps same subs start =
     subst (λ k. IsAlike R (machine_run.run_of program main input n)
     (if nat_le k stack_words then within n (flow_typing program).table p input begun else Ends (Raised StorageError (sub_of program main).pos) begun)) (sym words)
     (by (nat_le all stack_words) refl)
@@ -81,7 +83,7 @@ run_alike R program p input steps same subs main n start =
     by : (k : Bool) → nat_le all stack_words ≡ k
         → IsAlike R (if k then machine_run.within n program input (machine_run.state_at_start program) else machine.Ends (Raised StorageError (sub_of program main).pos) (machine_run.state_at_start program))
         (if k then within n (flow_typing program).table p input begun else Ends (Raised StorageError (sub_of program main).pos) begun)
-    by true fits = within_alike R program p input steps same n (machine_run.state_at_start program) begun (start fits)
+    by true fits = within_alike R program p input (steps fits) same n (machine_run.state_at_start program) begun (start fits)
     by false fits = (refl, start_alike program p (is_declaring program))
 
 -- ---- what runs give

@@ -22,10 +22,10 @@ use Rattle.run_fills.specs.Filled.{at, Later}
 use Rattle.run_fills.proofs.Made.{are_there}
 use Rattle.run_fills.proofs.Moved.{types_put}
 use Rattle.run_fills.proofs.Outside.{object_outside}
-use Rattle.run_points.specs.States.{Laid, LoopAt, LoopsStand, AreUndeclared}
+use Rattle.run_points.specs.States.{Laid, LoopAt, LoopsStand, AreUndeclared, IsLow}
 use Rattle.run_points.specs.Turns.{Turns, seen, TurnStands, IsKept}
 use Rattle.run_points.proofs.Stacks.{spliced_long}
-use Rattle.run_points.proofs.Undeclared.{IsLow, put_low}
+use Rattle.run_points.proofs.Undeclared.{put_low}
 
 -- Words of these kinds: those of the type, or where the spot is in the stack, any.
 abbrev pub AreKinds : Spot → List Kind → List Kind → Type 0

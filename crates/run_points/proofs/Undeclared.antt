@@ -15,7 +15,7 @@ use Rattle.flow_paths.specs.Names.{has_call}
 use Rattle.machine.specs.Words.{Word, Int, Cell, access_offsets, element_type, element_count, repeated, fits_type}
 use Rattle.machine.specs.Memory.{Memory, Slot, Place, Base, OfVariable, OfCell, cell, slots_at, slots_of, words_of, gone_at, put, moved_out, with_new_cell, live_words}
 use Rattle.machine.specs.Evaluate.{Here, Now, Evaluated, Done, Raises, Traps, ConstraintError, StorageError, Touched, followed_by, Step, ToComponent, ToElement, ToDesignated, variable_place, cell_place, designated_place, stepped, walked, checked, Use, AsValue, AsView, held_or_taken, truth, is_null, is_whole, value_of, waited, given, operated, operated_alone, decides, indexed, allocated, heap_words, part_type, evaluate, steps_of, parts_of, initial}
-use Rattle.run_points.specs.States.{AreUndeclared}
+use Rattle.run_points.specs.States.{IsLow, AreUndeclared}
 use Rattle.run_points.proofs.Stacks.{undeclared_on}
 
 -- Frames from a number on aren't there in what it ends with.
@@ -23,11 +23,6 @@ abbrev pub Keeps : {A : Type 0} → Typing → ℕ → Evaluated A → Type 0
 Keeps s n (Done a now) = AreUndeclared s n now.memory
 Keeps s n (Raises e now) = AreUndeclared s n now.memory
 Keeps s n (Traps t now) = AreUndeclared s n now.memory
-
--- A place of a frame that is there, or of a cell.
-abbrev pub IsLow : ℕ → Base → Type 0
-IsLow n (OfVariable frame x) = frame < n
-IsLow n (OfCell k) = Unit {0}
 
 abbrev pub LowPlace : Typing → ℕ → Evaluated Place → Type 0
 LowPlace s n (Done p now) = IsLow n p.base × AreUndeclared s n now.memory

@@ -4,3 +4,5 @@ pub mod Outcomes
 pub mod States
 -- what stands while a step is made
 pub mod Turns
+-- what frames that enter ask of a program
+pub mod Frames

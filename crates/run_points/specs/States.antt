@@ -7,12 +7,12 @@ use Rattle.flow_paths.specs.Objects.{Typing, object_at, is_package_object}
 use Rattle.flow_paths.specs.Laid.{FlowSub, FlowProgram, flow_typing}
 use Rattle.machine.specs.Words.{default}
 use Rattle.machine.specs.Typed.{sorts}
-use Rattle.machine.specs.Memory.{Memory, Place, OfVariable, OfCell, fresh, slots_at}
+use Rattle.machine.specs.Memory.{Memory, Place, Base, OfVariable, OfCell, fresh, slots_at}
 use Rattle.machine.specs.States.{Waiting, Loop, stack_words, sub_of}
 use Rattle.machine.specs.States as machine
 use Rattle.machine.specs.Step.{no_loop, loop_of, main_frame}
 use Rattle.run_codes.specs.Flat.{kinds, are_words, truth, Flat, Spot, InStack, InCell}
-use Rattle.run_codes.specs.Lowered.{Site, offset_of}
+use Rattle.run_codes.specs.Lowered.{Site, offset_of, one_type}
 use Rattle.run_codes.specs.Programs.{Program, objects_of, is_loop}
 use Rattle.run_codes.specs.Points.{Held, Return, Frame, State, with_frame, frame_of, sub_at}
 use Rattle.run_codes.specs.Related.{types, IsValue, IsSplit, Lying, lying_sorts, Related, AreApart, IsSited}
@@ -94,18 +94,26 @@ PlaceStands s all made p (InStack n) =
 PlaceStands s all made p (InCell n o) =
     (p.base ≡ OfCell (suc n)) × (o ≡ p.at) × (n < length made) × IsSplit (sorts s.table (get_or made n integer)) p.at (sorts s.table p.of)
 
-pub record ReturnStands (c : Site) (all : List Lying) (made : List ℕ) (r : machine.Return) (q : Return) : Type 0 where
+-- A variable of a frame below one, or a cell.
+abbrev pub IsLow : ℕ → Base → Type 0
+IsLow n (OfVariable frame x) = frame < n
+IsLow n (OfCell k) = Unit {0}
+
+-- What a frame with a number copies back goes to places of the formal's type, in frames below it and in cells.
+pub record ReturnStands (c : Site) (all : List Lying) (d : ℕ) (made : List ℕ) (r : machine.Return) (q : Return) : Type 0 where
   pub own : is_package_object c.typing r.formal ≡ false
   pub at : offset_of c r.formal ≡ Some q.at
   pub from : q.from ≡ (object_at c.typing r.formal).of
   pub of : q.of ≡ r.to.of
   pub to : PlaceStands c.typing all made r.to q.to
+  pub low : IsLow d r.to.base
+  pub fits : one_type c.typing.table r.to.of (object_at c.typing r.formal).of ≡ true
 
-abbrev pub ReturnsStand : Site → List Lying → List ℕ → List machine.Return → List Return → Type 0
-ReturnsStand c all made [] [] = Unit {0}
-ReturnsStand c all made (r ∷ rs) (q ∷ qs) = ReturnStands c all made r q × ReturnsStand c all made rs qs
-ReturnsStand c all made [] (q ∷ qs) = ⊥
-ReturnsStand c all made (r ∷ rs) [] = ⊥
+abbrev pub ReturnsStand : Site → List Lying → ℕ → List ℕ → List machine.Return → List Return → Type 0
+ReturnsStand c all d made [] [] = Unit {0}
+ReturnsStand c all d made (r ∷ rs) (q ∷ qs) = ReturnStands c all d made r q × ReturnsStand c all d made rs qs
+ReturnsStand c all d made [] (q ∷ qs) = ⊥
+ReturnsStand c all d made (r ∷ rs) [] = ⊥
 
 -- ---- frames
 
@@ -136,7 +144,10 @@ pub record FrameStands (program : FlowProgram) (laid : Laid) (made : List ℕ) (
   pub turning : (x at : ℕ) → loop_offset (site_of program f.sub []) x ≡ Some at → Has laid.loops (record { frame = d; parameter = x; at = g.base + (at + 1) })
   pub loops : LoopsStand laid.loops d stack f.loops
   pub bounds : AreBounded (flow_typing program) f.loops
-  pub returns : ReturnsStand (site_of program f.sub []) laid.objects made f.returns g.returns
+  pub returns : ReturnsStand (site_of program f.sub []) laid.objects d made f.returns g.returns
+  -- frames below lie below
+  pub below : (l : Lying) → Has laid.objects l → l.frame < d → l.at + length (lying_sorts (flow_typing program) l) ≤ g.base
+  pub loops_below : (c : LoopAt) → Has laid.loops c → c.frame < d → c.at + 3 ≤ g.base
 
 -- Frames have numbers from that of the package objects on, which stands last.
 abbrev pub FramesStand : FlowProgram → Laid → List ℕ → List ℤ → List machine.Frame → List Frame → Type 0
@@ -158,6 +169,8 @@ pub record MemoryStands (program : FlowProgram) (laid : Laid) (frames : ℕ) (m 
   pub apart : AreApart (flow_typing program) laid.objects (length f.stack)
   pub loops_apart : LoopsApart (flow_typing program) laid.objects laid.loops (length f.stack)
   pub undeclared : AreUndeclared (flow_typing program) frames m
+  pub low : (l : Lying) → Has laid.objects l → l.frame < frames
+  pub loops_low : (c : LoopAt) → Has laid.loops c → c.frame < frames
 
 pub record StateStands (program : FlowProgram) (s : machine.State) (g : State) : Type 0 where
   pub laid : Laid

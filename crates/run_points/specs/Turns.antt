@@ -4,7 +4,6 @@ use Rattle.spark_base.specs.Lists.{Has}
 use Rattle.type_definitions.specs.Entries.{boolean}
 use Rattle.flow_paths.specs.Scopes.{taken}
 use Rattle.flow_paths.specs.Instructions.{Instruction}
-use Rattle.flow_paths.specs.Instructions as instruction
 use Rattle.flow_paths.specs.Points.{FlowPoint}
 use Rattle.flow_paths.specs.Laid.{FlowProgram, flow_typing}
 use Rattle.machine.specs.Typed.{Position, sorts}
@@ -134,6 +133,7 @@ pub record IsLowered (program : FlowProgram) (p : Program) : Type 0 where
   pub points : (n k : ℕ) → k < length (sub_of program n).points → nat_lt stack_words (sub_of program n).words ≡ false
       → (q : Point) × (slice_get p.points (first_point program.subs n + k) ≡ Some q) × (point (around_sub program n) (get_or (sub_of program n).points k no_point) ≡ Some q)
   pub subs : p.subs ≡ sub_rows (flow_typing program) 0 program.subs
+  pub main : p.main ≡ program.main
 
 -- What is known of the types of a program.
 pub record HasTypes (program : FlowProgram) : Type 0 where
@@ -144,20 +144,3 @@ pub record HasTypes (program : FlowProgram) : Type 0 where
 -- An instruction does on both sides the same.
 abbrev pub DoesAlike : Turns → Instruction → Type 0
 DoesAlike b i = (d : Does) → does (around b) b.point i ≡ Some d → IsAlike (StateStands b.program) (machine_step.turn (turn b) i) (done (flat_turn b d) d)
-
--- What this isn't proved of.
-abbrev pub is_open : Instruction → Bool
-is_open (instruction.Call sub e result) = true
-is_open (instruction.Release e) = true
-is_open (instruction.Hold v) = true
-is_open (instruction.EndScope x) = true
-is_open instruction.Finish = true
-is_open _ = false
-
--- An instruction does on both sides the same, where it is open.
-abbrev pub OpensAlike : Turns → Instruction → Type 0
-OpensAlike b i =
-    (d : Does) → does (around b) b.point i ≡ Some d → is_open i ≡ true → IsAlike (StateStands b.program) (machine_step.turn (turn b) i) (done (flat_turn b d) d)
-
-abbrev pub OpenAlike : FlowProgram → Program → Type 0
-OpenAlike program p = (b : Turns) (laid : Laid) → b.program ≡ program → b.lowered ≡ p → TurnStands b laid → OpensAlike b b.point.instr
