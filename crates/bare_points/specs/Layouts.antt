@@ -12,7 +12,7 @@ use Rattle.bare_points.specs.Spans.{code_span, ends_of}
 use Rattle.bare_points.specs.Tables.{AreSizes}
 
 abbrev pub laying : Layout → Laying
-laying l = record { ends = ends_of l.sizes.ends; counted = l.counted }
+laying l = record { ends = ends_of l.sizes.ends.now; counted = l.counted }
 
 abbrev pub tree_in : Layout → ℕ → TypedTree
 tree_in l e = typed_at l.sizes.rows.now e
@@ -21,7 +21,7 @@ abbrev pub code_in : Layout → ℕ → TypedCode
 code_in l c = typed_code_at l.sizes.rows.now c
 
 abbrev pub ends_in : Layout → ℕ → Bool
-ends_in l = ends_of l.sizes.ends
+ends_in l = ends_of l.sizes.ends.now
 
 abbrev pub span_in : Layout → ℕ → Extent
 span_in l c = code_span (ends_in l) (code_in l c)

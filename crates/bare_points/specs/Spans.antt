@@ -9,7 +9,7 @@ use Rattle.numbered_points.specs.Extents.{Extent, extent, nothing, using, both, 
 
 -- The test that a list of truth values by object number gives, and the answer for other numbers.
 abbrev pub ends_of : Ends → ℕ → Bool
-ends_of ends x = get_or ends.own.now x ends.other
+ends_of ends x = get_or ends.own.items x ends.other
 
 -- The objects that code declares itself whose scopes end at points, the last one first.
 abbrev pub owned : (ℕ → Bool) → TypedCode → List ℕ

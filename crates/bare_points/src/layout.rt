@@ -49,10 +49,10 @@ impl<'p> Layout<'p> {
     /// The layout by tables of all nodes.
     pub fn new(sizes: Sizes<'p>, counted: bool) -> Layout<'p>
         requires preps { ArePreps sizes.rows.now (length sizes.rows.now.0) sizes.preps.now }
-        requires spans { AreSpans sizes.rows.now (ends_of sizes.ends) (length sizes.rows.now.1) sizes.spans.now }
+        requires spans { AreSpans sizes.rows.now (ends_of sizes.ends.now) (length sizes.rows.now.1) sizes.spans.now }
         requires whole { length sizes.spans.now ≡ length sizes.rows.now.1 }
         ensures rows { result.sizes.rows.now ≡ sizes.entry.rows.now }
-        ensures ends { result.sizes.ends ≡ sizes.entry.ends }
+        ensures ends { result.sizes.ends.now ≡ sizes.entry.ends.now }
         ensures counted { result.counted ≡ counted }
         ensures ready { IsReady result }
     {

@@ -40,17 +40,17 @@ fn within(rows: &TypedRows, code: usize, found: &mut Vec<u32>) -> Result<(), All
 }
 
 /// Whether scopes end at points of their own.
-#[derive(Clone, Copy)]
-pub struct Ends<'p> {
+#[derive(Drop)]
+pub struct Ends {
     /// By the number of an object, whether its scope does.
-    pub own: &'p [bool],
+    pub own: Vec<bool>,
     /// Whether that of an object whose number isn't among these does.
     pub other: bool,
 }
 
 /// Whether the scope of an object ends at a point.
-fn has_end(ends: Ends<'_>, x: u32) -> bool
-    ensures { result ≡ ends_of ends x }
+fn has_end(ends: &Ends, x: u32) -> bool
+    ensures { result ≡ ends_of ends.now x }
 {
     match ends.own.get(x as usize) {
         Some(has) => *has,
@@ -62,11 +62,11 @@ fn has_end(ends: Ends<'_>, x: u32) -> bool
 pub fn owned(
     alloc: Global,
     rows: &TypedRows,
-    ends: Ends<'_>,
+    ends: &Ends,
     code: usize,
 ) -> Result<Vec<u32>, AllocError>
     requires { code < length rows.now.1 }
-    ensures { IfOk result (λ made. made.items ≡ owned (ends_of ends) (typed_code_at rows.now code)) }
+    ensures { IfOk result (λ made. made.items ≡ owned (ends_of ends.now) (typed_code_at rows.now code)) }
 {
     let mut found = Vec::new(alloc);
     within(rows, code, &mut found)?;

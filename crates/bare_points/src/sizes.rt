@@ -22,7 +22,7 @@ pub struct Sizes<'p> {
     /// The nodes.
     pub rows: &'p TypedRows,
     /// By the number of an object, whether its scope ends at a point.
-    pub ends: Ends<'p>,
+    pub ends: &'p Ends,
     /// Of nodes of expressions, what comes before the points that use them.
     pub preps: &'p [Prep],
     /// Of nodes of code, how many points they have.
@@ -50,7 +50,7 @@ impl<'p> Sizes<'p> {
     pub fn span(&self, c: usize) -> Span
         requires ready { AreSizes self.now }
         requires node { c < length self.now.spans.now }
-        ensures { result ≡ code_span (ends_of self.now.ends) (typed_code_at self.now.rows.now c) }
+        ensures { result ≡ code_span (ends_of self.now.ends.now) (typed_code_at self.now.rows.now c) }
     {
         Span::at(self.spans, c)
     }
@@ -89,7 +89,7 @@ impl<'p> Sizes<'p> {
     pub fn branch(&self, c: usize) -> Result<Span, AllocError>
         requires ready { AreSizes self.now }
         requires node { c < length self.now.spans.now }
-        ensures { IfOk result (λ made. made ≡ branch_span (ends_of self.now.ends) (typed_code_at self.now.rows.now c)) }
+        ensures { IfOk result (λ made. made ≡ branch_span (ends_of self.now.ends.now) (typed_code_at self.now.rows.now c)) }
     {
         match self.rows.code(c) {
             TypedCodeNode::Branch {
@@ -106,7 +106,7 @@ impl<'p> Sizes<'p> {
     pub fn branches(&self, list: usize) -> Result<Span, AllocError>
         requires ready { AreSizes self.now }
         requires node { list < length self.now.spans.now }
-        ensures { IfOk result (λ made. made ≡ branches_span (ends_of self.now.ends) (typed_code_at self.now.rows.now list)) }
+        ensures { IfOk result (λ made. made ≡ branches_span (ends_of self.now.ends.now) (typed_code_at self.now.rows.now list)) }
     {
         let mut total = Span::nothing();
         let mut i = list;
@@ -122,7 +122,7 @@ impl<'p> Sizes<'p> {
     pub fn alternative(&self, c: usize) -> Span
         requires ready { AreSizes self.now }
         requires node { c < length self.now.spans.now }
-        ensures { result ≡ when_span (ends_of self.now.ends) (typed_code_at self.now.rows.now c) }
+        ensures { result ≡ when_span (ends_of self.now.ends.now) (typed_code_at self.now.rows.now c) }
     {
         match self.rows.code(c) {
             TypedCodeNode::When { stmts, .. } => self.span(*stmts),
@@ -135,7 +135,7 @@ impl<'p> Sizes<'p> {
     pub fn alternatives(&self, list: usize) -> Result<Span, AllocError>
         requires ready { AreSizes self.now }
         requires node { list < length self.now.spans.now }
-        ensures { IfOk result (λ made. made ≡ whens_span (ends_of self.now.ends) (typed_code_at self.now.rows.now list)) }
+        ensures { IfOk result (λ made. made ≡ whens_span (ends_of self.now.ends.now) (typed_code_at self.now.rows.now list)) }
     {
         let mut total = Span::nothing();
         let mut i = list;
@@ -152,7 +152,7 @@ impl<'p> Sizes<'p> {
         requires ready { AreSizes self.now }
         requires branches { branches < length self.now.spans.now }
         requires otherwise { otherwise < length self.now.spans.now }
-        ensures { IfOk result (λ made. made ≡ code_span (ends_of self.now.ends)
+        ensures { IfOk result (λ made. made ≡ code_span (ends_of self.now.ends.now)
             (If (typed_code_at self.now.rows.now branches) (typed_code_at self.now.rows.now otherwise))) }
     {
         self.branches(branches)?.and(self.span(otherwise))
@@ -164,7 +164,7 @@ impl<'p> Sizes<'p> {
         requires selector { selector < length self.now.rows.now.0 }
         requires alternatives { alternatives < length self.now.spans.now }
         ensures { IfOk result (λ made. made ≡ both (using (typed_at self.now.rows.now selector) 1)
-            (whens_span (ends_of self.now.ends) (typed_code_at self.now.rows.now alternatives))) }
+            (whens_span (ends_of self.now.ends.now) (typed_code_at self.now.rows.now alternatives))) }
     {
         self.before(selector, self.alternatives(alternatives)?)
     }
@@ -176,7 +176,7 @@ impl<'p> Sizes<'p> {
         requires high { high < length self.now.rows.now.0 }
         requires stmts { stmts < length self.now.spans.now }
         ensures { IfOk result (λ made. made ≡ both (both (using (typed_at self.now.rows.now low) 0) (using (typed_at self.now.rows.now high) 1))
-            (both (extent 1 0 0 0) (in_turns (code_span (ends_of self.now.ends) (typed_code_at self.now.rows.now stmts))))) }
+            (both (extent 1 0 0 0) (in_turns (code_span (ends_of self.now.ends.now) (typed_code_at self.now.rows.now stmts))))) }
     {
         let turns = Span::new(1, 0, 0, 0).and(self.span(stmts).in_turns())?;
         self.using_both(low, high)?.and(turns)
@@ -186,8 +186,8 @@ impl<'p> Sizes<'p> {
     fn block(&self, stmts: usize) -> Result<Span, AllocError>
         requires ready { AreSizes self.now }
         requires stmts { stmts < length self.now.spans.now }
-        ensures { IfOk result (λ made. made ≡ ending_with (length (owned (ends_of self.now.ends) (typed_code_at self.now.rows.now stmts)))
-            (code_span (ends_of self.now.ends) (typed_code_at self.now.rows.now stmts))) }
+        ensures { IfOk result (λ made. made ≡ ending_with (length (owned (ends_of self.now.ends.now) (typed_code_at self.now.rows.now stmts)))
+            (code_span (ends_of self.now.ends.now) (typed_code_at self.now.rows.now stmts))) }
     {
         let objects = owned(self.alloc, self.rows, self.ends, stmts)?;
         self.span(stmts).ending_with(objects.len())
@@ -199,7 +199,7 @@ impl<'p> Sizes<'p> {
         requires ready { AreSizes self.now }
         requires node { c < length self.now.rows.now.1 }
         requires parts { c ≤ length self.now.spans.now }
-        ensures { IfOk result (λ made. made ≡ code_span (ends_of self.now.ends) (typed_code_at self.now.rows.now c)) }
+        ensures { IfOk result (λ made. made ≡ code_span (ends_of self.now.ends.now) (typed_code_at self.now.rows.now c)) }
     {
         match self.rows.code(c) {
             TypedCodeNode::More { first, rest } => self.span(*first).and(self.span(*rest)),
@@ -245,12 +245,12 @@ impl<'p> Sizes<'p> {
 pub fn spans(
     alloc: Global,
     rows: &TypedRows,
-    ends: Ends<'_>,
+    ends: &Ends,
     preps: &[Prep],
 ) -> Result<Listed<Span>, AllocError>
     requires { ArePreps rows.now (length rows.now.0) preps.now }
     ensures length { IfOk result (λ made. length made ≡ length rows.now.1) }
-    ensures spans { IfOk result (λ made. AreSpans rows.now (ends_of ends) (length rows.now.1) made) }
+    ensures spans { IfOk result (λ made. AreSpans rows.now (ends_of ends.now) (length rows.now.1) made) }
 {
     let mut made = Listed::new(alloc);
     'nodes: for i in 0..rows.code_len() {

@@ -86,7 +86,7 @@ fills_on a f b g c h p q = record {
 
 -- ---- nodes more
 
-place_more : (n m : ℕ) (p : Place) → n ≤ m → IsTrue (is_place_below n p) → IsTrue (is_place_below m p)
+pub place_more : (n m : ℕ) (p : Place) → n ≤ m → IsTrue (is_place_below n p) → IsTrue (is_place_below m p)
 place_more n m (place.Local at) more is = refl
 place_more n m (place.LocalAt at i) more is = grind arith
 place_more n m (place.Global at) more is = refl

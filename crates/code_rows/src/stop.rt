@@ -1,4 +1,5 @@
 //! Why a step isn't done.
+ghost use Rattle.std.specs.Prelude.{◌≡◌};
 
 use reuse_heap::Trap;
 use std::alloc::{AllocError, AllocFailed};
@@ -25,12 +26,20 @@ pub enum Stop {
 }
 
 impl From<AllocError> for Stop {
+    ghost use Rattle.code_rows.specs.declared.stop.Stop.TheVariants.{Memory};
+
+    ghost from_gives = { λ _ s. s ≡ Memory };
+
     fn from(_: AllocError) -> Self {
         Stop::Memory
     }
 }
 
 impl<T: Drop> From<AllocFailed<T>> for Stop {
+    ghost use Rattle.code_rows.specs.declared.stop.Stop.TheVariants.{Memory};
+
+    ghost from_gives = { λ _ s. s ≡ Memory };
+
     fn from(_: AllocFailed<T>) -> Self {
         Stop::Memory
     }

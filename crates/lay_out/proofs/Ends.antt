@@ -1,5 +1,5 @@
 -- Objects whose scopes end at points of their own.
-use Rattle.std.proofs.Common.{◌≡◌, ℕ, Bool, false, List, map, get_or, sym, ap, ◌∙◌}
+use Rattle.std.proofs.Common.{◌≡◌, ℕ, Bool, List, map, get_or, ap, ◌∙◌}
 use Rattle.std.proofs.Math.ListN.{get_or-map}
 use Rattle.typed_tree.specs.declared.object.Object.{Object}
 use Rattle.typed_tree.specs.Programs.{text_io}

@@ -21,7 +21,7 @@ use Rattle.lay_out.specs.Subs.{site, IsReady}
 -- A layout by the tables of a writer.
 pub record IsLayoutBy (w : SubWriter) (counted : Bool) (l : Layout) : Type 0 where
   pub rows : l.sizes.rows.now ≡ w.sizes.rows.now
-  pub ends : l.sizes.ends ≡ w.sizes.ends
+  pub ends : l.sizes.ends.now ≡ w.sizes.ends.now
   pub counted_is : l.counted ≡ counted
 
 few : (n : ℕ) → true ≡ not (nat_lt 16384 n) → n ≤ POINTS
@@ -36,7 +36,7 @@ module _ (w : SubWriter) (b : Subprogram) (ready : IsReady w) where
   made_by counted roots = maker (site w) (sub_in w.acts b) counted roots
 
   abbrev laying_of_list : Bool → Laying
-  laying_of_list counted = record { ends = ends_of w.sizes.ends; counted = counted }
+  laying_of_list counted = record { ends = ends_of w.sizes.ends.now; counted = counted }
 
   module _ (l : Layout) (by : IsLayoutBy w false l) where
     package_bare : bare_package (laying l) (code_in l b.body)
@@ -49,13 +49,13 @@ module _ (w : SubWriter) (b : Subprogram) (ready : IsReady w) where
     package_points_are points is =
         ap (λ (rows : TypedNodes). map (dress (made_by false [])) (bares rows points)) (sym (by.rows ∙ ready.rows))
         ∙ ap (map (dress (made_by false []))) (is ∙ package_bare)
-        ∙ package_dressed (made_by false []) (sub_in w.acts b) w.sizes.ends ready.ends
+        ∙ package_dressed (made_by false []) (sub_in w.acts b) w.sizes.ends.now ready.ends
 
     package_count : length (bare_package (laying l) (code_in l b.body)) ≡ length (package_laid w.acts b).sub.points
     package_count =
         let g : Maker = made_by false (roots_in (site w) (package_numbers (made_by false []) (sub_in w.acts b))) in
         ap length package_bare ∙ sym (length-map (bare_package (laying_of_list false) (typed_code_at w.acts.rows.now b.body)) (dress g))
-        ∙ ap length (package_dressed g (sub_in w.acts b) w.sizes.ends ready.ends)
+        ∙ ap length (package_dressed g (sub_in w.acts b) w.sizes.ends.now ready.ends)
 
     pub package_few : true ≡ not (nat_lt 16384 (length (bare_package (laying l) (code_in l b.body))))
         → length (package_laid w.acts b).sub.points ≤ POINTS
@@ -78,14 +78,14 @@ module _ (w : SubWriter) (b : Subprogram) (ready : IsReady w) where
     sub_points_are points is =
         ap (λ (rows : TypedNodes). map (dress (made_by true [])) (bares rows points)) (sym (by.rows ∙ ready.rows))
         ∙ ap (map (dress (made_by true []))) (is ∙ sub_bare)
-        ∙ sub_dressed (made_by true []) (sub_in w.acts b) t w.sizes.ends ready.ends
+        ∙ sub_dressed (made_by true []) (sub_in w.acts b) t w.sizes.ends.now ready.ends
 
     sub_count : length bare_points ≡ length (sub_laid w.acts b t).sub.points
     sub_count =
         let g : Maker = made_by true (roots_in (site w) (sub_numbers (made_by true []) (sub_in w.acts b) t)) in
         ap length sub_bare
         ∙ sym (length-map (bare_sub (laying_of_list true) (typed_code_at w.acts.rows.now b.body) b.end (is_some b.result) t) (dress g))
-        ∙ ap length (sub_dressed g (sub_in w.acts b) t w.sizes.ends ready.ends)
+        ∙ ap length (sub_dressed g (sub_in w.acts b) t w.sizes.ends.now ready.ends)
 
     pub sub_few : true ≡ not (nat_lt 16384 (length bare_points)) → length (sub_laid w.acts b t).sub.points ≤ POINTS
     sub_few h = few (length (sub_laid w.acts b t).sub.points) (h ∙ ap (λ n. not (nat_lt 16384 n)) sub_count)

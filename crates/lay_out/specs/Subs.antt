@@ -1,5 +1,5 @@
 -- What subprograms are laid out by, and what is made of them.
-use Rattle.std.specs.Prelude.{◌≡◌, ℕ, ◌+◌, false, List, map, flat_map, length, get_or, Option, Result, Ok, Err}
+use Rattle.std.specs.Prelude.{◌≡◌, ℕ, ◌+◌, List, map, flat_map, length, Option, Result, Ok, Err}
 use Rattle.spark_base.specs.declared.position.Pos.{Pos}
 use Rattle.typed_tree.specs.Programs.{TypedSub}
 use Rattle.typed_statements.specs.declared.subs.Subprogram.{Subprogram}
@@ -28,9 +28,9 @@ site w = frames.site w.acts
 pub record IsReady (w : SubWriter) : Type 0 where
   pub rows : w.sizes.rows.now ≡ w.acts.rows.now
   pub preps : ArePreps w.sizes.rows.now (length w.sizes.rows.now.0) w.sizes.preps.now
-  pub spans : AreSpans w.sizes.rows.now (ends_of w.sizes.ends) (length w.sizes.rows.now.1) w.sizes.spans.now
+  pub spans : AreSpans w.sizes.rows.now (ends_of w.sizes.ends.now) (length w.sizes.rows.now.1) w.sizes.spans.now
   pub whole : length w.sizes.spans.now ≡ length w.sizes.rows.now.1
-  pub ends : (x : ℕ) → ends_of w.sizes.ends x ≡ has_scope_end (site w) x
+  pub ends : (x : ℕ) → ends_of w.sizes.ends.now x ≡ has_scope_end (site w) x
   pub words : AreWords (site w) w.acts.rows.now (length w.acts.rows.now.1) w.words.now
 
 -- The subprograms that stand in its rows.

@@ -1,7 +1,7 @@
 //! The parts of a typed program, by number.
 ghost use Rattle.std.specs.Prelude.{◌≡◌, ℕ, map, IfOk};
 ghost use Rattle.flow_paths.specs.Objects.{has_scope_end};
-ghost use Rattle.bare_points.specs.Spans.{ends_of};
+ghost use Rattle.bare_points.specs.Spans as spans;
 ghost use Rattle.program_typing.specs.Typings.{typing};
 ghost use Rattle.lay_out.specs.Known.{has_end, signature_of};
 
@@ -53,7 +53,7 @@ fn has_end(known: &ProgramTyping<'_>, of: u32) -> bool
 }
 
 /// For each object, in order, whether its scope ends at a point of its own.
-pub(crate) fn scope_ends(alloc: Global, known: &ProgramTyping<'_>) -> Result<Vec<bool>, AllocError>
+fn ends_of(alloc: Global, known: &ProgramTyping<'_>) -> Result<Vec<bool>, AllocError>
     ensures { IfOk result (λ ends. ends.items ≡ map (λ x. has_end (typing known.now) x.of) (typing known.now).objects) }
 {
     let mut ends = Vec::new(alloc);
@@ -65,12 +65,10 @@ pub(crate) fn scope_ends(alloc: Global, known: &ProgramTyping<'_>) -> Result<Vec
 
 /// By the number of an object, whether its scope ends at a point of its own. Numbers that name no
 /// object count as Integer objects.
-pub(crate) fn ends_by<'p>(known: &ProgramTyping<'_>, own: &'p [bool]) -> Ends<'p>
-    requires { own.now ≡ map (λ x. has_end (typing known.now) x.of) (typing known.now).objects }
-    ensures { (x : ℕ) → ends_of result x ≡ has_scope_end (typing known.now) x }
+pub(crate) fn scope_ends(alloc: Global, known: &ProgramTyping<'_>) -> Result<Ends, AllocError>
+    ensures { IfOk result (λ ends. (x : ℕ) → spans.ends_of ends x ≡ has_scope_end (typing known.now) x) }
 {
-    Ends {
-        own,
-        other: has_end(known, INTEGER),
-    }
+    let own = ends_of(alloc, known)?;
+    let other = has_end(known, INTEGER);
+    Ok(Ends { own, other })
 }

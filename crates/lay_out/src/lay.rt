@@ -12,7 +12,7 @@ ghost use Rattle.lay_out.specs.Parts.{parts_of};
 ghost use Rattle.lay_out.specs.Subs.{subs_of};
 ghost use Rattle.lay_out.specs.Programs.{known_of, numbered_in, source, AreLaid};
 
-use crate::known::{bodies, ends_by, scope_ends, signatures};
+use crate::known::{bodies, scope_ends, signatures};
 use crate::laid_subs::LaidSubs;
 use crate::refusal::LayRefusal;
 use crate::sub_writer::SubWriter;
@@ -42,10 +42,9 @@ fn laid_subs(
     ensures judges { Judges result (beyond (subs_of (numbered_in typed.now))) }
 {
     let calls = CallRows::new(alloc, &typed.rows)?;
-    let own = scope_ends(alloc, known)?;
-    let ends = ends_by(known, &own);
+    let ends = scope_ends(alloc, known)?;
     let preps = preps(alloc, &typed.rows)?;
-    let spans = spans(alloc, &typed.rows, ends, preps.as_slice())?;
+    let spans = spans(alloc, &typed.rows, &ends, preps.as_slice())?;
     let words = declared_words(alloc, known, &typed.rows)?;
     let writer = SubWriter {
         acts: ActWriter {
@@ -56,7 +55,7 @@ fn laid_subs(
         sizes: Sizes {
             alloc,
             rows: &typed.rows,
-            ends,
+            ends: &ends,
             preps: preps.as_slice(),
             spans: spans.as_slice(),
         },

@@ -7,8 +7,8 @@ use Rattle.bare_points.proofs.sizes.Sizes.alternatives.Given as goal
 abbrev pub invariant-alternatives : goal.invariant-alternatives
 invariant-alternatives l =
     (l.i < length l.self.spans.now)
-    × (both l.total (whens_span (ends_of l.self.ends) (typed_code_at l.self.rows.now l.i))
-    ≡ whens_span (ends_of l.self.ends) (typed_code_at l.self.rows.now l.list))
+    × (both l.total (whens_span (ends_of l.self.ends.now) (typed_code_at l.self.rows.now l.i))
+    ≡ whens_span (ends_of l.self.ends.now) (typed_code_at l.self.rows.now l.list))
 
 abbrev pub decreases-alternatives : goal.decreases-alternatives
 decreases-alternatives l = l.i

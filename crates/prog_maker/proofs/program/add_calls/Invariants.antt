@@ -1,0 +1,6 @@
+use Rattle.std.proofs.Common.{◌≡◌, ◌++◌}
+use Rattle.prog_maker.specs.Texts.{call, for_each}
+use Rattle.prog_maker.proofs.program.add_calls.Given as goal
+
+abbrev pub invariant-numbers : goal.invariant-numbers
+invariant-numbers l = l.text.items ≡ l.initial.text.items ++ for_each call l.k

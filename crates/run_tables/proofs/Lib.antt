@@ -1,0 +1,6 @@
+pub mod Sorts
+pub mod Offsets
+pub mod Tables
+pub mod Statics
+pub mod Gathers
+pub mod Programs

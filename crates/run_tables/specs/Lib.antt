@@ -1,0 +1,2 @@
+-- what is asked of the bounds of types
+pub mod Bounds
