@@ -6,3 +6,4 @@ pub mod Gathers
 pub mod Programs
 pub mod Frames
 pub mod Runs
+pub mod Standing
