@@ -1,7 +1,7 @@
 -- The runs of accepted files of the first class are sound: those without a fault of typing and without reports,
 -- whose positions are as in a text, whose instructions are typed, and whose resolved code is orderly.
 use Rattle.std.proofs.Common.{◌≡◌, subst, ℕ, List, [], None}
-use Rattle.ada_lexer.specs.declared.token.Token.{Token}
+use Rattle.ada_lexer.specs.Tokens.{Cut}
 use Rattle.ada_tree.specs.declared.unit.SourceUnit.{SourceUnit}
 use Rattle.name_events.specs.Identified.{identified}
 use Rattle.resolved_tree.specs.Trees.{Program}
@@ -18,7 +18,7 @@ use Rattle.orderly_files.specs.Apart.{AreApart}
 use Rattle.orderly_files.specs.Ended.{AllEnded}
 use Rattle.orderly_files.proofs.Main.{files_in_order}
 use Rattle.file_positions.specs.Texts.{AreParsed}
-use Rattle.file_positions.proofs.Main.{files_apart}
+use Rattle.file_positions.proofs.Main.{files_apart, files_ended}
 use Rattle.ready_types.proofs.Files.{files_settled, files_own}
 use Rattle.soundness.specs.Typed.{OwnsByShape}
 use Rattle.soundness.specs.Sound.{IsFirstClass, RunIsSound}
@@ -63,8 +63,9 @@ module _ (files : List (List SourceUnit)) where
         (record { no_reports = none; effects_are = are; settled = files_settled files apart ended no_fault (typed_of p); fine = fine })
         (subst OwnsByShape (flow_table table (typed_of p)) (files_own files apart ended no_fault (typed_of p))) class files_orderly input
 
-  -- So it is if the files are parsed from texts.
-  pub parsed_sound : (texts : List (List Token)) → AreParsed 0 texts files → AllEnded at_start p.units → type_fault p ≡ None → AreOrderly files
+  -- So it is if the files are parsed from texts: then their positions are as in a text.
+  pub parsed_sound : (texts : List (List Cut)) → AreParsed 0 texts files → type_fault p ≡ None → AreOrderly files
       → (effects : Effects) → AreEffects flow effects → AreReports flow effects [] → AreFine flow → IsFirstClass flow
       → (input : List ℕ) → RunIsSound table (typed_of p) input
-  parsed_sound texts parsed ended no_fault left = files_sound (files_apart texts files parsed) ended no_fault left
+  parsed_sound texts parsed no_fault left =
+      files_sound (files_apart texts files parsed) (files_ended (identified files) texts files parsed) no_fault left
