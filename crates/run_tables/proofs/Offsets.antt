@@ -128,8 +128,7 @@ module _ (table : Table) (law : (t : ℕ) → sorts table t ≡ sorts_of (sorts 
       let leaf = leaf_from table settled t o has in
       let both = both_true (has_part table t leaf.0) (owns_one (shape_of table (type_in table t leaf.0))) leaf.1 in
       let split = part_at t leaf.0 both.0 in
-      let pointer = owning_sorts (type_in table t leaf.0) (shape_of table (type_in table t leaf.0)) refl both.1 in
-      (
+      let pointer = owning_sorts (type_in table t leaf.0) (shape_of table (type_in table t leaf.0)) refl both.1 in (
         pointer.0,
         ap (λ l. slice_get l o) (split.is ∙ ap (λ l. split.front ++ (l ++ split.rest)) pointer.1) ∙ first_at split.front split.rest (Pointer pointer.0) o (split.long ∙ leaf.2),
       )

@@ -1,0 +1,87 @@
+//! Whole runs.
+ghost use Rattle.std.specs.Prelude.{◌≡◌, ◌≤◌, ◌⊎◌, [], false, Err, OnOk, IfOk, map, string_bytes};
+ghost use Rattle.spark_base.specs.Outside.{Rose};
+ghost use Rattle.run_codes.specs.Points.{Outcome};
+ghost use Rattle.run_results.specs.Results.{ending_of};
+ghost use Rattle.whole_runs.specs.Turns.{IsRunning, is_failing, some_steps};
+ghost use Rattle.whole_runs.specs.Tellings.{Sinks};
+ghost use Rattle.whole_runs.specs.Answers.{IsOver, IsWritten};
+
+use crate::stepping::{Stepping, Turn};
+use crate::told::{Told, tell, tell_leaks};
+use run_results::{Ending, ExecFault, Ran, write_all};
+use spark_base::Sink;
+use std::alloc::Global;
+
+/// What is left is written, and the run is answered.
+fn answer<S: Stepping, K: Sink>(
+    alloc: Global,
+    files: &[String],
+    run: &mut S,
+    told: &mut Told,
+    ending: Ending,
+    steps: u64,
+    out: &mut K,
+    err: &mut K,
+) -> Result<Ran, ExecFault>
+    ensures written { IfOk result (λ ran. (whole : Outcome) (start : Sinks)
+        → IsOver (map string_bytes files.now) start (record { output = K.written out.old; lines = K.written err.old }) told.old.lines.items told.old.leaked whole (ending_of ending) steps (S.state run.old)
+        → IsWritten (map string_bytes files.now) whole ran start (record { output = K.written out.new; lines = K.written err.new })) }
+    ensures later_out { K.faults out.old ≤ K.faults out.new }
+    ensures later_err { K.faults err.old ≤ K.faults err.new }
+    ensures cause { result ≡ Err ExecFault.WriteFault → Rose (K.faults out.old) (K.faults out.new) ⊎ Rose (K.faults err.old) (K.faults err.new) }
+    ensures no_fault_out { OnOk result (K.faults out.new ≡ K.faults out.old) }
+    ensures no_fault_err { OnOk result (K.faults err.new ≡ K.faults err.old) }
+{
+    tell_leaks(alloc, files, run, told)?;
+    write_all(run.output(), out)?;
+    write_all(&told.lines, err)?;
+    Ok(Ran {
+        ending,
+        steps,
+        made: run.made(),
+        freed: run.freed(),
+        leaked: told.leaked,
+    })
+}
+
+/// Makes at most so many steps. The output goes to `out` and the leak lines to `err`, in pieces and
+/// at the end; the files are the names that the lines tell, by number.
+pub fn run_whole<S: Stepping, K: Sink>(
+    alloc: Global,
+    files: &[String],
+    run: &mut S,
+    limit: u64,
+    out: &mut K,
+    err: &mut K,
+) -> Result<Ran, ExecFault>
+    requires running { IsRunning (S.state run.old) }
+    requires steps { (S.state run.old).steps ≡ 0 }
+    requires output { (S.state run.old).output ≡ [] }
+    requires leaks { (S.state run.old).leaks ≡ [] }
+    requires there { is_failing (some_steps limit (S.setting run.old) (S.state run.old)) ≡ false }
+    ensures written { IfOk result (λ ran. IsWritten (map string_bytes files.now) (some_steps limit (S.setting run.old) (S.state run.old)) ran
+        (record { output = K.written out.old; lines = K.written err.old }) (record { output = K.written out.new; lines = K.written err.new })) }
+    ensures later_out { K.faults out.old ≤ K.faults out.new }
+    ensures later_err { K.faults err.old ≤ K.faults err.new }
+    ensures cause { result ≡ Err ExecFault.WriteFault → Rose (K.faults out.old) (K.faults out.new) ⊎ Rose (K.faults err.old) (K.faults err.new) }
+    ensures no_fault_out { OnOk result (K.faults out.new ≡ K.faults out.old) }
+    ensures no_fault_err { OnOk result (K.faults err.new ≡ K.faults err.old) }
+{
+    let mut told = Told {
+        lines: Vec::new(alloc),
+        leaked: 0,
+    };
+    let mut steps = 0u64;
+    'steps: while steps < limit {
+        let turn = run.step()?;
+        steps += 1;
+        match turn {
+            Turn::On => tell(alloc, files, run, &mut told, out, err)?,
+            Turn::Ends(ending) => {
+                return answer(alloc, files, run, &mut told, ending, steps, out, err);
+            }
+        }
+    }
+    answer(alloc, files, run, &mut told, Ending::Spent, steps, out, err)
+}
