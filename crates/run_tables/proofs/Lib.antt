@@ -7,3 +7,4 @@ pub mod Programs
 pub mod Frames
 pub mod Runs
 pub mod Standing
+pub mod FirstClass
