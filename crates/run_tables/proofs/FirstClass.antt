@@ -6,13 +6,13 @@ use Rattle.type_definitions.specs.Types.{Table}
 use Rattle.type_definitions.specs.Whole.{type_fault, known_of}
 use Rattle.type_sizes.specs.Formed.{all_formed}
 use Rattle.settled_types.specs.Orderly as settled
-use Rattle.flow_paths.specs.declared.report.Effects.{Effects}
 use Rattle.flow_paths.specs.Laid.{FlowSub, FlowProgram, flow_program}
 use Rattle.machine.specs.States.{no_sub}
 use Rattle.machine.specs.Run as machine_run
 use Rattle.machine.specs.Run.{no_point}
+use Rattle.typed_laws.specs.Needed.{AreFine}
 use Rattle.soundness.specs.Typed.{OwnsByShape}
-use Rattle.soundness.specs.Sound.{Accepted, IsFirstClass, calls_nothing}
+use Rattle.soundness.specs.Sound.{IsFirstClass, calls_nothing}
 use Rattle.soundness.proofs.Points.{flow_table}
 use Rattle.ready_laws.specs.InOrder.{IsInOrder}
 use Rattle.ready_laws.proofs.Temporaries.{no_temporaries}
@@ -46,8 +46,8 @@ no_call_stands program class n k sub e result low is =
     ∙ class.no_calls (get_or program.subs n no_sub) (has_sub program.subs n k low) (get_or (get_or program.subs n no_sub).points k no_point)
       (has_nth (get_or program.subs n no_sub).points k no_point low)))
 
-module _ (p : Program) (formed : IsTrue (all_formed p.units)) (settles : settled.IsOrderly p) (none : type_fault p ≡ None) (effects : Effects)
-    (accepted : Accepted (known_of p).table (typed_of p) effects) (class : IsFirstClass (flow_program (known_of p).table (typed_of p))) (orderly : IsOrderly p) where
+module _ (p : Program) (formed : IsTrue (all_formed p.units)) (settles : settled.IsOrderly p) (none : type_fault p ≡ None)
+    (fine : AreFine (flow_program (known_of p).table (typed_of p))) (class : IsFirstClass (flow_program (known_of p).table (typed_of p))) (orderly : IsOrderly p) where
   abbrev table : Table
   table = (known_of p).table
 
@@ -59,7 +59,7 @@ module _ (p : Program) (formed : IsTrue (all_formed p.units)) (settles : settled
 
   is_in_order : IsInOrder table (typed_of p)
   is_in_order =
-      in_order table (known_of p) p.units orderly.written orderly.once own accepted.fine (no_temporaries table (typed_of p) class.no_calls)
+      in_order table (known_of p) p.units orderly.written orderly.once own fine (no_temporaries table (typed_of p) class.no_calls)
       orderly.formals orderly.seen (package_values (known_of p) p.units orderly.whole orderly.written (units_faultless p none))
       (units_faultless p none) orderly.main orderly.is_main
 

@@ -8,3 +8,4 @@ pub mod Frames
 pub mod Runs
 pub mod Standing
 pub mod FirstClass
+pub mod FirstFiles
