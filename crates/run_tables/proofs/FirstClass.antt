@@ -44,7 +44,7 @@ pub no_call_stands : (program : FlowProgram) → IsFirstClass program → CallsS
 no_call_stands program class n k sub e result low is =
     absurd (never (sym (ap calls_nothing is)
     ∙ class.no_calls (get_or program.subs n no_sub) (has_sub program.subs n k low) (get_or (get_or program.subs n no_sub).points k no_point)
-      (has_nth (get_or program.subs n no_sub).points k no_point low)))
+    (has_nth (get_or program.subs n no_sub).points k no_point low)))
 
 module _ (p : Program) (formed : IsTrue (all_formed p.units)) (settles : settled.IsOrderly p) (none : type_fault p ≡ None)
     (fine : AreFine (flow_program (known_of p).table (typed_of p))) (class : IsFirstClass (flow_program (known_of p).table (typed_of p))) (orderly : IsOrderly p) where
