@@ -1,0 +1,12 @@
+-- what a step sees of a stage
+pub mod Sights
+-- stages after a step that goes on
+pub mod Goes
+-- values that wait
+pub mod Waits
+-- frames that are entered and left
+pub mod Frames
+-- calls and their ends
+pub mod Calls
+-- what the next step comes to
+pub mod Turns

@@ -1,0 +1,2 @@
+-- what is kept of a run between two steps
+pub mod Stages

@@ -1,0 +1,7 @@
+//! What is kept of a run between two steps, and the state that it stands for: definitions and laws,
+//! and no code.
+//!
+//! `state_of` (`specs/Stages.antt`) makes a state of the memory, the frames, and what wasn't told
+//! yet. `proofs/` has what a step sees of it (`Sights.antt`), and what is kept where it goes on, where
+//! it waits and where a frame ends (`Goes.antt`).
+#![tactic(auto)]
