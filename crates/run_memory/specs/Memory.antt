@@ -27,3 +27,14 @@ flat m = record {
   waits = drop m.taken m.waits;
   rest = drop m.read m.input;
 }
+
+-- What a point doesn't change while it is evaluated.
+pub record Elsewhere : Type 0 where
+  pub base : ℕ
+  pub waits : List ℤ
+  pub taken : ℕ
+  pub input : List ℕ
+  pub read : ℕ
+
+abbrev pub elsewhere : Kept → Elsewhere
+elsewhere m = record { base = m.base; waits = m.waits; taken = m.taken; input = m.input; read = m.read }

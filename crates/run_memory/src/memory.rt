@@ -1,11 +1,12 @@
 //! The words of a run: those of all frames, those of values that wait, and the cells.
 ghost use Rattle.std.specs.Prelude.{◌≡◌, ◌+◌, false, [], slice_get, set, unsigned_abs};
 ghost use Rattle.code_rows.specs.Stops.{shown};
-ghost use Rattle.run_codes.specs.Flat.{Given, found, is_broken, behind, cell_spot};
+ghost use Rattle.run_codes.specs.Flat.{Given, found, is_broken, behind, cell_spot, stack_spot};
 ghost use Rattle.run_values.specs.Items as items;
 ghost use Rattle.run_memory.specs.Memory.{flat};
-ghost use Rattle.run_memory.specs.Spots.{shown_spot};
+ghost use Rattle.run_memory.specs.Spots.{spot_of, shown_spot};
 
+use crate::heap::Heap;
 use crate::values::word_of;
 use code_rows::{Exception, Stop};
 use reuse_heap::{Trap, TrapStore};
@@ -22,19 +23,16 @@ pub enum Spot {
 
 /// The words of all frames, those of values that wait, the cells, and the input.
 pub struct Memory<'s> {
-    stack: Vec<i64>,
+    pub(crate) stack: Vec<i64>,
     // where the frame that runs begins
-    base: usize,
+    pub(crate) base: usize,
     // words of values that wait, and where those begin that the point takes
-    waits: Vec<i64>,
-    taken: usize,
-    store: &'s mut TrapStore,
-    // how many cells are freed, and words of the others
-    freed: u64,
-    live: u64,
-    input: &'s [u8],
+    pub(crate) waits: Vec<i64>,
+    pub(crate) taken: usize,
+    pub(crate) heap: Heap<'s>,
+    pub(crate) input: &'s [u8],
     // where the rest of the input begins
-    read: usize,
+    pub(crate) read: usize,
 }
 
 impl<'s> Model for Memory<'s> {
@@ -48,9 +46,9 @@ impl<'s> Model for Memory<'s> {
       base = m.base;
       waits = m.waits.items;
       taken = m.taken;
-      cells = m.store.now;
-      freed = m.freed;
-      live = m.live;
+      cells = m.heap.cells;
+      freed = m.heap.freed;
+      live = m.heap.live;
       input = m.input.now;
       read = m.read;
     } };
@@ -65,9 +63,7 @@ impl Drop for Memory<'_> {
             base: _,
             waits: _,
             taken: _,
-            store: _,
-            freed: _,
-            live: _,
+            heap: _,
             input: _,
             read: _,
         } = self;
@@ -77,10 +73,11 @@ impl Drop for Memory<'_> {
 impl<'s> Memory<'s> {
     /// No words.
     pub fn new(alloc: Global, store: &'s mut TrapStore, input: &'s [u8]) -> Memory<'s>
+        requires { store.old ≡ [] }
         ensures stack { result.stack ≡ [] }
         ensures base { result.base ≡ 0 }
         ensures waits { result.waits ≡ [] }
-        ensures cells { result.cells ≡ store.old }
+        ensures cells { result.cells ≡ [] }
         ensures freed { result.freed ≡ 0 }
         ensures live { result.live ≡ 0 }
         ensures input { result.input ≡ input.now }
@@ -91,9 +88,7 @@ impl<'s> Memory<'s> {
             base: 0,
             waits: Vec::new(alloc),
             taken: 0,
-            store,
-            freed: 0,
-            live: 0,
+            heap: Heap::new(alloc, store),
             input,
             read: 0,
         }
@@ -150,10 +145,10 @@ impl<'s> Memory<'s> {
             return Err(Stop::Raises(Exception::ConstraintError));
         }
         let cell = Handle::new(pointer.unsigned_abs() - 1);
-        if self.store.is_freed(cell) {
+        if self.heap.is_freed(cell) {
             return Err(Stop::Traps(Trap::Touched));
         }
-        match self.store.read(cell, at as u32, kind) {
+        match self.heap.read(cell, at as u32, kind) {
             Ok(value) => Ok(word_of(value)),
             Err(trap) => Err(Stop::Traps(trap)),
         }
@@ -170,6 +165,26 @@ impl<'s> Memory<'s> {
 
     // ---- places
 
+    /// The place at two offsets in the frame.
+    pub fn local_spot(&self, at: u32, index: i64) -> Spot
+        requires { is_broken (stack_spot (flat self.now) (self.now.base + at + unsigned_abs index)) ≡ false }
+        ensures { stack_spot (flat self.now) (self.now.base + at + unsigned_abs index) ≡ Given (spot_of result) }
+    {
+        Spot::Stack {
+            index: self.base + at as usize + index.unsigned_abs() as usize,
+        }
+    }
+
+    /// The place at two offsets among the package objects.
+    pub fn global_spot(&self, at: u32, index: i64) -> Spot
+        requires { is_broken (stack_spot (flat self.now) (at + unsigned_abs index)) ≡ false }
+        ensures { stack_spot (flat self.now) (at + unsigned_abs index) ≡ Given (spot_of result) }
+    {
+        Spot::Stack {
+            index: at as usize + index.unsigned_abs() as usize,
+        }
+    }
+
     /// The place at an offset in the cell that an access value designates.
     pub fn spot_behind(&self, pointer: i64, at: u64) -> Result<Spot, Stop>
         requires { is_broken (cell_spot (flat self.now) at (unsigned_abs pointer)) ≡ false }
@@ -179,7 +194,7 @@ impl<'s> Memory<'s> {
             return Err(Stop::Raises(Exception::ConstraintError));
         }
         let cell = Handle::new(pointer.unsigned_abs() - 1);
-        if self.store.is_freed(cell) {
+        if self.heap.is_freed(cell) {
             return Err(Stop::Traps(Trap::Touched));
         }
         Ok(Spot::Cell {

@@ -1,6 +1,6 @@
 //! Words and what the store keeps for them.
 ghost use Rattle.std.specs.Prelude.{◌≡◌, true};
-ghost use Rattle.run_codes.specs.Flat.{word_of, as_fresh, is_word, value_of};
+ghost use Rattle.run_codes.specs.Flat.{word_of, as_fresh, is_word, value_of, value_gone, as_gone};
 
 use run_values::{Handle, Kind, Value};
 
@@ -62,4 +62,28 @@ pub fn value_of(kind: Kind, word: i64) -> Value
         Kind::Enum => Value::Enum(word as u32),
         Kind::Access => access_of(word),
     }
+}
+
+/// The access value is gone.
+pub(crate) fn gone(value: Value) -> Value
+    ensures { result ≡ value_gone value }
+{
+    match value {
+        Value::Cell(h) => {
+            let number = h.number();
+            if number < GONE {
+                Value::Cell(Handle::new(number + GONE))
+            } else {
+                value
+            }
+        }
+        _ => value,
+    }
+}
+
+/// The word of an access value that is gone.
+pub(crate) fn as_gone(word: i64) -> i64
+    ensures { result ≡ as_gone word }
+{
+    if word > 0 { -word } else { word }
 }

@@ -34,6 +34,7 @@ use Rattle.run_points.specs.Outcomes.{IsAlike}
 use Rattle.run_points.specs.States.{Laid, AreUndeclared, StateStands, MainBegins}
 use Rattle.run_points.specs.Turns.{Turns, turn, flat_turn, around, seen, TurnStands, DoesAlike}
 use Rattle.run_points.proofs.Ends.{goes_alike}
+use Rattle.run_points.proofs.Leaking.{leaking_stands}
 use Rattle.run_points.proofs.Halts.{filled_alike}
 use Rattle.run_points.proofs.Taken.{taken_filled, taken_low}
 use Rattle.run_points.proofs.Spotted.{type_is, pos_is, spot_later, place_alike, frame_spot}
@@ -45,19 +46,6 @@ use Rattle.run_points.proofs.Storing.{AreKinds, are_kinds, is_stored}
 
 abbrev all_failed : List (List Leak) → List Leak
 all_failed checks = flat_map (λ (leaks : List Leak). leaks) checks
-
-leaking_stands : (program : FlowProgram) (s : machine.State) (g : State) (checks : List (List Leak)) (leaks : List Leak) → leaks ≡ all_failed checks → StateStands program s g
-    → StateStands program (machine_step.leaking checks s) (points.leaking leaks g)
-leaking_stands program s g checks leaks same is = record {
-  laid = is.laid;
-  memory = is.memory;
-  frames = is.frames;
-  runs = is.runs;
-  at = is.at;
-  output = is.output;
-  leaks = ap (λ l. l ++ leaks) is.leaks ∙ ap (λ l. s.leaks ++ l) same;
-  steps = is.steps;
-}
 
 quiet_stands : (program : FlowProgram) (s : machine.State) (g : State) (checks : List (List Leak)) → all_failed checks ≡ [] → StateStands program s g
     → StateStands program (machine_step.leaking checks s) g

@@ -16,12 +16,14 @@ pub mod Scalars
 pub mod Spotted
 pub mod Storing
 pub mod Declares
+pub mod Leaking
 pub mod Assigns
 pub mod Inputs
 pub mod LoopLists
 pub mod Undeclares
 pub mod Loops
-pub mod Leaking
+pub mod Parameters
+pub mod NextTurns
 pub mod Keeping
 pub mod Flags
 pub mod Pointers

@@ -210,7 +210,7 @@ begun b x bounds m =
     else machine.Goes (machine_step.with_loop (record { parameter = x; low = number bounds.low; high = number bounds.high; first = true })
     (machine_step.behind (turn b) (machine_step.waiting (turn b)) (declared (length b.outer) x bounds.low m) 0))
 
-abbrev put_loop : Turns → Does → ℕ → ℤ → List ℤ → Option ℕ → Outcome
+abbrev pub put_loop : Turns → Does → ℕ → ℤ → List ℤ → Option ℕ → Outcome
 put_loop b d offset v words n =
     on_got (flat_turn b d) (seen b).flat (and_then (put_words (seen b).flat offset (v ∷ [])) (λ m. put_words m (offset + 1) words)) (λ m. goes (flat_turn b d) m n)
 

@@ -1,4 +1,4 @@
--- A step of what is lowered is a step of the machine, where the instructions that are still open are.
+-- A step of what is lowered is a step of the machine, and a run is its run.
 use Rattle.std.proofs.Common.{◌≡◌, ℕ, ◌+◌, true, false, Bool, List, [], ◌∷◌, ◌++◌, length, get_or, refl, sym, ap, subst, ◌∙◌, Option, Some, None, slice_get, if◌then◌else◌}
 use Rattle.std.proofs.lemmas.List.{length-append}
 use Rattle.std.specs.Prelude.{nat_le}
@@ -23,7 +23,7 @@ use Rattle.run_codes.specs.Points.{Frame, State, Outcome, Wants, Fails, done, ar
 use Rattle.run_codes.proofs.Places.{some_same}
 use Rattle.run_points.specs.Outcomes.{IsSeenAlike, IsAlike, GivesAlike}
 use Rattle.run_points.specs.States.{Laid, StateStands, MainBegins}
-use Rattle.run_points.specs.Turns.{Turns, turn, flat_turn, around, around_sub, TurnStands, IsLowered, HasTypes, DoesAlike, OpensAlike, OpenAlike}
+use Rattle.run_points.specs.Turns.{Turns, turn, flat_turn, around, around_sub, TurnStands, IsLowered, HasTypes, DoesAlike}
 use Rattle.run_points.specs.Frames.{IsCallable, HasFrames}
 use Rattle.run_points.proofs.Runs.{run_alike, given_alike}
 use Rattle.run_points.proofs.Tests.{mapped, go_alike, fall_alike, test_alike}
@@ -39,6 +39,8 @@ use Rattle.run_points.proofs.Texts.{output_alike}
 use Rattle.run_points.proofs.Declares.{declare_alike}
 use Rattle.run_points.proofs.Assigns.{assign_alike}
 use Rattle.run_points.proofs.Inputs.{input_alike}
+use Rattle.run_points.proofs.Loops.{start_alike}
+use Rattle.run_points.proofs.NextTurns.{next_alike}
 
 -- ---- how many values are taken
 
@@ -91,12 +93,6 @@ many_taken s Fall = refl
 
 -- ---- all instructions
 
-not_open : {A : Type 0} → false ≡ true → A
-not_open is = absurd (never is)
-  where
-    never : false ≡ true → ⊥
-    never is = cc
-
 leave_alike : (b : Turns) (laid : Laid) → TurnStands b laid → MainBegins b.program b.lowered → (e : TypedTree) → DoesAlike b (LeaveLoop e)
 leave_alike b laid is begins (More e rest) d lowers = test_alike b laid is begins e d lowers
 leave_alike b laid is begins _ d lowers = go_alike b laid is begins d lowers
@@ -105,25 +101,25 @@ leave_alike b laid is begins _ d lowers = go_alike b laid is begins d lowers
 abbrev MayCall : FlowProgram → Instruction → Type 0
 MayCall program i = (sub : ℕ) (e : TypedTree) (result : Option ℕ) → i ≡ instruction.Call sub e result → IsCallable program sub
 
-turn_alike : (b : Turns) (laid : Laid) → TurnStands b laid → IsLowered b.program b.lowered → MainBegins b.program b.lowered → (i : Instruction) → MayCall b.program i → OpensAlike b i → DoesAlike b i
-turn_alike b laid is lowered begins Skip calls rest d lowers = go_alike b laid is begins d lowers
-turn_alike b laid is lowered begins (Output text line) calls rest d lowers = output_alike b laid is begins text line d lowers
-turn_alike b laid is lowered begins (Test e) calls rest d lowers = test_alike b laid is begins e d lowers
-turn_alike b laid is lowered begins (Choose e choices) calls rest d lowers = choose_alike b laid is begins e choices d lowers
-turn_alike b laid is lowered begins (Evaluate t e (Some op)) calls rest d lowers = left_alike b laid is begins e op d lowers
-turn_alike b laid is lowered begins (Evaluate t e None) calls rest d lowers = right_alike b laid is begins e d lowers
-turn_alike b laid is lowered begins (LeaveLoop e) calls rest d lowers = leave_alike b laid is begins e d lowers
-turn_alike b laid is lowered begins Fall calls rest d lowers = subst (λ x. IsAlike (StateStands b.program) (machine_step.turn (turn b) Fall) (done (flat_turn b x) x)) (some_same codes.Fall d lowers) (fall_alike b laid is)
-turn_alike b laid is lowered begins (Declare x v) calls rest d lowers = declare_alike b laid is begins x v d lowers
-turn_alike b laid is lowered begins (Assign target e) calls rest d lowers = assign_alike b laid is begins target e d lowers
-turn_alike b laid is lowered begins (instruction.Call sub e result) calls rest d lowers = call_alike b laid is lowered sub (calls sub e result refl) e result d lowers
-turn_alike b laid is lowered begins (Input target) calls rest d lowers = input_alike b laid is begins target d lowers
-turn_alike b laid is lowered begins (Release e) calls rest d lowers = release_alike b laid is begins e d lowers
-turn_alike b laid is lowered begins (Start x reversed low high) calls rest d lowers = rest d lowers refl
-turn_alike b laid is lowered begins (Next x reversed low high) calls rest d lowers = rest d lowers refl
-turn_alike b laid is lowered begins (Hold v) calls rest d lowers = hold_alike b laid is begins v d lowers
-turn_alike b laid is lowered begins (EndScope x) calls rest d lowers = end_scope_alike b laid is begins x d lowers
-turn_alike b laid is lowered begins Finish calls rest d lowers = finish_alike b laid is d lowers
+turn_alike : (b : Turns) (laid : Laid) → TurnStands b laid → IsLowered b.program b.lowered → MainBegins b.program b.lowered → (i : Instruction) → b.point.instr ≡ i → MayCall b.program i → DoesAlike b i
+turn_alike b laid is lowered begins Skip here calls d lowers = go_alike b laid is begins d lowers
+turn_alike b laid is lowered begins (Output text line) here calls d lowers = output_alike b laid is begins text line d lowers
+turn_alike b laid is lowered begins (Test e) here calls d lowers = test_alike b laid is begins e d lowers
+turn_alike b laid is lowered begins (Choose e choices) here calls d lowers = choose_alike b laid is begins e choices d lowers
+turn_alike b laid is lowered begins (Evaluate t e (Some op)) here calls d lowers = left_alike b laid is begins e op d lowers
+turn_alike b laid is lowered begins (Evaluate t e None) here calls d lowers = right_alike b laid is begins e d lowers
+turn_alike b laid is lowered begins (LeaveLoop e) here calls d lowers = leave_alike b laid is begins e d lowers
+turn_alike b laid is lowered begins Fall here calls d lowers = subst (λ x. IsAlike (StateStands b.program) (machine_step.turn (turn b) Fall) (done (flat_turn b x) x)) (some_same codes.Fall d lowers) (fall_alike b laid is)
+turn_alike b laid is lowered begins (Declare x v) here calls d lowers = declare_alike b laid is begins x v d lowers
+turn_alike b laid is lowered begins (Assign target e) here calls d lowers = assign_alike b laid is begins target e d lowers
+turn_alike b laid is lowered begins (instruction.Call sub e result) here calls d lowers = call_alike b laid is lowered sub (calls sub e result refl) e result d lowers
+turn_alike b laid is lowered begins (Input target) here calls d lowers = input_alike b laid is begins target d lowers
+turn_alike b laid is lowered begins (Release e) here calls d lowers = release_alike b laid is begins e d lowers
+turn_alike b laid is lowered begins (Start x reversed low high) here calls d lowers = start_alike b laid is begins x reversed low high d lowers
+turn_alike b laid is lowered begins (Next x reversed low high) here calls d lowers = next_alike b laid is begins x reversed low high here d lowers
+turn_alike b laid is lowered begins (Hold v) here calls d lowers = hold_alike b laid is begins v d lowers
+turn_alike b laid is lowered begins (EndScope x) here calls d lowers = end_scope_alike b laid is begins x d lowers
+turn_alike b laid is lowered begins Finish here calls d lowers = finish_alike b laid is d lowers
 
 -- ---- the step
 
@@ -140,15 +136,15 @@ stands_seen program s g is = record {
 abbrev with_shared : State → List Frame → ℕ → List ℕ → List Leak → ℕ → State
 with_shared g gs at output leaks steps = record g { frames = gs; at = at; output = output; leaks = leaks; steps = steps }
 
-frames_alike : (program : FlowProgram) (p : Program) (input : List ℕ) → HasTypes program → IsLowered program p → HasFrames program → MainBegins program p → OpenAlike program p
+frames_alike : (program : FlowProgram) (p : Program) (input : List ℕ) → HasTypes program → IsLowered program p → HasFrames program → MainBegins program p
     → (s : machine.State) (g : State) (fs : List machine.Frame) (gs : List Frame) → StateStands program (record s { frames = fs }) (record g { frames = gs })
     → IsAlike (StateStands program) (machine_run.stepped program input (record s { frames = fs }) fs)
     (stepped (flow_typing program).table p input (with_shared g gs s.at s.output s.leaks s.steps) gs)
-frames_alike program p input has lowered frames begins rest s g [] [] is =
+frames_alike program p input has lowered frames begins s g [] [] is =
     (refl, record { output = refl; leaks = refl; steps = refl; made = is.memory.related.counted.made; freed = is.memory.related.counted.freed })
-frames_alike program p input has lowered frames begins rest s g [] (h ∷ gs) is = absurd is.frames
-frames_alike program p input has lowered frames begins rest s g (f ∷ fs) [] is = absurd is.frames
-frames_alike program p input has lowered frames begins rest s g (f ∷ fs) (h ∷ gs) is =
+frames_alike program p input has lowered frames begins s g [] (h ∷ gs) is = absurd is.frames
+frames_alike program p input has lowered frames begins s g (f ∷ fs) [] is = absurd is.frames
+frames_alike program p input has lowered frames begins s g (f ∷ fs) (h ∷ gs) is =
     let q = lowered.points f.sub f.next is.runs is.frames.0.few in
     let d = mapped (λ d. record { takes = takes; does = d; pos = fp.pos }) (does (with_takes (around_sub program f.sub) takes) fp fp.instr) q.0 q.2 in
     let there : slice_get p.points h.next ≡ Some (record { takes = takes; does = d.0; pos = fp.pos }) =
@@ -204,15 +200,15 @@ frames_alike program p input has lowered frames begins rest s g (f ∷ fs) (h �
         → IsAlike (StateStands program) (machine_step.turn (turn b) fp.instr) (if taken then done (flat_turn b d) d else Wants)
     by d lowers false none = tt
     by d lowers true taken =
-        turn_alike b is.laid (taken_stands taken) lowered begins fp.instr (λ sub e result called. frames.calls f.sub f.next sub e result is.runs called) (rest b is.laid refl refl (taken_stands taken)) d lowers
+        turn_alike b is.laid (taken_stands taken) lowered begins fp.instr refl (λ sub e result called. frames.calls f.sub f.next sub e result is.runs called) d lowers
 
 -- A step from states that stand for each other.
-pub step_alike : (program : FlowProgram) (p : Program) (input : List ℕ) → HasTypes program → IsLowered program p → HasFrames program → MainBegins program p → OpenAlike program p
+pub step_alike : (program : FlowProgram) (p : Program) (input : List ℕ) → HasTypes program → IsLowered program p → HasFrames program → MainBegins program p
     → (s : machine.State) (g : State) → StateStands program s g
     → IsAlike (StateStands program) (machine_run.step program input s) (step (flow_typing program).table p input g)
-step_alike program p input has lowered frames begins rest s g is =
+step_alike program p input has lowered frames begins s g is =
     shared s.at s.output s.leaks s.steps is.at is.output is.leaks is.steps
-    (frames_alike program p input has lowered frames begins rest s g s.frames g.frames is)
+    (frames_alike program p input has lowered frames begins s g s.frames g.frames is)
   where
     to : ℕ → List ℕ → List Leak → ℕ → Type 0
     to at output leaks steps =
@@ -226,12 +222,12 @@ step_alike program p input has lowered frames begins rest s g is =
 -- ---- the run
 
 -- What a run gives is what the machine's run gives.
-pub run_gives : (program : FlowProgram) (p : Program) (input : List ℕ) → HasTypes program → IsLowered program p → HasFrames program → OpenAlike program p → (main n : ℕ) → program.main ≡ Some main
+pub run_gives : (program : FlowProgram) (p : Program) (input : List ℕ) → HasTypes program → IsLowered program p → HasFrames program → (main n : ℕ) → program.main ≡ Some main
     → GivesAlike (machine_run.ended (machine_run.run_of program main input n))
     (run_given (run_of (flow_typing program).table p (is_declaring program) (sub_of program main).pos main input n))
-run_gives program p input has lowered frames rest main n is =
+run_gives program p input has lowered frames main n is =
     given_alike (StateStands program) (stands_seen program) (machine_run.run_of program main input n)
     (run_of (flow_typing program).table p (is_declaring program) (sub_of program main).pos main input n)
     (run_alike (StateStands program) program p input main n
-    (λ fits. step_alike program p input has lowered frames (main_begins program p has lowered frames (small_main program main is fits)) rest)
+    (λ fits. step_alike program p input has lowered frames (main_begins program p has lowered frames (small_main program main is fits)))
     (stands_seen program) lowered.subs (λ fits. starts_alike program p has lowered frames main is fits))

@@ -49,10 +49,10 @@ pub record IsStored (b : Turns) (laid : Laid) (m : Memory) (f : Flat) (p : Place
 abbrev slots_with : Typing → Place → List Word → Memory → List Slot
 slots_with s p ws m = take p.at (slots_at s m p.base) ++ fresh ws ++ drop (p.at + length (fresh ws)) (slots_at s m p.base)
 
-stored_types : (s : Typing) (p : Place) (ws : List Word) (m : Memory) → types (machine_memory.stored s p ws m) ≡ types m
+pub stored_types : (s : Typing) (p : Place) (ws : List Word) (m : Memory) → types (machine_memory.stored s p ws m) ≡ types m
 stored_types s p ws m = types_put p.base (slots_with s p ws m) m
 
-stored_low : (s : Typing) (n : ℕ) (p : Place) (ws : List Word) (m : Memory) → IsLow n p.base → AreUndeclared s n m → AreUndeclared s n (machine_memory.stored s p ws m)
+pub stored_low : (s : Typing) (n : ℕ) (p : Place) (ws : List Word) (m : Memory) → IsLow n p.base → AreUndeclared s n m → AreUndeclared s n (machine_memory.stored s p ws m)
 stored_low s n p ws m low is = put_low s n p.base (slots_with s p ws m) m low is
 
 -- Words of loops are those before the evaluation.

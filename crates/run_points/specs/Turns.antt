@@ -4,7 +4,6 @@ use Rattle.spark_base.specs.Lists.{Has}
 use Rattle.type_definitions.specs.Entries.{boolean}
 use Rattle.flow_paths.specs.Scopes.{taken}
 use Rattle.flow_paths.specs.Instructions.{Instruction}
-use Rattle.flow_paths.specs.Instructions as instruction
 use Rattle.flow_paths.specs.Points.{FlowPoint}
 use Rattle.flow_paths.specs.Laid.{FlowProgram, flow_typing}
 use Rattle.machine.specs.Typed.{Position, sorts}
@@ -145,17 +144,3 @@ pub record HasTypes (program : FlowProgram) : Type 0 where
 -- An instruction does on both sides the same.
 abbrev pub DoesAlike : Turns → Instruction → Type 0
 DoesAlike b i = (d : Does) → does (around b) b.point i ≡ Some d → IsAlike (StateStands b.program) (machine_step.turn (turn b) i) (done (flat_turn b d) d)
-
--- What this isn't proved of.
-abbrev pub is_open : Instruction → Bool
-is_open (instruction.Start x reversed low high) = true
-is_open (instruction.Next x reversed low high) = true
-is_open _ = false
-
--- An instruction does on both sides the same, where it is open.
-abbrev pub OpensAlike : Turns → Instruction → Type 0
-OpensAlike b i =
-    (d : Does) → does (around b) b.point i ≡ Some d → is_open i ≡ true → IsAlike (StateStands b.program) (machine_step.turn (turn b) i) (done (flat_turn b d) d)
-
-abbrev pub OpenAlike : FlowProgram → Program → Type 0
-OpenAlike program p = (b : Turns) (laid : Laid) → b.program ≡ program → b.lowered ≡ p → TurnStands b laid → OpensAlike b b.point.instr

@@ -4,3 +4,4 @@ pub mod Tables
 pub mod Statics
 pub mod Gathers
 pub mod Programs
+pub mod Frames

@@ -1,9 +1,9 @@
 -- A name that gives a word has indexes that give one, and one whose indexes stop doesn't.
-use Rattle.std.proofs.Common.{◌≡◌, ℕ, ◌+◌, refl, ℤ}
+use Rattle.std.proofs.Common.{◌≡◌, ℕ, ◌+◌, refl, ℤ, pos, unsigned_abs}
 use Rattle.run_values.specs.declared.value.Kind.{Kind}
-use Rattle.run_codes.specs.Codes.{Code, Number, Local, Global, Via, Scaled, Plus, Unary, Binary, Short, IsNull, Waiting, EndOfFile, Nothing}
+use Rattle.run_codes.specs.Codes.{Code, Number, Local, Global, Via, Scaled, Plus, Unary, Binary, Short, IsNull, Waiting, EndOfFile, Nothing, Behind}
 use Rattle.run_codes.specs.Lowered.{no_index}
-use Rattle.run_codes.specs.Flat.{Flat, Got, Given, Stops, Broken, and_then, word, indexes, behind}
+use Rattle.run_codes.specs.Flat.{Flat, Got, Given, Stops, Broken, and_then, word, indexes, behind, Spot, spot, cell_spot}
 
 again : {A : Type 0} (a : Got ℤ) (g : ℤ → Got ℤ) (f : ℤ → Got A)
     → and_then a (λ x. and_then (and_then a g) f) ≡ and_then (and_then a g) f
@@ -40,3 +40,8 @@ pub via_plain : (m : Flat) (p : Code) (at : ℕ) (k : Kind)
     → word m (Via p at no_index k) ≡ and_then (word m p) (behind m (at + 0) k)
 unfolding word
 via_plain m p at k = indexes_first m p (behind m (at + 0) k)
+
+pub behind_plain : (m : Flat) (p : Code) (at : ℕ)
+    → spot m (Behind p at no_index) ≡ and_then (word m p) (λ w. cell_spot m (at + 0) (unsigned_abs w))
+unfolding word
+behind_plain m p at = indexes_first m p (λ w. cell_spot m (at + 0) (unsigned_abs w))

@@ -1,13 +1,17 @@
-//! The words that expressions give, over the memory of a run. Nothing changes here.
+//! The words that expressions give, and where places lead, over the memory of a run. Nothing changes
+//! here.
 //!
 //! `word` evaluates an expression of `code_rows` that only reads: to its word, to an exception, or
 //! to a trap, exactly as `run_codes` defines it (`specs/Flat.antt`, "expressions"; `docs/RUN.md`,
 //! "Expressions"). It asks that the expression is whole: each word that it reads stands where it is
-//! read. No call takes memory, and each node is visited once.
+//! read. `spot` finds a place in the same way ("places" there): the indexes of its name come first.
+//! No call takes memory, and each node is visited once.
 #![tactic(auto)]
 
 mod operators;
+mod places;
 mod words;
 
 pub use operators::within;
+pub use places::spot;
 pub use words::word;

@@ -256,7 +256,7 @@ pub fn word(nodes: &Nodes, memory: &Memory, n: u32) -> Result<i64, Stop>
 /// The indexes of a name, in order. They come before the name is followed.
 #[cycle(word)]
 #[tactic(auto, unfolding(run_codes::specs::Flat::indexes, run_codes::specs::Flat::word))]
-fn names(nodes: &Nodes, memory: &Memory, n: u32) -> Result<i64, Stop>
+pub(crate) fn names(nodes: &Nodes, memory: &Memory, n: u32) -> Result<i64, Stop>
     requires there { n < length nodes.now }
     requires whole { is_broken (indexes (flat memory.now) (code_at nodes.now n)) ≡ false }
     ensures { indexes (flat memory.now) (code_at nodes.now n) ≡ shown result }
