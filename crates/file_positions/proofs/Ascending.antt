@@ -1,6 +1,6 @@
 -- Lists of positions that ascend.
 use Rattle.std.proofs.Common.{◌≡◌, inl, inr, ℕ, suc, ◌≤◌, arith, refl, sym, ap, ◌∙◌, subst, List, [], ◌∷◌, ◌++◌, map}
-use Rattle.std.specs.List.{flat_map, All, AllPairs}
+use Rattle.std.specs.List.{flat_map}
 use Rattle.std.proofs.lemmas.List.{append-nil}
 use Rattle.std.proofs.lemmas.List.Concat.{flat_map-append}
 use Rattle.spark_base.specs.declared.position.Pos.{Pos}
@@ -8,17 +8,17 @@ use Rattle.spark_base.specs.Positions.{Precedes}
 use Rattle.spark_base.specs.Lists.{Has}
 use Rattle.spark_base.proofs.Lists.{Has-append_cases}
 use Rattle.spark_base.proofs.Positions.{file-Precedes}
-use Rattle.ada_lexer.specs.declared.token.Token.{Token}
 use Rattle.ada_lexer.specs.declared.token.TokenKind.{TokenKind}
 use Rattle.ada_lexer.specs.declared.token.TokenKind.TheVariants as kind
-use Rattle.token_reading.specs.Spelled.{EndOfFile, told, told_as}
+use Rattle.ada_lexer.specs.Tokens.{Cut}
+use Rattle.token_reading.specs.Spelled.{EndOfFile, told_as}
 use Rattle.token_reading.specs.Weights.{WeighedToken, bare}
 use Rattle.token_reading.specs.Sources.{file_of}
 use Rattle.ada_tree.specs.declared.unit.SourceUnit.{SourceUnit}
 use Rattle.ada_tree.specs.Spelling.{source_spelling}
 use Rattle.name_events.specs.Outline.{unit_events, source_events}
 use Rattle.file_positions.specs.Order.{Ascends, IsLeftOf, token_position, token_positions, spelled_positions, event_position, event_positions}
-use Rattle.file_positions.specs.Texts.{AreParsed}
+use Rattle.file_positions.specs.Texts.{told_cut, AreInOrder, AreParsed}
 use Rattle.file_positions.proofs.Rows.{left_both}
 use Rattle.file_positions.proofs.Units.{file_follows}
 
@@ -71,74 +71,74 @@ one_ascends (kind.Symbol symbol) pos text = ((λ q is. absurd is), tt)
 one_ascends kind.EndOfFile pos text = tt
 
 -- each position is that of a token
-stands_at : (P : Pos → Type 0) (tokens : List Token) → All (λ t. P t.pos) tokens → (p : Pos) → Has (token_positions (map told tokens)) p → P p
+stands_at : (P : Pos → Type 0) (cuts : List Cut) → ((x : Cut) → Has cuts x → P x.pos) → (p : Pos) → Has (token_positions (map told_cut cuts)) p → P p
 stands_at P [] all p is = absurd is
-stands_at P (t ∷ rest) all p is = elim (Has-append_cases (token_position (told t)) (token_positions (map told rest)) p is) [
-  | inl here ↦ subst P (token_has t.kind t.pos t.text.now p here) (all 0 t (omega arith))
-  | inr later ↦ stands_at P rest (λ k d within. all (suc k) d (omega (arith, within))) p later
+stands_at P (t ∷ rest) all p is = elim (Has-append_cases (token_position (told_cut t)) (token_positions (map told_cut rest)) p is) [
+  | inl here ↦ subst P (token_has t.kind t.pos t.text p here) (all t (inl refl))
+  | inr later ↦ stands_at P rest (λ x has. all x (inr has)) p later
 ]
 
-tokens_ascend : (tokens : List Token) → AllPairs (λ a b. Precedes a.pos b.pos) tokens → Ascends (token_positions (map told tokens))
+tokens_ascend : (cuts : List Cut) → AreInOrder cuts → Ascends (token_positions (map told_cut cuts))
 tokens_ascend [] ordered = tt
 tokens_ascend (t ∷ rest) ordered =
-    ascends_both (token_position (told t)) (token_positions (map told rest)) (one_ascends t.kind t.pos t.text.now)
-    (tokens_ascend rest (λ i j d below within. ordered (suc i) (suc j) d (omega (arith, below)) (omega (arith, within))))
-    (λ p q here later. subst (λ from. Precedes from q) (token_has t.kind t.pos t.text.now p here)
-    (stands_at (Precedes t.pos) rest (λ k d within. ordered 0 (suc k) d (omega arith) (omega (arith, within))) q later))
+    ascends_both (token_position (told_cut t)) (token_positions (map told_cut rest)) (one_ascends t.kind t.pos t.text)
+    (tokens_ascend rest ordered.1)
+    (λ p q here later. subst (λ from. Precedes from q) (token_has t.kind t.pos t.text p here)
+    (stands_at (Precedes t.pos) rest ordered.0 q later))
 
 bare_positions : (ms : List WeighedToken) → token_positions (bare ms) ≡ spelled_positions ms
 bare_positions [] = refl
 bare_positions (m ∷ ms) = ap (λ ps. token_position m.token ++ ps) (bare_positions ms)
 
-file_positions : (ms : List WeighedToken) → token_positions (file_of ms) ≡ spelled_positions ms
+pub file_positions : (ms : List WeighedToken) → token_positions (file_of ms) ≡ spelled_positions ms
 file_positions ms = flat_map-append token_position (bare ms) (EndOfFile ∷ []) ∙ append-nil (token_positions (bare ms)) ∙ bare_positions ms
 
 -- ---- texts
 
-abbrev pub text_positions : List (List Token) → List Pos
-text_positions texts = flat_map (λ tokens. token_positions (map told tokens)) texts
+abbrev pub text_positions : List (List Cut) → List Pos
+text_positions texts = flat_map (λ cuts. token_positions (map told_cut cuts)) texts
 
-later_files : (file : ℕ) (texts : List (List Token)) (files : List (List SourceUnit)) → AreParsed file texts files
+later_files : (file : ℕ) (texts : List (List Cut)) (files : List (List SourceUnit)) → AreParsed file texts files
     → (p : Pos) → Has (text_positions texts) p → file ≤ p.file
 later_files file [] [] are p is = absurd is
 later_files file [] (units ∷ files) are p is = absurd are
-later_files file (tokens ∷ texts) [] are p is = absurd are
-later_files file (tokens ∷ texts) (units ∷ files) are p is =
-    elim (Has-append_cases (token_positions (map told tokens)) (text_positions texts) p is) [
-      | inl here ↦ let e = stands_at (λ (q : Pos). q.file ≡ file) tokens are.0.in_file p here in omega (arith, e)
+later_files file (cuts ∷ texts) [] are p is = absurd are
+later_files file (cuts ∷ texts) (units ∷ files) are p is =
+    elim (Has-append_cases (token_positions (map told_cut cuts)) (text_positions texts) p is) [
+      | inl here ↦ let e = stands_at (λ (q : Pos). q.file ≡ file) cuts are.0.in_file p here in omega (arith, e)
       | inr later ↦ let less = later_files (suc file) texts files are.2 p later in omega (arith, less)
     ]
 
 -- The positions of all tokens ascend.
-pub texts_ascend : (file : ℕ) (texts : List (List Token)) (files : List (List SourceUnit)) → AreParsed file texts files → Ascends (text_positions texts)
+pub texts_ascend : (file : ℕ) (texts : List (List Cut)) (files : List (List SourceUnit)) → AreParsed file texts files → Ascends (text_positions texts)
 texts_ascend file [] [] are = tt
 texts_ascend file [] (units ∷ files) are = absurd are
-texts_ascend file (tokens ∷ texts) [] are = absurd are
-texts_ascend file (tokens ∷ texts) (units ∷ files) are =
-    ascends_both (token_positions (map told tokens)) (text_positions texts) (tokens_ascend tokens are.0.ordered)
+texts_ascend file (cuts ∷ texts) [] are = absurd are
+texts_ascend file (cuts ∷ texts) (units ∷ files) are =
+    ascends_both (token_positions (map told_cut cuts)) (text_positions texts) (tokens_ascend cuts are.0.ordered)
     (texts_ascend (suc file) texts files are.2) (λ p q here later.
-    let e = stands_at (λ (q : Pos). q.file ≡ file) tokens are.0.in_file p here in
+    let e = stands_at (λ (q : Pos). q.file ≡ file) cuts are.0.in_file p here in
     let less = later_files (suc file) texts files are.2 q later in
     file-Precedes p q (omega (arith, e, less)))
 
 -- ---- events
 
-pub events_left : (file : ℕ) (texts : List (List Token)) (files : List (List SourceUnit)) → AreParsed file texts files
+pub events_left : (file : ℕ) (texts : List (List Cut)) (files : List (List SourceUnit)) → AreParsed file texts files
     → IsLeftOf (event_positions (source_events files)) (text_positions texts)
 unfolding source_events
 events_left file [] [] are = tt
 events_left file [] (units ∷ files) are = absurd are
-events_left file (tokens ∷ texts) [] are = absurd are
-events_left file (tokens ∷ texts) (units ∷ files) are =
-    let spelled : spelled_positions (source_spelling units) ≡ token_positions (map told tokens)
+events_left file (cuts ∷ texts) [] are = absurd are
+events_left file (cuts ∷ texts) (units ∷ files) are =
+    let spelled : spelled_positions (source_spelling units) ≡ token_positions (map told_cut cuts)
     = sym (file_positions (source_spelling units)) ∙ ap token_positions are.1.spelled in
     let here = subst (IsLeftOf (event_positions (flat_map unit_events units))) spelled (file_follows units).in_order in
-    subst (λ ps. IsLeftOf ps (text_positions (tokens ∷ texts))) (sym (flat_map-append event_position (flat_map unit_events units) (source_events files)))
-    (left_both (event_positions (flat_map unit_events units)) (event_positions (source_events files)) (token_positions (map told tokens)) (text_positions texts)
+    subst (λ ps. IsLeftOf ps (text_positions (cuts ∷ texts))) (sym (flat_map-append event_position (flat_map unit_events units) (source_events files)))
+    (left_both (event_positions (flat_map unit_events units)) (event_positions (source_events files)) (token_positions (map told_cut cuts)) (text_positions texts)
     here (events_left (suc file) texts files are.2))
 
 -- The events of parsed files stand in the order of their identifiers.
-pub events_ascend : (texts : List (List Token)) (files : List (List SourceUnit)) → AreParsed 0 texts files
+pub events_ascend : (texts : List (List Cut)) (files : List (List SourceUnit)) → AreParsed 0 texts files
     → Ascends (event_positions (source_events files))
 events_ascend texts files are =
     left_ascends (event_positions (source_events files)) (text_positions texts) (events_left 0 texts files are) (texts_ascend 0 texts files are)

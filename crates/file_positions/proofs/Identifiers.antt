@@ -5,7 +5,7 @@ use Rattle.std.proofs.lemmas.List.{map-append}
 use Rattle.spark_base.specs.declared.position.Pos.{Pos}
 use Rattle.spark_base.specs.Positions.{Precedes}
 use Rattle.spark_base.proofs.Positions.{Precedes-irrefl}
-use Rattle.ada_lexer.specs.declared.token.Token.{Token}
+use Rattle.ada_lexer.specs.Tokens.{Cut}
 use Rattle.ada_tree.specs.declared.unit.SourceUnit.{SourceUnit}
 use Rattle.name_events.specs.declared.event.Event.{Event}
 use Rattle.name_events.specs.declared.event.Event.TheVariants as e
@@ -67,7 +67,7 @@ from_left whole now (event ∷ rest) =
     (from_left whole (known_behind now event) rest))
 
 -- The identifiers of parsed files stand in the order of the text.
-pub identified_ascend : (texts : List (List Token)) (files : List (List SourceUnit)) → AreParsed 0 texts files
+pub identified_ascend : (texts : List (List Cut)) (files : List (List SourceUnit)) → AreParsed 0 texts files
     → Ascends (map (λ item. item.pos) (identified files))
 unfolding identified
 identified_ascend texts files are =

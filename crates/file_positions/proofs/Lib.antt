@@ -1,7 +1,10 @@
+pub mod Cuts
 pub mod Rows
 pub mod Expressions
 pub mod Statements
 pub mod Units
 pub mod Ascending
 pub mod Identifiers
+pub mod Stopped
+pub mod Ended
 pub mod Main

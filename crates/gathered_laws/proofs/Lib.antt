@@ -1,3 +1,16 @@
-pub mod Gathered
 pub mod Numbered
+pub mod Gathered
 pub mod Main
+pub mod Nodes
+pub mod DefinedKinds
+pub mod Plain
+pub mod Put
+pub mod Walk
+pub mod Bounded
+pub mod Faultless
+pub mod Agreed
+pub mod Declared
+pub mod Entries
+pub mod Sentences
+pub mod Components
+pub mod Laws

@@ -1,5 +1,5 @@
--- What is known of a program speaks of types alone, after both turns of gathering; and so much of
--- what typed expressions ask of tables holds.
+-- What is known of a program speaks of types alone, after both turns of gathering; and what follows of
+-- what typed expressions ask of tables.
 use Rattle.std.proofs.Common.{◌≡◌, ◌⊎◌, inl, inr, refl, sym, ap, ◌∙◌, subst, ℕ, zero, suc, ◌-◌, ◌<◌, ◌≤◌, Bool, true, false, List, [], ◌∷◌, ◌++◌, flat_map, get_or, nat_eq, replicate, arith, IsTrue, ℤ, Option, Some, None}
 use Rattle.std.specs.Prelude.{slice_get}
 use Rattle.std.proofs.lemmas.Bool.{eqb-true}
@@ -20,13 +20,10 @@ use Rattle.type_definitions.specs.Entries.{entry_of, integer, boolean}
 use Rattle.type_definitions.specs.Names.{Context}
 use Rattle.type_definitions.specs.Expressions.{profile_of}
 use Rattle.type_definitions.specs.Gathered.{gather}
-use Rattle.type_definitions.specs.Whole.{predefined_types, predefined_entries, at_first, outside, gather_units, known_from, known_of, type_fault}
-use Rattle.type_sizes.specs.Formed.{all_formed}
+use Rattle.type_definitions.specs.Whole.{predefined_types, predefined_entries, at_first, outside, gather_units, known_from, known_of}
 use Rattle.settled_types.specs.Orderly.{IsOrderly}
-use Rattle.settled_types.proofs.Main.{whole as whole_types}
 use Rattle.machine.specs.Words.{component_type, no_component}
-use Rattle.typed_laws.specs.Fine.{counts, lists, Laws}
-use Rattle.gathered_laws.specs.Left.{Left}
+use Rattle.typed_laws.specs.Fine.{counts, lists}
 use Rattle.gathered_laws.specs.Made.{type_numbers, IsMade, IsMadeOf, SpeaksOf, AreTypes}
 use Rattle.gathered_laws.proofs.Numbered.{program_high}
 use Rattle.gathered_laws.proofs.Gathered.{Good, gathered}
@@ -216,35 +213,3 @@ module _ (is : ℕ → Type 0) (low : (t : ℕ) → t < 5 → is t) (known : Kno
 
   pub listed : lists (shape_of known.table boolean) ≡ true
   listed = ap lists (predefined_shape 3 (omega arith) refl)
-
--- The laws, where those hold that aren't proved here. (`Left` says which.)
-pub all_laws : (p : Program) → IsTrue (all_formed p.units) → IsOrderly p → type_fault p ≡ None → Left (known_of p) (IsMade p.units) → Laws (known_of p) (IsMade p.units)
-all_laws p formed orderly none left =
-    let is = IsMade p.units in
-    let low : (t : ℕ) → t < 5 → is t = λ t less. inl less in
-    let known = known_of p in
-    let are = are_types p orderly in
-    let wholes = whole_types p formed orderly none in record {
-      same = left.same;
-      owns = wholes.own_law;
-      plain = wholes.plain;
-      word_law = wholes.word_law;
-      based = λ t m. are.bases t;
-      base_of = left.base_of;
-      whole = whole is low known are;
-      listed = listed is low known are;
-      integers = inl (omega arith);
-      booleans = inl (omega arith);
-      numeric = left.numeric;
-      component = λ t i m. component is low known are t i;
-      element = λ t of a b m e. element is low known are t of a b e;
-      target = λ t d constant named m e. target is low known are t d constant named e;
-      object = object is low known are;
-      literal = λ d t n e. (literal is low known are d t n e, left.literal d t n e);
-      typed = typed is low known are;
-      freed = left.freed;
-      certain = λ t m. certain is low known are t;
-      bounded = λ t m. bounded is low known are t;
-      result = result is low known are;
-      names = left.names;
-    }

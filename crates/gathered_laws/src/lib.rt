@@ -3,7 +3,13 @@
 //!
 //! `specs/Made.antt` says which numbers stand for types, from the text alone, so that it is the same
 //! in both turns of gathering. After both of them each row of the table and each entry speaks of such
-//! numbers (`proofs/Gathered.antt`), where the program declares in order (`Numbered`). With what
-//! `settled_types` has follows most of what `typed_laws` asks of the table (`Main`);
-//! `specs/Left.antt` has the rest, which isn't proved yet. Nothing here runs.
+//! numbers (`proofs/Gathered.antt`), where the program declares in order (`Numbered`).
+//!
+//! Where there are no anonymous access types (`specs/Named.antt`), types that are based on one type
+//! agree: `proofs/Put.antt` has one more row, `Walk` the code of a turn, and `Agreed` both turns. The
+//! kinds of full types are known before the second turn (`Nodes`, `DefinedKinds`), so that a subtype
+//! with bounds is of a scalar type there (`Bounded`, `Faultless`). With it, and with what is said of
+//! literals and instances (`Entries`), follow the sentences of `Sentences`. Types have components with
+//! names of their own, if records have (`Components`). So the table is as `typed_laws` asks (`Laws`).
+//! Nothing here runs.
 #![tactic(auto)]

@@ -128,9 +128,9 @@ first_frame program p has lowers few = record {
   };
   first = λ zero. (refl, refl);
   turning = λ x at there. (
-    let sure = if_some (is_loop x all) (offset_of (site_of program 0 []) x) at there in
-    in_left (loops_from s 0 0 all) [] (record { frame = 0; parameter = x; at = 0 + (at + 1) })
-    (loop_there s 0 0 0 0 all x at refl (are_one_word program p has.laws lowers 0 few) sure.0 sure.1));
+      let sure = if_some (is_loop x all) (offset_of (site_of program 0 []) x) at there in
+      in_left (loops_from s 0 0 all) [] (record { frame = 0; parameter = x; at = 0 + (at + 1) })
+      (loop_there s 0 0 0 0 all x at refl (are_one_word program p has.laws lowers 0 few) sure.0 sure.1));
   loops = λ c there of. elim (in_either (loops_from s 0 0 all) [] c there) [
     | inl new ↦ room_loops s has.parts 0 all [] 0 refl c new
     | inr old ↦ absurd old

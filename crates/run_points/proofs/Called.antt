@@ -104,14 +104,13 @@ out_same e all m f base whole flags p (x ∷ formals) _ ps qs is = absurd is
 -- ---- what is copied back
 
 found_stands : (e : Seen) (all new : List Lying) → IsSited e.site e.frame e.flat.base all → (made : List ℕ) (p : Place) (t : ℕ) (w : Spot) → p.of ≡ t → IsFound e made p t w → PlaceStands e.site.typing (new ++ all) made p w
-found_stands e all new sited made p t (InStack n) of is =
-    (
-      record { frame = is.frame; object = is.object; at = is.start },
-      in_right new all (record { frame = is.frame; object = is.object; at = is.start }) (lies_there e all is.frame is.object is.start sited is.lies),
-      is.base,
-      is.at,
-      subst (λ u. IsSplit (sorts e.site.typing.table (object_at e.site.typing is.object).of) p.at (sorts e.site.typing.table u)) (sym of) is.split,
-    )
+found_stands e all new sited made p t (InStack n) of is = (
+  record { frame = is.frame; object = is.object; at = is.start },
+  in_right new all (record { frame = is.frame; object = is.object; at = is.start }) (lies_there e all is.frame is.object is.start sited is.lies),
+  is.base,
+  is.at,
+  subst (λ u. IsSplit (sorts e.site.typing.table (object_at e.site.typing is.object).of) p.at (sorts e.site.typing.table u)) (sym of) is.split,
+)
 found_stands e all new sited made p t (InCell n o) of is =
     (is.0, is.1, is.2, subst (λ u. IsSplit (sorts e.site.typing.table (get_or made n integer)) p.at (sorts e.site.typing.table u)) (sym of) is.3)
 

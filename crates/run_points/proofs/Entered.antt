@@ -40,9 +40,9 @@ in_either [] ys a has = inr has
 in_either (x ∷ xs) ys a has = elim has [
   | inl same ↦ inl (inl same)
   | inr rest ↦ elim (in_either xs ys a rest) [
-      | inl more ↦ inl (inr more)
-      | inr other ↦ inr other
-    ]
+    | inl more ↦ inl (inr more)
+    | inr other ↦ inr other
+  ]
 ]
 
 -- ---- what is laid
@@ -100,21 +100,21 @@ memory_entered program laid d m f all has rooms is = record {
     ];
     apart = λ l k there other. elim (in_either (lyings s d base all) laid.objects l there) [
       | inl new ↦ elim (in_either (lyings s d base all) laid.objects k other) [
-          | inl twin ↦ lyings_apart s d base all rooms l k new twin
-          | inr old ↦ (
-              let within = lies_within s d base all l new in
-              let inside = is.apart.within k old in
-              let low = within.low in
-              inr (first_false (l.frame == k.frame) (l.object == k.object) (ap (λ n. n == k.frame) within.frame ∙ different k.frame d (is.low k old)), inr (omega (arith, low, inside))))
-        ]
+        | inl twin ↦ lyings_apart s d base all rooms l k new twin
+        | inr old ↦ (
+            let within = lies_within s d base all l new in
+            let inside = is.apart.within k old in
+            let low = within.low in
+            inr (first_false (l.frame == k.frame) (l.object == k.object) (ap (λ n. n == k.frame) within.frame ∙ different k.frame d (is.low k old)), inr (omega (arith, low, inside))))
+      ]
       | inr old ↦ elim (in_either (lyings s d base all) laid.objects k other) [
-          | inl new ↦ (
-              let within = lies_within s d base all k new in
-              let inside = is.apart.within l old in
-              let low = within.low in
-              inr (first_false (l.frame == k.frame) (l.object == k.object) (ap (λ n. l.frame == n) within.frame ∙ other_way l.frame d (is.low l old)), inl (omega (arith, low, inside))))
-          | inr twin ↦ is.apart.apart l k old twin
-        ]
+        | inl new ↦ (
+            let within = lies_within s d base all k new in
+            let inside = is.apart.within l old in
+            let low = within.low in
+            inr (first_false (l.frame == k.frame) (l.object == k.object) (ap (λ n. l.frame == n) within.frame ∙ other_way l.frame d (is.low l old)), inl (omega (arith, low, inside))))
+        | inr twin ↦ is.apart.apart l k old twin
+      ]
     ];
   };
   loops_apart = record {
@@ -124,39 +124,39 @@ memory_entered program laid d m f all has rooms is = record {
     ];
     objects = λ l c there loop. elim (in_either (lyings s d base all) laid.objects l there) [
       | inl new ↦ elim (in_either (loops_from s d base all) laid.loops c loop) [
-          | inl twin ↦ loop_object s d base all l c new twin
-          | inr old ↦ (
-              let within = lies_within s d base all l new in
-              let inside = is.loops_apart.within c old in
-              let low = within.low in
-              inr (omega (arith, low, inside)))
-        ]
+        | inl twin ↦ loop_object s d base all l c new twin
+        | inr old ↦ (
+            let within = lies_within s d base all l new in
+            let inside = is.loops_apart.within c old in
+            let low = within.low in
+            inr (omega (arith, low, inside)))
+      ]
       | inr old ↦ elim (in_either (loops_from s d base all) laid.loops c loop) [
-          | inl new ↦ (
-              let within = loop_within s d base all c new in
-              let inside = is.apart.within l old in
-              let low = within.low in
-              inl (omega (arith, low, inside)))
-          | inr twin ↦ is.loops_apart.objects l c old twin
-        ]
+        | inl new ↦ (
+            let within = loop_within s d base all c new in
+            let inside = is.apart.within l old in
+            let low = within.low in
+            inl (omega (arith, low, inside)))
+        | inr twin ↦ is.loops_apart.objects l c old twin
+      ]
     ];
     apart = λ b c there other. elim (in_either (loops_from s d base all) laid.loops b there) [
       | inl new ↦ elim (in_either (loops_from s d base all) laid.loops c other) [
-          | inl twin ↦ loops_apart s d base all rooms b c new twin
-          | inr old ↦ (
-              let within = loop_within s d base all b new in
-              let inside = is.loops_apart.within c old in
-              let low = within.low in
-              inr (first_false (b.frame == c.frame) (b.parameter == c.parameter) (ap (λ n. n == c.frame) within.frame ∙ different c.frame d (is.loops_low c old)), inr (omega (arith, low, inside))))
-        ]
+        | inl twin ↦ loops_apart s d base all rooms b c new twin
+        | inr old ↦ (
+            let within = loop_within s d base all b new in
+            let inside = is.loops_apart.within c old in
+            let low = within.low in
+            inr (first_false (b.frame == c.frame) (b.parameter == c.parameter) (ap (λ n. n == c.frame) within.frame ∙ different c.frame d (is.loops_low c old)), inr (omega (arith, low, inside))))
+      ]
       | inr old ↦ elim (in_either (loops_from s d base all) laid.loops c other) [
-          | inl new ↦ (
-              let within = loop_within s d base all c new in
-              let inside = is.loops_apart.within b old in
-              let low = within.low in
-              inr (first_false (b.frame == c.frame) (b.parameter == c.parameter) (ap (λ n. b.frame == n) within.frame ∙ other_way b.frame d (is.loops_low b old)), inl (omega (arith, low, inside))))
-          | inr twin ↦ is.loops_apart.apart b c old twin
-        ]
+        | inl new ↦ (
+            let within = loop_within s d base all c new in
+            let inside = is.loops_apart.within b old in
+            let low = within.low in
+            inr (first_false (b.frame == c.frame) (b.parameter == c.parameter) (ap (λ n. b.frame == n) within.frame ∙ other_way b.frame d (is.loops_low b old)), inl (omega (arith, low, inside))))
+        | inr twin ↦ is.loops_apart.apart b c old twin
+      ]
     ];
   };
   undeclared = λ frame x high. is.undeclared frame x (omega (arith, high));
@@ -281,9 +281,9 @@ frame_entered program p laid made f d n rs qs has lowers callable few inside loo
   };
   first = λ zero. absurd (never n zero callable.other);
   turning = λ x at there. (
-    let sure = if_some (is_loop x all) (offset_of (site_of program n []) x) at there in
-    in_left (loops_from s d base all) laid.loops (record { frame = d; parameter = x; at = base + (at + 1) })
-    (loop_there s d base 0 base all x at (none base) (are_one_word program p has.laws lowers n few) sure.0 sure.1));
+      let sure = if_some (is_loop x all) (offset_of (site_of program n []) x) at there in
+      in_left (loops_from s d base all) laid.loops (record { frame = d; parameter = x; at = base + (at + 1) })
+      (loop_there s d base 0 base all x at (none base) (are_one_word program p has.laws lowers n few) sure.0 sure.1));
   loops = λ c there of. elim (in_either (loops_from s d base all) laid.loops c there) [
     | inl new ↦ room_loops s has.parts d all f.stack base refl c new
     | inr old ↦ not_same c.frame d (loops_inside c old).0 of

@@ -234,8 +234,7 @@ frames_below : (program : FlowProgram) (laid : Laid) (made : List ℕ) (stack ot
     → FramesStand program (laid_below laid d) made other fs gs
 frames_below program laid made stack other d [] [] le same is = tt
 frames_below program laid made stack other d (f ∷ fs) (g ∷ gs) le same is =
-    let less : length fs < d = omega (arith, le) in
-    (
+    let less : length fs < d = omega (arith, le) in (
       record {
         next = is.0.next;
         within = is.0.within;

@@ -121,8 +121,7 @@ value_declared : (e : Seen) (all : List Lying) (m : Memory) (f : Flat) → IsWho
 value_declared e all m f whole d x p has ws zs value =
     let l : Lying = formal_lying d x p in
     let within = whole.apart.within l has in
-    let fits : p + length zs ≤ length f.stack = omega (arith, within, value.numbers) in
-    (
+    let fits : p + length zs ≤ length f.stack = omega (arith, within, value.numbers) in (
       stack_stored f p (kinds (table e) (formal_type e x)) zs fits,
       later_from (at e m f) all (declared d x ws m) (with_stack f (spliced p zs f.stack)) [] whole (sym (append-nil (types m)))
           (declared_in_stack e.site.typing all m f l ws zs whole.related whole.apart has value) (spliced_long p zs f.stack fits) refl refl refl

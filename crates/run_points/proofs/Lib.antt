@@ -47,3 +47,4 @@ pub mod Returns
 pub mod Finishes
 pub mod Steps
 pub mod Lowering
+pub mod LoweredRuns

@@ -166,7 +166,7 @@ next_row b laid is begins none d n m first second x offset there single reversed
     let number_is = word_number b single.sort single.scalar parameter.word z parameter.stands in
     let k : Place = variable_place (machine_step.here (turn b)) x in
     let flat : points.next_turn (flat_turn b d) offset (offset + 1) reversed (default_word (default_words (flow_typing b.program).table (object_at (flow_typing b.program) x).of)) n m
-        ≡ flat_turned b d x offset n m l.low l.high (machine_step.next_value reversed l z) =
+    ≡ flat_turned b d x offset n m l.low l.high (machine_step.next_value reversed l z) =
     ap (λ g. on_got (flat_turn b d) (seen b).flat (found g) (from_value b d x offset n m reversed)) parameter.flat_word
     ∙ ap (λ g. on_got (flat_turn b d) (seen b).flat (found g) (from_low b d x offset n m reversed z)) three.first
     ∙ ap (λ g. on_got (flat_turn b d) (seen b).flat (found g) (from_high b d x offset n m reversed z l.low)) (ap (slice_get b.flat.stack) (one_more b.flat_frame.base offset) ∙ three.second)

@@ -196,8 +196,7 @@ is_found e all m f later flags k t (InStack n) zs ev is there = record {
 }
 is_found e all m f later flags k t (InCell n o) zs ev is there =
     let have = later.whole.related.cells n is.from.within in
-    let same = some_same have.0 there.c (sym have.1 ∙ there.there) in
-    (
+    let same = some_same have.0 there.c (sym have.1 ∙ there.there) in (
       is.from.base,
       is.from.at,
       subst (λ j. n < j) (sym (length-map m.cells (λ (c : HeapCell). c.of))) is.from.within,

@@ -227,25 +227,25 @@ pub lyings_apart : (s : Typing) (d p : ℕ) (all : List Kept) → AreRooms all �
 lyings_apart s d p [] rooms l j has other = absurd has
 lyings_apart s d p (k ∷ all) rooms l j has other = elim has [
   | inl same ↦ elim other [
-      | inl twin ↦ (
-          let one : l ≡ j = sym same ∙ twin in
-          inl (ap (λ (l : Lying). l.frame) one, ap (λ (l : Lying). l.object) one, ap (λ (l : Lying). l.at) one))
-      | inr rest ↦
-          subst (λ l. LyingsApart s l j) same
-          (inr (
-            not_both (d == j.frame) (k.object == j.object) (turned j.object k.object (lying_other s d (p + kept_words s k) all k.object j rooms.0 rest)),
-            inl (first_before s d p k all j rest),
-          ))
-    ]
+    | inl twin ↦ (
+        let one : l ≡ j = sym same ∙ twin in
+        inl (ap (λ (l : Lying). l.frame) one, ap (λ (l : Lying). l.object) one, ap (λ (l : Lying). l.at) one))
+    | inr rest ↦
+        subst (λ l. LyingsApart s l j) same
+        (inr (
+          not_both (d == j.frame) (k.object == j.object) (turned j.object k.object (lying_other s d (p + kept_words s k) all k.object j rooms.0 rest)),
+          inl (first_before s d p k all j rest),
+        ))
+  ]
   | inr first ↦ elim other [
-      | inl twin ↦
-          subst (λ j. LyingsApart s l j) twin
-          (inr (
-            not_both (l.frame == d) (l.object == k.object) (lying_other s d (p + kept_words s k) all k.object l rooms.0 first),
-            inr (first_before s d p k all l first),
-          ))
-      | inr rest ↦ lyings_apart s d (p + kept_words s k) all rooms.1 l j first rest
-    ]
+    | inl twin ↦
+        subst (λ j. LyingsApart s l j) twin
+        (inr (
+          not_both (l.frame == d) (l.object == k.object) (lying_other s d (p + kept_words s k) all k.object l rooms.0 first),
+          inr (first_before s d p k all l first),
+        ))
+    | inr rest ↦ lyings_apart s d (p + kept_words s k) all rooms.1 l j first rest
+  ]
 ]
 
 -- ---- loops apart
@@ -255,20 +255,20 @@ pub loop_object : (s : Typing) (d p : ℕ) (all : List Kept) (l : Lying) (c : Lo
 loop_object s d p [] l c has loop = absurd has
 loop_object s d p (k ∷ all) l c has loop = elim has [
   | inl same ↦ elim (loop_cases k.loops (loop_from s d p k) c (loops_from s d (p + kept_words s k) all) loop) [
-      | inl first ↦
-          subst (λ (l : Lying). (l.at + length (lying_sorts s l) ≤ c.at) ⊎ (c.at + 3 ≤ l.at)) same
-          (subst (λ (c : LoopAt). (p + length (lying_sorts s (lying d k.object p)) ≤ c.at) ⊎ (c.at + 3 ≤ p)) first.1
-          (inl (let size = object_words s d p k.object in omega (arith, size))))
-      | inr rest ↦
-          subst (λ (l : Lying). (l.at + length (lying_sorts s l) ≤ c.at) ⊎ (c.at + 3 ≤ l.at)) same
-          (inl (let more = loop_within s d (p + kept_words s k) all c rest in let size = size_in s d p k in let low = more.low in omega (arith, size, low)))
-    ]
+    | inl first ↦
+        subst (λ (l : Lying). (l.at + length (lying_sorts s l) ≤ c.at) ⊎ (c.at + 3 ≤ l.at)) same
+        (subst (λ (c : LoopAt). (p + length (lying_sorts s (lying d k.object p)) ≤ c.at) ⊎ (c.at + 3 ≤ p)) first.1
+        (inl (let size = object_words s d p k.object in omega (arith, size))))
+    | inr rest ↦
+        subst (λ (l : Lying). (l.at + length (lying_sorts s l) ≤ c.at) ⊎ (c.at + 3 ≤ l.at)) same
+        (inl (let more = loop_within s d (p + kept_words s k) all c rest in let size = size_in s d p k in let low = more.low in omega (arith, size, low)))
+  ]
   | inr after ↦ elim (loop_cases k.loops (loop_from s d p k) c (loops_from s d (p + kept_words s k) all) loop) [
-      | inl first ↦
-          subst (λ (c : LoopAt). (l.at + length (lying_sorts s l) ≤ c.at) ⊎ (c.at + 3 ≤ l.at)) first.1
-          (inr (let more = lies_within s d (p + kept_words s k) all l after in let size = loop_room s k first.0 in let low = more.low in omega (arith, size, low)))
-      | inr rest ↦ loop_object s d (p + kept_words s k) all l c after rest
-    ]
+    | inl first ↦
+        subst (λ (c : LoopAt). (l.at + length (lying_sorts s l) ≤ c.at) ⊎ (c.at + 3 ≤ l.at)) first.1
+        (inr (let more = lies_within s d (p + kept_words s k) all l after in let size = loop_room s k first.0 in let low = more.low in omega (arith, size, low)))
+    | inr rest ↦ loop_object s d (p + kept_words s k) all l c after rest
+  ]
 ]
 
 loop_before : (s : Typing) (d p : ℕ) (k : Kept) (all : List Kept) (c : LoopAt) → k.loops ≡ true → Has (loops_from s d (p + kept_words s k) all) c → p + words s.table (object_at s k.object).of + 3 ≤ c.at
@@ -282,23 +282,23 @@ pub loops_apart : (s : Typing) (d p : ℕ) (all : List Kept) → AreRooms all �
 loops_apart s d p [] rooms b c has other = absurd has
 loops_apart s d p (k ∷ all) rooms b c has other = elim (loop_cases k.loops (loop_from s d p k) b (loops_from s d (p + kept_words s k) all) has) [
   | inl first ↦ elim (loop_cases k.loops (loop_from s d p k) c (loops_from s d (p + kept_words s k) all) other) [
-      | inl twin ↦ (
-          let one : b ≡ c = sym first.1 ∙ twin.1 in
-          inl (ap (λ (c : LoopAt). c.frame) one, ap (λ (c : LoopAt). c.parameter) one, ap (λ (c : LoopAt). c.at) one))
-      | inr rest ↦
-          subst (λ b. LoopPair b c) first.1
-          (inr (
-            not_both (d == c.frame) (k.object == c.parameter) (turned c.parameter k.object (loop_other s d (p + kept_words s k) all k.object c rooms.0 rest)),
-            inl (loop_before s d p k all c first.0 rest),
-          ))
-    ]
+    | inl twin ↦ (
+        let one : b ≡ c = sym first.1 ∙ twin.1 in
+        inl (ap (λ (c : LoopAt). c.frame) one, ap (λ (c : LoopAt). c.parameter) one, ap (λ (c : LoopAt). c.at) one))
+    | inr rest ↦
+        subst (λ b. LoopPair b c) first.1
+        (inr (
+          not_both (d == c.frame) (k.object == c.parameter) (turned c.parameter k.object (loop_other s d (p + kept_words s k) all k.object c rooms.0 rest)),
+          inl (loop_before s d p k all c first.0 rest),
+        ))
+  ]
   | inr first ↦ elim (loop_cases k.loops (loop_from s d p k) c (loops_from s d (p + kept_words s k) all) other) [
-      | inl twin ↦
-          subst (λ c. LoopPair b c) twin.1
-          (inr (
-            not_both (b.frame == d) (b.parameter == k.object) (loop_other s d (p + kept_words s k) all k.object b rooms.0 first),
-            inr (loop_before s d p k all b twin.0 first),
-          ))
-      | inr rest ↦ loops_apart s d (p + kept_words s k) all rooms.1 b c first rest
-    ]
+    | inl twin ↦
+        subst (λ c. LoopPair b c) twin.1
+        (inr (
+          not_both (b.frame == d) (b.parameter == k.object) (loop_other s d (p + kept_words s k) all k.object b rooms.0 first),
+          inr (loop_before s d p k all b twin.0 first),
+        ))
+    | inr rest ↦ loops_apart s d (p + kept_words s k) all rooms.1 b c first rest
+  ]
 ]

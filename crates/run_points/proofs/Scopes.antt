@@ -63,8 +63,7 @@ own_by b laid is x at true of_packages there =
     let sub : b.frame.sub ≡ 0 = same_number b.frame.sub 0 sure.0 in
     let first = is.frame.first sub in
     let offset : package_offset (seen b).site x ≡ Some at =
-    subst (λ n. offset_from (flow_typing b.program) 0 (objects_of (sub_of b.program n)) x ≡ Some at) sub sure.1 in
-    (
+    subst (λ n. offset_from (flow_typing b.program) 0 (objects_of (sub_of b.program n)) x ≡ Some at) sub sure.1 in (
       sym first.0,
       inr (record { there = offset ∙ ap (λ n. Some n) (none at ∙ ap (λ n. n + at) (sym first.1)); packages = of_packages; first = first.0 }),
     )

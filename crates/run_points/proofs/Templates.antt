@@ -209,9 +209,9 @@ has_with k j [] has = elim has [
 has_with k j (i ∷ all) has = elim has [
   | inl same ↦ inl (inl same)
   | inr rest ↦ elim (has_with k j all rest) [
-      | inl more ↦ inl (inr more)
-      | inr last ↦ inr last
-    ]
+    | inl more ↦ inl (inr more)
+    | inr last ↦ inr last
+  ]
 ]
 
 one_by : (s : Typing) (k : Kept) (all : List Kept) → AreOneWord s all → (k.loops ≡ true → words s.table (object_at s k.object).of ≡ 1) → (b : Bool) → AreOneWord s (if b then all else all ++ k ∷ [])

@@ -1,5 +1,5 @@
 -- What frames that enter ask of a program, where its typed code is in order.
-use Rattle.std.proofs.Common.{◌≡◌, ◌⊎◌, inl, inr, ℕ, zero, suc, ◌+◌, ◌<◌, ◌≤◌, true, false, Bool, ◌||◌, List, [], ◌∷◌, ◌++◌, map, length, get_or, refl, sym, ap, subst, ◌∙◌, arith, Option, Some, None, length-append, if◌then◌else◌}
+use Rattle.std.proofs.Common.{◌≡◌, inl, inr, ℕ, zero, suc, ◌+◌, ◌<◌, true, false, Bool, ◌||◌, List, [], ◌∷◌, ◌++◌, map, length, get_or, refl, sym, ap, subst, ◌∙◌, arith, Some, length-append, if◌then◌else◌}
 use Rattle.std.specs.Prelude.{◌==◌, ◌&&◌, not, is_some, flat_map, reverse}
 use Rattle.std.specs.List.{list_any}
 use Rattle.std.proofs.lemmas.List.{length-map}
@@ -7,7 +7,7 @@ use Rattle.spark_base.specs.Lists.{Has}
 use Rattle.type_definitions.specs.Types.{Table}
 use Rattle.typed_tree.specs.declared.object.Object.{Object}
 use Rattle.typed_tree.specs.Programs.{TypedSub, TypedProgram, text_io}
-use Rattle.flow_paths.specs.Objects.{Typing, object_at, is_state, is_package_object}
+use Rattle.flow_paths.specs.Objects.{Typing, object_at, is_state}
 use Rattle.flow_paths.specs.Instructions.{Finish, Fall}
 use Rattle.flow_paths.specs.Points.{PointName, NamedPoint, row_at, point, entry, flow_point}
 use Rattle.flow_paths.specs.Layout.{ending, ends, laid}

@@ -5,3 +5,4 @@ pub mod Statics
 pub mod Gathers
 pub mod Programs
 pub mod Frames
+pub mod Runs

@@ -1,5 +1,5 @@
 -- A part of a type stands among the sorts of its words, and access values stand at its access offsets.
-use Rattle.std.proofs.Common.{◌≡◌, ℕ, zero, suc, ◌+◌, ◌*◌, ◌<◌, true, false, Bool, ◌&&◌, List, [], ◌∷◌, ◌++◌, map, take, sum, length, get_or, refl, sym, ap, subst, ◌∙◌, arith, Some, slice_get, nat_lt}
+use Rattle.std.proofs.Common.{◌≡◌, ℕ, zero, suc, ◌+◌, ◌*◌, true, false, List, [], ◌∷◌, ◌++◌, map, take, sum, length, get_or, refl, sym, ap, subst, ◌∙◌, arith, Some, slice_get, nat_lt}
 use Rattle.std.specs.Prelude.{flat_map}
 use Rattle.spark_base.specs.Lists.{Has}
 use Rattle.type_definitions.specs.declared.table.Component.{Component}
@@ -10,7 +10,7 @@ use Rattle.owned_ways.specs.Ways as ways
 use Rattle.owned_ways.specs.Ways.{Step}
 use Rattle.machine.specs.Words.{no_component, words_before, component_type, element_of, count_of, element_type, element_count, access_offsets}
 use Rattle.machine.specs.Typed.{Sort, Pointer, sorts, sorts_of, repeated_sorts}
-use Rattle.part_offsets.specs.Parts.{type_in, offset_in, has_part, owns_one, is_leaf, IsSettled}
+use Rattle.part_offsets.specs.Parts.{type_in, offset_in, has_part, owns_one, IsSettled}
 use Rattle.part_offsets.proofs.Leaves.{leaf_from}
 use Rattle.run_codes.specs.Related.{IsSplit}
 use Rattle.run_codes.proofs.Parts.{many, whole_split, join_split, component_split, element_split}
@@ -128,8 +128,7 @@ module _ (table : Table) (law : (t : ℕ) → sorts table t ≡ sorts_of (sorts 
       let leaf = leaf_from table settled t o has in
       let both = both_true (has_part table t leaf.0) (owns_one (shape_of table (type_in table t leaf.0))) leaf.1 in
       let split = part_at t leaf.0 both.0 in
-      let pointer = owning_sorts (type_in table t leaf.0) (shape_of table (type_in table t leaf.0)) refl both.1 in
-      (
+      let pointer = owning_sorts (type_in table t leaf.0) (shape_of table (type_in table t leaf.0)) refl both.1 in (
         pointer.0,
         ap (λ l. slice_get l o) (split.is ∙ ap (λ l. split.front ++ (l ++ split.rest)) pointer.1) ∙ first_at split.front split.rest (Pointer pointer.0) o (split.long ∙ leaf.2),
       )

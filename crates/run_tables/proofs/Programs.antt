@@ -1,15 +1,14 @@
 -- What runs ask of the tables of programs without a fault of typing.
-use Rattle.std.proofs.Common.{◌≡◌, ℕ, ◌<◌, List, [], ◌∷◌, false, refl, sym, ap, subst, ◌∙◌, arith, IsTrue, None, slice_get}
+use Rattle.std.proofs.Common.{◌≡◌, [], ◌∷◌, false, ap, ◌∙◌, arith, IsTrue, None, slice_get}
 use Rattle.std.specs.Prelude.{codes}
 use Rattle.resolved_tree.specs.Trees.{Program}
-use Rattle.type_definitions.specs.Types.{Table, shape_found, shape_of, meant_type, meant_type_found}
+use Rattle.type_definitions.specs.Types.{shape_found, meant_type_found}
 use Rattle.type_definitions.specs.Entries.{boolean}
 use Rattle.type_definitions.specs.Whole.{type_fault, known_of, predefined_types}
 use Rattle.type_sizes.specs.Formed.{all_formed}
 use Rattle.type_sizes.proofs.Limits.{within_limits}
 use Rattle.settled_types.specs.Orderly.{IsOrderly}
 use Rattle.settled_types.proofs.Main.{finite}
-use Rattle.gathered_laws.specs.Made.{IsMade, AreTypes}
 use Rattle.gathered_laws.proofs.Main.{are_types}
 use Rattle.machine.specs.Typed.{Position, sorts}
 use Rattle.run_codes.specs.Related.{IsTable}

@@ -1,16 +1,15 @@
 -- What runs ask of tables of types in which no type has itself in it.
-use Rattle.std.proofs.Common.{◌≡◌, ◌⊎◌, inl, inr, ℕ, ◌≤◌, true, false, Bool, ◌||◌, List, [], ◌∷◌, ◌++◌, refl, sym, ap, subst, ◌∙◌, arith, Some, slice_get, ℤ, nat_eq, append-nil}
+use Rattle.std.proofs.Common.{◌≡◌, ℕ, true, false, Bool, ◌||◌, [], ◌∷◌, refl, sym, ap, ◌∙◌, arith, slice_get, nat_eq}
 use Rattle.std.specs.Prelude.{flat_map}
-use Rattle.type_definitions.specs.declared.table.Component.{Component}
 use Rattle.type_definitions.specs.declared.table.Shape.{Shape}
 use Rattle.type_definitions.specs.declared.table.Shape.TheVariants as shape
-use Rattle.type_definitions.specs.Types.{Table, shape_found, shape_of, meant_type, parts, parts_of, words, is_owning, owns_of}
+use Rattle.type_definitions.specs.Types.{Table, shape_found, shape_of, meant_type, parts, parts_of, is_owning, owns_of}
 use Rattle.settled_types.specs.Wholes.{AreFinite, AreWhole}
 use Rattle.settled_types.proofs.Wholes.{finite_whole}
 use Rattle.type_sizes.specs.Limits.{AreWithin}
 use Rattle.part_offsets.specs.Parts.{IsSettled}
 use Rattle.machine.specs.Words.{offsets, access_offsets}
-use Rattle.machine.specs.Typed.{Sort, Whole, Position, sorts, sorts_of, same_kind, same_designated}
+use Rattle.machine.specs.Typed.{Whole, Position, sorts, sorts_of, same_kind}
 use Rattle.run_codes.specs.Related.{IsTable}
 use Rattle.run_fills.specs.Filled.{HasParts}
 use Rattle.run_tables.specs.Bounds.{HasBounds}

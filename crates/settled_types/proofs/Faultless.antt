@@ -185,11 +185,14 @@ no_fault None later e = refl
 no_fault (Some f) None e = cc
 no_fault (Some f) (Some g) e = cc
 
-pub program_open : (p : Program) → IsTrue (all_formed p.units) → type_fault p ≡ None → AllOpen (known_of p) p.units
+-- no unit breaks a sentence
+pub no_faults : (p : Program) → type_fault p ≡ None → flat_map (unit_faults (outside (known_of p))) p.units ≡ []
 unfolding type_fault sentence_faults
-program_open p formed none =
+no_faults p none =
     let known : Known = known_of p in
-    all_open known p.units formed
-    (no_first (sentence_faults known p.units)
+    no_first (sentence_faults known p.units)
     (no_sentence (first (type_sizes known p.units)) (first (sentence_faults known p.units))
-    (no_fault (fault_known known p.units) (fault_known (known_with true p) p.units) none)))
+    (no_fault (fault_known known p.units) (fault_known (known_with true p) p.units) none))
+
+pub program_open : (p : Program) → IsTrue (all_formed p.units) → type_fault p ≡ None → AllOpen (known_of p) p.units
+program_open p formed none = all_open (known_of p) p.units formed (no_faults p none)

@@ -44,7 +44,7 @@ unseen_of zero t = refl
 unseen_of (suc n) zero = refl
 unseen_of (suc n) (suc t) = unseen_of n t
 
-abbrev first_table : ℕ → Table
+abbrev pub first_table : ℕ → Table
 first_table count = (at_first false count).table
 
 -- One of these types is made of another one: it stands for Integer where a mark denotes no type.
@@ -56,7 +56,7 @@ first_parts count (suc (suc (suc zero))) v part = absurd (true≢false (sym part
 first_parts count (suc (suc (suc (suc zero)))) v part = refl
 first_parts count (suc (suc (suc (suc (suc t))))) v part = absurd (true≢false (sym part ∙ none_of (count - 5) t v))
 
-first_same : (count t of : ℕ) → written (first_table count) t ≡ shape.Same of → t ≡ 4
+pub first_same : (count t of : ℕ) → written (first_table count) t ≡ shape.Same of → t ≡ 4
 first_same count zero of e = cc
 first_same count (suc zero) of e = cc
 first_same count (suc (suc zero)) of e = cc
@@ -64,7 +64,7 @@ first_same count (suc (suc (suc zero))) of e = cc
 first_same count (suc (suc (suc (suc zero)))) of e = refl
 first_same count (suc (suc (suc (suc (suc t))))) of e = absurd (same_none (count - 5) t of e)
 
-first_unseen : (count t : ℕ) → is_some (info (first_table count) t).seen_in ≡ false
+pub first_unseen : (count t : ℕ) → is_some (info (first_table count) t).seen_in ≡ false
 first_unseen count zero = refl
 first_unseen count (suc zero) = refl
 first_unseen count (suc (suc zero)) = refl
@@ -72,7 +72,7 @@ first_unseen count (suc (suc (suc zero))) = refl
 first_unseen count (suc (suc (suc (suc zero)))) = refl
 first_unseen count (suc (suc (suc (suc (suc t))))) = unseen_of (count - 5) t
 
-first_rows : (count t : ℕ) → t < 5 → slice_get (first_table count) t ≡ slice_get (predefined_types false) t
+pub first_rows : (count t : ℕ) → t < 5 → slice_get (first_table count) t ≡ slice_get (predefined_types false) t
 first_rows count zero less = refl
 first_rows count (suc zero) less = refl
 first_rows count (suc (suc zero)) less = refl
@@ -80,7 +80,7 @@ first_rows count (suc (suc (suc zero))) less = refl
 first_rows count (suc (suc (suc (suc zero)))) less = refl
 first_rows count (suc (suc (suc (suc (suc t))))) less = absurd (omega (arith, less))
 
-first_long : (count : ℕ) → count ≤ length (first_table count)
+pub first_long : (count : ℕ) → count ≤ length (first_table count)
 first_long count = let a = length-replicate (count - 5) no_type in omega (arith, a)
 
 no_entry : (n t : ℕ) → is_type (entry_of (record { entries = replicate n entry.Nothing; table = [] }) t) ≡ false
@@ -89,7 +89,7 @@ no_entry (suc n) zero = refl
 no_entry (suc n) (suc t) = no_entry n t
 
 -- The types among the predefined declarations.
-first_types : (count v : ℕ) → is_type (entry_of (at_first false count) v) ≡ true → v < 5
+pub first_types : (count v : ℕ) → is_type (entry_of (at_first false count) v) ≡ true → v < 5
 first_types count zero is = omega arith
 first_types count (suc zero) is = omega arith
 first_types count (suc (suc zero)) is = omega arith
@@ -111,15 +111,15 @@ first_types count (suc (suc (suc (suc (suc (suc (suc (suc (suc (suc (suc (suc (s
 -- ---- a turn
 
 -- What a table has to be where a turn begins.
-record Begins (count : ℕ) (table : Table) : Type 0 where
-  long : count ≤ length table
-  predefined : (t : ℕ) → t < 5 → slice_get table t ≡ slice_get (predefined_types false) t
-  based : (t : ℕ) → is_some (info table t).seen_in ≡ true → base table t ≡ t
+pub record Begins (count : ℕ) (table : Table) : Type 0 where
+  pub long : count ≤ length table
+  pub predefined : (t : ℕ) → t < 5 → slice_get table t ≡ slice_get (predefined_types false) t
+  pub based : (t : ℕ) → is_some (info table t).seen_in ≡ true → base table t ≡ t
 
-abbrev begin : ℕ → Table → Known
+abbrev pub begin : ℕ → Table → Known
 begin count table = record (at_first false count) { table = table }
 
-begin_rows : (count : ℕ) (table : Table) → Begins count table → AreRows count table at_start (begin count table)
+pub begin_rows : (count : ℕ) (table : Table) → Begins count table → AreRows count table at_start (begin count table)
 begin_rows count table begins = record {
   long = begins.long;
   predefined = begins.predefined;
@@ -134,7 +134,7 @@ begin_rows count table begins = record {
 
 module _ (final : Known) (count : ℕ) (all : List ℕ) (start : Table)
     (unlike : (d of : ℕ) → 15 ≤ d → Has all d → written start d ≡ shape.Same of → ⊥) where
-  units_turn : (units : List Code) (p : Past) (c : Context) → AllOrderly count p units → AllOpen final units → AtHome p c
+  pub units_turn : (units : List Code) (p : Past) (c : Context) → AllOrderly count p units → AllOpen final units → AtHome p c
       → Turn final count all start p c.known (past_units units p) (gather_units units c).known
   units_turn [] p c are opens at = stay final count all start unlike p c.known
   units_turn (u ∷ rest) p c are opens at =
@@ -203,7 +203,7 @@ begin_stamped final count table begins = record {
 
 -- ---- whether a type is defined
 
-find : (xs : List ℕ) (t : ℕ) → Has xs t ⊎ (Has xs t → ⊥)
+pub find : (xs : List ℕ) (t : ℕ) → Has xs t ⊎ (Has xs t → ⊥)
 find [] t = inr (λ is. is)
 find (x ∷ rest) t = elim (cases_eq x t) [
   | inl same ↦ inl (inl same)
@@ -217,40 +217,40 @@ find (x ∷ rest) t = elim (cases_eq x t) [
 -- ---- the program
 
 module _ (p : Program) (are : IsOrderly p) (opens : AllOpen (known_of p) p.units) where
-  abbrev end : Past
+  abbrev pub end : Past
   end = past_units p.units at_start
 
-  abbrev first : Table
+  abbrev pub first : Table
   first = first_table p.count
 
-  turn : (table : Table) → ((d of : ℕ) → 15 ≤ d → Has end.awaited d → written table d ≡ shape.Same of → ⊥)
+  pub turn : (table : Table) → ((d of : ℕ) → 15 ≤ d → Has end.awaited d → written table d ≡ shape.Same of → ⊥)
       → Turn (known_of p) p.count end.awaited table at_start (begin p.count table) end (known_from p table)
   turn table unlike = units_turn (known_of p) p.count end.awaited table unlike p.units at_start (outside (begin p.count table)) are opens (λ is. absurd (true≢false (sym is)))
 
-  begins_first : Begins p.count first
+  pub begins_first : Begins p.count first
   begins_first = record {
     long = first_long p.count;
     predefined = first_rows p.count;
     based = λ t is. absurd (true≢false (sym is ∙ first_unseen p.count t));
   }
 
-  unlike_first : (d of : ℕ) → 15 ≤ d → Has end.awaited d → written first d ≡ shape.Same of → ⊥
+  pub unlike_first : (d of : ℕ) → 15 ≤ d → Has end.awaited d → written first d ≡ shape.Same of → ⊥
   unlike_first d of high is e = let a = first_same p.count d of e in omega (arith, a, high)
 
   -- what is known after the first turn
-  rows_first : AreRows p.count first end (known_from p first)
+  pub rows_first : AreRows p.count first end (known_from p first)
   rows_first = ((turn first unlike_first).goes (λ d is. is) (begin_rows p.count first begins_first)).rows
 
-  abbrev second : Table
+  abbrev pub second : Table
   second = (known_from p first).table
 
-  begins_second : Begins p.count second
+  pub begins_second : Begins p.count second
   begins_second = record { long = rows_first.long; predefined = rows_first.predefined; based = rows_first.based }
 
-  turn_second : Turn (known_of p) p.count end.awaited second at_start (begin p.count second) end (known_from p second)
+  pub turn_second : Turn (known_of p) p.count end.awaited second at_start (begin p.count second) end (known_from p second)
   turn_second = turn second (λ d of high is. rows_first.awaited d of is)
 
-  rows_second : AreRows p.count second end (known_from p second)
+  pub rows_second : AreRows p.count second end (known_from p second)
   rows_second = (turn_second.goes (λ d is. is) (begin_rows p.count second begins_second)).rows
 
   stamped_second : LeadsTo (known_of p) end (known_from p second) → AreStamped (known_of p) end (known_from p second)

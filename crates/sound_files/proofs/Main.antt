@@ -1,35 +1,42 @@
--- The runs of accepted files of the first class are sound: those without a fault of typing and without reports,
--- whose positions are as in a text, whose instructions are typed, and whose resolved code is orderly.
-use Rattle.std.proofs.Common.{◌≡◌, subst, ℕ, List, [], None}
-use Rattle.ada_lexer.specs.declared.token.Token.{Token}
+-- The runs of accepted files of the first class are sound: those that break no rule of names and of types and have
+-- no reports, whose positions are as in a text, under the premises that are left.
+use Rattle.std.proofs.Common.{◌≡◌, subst, ℕ, true, List, [], None}
+use Rattle.spark_base.specs.Lists.{Has}
+use Rattle.ada_lexer.specs.Tokens.{Cut}
 use Rattle.ada_tree.specs.declared.unit.SourceUnit.{SourceUnit}
 use Rattle.name_events.specs.Identified.{identified}
+use Rattle.name_events.specs.Faults.{name_fault}
 use Rattle.resolved_tree.specs.Trees.{Program}
 use Rattle.typing_steps.specs.Programs.{program_of}
 use Rattle.type_definitions.specs.Types.{Table}
 use Rattle.type_definitions.specs.Whole.{outside, known_of, type_fault}
+use Rattle.typed_tree.specs.Programs.{TypedSub, site_of}
+use Rattle.flow_paths.specs.Objects.{is_formal}
 use Rattle.flow_paths.specs.declared.report.Effects.{Effects}
 use Rattle.flow_paths.specs.Effects.{AreEffects}
 use Rattle.flow_paths.specs.Laid.{FlowProgram, flow_program}
 use Rattle.flow_paths.specs.Reports.{AreReports}
-use Rattle.typed_laws.specs.Needed.{AreFine}
 use Rattle.settled_types.specs.Orderly.{at_start}
 use Rattle.orderly_files.specs.Apart.{AreApart}
 use Rattle.orderly_files.specs.Ended.{AllEnded}
 use Rattle.orderly_files.proofs.Main.{files_in_order}
 use Rattle.file_positions.specs.Texts.{AreParsed}
-use Rattle.file_positions.proofs.Main.{files_apart}
+use Rattle.file_positions.proofs.Main.{files_apart, files_ended}
 use Rattle.ready_types.proofs.Files.{files_settled, files_own}
 use Rattle.soundness.specs.Typed.{OwnsByShape}
 use Rattle.soundness.specs.Sound.{IsFirstClass, RunIsSound}
 use Rattle.soundness.proofs.Points.{flow_table}
-use Rattle.order_laws.specs.Orderly.{typed_of, IsOrderly}
+use Rattle.order_laws.specs.Orderly.{typed_of, typing_in, bodies_of, IsOrderly}
 use Rattle.order_laws.proofs.Faults.{units_faultless}
 use Rattle.order_laws.proofs.Accepted.{accepted_sound}
+use Rattle.sound_files.specs.Class.{IsPlainText}
 use Rattle.sound_files.specs.Left.{AreOrderly}
 use Rattle.sound_files.proofs.Whole.{whole}
 use Rattle.sound_files.proofs.Once.{files_once}
 use Rattle.sound_files.proofs.Written.{files_written}
+use Rattle.named_files.proofs.Library.{procedures}
+use Rattle.sound_files.proofs.Formless.{subs_none}
+use Rattle.sound_files.proofs.Fine.{files_fine}
 
 module _ (files : List (List SourceUnit)) where
   abbrev p : Program
@@ -41,30 +48,39 @@ module _ (files : List (List SourceUnit)) where
   abbrev flow : FlowProgram
   flow = flow_program table (typed_of p)
 
-  module _ (apart : AreApart (identified files)) (ended : AllEnded at_start p.units) (no_fault : type_fault p ≡ None) (left : AreOrderly files) where
+  module _ (apart : AreApart (identified files)) (ended : AllEnded at_start p.units) (named : name_fault files ≡ None) (no_fault : type_fault p ≡ None) (text : IsPlainText p) (left : AreOrderly files) where
+    -- no subprogram has formals
+    formals_known : (sub : TypedSub) → Has (bodies_of p) sub → (x : ℕ) → Has sub.formals x → is_formal (typing_in p) x ≡ true
+    formals_known sub has x is = absurd (subst (λ xs. Has xs x) (subs_none (site_of (known_of p) p.units) 1 p.units sub text.formless has) is)
+
     -- The resolved code of the files is orderly.
     pub files_orderly : IsOrderly p
     files_orderly = record {
-      written = λ u has. files_written (identified files) (outside (known_of p)) files left.procedures u has (units_faultless p no_fault u has);
+      written = λ u has. files_written (identified files) (outside (known_of p)) files (procedures files named) u has (units_faultless p no_fault u has);
       once = files_once files apart (known_of p);
-      formals = left.formals;
+      formals = formals_known;
       seen = left.seen;
       whole = whole p (files_in_order files apart ended);
       main = left.main;
       is_main = left.is_main;
     }
 
-    -- Where there are no reports, and the instructions are typed, each moment of each run is well owned, and none
-    -- is a trap.
-    pub files_sound : (effects : Effects) → AreEffects flow effects → AreReports flow effects [] → AreFine flow → IsFirstClass flow
+    -- Where there are no reports, each moment of each run is well owned, and none is a trap.
+    pub files_sound : (effects : Effects) → AreEffects flow effects → AreReports flow effects [] → IsFirstClass flow
         → (input : List ℕ) → RunIsSound table (typed_of p) input
-    files_sound effects are none fine class input =
+    files_sound effects are none class input =
         accepted_sound p effects no_fault
-        (record { no_reports = none; effects_are = are; settled = files_settled files apart ended no_fault (typed_of p); fine = fine })
+        (record {
+          no_reports = none;
+          effects_are = are;
+          settled = files_settled files apart ended no_fault (typed_of p);
+          fine = files_fine files apart ended named no_fault text left class;
+        })
         (subst OwnsByShape (flow_table table (typed_of p)) (files_own files apart ended no_fault (typed_of p))) class files_orderly input
 
-  -- So it is if the files are parsed from texts.
-  pub parsed_sound : (texts : List (List Token)) → AreParsed 0 texts files → AllEnded at_start p.units → type_fault p ≡ None → AreOrderly files
-      → (effects : Effects) → AreEffects flow effects → AreReports flow effects [] → AreFine flow → IsFirstClass flow
+  -- So it is if the files are parsed from texts: then their positions are as in a text.
+  pub parsed_sound : (texts : List (List Cut)) → AreParsed 0 texts files → name_fault files ≡ None → type_fault p ≡ None → IsPlainText p → AreOrderly files
+      → (effects : Effects) → AreEffects flow effects → AreReports flow effects [] → IsFirstClass flow
       → (input : List ℕ) → RunIsSound table (typed_of p) input
-  parsed_sound texts parsed ended no_fault left = files_sound (files_apart texts files parsed) ended no_fault left
+  parsed_sound texts parsed named no_fault text left =
+      files_sound (files_apart texts files parsed) (files_ended (identified files) texts files parsed) named no_fault text left

@@ -1,1 +1,4 @@
+-- the class of programs, by their text
+pub mod Class
+-- what is left
 pub mod Left

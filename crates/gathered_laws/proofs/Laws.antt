@@ -1,0 +1,54 @@
+-- What typed expressions ask of tables holds of programs without anonymous access types, where components
+-- have names of their own.
+use Rattle.std.proofs.Common.{◌≡◌, inl, ℕ, ◌<◌, List, arith, IsTrue, None}
+use Rattle.spark_base.specs.Lists.{Has}
+use Rattle.resolved_tree.specs.Trees.{Code, Program}
+use Rattle.type_definitions.specs.declared.table.Known.{Known}
+use Rattle.type_definitions.specs.Whole.{known_of, type_fault}
+use Rattle.type_sizes.specs.Formed.{all_formed}
+use Rattle.settled_types.specs.Orderly.{IsOrderly}
+use Rattle.settled_types.specs.Stamped.{AllOpen}
+use Rattle.settled_types.proofs.Faultless.{program_open}
+use Rattle.settled_types.proofs.Main.{whole as whole_types}
+use Rattle.typed_laws.specs.Fine.{Laws}
+use Rattle.gathered_laws.specs.Left.{Left}
+use Rattle.gathered_laws.specs.Named.{IsNamed}
+use Rattle.gathered_laws.specs.Made.{IsMade, AreTypes}
+use Rattle.gathered_laws.specs.Faultless.{IsFaultless}
+use Rattle.gathered_laws.proofs.Main.{are_types, certain, bounded, element, target, object, literal, typed, result, component, whole, listed}
+use Rattle.gathered_laws.proofs.Faultless.{program_faultless}
+use Rattle.gathered_laws.proofs.Sentences as sentences
+
+pub program_laws : (p : Program) → IsTrue (all_formed p.units) → IsOrderly p → type_fault p ≡ None → ((u : Code) → Has p.units u → IsNamed u)
+    → Left (known_of p) → Laws (known_of p) (IsMade p.units)
+program_laws p formed orderly none named left =
+    let is = IsMade p.units in
+    let low : (t : ℕ) → t < 5 → is t = λ t less. inl less in
+    let known : Known = known_of p in
+    let are : AreTypes is known = are_types p orderly in
+    let opens : AllOpen known p.units = program_open p formed none in
+    let faultless : (u : Code) → Has p.units u → IsFaultless known u = program_faultless p formed none in
+    let wholes = whole_types p formed orderly none in record {
+      same = sentences.same p orderly opens named faultless;
+      owns = wholes.own_law;
+      plain = wholes.plain;
+      word_law = wholes.word_law;
+      based = λ t m. are.bases t;
+      base_of = sentences.base_of p orderly opens named faultless;
+      whole = whole is low known are;
+      listed = listed is low known are;
+      integers = inl (omega arith);
+      booleans = inl (omega arith);
+      numeric = sentences.numeric p orderly opens named faultless;
+      component = λ t i m. component is low known are t i;
+      element = λ t of a b m e. element is low known are t of a b e;
+      target = λ t d constant named m e. target is low known are t d constant named e;
+      object = object is low known are;
+      literal = λ d t n e. (literal is low known are d t n e, sentences.literal p orderly opens named faultless d t n e);
+      typed = typed is low known are;
+      freed = sentences.freed p orderly opens named faultless;
+      certain = λ t m. certain is low known are t;
+      bounded = λ t m. bounded is low known are t;
+      result = result is low known are;
+      names = left.names;
+    }

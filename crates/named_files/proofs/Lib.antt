@@ -1,0 +1,6 @@
+pub mod Faults
+pub mod Words
+pub mod Records
+pub mod Regions
+pub mod Steady
+pub mod Library

@@ -1,0 +1,30 @@
+use Rattle.std.proofs.Common.{◌≡◌, ◌+◌, ◌-◌, ◌*◌, ◌++◌, drop, map}
+use Rattle.machine.specs.Typed.{sorts_within}
+use Rattle.run_codes.specs.Flat.{kind_of}
+use Rattle.type_words.specs.Parts.{fields_kinds, repeated_kinds}
+use Rattle.type_words.proofs.kinds.+kinds.Given as goal
+
+abbrev pub decreases-push_within : goal.decreases-push_within
+decreases-push_within l = 4 * l.room
+
+abbrev pub decreases-push_found : goal.decreases-push_found
+decreases-push_found l = 4 * l.room + 3
+
+abbrev pub decreases-push_shape : goal.decreases-push_shape
+decreases-push_shape l = 4 * l.room + 2
+
+abbrev pub decreases-push_fields : goal.decreases-push_fields
+decreases-push_fields l = 4 * l.room + 1
+
+abbrev pub decreases-push_elements : goal.decreases-push_elements
+decreases-push_elements l = 4 * l.room + 1
+
+abbrev pub invariant-push_fields-components : goal.invariant-push_fields-components
+invariant-push_fields-components l =
+    l.kinds.items ++ fields_kinds (sorts_within l.room l.table) (drop l.component-index l.components)
+    ≡ l.initial.kinds.items ++ fields_kinds (sorts_within l.room l.table) l.components
+
+abbrev pub invariant-push_elements-elements : goal.invariant-push_elements-elements
+invariant-push_elements-elements l =
+    l.kinds.items ++ repeated_kinds (l.count - l._element) (map kind_of (sorts_within l.room l.table l.element))
+    ≡ l.initial.kinds.items ++ repeated_kinds l.count (map kind_of (sorts_within l.room l.table l.element))
