@@ -1,5 +1,5 @@
 -- Files whose tokens are those of the definition are parsed from texts.
-use Rattle.std.proofs.Common.{◌≡◌, ℕ, suc, ◌+◌, ◌-◌, List, [], ◌∷◌, length, Result, Ok, Err, refl, subst, arith}
+use Rattle.std.proofs.Common.{◌≡◌, ℕ, suc, ◌+◌, ◌-◌, List, [], ◌∷◌, length, Ok, Err, refl, subst, arith}
 use Rattle.ada_lexer.specs.Tokens.{Cut, CutResult, tokens}
 use Rattle.ada_tree.specs.declared.unit.SourceUnit.{SourceUnit}
 use Rattle.spark_tool.specs.Lexing.{AllTokens, with_tokens, then_files, all_tokens}
