@@ -1,0 +1,3 @@
+mod Naming
+mod Typing
+pub mod Small
