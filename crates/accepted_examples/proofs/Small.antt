@@ -6,7 +6,6 @@ use Rattle.ada_tree.specs.declared.unit.SourceUnit.{SourceUnit}
 use Rattle.ada_tree.specs.declared.unit.SourceUnit.TheVariants as unit
 use Rattle.ada_grammar.proofs.SmallSources.{IsTextOf, computes, source_of, at, id, null_at, subprogram_of}
 use Rattle.name_events.specs.Faults.{name_fault}
-use Rattle.type_definitions.specs.Names.{seen}
 use Rattle.type_definitions.specs.Whole.{known_of, type_fault}
 use Rattle.type_definitions.specs.declared.table.Known.{Known}
 use Rattle.typed_tree.specs.Programs.{site_of}
