@@ -1,12 +1,12 @@
 -- What is copied back, one formal after the other.
-use Rattle.std.proofs.Common.{◌≡◌, ◌≢◌, ℕ, ◌+◌, Bool, true, false, List, [], ◌∷◌, ◌++◌, length, map, refl, sym, ◌∙◌, ap, subst, Option, Some, None, Result, Ok, Err, if◌then◌else◌, ℤ}
+use Rattle.std.proofs.Common.{◌≡◌, ℕ, Bool, true, false, List, [], ◌∷◌, length, sym, ◌∙◌, ap, Option, Some, None, if◌then◌else◌, ℤ}
 use Rattle.std.specs.Prelude.{slice_get, ◌&&◌, drop, take}
 use Rattle.type_definitions.specs.Types.{Table}
 use Rattle.run_values.specs.declared.value.Kind.{Kind}
 use Rattle.reuse_heap.specs.Cells.{Cell, changed}
 use Rattle.machine.specs.Evaluate.{Touched}
 use Rattle.machine.specs.Words.{access_offsets}
-use Rattle.run_codes.specs.Flat.{Flat, Stop, Got, Given, Stops, Broken, and_then, is_broken, constraint, touched, front, Spot, InStack, InCell, kinds, held, are_pointers, are_in, moved_out, stored, with_stack, spliced, all_gone, values_gone, Traps, Made, Done, Halted, Failed, made_then, reads}
+use Rattle.run_codes.specs.Flat.{Flat, Stop, Got, Given, Stops, Broken, and_then, is_broken, constraint, touched, front, Spot, InStack, InCell, kinds, held, are_pointers, are_in, moved_out, stored, with_stack, spliced, all_gone, values_gone, Traps, Made, Done, Halted, made_then, reads}
 use Rattle.run_codes.specs.Points.{Return, in_stack, fits, reached, copied_back}
 use Rattle.call_steps.specs.Failures.{is_failed}
 use Rattle.call_steps.proofs.Reading.{reads_whole, reads_there, and_whole, and_there, if_there, reads_then, reads_same, if_then, if_same, failed_first, changed_length}

@@ -1,7 +1,7 @@
 -- What is read, and made after it.
-use Rattle.std.proofs.Common.{◌≡◌, ℕ, zero, suc, Bool, true, false, List, [], ◌∷◌, ◌++◌, length, refl, sym, ◌∙◌, ap, subst, Option, Some, None, Result, Ok, Err, if◌then◌else◌}
+use Rattle.std.proofs.Common.{◌≡◌, ℕ, zero, suc, Bool, true, false, List, [], ◌∷◌, length, refl, sym, ◌∙◌, ap, if◌then◌else◌}
 use Rattle.reuse_heap.specs.Cells.{Cell, changed}
-use Rattle.run_codes.specs.Flat.{Flat, Stop, Got, Given, Stops, Broken, and_then, is_broken, Made, Done, Halted, Failed, made_then, reads}
+use Rattle.run_codes.specs.Flat.{Flat, Got, Given, Stops, Broken, and_then, is_broken, Made, Done, Halted, Failed, made_then, reads}
 use Rattle.call_steps.specs.Failures.{is_failed}
 
 -- ---- what isn't broken

@@ -1,5 +1,5 @@
 -- The parts of the frame that runs, and the frames that wait.
-use Rattle.std.specs.Prelude.{ℕ, ◌-◌, List, map, length, take, drop, reverse, ℤ}
+use Rattle.std.specs.Prelude.{◌-◌, List, map, length, take, drop, reverse, ℤ}
 use Rattle.run_codes.specs.Points.{Held}
 use Rattle.run_codes.specs.Points as points
 use Rattle.run_frames.specs.Stacks.{Stacked}

@@ -1,5 +1,5 @@
 -- What is kept where a frame is entered or left.
-use Rattle.std.proofs.Common.{◌≡◌, ℕ, List, [], ◌∷◌, ◌++◌, map, length, take, refl, sym, ◌∙◌, ap, subst}
+use Rattle.std.proofs.Common.{◌≡◌, List, [], ◌∷◌, ◌++◌, map, length, take, refl, sym, ◌∙◌, ap, subst}
 use Rattle.run_memory.specs.Memory.{Kept}
 use Rattle.run_frames.specs.declared.rows.Frame.{Frame}
 use Rattle.run_frames.specs.declared.rows.Return.{Return}

@@ -1,5 +1,5 @@
 -- What is kept where a step goes on.
-use Rattle.std.proofs.Common.{◌≡◌, ℕ, ◌+◌, List, [], ◌∷◌, ◌++◌, length, take, drop, refl, sym, ◌∙◌, ap, subst, Some, ℤ}
+use Rattle.std.proofs.Common.{◌≡◌, ℕ, List, [], ◌∷◌, length, take, drop, refl, sym, ◌∙◌, ap, subst, Some, ℤ}
 use Rattle.type_definitions.specs.Types.{Table}
 use Rattle.run_codes.specs.Codes.{Point}
 use Rattle.run_codes.specs.Programs.{Program}

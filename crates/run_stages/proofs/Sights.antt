@@ -1,15 +1,13 @@
 -- What a step sees of what is kept: the values that its point takes, and the memory that it is evaluated by.
-use Rattle.std.proofs.Common.{◌≡◌, ℕ, true, ◌&&◌, ◌==◌, List, [], ◌∷◌, map, length, take, drop, refl, sym, ◌∙◌, ap, arith}
-use Rattle.std.specs.Prelude.{reverse}
+use Rattle.std.proofs.Common.{◌≡◌, ℕ, true, ◌&&◌, ◌==◌, List, [], ◌∷◌, length, drop, refl, sym, ◌∙◌, ap, arith}
 use Rattle.std.specs.Cmp.Lexicographic.{pointwise}
 use Rattle.type_definitions.specs.Types.{Table}
 use Rattle.run_codes.specs.Codes.{Point}
-use Rattle.run_codes.specs.Flat.{Flat}
 use Rattle.run_codes.specs.Programs.{Program}
-use Rattle.run_codes.specs.Points.{Held, Frame, Turn, start, are_taken}
+use Rattle.run_codes.specs.Points.{start, are_taken}
 use Rattle.run_memory.specs.Memory.{flat}
 use Rattle.run_frames.specs.Frames.{word_at, AreLatest}
-use Rattle.run_frames.specs.Parts.{own, outside}
+use Rattle.run_frames.specs.Parts.{outside}
 use Rattle.run_frames.proofs.Nested.{runs, taken_types, taken_words}
 use Rattle.run_stages.specs.Stages.{Stage, state_of, IsStage, running, turn_of}
 

@@ -1,15 +1,12 @@
 -- What the next step is, and what it comes to.
-use Rattle.std.proofs.Common.{◌≡◌, ◌≤◌, ℕ, zero, suc, ◌+◌, ◌-◌, Bool, true, List, [], ◌∷◌, ◌++◌, map, length, drop, refl, sym, ◌∙◌, ap, subst, Option, Some, None, arith, if◌then◌else◌}
+use Rattle.std.proofs.Common.{◌≡◌, ◌≤◌, ℕ, zero, suc, ◌+◌, ◌-◌, List, [], ◌∷◌, map, length, drop, refl, sym, ◌∙◌, ap, Option, Some, None, arith, if◌then◌else◌}
 use Rattle.std.specs.Prelude.{slice_get}
 use Rattle.std.proofs.lemmas.List.{length-append}
-use Rattle.type_definitions.specs.Types.{Table}
-use Rattle.reuse_heap.specs.Cells.{Cell}
 use Rattle.machine.specs.Evaluate.{Exception, Trap}
-use Rattle.machine.specs.States.{Ending, Raised, Trapped}
+use Rattle.machine.specs.States.{Raised, Trapped}
 use Rattle.run_codes.specs.Codes.{Point}
 use Rattle.run_codes.specs.Flat.{Flat, Raises, Traps}
-use Rattle.run_codes.specs.Programs.{Program}
-use Rattle.run_codes.specs.Points.{Frame, State, Outcome, Goes, Ends, Wants, Fails, stepped, turned, done, goes, after, waiting, halted, counted, as_freed, given_up}
+use Rattle.run_codes.specs.Points.{State, Outcome, Goes, Ends, Wants, Fails, stepped, turned, done, goes, after, waiting, halted, counted, as_freed, given_up}
 use Rattle.run_memory.specs.Memory.{Kept, flat}
 use Rattle.run_frames.specs.Frames.{AreLatest}
 use Rattle.run_frames.specs.Parts.{outside}

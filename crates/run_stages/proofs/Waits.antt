@@ -1,15 +1,15 @@
 -- What is kept where a value waits.
-use Rattle.std.proofs.Common.{◌≡◌, ℕ, ◌≤◌, List, [], ◌∷◌, ◌++◌, length, take, drop, refl, sym, ◌∙◌, ap, subst, Some, ℤ}
+use Rattle.std.proofs.Common.{◌≡◌, ℕ, List, [], ◌∷◌, length, drop, refl, sym, ◌∙◌, ap, Some, ℤ}
 use Rattle.type_definitions.specs.Types.{Table}
 use Rattle.run_codes.specs.Codes.{Point}
 use Rattle.run_codes.specs.Programs.{Program}
-use Rattle.run_codes.specs.Points.{Held, Frame, State, waiting, after, given_to, counted}
+use Rattle.run_codes.specs.Points.{Held, Frame, after, given_to}
 use Rattle.run_memory.specs.Memory.{Kept, flat}
 use Rattle.run_frames.specs.Frames.{frames_of, AreLatest}
 use Rattle.run_frames.specs.Parts.{own, own_returns, outside}
 use Rattle.run_frames.proofs.Nested.{runs, waits_more, held_outside}
 use Rattle.whole_runs.specs.Turns.{bare}
-use Rattle.run_stages.specs.Stages.{Stage, state_of, IsStage, running, turn_of, without, at_point, with_wait, leaving_waits}
+use Rattle.run_stages.specs.Stages.{Stage, state_of, IsStage, turn_of, without, at_point, with_wait, leaving_waits}
 use Rattle.run_stages.proofs.Goes.{cut_is, cut_runs, at_next, next_is}
 
 -- One more value waits in the first frame.

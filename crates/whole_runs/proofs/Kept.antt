@@ -1,18 +1,16 @@
 -- What steps and tellings keep of a run.
-use Rattle.std.proofs.Common.{◌≡◌, ◌⊎◌, inl, inr, ℕ, zero, suc, ◌+◌, ◌-◌, ◌<◌, Bool, true, false, List, [], ◌∷◌, ◌++◌, length, refl, sym, ◌∙◌, ap, subst, append-nil, Option, Some, None, Result, Ok, Err, OnOk, IfOk, arith}
+use Rattle.std.proofs.Common.{◌≡◌, ℕ, suc, ◌+◌, ◌-◌, ◌<◌, false, List, [], ◌++◌, length, refl, sym, ◌∙◌, ap, subst, Some, Result, Ok, Err, OnOk, IfOk, arith}
 use Rattle.std.specs.Io.KnownBytes.{Appends}
 use Rattle.std.proofs.lemmas.List.{length-append}
-use Rattle.machine.specs.States.{Ending, Spent, Leak}
-use Rattle.run_codes.specs.Points.{Frame, State, Outcome, Goes, Ends, Wants, Fails, within, step, then_on, run_given, run_with}
-use Rattle.run_codes.specs.Points as points
+use Rattle.machine.specs.States.{Ending, Spent}
+use Rattle.run_codes.specs.Points.{State, Outcome, Goes, Ends, Wants, Fails, within, then_on, run_given, run_with}
 use Rattle.run_results.specs.declared.ran.Ending.{Ending as EndingRow}
-use Rattle.run_results.specs.declared.ran.Ran.{Ran}
-use Rattle.run_results.specs.Results.{ending_of, IsRun}
+use Rattle.run_results.specs.Results.{ending_of}
 use Rattle.run_results.specs.Lines.{leak_lines}
 use Rattle.whole_runs.specs.declared.stepping.Turn.TheVariants as turn
 use Rattle.whole_runs.specs.Pasts.{Past, plain, since, stepped, mapped}
 use Rattle.whole_runs.specs.Turns.{Setting, one_step, some_steps, IsRunning, is_failing, bare, IsSeen, IsTurned}
-use Rattle.whole_runs.specs.Tellings.{Owes, Sinks, IsTold, TellsOn}
+use Rattle.whole_runs.specs.Tellings.{Owes, Sinks, TellsOn}
 use Rattle.whole_runs.specs.Underway.{IsUnderway}
 use Rattle.whole_runs.specs.Answers.{IsOver, IsWritten}
 use Rattle.whole_runs.proofs.Since.{step_since}

@@ -1,6 +1,6 @@
 -- Steps don't look at the output and the leaks before them, nor at what the last step left in the memory of
 -- how its point was evaluated.
-use Rattle.std.proofs.Common.{◌≡◌, ℕ, zero, suc, ◌+◌, Bool, true, false, not, ◌&&◌, List, [], ◌∷◌, ◌++◌, length, take, drop, refl, sym, ap, subst, ◌∙◌, append_assoc, Option, Some, None, ℤ, pos, negsuc, ◌+ℤ◌, unsigned_abs, int_le, int_lt, nat_le, nat_lt, if◌then◌else◌}
+use Rattle.std.proofs.Common.{◌≡◌, ℕ, zero, suc, ◌+◌, Bool, true, false, not, ◌&&◌, List, [], ◌∷◌, ◌++◌, length, take, drop, refl, sym, ap, subst, ◌∙◌, append_assoc, Option, Some, None, ℤ, pos, unsigned_abs, int_le, nat_le, nat_lt, if◌then◌else◌}
 use Rattle.std.specs.Prelude.{slice_get}
 use Rattle.spark_base.specs.declared.position.Pos.{Pos}
 use Rattle.type_definitions.specs.Types.{Table}
@@ -11,11 +11,11 @@ use Rattle.run_values.specs.declared.items.Item.TheVariants as item
 use Rattle.run_values.specs.Items.{next_item}
 use Rattle.reuse_heap.specs.Cells.{Cell}
 use Rattle.machine.specs.Evaluate.{ProgramError, StorageError, DataError, EndError, Twice}
-use Rattle.machine.specs.States.{Leak, Normal, Ending, stack_words}
+use Rattle.machine.specs.States.{Leak, Normal, stack_words}
 use Rattle.run_codes.specs.Codes.{Code, Place, Fill, Actual, Piece, Choice, Does, Go, Put, Store, Assign, Call, Output, Input, Release, Test, Choose, Start, Next, EvaluateLeft, EvaluateRight, Hold, EndPointer, EndScope, Finish, Fall, Point, Sub}
-use Rattle.run_codes.specs.Flat.{Flat, Stop, Raises, Traps, Memory, Got, Given, Stops, Broken, and_then, found, kinds, most_cells, constraint, is_zero, is_between, word, Spot, InStack, InCell, spot, words_at, held, stored, Made, Done, Halted, Failed, without_cell, default_words, filled}
+use Rattle.run_codes.specs.Flat.{Flat, Stop, Raises, Traps, Memory, Got, Given, Stops, Broken, and_then, found, kinds, most_cells, constraint, is_zero, is_between, word, Spot, InCell, spot, words_at, stored, Made, Done, Halted, Failed, without_cell, default_words, filled}
 use Rattle.run_codes.specs.Programs.{Program}
-use Rattle.run_codes.specs.Points.{Held, Return, Frame, State, Outcome, Goes, Ends, Wants, Fails, Turn, taken, waiting, are_taken, start, counted, ended, halted, on_made, on_got, with_frame, frame_of, frames_words, sub_at, led, after, goes, leak, leaks_at, checked_at, leaking, leaking_goes, in_stack, put_words, put, store, assign, Passed, all_passed, out_leaks, with_formals, returns_of, entered, call, copied_back, finish, given_to, hold, text, output, input, release, end_pointer, end_scope, test, chosen, choose, truth_held, evaluate_left, evaluate_right, start_loop, next_value, next_turn, done, turned, stepped, step}
+use Rattle.run_codes.specs.Points.{Held, Frame, State, Outcome, Goes, Ends, Wants, Fails, Turn, waiting, are_taken, start, counted, halted, on_made, on_got, with_frame, frame_of, frames_words, sub_at, after, goes, leak, leaks_at, checked_at, leaking, leaking_goes, in_stack, put_words, put, store, assign, Passed, all_passed, out_leaks, with_formals, returns_of, entered, call, copied_back, finish, hold, text, output, input, release, end_pointer, end_scope, test, chosen, choose, truth_held, evaluate_left, evaluate_right, start_loop, next_value, next_turn, done, turned, stepped, step}
 use Rattle.whole_runs.specs.Pasts.{Past, plain_memory, plain, since, mapped}
 use Rattle.whole_runs.specs.Pasts as pasts
 

@@ -1,5 +1,5 @@
 -- What is answered of a run.
-use Rattle.std.specs.Prelude.{◌≡◌, ℕ, List, Option, Some}
+use Rattle.std.specs.Prelude.{◌≡◌, ℕ, List, Some}
 use Rattle.std.specs.Io.KnownBytes.{Appends}
 use Rattle.machine.specs.States.{Ending}
 use Rattle.run_codes.specs.Points.{State, Outcome, run_given, run_with}

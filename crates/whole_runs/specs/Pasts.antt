@@ -1,5 +1,5 @@
 -- States whose output and leaks were taken from time to time, and those of a run that keeps all of them.
-use Rattle.std.specs.Prelude.{◌≡◌, ℕ, suc, List, [], ◌++◌}
+use Rattle.std.specs.Prelude.{ℕ, suc, List, [], ◌++◌}
 use Rattle.machine.specs.States.{Leak}
 use Rattle.run_codes.specs.Flat.{Flat}
 use Rattle.run_codes.specs.Points.{State, Outcome, Goes, Ends, Wants, Fails}

@@ -1,4 +1,4 @@
-use Rattle.std.proofs.Common.{◌≡◌, OnOk, map, string_bytes, sym, ◌∙◌}
+use Rattle.std.proofs.Common.{map, string_bytes, ◌∙◌}
 use Rattle.whole_runs.proofs.Kept.{on_ok}
 use Rattle.whole_runs.proofs.Owed.{tells_on}
 use Rattle.whole_runs.proofs.told.tell.Goals as goal

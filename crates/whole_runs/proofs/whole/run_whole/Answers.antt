@@ -1,5 +1,4 @@
-use Rattle.std.proofs.Common.{◌≡◌, ◌≤◌, [], false, IfOk, map, string_bytes, ℕ, ◌+◌, ◌-◌, refl, sym, ◌∙◌, ap, subst, arith}
-use Rattle.machine.specs.States.{Spent}
+use Rattle.std.proofs.Common.{◌≡◌, ◌≤◌, [], map, string_bytes, ℕ, ◌+◌, ◌-◌, refl, sym, ◌∙◌, subst, arith}
 use Rattle.whole_runs.specs.Turns.{some_steps, one_step, IsTurned}
 use Rattle.whole_runs.specs.Tellings.{Sinks}
 use Rattle.whole_runs.specs.Underway.{IsUnderway}

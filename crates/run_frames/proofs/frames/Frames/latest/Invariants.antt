@@ -1,4 +1,4 @@
-use Rattle.std.proofs.Common.{◌≡◌, ◌+◌, map, take, drop}
+use Rattle.std.proofs.Common.{◌≡◌, map, take, drop}
 use Rattle.run_frames.specs.declared.rows.Wait.{Wait}
 use Rattle.run_frames.proofs.frames.Frames.latest.Given as goal
 
