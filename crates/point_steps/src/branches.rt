@@ -1,0 +1,71 @@
+//! Points that lead to one of several others.
+ghost use Rattle.std.specs.Prelude.{◌≡◌, ◌<◌, map, length, false, IsTrue};
+ghost use Rattle.code_rows.specs.Rows.{code_at};
+ghost use Rattle.code_rows.specs.Stops.{shown};
+ghost use Rattle.code_rows.specs.Points.{choice_of, choices_of, is_node, is_range};
+ghost use Rattle.run_memory.specs.Memory.{flat};
+ghost use Rattle.run_codes.specs.Flat.{is_broken};
+ghost use Rattle.run_codes.specs.Points as points;
+ghost use Rattle.point_steps.specs.Steps.{tested, chosen_by, decided_by};
+
+use crate::between::is_between;
+use code_rows::{Choice, Exception, Nodes, Range, Rows, Stop};
+use run_memory::Memory;
+use run_words::word;
+
+/// Where a condition leads.
+#[tactic(auto, using(crate::proofs::Wholes::tested_whole))]
+pub fn test(
+    nodes: &Nodes,
+    memory: &Memory,
+    condition: u32,
+    holds: u32,
+    fails: u32,
+) -> Result<u32, Stop>
+    requires there { condition < length nodes.now }
+    requires whole { is_broken (tested (flat memory.now) (code_at nodes.now condition) holds fails) ≡ false }
+    ensures { tested (flat memory.now) (code_at nodes.now condition) holds fails ≡ shown result }
+{
+    let word = word(nodes, memory, condition)?;
+    Ok(if word == 0 { fails } else { holds })
+}
+
+/// Where the first choice leads that has the value.
+#[tactic(auto, using(crate::proofs::Choices::picked, crate::proofs::Choices::passed))]
+fn chosen(choices: &[Choice], word: i64) -> Option<u32>
+    ensures { result ≡ points.chosen word (map choice_of choices.now) }
+{
+    'choices: for choice in choices {
+        if is_between(word, choice.low, choice.high) {
+            return Some(choice.next);
+        }
+    }
+    None
+}
+
+/// Where the first choice leads that has the value of an expression. Constraint_Error: there is none.
+#[tactic(auto, using(crate::proofs::Wholes::chosen_whole, crate::proofs::Wholes::range_is))]
+pub fn choose(rows: &Rows, memory: &Memory, selector: u32, choices: Range) -> Result<u32, Stop>
+    requires there { IsTrue (is_node rows.now selector) }
+    requires range { IsTrue (is_range rows.now.choices.items choices) }
+    requires whole { is_broken (chosen_by (flat memory.now) (code_at rows.now.nodes selector) (choices_of rows.now choices)) ≡ false }
+    ensures { chosen_by (flat memory.now) (code_at rows.now.nodes selector) (choices_of rows.now choices) ≡ shown result }
+{
+    let word = word(&rows.nodes, memory, selector)?;
+    let first = choices.first as usize;
+    match chosen(&rows.choices[first..first + choices.count as usize], word) {
+        Some(next) => Ok(next),
+        None => Err(Stop::Raises(Exception::ConstraintError)),
+    }
+}
+
+/// Where the value of the left operand of a short circuit leads.
+pub fn decided(word: i64, or_else: bool, next: u32, decided: u32) -> u32
+    ensures { result ≡ decided_by word or_else next decided }
+{
+    if (word != 0) == or_else {
+        decided
+    } else {
+        next
+    }
+}
