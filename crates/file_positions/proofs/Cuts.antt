@@ -1,5 +1,5 @@
 -- The tokens of a text, as the definition cuts it, stand in its order.
-use Rattle.std.proofs.Common.{◌≡◌, ◌⊎◌, inl, inr, ℕ, zero, suc, ◌-◌, ◌+◌, ◌==◌, Bool, true, false, if◌then◌else◌, List, [], ◌∷◌, take, Result, Ok, Err, refl, sym, ap, ◌∙◌, subst, arith}
+use Rattle.std.proofs.Common.{◌≡◌, ◌⊎◌, inl, inr, ℕ, zero, suc, ◌-◌, ◌+◌, ◌==◌, Bool, true, false, if◌then◌else◌, List, [], ◌∷◌, take, Ok, Err, refl, sym, ap, ◌∙◌, subst, arith}
 use Rattle.spark_base.specs.declared.position.Pos.{Pos}
 use Rattle.spark_base.specs.Lists.{Has}
 use Rattle.spark_base.specs.Positions.{Precedes}

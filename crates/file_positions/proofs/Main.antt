@@ -1,6 +1,5 @@
 -- No two identifiers of parsed files have one position, and full types end after all marks up to there.
-use Rattle.std.proofs.Common.{ℕ, suc, ◌≡◌, sym, ap, ◌∙◌, subst, List, [], ◌∷◌, ◌++◌, map}
-use Rattle.std.specs.List.{flat_map}
+use Rattle.std.proofs.Common.{ℕ, suc, ◌≡◌, sym, ap, ◌∙◌, subst, List, [], ◌∷◌, map}
 use Rattle.std.proofs.lemmas.List.Concat.{flat_map-append}
 use Rattle.spark_base.proofs.Lists.{Has-map}
 use Rattle.ada_lexer.specs.Tokens.{Cut}

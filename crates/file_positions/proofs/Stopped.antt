@@ -1,5 +1,5 @@
 -- The marks of definitions and the ends of full types stand in the order of the tokens.
-use Rattle.std.proofs.Common.{ℕ, suc, ◌≡◌, inl, refl, sym, List, [], ◌∷◌, ◌++◌, map, Option, Some, None, subst, append_assoc}
+use Rattle.std.proofs.Common.{ℕ, suc, inl, refl, sym, List, [], ◌∷◌, ◌++◌, map, Option, Some, None, subst, append_assoc}
 use Rattle.std.specs.List.{flat_map}
 use Rattle.std.proofs.lemmas.List.{append-nil}
 use Rattle.std.proofs.lemmas.List.Concat.{flat_map-append}
@@ -32,13 +32,13 @@ use Rattle.ada_tree.specs.declared.unit.PackageBody.{PackageBody}
 use Rattle.ada_tree.specs.declared.unit.BodyPart.{BodyPart}
 use Rattle.ada_tree.specs.declared.unit.BodyPart.TheVariants as part
 use Rattle.ada_tree.specs.declared.unit.SubprogramBody.{SubprogramBody}
-use Rattle.ada_tree.specs.Spelling.{symbol, word, optional, dotted_spelling, component_spelling, item_spelling, stmts_box, stmts_spelling, stmt_box, next_stmts_spelling, stmt_spelling, elsifs_spelling, elsif_spelling, when_box, next_whens_spelling, when_spelling, mode_spelling, subspec_spelling, decl_spelling, subprogram_spelling, body_part_spelling, private_spelling, package_spelling, package_body_spelling, context_spelling, unit_spelling, source_spelling}
+use Rattle.ada_tree.specs.Spelling.{symbol, optional, dotted_spelling, component_spelling, item_spelling, stmts_box, stmts_spelling, stmt_box, next_stmts_spelling, stmt_spelling, elsifs_spelling, elsif_spelling, when_box, next_whens_spelling, when_spelling, decl_spelling, subprogram_spelling, body_part_spelling, private_spelling, package_spelling, package_body_spelling, unit_spelling, source_spelling}
 use Rattle.ada_tree.specs.WellPlaced.{EachSome, DottedPlaced, ComponentPlaced, ItemPlaced, StmtsBoxPlaced, StmtsPlaced, StmtBoxPlaced, EachStmtPlaced, StmtPlaced, ElsifsPlaced, ElsifPlaced, WhenBoxPlaced, WhensPlaced, WhenPlaced, DeclPlaced, SubprogramPlaced, BodyPartPlaced, PrivatePlaced, PackagePlaced, PackageBodyPlaced, UnitPlaced, WellPlaced}
 use Rattle.resolved_tree.specs.Trees.{Code, code_list}
 use Rattle.expression_lowering.specs.LoweredExpressions.{Numbers}
 use Rattle.tree_lowering.specs.Lowered.{lowered_component, lowered_subtype, lowered_type, lowered_declaration, item_before, before_all, lowered_items, lowered_simple, lowered_stmts, lowered_stmt_box, stmts_row, lowered_stmt, lowered_stmts_box, elsifs_row, lowered_elsif, lowered_when_box, whens_row, lowered_when, lowered_subprogram, decl_before, part_before, lowered_decls, lowered_private, lowered_package, lowered_package_body, lowered_unit}
 use Rattle.file_positions.specs.Order.{IsLeftOf, token_position, spelled_positions}
-use Rattle.file_positions.specs.Stops.{group_stops, list_stops, definition_stops, stops, all_stops}
+use Rattle.file_positions.specs.Stops.{group_stops, list_stops, stops, all_stops}
 use Rattle.file_positions.proofs.Rows.{left_behind, left_both}
 
 -- these positions are of tokens of the spelling, in its order

@@ -1,5 +1,5 @@
 -- Types that are based on one type have one definition, or are scalar of one kind, after both turns.
-use Rattle.std.proofs.Common.{◌≡◌, ◌⊎◌, inl, inr, ℕ, zero, suc, ◌-◌, ◌<◌, ◌≤◌, true, false, List, [], ◌∷◌, ◌++◌, replicate, refl, sym, ap, ◌∙◌, arith, subst, true≢false}
+use Rattle.std.proofs.Common.{◌≡◌, inl, inr, ℕ, zero, suc, ◌-◌, ◌<◌, ◌≤◌, true, false, List, [], ◌∷◌, replicate, refl, sym, ap, ◌∙◌, arith, subst, true≢false}
 use Rattle.std.specs.Prelude.{slice_get}
 use Rattle.spark_base.specs.Lists.{Has}
 use Rattle.resolved_tree.specs.Trees.{Code, More, Enumeration, Record, Array, Access, TypeDecl, ConstrainedSubtype, SubBody, Package, PackageBody, If, Branch, Case, When, Loop, While, For, Block, Program}
@@ -9,7 +9,7 @@ use Rattle.type_definitions.specs.declared.table.Shape.TheVariants as shape
 use Rattle.type_definitions.specs.Types.{Table, base, meant_type, no_type}
 use Rattle.type_definitions.specs.Names.{Context}
 use Rattle.type_definitions.specs.Gathered.{gather, defined, declared_number}
-use Rattle.type_definitions.specs.Whole.{predefined_types, at_first, outside, gather_units, known_from, known_of}
+use Rattle.type_definitions.specs.Whole.{predefined_types, outside, gather_units, known_from, known_of}
 use Rattle.settled_types.specs.Wholes.{written}
 use Rattle.settled_types.specs.Orderly.{Past, at_start, past_after, past_units, AllOrderly, IsOrderly}
 use Rattle.settled_types.specs.Stamped.{AllOpen, IsFixed, AreRows, LeadsTo}
@@ -20,7 +20,7 @@ use Rattle.gathered_laws.specs.DefinitionKinds.{kind, kind_defined, Kinds}
 use Rattle.gathered_laws.specs.Named.{IsNamed}
 use Rattle.gathered_laws.specs.Based.{IsOne, Agrees, AreBased}
 use Rattle.gathered_laws.specs.Faultless.{IsFaultless}
-use Rattle.gathered_laws.proofs.Nodes.{Node, rows_after, leads_before}
+use Rattle.gathered_laws.proofs.Nodes.{Node, rows_after}
 use Rattle.gathered_laws.proofs.DefinedKinds.{kinds, defined_kind}
 use Rattle.gathered_laws.proofs.Walk.{Allows, Bounded, walks}
 use Rattle.gathered_laws.proofs.Bounded.{ArePredefined, low, base_low, meant_low, written_low, bounded}

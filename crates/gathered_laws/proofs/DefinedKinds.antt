@@ -1,5 +1,5 @@
 -- After a turn over the text each full type has the kind of its definition.
-use Rattle.std.proofs.Common.{◌≡◌, inl, ℕ, ◌+◌, ◌<◌, ◌≤◌, true, List, set, length, refl, sym, ap, ◌∙◌, arith, Some}
+use Rattle.std.proofs.Common.{◌≡◌, inl, ℕ, ◌+◌, ◌≤◌, true, List, refl, ap, ◌∙◌, arith, Some}
 use Rattle.std.specs.Prelude.{slice_get}
 use Rattle.spark_base.specs.declared.position.Pos.{Pos}
 use Rattle.spark_base.specs.Lists.{Has}
@@ -17,7 +17,7 @@ use Rattle.settled_types.specs.Stamped.{IsFixed}
 use Rattle.settled_types.proofs.Rows.{slice_in}
 use Rattle.settled_types.proofs.Gathered.{without_it}
 use Rattle.gathered_laws.specs.DefinitionKinds.{kind, kind_defined, Kinds}
-use Rattle.gathered_laws.proofs.Nodes.{Node, stays, fixes, Two, Halves, list_node, if_node, block_node, inside, body_node, branch_node, case_node, when_node, loop_node, while_node, with_parameter, for_node, in_front, package_node, package_body_node}
+use Rattle.gathered_laws.proofs.Nodes.{Node, stays, fixes, list_node, if_node, block_node, inside, body_node, branch_node, case_node, when_node, loop_node, while_node, with_parameter, for_node, in_front, package_node, package_body_node}
 
 pub defined_kind : (c : Context) (def : Code) → kind (defined c def) ≡ kind_defined def
 defined_kind c (Enumeration literals) = refl

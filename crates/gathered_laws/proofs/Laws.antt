@@ -1,6 +1,6 @@
 -- What typed expressions ask of tables holds of programs without anonymous access types, where components
 -- have names of their own.
-use Rattle.std.proofs.Common.{◌≡◌, inl, ℕ, ◌<◌, List, arith, IsTrue, None}
+use Rattle.std.proofs.Common.{◌≡◌, inl, ℕ, ◌<◌, arith, IsTrue, None}
 use Rattle.spark_base.specs.Lists.{Has}
 use Rattle.resolved_tree.specs.Trees.{Code, Program}
 use Rattle.type_definitions.specs.declared.table.Known.{Known}

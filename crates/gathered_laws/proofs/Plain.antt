@@ -1,5 +1,5 @@
 -- Where no type is an anonymous access type, declarations of objects and of subprograms make no rows.
-use Rattle.std.proofs.Common.{◌≡◌, ℕ, Bool, true, false, refl, sym, ap, ◌∙◌, if◌then◌else◌}
+use Rattle.std.proofs.Common.{◌≡◌, ℕ, Bool, true, false, refl, ◌∙◌, if◌then◌else◌}
 use Rattle.resolved_tree.specs.Trees.{More, Code, Anonymous, Formals, Front}
 use Rattle.type_definitions.specs.declared.table.InitialValue.{InitialValue}
 use Rattle.type_definitions.specs.Types.{Table}

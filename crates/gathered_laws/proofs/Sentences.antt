@@ -1,6 +1,6 @@
 -- Five of the sentences on the table of types that typed expressions ask for: on types with one base, ranges
 -- of Integer, literals and instances.
-use Rattle.std.proofs.Common.{◌≡◌, ◌⊎◌, inl, inr, ℕ, zero, suc, ◌+◌, ◌-◌, ◌<◌, ◌≤◌, Bool, true, false, ◌&&◌, List, [], ◌∷◌, ◌++◌, get_or, replicate, refl, sym, ap, ◌∙◌, arith, subst, Option, Some, None, IsTrue, true≢false, if◌then◌else◌}
+use Rattle.std.proofs.Common.{◌≡◌, ◌⊎◌, inl, inr, ℕ, zero, suc, ◌+◌, ◌-◌, ◌<◌, Bool, true, false, ◌&&◌, List, [], ◌∷◌, ◌++◌, get_or, replicate, refl, sym, ap, ◌∙◌, arith, subst, Option, Some, None, true≢false, if◌then◌else◌}
 use Rattle.std.specs.Prelude.{slice_get}
 use Rattle.std.proofs.lemmas.Bool.{cases_lt}
 use Rattle.spark_base.specs.Lists.{Has}
@@ -14,7 +14,6 @@ use Rattle.type_definitions.specs.declared.table.Shape.TheVariants as shape
 use Rattle.type_definitions.specs.Types.{Table, base, meant_type, meant_type_found, shape_of, shape_found, full, view_of}
 use Rattle.type_definitions.specs.Entries.{entry_of, integer, is_type}
 use Rattle.type_definitions.specs.Names.{Context}
-use Rattle.type_definitions.specs.Expressions.{Given}
 use Rattle.type_definitions.specs.Gathered.{declared_number, actual_type, is_for_name, instance_actual, instance_type}
 use Rattle.type_definitions.specs.Declarations.{is_named_access, names_type, all_types}
 use Rattle.type_definitions.specs.Whole.{predefined_types, predefined_entries, outside, gather_units, known_of}
@@ -23,18 +22,18 @@ use Rattle.typed_laws.specs.Fine.{Agree, counts, lists}
 use Rattle.settled_types.specs.Wholes.{written}
 use Rattle.settled_types.specs.Orderly.{Past, at_start, IsOrderly}
 use Rattle.settled_types.specs.Stamped.{AllOpen}
-use Rattle.settled_types.proofs.Main.{begin, end, second, begins_second}
+use Rattle.settled_types.proofs.Main.{begin, end, second}
 use Rattle.gathered_laws.specs.DefinitionKinds.{kind, kind_defined, Kinds}
 use Rattle.gathered_laws.specs.Named.{IsNamed}
-use Rattle.gathered_laws.specs.Based.{IsOne, Agrees, AreBased}
+use Rattle.gathered_laws.specs.Based.{IsOne, Agrees}
 use Rattle.gathered_laws.specs.Faultless.{IsFaultless}
 use Rattle.gathered_laws.specs.Made.{IsMade}
 use Rattle.gathered_laws.specs.Says.{Says, SaysDefined, SaysAll}
 use Rattle.gathered_laws.proofs.Walk.{same_own}
-use Rattle.gathered_laws.proofs.Bounded.{ArePredefined, low, base_low, meant_low, written_low, own_low}
+use Rattle.gathered_laws.proofs.Bounded.{ArePredefined, low, base_low, written_low, own_low}
 use Rattle.gathered_laws.proofs.Declared.{made_type}
 use Rattle.gathered_laws.proofs.Entries.{AreSaid, all_said}
-use Rattle.gathered_laws.proofs.Agreed.{IsOwn, Rule, based, agrees, kinds_last}
+use Rattle.gathered_laws.proofs.Agreed.{IsOwn, based, agrees, kinds_last}
 use Rattle.gathered_laws.proofs.Main.{are_types, typed}
 
 -- ---- shapes of one kind

@@ -1,10 +1,10 @@
 -- How types are based on others, over the text of a program in order.
-use Rattle.std.proofs.Common.{◌≡◌, ◌⊎◌, inl, inr, ℕ, ◌+◌, ◌<◌, ◌≤◌, Bool, true, false, not, ◌||◌, List, ◌∷◌, set, length, refl, sym, ap, ◌∙◌, arith, subst, Option, Some, None, ℤ}
+use Rattle.std.proofs.Common.{◌≡◌, ◌⊎◌, inl, inr, ℕ, ◌<◌, ◌≤◌, Bool, true, not, ◌||◌, List, ◌∷◌, set, length, refl, sym, ap, ◌∙◌, arith, subst, Option, Some, None, ℤ}
 use Rattle.std.specs.Prelude.{slice_get}
 use Rattle.spark_base.specs.declared.position.Pos.{Pos}
 use Rattle.spark_base.specs.Lists.{Has}
 use Rattle.resolved_tree.specs.declared.node.Mark.{Mark}
-use Rattle.resolved_tree.specs.Trees.{Tree, More, Code, Incomplete, Private, TypeDecl, Subtype, ConstrainedSubtype, Objects, Numbers, SubDecl, SubBody, Package, PackageBody, If, Branch, Case, When, Loop, While, For, Block}
+use Rattle.resolved_tree.specs.Trees.{More, Code, Incomplete, Private, TypeDecl, Subtype, ConstrainedSubtype, Objects, Numbers, SubDecl, SubBody, Package, PackageBody, If, Branch, Case, When, Loop, While, For, Block}
 use Rattle.type_definitions.specs.declared.table.Info.{Info}
 use Rattle.type_definitions.specs.declared.table.Known.{Known}
 use Rattle.type_definitions.specs.declared.table.Entry.{Entry}
@@ -16,7 +16,7 @@ use Rattle.type_definitions.specs.Entries.{entry_of, is_type, marked, type_of_ma
 use Rattle.type_definitions.specs.Names.{Context}
 use Rattle.type_definitions.specs.Gathered.{gather, defined, awaited_info, full_info, subtype_info, meant_by, constrained_shape, bound_pair, is_asked, are_static_bounds, constant_value, initial_value, with_type, declared_number, declared_pos, in_hidden}
 use Rattle.settled_types.specs.Wholes.{written}
-use Rattle.settled_types.specs.Orderly.{Past, with_incomplete, with_private, with_defined, definition_marks, within, past_after, IsNew, Completes, Orderly}
+use Rattle.settled_types.specs.Orderly.{Past, with_defined, definition_marks, within, past_after, IsNew, Completes, Orderly}
 use Rattle.settled_types.specs.Stamped.{IsType, AreRows, LeadsTo}
 use Rattle.settled_types.proofs.Ringless.{shape_info}
 use Rattle.settled_types.proofs.Rows.{not_type}
@@ -25,7 +25,7 @@ use Rattle.gathered_laws.specs.Named.{IsNamed}
 use Rattle.gathered_laws.specs.Based.{IsOne, Agrees, AreBased}
 use Rattle.gathered_laws.proofs.DefinedKinds.{definition_table}
 use Rattle.gathered_laws.proofs.Plain.{objects_table, numbers_table, front_table, body_table}
-use Rattle.gathered_laws.proofs.Put.{base_at, meant_at, written_at, base_off, written_off, Puts, put}
+use Rattle.gathered_laws.proofs.Put.{base_at, meant_at, written_at, written_off, Puts, put}
 use Rattle.gathered_laws.proofs.Nodes.{Node, leads_before, list_node, if_node, block_node, inside, body_node, branch_node, case_node, when_node, loop_node, while_node, with_parameter, for_node, in_front, package_node, package_body_node}
 
 -- ---- shapes

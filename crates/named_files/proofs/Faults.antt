@@ -4,7 +4,7 @@ use Rattle.name_events.specs.declared.event.Event.{Event}
 use Rattle.name_events.specs.Known.{Known}
 use Rattle.name_events.specs.KnownBehind.{known_behind, known_behind_all}
 use Rattle.name_events.specs.Declarations.{or_else}
-use Rattle.name_events.specs.Faults.{Fault, fault, first_fault}
+use Rattle.name_events.specs.Faults.{fault, first_fault}
 
 -- ---- one after the other
 

@@ -6,7 +6,6 @@ use Rattle.std.specs.Prelude.{option_map}
 use Rattle.std.proofs.lemmas.Bool.{eqb-true}
 use Rattle.spark_base.specs.Lists.{Has}
 use Rattle.ada_tree.specs.declared.identifier.Identifier.{Identifier}
-use Rattle.ada_tree.specs.declared.identifier.NextDotted.{NextDotted}
 use Rattle.ada_tree.specs.declared.identifier.Dotted.{Dotted}
 use Rattle.ada_tree.specs.declared.declaration.UseClause.{UseClause}
 use Rattle.ada_tree.specs.declared.subprogram.Subspec.{Subspec}
@@ -38,15 +37,15 @@ use Rattle.name_events.specs.Predefined.{predefined_entries}
 use Rattle.name_events.specs.ExpressionOutline.{folded, folded_identifier, declares, mention, mentions, next_dotted_name, each_of}
 use Rattle.name_events.specs.Outline.{item_events, stmts_events, use_events, clause_of, subspec_events, body_form, subspec_name, closing_events, subprogram_events, decl_events, body_part_events, private_events, package_events, package_body_events, has_with, with_events, context_events, unit_front, unit_events, source_events}
 use Rattle.name_events.specs.Known.{Known, here, part_here, region_of}
-use Rattle.name_events.specs.Completions.{awaits, completes_form, may_complete, if_completes, awaiting, completed_by}
+use Rattle.name_events.specs.Completions.{awaits, completes_form, may_complete, if_completes, completed_by}
 use Rattle.name_events.specs.KnownBehind.{known_behind, known_behind_all, known_at_first}
-use Rattle.name_events.specs.Faults.{Fault, fault, is_second_unit, is_second, is_incomplete, declaration_fault, first_fault, name_fault}
+use Rattle.name_events.specs.Faults.{Fault, fault, is_second, is_incomplete, declaration_fault, name_fault}
 use Rattle.name_events.specs.Denotes.{Files, known_of}
 use Rattle.orderly_files.proofs.Declares.{behind_both}
 use Rattle.orderly_files.proofs.Steps.{found_in}
 use Rattle.named_files.specs.Library.{is_procedure_spec, is_no_function, AreProcedures}
 use Rattle.named_files.proofs.Faults.{BreaksNone, one_none, first_none, second_none}
-use Rattle.named_files.proofs.Regions.{Keeps, IsDeep, regions, Steady, end_keeps, declares_keeps, package_body_keeps, steady_none, steady_both, steady_flat, region_keeps, steady_region, steady_private, steady_each, all_bare, all_bare_keeps, bare_both, begins_keeps}
+use Rattle.named_files.proofs.Regions.{Keeps, Steady, end_keeps, declares_keeps, package_body_keeps, steady_none, steady_both, steady_flat, region_keeps, steady_region, steady_private, steady_each, all_bare, all_bare_keeps, bare_both, begins_keeps}
 use Rattle.named_files.proofs.Steady.{item_steady, items_steady, profile_events, profile_steady, stmts_steady}
 
 -- ---- subprograms, declarations and parts of bodies, within a region

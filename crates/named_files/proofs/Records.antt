@@ -1,5 +1,5 @@
 -- The components of each record in files that break no rule of names have names of their own.
-use Rattle.std.proofs.Common.{◌≡◌, inl, inr, ℕ, Bool, true, false, List, [], ◌∷◌, ◌++◌, map, refl, sym, ap, ◌∙◌, subst, Option, Some, None, true≢false, if◌then◌else◌}
+use Rattle.std.proofs.Common.{◌≡◌, inl, inr, ℕ, Bool, true, false, List, [], ◌∷◌, ◌++◌, map, refl, sym, ap, ◌∙◌, subst, Option, Some, None, if◌then◌else◌}
 use Rattle.std.specs.List.{flat_map}
 use Rattle.spark_base.specs.Lists.{Has}
 use Rattle.spark_base.proofs.Lists.{Has-append_cases}
@@ -35,10 +35,10 @@ use Rattle.name_events.specs.declared.declaration.DeclarationForm.TheVariants as
 use Rattle.name_events.specs.declared.declaration.NameRule.TheVariants.{Twice}
 use Rattle.name_events.specs.Declarations.{has_name}
 use Rattle.name_events.specs.ExpressionOutline.{folded, folded_identifier, declares, mention, expr_events, next_name, each_of, choice_events, next_choice_events}
-use Rattle.name_events.specs.Outline.{component_events, subtype_events, type_events, item_events, simple_events, parameter_events, block_events, stmts_events, stmt_box_events, stmt_list_events, stmt_events, stmts_box_events, elsifs_events, elsif_events, when_box_events, whens_events, when_events, subspec_events, body_form, subspec_name, closing_events, subprogram_events, decl_events, body_part_events, private_events, package_events, package_body_events, unit_front, unit_events, source_events}
+use Rattle.name_events.specs.Outline.{component_events, subtype_events, type_events, item_events, parameter_events, stmts_events, stmt_box_events, stmt_list_events, stmt_events, stmts_box_events, elsifs_events, elsif_events, when_box_events, whens_events, when_events, subspec_events, body_form, subspec_name, closing_events, subprogram_events, decl_events, body_part_events, private_events, package_events, package_body_events, unit_front, unit_events, source_events}
 use Rattle.name_events.specs.Known.{Known}
 use Rattle.name_events.specs.KnownBehind.{known_behind, known_behind_all, known_at_first}
-use Rattle.name_events.specs.Faults.{Fault, fault, component_fault, first_fault, name_fault}
+use Rattle.name_events.specs.Faults.{Fault, fault, component_fault, name_fault}
 use Rattle.name_events.specs.Denotes.{Files, known_of}
 use Rattle.resolved_tree.specs.Trees.{Code, code_list}
 use Rattle.type_definitions.specs.Gathered.{texts}
@@ -46,7 +46,7 @@ use Rattle.expression_lowering.specs.LoweredExpressions.{Numbers}
 use Rattle.tree_lowering.specs.Lowered.{component_next, lowered_component, lowered_subtype, lowered_type, lowered_declaration, item_before, before_all, lowered_items, lowered_simple, lowered_stmts, lowered_stmt_box, stmts_row, lowered_stmt, lowered_stmts_box, elsifs_row, lowered_elsif, lowered_when_box, whens_row, lowered_when, lowered_subprogram, decl_before, part_before, lowered_decls, lowered_private, lowered_package, lowered_package_body, lowered_unit, lowered_files}
 use Rattle.gathered_laws.specs.Components.{group_texts, list_texts, AreRecordsApart}
 use Rattle.named_files.proofs.Faults.{BreaksNone, one_none, rest_none, first_none, second_none}
-use Rattle.named_files.proofs.Words.{lower, AreFresh, added_all, fresh_both, added_both, fresh_apart}
+use Rattle.named_files.proofs.Words.{lower, AreFresh, added_all, fresh_both, fresh_apart}
 
 -- ---- the components of one record
 

@@ -1,17 +1,13 @@
 -- What items, statements and subprograms do with names is steady.
-use Rattle.std.proofs.Common.{◌≡◌, Bool, true, false, ◌&&◌, List, [], ◌∷◌, ◌++◌, map, refl, sym, ap, subst, append_assoc, Option, Some, None, true≢false}
+use Rattle.std.proofs.Common.{◌≡◌, Bool, true, false, ◌&&◌, List, [], ◌∷◌, ◌++◌, map, refl, subst, append_assoc, Option, Some, None}
 use Rattle.std.specs.List.{flat_map}
 use Rattle.ada_tree.specs.declared.identifier.Identifier.{Identifier}
-use Rattle.ada_tree.specs.declared.identifier.NextIdentifier.{NextIdentifier}
-use Rattle.ada_tree.specs.declared.identifier.NextDotted.{NextDotted}
 use Rattle.ada_tree.specs.declared.declaration.Component.{Component}
 use Rattle.ada_tree.specs.declared.declaration.Component.TheVariants as component
 use Rattle.ada_tree.specs.declared.declaration.Indication.{Indication}
 use Rattle.ada_tree.specs.declared.declaration.Indication.TheVariants as indication
-use Rattle.ada_tree.specs.declared.declaration.UseClause.{UseClause}
 use Rattle.ada_tree.specs.declared.declaration.Item.{Item}
 use Rattle.ada_tree.specs.declared.declaration.Item.TheVariants as item
-use Rattle.ada_tree.specs.declared.expression.NextArg.{NextArg}
 use Rattle.ada_tree.specs.declared.statement.Stmts.{Stmts, Row_of-Stmt, end_of-Stmt, more_of-Stmt}
 use Rattle.ada_tree.specs.declared.statement.Stmts.TheVariants as stmts
 use Rattle.ada_tree.specs.declared.statement.Stmt.{Stmt, Row_of-Stmts, end_of-Stmts, more_of-Stmts, Row_of-Elsif, end_of-Elsif, more_of-Elsif, Row_of-When, end_of-When, more_of-When}
@@ -29,12 +25,11 @@ use Rattle.ada_tree.specs.declared.subprogram.Formal.{Formal}
 use Rattle.ada_tree.specs.declared.subprogram.Formal.TheVariants as formal
 use Rattle.name_events.specs.declared.event.Event.{Event}
 use Rattle.name_events.specs.declared.event.Event.TheVariants as e
-use Rattle.name_events.specs.declared.event.Clause.{Clause}
 use Rattle.name_events.specs.declared.event.Clause.TheVariants as clause
 use Rattle.name_events.specs.declared.declaration.DeclarationForm.{DeclarationForm}
 use Rattle.name_events.specs.declared.declaration.DeclarationForm.TheVariants as form
-use Rattle.name_events.specs.ExpressionOutline.{declares, declares_all, mention, mentions, next_dotted_name, next_name, name_events, arg_events, next_arg_events, expr_events, range_events, choice_events, next_choice_events, each_of, folded_identifier}
-use Rattle.name_events.specs.Outline.{component_events, subtype_events, type_events, item_events, use_events, clause_of, indication_events, simple_events, parameter_events, block_events, stmts_events, stmt_box_events, stmt_list_events, stmt_events, stmts_box_events, elsifs_events, elsif_events, when_box_events, whens_events, when_events, formal_events, next_formal_events, formals_events}
+use Rattle.name_events.specs.ExpressionOutline.{declares, declares_all, mention, next_name, name_events, arg_events, next_arg_events, expr_events, range_events, choice_events, next_choice_events, each_of, folded_identifier}
+use Rattle.name_events.specs.Outline.{component_events, subtype_events, type_events, item_events, use_events, indication_events, simple_events, stmts_events, stmt_box_events, stmt_list_events, stmt_events, stmts_box_events, elsifs_events, elsif_events, when_box_events, whens_events, when_events, formal_events, next_formal_events, formals_events}
 use Rattle.orderly_files.specs.Numbered.{is_flat, all_flat}
 use Rattle.orderly_files.proofs.Mentions.{mild_flat, name_mild, arg_mild, next_arg_mild, mild_each, expr_mild, range_mild, choice_mild, next_choice_mild}
 use Rattle.orderly_files.proofs.Statements.{use_mild}

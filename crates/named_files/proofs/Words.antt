@@ -1,10 +1,9 @@
 -- Words of which each is new where it is added are apart.
-use Rattle.std.proofs.Common.{◌≡◌, inl, inr, ℕ, Bool, true, false, ◌||◌, ◌&&◌, List, [], ◌∷◌, ◌++◌, map, nat_eq, refl, sym, ap, ◌∙◌, subst, arith, true≢false, if◌then◌else◌}
+use Rattle.std.proofs.Common.{◌≡◌, inl, inr, ℕ, Bool, true, false, ◌||◌, ◌&&◌, List, [], ◌∷◌, ◌++◌, map, nat_eq, refl, sym, subst, arith, true≢false, if◌then◌else◌}
 use Rattle.std.specs.List.{list_any}
 use Rattle.std.specs.Cmp.Lexicographic.{pointwise}
 use Rattle.std.specs.Char.{to_ascii_lowercase}
 use Rattle.spark_base.specs.Lists.{Has}
-use Rattle.type_definitions.specs.Entries.{same_word}
 use Rattle.name_events.specs.Declarations.{Name, same, has_name, added_name}
 use Rattle.gathered_laws.specs.Components.{AreWordsApart}
 

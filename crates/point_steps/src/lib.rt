@@ -3,12 +3,14 @@
 
 mod between;
 mod branches;
+mod inputs;
 mod loops;
 mod puts;
 mod stores;
 mod texts;
 
 pub use branches::{choose, decided, test};
+pub use inputs::input;
 pub use loops::{next_turn, start_loop};
 pub use puts::{end_pointer, put, put_pointer};
 pub use stores::store;

@@ -1,19 +1,15 @@
 -- All actuals of a call are passed on both sides alike; and what that keeps.
-use Rattle.std.proofs.Common.{◌≡◌, ℕ, zero, suc, ◌+◌, ◌<◌, true, false, Bool, List, [], ◌∷◌, ◌++◌, length, drop, get_or, refl, sym, ap, subst, ◌∙◌, arith, Option, Some, None, append-nil, append_assoc, length-append, if◌then◌else◌}
-use Rattle.std.specs.Prelude.{option_and_then}
+use Rattle.std.proofs.Common.{◌≡◌, ℕ, ◌+◌, ◌<◌, true, false, Bool, List, [], ◌∷◌, ◌++◌, length, refl, sym, ap, subst, ◌∙◌, arith, Option, Some, None, append-nil, append_assoc, length-append, if◌then◌else◌}
 use Rattle.spark_base.specs.declared.position.Pos.{Pos}
 use Rattle.place_names.specs.declared.act.Mode.TheVariants as mode
-use Rattle.type_definitions.specs.Types.{Table}
 use Rattle.type_definitions.specs.Entries.{integer}
 use Rattle.typed_tree.specs.Trees.{TypedTree, More, NoMore}
 use Rattle.flow_paths.specs.Objects.{is_anonymous, view_of, Passing, ByValue, Traversed}
 use Rattle.flow_paths.specs.Objects as objects
 use Rattle.flow_paths.specs.Names.{waiting}
-use Rattle.machine.specs.Words.{Word}
 use Rattle.machine.specs.Typed.{sorts}
 use Rattle.machine.specs.Memory.{Memory, Base, Place, words_of}
-use Rattle.machine.specs.Evaluate.{Here, Now, Evaluated, Done, followed_by, AsValue, AsView, evaluate, checked, place_of, value, viewed}
-use Rattle.machine.specs.Evaluate as evaluation
+use Rattle.machine.specs.Evaluate.{Here, Now, Evaluated, Done, followed_by, AsValue, AsView, checked, place_of, value, viewed}
 use Rattle.machine.specs.Calls.{type_of, value_passed, passed_value, passed_place, passed, all_passed}
 use Rattle.machine.specs.Calls as machine
 use Rattle.run_codes.specs.Codes.{Actual}
@@ -25,11 +21,11 @@ use Rattle.run_codes.specs.Points as points
 use Rattle.run_codes.specs.Related.{Seen, table, here, now, types, IsSplit, Lying}
 use Rattle.run_codes.proofs.Places.{impossible, some_same}
 use Rattle.run_codes.proofs.News.{get_before}
-use Rattle.run_fills.specs.Filled.{IsWhole, at, Later}
-use Rattle.run_fills.proofs.Wholes.{value_more, unchanged}
-use Rattle.run_points.proofs.Keeping.{IsKeeping, Keeps, KeepsPlace, keeps_on, place_on, evaluate_keeps, checked_keeps, place_keeps}
+use Rattle.run_fills.specs.Filled.{at, Later}
+use Rattle.run_fills.proofs.Wholes.{value_more}
+use Rattle.run_points.proofs.Keeping.{IsKeeping, Keeps, keeps_on, place_on, evaluate_keeps, checked_keeps, place_keeps}
 use Rattle.run_points.proofs.Flags.{FreesNone, Anywhere, keeps_flags}
-use Rattle.run_points.proofs.Passing.{IsFound, formal_type, PassedStands, AllStandPassed, Grew, Stopping, Passes, AllPass, stopping_on, passes}
+use Rattle.run_points.proofs.Passing.{IsFound, formal_type, PassedStands, Passes, AllPass, stopping_on, passes}
 
 -- ---- what is kept
 

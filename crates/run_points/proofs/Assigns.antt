@@ -22,10 +22,10 @@ use Rattle.run_codes.specs.Codes as codes
 use Rattle.run_codes.specs.Flat.{Flat, Given, kinds, Spot, InStack, spot, filled}
 use Rattle.run_codes.specs.Flat as flat
 use Rattle.run_codes.specs.Lowered.{no_index, Placed, place, value}
-use Rattle.run_codes.specs.Programs.{going, on_going, use_for, name_pos, kind_at, put_at, stored_at, assigned, is_scalar_shape}
+use Rattle.run_codes.specs.Programs.{going, on_going, use_for, name_pos, kind_at, put_at}
 use Rattle.run_codes.specs.Points.{State, Outcome, on_made, on_got, put_words, goes, leaking_goes, checked_at, done}
 use Rattle.run_codes.specs.Points as points
-use Rattle.run_codes.specs.Related.{IsValue, types, now, IsPlace, IsThere, SpotSame}
+use Rattle.run_codes.specs.Related.{IsValue, types, now, IsPlace, IsThere}
 use Rattle.run_codes.proofs.Places.{some_same}
 use Rattle.run_codes.proofs.Expressions.{and_then_some}
 use Rattle.run_fills.specs.Filled.{at, Later}
@@ -39,7 +39,7 @@ use Rattle.run_points.proofs.Halts.{filled_alike}
 use Rattle.run_points.proofs.Taken.{taken_filled, taken_low}
 use Rattle.run_points.proofs.Spotted.{type_is, pos_is, spot_later, place_alike, frame_spot}
 use Rattle.run_points.proofs.Owning.{unowned, no_checks}
-use Rattle.run_points.proofs.Scalars.{is_checked, value_scalar, scalar_type}
+use Rattle.run_points.proofs.Scalars.{value_scalar, scalar_type}
 use Rattle.run_points.proofs.Storing.{AreKinds, are_kinds, is_stored}
 
 -- ---- leaks

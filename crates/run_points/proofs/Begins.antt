@@ -1,29 +1,28 @@
 -- The main procedure begins, and so does the run.
-use Rattle.std.proofs.Common.{◌≡◌, ◌⊎◌, inl, inr, ℕ, zero, suc, ◌+◌, ◌≤◌, ◌<◌, true, false, Bool, List, [], ◌∷◌, ◌++◌, length, take, drop, get_or, sum, refl, sym, ap, subst, ◌∙◌, arith, Option, Some, None, ℤ, pos, nat_lt, if◌then◌else◌}
-use Rattle.std.specs.Prelude.{◌==◌, nat_le}
+use Rattle.std.proofs.Common.{◌≡◌, inl, inr, ℕ, suc, ◌+◌, ◌≤◌, ◌<◌, true, false, Bool, List, [], ◌∷◌, ◌++◌, length, get_or, sum, refl, sym, ap, subst, ◌∙◌, arith, Option, Some, None, ℤ, nat_lt, if◌then◌else◌}
+use Rattle.std.specs.Prelude.{nat_le}
 use Rattle.spark_base.specs.Lists.{Has}
 use Rattle.type_definitions.specs.Types.{Table}
-use Rattle.flow_paths.specs.Objects.{Typing, is_package_object}
+use Rattle.flow_paths.specs.Objects.{Typing}
 use Rattle.flow_paths.specs.Points.{FlowPoint}
 use Rattle.flow_paths.specs.Laid.{FlowSub, FlowProgram, flow_typing}
-use Rattle.machine.specs.Memory.{Memory}
 use Rattle.machine.specs.States.{sub_of, stack_words, frame_words, frame_at_start}
 use Rattle.machine.specs.States as machine
 use Rattle.machine.specs.Step.{main_frame}
 use Rattle.machine.specs.Run.{empty_memory, frames_at_start}
 use Rattle.machine.specs.Run as machine_run
 use Rattle.run_codes.specs.Flat.{Flat, most_cells}
-use Rattle.run_codes.specs.Lowered.{Kept, offset_of, package_offset}
+use Rattle.run_codes.specs.Lowered.{Kept, offset_of}
 use Rattle.run_codes.specs.Programs.{Program, objects_of, is_loop, sub_rows}
 use Rattle.run_codes.specs.Points.{Frame, State, with_frame, frame_of, no_memory, state_at_start, is_declaring, sub_at, no_sub}
-use Rattle.run_codes.specs.Related.{types, Lying, lying_sorts, Related}
+use Rattle.run_codes.specs.Related.{types}
 use Rattle.run_codes.proofs.Places.{if_some, some_same}
-use Rattle.run_points.specs.States.{LoopAt, first_point, Laid, site_of, FrameStands, FramesStand, MemoryStands, StateStands, main_begun, MainBegins}
+use Rattle.run_points.specs.States.{first_point, Laid, site_of, FrameStands, MemoryStands, StateStands, main_begun, MainBegins}
 use Rattle.run_points.specs.Turns.{IsLowered, HasTypes}
 use Rattle.run_points.specs.Frames.{IsCallable, HasFrames, IsSmall}
-use Rattle.run_points.proofs.Rooms.{lyings, loops_from, offset_there, loop_there, lies_within, loop_within}
+use Rattle.run_points.proofs.Rooms.{lyings, loops_from, offset_there, loop_there}
 use Rattle.run_points.proofs.Templates.{room_template, room_loops, are_rooms, are_one_word, template_is, words_are}
-use Rattle.run_points.proofs.Entered.{in_left, in_either, with_room, memory_entered, frames_entered, frame_entered, HasPackages}
+use Rattle.run_points.proofs.Entered.{in_left, in_either, with_room, memory_entered, frames_entered, frame_entered}
 
 -- ---- the main procedure
 

@@ -1,62 +1,39 @@
 -- A call enters a frame on both sides alike.
-use Rattle.std.proofs.Common.{◌≡◌, ◌⊎◌, inl, inr, ℕ, zero, suc, ◌+◌, ◌<◌, ◌≤◌, true, false, Bool, List, [], ◌∷◌, ◌++◌, map, length, take, drop, get_or, sum, refl, sym, ap, subst, ◌∙◌, arith, Option, Some, None, ℤ, nat_lt, append_assoc, if◌then◌else◌}
-use Rattle.std.specs.Prelude.{◌==◌, flat_map, option_and_then, nat_le}
-use Rattle.std.proofs.lemmas.List.Sums.{sum_by-cons}
+use Rattle.std.proofs.Common.{◌≡◌, inl, inr, ℕ, ◌+◌, ◌<◌, false, List, [], ◌∷◌, ◌++◌, map, get_or, refl, sym, ap, subst, ◌∙◌, append_assoc}
+use Rattle.std.specs.Prelude.{flat_map}
 use Rattle.spark_base.specs.Lists.{Has}
 use Rattle.spark_base.specs.declared.position.Pos.{Pos}
 use Rattle.type_definitions.specs.Entries.{integer}
 use Rattle.typed_tree.specs.Trees.{TypedTree, More}
-use Rattle.flow_paths.specs.Objects.{Typing, Signature, Passing, object_at, sub_at, is_package_object, passings}
-use Rattle.flow_paths.specs.Names.{waiting}
-use Rattle.flow_paths.specs.Laid.{FlowSub, FlowProgram, flow_typing}
-use Rattle.flow_paths.specs.Instructions.{Instruction}
-use Rattle.flow_paths.specs.Instructions as instruction
+use Rattle.flow_paths.specs.Objects.{object_at, is_package_object}
 use Rattle.machine.specs.Memory.{Memory, Place}
-use Rattle.machine.specs.Evaluate.{Here, Now, Evaluated, Done, StorageError}
+use Rattle.machine.specs.Evaluate.{Evaluated, Done}
 use Rattle.machine.specs.Calls.{all_passed, out_checks}
 use Rattle.machine.specs.Calls as machine_calls
 use Rattle.machine.specs.States.{Waiting, Leak, sub_of, stack_words, frame_words, frame_at_start}
 use Rattle.machine.specs.States as machine
 use Rattle.machine.specs.Step as machine_step
 use Rattle.machine.specs.Step.{successor}
-use Rattle.run_codes.specs.Codes.{Actual, Does, Finish}
-use Rattle.run_codes.specs.Codes as codes
+use Rattle.run_codes.specs.Codes.{Does}
 use Rattle.run_codes.specs.Flat.{Flat, Stop, Raises, Traps, Got, Given, and_then, Made, Failed, Spot, InStack, InCell}
 use Rattle.run_codes.specs.Flat as flat
 use Rattle.run_codes.specs.Lowered.{Kept, Site, one_type}
-use Rattle.run_codes.specs.Programs.{Program, objects_of, going, actuals, on_next, does}
-use Rattle.run_codes.specs.Points.{Held, Return, Frame, State, Outcome, Passed, Value, FromSpot, ToSpot, halted, on_made, on_got, frame_of, frames_words, with_frame, leaks_at, out_leaks, with_formals, returns_of, after, done}
-use Rattle.run_codes.specs.Points as points
-use Rattle.run_codes.specs.Related.{Seen, table, types, now, here, IsSplit, IsSited, AreApart, Lying, lying_sorts}
+use Rattle.run_codes.specs.Points.{Passed, Value, FromSpot, ToSpot, halted, leaks_at, out_leaks, returns_of}
+use Rattle.run_codes.specs.Related.{Seen, table, types, now, IsSplit, IsSited, Lying}
 use Rattle.run_codes.proofs.Seeing.{lies_there}
 use Rattle.machine.specs.Typed.{sorts}
-use Rattle.run_codes.proofs.Places.{impossible, some_same}
-use Rattle.run_codes.proofs.Expressions.{and_then_some}
-use Rattle.run_fills.specs.Filled.{IsWhole, at, Later}
-use Rattle.run_fills.proofs.Wholes.{unchanged}
+use Rattle.run_fills.specs.Filled.{IsWhole, at}
 use Rattle.run_fills.proofs.Leaks.{leaks_same}
 use Rattle.run_points.specs.Outcomes.{IsAlike}
-use Rattle.run_points.specs.States.{LoopAt, LoopsApart, PlaceStands, ReturnsStand, Laid, site_of, FrameStands, FramesStand, AreUndeclared, MemoryStands, StateStands, MainBegins, IsLow}
-use Rattle.run_points.specs.Turns.{Turns, state, turn, flat_state, flat_turn, around, seen, TurnStands, IsLowered, HasTypes, DoesAlike}
-use Rattle.run_points.specs.Frames.{AreDifferent, IsCallable}
-use Rattle.run_points.proofs.Waits.{at_start}
-use Rattle.run_points.proofs.More.{frames_more}
-use Rattle.run_points.proofs.Goes.{way, frames_kept}
-use Rattle.run_points.proofs.Ends.{start_is, waits_on}
-use Rattle.run_points.proofs.Tests.{DoneAlike}
-use Rattle.run_points.proofs.Halts.{is_whole, raised_later, trapped_later}
-use Rattle.run_points.proofs.Storing.{loops_later}
-use Rattle.run_points.proofs.Leaking.{leaking_stands}
-use Rattle.run_points.proofs.Keeping.{Keeps}
-use Rattle.run_points.proofs.Flags.{FreesNone, frees_none, Anywhere, keeps_flags, keeps_undeclared}
-use Rattle.run_points.proofs.Rooms.{lyings, offset_there}
-use Rattle.run_points.proofs.Templates.{room_template, are_rooms, template_is, words_are, formals_are}
-use Rattle.run_points.proofs.Entered.{in_left, in_right, with_room, memory_entered, frames_entered, frame_entered, sited_entered}
-use Rattle.run_points.proofs.Offsets.{formal_words, AreFormals, are_formals}
-use Rattle.run_points.proofs.Passing.{IsFound, formal_type, PassedStands, AllStandPassed, Stopping, AllPass}
-use Rattle.run_points.proofs.Actuals.{all_keep, all_pass}
+use Rattle.run_points.specs.States.{PlaceStands, ReturnsStand, Laid, StateStands}
+use Rattle.run_points.specs.Turns.{Turns, turn, flat_turn, seen, TurnStands}
+use Rattle.run_points.proofs.Halts.{raised_later, trapped_later}
+use Rattle.run_points.proofs.Flags.{FreesNone}
+use Rattle.run_points.proofs.Entered.{in_right}
+use Rattle.run_points.proofs.Offsets.{formal_words, AreFormals}
+use Rattle.run_points.proofs.Passing.{IsFound, formal_type, AllStandPassed, Stopping}
 use Rattle.run_points.proofs.Reaching.{reached}
-use Rattle.run_points.proofs.Formals.{IsDeclaring, formal_lying, found_low, IsDeclared, formals_declared}
+use Rattle.run_points.proofs.Formals.{found_low}
 
 -- ---- stops
 

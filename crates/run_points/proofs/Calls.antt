@@ -1,16 +1,14 @@
 -- A call enters a frame on both sides alike, or both raise where the stack is full.
-use Rattle.std.proofs.Common.{◌≡◌, ◌⊎◌, inl, inr, ℕ, zero, suc, ◌+◌, ◌<◌, ◌≤◌, true, false, Bool, List, [], ◌∷◌, ◌++◌, map, length, take, drop, get_or, sum, refl, sym, ap, subst, ◌∙◌, arith, Option, Some, None, ℤ, nat_lt, if◌then◌else◌}
-use Rattle.std.specs.Prelude.{◌==◌, flat_map, option_and_then, nat_le}
+use Rattle.std.proofs.Common.{◌≡◌, inl, inr, ℕ, zero, suc, ◌+◌, ◌<◌, ◌≤◌, true, false, Bool, List, [], ◌∷◌, ◌++◌, map, length, get_or, sum, refl, sym, ap, subst, ◌∙◌, arith, Option, Some, None, ℤ, nat_lt, if◌then◌else◌}
+use Rattle.std.specs.Prelude.{flat_map, nat_le}
 use Rattle.std.proofs.lemmas.List.Sums.{sum_by-cons}
-use Rattle.spark_base.specs.Lists.{Has}
-use Rattle.spark_base.specs.declared.position.Pos.{Pos}
 use Rattle.typed_tree.specs.Trees.{TypedTree}
-use Rattle.flow_paths.specs.Objects.{Typing, Signature, Passing, object_at, sub_at, passings}
+use Rattle.flow_paths.specs.Objects.{Typing, Signature, Passing, sub_at, passings}
 use Rattle.flow_paths.specs.Names.{waiting}
 use Rattle.flow_paths.specs.Laid.{FlowSub, FlowProgram, flow_typing}
 use Rattle.flow_paths.specs.Instructions as instruction
-use Rattle.machine.specs.Memory.{Memory, OfVariable, fresh}
-use Rattle.machine.specs.Evaluate.{Here, Now, Evaluated, Done, StorageError}
+use Rattle.machine.specs.Memory.{Memory}
+use Rattle.machine.specs.Evaluate.{Here, Evaluated, StorageError}
 use Rattle.machine.specs.Calls.{all_passed, out_checks}
 use Rattle.machine.specs.Calls as machine_calls
 use Rattle.machine.specs.States.{Waiting, Leak, sub_of, stack_words, frame_words, frame_at_start}
@@ -22,17 +20,17 @@ use Rattle.run_codes.specs.Codes as codes
 use Rattle.run_codes.specs.Flat.{Flat, Raises, Given, Made, Failed}
 use Rattle.run_codes.specs.Flat as flat
 use Rattle.run_codes.specs.Lowered.{Kept}
-use Rattle.run_codes.specs.Programs.{Program, objects_of, going, actuals, on_next, does}
+use Rattle.run_codes.specs.Programs.{objects_of, going, actuals, on_next}
 use Rattle.run_codes.specs.Points.{Frame, State, Outcome, Passed, halted, on_made, on_got, frame_of, frames_words, with_frame, out_leaks, with_formals, returns_of, after, done}
 use Rattle.run_codes.specs.Codes.{Sub}
 use Rattle.run_codes.specs.Points as points
-use Rattle.run_codes.specs.Related.{Seen, table, types, now, here, IsSited, AreApart, Lying, lying_sorts}
+use Rattle.run_codes.specs.Related.{types, now, IsSited, Lying}
 use Rattle.run_codes.proofs.Places.{impossible, some_same}
 use Rattle.run_codes.proofs.Expressions.{and_then_some}
 use Rattle.run_fills.specs.Filled.{IsWhole, at, Later}
 use Rattle.run_fills.proofs.Wholes.{unchanged}
 use Rattle.run_points.specs.Outcomes.{IsAlike}
-use Rattle.run_points.specs.States.{LoopAt, LoopsApart, Laid, site_of, FrameStands, FramesStand, AreUndeclared, MemoryStands, StateStands, IsLow}
+use Rattle.run_points.specs.States.{LoopsApart, Laid, FrameStands, FramesStand, AreUndeclared, MemoryStands, StateStands, IsLow}
 use Rattle.run_points.specs.Turns.{Turns, state, turn, flat_state, flat_turn, around, seen, TurnStands, IsLowered, HasTypes, DoesAlike}
 use Rattle.run_points.specs.Frames.{IsCallable}
 use Rattle.run_points.proofs.More.{frames_more}
@@ -48,7 +46,7 @@ use Rattle.run_points.proofs.Rooms.{lyings, offset_there}
 use Rattle.run_points.proofs.Templates.{room_template, are_rooms, template_is, words_are, formals_are}
 use Rattle.run_points.proofs.Entered.{in_left, with_room, memory_entered, frames_entered, frame_entered, sited_entered}
 use Rattle.run_points.proofs.Offsets.{are_formals}
-use Rattle.run_points.proofs.Passing.{formal_type, AllStandPassed, Stopping, AllPass}
+use Rattle.run_points.proofs.Passing.{formal_type, AllStandPassed, AllPass}
 use Rattle.run_points.proofs.Actuals.{all_keep, all_pass}
 use Rattle.run_points.proofs.Formals.{IsDeclaring, formal_lying, IsDeclared, formals_declared}
 use Rattle.run_points.proofs.Called.{stopping_alike, out_same, returns_stand}

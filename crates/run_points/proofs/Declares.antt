@@ -1,10 +1,7 @@
 -- A declaration is the machine's: with a value of any type, or without one.
-use Rattle.std.proofs.Common.{◌≡◌, ℕ, zero, suc, ◌+◌, ◌<◌, ◌≤◌, true, false, Bool, List, [], ◌∷◌, ◌++◌, length, refl, sym, ap, subst, ◌∙◌, arith, Option, Some, None, ℤ, pos, if◌then◌else◌, append-nil}
+use Rattle.std.proofs.Common.{◌≡◌, ℕ, suc, ◌+◌, ◌<◌, ◌≤◌, true, List, [], length, sym, ap, subst, ◌∙◌, arith, Option, Some, None, ℤ, if◌then◌else◌, append-nil}
 use Rattle.std.specs.Prelude.{option_and_then, nat_le}
-use Rattle.spark_base.specs.Lists.{Has}
-use Rattle.run_values.specs.declared.value.Kind.{Kind}
-use Rattle.type_definitions.specs.Types.{Table, shape_of}
-use Rattle.type_definitions.specs.declared.table.Shape.{Shape}
+use Rattle.type_definitions.specs.Types.{shape_of}
 use Rattle.typed_tree.specs.Trees.{TypedTree, NoMore, More}
 use Rattle.flow_paths.specs.Objects.{Typing, object_at}
 use Rattle.flow_paths.specs.Instructions.{Declare}
@@ -13,7 +10,7 @@ use Rattle.flow_paths.specs.Laid.{FlowProgram, flow_typing}
 use Rattle.machine.specs.Words.{Word, default}
 use Rattle.machine.specs.Typed.{sorts}
 use Rattle.machine.specs.Memory.{Memory, fresh, declared}
-use Rattle.machine.specs.Evaluate.{Now, Evaluated, Done, followed_by, initial}
+use Rattle.machine.specs.Evaluate.{Evaluated, Done, initial}
 use Rattle.machine.specs.States as machine
 use Rattle.machine.specs.Step as machine_step
 use Rattle.machine.specs.Step.{first_value}
@@ -25,11 +22,11 @@ use Rattle.run_codes.specs.Lowered.{no_index, value}
 use Rattle.run_codes.specs.Programs.{going, on_going, use_for, own_offset, put_at}
 use Rattle.run_codes.specs.Points.{State, Outcome, on_made, on_got, put_words, goes, leaking_goes, done}
 use Rattle.run_codes.specs.Points as points
-use Rattle.run_codes.specs.Related.{IsValue, types, now, Lying, lying_sorts}
+use Rattle.run_codes.specs.Related.{IsValue, types, Lying, lying_sorts}
 use Rattle.run_codes.proofs.Places.{impossible, some_same}
 use Rattle.run_codes.proofs.Expressions.{and_then_some}
 use Rattle.run_codes.proofs.Seeing.{stack_stored, declared_in_stack}
-use Rattle.run_fills.specs.Filled.{at, Later, Filled}
+use Rattle.run_fills.specs.Filled.{Later, Filled}
 use Rattle.run_fills.proofs.Wholes.{filled_given}
 use Rattle.run_fills.proofs.Values.{default_value}
 use Rattle.run_points.specs.Outcomes.{IsAlike}

@@ -1,5 +1,5 @@
 -- A frame enters: its objects and loops lie above all others, and what stood before stands.
-use Rattle.std.proofs.Common.{◌≡◌, ◌⊎◌, inl, inr, ℕ, zero, suc, ◌+◌, ◌≤◌, ◌<◌, true, false, Bool, ◌&&◌, List, [], ◌∷◌, ◌++◌, length, take, drop, refl, sym, ap, subst, ◌∙◌, arith, Option, Some, None, ℤ, pos, nat_lt, length-append, if◌then◌else◌}
+use Rattle.std.proofs.Common.{◌≡◌, ◌⊎◌, inl, inr, ℕ, suc, ◌+◌, ◌≤◌, ◌<◌, true, false, Bool, ◌&&◌, List, [], ◌∷◌, ◌++◌, length, take, drop, refl, sym, ap, subst, ◌∙◌, arith, Some, ℤ, nat_lt, length-append}
 use Rattle.std.specs.Prelude.{◌==◌}
 use Rattle.std.proofs.lemmas.List.{drop-append-le, take-append-le, length-drop}
 use Rattle.spark_base.specs.Lists.{Has}
@@ -9,17 +9,16 @@ use Rattle.machine.specs.Typed.{Sort}
 use Rattle.machine.specs.Memory.{Memory, Place, Slot, OfVariable, slots_at}
 use Rattle.machine.specs.States.{sub_of, stack_words, frame_at_start}
 use Rattle.machine.specs.States as machine
-use Rattle.machine.specs.Step.{loop_of}
 use Rattle.run_codes.specs.Flat.{Flat, Spot, InStack, InCell}
 use Rattle.run_codes.specs.Lowered.{Kept, Site, offset_of, package_offset}
 use Rattle.run_codes.specs.Programs.{Program, objects_of, is_loop}
-use Rattle.run_codes.specs.Points.{Return, Frame, with_frame, frame_of, template, sub_at}
-use Rattle.run_codes.specs.Related.{AllStand, types, Lying, lying_sorts, Related, IsBefore, AreApart, IsSited}
+use Rattle.run_codes.specs.Points.{Return, Frame, frame_of, sub_at}
+use Rattle.run_codes.specs.Related.{AllStand, types, Lying, lying_sorts, IsSited}
 use Rattle.run_codes.proofs.Places.{if_some}
-use Rattle.run_points.specs.States.{LoopAt, loop_words, LoopsStand, LoopsApart, PlaceStands, ReturnsStand, Laid, site_of, FrameStands, FramesStand, AreUndeclared, MemoryStands}
+use Rattle.run_points.specs.States.{LoopAt, LoopsApart, PlaceStands, ReturnsStand, Laid, site_of, FrameStands, FramesStand, MemoryStands}
 use Rattle.run_points.specs.Turns.{IsLowered, HasTypes}
 use Rattle.run_points.specs.Frames.{IsCallable}
-use Rattle.run_points.proofs.Rooms.{lyings, loops_from, room_total, AreRooms, offset_there, loop_there, lies_within, loop_within, lyings_apart, loop_object, loops_apart, LyingsApart, LoopPair}
+use Rattle.run_points.proofs.Rooms.{lyings, loops_from, room_total, AreRooms, offset_there, loop_there, lies_within, loop_within, lyings_apart, loop_object, loops_apart}
 use Rattle.run_points.proofs.Templates.{room_template, template_long, room_stands, room_loops, are_one_word, first_is, words_are}
 
 -- ---- lists

@@ -1,5 +1,5 @@
 -- A frame is given back: what lies below it stands as it did.
-use Rattle.std.proofs.Common.{◌≡◌, ◌⊎◌, inl, inr, ℕ, zero, suc, ◌+◌, ◌<◌, ◌≤◌, true, false, Bool, not, ◌&&◌, List, [], ◌∷◌, length, take, drop, filter, refl, sym, ap, subst, ◌∙◌, arith, Some, ℤ, nat_lt, if◌then◌else◌}
+use Rattle.std.proofs.Common.{◌≡◌, inl, inr, ℕ, zero, suc, ◌+◌, ◌<◌, ◌≤◌, true, false, Bool, not, List, [], ◌∷◌, length, take, drop, filter, refl, sym, ap, subst, ◌∙◌, arith, ℤ, nat_lt, if◌then◌else◌}
 use Rattle.std.specs.Prelude.{◌==◌}
 use Rattle.spark_base.specs.Lists.{Has}
 use Rattle.type_definitions.specs.Types.{Table}
@@ -8,8 +8,8 @@ use Rattle.flow_paths.specs.Laid.{FlowProgram, flow_typing}
 use Rattle.flow_paths.specs.Instructions.{Finish}
 use Rattle.machine.specs.Words.{default}
 use Rattle.machine.specs.Typed.{Sort}
-use Rattle.machine.specs.Memory.{Memory, Slot, Variable, Place, OfVariable, OfCell, fresh, variable_slots, is_variable, without_frame, slots_at}
-use Rattle.machine.specs.Evaluate.{Now, Evaluated, Done}
+use Rattle.machine.specs.Memory.{Memory, Slot, Variable, Place, OfVariable, fresh, variable_slots, is_variable, without_frame, slots_at}
+use Rattle.machine.specs.Evaluate.{Evaluated}
 use Rattle.machine.specs.States as machine
 use Rattle.machine.specs.Step as machine_step
 use Rattle.run_codes.specs.Codes.{Does}
@@ -17,15 +17,13 @@ use Rattle.run_codes.specs.Codes as codes
 use Rattle.run_codes.specs.Flat.{Flat, Made, Failed, Spot, InStack, InCell}
 use Rattle.run_codes.specs.Flat as flat
 use Rattle.run_codes.specs.Lowered.{Site}
-use Rattle.run_codes.specs.Programs.{does}
 use Rattle.run_codes.specs.Points.{Return, Frame, State, Outcome, counted, on_made, copied_back, done}
 use Rattle.run_codes.specs.Points as points
-use Rattle.run_codes.specs.Related.{AllStand, types, now, here, Lying, lying_sorts, Related, IsSited}
+use Rattle.run_codes.specs.Related.{AllStand, types, now, Lying, lying_sorts, IsSited}
 use Rattle.run_codes.proofs.Places.{both_true, some_same, below, is_below}
-use Rattle.run_fills.specs.Filled.{Later}
 use Rattle.run_fills.proofs.Wholes.{unchanged}
 use Rattle.run_points.specs.Outcomes.{IsAlike}
-use Rattle.run_points.specs.States.{LoopAt, LoopsStand, LoopsApart, PlaceStands, ReturnStands, ReturnsStand, Laid, site_of, FrameStands, FramesStand, FirstRuns, AreUndeclared, MemoryStands, StateStands, IsLow}
+use Rattle.run_points.specs.States.{LoopAt, LoopsApart, PlaceStands, ReturnsStand, Laid, site_of, FramesStand, FirstRuns, AreUndeclared, MemoryStands, StateStands, IsLow}
 use Rattle.run_points.specs.Turns.{Turns, state, turn, flat_state, flat_turn, seen, TurnStands, DoesAlike}
 use Rattle.run_points.proofs.Ends.{start_is}
 use Rattle.run_points.proofs.More.{frames_more}

@@ -1,10 +1,9 @@
 -- Formals are declared in the frame of a call, and what is passed by place is taken from there.
-use Rattle.std.proofs.Common.{◌≡◌, inl, inr, ℕ, zero, suc, ◌+◌, ◌<◌, ◌≤◌, true, false, Bool, ◌&&◌, ◌||◌, List, [], ◌∷◌, ◌++◌, map, length, take, drop, refl, sym, ap, subst, ◌∙◌, arith, Option, Some, None, ℤ, append-nil, if◌then◌else◌}
+use Rattle.std.proofs.Common.{◌≡◌, inl, inr, ℕ, zero, suc, ◌+◌, ◌<◌, ◌≤◌, true, false, Bool, ◌&&◌, ◌||◌, List, [], ◌∷◌, ◌++◌, map, length, take, drop, refl, sym, ap, subst, ◌∙◌, arith, Some, ℤ, append-nil}
 use Rattle.std.specs.Prelude.{◌==◌}
 use Rattle.std.specs.List.{list_any}
 use Rattle.spark_base.specs.Lists.{Has}
 use Rattle.spark_base.specs.declared.position.Pos.{Pos}
-use Rattle.type_definitions.specs.Types.{Table}
 use Rattle.typed_tree.specs.Trees.{TypedTree, More}
 use Rattle.flow_paths.specs.Objects.{Typing, object_at}
 use Rattle.machine.specs.Words.{Word, default, access_offsets}
@@ -14,9 +13,9 @@ use Rattle.machine.specs.Evaluate.{Done}
 use Rattle.machine.specs.Calls as machine
 use Rattle.run_codes.specs.Flat.{Flat, Got, Given, Broken, and_then, kinds, all_fresh, Spot, InStack, InCell, held, spliced, with_stack}
 use Rattle.run_codes.specs.Flat as flat
-use Rattle.run_codes.specs.Lowered.{Kept, offset_from, one_type}
+use Rattle.run_codes.specs.Lowered.{Kept, offset_from}
 use Rattle.run_codes.specs.Points.{Passed, Value, FromSpot, ToSpot, with_formal, with_formals}
-use Rattle.run_codes.specs.Related.{IsValue, Seen, table, now, types, LiesIn, Lying, lying_sorts, Related}
+use Rattle.run_codes.specs.Related.{IsValue, Seen, table, now, types, LiesIn, Lying, lying_sorts}
 use Rattle.run_codes.proofs.Places.{both_true}
 use Rattle.run_codes.proofs.Stores.{with_there, with_others}
 use Rattle.run_codes.proofs.Seeing.{stack_stored, declared_in_stack}
@@ -24,7 +23,7 @@ use Rattle.run_codes.proofs.Held.{is_held}
 use Rattle.run_fills.specs.Filled.{IsWhole, at, Later}
 use Rattle.run_fills.proofs.Wholes.{later_from, later_on, value_later}
 use Rattle.run_fills.proofs.Values.{value_as}
-use Rattle.run_fills.proofs.Moved.{IsTaken, is_taken}
+use Rattle.run_fills.proofs.Moved.{is_taken}
 use Rattle.run_fills.proofs.Outside.{object_outside}
 use Rattle.run_points.specs.States.{IsLow, AreUndeclared}
 use Rattle.run_points.specs.Frames.{AreDifferent}

@@ -1,5 +1,5 @@
 -- A cell that is freed on both sides keeps what stands for the machine's memory.
-use Rattle.std.proofs.Common.{◌≡◌, ℕ, zero, suc, ◌+◌, ◌-◌, ◌<◌, ◌≤◌, true, false, Bool, not, List, [], ◌∷◌, ◌++◌, map, filter, length, take, drop, get_or, sum, refl, sym, ap, subst, ◌∙◌, arith, Some, slice_get, if◌then◌else◌}
+use Rattle.std.proofs.Common.{◌≡◌, ℕ, zero, suc, ◌+◌, ◌<◌, ◌≤◌, true, false, Bool, not, List, [], ◌∷◌, ◌++◌, map, filter, length, take, drop, get_or, sum, refl, sym, ap, subst, ◌∙◌, arith, Some, slice_get, if◌then◌else◌}
 use Rattle.std.specs.Prelude.{◌==◌}
 use Rattle.std.proofs.lemmas.List.Sums.{sum_by-cons}
 use Rattle.reuse_heap.specs.Cells.{Cell as StoredCell, changed}

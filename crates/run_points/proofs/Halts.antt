@@ -1,6 +1,6 @@
 -- A step that evaluates what moves and makes: it goes on with what stands for the machine's memory, or stops as
 -- the machine does, with the memory before it.
-use Rattle.std.proofs.Common.{◌≡◌, ℕ, suc, List, length, refl, sym, ap, subst, ◌∙◌, ℤ}
+use Rattle.std.proofs.Common.{◌≡◌, ℕ, suc, List, length, refl, sym, subst, ℤ}
 use Rattle.flow_paths.specs.Laid.{flow_typing}
 use Rattle.machine.specs.Words.{Word}
 use Rattle.machine.specs.Typed.{Sort}
@@ -12,7 +12,7 @@ use Rattle.machine.specs.Step as machine_step
 use Rattle.run_codes.specs.Codes.{Does}
 use Rattle.run_codes.specs.Flat.{Flat, Stop, Raises, Traps, Made, Failed, Spot, Got, Given, Stops, Broken}
 use Rattle.run_codes.specs.Flat as flat
-use Rattle.run_codes.specs.Points.{Outcome, halted, on_made, on_got}
+use Rattle.run_codes.specs.Points.{Outcome, halted, on_made}
 use Rattle.run_codes.specs.Related.{IsValue, types, now, Stopped}
 use Rattle.run_fills.specs.Filled.{IsWhole, at, Later, Halts, Filled}
 use Rattle.run_fills.proofs.GivenUp.{given_up_later}

@@ -1,7 +1,6 @@
 -- The result of a function waits in the frame of its caller, on both sides.
-use Rattle.std.proofs.Common.{◌≡◌, ◌⊎◌, inl, inr, ℕ, zero, suc, ◌+◌, ◌<◌, List, [], ◌∷◌, length, get_or, refl, sym, ap, subst, ◌∙◌, Option, Some, None, ℤ}
+use Rattle.std.proofs.Common.{◌≡◌, inl, inr, ℕ, suc, ◌+◌, ◌<◌, List, [], ◌∷◌, length, get_or, refl, sym, subst, Option, Some, None, ℤ}
 use Rattle.std.specs.Prelude.{option_and_then}
-use Rattle.type_definitions.specs.Types.{Table}
 use Rattle.typed_tree.specs.Trees.{TypedTree, More}
 use Rattle.flow_paths.specs.Names.{waiting}
 use Rattle.flow_paths.specs.Laid.{FlowProgram, flow_typing}
@@ -9,7 +8,7 @@ use Rattle.flow_paths.specs.Instructions.{Hold}
 use Rattle.machine.specs.Words.{Word}
 use Rattle.machine.specs.Typed.{sorts}
 use Rattle.machine.specs.Memory.{Memory}
-use Rattle.machine.specs.Evaluate.{Now, Evaluated, Done}
+use Rattle.machine.specs.Evaluate.{Evaluated, Done}
 use Rattle.machine.specs.States.{Waiting, sub_of}
 use Rattle.machine.specs.States as machine
 use Rattle.machine.specs.Step as machine_step
@@ -18,18 +17,18 @@ use Rattle.run_codes.specs.Codes.{Does, Fill}
 use Rattle.run_codes.specs.Codes as codes
 use Rattle.run_codes.specs.Flat.{Flat, filled}
 use Rattle.run_codes.specs.Lowered.{value}
-use Rattle.run_codes.specs.Programs.{does, going, on_going, use_for, held_result}
+use Rattle.run_codes.specs.Programs.{going, on_going, use_for, held_result}
 use Rattle.run_codes.specs.Points.{Held, Frame, State, Outcome, given_to, on_made, done}
 use Rattle.run_codes.specs.Points as points
-use Rattle.run_codes.specs.Related.{IsValue, types, now}
+use Rattle.run_codes.specs.Related.{IsValue, types}
 use Rattle.run_codes.proofs.Places.{impossible, some_same}
 use Rattle.run_codes.proofs.Expressions.{and_then_some}
-use Rattle.run_fills.specs.Filled.{at, Later}
+use Rattle.run_fills.specs.Filled.{Later}
 use Rattle.run_points.specs.Outcomes.{IsAlike}
 use Rattle.run_points.specs.States.{Laid, HeldStands, FramesStand, AreUndeclared, MemoryStands, StateStands, MainBegins, LoopsApart}
 use Rattle.run_points.specs.Turns.{Turns, state, turn, flat_state, flat_turn, around, seen, TurnStands, DoesAlike}
 use Rattle.run_points.proofs.Goes.{way}
-use Rattle.run_points.proofs.Tests.{DoneAlike, go_alike}
+use Rattle.run_points.proofs.Tests.{go_alike}
 use Rattle.run_points.proofs.Halts.{filled_alike, done_after}
 use Rattle.run_points.proofs.Taken.{taken_filled, taken_low}
 use Rattle.run_points.proofs.Calls.{caller_stands}

@@ -1,5 +1,5 @@
 -- The loops of a frame after one of them starts, has a turn, or ends.
-use Rattle.std.proofs.Common.{◌≡◌, ℕ, true, false, Bool, not, List, [], ◌∷◌, refl, sym, ap, subst, ◌∙◌, Some, arith, ℤ, pos, if◌then◌else◌}
+use Rattle.std.proofs.Common.{◌≡◌, ℕ, true, false, Bool, List, [], ◌∷◌, refl, sym, ap, ◌∙◌, Some, arith, ℤ, pos, if◌then◌else◌}
 use Rattle.std.specs.Prelude.{◌==◌}
 use Rattle.flow_paths.specs.Objects.{Typing}
 use Rattle.machine.specs.States.{Loop}

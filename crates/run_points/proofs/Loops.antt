@@ -1,5 +1,5 @@
 -- The words of a loop, which lie after its parameter; and the start of a loop, which is the machine's.
-use Rattle.std.proofs.Common.{◌≡◌, ◌⊎◌, inl, inr, ℕ, zero, suc, ◌+◌, ◌≤◌, true, false, Bool, not, ◌&&◌, List, [], ◌∷◌, length, map, take, drop, refl, sym, ap, subst, ◌∙◌, arith, Option, Some, None, ℤ, pos, int_le, if◌then◌else◌}
+use Rattle.std.proofs.Common.{◌≡◌, ◌⊎◌, inl, inr, ℕ, ◌+◌, ◌≤◌, true, false, Bool, not, ◌&&◌, List, [], ◌∷◌, length, map, take, drop, refl, sym, ap, subst, ◌∙◌, arith, Option, Some, None, ℤ, pos, int_le, if◌then◌else◌}
 use Rattle.std.specs.Prelude.{◌==◌, option_and_then}
 use Rattle.spark_base.specs.Lists.{Has}
 use Rattle.type_definitions.specs.declared.table.Shape.{Shape}
@@ -9,7 +9,7 @@ use Rattle.typed_tree.specs.Trees.{TypedTree}
 use Rattle.flow_paths.specs.Objects.{Typing, object_at, is_package_object}
 use Rattle.flow_paths.specs.Instructions.{Start}
 use Rattle.flow_paths.specs.Names.{waiting}
-use Rattle.flow_paths.specs.Laid.{FlowProgram, flow_typing}
+use Rattle.flow_paths.specs.Laid.{flow_typing}
 use Rattle.machine.specs.Words.{Word, fits_type}
 use Rattle.machine.specs.Typed.{Sort, Whole, Position, sorts}
 use Rattle.machine.specs.Memory.{Memory, declared}
@@ -20,18 +20,18 @@ use Rattle.machine.specs.Step as machine_step
 use Rattle.machine.specs.Step.{Bounds, number, successor, loop_of, without_loop}
 use Rattle.run_codes.specs.Codes.{Code, Does}
 use Rattle.run_codes.specs.Codes as codes
-use Rattle.run_codes.specs.Flat.{Flat, Got, Given, Stops, Broken, and_then, kind_of, kinds, are_words, constraint, is_between, word, spliced, with_stack, most_cells}
-use Rattle.run_codes.specs.Lowered.{offset_of, Lowered, lowered, Scalar, scalar_of, same_scalar}
+use Rattle.run_codes.specs.Flat.{Flat, Got, Given, Stops, Broken, and_then, kind_of, kinds, are_words, constraint, is_between, word, spliced, with_stack}
+use Rattle.run_codes.specs.Lowered.{offset_of, lowered, Scalar, scalar_of, same_scalar}
 use Rattle.run_codes.specs.Programs.{going, on_next, own_offset, own_loop, scalar_code, is_loop}
 use Rattle.run_codes.specs.Points.{State, Outcome, halted, on_got, put_words, goes, done}
 use Rattle.run_codes.specs.Points as points
-use Rattle.run_codes.specs.Related.{Stands, IsValue, Same, types, now, Lying, lying_sorts, AreApart}
+use Rattle.run_codes.specs.Related.{Stands, IsValue, Same, types, now, AreApart}
 use Rattle.run_codes.proofs.Places.{impossible, some_same, if_some, stopped_on}
 use Rattle.run_codes.proofs.Held.{stands_word}
 use Rattle.run_codes.proofs.Stores.{spliced_is, splice_on}
 use Rattle.run_codes.proofs.Seeing.{stack_stored}
 use Rattle.run_codes.proofs.Expressions.{and_then_some, simulates}
-use Rattle.run_fills.specs.Filled.{at, Later}
+use Rattle.run_fills.specs.Filled.{at}
 use Rattle.run_fills.proofs.Outside.{block_kept}
 use Rattle.run_fills.proofs.Single.{one_value, whole_fits, listed_fits, few_types}
 use Rattle.run_fills.proofs.Wholes.{unchanged}
@@ -39,7 +39,7 @@ use Rattle.run_points.specs.Outcomes.{IsAlike}
 use Rattle.run_points.specs.States.{site_of, LoopAt, loop_words, LoopsStand, Laid, StateStands, MainBegins}
 use Rattle.run_points.specs.Turns.{Turns, state, turn, flat_turn, around, seen, TurnStands, IsKept, DoesAlike}
 use Rattle.run_points.proofs.Waits.{is_seen}
-use Rattle.run_points.proofs.Goes.{Way, way, after_stands}
+use Rattle.run_points.proofs.Goes.{way, after_stands}
 use Rattle.run_points.proofs.Ends.{start_is, raised_alike, stopped_alike, waits_on}
 use Rattle.run_points.proofs.Stacks.{spliced_long, outside_kept}
 use Rattle.run_points.proofs.Tests.{DoneAlike}

@@ -1,6 +1,5 @@
 -- What stands, stands where more cells were made.
-use Rattle.std.proofs.Common.{◌≡◌, ℕ, zero, suc, ◌+◌, ◌<◌, List, [], ◌∷◌, ◌++◌, length, refl, sym, subst, arith, length-append, ℤ}
-use Rattle.std.specs.Prelude.{get_or}
+use Rattle.std.proofs.Common.{◌≡◌, ℕ, ◌+◌, ◌<◌, List, [], ◌∷◌, ◌++◌, length, sym, subst, arith, length-append, ℤ}
 use Rattle.type_definitions.specs.Types.{Table}
 use Rattle.type_definitions.specs.Entries.{integer}
 use Rattle.flow_paths.specs.Objects.{Typing}

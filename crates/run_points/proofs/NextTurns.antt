@@ -1,5 +1,5 @@
 -- The next turn of a loop, and its end, are the machine's.
-use Rattle.std.proofs.Common.{◌≡◌, ℕ, zero, suc, ◌+◌, ◌≤◌, Bool, List, [], ◌∷◌, length, drop, refl, sym, ap, subst, ◌∙◌, arith, Option, Some, None, slice_get, ℤ, pos, if◌then◌else◌}
+use Rattle.std.proofs.Common.{◌≡◌, ℕ, ◌+◌, ◌≤◌, Bool, List, [], ◌∷◌, length, drop, refl, sym, ap, subst, ◌∙◌, arith, Option, Some, None, slice_get, ℤ, pos}
 use Rattle.std.specs.Prelude.{option_and_then}
 use Rattle.type_definitions.specs.Types.{Table, shape_of}
 use Rattle.typed_tree.specs.Trees.{TypedTree}

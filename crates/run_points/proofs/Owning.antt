@@ -1,5 +1,5 @@
 -- Where nothing is owned, nothing is checked for leaks.
-use Rattle.std.proofs.Common.{◌≡◌, inl, inr, ℕ, zero, suc, ◌+◌, true, false, Bool, ◌||◌, List, [], ◌∷◌, ◌++◌, map, length, take, refl, sym, ap, subst, ◌∙◌, Some, None, slice_get, ℤ}
+use Rattle.std.proofs.Common.{◌≡◌, inl, ℕ, zero, suc, ◌+◌, true, false, Bool, ◌||◌, List, [], ◌∷◌, ◌++◌, map, length, take, refl, sym, ap, subst, ◌∙◌, Some, None, slice_get, ℤ}
 use Rattle.std.specs.Prelude.{flat_map}
 use Rattle.spark_base.specs.Lists.{Has}
 use Rattle.spark_base.specs.declared.position.Pos.{Pos}
@@ -10,7 +10,7 @@ use Rattle.type_definitions.specs.declared.table.Shape.{Shape}
 use Rattle.type_definitions.specs.declared.table.Shape.TheVariants as shape
 use Rattle.type_definitions.specs.Types.{Table, shape_found, numbered, parts_of, parts_within, parts, any_owns, owns_of, owns_within, is_owning}
 use Rattle.machine.specs.Words.{offsets, access_offsets}
-use Rattle.machine.specs.Typed.{Sort, Whole, Position, Pointer, sorts}
+use Rattle.machine.specs.Typed.{Sort, Pointer, sorts}
 use Rattle.machine.specs.Evaluate.{Evaluated}
 use Rattle.machine.specs.Memory.{Place}
 use Rattle.machine.specs.Calls.{checks_at}

@@ -1,6 +1,5 @@
 -- Actuals are passed on both sides alike: values of formals, and places.
-use Rattle.std.proofs.Common.{◌≡◌, ◌⊎◌, inl, inr, ℕ, zero, suc, ◌+◌, ◌<◌, ◌≤◌, true, false, Bool, ◌&&◌, List, [], ◌∷◌, ◌++◌, map, length, take, drop, get_or, refl, sym, ap, subst, ◌∙◌, arith, Option, Some, None, slice_get, ℤ, pos, append-nil, if◌then◌else◌}
-use Rattle.std.specs.Prelude.{option_and_then, is_some, not}
+use Rattle.std.proofs.Common.{◌≡◌, inl, inr, ℕ, suc, ◌+◌, ◌<◌, true, false, Bool, List, [], ◌∷◌, ◌++◌, length, take, drop, get_or, refl, sym, ap, subst, ◌∙◌, arith, Some, None, ℤ, append-nil, if◌then◌else◌}
 use Rattle.std.proofs.lemmas.List.{length-map}
 use Rattle.spark_base.specs.declared.position.Pos.{Pos}
 use Rattle.place_names.specs.declared.act.Mode.TheVariants as mode
@@ -10,13 +9,13 @@ use Rattle.type_definitions.specs.declared.table.Shape.TheVariants as shape
 use Rattle.type_definitions.specs.declared.judgement.View.TheVariants as view
 use Rattle.type_definitions.specs.Types.{Table, shape_of, view_of, full}
 use Rattle.type_definitions.specs.Entries.{integer}
-use Rattle.typed_tree.specs.Trees.{TypedTree, More, NoMore}
+use Rattle.typed_tree.specs.Trees.{TypedTree, More}
 use Rattle.flow_paths.specs.Objects.{object_at, is_anonymous, Passing, ByValue, Traversed}
 use Rattle.flow_paths.specs.Objects as objects
 use Rattle.flow_paths.specs.Names.{waiting, written}
-use Rattle.machine.specs.Words.{Word, fits_type, are_within}
+use Rattle.machine.specs.Words.{Word, fits_type}
 use Rattle.machine.specs.Typed.{Sort, Whole, Position, sorts}
-use Rattle.machine.specs.Memory.{Memory, HeapCell, Place, OfCell, cell, words_of}
+use Rattle.machine.specs.Memory.{Memory, HeapCell, Place, OfCell, words_of}
 use Rattle.machine.specs.Evaluate.{Here, Now, Evaluated, Done, ConstraintError, followed_by, Use, AsValue, AsView, evaluate, checked, place_of, value, viewed}
 use Rattle.machine.specs.Evaluate as evaluation
 use Rattle.machine.specs.Calls.{written_pos, value_passed, passed_value, passed_place, passed, all_passed}
@@ -27,16 +26,15 @@ use Rattle.run_codes.specs.Flat.{Flat, Got, Given, Stops, Broken, Stop, Raises, 
 use Rattle.run_codes.specs.Flat as flat
 use Rattle.run_codes.specs.Lowered.{Site, Placed, place, one_type, option_map}
 use Rattle.run_codes.specs.Lowered as lowering
-use Rattle.run_codes.specs.Programs.{use_for, name_pos, is_scalar_shape, viewed_value, actual_place, actual, actuals, with_first}
+use Rattle.run_codes.specs.Programs.{use_for, name_pos, is_scalar_shape, viewed_value, actual_place, actual}
 use Rattle.run_codes.specs.Points.{Passed, Value, FromSpot, ToSpot, within_bounds, fits}
 use Rattle.run_codes.specs.Points as points
-use Rattle.run_codes.specs.Related.{Stands, IsValue, IsTable, Seen, table, here, now, types, Stopped, LiesOwn, LiesInPackages, LiesIn, IsSplit, InObject, IsPlace, IsThere, IsFrom, SpotSame, Lying}
-use Rattle.run_codes.proofs.Places.{impossible, some_same, if_some, if_none, twice, stopped_on, type_at}
+use Rattle.run_codes.specs.Related.{Stands, IsValue, IsTable, Seen, table, here, now, types, Stopped, LiesIn, IsSplit, InObject, IsPlace, IsThere, SpotSame, Lying}
+use Rattle.run_codes.proofs.Places.{some_same, if_some, if_none, twice, stopped_on, type_at}
 use Rattle.run_codes.proofs.Expressions.{and_then_some, map_some}
 use Rattle.run_codes.proofs.Held.{is_held}
 use Rattle.run_codes.proofs.Spots.{place_same}
-use Rattle.run_codes.proofs.News.{get_before}
-use Rattle.run_fills.specs.Filled.{IsWhole, at, Later, Halts, Filled}
+use Rattle.run_fills.specs.Filled.{at, Later, Halts, Filled}
 use Rattle.run_fills.proofs.Wholes.{value_more, unchanged, later_on, here_later}
 use Rattle.run_fills.proofs.Wholes as wholes
 use Rattle.run_fills.proofs.Values.{value_as}

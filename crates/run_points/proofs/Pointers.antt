@@ -1,14 +1,14 @@
 -- What an object of a named access type has without a value, and that it is owning.
-use Rattle.std.proofs.Common.{◌≡◌, ℕ, zero, suc, ◌<◌, true, false, Bool, List, [], ◌∷◌, length, refl, sym, ap, subst, ◌∙◌, arith, Option, Some, None, slice_get, ℤ, pos, negsuc}
+use Rattle.std.proofs.Common.{◌≡◌, ℕ, zero, suc, ◌<◌, true, Bool, List, [], ◌∷◌, length, refl, sym, ap, subst, ◌∙◌, arith, Option, Some, None, slice_get, ℤ, pos, negsuc}
 use Rattle.type_definitions.specs.declared.table.Info.{Info}
 use Rattle.type_definitions.specs.declared.table.Shape.{Shape}
 use Rattle.type_definitions.specs.declared.table.Shape.TheVariants as shape
 use Rattle.type_definitions.specs.Types.{Table, shape_found, same_as, meant_type_found, shape_of, owns_of, owns_within, is_owning}
 use Rattle.machine.specs.Words.{Word, default}
-use Rattle.machine.specs.Typed.{Pointer, sorts}
+use Rattle.machine.specs.Typed.{Pointer}
 use Rattle.run_codes.specs.Flat.{default_words}
-use Rattle.run_codes.specs.Related.{IsValue, IsTable, SlotStands}
-use Rattle.run_codes.proofs.Places.{impossible, some_same}
+use Rattle.run_codes.specs.Related.{IsValue, IsTable}
+use Rattle.run_codes.proofs.Places.{impossible}
 use Rattle.run_fills.specs.Filled.{HasParts}
 use Rattle.run_fills.proofs.Values.{default_value}
 

@@ -1,15 +1,13 @@
 -- A place that was found before is there still: what stands at it, and that its cell isn't freed.
-use Rattle.std.proofs.Common.{◌≡◌, inl, inr, ℕ, suc, ◌+◌, ◌<◌, ◌≤◌, false, List, [], ◌∷◌, ◌++◌, map, length, drop, get_or, refl, sym, ap, subst, ◌∙◌, arith, Some, slice_get, ℤ}
+use Rattle.std.proofs.Common.{◌≡◌, inl, inr, ℕ, suc, ◌+◌, ◌<◌, List, ◌++◌, length, drop, refl, sym, ap, subst, ◌∙◌, arith, ℤ}
 use Rattle.std.proofs.lemmas.List.{length-map, drop-drop}
-use Rattle.spark_base.specs.Lists.{Has}
 use Rattle.run_values.specs.declared.value.Value.{Value}
 use Rattle.reuse_heap.specs.Cells.{Cell as StoredCell}
-use Rattle.type_definitions.specs.Entries.{integer}
 use Rattle.machine.specs.Typed.{Sort, sorts}
-use Rattle.machine.specs.Memory.{Memory, HeapCell, Place, OfVariable, OfCell, cell, slots_at}
-use Rattle.machine.specs.Evaluate.{Evaluated, Done}
+use Rattle.machine.specs.Memory.{Memory, HeapCell, Place, OfVariable, cell, slots_at}
+use Rattle.machine.specs.Evaluate.{Done}
 use Rattle.run_codes.specs.Flat.{Flat, words_in, Spot, InStack, InCell}
-use Rattle.run_codes.specs.Related.{AllStand, AllKinds, CellStands, Seen, table, now, types, LiesIn, IsSplit, IsPlace, IsThere, Lying, lying_sorts}
+use Rattle.run_codes.specs.Related.{AllStand, AllKinds, Seen, table, now, types, LiesIn, IsSplit, IsPlace, IsThere, Lying, lying_sorts}
 use Rattle.run_codes.proofs.Parts.{first_kinds, second_kinds, split_inside}
 use Rattle.run_codes.proofs.Places.{type_at}
 use Rattle.run_codes.proofs.Seeing.{lies_there}

@@ -1,6 +1,6 @@
 -- The release of what an access value designates is the machine's.
-use Rattle.std.proofs.Common.{◌≡◌, ℕ, zero, suc, ◌+◌, ◌<◌, ◌≤◌, true, false, Bool, List, [], ◌∷◌, ◌++◌, map, length, take, drop, get_or, refl, sym, ap, subst, ◌∙◌, arith, Option, Some, None, slice_get, nat_lt, ℤ, pos, append-nil, if◌then◌else◌}
-use Rattle.std.specs.Prelude.{flat_map, option_and_then, unsigned_abs}
+use Rattle.std.proofs.Common.{◌≡◌, ℕ, zero, suc, ◌+◌, ◌<◌, true, false, Bool, List, [], ◌∷◌, ◌++◌, map, length, take, drop, get_or, refl, sym, ap, subst, ◌∙◌, arith, Option, Some, None, slice_get, nat_lt, ℤ, pos, if◌then◌else◌}
+use Rattle.std.specs.Prelude.{flat_map, unsigned_abs}
 use Rattle.std.proofs.lemmas.List.{length-map}
 use Rattle.spark_base.specs.declared.position.Pos.{Pos}
 use Rattle.run_values.specs.declared.value.Kind.TheVariants as sort
@@ -27,16 +27,15 @@ use Rattle.run_codes.specs.Codes as codes
 use Rattle.run_codes.specs.Flat.{Flat, Got, Given, kinds, words_at, all_fresh, words_in, most_cells, Spot, InCell, spot, without_cell}
 use Rattle.run_codes.specs.Flat as flat
 use Rattle.run_codes.specs.Lowered.{Placed, place}
-use Rattle.run_codes.specs.Programs.{does, going, on_going, name_pos}
+use Rattle.run_codes.specs.Programs.{going, on_going, name_pos}
 use Rattle.run_codes.specs.Points.{Outcome, Fails, halted, on_got, leaks_at, leaking_goes, after, goes, done}
 use Rattle.run_codes.specs.Points as points
-use Rattle.run_codes.specs.Related.{AllKinds, AllStand, Designates, PointsTo, IsValue, CellStands, types, now, IsSplit, IsPlace, InLive, IsThere, Related}
+use Rattle.run_codes.specs.Related.{AllKinds, AllStand, Designates, PointsTo, IsValue, CellStands, types, now, IsSplit, IsPlace, IsThere}
 use Rattle.run_codes.proofs.Parts.{whole_split}
 use Rattle.run_codes.proofs.Places.{impossible, some_same, is_below, head_stands, type_at}
 use Rattle.run_codes.proofs.Expressions.{and_then_some}
 use Rattle.run_codes.proofs.Held.{is_held}
 use Rattle.run_codes.proofs.Spots.{place_same}
-use Rattle.run_fills.specs.Filled.{IsWhole}
 use Rattle.run_fills.proofs.Wholes as wholes
 use Rattle.run_fills.proofs.Single.{one_value}
 use Rattle.run_fills.proofs.Leaks.{leaks_same}
@@ -44,12 +43,12 @@ use Rattle.run_fills.proofs.Moved.{types_put}
 use Rattle.run_points.specs.Outcomes.{IsAlike}
 use Rattle.run_points.specs.States.{Laid, StateStands, MainBegins}
 use Rattle.run_points.specs.Turns.{Turns, turn, flat_turn, around, seen, TurnStands, IsKept, DoesAlike}
-use Rattle.run_points.proofs.Waits.{at_start, is_seen}
+use Rattle.run_points.proofs.Waits.{is_seen}
 use Rattle.run_points.proofs.Ends.{start_is, goes_alike, goes_on, trapped_alike}
 use Rattle.run_points.proofs.Tests.{DoneAlike}
 use Rattle.run_points.proofs.Halts.{is_whole}
 use Rattle.run_points.proofs.Spotted.{pos_is}
-use Rattle.run_points.proofs.Storing.{IsStored, is_stored, are_kinds}
+use Rattle.run_points.proofs.Storing.{is_stored, are_kinds}
 use Rattle.run_points.proofs.Leaking.{leaking_stands, spot_alike}
 use Rattle.run_points.proofs.Flags.{frees_none, frees_put}
 use Rattle.run_points.proofs.Freed.{freed_types, cell_freed, stored_freed}

@@ -1,7 +1,6 @@
 -- Formals are copied back on both sides alike, when a call ends.
-use Rattle.std.proofs.Common.{◌≡◌, ◌⊎◌, inl, inr, ℕ, zero, suc, ◌+◌, ◌<◌, ◌≤◌, true, false, Bool, ◌&&◌, ◌||◌, List, [], ◌∷◌, ◌++◌, map, length, take, drop, get_or, refl, sym, ap, subst, ◌∙◌, arith, Some, slice_get, ℤ, append-nil, nat_eq, if◌then◌else◌}
+use Rattle.std.proofs.Common.{◌≡◌, ◌⊎◌, inl, inr, ℕ, suc, ◌+◌, ◌<◌, ◌≤◌, true, false, Bool, ◌&&◌, List, [], ◌∷◌, ◌++◌, length, take, drop, refl, sym, ap, subst, ◌∙◌, arith, Some, slice_get, ℤ, append-nil, if◌then◌else◌}
 use Rattle.std.proofs.lemmas.List.{length-map}
-use Rattle.spark_base.specs.Lists.{Has}
 use Rattle.run_values.specs.declared.value.Kind.{Kind}
 use Rattle.run_values.specs.declared.value.Value.{Value}
 use Rattle.reuse_heap.specs.Cells.{Cell as StoredCell}
@@ -14,18 +13,18 @@ use Rattle.machine.specs.Evaluate as evaluation
 use Rattle.machine.specs.States as machine
 use Rattle.run_codes.specs.Flat.{Flat, Got, Given, Stops, Broken, Traps, and_then, touched, kinds, values, all_fresh, are_words, are_in, constraint, Spot, InStack, InCell, held, spliced, with_stack, with_words, Made, reads}
 use Rattle.run_codes.specs.Flat as flat
-use Rattle.run_codes.specs.Lowered.{Site, offset_of, one_type}
+use Rattle.run_codes.specs.Lowered.{Site, offset_of}
 use Rattle.run_codes.specs.Points.{Return, in_stack, fits, copied_back}
 use Rattle.run_codes.specs.Points as points
-use Rattle.run_codes.specs.Related.{AllStand, AllKinds, IsValue, CellStands, IsTable, Seen, table, here, now, types, IsSplit, IsPlace, Lying, lying_sorts, Related}
+use Rattle.run_codes.specs.Related.{AllStand, AllKinds, IsValue, Seen, table, here, now, types, IsSplit, IsPlace, Lying, lying_sorts, Related}
 use Rattle.run_codes.proofs.Parts.{whole_split, split_inside, first_kinds, second_kinds}
-use Rattle.run_codes.proofs.Places.{both_true, type_at}
+use Rattle.run_codes.proofs.Places.{type_at}
 use Rattle.run_codes.proofs.Stores.{stored_in_stack}
 use Rattle.run_codes.proofs.Heaps.{stored_in_cell}
 use Rattle.run_codes.proofs.Held.{is_held, in_cell_there}
 use Rattle.run_codes.proofs.Seeing.{stack_stored}
 use Rattle.run_fills.specs.Filled.{IsWhole, at, Later}
-use Rattle.run_fills.proofs.Wholes.{later_from, later_on, here_later, value_later}
+use Rattle.run_fills.proofs.Wholes.{later_from, later_on, value_later}
 use Rattle.run_fills.proofs.Values.{value_as}
 use Rattle.run_fills.proofs.Made.{are_there}
 use Rattle.run_fills.proofs.Moved.{types_put, is_taken}
@@ -34,7 +33,7 @@ use Rattle.run_points.specs.States.{PlaceStands, ReturnStands, ReturnsStand, Are
 use Rattle.run_points.proofs.More.{place_more, returns_more}
 use Rattle.run_points.proofs.Stacks.{spliced_long}
 use Rattle.run_points.proofs.Undeclared.{put_low}
-use Rattle.run_points.proofs.Flags.{low_moved, FreesNone, frees_none, frees_moved}
+use Rattle.run_points.proofs.Flags.{low_moved, frees_none, frees_moved}
 use Rattle.run_points.proofs.Turned.{sorts_turned}
 use Rattle.run_points.proofs.Passing.{Stopping, fits_same}
 

@@ -1,23 +1,14 @@
 -- Where the objects of a frame and its loops lie: one after the other, so that no two share a word.
-use Rattle.std.proofs.Common.{◌≡◌, ◌⊎◌, inl, inr, ℕ, zero, suc, ◌+◌, ◌≤◌, true, false, Bool, ◌&&◌, ◌||◌, List, [], ◌∷◌, ◌++◌, length, take, drop, refl, sym, ap, subst, ◌∙◌, arith, Option, Some, None, ℤ, pos, append_assoc, length-append, if◌then◌else◌}
-use Rattle.std.specs.Prelude.{◌==◌, flat_map}
-use Rattle.std.proofs.Math.Seq.{drop-append_seam}
+use Rattle.std.proofs.Common.{◌≡◌, ◌⊎◌, inl, inr, ℕ, ◌+◌, ◌≤◌, true, false, Bool, ◌&&◌, ◌||◌, List, [], ◌∷◌, length, refl, sym, ap, subst, ◌∙◌, arith, Some, if◌then◌else◌}
+use Rattle.std.specs.Prelude.{◌==◌}
 use Rattle.spark_base.specs.Lists.{Has}
-use Rattle.type_definitions.specs.Types.{Table, words}
+use Rattle.type_definitions.specs.Types.{words}
 use Rattle.flow_paths.specs.Objects.{Typing, object_at}
-use Rattle.machine.specs.Words.{default}
-use Rattle.machine.specs.Typed.{Sort, sorts}
-use Rattle.machine.specs.Memory.{Slot, fresh}
-use Rattle.run_codes.specs.Codes.{Room, Object, Counter}
-use Rattle.run_codes.specs.Flat.{default_words}
 use Rattle.run_codes.specs.Lowered.{Kept, kept_words, offset_from}
 use Rattle.run_codes.specs.Programs.{has_room, rooms, is_loop}
-use Rattle.run_codes.specs.Points.{room_words}
-use Rattle.run_codes.specs.Related.{AllStand, IsValue, Lying, lying_sorts, IsBefore, IsSame}
+use Rattle.run_codes.specs.Related.{Lying, lying_sorts, IsBefore, IsSame}
 use Rattle.run_codes.proofs.Parts.{many}
 use Rattle.run_codes.proofs.Places.{impossible, some_same}
-use Rattle.run_fills.specs.Filled.{HasParts}
-use Rattle.run_fills.proofs.Values.{default_value}
 use Rattle.run_points.specs.States.{LoopAt, IsSameLoop}
 
 -- ---- where they lie

@@ -1,6 +1,6 @@
 -- A value that is lowered as a scalar within bounds goes to a place of a scalar type.
-use Rattle.std.proofs.Common.{◌≡◌, ℕ, suc, ◌+◌, true, false, Bool, ◌&&◌, List, [], ◌∷◌, map, refl, sym, ap, ◌∙◌, Option, Some, None, ℤ, pos, if◌then◌else◌}
-use Rattle.std.specs.Prelude.{option_and_then, ◌==◌}
+use Rattle.std.proofs.Common.{◌≡◌, ℕ, suc, ◌+◌, true, false, Bool, ◌&&◌, [], ◌∷◌, map, refl, sym, ap, ◌∙◌, Option, Some, None, pos, if◌then◌else◌}
+use Rattle.std.specs.Prelude.{◌==◌}
 use Rattle.run_values.specs.declared.value.Kind.TheVariants as sort
 use Rattle.type_definitions.specs.declared.table.Shape.{Shape}
 use Rattle.type_definitions.specs.declared.table.Shape.TheVariants as shape
@@ -10,7 +10,7 @@ use Rattle.typed_tree.specs.Trees as typed
 use Rattle.flow_paths.specs.Objects.{sub_at}
 use Rattle.flow_paths.specs.Names.{waiting}
 use Rattle.machine.specs.Words.{access_offsets, element_type, element_count}
-use Rattle.machine.specs.Typed.{Sort, Whole, Position, Pointer, sorts, is_pointer, points_to, is_array, field_count, tree_count}
+use Rattle.machine.specs.Typed.{Whole, Position, Pointer, sorts, is_pointer, points_to, is_array, field_count, tree_count}
 use Rattle.machine.specs.Evaluate.{Use, AsValue, part_type}
 use Rattle.run_codes.specs.Codes.{Code, Number, Waiting, Fill, Checked, Pointer as LookedAt, MovedPointer, Copied, Moved, Waited, Repeated, Both, Empty}
 use Rattle.run_codes.specs.Codes as codes

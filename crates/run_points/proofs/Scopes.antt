@@ -1,7 +1,6 @@
 -- The end of an object's scope is the machine's: its leak checks, and that it has no value any more.
-use Rattle.std.proofs.Common.{◌≡◌, ◌⊎◌, inl, inr, ℕ, zero, suc, ◌+◌, ◌≤◌, true, false, Bool, List, [], ◌∷◌, ◌++◌, length, take, drop, refl, sym, ap, subst, ◌∙◌, arith, Option, Some, None, slice_get, ℤ, pos, append-nil, if◌then◌else◌}
-use Rattle.std.specs.Prelude.{◌==◌, not, flat_map, option_and_then}
-use Rattle.spark_base.specs.Lists.{Has}
+use Rattle.std.proofs.Common.{◌≡◌, inl, inr, ℕ, ◌+◌, true, false, Bool, List, [], ◌∷◌, length, take, drop, refl, sym, ap, subst, ◌∙◌, arith, Option, Some, None, slice_get, ℤ, pos, append-nil, if◌then◌else◌}
+use Rattle.std.specs.Prelude.{◌==◌, not, flat_map}
 use Rattle.spark_base.specs.declared.position.Pos.{Pos}
 use Rattle.type_definitions.specs.declared.table.Shape.{Shape}
 use Rattle.type_definitions.specs.declared.table.Shape.TheVariants as shape
@@ -19,18 +18,17 @@ use Rattle.machine.specs.States.{Leak, sub_of}
 use Rattle.machine.specs.Step as machine_step
 use Rattle.run_codes.specs.Codes.{Does}
 use Rattle.run_codes.specs.Codes as codes
-use Rattle.run_codes.specs.Flat.{Flat, Got, Given, and_then, found, kinds, words_at, InStack, spliced, with_stack, default_words}
+use Rattle.run_codes.specs.Flat.{Flat, Given, and_then, found, InStack, spliced, with_stack, default_words}
 use Rattle.run_codes.specs.Lowered.{offset_from, offset_of, package_offset}
-use Rattle.run_codes.specs.Programs.{does, going, on_going, objects_of, own_offset}
+use Rattle.run_codes.specs.Programs.{going, on_going, objects_of, own_offset}
 use Rattle.run_codes.specs.Points.{State, Outcome, on_got, put_words, leak, leaks_in, leaks_at, leaking_goes, after}
 use Rattle.run_codes.specs.Points as points
 use Rattle.run_codes.specs.Related.{AllStand, IsValue, types, now, LiesIn, IsPlace}
 use Rattle.run_codes.proofs.Parts.{whole_split, first_word}
-use Rattle.run_codes.proofs.Places.{some_same, given_same, if_some, Head, head_stands}
+use Rattle.run_codes.proofs.Places.{some_same, given_same, if_some, head_stands}
 use Rattle.run_codes.proofs.Expressions.{and_then_some}
 use Rattle.run_codes.proofs.Held.{is_held}
 use Rattle.run_codes.proofs.Seeing.{stack_stored}
-use Rattle.run_fills.specs.Filled.{IsWhole}
 use Rattle.run_fills.proofs.Values.{default_value}
 use Rattle.run_fills.proofs.Leaks.{leaks_same}
 use Rattle.run_points.specs.Outcomes.{IsAlike}

@@ -4,7 +4,6 @@ use Rattle.std.specs.Prelude.{nat_le, ◌==◌, option_and_then}
 use Rattle.spark_base.specs.declared.position.Pos.{Pos}
 use Rattle.typed_tree.specs.Trees.{TypedTree, Name}
 use Rattle.flow_paths.specs.Names.{waiting, written}
-use Rattle.flow_paths.specs.Laid.{flow_typing}
 use Rattle.machine.specs.Memory.{Memory, Place}
 use Rattle.machine.specs.Evaluate.{Now, Evaluated, followed_by, place_of}
 use Rattle.machine.specs.Calls.{written_pos}

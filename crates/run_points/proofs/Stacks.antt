@@ -1,5 +1,5 @@
 -- What is stored in an object keeps the rest, words of loops among it.
-use Rattle.std.proofs.Common.{◌≡◌, ◌⊎◌, inl, inr, ℕ, zero, suc, ◌+◌, ◌-◌, ◌<◌, ◌≤◌, true, false, Bool, not, ◌&&◌, List, [], ◌∷◌, length, take, drop, refl, sym, ap, subst, ◌∙◌, Some, None, arith, ℤ, if◌then◌else◌, append-nil}
+use Rattle.std.proofs.Common.{◌≡◌, ◌⊎◌, inl, inr, ℕ, suc, ◌+◌, ◌-◌, ◌<◌, ◌≤◌, true, false, Bool, not, ◌&&◌, List, [], length, take, drop, refl, sym, ap, subst, ◌∙◌, Some, None, arith, ℤ, if◌then◌else◌, append-nil}
 use Rattle.std.specs.Prelude.{◌==◌}
 use Rattle.spark_base.specs.Lists.{Has}
 use Rattle.flow_paths.specs.Objects.{Typing, object_at, is_package_object}
@@ -13,7 +13,7 @@ use Rattle.run_codes.specs.Lowered.{offset_from, offset_of, package_offset}
 use Rattle.run_codes.specs.Programs.{objects_of, own_offset}
 use Rattle.run_codes.specs.Related.{AllStand, IsValue, types, Lying, lying_sorts, Related, AreApart}
 use Rattle.run_codes.proofs.Places.{if_some}
-use Rattle.run_codes.proofs.Stores.{splice, spliced_is, splice_on, splice_after, stand_before, with_others}
+use Rattle.run_codes.proofs.Stores.{spliced_is, splice_on, splice_after, stand_before, with_others}
 use Rattle.run_codes.proofs.Cells.{splice_long}
 use Rattle.run_codes.proofs.Seeing.{declared_in_stack}
 use Rattle.run_fills.proofs.Outside.{block_kept}

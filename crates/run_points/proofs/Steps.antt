@@ -1,7 +1,6 @@
 -- A step of what is lowered is a step of the machine, and a run is its run.
 use Rattle.std.proofs.Common.{◌≡◌, ℕ, ◌+◌, true, false, Bool, List, [], ◌∷◌, ◌++◌, length, get_or, refl, sym, ap, subst, ◌∙◌, Option, Some, None, slice_get, if◌then◌else◌}
 use Rattle.std.proofs.lemmas.List.{length-append}
-use Rattle.std.specs.Prelude.{nat_le}
 use Rattle.type_definitions.specs.Entries.{boolean}
 use Rattle.typed_tree.specs.Trees.{TypedTree, Name, Component as IntoComponent, Designated, Element, Call, Parens, Image, Unary, Binary, Short, IsNull, Aggregate, Alike, New, More}
 use Rattle.flow_paths.specs.Instructions.{Instruction, Skip, Declare, Assign, Output, Input, Release, Test, Choose, Start, Next, Evaluate, LeaveLoop, Hold, EndScope, Finish, Fall}
@@ -19,7 +18,7 @@ use Rattle.machine.specs.Run.{no_point}
 use Rattle.run_codes.specs.Codes.{Does, Point}
 use Rattle.run_codes.specs.Codes as codes
 use Rattle.run_codes.specs.Programs.{Program, does, with_takes, taken_types, point_takes}
-use Rattle.run_codes.specs.Points.{Frame, State, Outcome, Wants, Fails, done, are_taken, turned, stepped, step, state_at_start, run_of, run_given, is_declaring}
+use Rattle.run_codes.specs.Points.{Frame, State, Outcome, Wants, Fails, done, are_taken, turned, stepped, step, run_of, run_given, is_declaring}
 use Rattle.run_codes.proofs.Places.{some_same}
 use Rattle.run_points.specs.Outcomes.{IsSeenAlike, IsAlike, GivesAlike}
 use Rattle.run_points.specs.States.{Laid, StateStands, MainBegins}

@@ -1,5 +1,5 @@
 -- The words with which a frame begins: those of objects without a value, and of loops that haven't started.
-use Rattle.std.proofs.Common.{◌≡◌, ◌⊎◌, inl, inr, ℕ, zero, suc, ◌+◌, ◌≤◌, ◌<◌, true, false, Bool, ◌&&◌, ◌||◌, List, [], ◌∷◌, ◌++◌, map, length, take, drop, get_or, refl, sym, ap, subst, ◌∙◌, arith, Option, Some, None, ℤ, pos, nat_lt, append_assoc, length-append, if◌then◌else◌}
+use Rattle.std.proofs.Common.{◌≡◌, ◌⊎◌, inl, inr, ℕ, zero, suc, ◌+◌, ◌<◌, true, false, Bool, ◌||◌, List, [], ◌∷◌, ◌++◌, map, length, take, drop, get_or, refl, sym, ap, subst, ◌∙◌, arith, Option, Some, ℤ, pos, nat_lt, append_assoc, length-append, if◌then◌else◌}
 use Rattle.std.specs.Prelude.{◌==◌, flat_map, option_and_then}
 use Rattle.std.specs.List.{list_any}
 use Rattle.std.proofs.Math.Seq.{drop-append_seam}
@@ -24,11 +24,11 @@ use Rattle.run_codes.specs.Codes.{Does, Room, Object, Counter}
 use Rattle.run_codes.specs.Codes as codes
 use Rattle.run_codes.specs.Flat.{default_words}
 use Rattle.run_codes.specs.Lowered.{Kept, kept_words, lowered, Scalar, scalar_of}
-use Rattle.run_codes.specs.Programs.{kept, has_room, with_room, room_of, rooms_of, objects_of, rooms, Around, typing, type_of, own_loop, does, started, on_next, scalar_code, with_takes, point_takes, sub_rows, Program}
+use Rattle.run_codes.specs.Programs.{kept, has_room, room_of, rooms_of, objects_of, rooms, Around, typing, type_of, own_loop, does, started, on_next, scalar_code, with_takes, point_takes, sub_rows, Program}
 use Rattle.run_codes.specs.Points.{room_words, template, sub_at, no_sub}
-use Rattle.run_codes.specs.Related.{AllStand, IsValue, IsTable, Lying, lying_sorts}
+use Rattle.run_codes.specs.Related.{AllStand, IsTable, Lying, lying_sorts}
 use Rattle.run_codes.proofs.Parts.{many}
-use Rattle.run_codes.proofs.Places.{impossible, some_same}
+use Rattle.run_codes.proofs.Places.{impossible}
 use Rattle.run_codes.proofs.Expressions.{and_then_some}
 use Rattle.run_fills.specs.Filled.{HasParts}
 use Rattle.run_fills.proofs.Values.{default_value}

@@ -1,5 +1,5 @@
 -- What frames that enter ask of a program.
-use Rattle.std.specs.Prelude.{◌≡◌, ◌<◌, ℕ, Bool, true, false, ◌==◌, List, [], ◌∷◌, length, get_or, nat_lt, Option, Some}
+use Rattle.std.specs.Prelude.{◌≡◌, ◌<◌, ℕ, false, ◌==◌, List, [], ◌∷◌, length, get_or, nat_lt, Option, Some}
 use Rattle.std.specs.List.{list_any}
 use Rattle.spark_base.specs.Lists.{Has}
 use Rattle.typed_tree.specs.Trees.{TypedTree}

@@ -1,5 +1,5 @@
 -- What stands while a step is made on both sides.
-use Rattle.std.specs.Prelude.{◌≡◌, ◌<◌, ℕ, ◌+◌, Bool, true, false, ◌==◌, List, [], ◌∷◌, ◌++◌, map, reverse, length, take, drop, get_or, slice_get, nat_lt, Some}
+use Rattle.std.specs.Prelude.{◌≡◌, ◌<◌, ℕ, ◌+◌, true, false, ◌==◌, List, [], ◌∷◌, ◌++◌, map, reverse, length, take, drop, get_or, slice_get, nat_lt, Some}
 use Rattle.spark_base.specs.Lists.{Has}
 use Rattle.type_definitions.specs.Entries.{boolean}
 use Rattle.flow_paths.specs.Scopes.{taken}

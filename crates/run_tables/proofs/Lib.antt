@@ -6,3 +6,6 @@ pub mod Gathers
 pub mod Programs
 pub mod Frames
 pub mod Runs
+pub mod Standing
+pub mod FirstClass
+pub mod FirstFiles

@@ -1,5 +1,5 @@
 -- A part of a type stands among the sorts of its words, and access values stand at its access offsets.
-use Rattle.std.proofs.Common.{◌≡◌, ℕ, zero, suc, ◌+◌, ◌*◌, true, false, List, [], ◌∷◌, ◌++◌, map, take, sum, length, get_or, refl, sym, ap, subst, ◌∙◌, arith, Some, slice_get, nat_lt}
+use Rattle.std.proofs.Common.{◌≡◌, ℕ, zero, suc, ◌*◌, true, false, List, [], ◌∷◌, ◌++◌, map, take, sum, length, get_or, refl, sym, ap, subst, ◌∙◌, arith, Some, slice_get, nat_lt}
 use Rattle.std.specs.Prelude.{flat_map}
 use Rattle.spark_base.specs.Lists.{Has}
 use Rattle.type_definitions.specs.declared.table.Component.{Component}

@@ -9,7 +9,7 @@ use Rattle.settled_types.proofs.Wholes.{finite_whole}
 use Rattle.type_sizes.specs.Limits.{AreWithin}
 use Rattle.part_offsets.specs.Parts.{IsSettled}
 use Rattle.machine.specs.Words.{offsets, access_offsets}
-use Rattle.machine.specs.Typed.{Whole, Position, sorts, sorts_of, same_kind}
+use Rattle.machine.specs.Typed.{Position, sorts, sorts_of, same_kind}
 use Rattle.run_codes.specs.Related.{IsTable}
 use Rattle.run_fills.specs.Filled.{HasParts}
 use Rattle.run_tables.specs.Bounds.{HasBounds}

@@ -1,6 +1,5 @@
 -- The instructions of files of the first class are typed, where no fault of typing is found.
 use Rattle.std.proofs.Common.{◌≡◌, true, List, IsTrue, None, refl, sym, true≢false}
-use Rattle.spark_base.specs.Lists.{Has}
 use Rattle.ada_tree.specs.declared.unit.SourceUnit.{SourceUnit}
 use Rattle.name_events.specs.Identified.{identified}
 use Rattle.name_events.specs.Faults.{name_fault}
@@ -9,8 +8,7 @@ use Rattle.type_definitions.specs.Types.{Table}
 use Rattle.type_definitions.specs.Whole.{known_of, type_fault}
 use Rattle.typing_steps.specs.Programs.{program_of}
 use Rattle.flow_paths.specs.Instructions.{Instruction, Evaluate}
-use Rattle.flow_paths.specs.Points.{FlowPoint}
-use Rattle.flow_paths.specs.Laid.{FlowSub, FlowProgram, flow_program}
+use Rattle.flow_paths.specs.Laid.{FlowProgram, flow_program}
 use Rattle.type_sizes.specs.Formed.{all_formed}
 use Rattle.type_rules.proofs.Formed.{files_formed}
 use Rattle.typed_laws.specs.Fine.{Laws}
@@ -25,10 +23,10 @@ use Rattle.gathered_laws.specs.Made.{IsMade}
 use Rattle.gathered_laws.proofs.Components.{components_left}
 use Rattle.gathered_laws.proofs.Laws.{program_laws}
 use Rattle.named_files.proofs.Records.{records_apart}
-use Rattle.soundness.specs.Sound.{IsFirstClass, calls_nothing}
+use Rattle.soundness.specs.Sound.{calls_nothing}
 use Rattle.ready_laws.proofs.Temporaries.{no_temporaries}
 use Rattle.order_laws.specs.Orderly.{typed_of}
-use Rattle.sound_files.specs.Class.{IsPlainText}
+use Rattle.sound_files.specs.Class.{IsPlainText, CallsNothing}
 use Rattle.sound_files.specs.Left.{AreOrderly}
 
 -- No operand of a short circuit stands by itself where nothing is called.
@@ -46,13 +44,13 @@ module _ (files : List (List SourceUnit)) where
   abbrev flow : FlowProgram
   flow = flow_program table (typed_of p)
 
-  undivided : IsFirstClass flow → AreUndivided flow
-  undivided class sub has point is = whole_of point.instr (class.no_calls sub has point is)
+  undivided : CallsNothing flow → AreUndivided flow
+  undivided calls sub has point is = whole_of point.instr (calls sub has point is)
 
   pub files_fine : AreApart (identified files) → AllEnded at_start p.units → name_fault files ≡ None → type_fault p ≡ None → IsPlainText p → AreOrderly files
-      → IsFirstClass flow → AreFine flow
-  files_fine apart ended named none text left class =
+      → CallsNothing flow → AreFine flow
+  files_fine apart ended named none text left calls =
       let formed : IsTrue (all_formed p.units) = files_formed (identified files) files in
       let orderly : IsInOrder p = files_in_order files apart ended in
       let laws : Laws (known_of p) (IsMade p.units) = program_laws p formed orderly none text.named (components_left p (records_apart (identified files) files named)) in
-      are_fine p (IsMade p.units) none laws left.meant (no_temporaries table (typed_of p) class.no_calls) (undivided class)
+      are_fine p (IsMade p.units) none laws left.meant (no_temporaries table (typed_of p) calls) (undivided calls)

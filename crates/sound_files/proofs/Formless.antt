@@ -1,5 +1,5 @@
 -- Subprograms of a text without formals have none.
-use Rattle.std.proofs.Common.{◌≡◌, inl, inr, ℕ, ◌+◌, List, [], ◌∷◌, ◌++◌, flat_map, refl, sym, ap, ◌∙◌, subst}
+use Rattle.std.proofs.Common.{◌≡◌, inl, inr, ℕ, ◌+◌, List, [], ◌∷◌, flat_map, refl, sym, ap, ◌∙◌}
 use Rattle.spark_base.specs.Lists.{Has}
 use Rattle.spark_base.proofs.Lists.{Has-append_cases}
 use Rattle.resolved_tree.specs.Trees.{Code, More, Front, SubBody, PackageBody, code_items}
@@ -15,7 +15,7 @@ front_none s front none = refl
 
 sub_none : (s : Site) (n : ℕ) (u : Code) (sub : TypedSub) → IsFormless u → Has (subs_in s n u) sub → sub.formals ≡ []
 unfolding subs_in IsFormless
-sub_none s n (SubBody front items stmts end) sub none (inl same) = ap (λ (t : TypedSub). t.formals) (sym same) ∙ front_none s front none
+sub_none s n (SubBody front items stmts end) sub none (inl same) = ap (λ (t : TypedSub). t.formals) (sym same) ∙ front_none s front none.0
 sub_none s n (SubBody front items stmts end) sub none (inr has) = absurd has
 sub_none s n (PackageBody d parts) sub none has = sub_none (placed (in_hidden (declared_number d)) s) n parts sub none has
 sub_none s n (More a rest) sub none has = elim (Has-append_cases (subs_in s n a) (subs_in s (n + scope_count a) rest) sub has) [

@@ -2,6 +2,9 @@ pub mod Whole
 pub mod Written
 pub mod Once
 pub mod Formless
+pub mod Access
+pub mod Formals
+pub mod First
 pub mod Fine
 pub mod Main
 pub mod Examples

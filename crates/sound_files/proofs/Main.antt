@@ -24,12 +24,12 @@ use Rattle.file_positions.specs.Texts.{AreParsed}
 use Rattle.file_positions.proofs.Main.{files_apart, files_ended}
 use Rattle.ready_types.proofs.Files.{files_settled, files_own}
 use Rattle.soundness.specs.Typed.{OwnsByShape}
-use Rattle.soundness.specs.Sound.{IsFirstClass, RunIsSound}
+use Rattle.soundness.specs.Sound.{RunIsSound}
 use Rattle.soundness.proofs.Points.{flow_table}
 use Rattle.order_laws.specs.Orderly.{typed_of, typing_in, bodies_of, IsOrderly}
 use Rattle.order_laws.proofs.Faults.{units_faultless}
 use Rattle.order_laws.proofs.Accepted.{accepted_sound}
-use Rattle.sound_files.specs.Class.{IsPlainText}
+use Rattle.sound_files.specs.Class.{IsPlainText, CallsNothing}
 use Rattle.sound_files.specs.Left.{AreOrderly}
 use Rattle.sound_files.proofs.Whole.{whole}
 use Rattle.sound_files.proofs.Once.{files_once}
@@ -37,6 +37,7 @@ use Rattle.sound_files.proofs.Written.{files_written}
 use Rattle.named_files.proofs.Library.{procedures}
 use Rattle.sound_files.proofs.Formless.{subs_none}
 use Rattle.sound_files.proofs.Fine.{files_fine}
+use Rattle.sound_files.proofs.First.{first_class}
 
 module _ (files : List (List SourceUnit)) where
   abbrev p : Program
@@ -66,21 +67,21 @@ module _ (files : List (List SourceUnit)) where
     }
 
     -- Where there are no reports, each moment of each run is well owned, and none is a trap.
-    pub files_sound : (effects : Effects) → AreEffects flow effects → AreReports flow effects [] → IsFirstClass flow
+    pub files_sound : (effects : Effects) → AreEffects flow effects → AreReports flow effects [] → CallsNothing flow
         → (input : List ℕ) → RunIsSound table (typed_of p) input
-    files_sound effects are none class input =
+    files_sound effects are none calls input =
         accepted_sound p effects no_fault
         (record {
           no_reports = none;
           effects_are = are;
           settled = files_settled files apart ended no_fault (typed_of p);
-          fine = files_fine files apart ended named no_fault text left class;
+          fine = files_fine files apart ended named no_fault text left calls;
         })
-        (subst OwnsByShape (flow_table table (typed_of p)) (files_own files apart ended no_fault (typed_of p))) class files_orderly input
+        (subst OwnsByShape (flow_table table (typed_of p)) (files_own files apart ended no_fault (typed_of p))) (first_class p text calls) files_orderly input
 
   -- So it is if the files are parsed from texts: then their positions are as in a text.
   pub parsed_sound : (texts : List (List Cut)) → AreParsed 0 texts files → name_fault files ≡ None → type_fault p ≡ None → IsPlainText p → AreOrderly files
-      → (effects : Effects) → AreEffects flow effects → AreReports flow effects [] → IsFirstClass flow
+      → (effects : Effects) → AreEffects flow effects → AreReports flow effects [] → CallsNothing flow
       → (input : List ℕ) → RunIsSound table (typed_of p) input
   parsed_sound texts parsed named no_fault text left =
       files_sound (files_apart texts files parsed) (files_ended (identified files) texts files parsed) named no_fault text left

@@ -1,0 +1,5 @@
+mod Naming
+mod Typing
+mod Quiet
+pub mod Small
+pub mod Sound

@@ -1,0 +1,94 @@
+-- A text that meets the premises of the law on runs.
+use Rattle.std.proofs.Common.{◌≡◌, inl, inr, Bool, true, false, ◌&&◌, List, [], ◌∷◌, refl, sym, subst, None, true≢false}
+use Rattle.spark_base.specs.Lists.{Has}
+use Rattle.ada_tree.specs.declared.subprogram.Subspec.TheVariants as subspec
+use Rattle.ada_tree.specs.declared.unit.SourceUnit.{SourceUnit}
+use Rattle.ada_tree.specs.declared.unit.SourceUnit.TheVariants as unit
+use Rattle.ada_grammar.proofs.SmallSources.{IsTextOf, computes, source_of, at, id, null_at, subprogram_of}
+use Rattle.name_events.specs.Faults.{name_fault}
+use Rattle.type_definitions.specs.Whole.{known_of, type_fault}
+use Rattle.type_definitions.specs.declared.table.Known.{Known}
+use Rattle.typed_tree.specs.Programs.{site_of}
+use Rattle.resolved_tree.specs.Trees.{Code}
+use Rattle.typing_steps.specs.Programs.{program_of}
+use Rattle.flow_paths.specs.Objects.{is_package_object}
+use Rattle.flow_paths.specs.Points.{FlowPoint}
+use Rattle.flow_paths.specs.Laid.{FlowSub}
+use Rattle.scope_laws.specs.Code.{body_seen, roots, is_seen, is_each_seen}
+use Rattle.soundness.specs.Sound.{calls_nothing}
+use Rattle.typed_laws.specs.Fine.{IsMeant}
+use Rattle.typed_points.specs.Meant.{IsMeantCode, AreMeantBodies, AreMeantObjects, typing_meant}
+use Rattle.gathered_laws.specs.Made.{IsMade}
+use Rattle.gathered_laws.specs.Named.{IsNamed}
+use Rattle.order_laws.specs.Orderly.{typing_in, bodies_of}
+use Rattle.program_check.specs.Sources.{flow_of}
+use Rattle.sound_files.specs.Class.{IsFormless}
+use Rattle.accepted_runs.proofs.Main.{AreLeft}
+use Rattle.accepted_examples.proofs.Naming.{naming}
+use Rattle.accepted_examples.proofs.Typing.{typing}
+
+abbrev pub units : List SourceUnit
+units = unit.OfSubprogram (at 1) [] (subprogram_of 1 (subspec.Procedure (at 1) (id 11 "P") None) None 13 [] 16 (null_at 22) 28 None 31) ∷ []
+
+abbrev pub files : List (List SourceUnit)
+files = units ∷ []
+
+pub spelled : IsTextOf "procedure P is begin null; end;" units
+unfolding computes
+spelled = source_of (search) (search) refl
+
+pub named : name_fault files ≡ None
+unfolding computes naming
+named = refl
+
+pub typed : type_fault (program_of files) ≡ None
+unfolding computes naming typing
+typed = refl
+
+abbrev all_pass : {A : Type 0} → (A → Bool) → List A → Bool
+all_pass test [] = true
+all_pass test (x ∷ rest) = test x && all_pass test rest
+
+each : {A : Type 0} (test : A → Bool) (xs : List A) → all_pass test xs ≡ true → (x : A) → Has xs x → test x ≡ true
+each test [] all x has = absurd has
+each test (y ∷ rest) all x (inl is) = subst (λ z. test z ≡ true) is (first (test y) (all_pass test rest) all)
+  where
+    first : (a b : Bool) → a && b ≡ true → a ≡ true
+    first true b e = refl
+    first false b e = absurd (true≢false (sym e))
+each test (y ∷ rest) all x (inr has) = each test rest (second (test y) (all_pass test rest) all) x has
+  where
+    second : (a b : Bool) → a && b ≡ true → b ≡ true
+    second true b e = e
+    second false b e = absurd (true≢false (sym e))
+
+one : {A : Type 0} (P : A → Type 0) (y x : A) → P y → Has (y ∷ []) x → P x
+one P y x h (inl is) = subst P is h
+one P y x h (inr none) = absurd none
+
+abbrev known : Known
+known = known_of (program_of files)
+
+abbrev Meant : Code → Type 0
+Meant u =
+    AreMeantBodies (site_of known (program_of files).units) (typing_meant known (program_of files).units) (IsMade (program_of files).units) u
+    × AreMeantObjects (site_of known (program_of files).units) (typing_meant known (program_of files).units) (IsMade (program_of files).units) u
+
+-- The text is of the class, and meets what is left.
+pub left : AreLeft files
+unfolding computes naming typing IsNamed IsFormless AreMeantBodies IsMeantCode IsMeant roots is_seen is_each_seen
+left = record {
+  text = record {
+    named = λ u has. one IsNamed _ u ((tt, tt), tt, (tt, tt)) has;
+    formless = λ u has. one IsFormless _ u (refl, tt, (tt, tt)) has;
+  };
+  calls = λ sub has p there.
+      each (λ (p : FlowPoint). calls_nothing p.instr) sub.points
+      (each (λ (s : FlowSub). all_pass (λ (p : FlowPoint). calls_nothing p.instr) s.points) (flow_of files).subs refl sub has) p there;
+  orderly = record {
+    seen = each (body_seen (is_package_object (typing_in (program_of files)))) (bodies_of (program_of files)) refl;
+    main = 1;
+    is_main = refl;
+    meant = λ u has. one Meant _ u ((tt, (tt, tt)), tt) has;
+  };
+}

@@ -1,0 +1,26 @@
+-- What is computed of types, typed programs and their layout.
+use Rattle.type_definitions.specs.Types.{words_within, parts_within, words, parts, owns_within, is_owning}
+use Rattle.type_definitions.specs.Entries.{is_complete}
+use Rattle.type_definitions.specs.Names.{seen, step, along, reading_of}
+use Rattle.type_definitions.specs.Statics.{is_static, value}
+use Rattle.type_definitions.specs.Expressions.{own_type, compares, inside, arguments, within_suffix, behind}
+use Rattle.type_definitions.specs.Statements.{range_faults, has_gap}
+use Rattle.type_definitions.specs.Gathered.{gather}
+use Rattle.type_definitions.specs.Declarations.{some_part, code_faults, alternatives_faults, alternative_faults}
+use Rattle.type_definitions.specs.Whole.{made, known_of}
+use Rattle.typed_tree.specs.Expressions.{characters, typed_expression}
+use Rattle.typed_tree.specs.Statements.{scope_count, statements}
+use Rattle.typed_tree.specs.Programs.{scopes_in, objects_in, bodies_in, subs_in, typed_program}
+use Rattle.flow_paths.specs.Names.{selectors, has_call, waiting}
+use Rattle.flow_paths.specs.Acts.{acts_in}
+use Rattle.flow_paths.specs.Prep.{held, prep}
+use Rattle.flow_paths.specs.Layout.{declared, choices_of, laid}
+use Rattle.flow_paths.specs.Laid.{distinct, declared_within, flow_program}
+use Rattle.type_definitions.specs.Whole.{sentence_faults, all_made, type_sizes, type_fault}
+use Rattle.tree_lowering.specs.Lowered.{lowered_files, lowered_unit, lowered_subprogram, lowered_subspec, lowered_stmts, lowered_stmt_box, stmts_row, lowered_stmt, lowered_simple}
+
+-- The definitions that are computed where a lemma names this one.
+unfoldable pub typing : Type 0
+unfolding words_within parts_within words parts owns_within is_owning is_complete seen step along reading_of is_static value own_type compares inside arguments within_suffix behind range_faults has_gap gather some_part code_faults alternatives_faults alternative_faults made characters typed_expression scope_count statements scopes_in objects_in bodies_in subs_in typed_program selectors has_call waiting acts_in held prep declared choices_of laid distinct declared_within flow_program known_of sentence_faults all_made type_sizes type_fault
+    lowered_files lowered_unit lowered_subprogram lowered_subspec lowered_stmts lowered_stmt_box stmts_row lowered_stmt lowered_simple
+typing = Unit {0}

@@ -1,0 +1,26 @@
+-- Texts that `check` accepts.
+use Rattle.std.specs.Prelude.{◌≡◌, ℕ, List, [], None, Ok}
+use Rattle.spark_base.specs.declared.limits.TheConstants.{TOKENS}
+use Rattle.ada_lexer.specs.Tokens.{Cut}
+use Rattle.ada_tree.specs.declared.unit.SourceUnit.{SourceUnit}
+use Rattle.name_events.specs.Faults.{name_fault}
+use Rattle.type_definitions.specs.Whole.{type_fault}
+use Rattle.typing_steps.specs.Programs.{program_of}
+use Rattle.flow_paths.specs.declared.report.Effects.{Effects}
+use Rattle.flow_paths.specs.Effects.{AreEffects}
+use Rattle.flow_paths.specs.Limits.{lay_fault}
+use Rattle.flow_paths.specs.Reports.{AreReports}
+use Rattle.program_check.specs.Sources.{flow_of}
+use Rattle.spark_tool.specs.Lexing.{all_tokens}
+use Rattle.spark_tool.specs.Parsing.{AreTreesOf}
+
+-- The texts are of a program that breaks no rule and no limit, and nothing is reported of it.
+pub record Passes (texts : List (List ℕ)) (trees : List (List SourceUnit)) (effects : Effects) : Type 0 where
+  pub cuts : List (List Cut)
+  pub cut : all_tokens 0 TOKENS texts ≡ Ok cuts
+  pub parsed : AreTreesOf cuts trees
+  pub named : name_fault trees ≡ None
+  pub typed : type_fault (program_of trees) ≡ None
+  pub within : lay_fault (flow_of trees) ≡ None
+  pub effects_are : AreEffects (flow_of trees) effects
+  pub none : AreReports (flow_of trees) effects []

@@ -1,0 +1,2 @@
+-- what is made, and fails
+pub mod Failures

@@ -1,0 +1,124 @@
+//! From words to commands.
+ghost use Rattle.std.specs.Prelude.{◌≡◌, None, Some, map, string_bytes, MatchOption};
+ghost use Rattle.std.specs.List.{list_all};
+ghost use Rattle.std.specs.Option.{option_map};
+ghost use Rattle.command_words.specs.Words as spec;
+ghost use Rattle.command_words.specs.Words.{are_file_names, asked, budget_of, count_of, plain_files, run_of, steps_of, IsReadAs};
+
+use crate::command::{Command, WordFault};
+use crate::number::number;
+use crate::operand::{operands, options};
+use spark_base::FILES;
+use std::alloc::Global;
+
+/// How many steps a run may take at most.
+const MOST_STEPS: u64 = 4_294_967_296;
+
+/// Whether a name isn't empty.
+fn is_named(name: &String) -> bool
+    ensures { result ≡ spec.is_named (string_bytes name.now) }
+{
+    !name.as_bytes().is_empty()
+}
+
+/// Whether no name is empty.
+fn all_are_named(names: &[String]) -> bool
+    ensures { result ≡ list_all (λ name. spec.is_named (string_bytes name)) names.now }
+{
+    names.iter().all(|name| is_named(name))
+}
+
+/// Whether words are from 1 to 64 file names.
+fn are_file_names(names: &[String]) -> bool
+    ensures { result ≡ are_file_names (map string_bytes names.now) }
+{
+    !names.is_empty() && names.len() <= FILES && all_are_named(names)
+}
+
+/// The budget that an option gives.
+fn steps(word: &String) -> Option<u64>
+    ensures { result ≡ steps_of (string_bytes word.now) }
+{
+    let digits = word.as_str().strip_prefix("--steps=")?;
+    number(digits, 10, 0, MOST_STEPS)
+}
+
+/// The budget that the options of a run give.
+fn budget(options: &[String]) -> Option<u64>
+    ensures { result ≡ budget_of (map string_bytes options.now) }
+{
+    match options.len() {
+        0 => Some(MOST_STEPS),
+        1 => steps(&options[0]),
+        _ => None,
+    }
+}
+
+/// Files and no option.
+fn plain_files(options: &[String], operands: Vec<String>) -> Option<Vec<String>>
+    ensures { option_map (λ names. map string_bytes names.items) result
+        ≡ plain_files (map string_bytes options.now) (map string_bytes operands.items) }
+{
+    if options.is_empty() && are_file_names(&operands) {
+        Some(operands)
+    } else {
+        None
+    }
+}
+
+/// Files, and a budget.
+fn run(options: &[String], operands: Vec<String>) -> Option<Command>
+    ensures { option_map spec.command_in result ≡ run_of (budget_of (map string_bytes options.now)) (map string_bytes operands.items) }
+{
+    let steps = budget(options)?;
+    if !are_file_names(&operands) {
+        return None;
+    }
+    Some(Command::Run {
+        files: operands,
+        steps,
+        stats: false,
+    })
+}
+
+/// One number from 1 to 10,000, and no option.
+fn count(options: &[String], operands: &[String]) -> Option<u32>
+    ensures { result ≡ count_of (map string_bytes options.now) (map string_bytes operands.now) }
+{
+    if !options.is_empty() || operands.len() != 1 {
+        return None;
+    }
+    let n = number(operands[0].as_str(), 5, 1, 10_000)?;
+    Some(n as u32)
+}
+
+/// What a command's word asks for, with options and operands.
+fn asked(word: &str, options: &[String], operands: Vec<String>) -> Option<Command>
+    ensures { option_map spec.command_in result ≡ asked word.now (map string_bytes options.now) (map string_bytes operands.items) }
+{
+    match word {
+        "check" => Some(Command::Check(plain_files(options, operands)?)),
+        "run" => run(options, operands),
+        "leaks" => Some(Command::Leaks(plain_files(options, operands)?)),
+        "make" => Some(Command::Make(count(options, &operands)?)),
+        "selftest" => Some(Command::Selftest(count(options, &operands)?)),
+        _ => None,
+    }
+}
+
+/// What the words after the program's name ask for.
+pub fn read_words(alloc: Global, words: &[String]) -> Result<Command, WordFault>
+    ensures { IsReadAs (map string_bytes words.now) result }
+{
+    match words.split_first() {
+        Some((word, rest)) => {
+            let options = options(alloc, rest)?;
+            let operands = operands(alloc, rest)?;
+            match asked(word.as_str(), &options, operands) {
+                Some(command) => Ok(command),
+                None => Err(WordFault::Usage),
+            }
+        }
+        None => Err(WordFault::Usage),
+    }
+}

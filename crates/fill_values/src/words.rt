@@ -1,0 +1,93 @@
+//! Words, values and leaks that are appended to others.
+ghost use Rattle.std.specs.Prelude.{◌≡◌, ◌++◌, ◌∷◌, true, pos as positive, get_or, map, OnOk, OnErr, IsErrOf};
+ghost use Rattle.run_codes.specs.Flat.{are_words, all_fresh, values as values_of, repeated};
+ghost use Rattle.run_codes.specs.Points as points;
+ghost use Rattle.run_codes.specs.Points.{leaks_in};
+ghost use Rattle.run_results.specs.Results.{leaks_of};
+
+use code_rows::Stop;
+use run_memory::{seen, value_of};
+use run_results::Leak;
+use run_values::{Kind, Value};
+use spark_base::Pos;
+
+/// Appends words of some kinds without the marks of what is gone.
+pub(crate) fn push_seen(kinds: &[Kind], marked: &[i64], words: &mut Vec<i64>) -> Result<(), Stop>
+    requires { are_words kinds.now marked.now ≡ true }
+    ensures pushed { OnOk result (words.new.items ≡ words.old.items ++ all_fresh kinds.now marked.now) }
+    ensures memory { OnErr result (IsErrOf result Stop.Memory) }
+{
+    'kinds: for i in 0..kinds.len() {
+        let word = word_or_zero(marked, i);
+        words.push(seen(kinds[i], word))?;
+    }
+    Ok(())
+}
+
+/// Appends the values that are kept for words of some kinds.
+pub(crate) fn push_values(
+    kinds: &[Kind],
+    words: &[i64],
+    values: &mut Vec<Value>,
+) -> Result<(), Stop>
+    requires { are_words kinds.now words.now ≡ true }
+    ensures pushed { OnOk result (values.new.items ≡ values.old.items ++ values_of kinds.now words.now) }
+    ensures memory { OnErr result (IsErrOf result Stop.Memory) }
+{
+    'kinds: for i in 0..kinds.len() {
+        let word = word_or_zero(words, i);
+        values.push(value_of(kinds[i], word))?;
+    }
+    Ok(())
+}
+
+/// Appends the same words so many times.
+pub(crate) fn push_repeated(block: &[i64], count: u32, words: &mut Vec<i64>) -> Result<(), Stop>
+    ensures pushed { OnOk result (words.new.items ≡ words.old.items ++ repeated count block.now) }
+    ensures memory { OnErr result (IsErrOf result Stop.Memory) }
+{
+    'times: for _time in 0..count {
+        words.extend_from_slice(block)?;
+    }
+    Ok(())
+}
+
+/// The word with this number, or 0.
+fn word_or_zero(words: &[i64], i: usize) -> i64
+    ensures { result ≡ get_or words.now i (positive 0) }
+{
+    match words.get(i) {
+        Some(word) => *word,
+        None => 0,
+    }
+}
+
+/// Appends the failed leak check of an access value, where it fails.
+fn push_leak(word: i64, pos: Pos, leaks: &mut Vec<Leak>) -> Result<(), Stop>
+    ensures pushed { OnOk result (leaks_of leaks.new.items ≡ leaks_of leaks.old.items ++ points.leak pos word) }
+    ensures memory { OnErr result (IsErrOf result Stop.Memory) }
+{
+    if word > 0 {
+        leaks.push(Leak {
+            number: word as u64,
+            pos,
+        })?;
+    }
+    Ok(())
+}
+
+/// Appends the failed leak checks of the access values at some numbers.
+pub(crate) fn push_leaks(
+    words: &[i64],
+    offsets: &[u32],
+    pos: Pos,
+    leaks: &mut Vec<Leak>,
+) -> Result<(), Stop>
+    ensures pushed { OnOk result (leaks_of leaks.new.items ≡ leaks_of leaks.old.items ++ leaks_in pos words.now offsets.now) }
+    ensures memory { OnErr result (IsErrOf result Stop.Memory) }
+{
+    'offsets: for i in 0..offsets.len() {
+        push_leak(word_or_zero(words, offsets[i] as usize), pos, leaks)?;
+    }
+    Ok(())
+}

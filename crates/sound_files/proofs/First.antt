@@ -1,0 +1,33 @@
+-- A text without anonymous access types and formals, without calls, is a program of the first class.
+use Rattle.std.proofs.Common.{◌≡◌, subst, sym, false, List, get_or}
+use Rattle.resolved_tree.specs.Trees.{Program}
+use Rattle.type_definitions.specs.declared.table.Shape.TheVariants as shape
+use Rattle.type_definitions.specs.Types.{Table, shape_of}
+use Rattle.type_definitions.specs.Whole.{known_of}
+use Rattle.typed_tree.specs.declared.object.Object.{Object}
+use Rattle.typed_tree.specs.Programs.{text_io}
+use Rattle.flow_paths.specs.Objects.{is_formal_kind}
+use Rattle.flow_paths.specs.Laid.{FlowProgram, flow_program}
+use Rattle.soundness.specs.Sound.{IsFirstClass}
+use Rattle.soundness.proofs.Points.{flow_table}
+use Rattle.ready_laws.proofs.Temporaries.{no_temporaries}
+use Rattle.order_laws.specs.Orderly.{typed_of}
+use Rattle.sound_files.specs.Class.{IsPlainText, CallsNothing}
+use Rattle.sound_files.proofs.Access.{access_named}
+use Rattle.sound_files.proofs.Formals.{no_formals}
+
+module _ (p : Program) where
+  abbrev table : Table
+  table = (known_of p).table
+
+  abbrev flow : FlowProgram
+  flow = flow_program table (typed_of p)
+
+  pub first_class : IsPlainText p → CallsNothing flow → IsFirstClass flow
+  first_class text calls = record {
+    all_named = λ t d constant named is.
+        access_named p text.named t d constant named (subst (λ (rows : Table). shape_of rows t ≡ shape.Access d constant named) (flow_table table (typed_of p)) is);
+    no_calls = calls;
+    no_formals = λ x.
+        subst (λ (objects : List Object). is_formal_kind (get_or objects x text_io).kind ≡ false) (sym (no_temporaries table (typed_of p) calls)) (no_formals p text.formless x);
+  }
