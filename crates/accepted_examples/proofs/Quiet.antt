@@ -14,7 +14,7 @@ use Rattle.flow_paths.specs.Laid.{FlowSub, FlowProgram, flow_typing}
 use Rattle.flow_paths.specs.Paths.{PathPoint, PathReport, path_point, acts_at, acts_along}
 use Rattle.flow_paths.specs.Views.{ViewReport, changed, lent, given, called, text_io, shorter, elsewhere, other_root, is_function, changes, lends}
 use Rattle.flow_paths.specs.Aliases.{alias_reports}
-use Rattle.flow_paths.specs.Effects.{AreEffects, Reads, Writes, Ascends, path_points, point_reads, point_writes, own_reads, own_writes, is_global, reads_text, writes_text, flow_sub_at, act_reads, act_writes, read_by, written_by}
+use Rattle.flow_paths.specs.Effects.{AreEffects, Reads, Writes, Ascends, path_points, point_reads, point_writes, is_global, reads_text, writes_text, flow_sub_at, act_reads, act_writes}
 use Rattle.flow_paths.specs.Reports.{AreReports, ProgramReport, on_actuals, on_views, on_paths}
 
 abbrev pub is_calm : Act → Bool

@@ -1,14 +1,11 @@
 -- The law on files holds of a text, so its premises don't contradict each other.
-use Rattle.std.proofs.Common.{◌≡◌, ℕ, Bool, true, List, [], ◌∷◌, refl, map, Ok, Err}
-use Rattle.spark_base.specs.Lists.{Has}
+use Rattle.std.proofs.Common.{◌≡◌, ℕ, true, List, [], ◌∷◌, refl, Ok, Err}
 use Rattle.std.specs.Prelude.{codes}
 use Rattle.ada_grammar.proofs.SmallSources.{computes}
 use Rattle.ada_lexer.specs.Tokens.{Cut, CutResult, tokens}
-use Rattle.flow_paths.specs.declared.report.Effects.{Effects}
-use Rattle.flow_paths.specs.Effects.{AreEffects, asks_for_end, path_points}
+use Rattle.flow_paths.specs.Effects.{asks_for_end, path_points}
 use Rattle.flow_paths.specs.Aliases.{alias_reports}
 use Rattle.flow_paths.specs.Laid.{FlowSub}
-use Rattle.flow_paths.specs.Reports.{AreReports}
 use Rattle.program_check.specs.Sources.{flow_of}
 use Rattle.file_positions.specs.Texts.{AreParsed}
 use Rattle.file_positions.proofs.Cuts.{cut_in_order}
