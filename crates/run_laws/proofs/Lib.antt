@@ -1,0 +1,2 @@
+-- whole runs of what is lowered
+pub mod Whole

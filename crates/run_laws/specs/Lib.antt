@@ -1,0 +1,2 @@
+-- how a lowered program is run
+pub mod Settings
