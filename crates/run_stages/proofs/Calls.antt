@@ -49,14 +49,14 @@ called_on table program p r k n m q sub returns leaks all is latest waits read b
 
 -- ---- the ends of calls
 
-abbrev left_of : State → List points.Frame → Flat → Outcome
+abbrev pub left_of : State → List points.Frame → Flat → Outcome
 left_of s (outer ∷ []) m = Ends Normal (counted (record s { memory = m; frames = outer ∷ [] }))
 left_of s outer m = Goes (counted (record s { memory = m; frames = outer }))
 
-abbrev cut : ℕ → Flat → Flat
+abbrev pub cut : ℕ → Flat → Flat
 cut base m = record m { stack = take base m.stack }
 
-finish_is : (table : Table) (program : Program) (p : Point) (r : Stage) (q : Flat) → copied_back table (own_returns r.stacked) (start (turn_of table program p r)) ≡ Done q q
+pub finish_is : (table : Table) (program : Program) (p : Point) (r : Stage) (q : Flat) → copied_back table (own_returns r.stacked) (start (turn_of table program p r)) ≡ Done q q
     → finish (turn_of table program p r) ≡ left_of (state_of r) (outside r.stacked r.kept.waits) (cut r.stacked.frame.base q)
 finish_is table program p r q copied =
     ap (λ made. on_made (turn_of table program p r) made (λ f m. left_of (state_of r) (outside r.stacked r.kept.waits) (cut r.stacked.frame.base f))) copied

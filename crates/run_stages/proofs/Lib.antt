@@ -10,3 +10,5 @@ pub mod Frames
 pub mod Calls
 -- what the next step comes to
 pub mod Turns
+-- where the main procedure begins and ends
+pub mod Mains
