@@ -12,3 +12,5 @@ pub mod Calls
 pub mod Turns
 -- where the main procedure begins and ends
 pub mod Mains
+-- what is kept before the first step
+pub mod Starts
