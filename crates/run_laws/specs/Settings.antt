@@ -1,5 +1,5 @@
 -- How a lowered program is run.
-use Rattle.std.specs.Prelude.{◌≡◌, ℕ, ◌+◌, true, List, nat_le}
+use Rattle.std.specs.Prelude.{ℕ, ◌+◌, Bool, List, nat_le}
 use Rattle.flow_paths.specs.Laid.{FlowProgram, flow_typing}
 use Rattle.machine.specs.States.{stack_words}
 use Rattle.run_codes.specs.Programs.{Program}
@@ -14,6 +14,6 @@ setting_of program p input = record { table = (flow_typing program).table; progr
 abbrev pub start_of : FlowProgram → Program → State
 start_of program p = state_at_start (flow_typing program).table p (is_declaring program)
 
--- The first frames fit into the stack.
-abbrev pub Fits : Program → ℕ → Type 0
-Fits p main = nat_le ((sub_at p main).words + (sub_at p 0).words) stack_words ≡ true
+-- Whether the first frames fit into the stack.
+abbrev pub fits : Program → ℕ → Bool
+fits p main = nat_le ((sub_at p main).words + (sub_at p 0).words) stack_words
