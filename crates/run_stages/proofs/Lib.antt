@@ -14,3 +14,5 @@ pub mod Turns
 pub mod Mains
 -- what is kept before the first step
 pub mod Starts
+-- what is kept where a step tells leaks
+pub mod Leaks
