@@ -16,11 +16,11 @@ use Rattle.orderly_files.proofs.Main.{files_in_order}
 use Rattle.file_positions.specs.Texts.{AreParsed}
 use Rattle.file_positions.proofs.Main.{files_apart, files_ended}
 use Rattle.flow_paths.specs.Laid.{FlowProgram, flow_program}
-use Rattle.soundness.specs.Sound.{IsFirstClass}
 use Rattle.order_laws.specs.Orderly.{typed_of}
-use Rattle.sound_files.specs.Class.{IsPlainText}
+use Rattle.sound_files.specs.Class.{IsPlainText, CallsNothing}
 use Rattle.sound_files.specs.Left.{AreOrderly}
 use Rattle.sound_files.proofs.Fine.{files_fine}
+use Rattle.sound_files.proofs.First.{first_class}
 use Rattle.sound_files.proofs.Main.{files_orderly}
 use Rattle.machine.specs.Run as machine_run
 use Rattle.run_codes.specs.Points.{lowered_run}
@@ -35,13 +35,13 @@ module _ (files : List (List SourceUnit)) where
   flow = flow_program (known_of p).table (typed_of p)
 
   pub files_give : AreApart (identified files) → AllEnded at_start p.units → name_fault files ≡ None → type_fault p ≡ None → IsPlainText p → AreOrderly files
-      → IsFirstClass flow → (input : List ℕ) (n : ℕ) → GivesAlike (machine_run.run flow input n) (lowered_run flow input n)
-  files_give apart ended named no_fault text left class input n =
+      → CallsNothing flow → (input : List ℕ) (n : ℕ) → GivesAlike (machine_run.run flow input n) (lowered_run flow input n)
+  files_give apart ended named no_fault text left calls input n =
       first_class_gives p (files_formed (identified files) files) (files_in_order files apart ended) no_fault
-      (files_fine files apart ended named no_fault text left class) class (files_orderly files apart ended named no_fault text left) input n
+      (files_fine files apart ended named no_fault text left calls) (first_class p text calls) (files_orderly files apart ended named no_fault text left) input n
 
   -- So it is if the files are parsed from texts.
   pub parsed_give : (texts : List (List Cut)) → AreParsed 0 texts files → name_fault files ≡ None → type_fault p ≡ None → IsPlainText p → AreOrderly files
-      → IsFirstClass flow → (input : List ℕ) (n : ℕ) → GivesAlike (machine_run.run flow input n) (lowered_run flow input n)
-  parsed_give texts parsed named no_fault text left class input n =
-      files_give (files_apart texts files parsed) (files_ended (identified files) texts files parsed) named no_fault text left class input n
+      → CallsNothing flow → (input : List ℕ) (n : ℕ) → GivesAlike (machine_run.run flow input n) (lowered_run flow input n)
+  parsed_give texts parsed named no_fault text left calls input n =
+      files_give (files_apart texts files parsed) (files_ended (identified files) texts files parsed) named no_fault text left calls input n
