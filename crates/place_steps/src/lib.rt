@@ -1,0 +1,6 @@
+//! What the points of a program do to values of any type and to cells, over the memory of a run.
+#![tactic(auto)]
+
+mod scopes;
+
+pub use scopes::end_scope;
