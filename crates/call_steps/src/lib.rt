@@ -5,6 +5,10 @@
 //! is tested before it is moved and stored.
 #![tactic(auto)]
 
+mod actuals;
 mod bounds;
+mod copies;
 
+pub use actuals::{Pass, pass_to, pass_value};
 pub use bounds::fits;
+pub use copies::copy_one;
