@@ -1,5 +1,5 @@
 //! What is copied back when a call ends.
-ghost use Rattle.std.specs.Prelude.{◌≡◌, ◌∷◌, [], false, ◌+◌, OnErr, IfOk, IsErrOf};
+ghost use Rattle.std.specs.Prelude.{◌≡◌, ◌∷◌, [], false, ◌+◌, OnErr, IfOk, IsErrOf, map};
 ghost use Rattle.run_codes.specs.Flat.{InStack};
 ghost use Rattle.run_codes.specs.Points.{copied_back};
 ghost use Rattle.run_memory.specs.Memory.{flat, elsewhere};
@@ -47,4 +47,21 @@ pub fn copy_one(
     }
     hand.move_out(table, memory, same(&found), back.from)?;
     hand.store(table, memory, same(&back.to), back.of, 0)
+}
+
+/// The formals are copied back in order.
+pub fn copy_back(
+    table: &TypeTable,
+    memory: &mut Memory,
+    hand: &mut Hand,
+    returns: &[Return],
+) -> Result<(), Stop>
+    requires { is_failed (copied_back table.now (map return_of returns.now) (flat memory.old)) ≡ false }
+    ensures copied { Copies (copied_back table.now (map return_of returns.now) (flat memory.old)) result (flat memory.new) }
+    ensures elsewhere { elsewhere memory.new ≡ elsewhere memory.old }
+{
+    'returns: for i in 0..returns.len() {
+        copy_one(table, memory, hand, returns[i])?;
+    }
+    Ok(())
 }
