@@ -8,7 +8,7 @@ use Rattle.machine.specs.Evaluate.{Touched}
 use Rattle.machine.specs.Words.{access_offsets}
 use Rattle.run_codes.specs.Flat.{Flat, Stop, Got, Given, Stops, Broken, and_then, is_broken, constraint, touched, front, Spot, InStack, InCell, kinds, held, are_pointers, are_in, moved_out, stored, with_stack, spliced, all_gone, values_gone, Traps, Made, Done, Halted, made_then, reads}
 use Rattle.run_codes.specs.Points.{Return, in_stack, fits, reached, copied_back}
-use Rattle.call_steps.specs.Failures.{is_failed}
+use Rattle.fill_values.specs.Values.{is_failed}
 use Rattle.call_steps.proofs.Reading.{reads_whole, reads_there, and_whole, and_there, if_there, reads_then, reads_same, if_then, if_same, failed_first, changed_length}
 
 -- What a formal is moved by, and where to.

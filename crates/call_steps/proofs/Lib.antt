@@ -2,3 +2,5 @@
 pub mod Reading
 -- what is copied back
 pub mod Back
+-- one formal after the other
+pub mod Turns

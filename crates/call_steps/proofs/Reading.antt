@@ -2,7 +2,7 @@
 use Rattle.std.proofs.Common.{◌≡◌, ℕ, zero, suc, Bool, true, false, List, [], ◌∷◌, length, refl, sym, ◌∙◌, ap, if◌then◌else◌}
 use Rattle.reuse_heap.specs.Cells.{Cell, changed}
 use Rattle.run_codes.specs.Flat.{Flat, Got, Given, Stops, Broken, and_then, is_broken, Made, Done, Halted, Failed, made_then, reads}
-use Rattle.call_steps.specs.Failures.{is_failed}
+use Rattle.fill_values.specs.Values.{is_failed}
 
 -- ---- what isn't broken
 

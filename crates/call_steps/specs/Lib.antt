@@ -1,2 +1,2 @@
--- what is made, and fails
-pub mod Failures
+-- what calls and their ends answer
+pub mod Calls

@@ -1,10 +1,13 @@
-//! Calls and their ends: what a formal may hold, and laws of what is copied back.
+//! Calls and their ends: what an actual passes, what a formal may hold, and what is copied back.
 //!
-//! `fits` tells whether words are within the bounds of a type. `proofs/Back.antt` takes what is done to
-//! one formal at the end of a call apart, and shows that formals are copied back one by one: each one
-//! is tested before it is moved and stored.
+//! `pass_actual` evaluates one actual. `copy_back` copies formals back one by one: each one is tested
+//! before it is moved and stored. `proofs/Back.antt` takes what is done to one formal apart.
 #![tactic(auto)]
 
+mod actuals;
 mod bounds;
+mod copies;
 
+pub use actuals::{Pass, pass_actual};
 pub use bounds::fits;
+pub use copies::{copy_back, copy_one};
