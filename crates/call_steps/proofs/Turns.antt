@@ -1,5 +1,5 @@
 -- One formal after the other, and what fits.
-use Rattle.std.proofs.Common.{◌≡◌, ◌≢◌, subst, Result, Ok, Err, ◌+◌, ℕ, zero, suc, Bool, true, false, List, [], ◌∷◌, ◌++◌, length, take, drop, map, ◌-◌, ◌≤◌, refl, sym, ap, ◌∙◌, arith, ℤ, get_or, ◌<◌, if◌then◌else◌}
+use Rattle.std.proofs.Common.{◌≡◌, ◌≢◌, subst, Result, Err, ◌+◌, ℕ, zero, suc, Bool, true, List, [], ◌∷◌, ◌++◌, length, take, drop, map, ◌-◌, ◌≤◌, refl, sym, ap, ◌∙◌, arith, ℤ, get_or, ◌<◌, if◌then◌else◌}
 use Rattle.std.proofs.lemmas.List.{drop_at, length-append}
 use Rattle.type_definitions.specs.Types.{Table}
 use Rattle.run_codes.specs.Flat as flat

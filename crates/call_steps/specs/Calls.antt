@@ -1,5 +1,5 @@
 -- What calls and their ends answer.
-use Rattle.std.specs.Prelude.{◌≡◌, ◌≢◌, ◌≤◌, ◌-◌, ℕ, ℤ, List, [], length, take, drop, Result, Ok, Err, if◌then◌else◌}
+use Rattle.std.specs.Prelude.{◌≡◌, ◌≢◌, ◌≤◌, ◌-◌, ℕ, ℤ, List, length, take, drop, Result, Ok, Err, if◌then◌else◌}
 use Rattle.type_definitions.specs.Types.{Table}
 use Rattle.run_codes.specs.Flat.{Flat, Got, Given, Stops, and_then, constraint, Made, Done, Halted}
 use Rattle.run_codes.specs.Points.{Passed, Value, FromSpot, ToSpot, fits}

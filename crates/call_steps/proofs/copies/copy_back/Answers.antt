@@ -1,4 +1,4 @@
-use Rattle.std.proofs.Common.{◌≡◌, ◌∷◌, [], ◌+◌, false, map, drop, Err, length, ◌<◌, get_or, sym, ap, ◌∙◌, rules}
+use Rattle.std.proofs.Common.{◌≡◌, ◌∷◌, [], ◌+◌, map, drop, Err, length, ◌<◌, get_or, sym, ap, ◌∙◌, rules}
 use Rattle.run_codes.specs.Points.{copied_back}
 use Rattle.run_memory.specs.Memory.{flat}
 use Rattle.run_frames.specs.Frames.{return_of}
