@@ -13,3 +13,4 @@ mod words;
 
 pub use fills::fill;
 pub use hand::Hand;
+pub use words::push_leak;

@@ -62,8 +62,9 @@ fn word_or_zero(words: &[i64], i: usize) -> i64
     }
 }
 
-/// Appends the failed leak check of an access value, where it fails.
-fn push_leak(word: i64, pos: Pos, leaks: &mut Vec<Leak>) -> Result<(), Stop>
+/// Appends the failed leak check of an access value, where it fails: a cell that the value still owns
+/// is lost (`docs/RUN.md`, "Steps").
+pub fn push_leak(word: i64, pos: Pos, leaks: &mut Vec<Leak>) -> Result<(), Stop>
     ensures pushed { OnOk result (leaks_of leaks.new.items ≡ leaks_of leaks.old.items ++ points.leak pos word) }
     ensures memory { OnErr result (IsErrOf result Stop.Memory) }
 {

@@ -2,9 +2,7 @@
 #![tactic(auto)]
 
 mod assigns;
-mod leaks;
 mod scopes;
 
 pub use assigns::assign;
-pub use leaks::check_pointer;
 pub use scopes::end_scope;
