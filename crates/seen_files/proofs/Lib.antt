@@ -1,3 +1,4 @@
 pub mod Expressions
 pub mod Steps
 pub mod Held
+pub mod Told

@@ -9,12 +9,13 @@ use Rattle.name_events.specs.declared.event.Event.TheVariants as e
 use Rattle.name_events.specs.declared.event.FoldedIdentifier.{FoldedIdentifier}
 use Rattle.name_events.specs.declared.declaration.DeclarationForm.{DeclarationForm}
 use Rattle.name_events.specs.declared.declaration.DeclarationForm.TheVariants as form
+use Rattle.name_events.specs.declared.declaration.RegionPart.{RegionPart}
 use Rattle.name_events.specs.declared.declaration.RegionPart.TheVariants as part
 use Rattle.name_events.specs.declared.declaration.Declaration.{Declaration}
 use Rattle.name_events.specs.declared.declaration.OpenRegion.{OpenRegion}
-use Rattle.name_events.specs.Declarations.{Name, Entry, is_package, is_package_form}
-use Rattle.name_events.specs.Known.{Known, here, region_of}
-use Rattle.name_events.specs.Completions.{completed_by}
+use Rattle.name_events.specs.Declarations.{Name, Entry, has_number, is_package, is_package_form}
+use Rattle.name_events.specs.Known.{Known, here, part_here, region_of}
+use Rattle.name_events.specs.Completions.{completed_by, completes_form, may_complete, if_completes, awaiting}
 use Rattle.name_events.specs.KnownBehind.{known_behind, known_behind_all, behind_declaration, new_entry, end_in, open_region}
 use Rattle.name_events.specs.Identified.{number_at, number_declared, completed_or_next}
 use Rattle.expression_lowering.specs.LoweredExpressions.{Numbers}
@@ -109,6 +110,27 @@ same_at now after scope waiting count around ended pending at = (
     was x has = subst (λ xs. Has xs x) ended has
 
 -- ---- declarations
+
+-- What declares an object completes nothing.
+pub completes_nothing : (now : Known) (new : DeclarationForm) (w : Name) → is_object_form new ≡ true → completed_by now new w ≡ None
+completes_nothing now new w is = by (awaiting now.declared (here now) w)
+  where
+    not_so : (a b c : Bool) → b ≡ false → a && (b && c) ≡ false
+    not_so a b c e = grind (arith, e)
+
+    never : (old new : DeclarationForm) (a b : RegionPart) → is_object_form new ≡ true → completes_form old a new b ≡ false
+    never form.IncompleteType form.FullType a b is = absurd (true≢false (sym is))
+    never form.PrivateType form.FullType a b is = absurd (true≢false (sym is))
+    never form.SubprogramDeclaration form.ProcedureBody a b is = absurd (true≢false (sym is))
+    never form.SubprogramDeclaration form.FunctionBody a b is = absurd (true≢false (sym is))
+    never old new a b is = refl
+
+    by : (found : Option Declaration) → if_completes now new found ≡ None
+    by None = refl
+    by (Some d) =
+        ap (λ b. if b then Some d else None)
+        (not_so (may_complete now) (completes_form d.form d.part new (part_here now)) (not (has_number d.number now.completed))
+        (never d.form new d.part (part_here now) is))
 
 -- One more declaration waits.
 declared_at : (now after : Known) (scope waiting waiting_then : List ℕ) (new : Entry) → after.region_count ≡ now.region_count
