@@ -2,3 +2,4 @@ pub mod Expressions
 pub mod Steps
 pub mod Held
 pub mod Told
+pub mod Runs

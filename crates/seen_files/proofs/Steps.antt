@@ -184,7 +184,7 @@ unfolding known_behind
 other_declared now new id scope waiting no_package no_object at =
     other_at now new id (completed_by now new id.name) scope waiting no_package no_object at
 
-object_at : (now : Known) (new : DeclarationForm) (id : FoldedIdentifier) (scope waiting : List ℕ) → is_object_form new ≡ true
+pub object_at : (now : Known) (new : DeclarationForm) (id : FoldedIdentifier) (scope waiting : List ℕ) → is_object_form new ≡ true
     → IsAt now scope waiting → Both now (behind_declaration now new id None) scope (length now.declared ∷ waiting)
 object_at now form.Object id scope waiting is at =
     declared_at now (behind_declaration now form.Object id None) scope waiting (length now.declared ∷ waiting) (new_entry now form.Object id) refl refl refl refl
