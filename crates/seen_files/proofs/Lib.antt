@@ -3,3 +3,4 @@ pub mod Steps
 pub mod Held
 pub mod Told
 pub mod Runs
+pub mod Statements
