@@ -4,3 +4,4 @@ pub mod Held
 pub mod Told
 pub mod Runs
 pub mod Statements
+pub mod Units

@@ -39,7 +39,7 @@ use Rattle.name_events.specs.Known.{Known}
 use Rattle.resolved_tree.specs.Trees.{Code, code_list}
 use Rattle.resolved_tree.specs.Trees as t
 use Rattle.expression_lowering.specs.LoweredExpressions.{Numbers, number_of, lowered_name, lowered_expr, lowered_range}
-use Rattle.seen_files.specs.TempLowered.{declared_next, declared_all, lowered_subtype, lowered_type, lowered_declaration, item_before, lowered_items, lowered_simple, lowered_stmts, lowered_stmt_box, stmts_row, lowered_stmt, lowered_stmts_box, elsifs_row, lowered_elsif, lowered_when_box, whens_row, lowered_when}
+use Rattle.tree_lowering.specs.Lowered.{declared_next, declared_all, lowered_subtype, lowered_type, lowered_declaration, item_before, lowered_items, lowered_simple, lowered_stmts, lowered_stmt_box, stmts_row, lowered_stmt, lowered_stmts_box, elsifs_row, lowered_elsif, lowered_when_box, whens_row, lowered_when}
 use Rattle.seen_files.specs.Uses.{Uses, AreAllowed}
 use Rattle.seen_files.specs.Fits.{all_numbers, scope_after, IsKept, AreObjects, RangeFits, Fits, AreFitting, IsFitting}
 use Rattle.seen_files.specs.Reached.{is_object_form, IsObjectIn}

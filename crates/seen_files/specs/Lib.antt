@@ -5,4 +5,3 @@ pub mod Fits
 -- what is known while a text is read
 pub mod Reached
 pub mod Temp
-pub mod TempLowered
