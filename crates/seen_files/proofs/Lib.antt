@@ -5,3 +5,4 @@ pub mod Told
 pub mod Runs
 pub mod Statements
 pub mod Units
+pub mod Files

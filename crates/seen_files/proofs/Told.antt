@@ -31,7 +31,7 @@ use Rattle.name_events.specs.Identified.{identified_as, identified_use, identifi
 use Rattle.name_events.specs.Laws.{IsInnermost, IsByUse}
 use Rattle.name_events.proofs.VisibilityLaws.{seen_says, selected_says}
 use Rattle.expression_lowering.specs.LoweredExpressions.{Numbers, before_others, last_of}
-use Rattle.seen_files.specs.Temp.{Ascends, name_positions, event_position, event_positions}
+use Rattle.file_positions.specs.Order.{Ascends, name_positions, event_position, event_positions}
 use Rattle.seen_files.specs.Uses.{numbers_along, name_number}
 use Rattle.seen_files.specs.Reached.{is_object_form, is_object, IsObjectIn, IsReached, IsTold, AreTold}
 use Rattle.seen_files.proofs.Steps.{completes_nothing}

@@ -68,7 +68,7 @@ regroup_numbers ns ms os n has = elim (Has-append_cases ms (ns ++ os) n has) [
   ]
 ]
 
-closing_calm : (of : Identifier) (o : Option Identifier) → all_calm (closing_events of o) ≡ true
+pub closing_calm : (of : Identifier) (o : Option Identifier) → all_calm (closing_events of o) ≡ true
 closing_calm of None = refl
 closing_calm of (Some id) = refl
 
@@ -223,10 +223,10 @@ module _ (numbers : Numbers) (whole : Known) where
       body_scope : (b : SubprogramBody) (s : List ℕ) → scope_after (lowered_subprogram numbers b) s ≡ s
       body_scope b s = refl
 
-  decls_follow : (decls : List Decl) → Follows numbers whole (flat_map decl_events decls) (lowered_decls numbers decls)
+  pub decls_follow : (decls : List Decl) → Follows numbers whole (flat_map decl_events decls) (lowered_decls numbers decls)
   decls_follow [] = nothing_follows numbers whole
   decls_follow (d ∷ rest) = decl_then (flat_map decl_events rest) (lowered_decls numbers rest) d (decls_follow rest)
 
-  parts_follow : (parts : List BodyPart) → Follows numbers whole (flat_map body_part_events parts) (before_all (part_before numbers) parts)
+  pub parts_follow : (parts : List BodyPart) → Follows numbers whole (flat_map body_part_events parts) (before_all (part_before numbers) parts)
   parts_follow [] = nothing_follows numbers whole
   parts_follow (p ∷ rest) = part_then (flat_map body_part_events rest) (before_all (part_before numbers) rest) p (parts_follow rest)

@@ -24,10 +24,14 @@ front_numbers _ = []
 unfoldable pub scope_after : Code → List ℕ → List ℕ
 scope_after (Objects ids constant i v) scope = all_numbers ids ++ scope
 scope_after (Numbers ids e) scope = all_numbers ids ++ scope
-scope_after (Package d visible hidden) scope = scope_after hidden (scope_after visible scope)
-scope_after (PackageBody d parts) scope = scope_after parts scope
 scope_after (More a rest) scope = scope_after rest (scope_after a scope)
 scope_after _ scope = scope
+
+-- Those after a unit: the objects of packages stay.
+unfoldable pub unit_scope : Code → List ℕ → List ℕ
+unit_scope (Package d visible hidden) scope = scope_after hidden (scope_after visible scope)
+unit_scope (PackageBody d parts) scope = scope_after parts scope
+unit_scope _ scope = scope
 
 -- A declaration is in scope, if it is one of an object.
 abbrev pub IsKept : (ℕ → Type 0) → List ℕ → ℕ → Type 0
@@ -84,4 +88,8 @@ unfoldable mutual
 -- The units of a program, one after the other.
 abbrev pub AllFit : (ℕ → Type 0) → List ℕ → List Code → Type 0
 AllFit object scope [] = Unit {0}
-AllFit object scope (u ∷ rest) = Fits object scope u × AllFit object (scope_after u scope) rest
+AllFit object scope (u ∷ rest) = Fits object scope u × AllFit object (unit_scope u scope) rest
+
+abbrev pub units_scope : List Code → List ℕ → List ℕ
+units_scope [] scope = scope
+units_scope (u ∷ rest) scope = units_scope rest (unit_scope u scope)

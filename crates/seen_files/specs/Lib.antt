@@ -4,4 +4,3 @@ pub mod Uses
 pub mod Fits
 -- what is known while a text is read
 pub mod Reached
-pub mod Temp
