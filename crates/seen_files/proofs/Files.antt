@@ -546,7 +546,7 @@ counted n (y ∷ rest) are x (inr has) =
     after : (i : ℕ) → suc i ≡ i + 1
     after i = omega arith
 
-first_held : IsHeld known_at_first
+pub first_held : IsHeld known_at_first
 first_held = record {
   ended = λ x has. stands x has;
   pending = λ x has. absurd has;
