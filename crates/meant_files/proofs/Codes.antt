@@ -1,5 +1,5 @@
 -- Items, statements and units of files are meant, where their objects have the types that are indicated.
-use Rattle.std.proofs.Common.{◌≡◌, ◌∙◌, inl, inr, ℕ, List, [], ◌∷◌, map, flat_map, Option, Some, None, sym, subst}
+use Rattle.std.proofs.Common.{◌≡◌, ◌∙◌, inl, inr, ℕ, true, List, [], ◌∷◌, map, flat_map, Option, Some, None, sym, subst}
 use Rattle.spark_base.specs.Lists.{Has}
 use Rattle.spark_base.proofs.Lists.{Has-append_cases, Has-map_from}
 use Rattle.ada_tree.specs.declared.declaration.Item.{Item}
@@ -27,15 +27,17 @@ use Rattle.ada_tree.specs.declared.range.Range.TheVariants as range
 use Rattle.resolved_tree.specs.Trees.{Code, More, code_list}
 use Rattle.resolved_tree.specs.Trees as t
 use Rattle.type_definitions.specs.Gathered.{declared_number, in_subprogram, in_visible, in_hidden}
+use Rattle.type_definitions.specs.Types.{full, is_scalar}
 use Rattle.typed_tree.specs.Expressions.{Site}
 use Rattle.typed_tree.specs.Programs.{placed}
 use Rattle.flow_paths.specs.Objects.{Typing}
 use Rattle.expression_lowering.specs.LoweredExpressions.{Numbers, lowered_expr, lowered_name, lowered_range}
+use Rattle.tree_lowering.specs.Lowered as tree
 use Rattle.tree_lowering.specs.Lowered.{declared_all, lowered_indication, lowered_subtype, lowered_type, lowered_declaration, item_before, before_all, lowered_items, lowered_simple, lowered_stmts, lowered_stmt_box, stmts_row, lowered_stmt, lowered_stmts_box, elsifs_row, lowered_elsif, lowered_when_box, whens_row, lowered_when, lowered_subspec, lowered_subprogram, decl_before, part_before, lowered_decls, lowered_private, lowered_package, lowered_package_body, lowered_unit, lowered_files}
 use Rattle.gathered_laws.specs.Named.{IsPlain, IsNamed}
 use Rattle.typed_laws.specs.Fine.{Denotes, IsMeant}
-use Rattle.typed_points.specs.Meant.{IsIndicated, AreDeclared, AreNumbers, IsMeantRange, IsMeantCode, AreAlternatives, AreMeantBodies, AreMeantObjects}
-use Rattle.meant_files.specs.Typed.{AreIndicated, AreIntegers, AreTyped}
+use Rattle.typed_points.specs.Meant.{IsIndicated, AreDeclared, AreNumbers, IsParameter, IsMeantRange, IsMeantCode, AreAlternatives, AreMeantBodies, AreMeantObjects}
+use Rattle.meant_files.specs.Typed.{IsParameterOf, AreIndicated, AreIntegers, AreTyped}
 use Rattle.meant_files.proofs.Trees as trees
 
 module _ (numbers : Numbers) (y : Typing) (made : ℕ → Type 0) where
@@ -79,6 +81,14 @@ module _ (numbers : Numbers) (y : Typing) (made : ℕ → Type 0) where
     range_meant (range.Marked pos mark) = tt
     range_meant (range.Constrained pos mark of_range low dots high) = (expr_meant low, expr_meant high)
     range_meant (range.RangeOf pos prefix apostrophe of_range) = tt
+
+    parameter_meant : (d : Code) (r : Range) → IsParameterOf s.context d (lowered_range numbers r) → IsParameter s y d (lowered_range numbers r)
+    unfolding lowered_range
+    parameter_meant d (range.Bounds pos low dots high) o =
+        subst (λ t. is_scalar (full s.context.known.table t) ≡ true) (sym ((all (declared_number d)).0 o.0 o.1)) o.2
+    parameter_meant d (range.Marked pos mark) o = (all (declared_number d)).0 o.0 o.1 ∙ o.2
+    parameter_meant d (range.Constrained pos mark of_range low dots high) o = (all (declared_number d)).0 o.0 o.1 ∙ o.2
+    parameter_meant d (range.RangeOf pos prefix apostrophe of_range) o = (all (declared_number d)).0 o.0 o.1 ∙ o.2
 
     subtype_meant : (i : Item) → Meant (lowered_subtype numbers i)
     unfolding lowered_subtype IsMeantCode
@@ -178,7 +188,7 @@ module _ (numbers : Numbers) (y : Typing) (made : ℕ → Type 0) where
       stmt_meant (stmt.Loop' pos _ body end end_loop semicolon) named typed = stmts_box_meant body named typed
       stmt_meant (stmt.While' pos condition loop_word _ body end end_loop semicolon) named typed = (expr_meant condition, stmts_box_meant body named typed)
       stmt_meant (stmt.For' pos parameter in_word reverse steps loop_word _ body end end_loop semicolon) named typed =
-          let o = typed.0 in (range_meant steps, (all _).0 o.0 o.1 ∙ o.2, stmts_box_meant body named typed.1)
+          (range_meant steps, parameter_meant (tree.declared numbers parameter) steps typed.0, stmts_box_meant body named typed.1)
       stmt_meant (stmt.Block' pos _ body end semicolon) named typed = (tt, stmts_box_meant body named.1 typed.1)
       stmt_meant (stmt.DeclareBlock' pos items begin _ body end semicolon) named typed =
           (items_meant items named.0 typed.0, stmts_box_meant body named.1 typed.1)

@@ -8,12 +8,13 @@ use Rattle.name_events.specs.declared.declaration.DeclarationForm.TheVariants as
 use Rattle.name_events.specs.declared.declaration.DeclKind.{DeclKind}
 use Rattle.name_events.specs.Denotes.{kind_of}
 use Rattle.type_definitions.specs.declared.table.InitialValue.{InitialValue}
+use Rattle.type_definitions.specs.declared.table.ObjectInfo.{ObjectInfo}
 use Rattle.type_definitions.specs.declared.table.Known.{Known}
 use Rattle.type_definitions.specs.declared.table.Kind.TheVariants as kind
 use Rattle.type_definitions.specs.declared.table.Entry.{Entry}
 use Rattle.type_definitions.specs.declared.table.Entry.TheVariants as entry
 use Rattle.type_definitions.specs.Types.{untyped}
-use Rattle.type_definitions.specs.Entries.{entry_of, is_type, type_of_entry, type_of_mark, marked}
+use Rattle.type_definitions.specs.Entries.{entry_of, integer, is_type, type_of_entry, type_of_mark, marked}
 use Rattle.type_definitions.specs.Names.{Context}
 use Rattle.type_definitions.specs.Gathered.{gather, each, with_entry, with_indication, with_object, object_info, constant_value, indicated, with_number, number_info, initial_value, with_body_front, plain_object, parameter_type, in_subprogram, in_visible, in_hidden, declared_number}
 use Rattle.type_definitions.specs.Whole.{gather_units}
@@ -21,7 +22,7 @@ use Rattle.meant_files.specs.Formless.{IsFormless}
 use Rattle.gathered_laws.specs.Named.{IsPlain, IsNamed}
 use Rattle.meant_files.specs.Declarations.{Declarations, each_as, declarations, last_from, IsLow, IsLowIndication, IsLowRange, AreLow, AllLow}
 use Rattle.meant_files.specs.Counted.{is_completing}
-use Rattle.meant_files.specs.Typed.{IsOf, AreIndicated, AreIntegers, AreTyped}
+use Rattle.meant_files.specs.Typed.{IsParameterOf, AreIndicated, AreIntegers, AreTyped}
 use Rattle.meant_files.specs.Bounded.{IsBounded, AreBounded}
 use Rattle.meant_files.proofs.Given.{entry_there, counts_has, counts_grow, is_type_kind, is_object_kind, is_put, IsRight, Given, Goes, goes_both, put, all_given, other_right, indication_given, body_given}
 use Rattle.meant_files.proofs.Stays.{Without, stays, objects_stay, numbers_stay}
@@ -245,23 +246,23 @@ module _ (kind_at : ℕ → DeclKind) (limit : ℕ) where
   parameter_typed : (d range : Code) (k j : ℕ) (L : Declarations) (c outer : Context) → Goes kind_at limit k ((form.LoopParameter, declared_number d) ∷ L) j
       → Given kind_at limit c.known.entries k → Given kind_at limit outer.known.entries limit → IsLowRange (declared_number d) range → IsBounded outer d range
       → entry_of outer.known (declared_number d) ≡ entry.Object (plain_object (parameter_type c range) kind.Parameter)
-      → IsOf outer.known (declared_number d) (parameter_type outer range)
+      → IsParameterOf outer d range
   parameter_typed d range k j L c outer goes given ends low bounded is =
       let f = object_form k (declared_number d) L j form.LoopParameter refl goes in
       let within = goes.3 in
-      let grows = f.3 in (
-        plain_object (parameter_type c range) kind.Parameter,
-        is,
-        by range (omega (arith, within, grows)) f.0 (ap is_type_kind (sym f.2)) low bounded is,
-      )
+      let grows = f.3 in
+      by range (omega (arith, within, grows)) f.0 (ap is_type_kind (sym f.2)) low bounded is
     where
       by : (range : Code) → k ≤ limit → declared_number d ≡ k → is_type_kind (kind_at (declared_number d)) ≡ false → IsLowRange (declared_number d) range
           → IsBounded outer d range → entry_of outer.known (declared_number d) ≡ entry.Object (plain_object (parameter_type c range) kind.Parameter)
-          → parameter_type c range ≡ parameter_type outer range
-      by (Bounds low high) within at never under bounded is = bounded (plain_object (parameter_type c (Bounds low high)) kind.Parameter) is
-      by (Marked m) within at never under bounded is = parameter_same (declared_number d) m k c.known outer.known within at goes.2 never under given ends
-      by (Constrained m low high) within at never under bounded is = parameter_same (declared_number d) m k c.known outer.known within at goes.2 never under given ends
-      by _ within at never under bounded is = refl
+          → IsParameterOf outer d range
+      by (Bounds low high) within at never under bounded is =
+          let o : ObjectInfo = plain_object (parameter_type c (Bounds low high)) kind.Parameter in (o, is, bounded o is)
+      by (Marked m) within at never under bounded is =
+          (plain_object (marked c.known m) kind.Parameter, is, parameter_same (declared_number d) m k c.known outer.known within at goes.2 never under given ends)
+      by (Constrained m low high) within at never under bounded is =
+          (plain_object (marked c.known m) kind.Parameter, is, parameter_same (declared_number d) m k c.known outer.known within at goes.2 never under given ends)
+      by _ within at never under bounded is = (plain_object integer kind.Parameter, is, refl)
 
   -- ---- all of the code
 

@@ -1,17 +1,18 @@
--- The parameter of a loop whose range is given by its bounds has the type of these.
-use Rattle.std.specs.Prelude.{◌≡◌}
+-- The parameter of a loop whose range is given by its bounds has a scalar type.
+use Rattle.std.specs.Prelude.{◌≡◌, true}
 use Rattle.spark_base.specs.Lists.{Has}
 use Rattle.resolved_tree.specs.Trees.{Code, Bounds, SubBody, Package, PackageBody, If, Branch, Case, When, Loop, While, For, Block, More, Program}
 use Rattle.type_definitions.specs.declared.table.ObjectInfo.{ObjectInfo}
 use Rattle.type_definitions.specs.declared.table.Entry.TheVariants as entry
+use Rattle.type_definitions.specs.Types.{full, is_scalar}
 use Rattle.type_definitions.specs.Entries.{entry_of}
 use Rattle.type_definitions.specs.Names.{Context}
-use Rattle.type_definitions.specs.Gathered.{parameter_type, declared_number, in_subprogram, in_visible, in_hidden}
+use Rattle.type_definitions.specs.Gathered.{declared_number, in_subprogram, in_visible, in_hidden}
 use Rattle.type_definitions.specs.Whole.{outside, known_of}
 
 abbrev pub IsBounded : Context → Code → Code → Type 0
 IsBounded c d (Bounds low high) =
-    (o : ObjectInfo) → entry_of c.known (declared_number d) ≡ entry.Object o → o.of ≡ parameter_type c (Bounds low high)
+    (o : ObjectInfo) → entry_of c.known (declared_number d) ≡ entry.Object o → is_scalar (full c.known.table o.of) ≡ true
 IsBounded c d range = Unit {0}
 
 unfoldable pub AreBounded : Context → Code → Type 0
