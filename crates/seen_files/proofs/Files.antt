@@ -1,62 +1,43 @@
 -- In the code of files that break no rule of names, and whose identifiers stand in the order of the text, what names
 -- denote of objects is in scope.
-use Rattle.std.proofs.Common.{◌≡◌, ◌⊎◌, inl, inr, ℕ, ◌+◌, ◌<◌, ◌≤◌, Bool, true, false, not, ◌&&◌, List, [], ◌∷◌, ◌++◌, map, filter, drop, length, nat_eq, refl, sym, ap, ◌∙◌, subst, arith, append_assoc, Option, Some, None, true≢false, if◌then◌else◌}
+use Rattle.std.proofs.Common.{◌≡◌, ◌⊎◌, inl, inr, ℕ, ◌+◌, ◌<◌, Bool, true, false, not, ◌&&◌, List, [], ◌∷◌, ◌++◌, map, filter, drop, nat_eq, refl, sym, ap, ◌∙◌, subst, arith, append_assoc, Option, Some, None, true≢false, if◌then◌else◌}
 use Rattle.std.specs.List.{flat_map}
 use Rattle.std.specs.Prelude.{nat_le, option_map, unwrap_or}
-use Rattle.spark_base.specs.declared.position.Pos.{Pos}
 use Rattle.spark_base.specs.Lists.{Has}
-use Rattle.spark_base.proofs.Lists.{Has-append_cases, Has-append_left, Has-append_right, Has-filter}
+use Rattle.spark_base.proofs.Lists.{Has-append_cases, Has-filter}
 use Rattle.ada_tree.specs.declared.identifier.Identifier.{Identifier}
 use Rattle.ada_tree.specs.declared.identifier.Dotted.{Dotted}
-use Rattle.ada_tree.specs.declared.declaration.Item.{Item}
-use Rattle.ada_tree.specs.declared.declaration.UseClause.{UseClause}
 use Rattle.ada_tree.specs.declared.unit.Context.{Context}
 use Rattle.ada_tree.specs.declared.unit.Context.TheVariants as context
-use Rattle.ada_tree.specs.declared.declaration.Indication.{Indication}
-use Rattle.ada_tree.specs.declared.subprogram.Subspec.{Subspec}
-use Rattle.ada_tree.specs.declared.subprogram.Subspec.TheVariants as subspec
-use Rattle.ada_tree.specs.declared.subprogram.Formals.{Formals}
-use Rattle.ada_tree.specs.declared.subprogram.NextFormal.{NextFormal}
-use Rattle.ada_tree.specs.declared.subprogram.NextFormal.TheVariants as next_formal
-use Rattle.ada_tree.specs.declared.subprogram.Formal.{Formal}
-use Rattle.ada_tree.specs.declared.subprogram.Formal.TheVariants as formal
-use Rattle.ada_tree.specs.declared.subprogram.Decl.{Decl}
-use Rattle.ada_tree.specs.declared.subprogram.Decl.TheVariants as decl
 use Rattle.ada_tree.specs.declared.unit.SourceUnit.{SourceUnit}
 use Rattle.ada_tree.specs.declared.unit.SourceUnit.TheVariants as unit
 use Rattle.ada_tree.specs.declared.unit.Package.{Package}
 use Rattle.ada_tree.specs.declared.unit.PrivatePart.{PrivatePart}
 use Rattle.ada_tree.specs.declared.unit.PackageBody.{PackageBody}
-use Rattle.ada_tree.specs.declared.unit.BodyPart.{BodyPart}
-use Rattle.ada_tree.specs.declared.unit.BodyPart.TheVariants as part
 use Rattle.ada_tree.specs.declared.unit.SubprogramBody.{SubprogramBody}
 use Rattle.name_events.specs.declared.event.Event.{Event}
 use Rattle.name_events.specs.declared.event.Event.TheVariants as e
-use Rattle.name_events.specs.declared.event.Clause.{Clause}
 use Rattle.name_events.specs.declared.event.Clause.TheVariants as clause
 use Rattle.name_events.specs.declared.event.FoldedIdentifier.{FoldedIdentifier}
 use Rattle.name_events.specs.declared.declaration.Declaration.{Declaration}
 use Rattle.name_events.specs.declared.declaration.DeclarationForm.{DeclarationForm}
 use Rattle.name_events.specs.declared.declaration.DeclarationForm.TheVariants as form
 use Rattle.name_events.specs.declared.declaration.RegionPart.{RegionPart}
-use Rattle.name_events.specs.declared.declaration.RegionPart.TheVariants as region_part
 use Rattle.name_events.specs.declared.declaration.OpenRegion.{OpenRegion}
 use Rattle.name_events.specs.Declarations.{Name, Entry, has_number, is_package, first_where, is_named}
-use Rattle.name_events.specs.ExpressionOutline.{folded, folded_identifier, declares, declares_all, mention, mentions, next_dotted_name, each_of}
-use Rattle.name_events.specs.Outline.{indication_events, item_events, use_events, stmts_events, formal_events, next_formal_events, formals_events, subspec_events, body_form, subspec_name, closing_events, subprogram_events, decl_events, body_part_events, private_events, package_events, package_body_events, has_with, with_events, context_events, unit_front, unit_events, source_events}
+use Rattle.name_events.specs.ExpressionOutline.{folded, folded_identifier, declares, mention, next_dotted_name, each_of}
+use Rattle.name_events.specs.Outline.{closing_events, subprogram_events, decl_events, body_part_events, private_events, package_events, package_body_events, has_with, with_events, context_events, unit_front, unit_events, source_events}
 use Rattle.name_events.specs.Predefined.{predefined_count}
-use Rattle.name_events.specs.Known.{Known, here, part_here, region_of, source_package}
+use Rattle.name_events.specs.Known.{Known, here, part_here, source_package}
 use Rattle.name_events.specs.Completions.{completed_by, completes_form, may_complete, if_completes, awaiting}
 use Rattle.name_events.specs.KnownBehind.{known_behind, known_behind_all, behind_declaration, new_entry, end_in, open_region, open_body, turned_private, begin_unit, package_named}
-use Rattle.resolved_tree.specs.Trees.{Code, code_list, code_items}
-use Rattle.resolved_tree.specs.Trees as t
+use Rattle.resolved_tree.specs.Trees.{Code}
 use Rattle.expression_lowering.specs.LoweredExpressions.{Numbers}
-use Rattle.tree_lowering.specs.Lowered.{declared, declared_all, lowered_indication, lowered_items, item_before, before_all, lowered_stmts, lowered_formal, lowered_next_formal, lowered_formals, lowered_subspec, lowered_subprogram, decl_before, part_before, lowered_decls, lowered_private, lowered_package, lowered_package_body, lowered_unit, lowered_files}
-use Rattle.seen_files.specs.Fits.{all_numbers, group_numbers, formal_numbers, front_numbers, scope_after, unit_scope, IsKept, AreObjects, Fits, AllFit}
-use Rattle.seen_files.specs.Reached.{is_object_form, is_object, IsObjectIn, IsOpen, IsPackageRegion, IsReached, IsAt, AreTold}
-use Rattle.seen_files.proofs.Steps.{reached_same}
-use Rattle.seen_files.proofs.Runs.{all_calm, mention_calm, calm_both, calm_each, behind_both, told_both, Goes, goes_then, goes_so, goes_more, goes_nothing, goes_first, goes_second, goes_calm, goes_region}
-use Rattle.seen_files.proofs.Statements.{use_calm, Fit, indication_speaks, objects_go, Follows, nothing_follows, item_then, items_fit, stmts_fit}
+use Rattle.tree_lowering.specs.Lowered.{before_all, lowered_subprogram, part_before, lowered_decls, lowered_private, lowered_package, lowered_package_body, lowered_unit, lowered_files}
+use Rattle.seen_files.specs.Fits.{scope_after, unit_scope, Fits, UnitFits, AllFit}
+use Rattle.seen_files.specs.Reached.{is_object, IsObjectIn, IsReached, IsAt, AreTold}
+use Rattle.seen_files.proofs.Runs.{all_calm, calm_both, calm_each, behind_both, told_both, Goes, goes_calm}
+use Rattle.seen_files.proofs.Statements.{use_calm, Fit}
 use Rattle.seen_files.proofs.Units.{closing_calm, decls_follow, parts_follow, subprogram_fits}
 use Rattle.seen_files.proofs.Held.{IsHeld}
 use Rattle.seen_files.proofs.Told.{told_from}
@@ -137,10 +118,10 @@ package_at now id s at = record {
   seen = λ x has is reached. at.seen x (was x has is) is (reached_before x has is reached);
   waits = λ x has is. elim (Has-append_cases now.pending (new_entry now form.Package id ∷ []) x
       (Has-filter (λ (entry : Entry). not (nat_eq (here now) entry.1.region)) (now.pending ++ new_entry now form.Package id ∷ []) x has).0) [
-    | inl old ↦ absurd (at.waits x old is).0
-    | inr (inl same) ↦ absurd (true≢false (sym is ∙ ap is_object (sym same)))
-    | inr (inr never) ↦ absurd never
-  ];
+        | inl old ↦ absurd (at.waits x old is).0
+        | inr (inl same) ↦ absurd (true≢false (sym is ∙ ap is_object (sym same)))
+        | inr (inr never) ↦ absurd never
+      ];
   still = λ x has is.
       let f = Has-filter (λ (entry : Entry). not (nat_eq (here now) entry.1.region)) (now.pending ++ new_entry now form.Package id ∷ []) x has in
       elim (Has-append_cases now.pending (new_entry now form.Package id ∷ []) x f.0) [
@@ -161,10 +142,10 @@ package_at now id s at = record {
           | inl old ↦ inl old
           | inr new ↦ elim (Has-append_cases now.pending (new_entry now form.Package id ∷ []) x
               (Has-filter (λ (entry : Entry). nat_eq (here now) entry.1.region) (now.pending ++ new_entry now form.Package id ∷ []) x new).0) [
-            | inl pending ↦ inr (inl pending)
-            | inr (inl same) ↦ inr (inr same)
-            | inr (inr never) ↦ absurd never
-          ]
+                | inl pending ↦ inr (inl pending)
+                | inr (inl same) ↦ inr (inr same)
+                | inr (inr never) ↦ absurd never
+              ]
         ]
 
     was : (x : Entry)
@@ -411,8 +392,8 @@ module _ (numbers : Numbers) (whole : Known) where
       (known_behind now e.PrivatePartBegins) (private_begins now s at) told.1
 
   package_comes : (p : Package) (s : List ℕ)
-      → Comes (Fit numbers whole s (lowered_package numbers p)) s (unit_scope (lowered_package numbers p) s) (package_events p)
-  unfolding lowered_package Fits unit_scope
+      → Comes (UnitFits (IsObjectIn whole) s (lowered_package numbers p)) s (unit_scope (lowered_package numbers p) s) (package_events p)
+  unfolding lowered_package UnitFits unit_scope
   package_comes p s =
       let visible : Code = lowered_decls numbers p.visible in
       let v : List ℕ = scope_after visible s in
@@ -428,8 +409,8 @@ module _ (numbers : Numbers) (whole : Known) where
       (comes_before (Fit numbers whole v hidden) v u ys last (private_comes p.private v) (closing_passes u p.name p.closing)))
 
   package_body_comes : (b : PackageBody) (s : List ℕ)
-      → Comes (Fit numbers whole s (lowered_package_body numbers b)) s (unit_scope (lowered_package_body numbers b) s) (package_body_events b)
-  unfolding lowered_package_body Fits unit_scope
+      → Comes (UnitFits (IsObjectIn whole) s (lowered_package_body numbers b)) s (unit_scope (lowered_package_body numbers b) s) (package_body_events b)
+  unfolding lowered_package_body UnitFits unit_scope
   package_body_comes b s now at told =
       let parts : Code = before_all (part_before numbers) b.parts in
       let v : List ℕ = scope_after parts s in
@@ -439,13 +420,13 @@ module _ (numbers : Numbers) (whole : Known) where
       (closing_passes v b.name b.closing) (known_behind now (e.PackageBodyOpens (folded_identifier b.name))) (body_begins now (folded_identifier b.name) s at) told.1
 
   unit_comes : (u : SourceUnit) (s : List ℕ)
-      → Comes (Fit numbers whole s (lowered_unit numbers u)) s (unit_scope (lowered_unit numbers u) s) (unit_events u)
-  unfolding unit_events lowered_unit lowered_subprogram unit_scope
+      → Comes (UnitFits (IsObjectIn whole) s (lowered_unit numbers u)) s (unit_scope (lowered_unit numbers u) s) (unit_events u)
+  unfolding unit_events lowered_unit lowered_subprogram UnitFits unit_scope
   unit_comes (unit.OfPackage pos clauses p) s =
-      comes_after (Fit numbers whole s (lowered_package numbers p)) s (unit_scope (lowered_package numbers p) s) (unit_front None clauses) (package_events p)
+      comes_after (UnitFits (IsObjectIn whole) s (lowered_package numbers p)) s (unit_scope (lowered_package numbers p) s) (unit_front None clauses) (package_events p)
       (front_passes s None clauses) (package_comes p s)
   unit_comes (unit.OfBody pos clauses b) s =
-      comes_after (Fit numbers whole s (lowered_package_body numbers b)) s (unit_scope (lowered_package_body numbers b) s)
+      comes_after (UnitFits (IsObjectIn whole) s (lowered_package_body numbers b)) s (unit_scope (lowered_package_body numbers b) s)
       (unit_front (Some (folded b.name)) clauses) (package_body_events b) (front_passes s (Some (folded b.name)) clauses) (package_body_comes b s)
   unit_comes (unit.OfSubprogram pos clauses b) s =
       let code : Code = lowered_subprogram numbers b in
@@ -565,12 +546,15 @@ first_held = record {
         let at : c.0 ≡ x.1.number = omega (arith, a) in
         subst (λ i. slice_get predefined_entries i ≡ Some x) at c.2
 
+-- What is told of these files.
+pub files_told : (files : Files) → Ascends (event_positions (source_events files)) → name_fault files ≡ None
+    → AreTold (identified files) (known_of files) known_at_first (source_events files)
+unfolding known_of identified name_fault
+files_told files up none =
+    told_from (known_of files) (identified files) (source_events files) known_at_first [] first_held refl refl (λ x has p is. absurd has) up none
+
 -- In these files each name of an object denotes one that is in scope where it stands.
 pub files_fit : (files : Files) → Ascends (event_positions (source_events files)) → name_fault files ≡ None
     → AllFit (IsObjectIn (known_of files)) [] (lowered_files (identified files) files)
-unfolding known_of identified name_fault
 files_fit files up none =
-    let numbers : Numbers = identified files in
-    let whole : Known = known_of files in
-    all_fit numbers whole files [] known_at_first first_at
-    (told_from whole numbers (source_events files) known_at_first [] first_held refl refl (λ x has p is. absurd has) up none)
+    all_fit (identified files) (known_of files) files [] known_at_first first_at (files_told files up none)

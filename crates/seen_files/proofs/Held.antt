@@ -1,9 +1,9 @@
 -- Declarations stand at their numbers, and a `use` clause names packages.
-use Rattle.std.proofs.Common.{◌≡◌, inl, inr, ℕ, Bool, true, false, not, zero, suc, List, [], ◌∷◌, ◌++◌, map, filter, drop, length, nat_eq, refl, sym, ap, ◌∙◌, subst, Option, Some, None, true≢false, if◌then◌else◌}
+use Rattle.std.proofs.Common.{◌≡◌, inl, inr, ℕ, Bool, true, false, not, zero, suc, List, [], ◌∷◌, ◌++◌, map, filter, drop, length, nat_eq, refl, sym, ap, subst, Option, Some, None, if◌then◌else◌}
 use Rattle.std.specs.Prelude.{slice_get}
 use Rattle.std.proofs.lemmas.Bool.{eqb-true}
 use Rattle.spark_base.specs.Lists.{Has}
-use Rattle.spark_base.proofs.Lists.{Has-append_cases, Has-append_left, Has-append_right, Has-filter, Has-map_from}
+use Rattle.spark_base.proofs.Lists.{Has-append_cases, Has-append_left, Has-filter, Has-map_from}
 use Rattle.name_events.specs.declared.event.Event.{Event}
 use Rattle.name_events.specs.declared.event.Event.TheVariants as e
 use Rattle.name_events.specs.declared.event.Clause.{Clause}
@@ -12,11 +12,10 @@ use Rattle.name_events.specs.declared.event.FoldedIdentifier.{FoldedIdentifier}
 use Rattle.name_events.specs.declared.declaration.DeclarationForm.{DeclarationForm}
 use Rattle.name_events.specs.declared.declaration.DeclarationForm.TheVariants as form
 use Rattle.name_events.specs.declared.declaration.Declaration.{Declaration}
-use Rattle.name_events.specs.declared.declaration.OpenRegion.{OpenRegion}
-use Rattle.name_events.specs.Declarations.{Name, Entry, is_package, last_of, declared_in}
+use Rattle.name_events.specs.Declarations.{Name, Entry, is_package, last_of}
 use Rattle.name_events.specs.Known.{Context, Known, here, region_of, source_package, used_in, seen, selected, selected_along}
 use Rattle.name_events.specs.Completions.{completed_by}
-use Rattle.name_events.specs.KnownBehind.{known_behind, known_behind_all, known_at_first, begin_unit, package_named, context_of, context_found, selectors_of, named_in_use, behind_declaration, new_entry, end_in, open_body}
+use Rattle.name_events.specs.KnownBehind.{known_behind, known_behind_all, begin_unit, package_named, context_of, context_found, selectors_of, named_in_use, behind_declaration, new_entry, end_in, open_body}
 use Rattle.name_events.specs.Laws.{IsLastIn}
 use Rattle.name_events.proofs.Searches.{last_found}
 use Rattle.name_events.proofs.VisibilityLaws.{seen_says, selected_says}

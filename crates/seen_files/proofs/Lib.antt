@@ -6,3 +6,8 @@ pub mod Runs
 pub mod Statements
 pub mod Units
 pub mod Files
+pub mod Entries
+pub mod Names
+pub mod Typed
+pub mod Packages
+pub mod Main

@@ -1,17 +1,13 @@
 -- What lists of events do to what is in scope, one after the other.
-use Rattle.std.proofs.Common.{◌≡◌, inl, inr, ℕ, Bool, true, false, not, ◌&&◌, List, [], ◌∷◌, ◌++◌, map, length, refl, sym, ap, ◌∙◌, subst, append_assoc, Option, Some, None, true≢false}
+use Rattle.std.proofs.Common.{◌≡◌, ℕ, Bool, true, false, not, ◌&&◌, List, [], ◌∷◌, ◌++◌, length, refl, sym, ap, ◌∙◌, subst, append_assoc, Some, None, true≢false}
 use Rattle.std.specs.Prelude.{slice_get, unwrap_or}
 use Rattle.std.specs.List.{flat_map}
 use Rattle.spark_base.specs.Lists.{Has}
-use Rattle.spark_base.proofs.Lists.{Has-append_cases, Has-append_left, Has-append_right}
 use Rattle.ada_tree.specs.declared.identifier.Identifier.{Identifier}
 use Rattle.name_events.specs.declared.event.Event.{Event}
 use Rattle.name_events.specs.declared.event.Event.TheVariants as e
 use Rattle.name_events.specs.declared.event.FoldedIdentifier.{FoldedIdentifier}
-use Rattle.name_events.specs.declared.event.FoldedName.{FoldedName}
-use Rattle.name_events.specs.declared.event.Clause.{Clause}
 use Rattle.name_events.specs.declared.declaration.DeclarationForm.{DeclarationForm}
-use Rattle.name_events.specs.declared.declaration.Declaration.{Declaration}
 use Rattle.name_events.specs.Laws.{is_mention}
 use Rattle.name_events.specs.Declarations.{Entry, is_package_form}
 use Rattle.name_events.specs.ExpressionOutline.{declares, folded_identifier}
@@ -21,8 +17,8 @@ use Rattle.name_events.specs.KnownBehind.{known_behind, known_behind_all, behind
 use Rattle.name_events.specs.Identified.{completed_or_next}
 use Rattle.expression_lowering.specs.LoweredExpressions.{Numbers, number_of}
 use Rattle.seen_files.specs.Uses.{name_number, AreAllowed}
-use Rattle.seen_files.specs.Fits.{IsKept, AreObjects}
-use Rattle.seen_files.specs.Reached.{is_object_form, is_object, IsObjectIn, IsAt, IsSince, IsTold, AreTold}
+use Rattle.seen_files.specs.Fits.{IsKept}
+use Rattle.seen_files.specs.Reached.{is_object_form, is_object, IsObjectIn, IsAt, IsSince, AreTold}
 use Rattle.seen_files.proofs.Expressions.{both_so, and_so, all_mention, Speaks}
 use Rattle.seen_files.proofs.Steps.{at_more, since_self, since_then, Both, same_at, completes_nothing, other_declared, object_at, ends_at, outer_ends_at, opens_at, closes_at}
 

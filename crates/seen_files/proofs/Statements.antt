@@ -1,5 +1,5 @@
 -- In items and statements what names denote of objects is in scope.
-use Rattle.std.proofs.Common.{◌≡◌, inl, inr, ℕ, Bool, true, false, not, ◌&&◌, List, [], ◌∷◌, ◌++◌, map, refl, sym, ap, ◌∙◌, subst, append_assoc, Option, Some, None, true≢false}
+use Rattle.std.proofs.Common.{◌≡◌, inl, inr, ℕ, true, List, [], ◌∷◌, ◌++◌, map, refl, sym, subst, append_assoc}
 use Rattle.std.specs.List.{flat_map}
 use Rattle.spark_base.specs.declared.position.Pos.{Pos}
 use Rattle.spark_base.specs.Lists.{Has}
@@ -43,7 +43,7 @@ use Rattle.tree_lowering.specs.Lowered.{declared_next, declared_all, lowered_sub
 use Rattle.seen_files.specs.Uses.{Uses, AreAllowed}
 use Rattle.seen_files.specs.Fits.{all_numbers, scope_after, IsKept, AreObjects, RangeFits, Fits, AreFitting, IsFitting}
 use Rattle.seen_files.specs.Reached.{is_object_form, IsObjectIn}
-use Rattle.seen_files.proofs.Expressions.{and_so, all_mention, Speaks, says_so, speaks_both, name_speaks, expr_speaks, arg_speaks, next_arg_speaks, choice_speaks, next_choices_speak, range_speaks}
+use Rattle.seen_files.proofs.Expressions.{Speaks, says_so, speaks_both, name_speaks, expr_speaks, arg_speaks, next_arg_speaks, choice_speaks, next_choices_speak, range_speaks}
 use Rattle.seen_files.proofs.Runs.{all_calm, calm_both, calm_each, mention_calm, Goes, goes_then, goes_so, goes_more, goes_nothing, goes_first, goes_second, goes_speaks, goes_calm, goes_declares, goes_ends, goes_region, goes_regions}
 
 -- ---- lists of numbers

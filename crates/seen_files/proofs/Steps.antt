@@ -1,25 +1,19 @@
 -- What single events do to what names may denote.
-use Rattle.std.proofs.Common.{◌≡◌, ◌⊎◌, inl, inr, ℕ, ◌+◌, ◌<◌, ◌≤◌, Bool, true, false, not, ◌&&◌, List, [], ◌∷◌, ◌++◌, filter, drop, length, nat_eq, refl, sym, ap, ◌∙◌, subst, arith, Option, Some, None, true≢false, if◌then◌else◌}
-use Rattle.std.specs.Prelude.{slice_get, unwrap_or, nat_le, option_map}
-use Rattle.std.proofs.lemmas.Bool.{eqb-true}
+use Rattle.std.proofs.Common.{◌≡◌, ◌⊎◌, inl, inr, ℕ, ◌<◌, ◌≤◌, Bool, true, false, not, ◌&&◌, List, [], ◌∷◌, ◌++◌, filter, drop, length, nat_eq, refl, sym, ap, ◌∙◌, subst, arith, Option, Some, None, true≢false, if◌then◌else◌}
 use Rattle.spark_base.specs.Lists.{Has}
 use Rattle.spark_base.proofs.Lists.{Has-append_cases, Has-append_left, Has-append_right, Has-filter}
-use Rattle.name_events.specs.declared.event.Event.{Event}
 use Rattle.name_events.specs.declared.event.Event.TheVariants as e
 use Rattle.name_events.specs.declared.event.FoldedIdentifier.{FoldedIdentifier}
 use Rattle.name_events.specs.declared.declaration.DeclarationForm.{DeclarationForm}
 use Rattle.name_events.specs.declared.declaration.DeclarationForm.TheVariants as form
 use Rattle.name_events.specs.declared.declaration.RegionPart.{RegionPart}
-use Rattle.name_events.specs.declared.declaration.RegionPart.TheVariants as part
 use Rattle.name_events.specs.declared.declaration.Declaration.{Declaration}
 use Rattle.name_events.specs.declared.declaration.OpenRegion.{OpenRegion}
 use Rattle.name_events.specs.Declarations.{Name, Entry, has_number, is_package, is_package_form}
 use Rattle.name_events.specs.Known.{Known, here, part_here, region_of}
 use Rattle.name_events.specs.Completions.{completed_by, completes_form, may_complete, if_completes, awaiting}
-use Rattle.name_events.specs.KnownBehind.{known_behind, known_behind_all, behind_declaration, new_entry, end_in, open_region}
-use Rattle.name_events.specs.Identified.{number_at, number_declared, completed_or_next}
-use Rattle.expression_lowering.specs.LoweredExpressions.{Numbers}
-use Rattle.seen_files.specs.Reached.{is_object_form, is_object, IsObjectIn, IsOpen, IsPackageRegion, IsReached, IsAt, IsSince, IsTold}
+use Rattle.name_events.specs.KnownBehind.{known_behind, behind_declaration, new_entry, end_in, open_region}
+use Rattle.seen_files.specs.Reached.{is_object_form, is_object, IsReached, IsAt, IsSince}
 
 -- ---- regions
 

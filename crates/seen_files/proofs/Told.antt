@@ -1,6 +1,6 @@
 -- What is told of the names of a text that breaks no rule of names, and whose identifiers stand in the order of the
 -- text.
-use Rattle.std.proofs.Common.{◌≡◌, ◌⊎◌, inl, inr, ℕ, Bool, true, false, not, ◌&&◌, List, [], ◌∷◌, ◌++◌, map, length, nat_eq, refl, sym, ap, ◌∙◌, subst, arith, Option, Some, None, true≢false, append_assoc, if◌then◌else◌}
+use Rattle.std.proofs.Common.{◌≡◌, inl, inr, ℕ, Bool, true, false, ◌&&◌, List, [], ◌∷◌, ◌++◌, map, length, nat_eq, refl, sym, ap, ◌∙◌, subst, arith, Option, Some, None, true≢false, append_assoc, if◌then◌else◌}
 use Rattle.std.specs.Prelude.{slice_get, unwrap_or}
 use Rattle.std.specs.List.{flat_map}
 use Rattle.spark_base.specs.declared.position.Pos.{Pos}
@@ -10,9 +10,7 @@ use Rattle.spark_base.specs.Lists.{Has}
 use Rattle.spark_base.proofs.Lists.{Has-append_cases, Has-append_left, Has-append_right}
 use Rattle.name_events.specs.declared.event.Event.{Event}
 use Rattle.name_events.specs.declared.event.Event.TheVariants as e
-use Rattle.name_events.specs.declared.event.Clause.{Clause}
 use Rattle.name_events.specs.declared.event.FoldedIdentifier.{FoldedIdentifier}
-use Rattle.name_events.specs.declared.event.FoldedName.{FoldedName}
 use Rattle.name_events.specs.declared.declaration.DeclarationForm.{DeclarationForm}
 use Rattle.name_events.specs.declared.declaration.DeclarationForm.TheVariants as form
 use Rattle.name_events.specs.declared.declaration.Declaration.{Declaration}
@@ -26,14 +24,13 @@ use Rattle.name_events.specs.Known.{Known, source_package, seen, selected}
 use Rattle.name_events.specs.Completions.{completed_by}
 use Rattle.name_events.specs.KnownBehind.{known_behind, known_behind_all, behind_declaration, new_entry}
 use Rattle.name_events.specs.Denotes.{why_unseen, why_unselected, meaning_or, meaning, selected_meaning, occurrences_from, occurrences, whole_meaning}
-use Rattle.name_events.specs.Faults.{Fault, occurrence_fault, first_some, may_stand, mention_fault, fault, first_fault}
+use Rattle.name_events.specs.Faults.{occurrence_fault, first_some, may_stand, fault, first_fault}
 use Rattle.name_events.specs.Identified.{identified_as, identified_use, identified_body, identified_at, identified_from, number_at, number_declared, completed_or_next, same_position}
-use Rattle.name_events.specs.Laws.{IsInnermost, IsByUse}
 use Rattle.name_events.proofs.VisibilityLaws.{seen_says, selected_says}
 use Rattle.expression_lowering.specs.LoweredExpressions.{Numbers, before_others, last_of}
-use Rattle.file_positions.specs.Order.{Ascends, name_positions, event_position, event_positions}
+use Rattle.file_positions.specs.Order.{Ascends, event_position, event_positions}
 use Rattle.seen_files.specs.Uses.{numbers_along, name_number}
-use Rattle.seen_files.specs.Reached.{is_object_form, is_object, IsObjectIn, IsReached, IsTold, AreTold}
+use Rattle.seen_files.specs.Reached.{is_object_form, IsObjectIn, IsReached, IsTold, AreTold}
 use Rattle.seen_files.proofs.Steps.{completes_nothing}
 use Rattle.seen_files.proofs.Held.{has_middle, get_last, Grows, grows_all, IsHeld, last_ended, held_behind}
 
@@ -300,8 +297,7 @@ module _ (whole : Known) (numbers : Numbers) where
       let at : slice_get whole.declared (length now.declared) ≡ Some (new_entry now new id)
       = grows.declared (length now.declared) (new_entry now new id)
       (subst (λ o. slice_get (behind_declaration now new id o).declared (length now.declared) ≡ Some (new_entry now new id)) (sym nothing)
-      (declared_object now new id is)) in
-      (
+      (declared_object now new id is)) in (
         new_entry now new id,
         subst (λ o. slice_get whole.declared (completed_or_next now o) ≡ Some (new_entry now new id)) (sym nothing) at,
         is,

@@ -1,16 +1,9 @@
 -- In subprograms and units what names denote of objects is in scope.
-use Rattle.std.proofs.Common.{◌≡◌, ◌⊎◌, inl, inr, ℕ, ◌+◌, ◌<◌, ◌≤◌, Bool, true, false, not, ◌&&◌, List, [], ◌∷◌, ◌++◌, map, filter, drop, length, nat_eq, refl, sym, ap, ◌∙◌, subst, arith, append_assoc, Option, Some, None, true≢false, if◌then◌else◌}
+use Rattle.std.proofs.Common.{◌≡◌, inl, inr, ℕ, true, List, [], ◌∷◌, ◌++◌, map, refl, sym, ap, ◌∙◌, subst, append_assoc, Option, Some, None}
 use Rattle.std.specs.List.{flat_map}
-use Rattle.std.specs.Prelude.{nat_le, option_map, unwrap_or}
-use Rattle.spark_base.specs.declared.position.Pos.{Pos}
 use Rattle.spark_base.specs.Lists.{Has}
-use Rattle.spark_base.proofs.Lists.{Has-append_cases, Has-append_left, Has-append_right, Has-filter}
+use Rattle.spark_base.proofs.Lists.{Has-append_cases, Has-append_left, Has-append_right}
 use Rattle.ada_tree.specs.declared.identifier.Identifier.{Identifier}
-use Rattle.ada_tree.specs.declared.identifier.Dotted.{Dotted}
-use Rattle.ada_tree.specs.declared.declaration.Item.{Item}
-use Rattle.ada_tree.specs.declared.declaration.UseClause.{UseClause}
-use Rattle.ada_tree.specs.declared.unit.Context.{Context}
-use Rattle.ada_tree.specs.declared.unit.Context.TheVariants as context
 use Rattle.ada_tree.specs.declared.declaration.Indication.{Indication}
 use Rattle.ada_tree.specs.declared.subprogram.Subspec.{Subspec}
 use Rattle.ada_tree.specs.declared.subprogram.Subspec.TheVariants as subspec
@@ -21,41 +14,24 @@ use Rattle.ada_tree.specs.declared.subprogram.Formal.{Formal}
 use Rattle.ada_tree.specs.declared.subprogram.Formal.TheVariants as formal
 use Rattle.ada_tree.specs.declared.subprogram.Decl.{Decl}
 use Rattle.ada_tree.specs.declared.subprogram.Decl.TheVariants as decl
-use Rattle.ada_tree.specs.declared.unit.SourceUnit.{SourceUnit}
-use Rattle.ada_tree.specs.declared.unit.SourceUnit.TheVariants as unit
-use Rattle.ada_tree.specs.declared.unit.Package.{Package}
-use Rattle.ada_tree.specs.declared.unit.PrivatePart.{PrivatePart}
-use Rattle.ada_tree.specs.declared.unit.PackageBody.{PackageBody}
 use Rattle.ada_tree.specs.declared.unit.BodyPart.{BodyPart}
 use Rattle.ada_tree.specs.declared.unit.BodyPart.TheVariants as part
 use Rattle.ada_tree.specs.declared.unit.SubprogramBody.{SubprogramBody}
 use Rattle.name_events.specs.declared.event.Event.{Event}
 use Rattle.name_events.specs.declared.event.Event.TheVariants as e
-use Rattle.name_events.specs.declared.event.Clause.{Clause}
 use Rattle.name_events.specs.declared.event.Clause.TheVariants as clause
-use Rattle.name_events.specs.declared.event.FoldedIdentifier.{FoldedIdentifier}
-use Rattle.name_events.specs.declared.declaration.Declaration.{Declaration}
 use Rattle.name_events.specs.declared.declaration.DeclarationForm.{DeclarationForm}
 use Rattle.name_events.specs.declared.declaration.DeclarationForm.TheVariants as form
-use Rattle.name_events.specs.declared.declaration.RegionPart.{RegionPart}
-use Rattle.name_events.specs.declared.declaration.RegionPart.TheVariants as region_part
-use Rattle.name_events.specs.declared.declaration.OpenRegion.{OpenRegion}
-use Rattle.name_events.specs.Declarations.{Name, Entry, has_number, is_package, first_where, is_named}
-use Rattle.name_events.specs.ExpressionOutline.{folded, folded_identifier, declares, declares_all, mention, mentions, next_dotted_name, each_of}
-use Rattle.name_events.specs.Outline.{indication_events, item_events, use_events, stmts_events, formal_events, next_formal_events, formals_events, subspec_events, body_form, subspec_name, closing_events, subprogram_events, decl_events, body_part_events, private_events, package_events, package_body_events, has_with, with_events, context_events, unit_front, unit_events, source_events}
-use Rattle.name_events.specs.Predefined.{predefined_count}
-use Rattle.name_events.specs.Known.{Known, here, part_here, region_of, source_package}
-use Rattle.name_events.specs.Completions.{completed_by, completes_form, may_complete, if_completes, awaiting}
-use Rattle.name_events.specs.KnownBehind.{known_behind, known_behind_all, behind_declaration, new_entry, end_in, open_region, open_body, turned_private, begin_unit, package_named}
-use Rattle.resolved_tree.specs.Trees.{Code, code_list, code_items}
-use Rattle.resolved_tree.specs.Trees as t
+use Rattle.name_events.specs.ExpressionOutline.{declares, declares_all, mention, each_of}
+use Rattle.name_events.specs.Outline.{indication_events, item_events, stmts_events, formal_events, next_formal_events, formals_events, subspec_events, body_form, subspec_name, closing_events, subprogram_events, decl_events, body_part_events}
+use Rattle.name_events.specs.Known.{Known, here}
+use Rattle.resolved_tree.specs.Trees.{Code, code_list}
 use Rattle.expression_lowering.specs.LoweredExpressions.{Numbers}
-use Rattle.tree_lowering.specs.Lowered.{declared, declared_all, lowered_indication, lowered_items, item_before, before_all, lowered_stmts, lowered_formal, lowered_next_formal, lowered_formals, lowered_subspec, lowered_subprogram, decl_before, part_before, lowered_decls, lowered_private, lowered_package, lowered_package_body, lowered_unit, lowered_files}
-use Rattle.seen_files.specs.Fits.{all_numbers, group_numbers, formal_numbers, front_numbers, scope_after, IsKept, AreObjects, Fits, AllFit}
-use Rattle.seen_files.specs.Reached.{is_object_form, is_object, IsObjectIn, IsOpen, IsPackageRegion, IsReached, IsAt, AreTold}
-use Rattle.seen_files.proofs.Steps.{here_low, reached_same, at_more}
-use Rattle.seen_files.proofs.Runs.{all_calm, mention_calm, calm_both, calm_each, behind_both, told_both, Goes, goes_then, goes_so, goes_more, goes_nothing, goes_first, goes_second, goes_calm, goes_region}
-use Rattle.seen_files.proofs.Statements.{use_calm, Fit, indication_speaks, objects_go, Follows, nothing_follows, item_then, items_fit, stmts_fit}
+use Rattle.tree_lowering.specs.Lowered.{declared_all, lowered_items, before_all, lowered_stmts, lowered_formal, lowered_next_formal, lowered_formals, lowered_subspec, lowered_subprogram, decl_before, part_before, lowered_decls}
+use Rattle.seen_files.specs.Fits.{all_numbers, group_numbers, formal_numbers, front_numbers, scope_after, AreObjects, Fits}
+use Rattle.seen_files.specs.Reached.{IsObjectIn}
+use Rattle.seen_files.proofs.Runs.{all_calm, mention_calm, calm_both, Goes, goes_then, goes_so, goes_more, goes_nothing, goes_first, goes_second, goes_calm, goes_region}
+use Rattle.seen_files.proofs.Statements.{Fit, indication_speaks, objects_go, Follows, nothing_follows, item_then, items_fit, stmts_fit}
 
 -- ---- lists of numbers
 

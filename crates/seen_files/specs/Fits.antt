@@ -1,7 +1,7 @@
 -- Resolved code in which names of objects denote what is in scope.
 use Rattle.std.specs.Prelude.{ℕ, List, [], ◌∷◌, ◌++◌, map, flat_map}
 use Rattle.spark_base.specs.Lists.{Has}
-use Rattle.resolved_tree.specs.Trees.{Tree, Code, Bounds, Constrained, RangeOf, Objects, Numbers, Formals, Front, SubDecl, SubBody, Package, PackageBody, Assign, Call, Exit, Return, If, Branch, Case, When, Loop, While, For, Block, NoMore, More, code_items}
+use Rattle.resolved_tree.specs.Trees.{Code, Bounds, Constrained, RangeOf, Objects, Numbers, Formals, Front, SubDecl, SubBody, Package, PackageBody, Assign, Call, Exit, Return, If, Branch, Case, When, Loop, While, For, Block, NoMore, More, code_items}
 use Rattle.type_definitions.specs.Gathered.{declared_number}
 use Rattle.seen_files.specs.Uses.{Uses}
 
@@ -55,8 +55,8 @@ unfoldable mutual
   Fits object scope (SubBody front items stmts end) =
       AreObjects object (front_numbers front)
       × (Fits object (front_numbers front ++ scope) items × Fits object (scope_after items (front_numbers front ++ scope)) stmts)
-  Fits object scope (Package d visible hidden) = Fits object scope visible × Fits object (scope_after visible scope) hidden
-  Fits object scope (PackageBody d parts) = Fits object scope parts
+  Fits object scope (Package d visible hidden) = ⊥
+  Fits object scope (PackageBody d parts) = ⊥
   Fits object scope (Assign target e) = Uses (IsKept object scope) target × Uses (IsKept object scope) e
   Fits object scope (Call name) = Uses (IsKept object scope) name
   Fits object scope (Exit p when) = Uses (IsKept object scope) when
@@ -85,10 +85,17 @@ unfoldable mutual
   IsFitting object scope NoMore = Unit {0}
   IsFitting object scope code = ⊥
 
+-- A unit is a package, its body, or a library procedure.
+unfoldable pub UnitFits : (ℕ → Type 0) → List ℕ → Code → Type 0
+UnitFits object scope (Package d visible hidden) = Fits object scope visible × Fits object (scope_after visible scope) hidden
+UnitFits object scope (PackageBody d parts) = Fits object scope parts
+UnitFits object scope (SubBody front items stmts end) = Fits object scope (SubBody front items stmts end)
+UnitFits object scope code = ⊥
+
 -- The units of a program, one after the other.
 abbrev pub AllFit : (ℕ → Type 0) → List ℕ → List Code → Type 0
 AllFit object scope [] = Unit {0}
-AllFit object scope (u ∷ rest) = Fits object scope u × AllFit object (unit_scope u scope) rest
+AllFit object scope (u ∷ rest) = UnitFits object scope u × AllFit object (unit_scope u scope) rest
 
 abbrev pub units_scope : List Code → List ℕ → List ℕ
 units_scope [] scope = scope
