@@ -3,6 +3,7 @@
 use Rattle.std.proofs.Common.{◌≡◌, ℕ, List, None}
 use Rattle.ada_lexer.specs.Tokens.{Cut}
 use Rattle.ada_tree.specs.declared.unit.SourceUnit.{SourceUnit}
+use Rattle.name_events.specs.Outline.{source_events}
 use Rattle.name_events.specs.Identified.{identified}
 use Rattle.name_events.specs.Faults.{name_fault}
 use Rattle.resolved_tree.specs.Trees.{Program}
@@ -13,7 +14,9 @@ use Rattle.settled_types.specs.Orderly.{at_start}
 use Rattle.orderly_files.specs.Apart.{AreApart}
 use Rattle.orderly_files.specs.Ended.{AllEnded}
 use Rattle.orderly_files.proofs.Main.{files_in_order}
+use Rattle.file_positions.specs.Order.{Ascends, event_positions}
 use Rattle.file_positions.specs.Texts.{AreParsed}
+use Rattle.file_positions.proofs.Ascending.{events_ascend}
 use Rattle.file_positions.proofs.Main.{files_apart, files_ended}
 use Rattle.flow_paths.specs.Laid.{FlowProgram, flow_program}
 use Rattle.order_laws.specs.Orderly.{typed_of}
@@ -34,14 +37,14 @@ module _ (files : List (List SourceUnit)) where
   abbrev flow : FlowProgram
   flow = flow_program (known_of p).table (typed_of p)
 
-  pub files_give : AreApart (identified files) → AllEnded at_start p.units → name_fault files ≡ None → type_fault p ≡ None → IsPlainText p → AreOrderly files
+  pub files_give : AreApart (identified files) → AllEnded at_start p.units → Ascends (event_positions (source_events files)) → name_fault files ≡ None → type_fault p ≡ None → IsPlainText p → AreOrderly files
       → CallsNothing flow → (input : List ℕ) (n : ℕ) → GivesAlike (machine_run.run flow input n) (lowered_run flow input n)
-  files_give apart ended named no_fault text left calls input n =
+  files_give apart ended up named no_fault text left calls input n =
       first_class_gives p (files_formed (identified files) files) (files_in_order files apart ended) no_fault
-      (files_fine files apart ended named no_fault text left calls) (first_class p text calls) (files_orderly files apart ended named no_fault text left) input n
+      (files_fine files apart ended named no_fault text left calls) (first_class p text calls) (files_orderly files apart ended up named no_fault text left) input n
 
   -- So it is if the files are parsed from texts.
   pub parsed_give : (texts : List (List Cut)) → AreParsed 0 texts files → name_fault files ≡ None → type_fault p ≡ None → IsPlainText p → AreOrderly files
       → CallsNothing flow → (input : List ℕ) (n : ℕ) → GivesAlike (machine_run.run flow input n) (lowered_run flow input n)
   parsed_give texts parsed named no_fault text left calls input n =
-      files_give (files_apart texts files parsed) (files_ended (identified files) texts files parsed) named no_fault text left calls input n
+      files_give (files_apart texts files parsed) (files_ended (identified files) texts files parsed) (events_ascend texts files parsed) named no_fault text left calls input n
