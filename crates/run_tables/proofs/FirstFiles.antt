@@ -41,7 +41,7 @@ module _ (files : List (List SourceUnit)) where
       → CallsNothing flow → (input : List ℕ) (n : ℕ) → GivesAlike (machine_run.run flow input n) (lowered_run flow input n)
   files_give apart ended up named no_fault text left calls input n =
       first_class_gives p (files_formed (identified files) files) (files_in_order files apart ended) no_fault
-      (files_fine files apart ended named no_fault text left calls) (first_class p text calls) (files_orderly files apart ended up named no_fault text left) input n
+      (files_fine files apart ended up named no_fault text left calls) (first_class p text calls) (files_orderly files apart ended up named no_fault text left) input n
 
   -- So it is if the files are parsed from texts.
   pub parsed_give : (texts : List (List Cut)) → AreParsed 0 texts files → name_fault files ≡ None → type_fault p ≡ None → IsPlainText p → AreOrderly files
