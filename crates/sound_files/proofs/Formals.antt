@@ -17,7 +17,7 @@ use Rattle.type_definitions.specs.Whole.{predefined_entries, at_first, outside, 
 use Rattle.typed_tree.specs.Statements.{scope_count}
 use Rattle.typed_tree.specs.Programs.{kind_of, entry_kind, DeclaredObject, Home, object_of, formals_of, front_formals, package_text, objects_in, program_objects, text_io, over_units, typed_program}
 use Rattle.flow_paths.specs.Objects.{is_formal_kind}
-use Rattle.sound_files.specs.Class.{IsFormlessFront, IsFormless}
+use Rattle.meant_files.specs.Formless.{IsFormlessFront, IsFormless}
 
 -- ---- entries
 

@@ -79,7 +79,7 @@ module _ (files : List (List SourceUnit)) where
           no_reports = none;
           effects_are = are;
           settled = files_settled files apart ended no_fault (typed_of p);
-          fine = files_fine files apart ended named no_fault text left calls;
+          fine = files_fine files apart ended up named no_fault text left calls;
         })
         (subst OwnsByShape (flow_table table (typed_of p)) (files_own files apart ended no_fault (typed_of p))) (first_class p text calls) files_orderly input
 
