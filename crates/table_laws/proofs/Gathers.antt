@@ -20,8 +20,8 @@ use Rattle.type_definitions.specs.Statics.{value, value_as}
 use Rattle.type_definitions.specs.Statements.{known_value}
 use Rattle.type_definitions.specs.Whole.{predefined_types, predefined_entries, at_first, outside, gather_units, known_from, known_of}
 use Rattle.type_definitions.specs.Gathered.{gather, each, declared_number, declared_pos, with_entry, with_info, with_type, own_info, indicated, with_indication, awaited_info, defined, is_asked, are_static_bounds, bound_pair, with_literals, with_definition, full_info, natural_of, constrained_shape, subtype_info, meant_by, with_object, object_info, constant_value, with_number, number_info, initial_value, plain_object, with_formal, with_formal_group, with_formals, with_result, with_front, with_body_front, profile, is_subprogram, front_number, parameter_type, in_subprogram, in_visible, in_hidden, instance_type}
-use Rattle.run_tables.specs.Bounds.{HasBounds}
-use Rattle.run_tables.proofs.Statics.{IsWhole, IsWholeEntry, value_whole, known_whole, as_whole}
+use Rattle.table_laws.specs.Bounds.{HasBounds}
+use Rattle.table_laws.proofs.Statics.{IsWhole, IsWholeEntry, value_whole, known_whole, as_whole}
 
 -- ---- lists
 

@@ -1,22 +1,21 @@
 -- What runs ask of tables of types in which no type has itself in it.
-use Rattle.std.proofs.Common.{◌≡◌, ℕ, true, false, Bool, ◌||◌, [], ◌∷◌, refl, sym, ap, ◌∙◌, arith, slice_get, nat_eq}
+use Rattle.std.proofs.Common.{◌≡◌, ◌≤◌, ℕ, true, false, Bool, ◌||◌, [], ◌∷◌, refl, sym, ap, ◌∙◌, arith, slice_get, nat_eq}
 use Rattle.std.specs.Prelude.{flat_map}
 use Rattle.type_definitions.specs.declared.table.Shape.{Shape}
 use Rattle.type_definitions.specs.declared.table.Shape.TheVariants as shape
-use Rattle.type_definitions.specs.Types.{Table, shape_found, shape_of, meant_type, parts, parts_of, is_owning, owns_of}
+use Rattle.type_definitions.specs.Types.{Table, shape_found, shape_of, meant_type, words, parts, parts_of, is_owning, owns_of}
 use Rattle.settled_types.specs.Wholes.{AreFinite, AreWhole}
 use Rattle.settled_types.proofs.Wholes.{finite_whole}
-use Rattle.type_sizes.specs.Limits.{AreWithin}
 use Rattle.part_offsets.specs.Parts.{IsSettled}
 use Rattle.machine.specs.Words.{offsets, access_offsets}
 use Rattle.machine.specs.Typed.{Position, sorts, sorts_of, same_kind}
 use Rattle.run_codes.specs.Related.{IsTable}
 use Rattle.run_fills.specs.Filled.{HasParts}
-use Rattle.run_tables.specs.Bounds.{HasBounds}
-use Rattle.run_tables.proofs.Sorts.{sort_law}
-use Rattle.run_tables.proofs.Offsets.{access_at}
+use Rattle.table_laws.specs.Bounds.{HasBounds}
+use Rattle.table_laws.proofs.Sorts.{sort_law}
+use Rattle.table_laws.proofs.Offsets.{access_at}
 
-module _ (table : Table) (finite : AreFinite table) (within : AreWithin table) where
+module _ (table : Table) (finite : AreFinite table) (small : (t : ℕ) → words table t ≤ 65536) where
   wholes : AreWhole table
   wholes = finite_whole table finite
 
@@ -54,7 +53,7 @@ module _ (table : Table) (finite : AreFinite table) (within : AreWithin table) w
     fields = λ t components is. by_shape t (shape.Fields components) is;
     elements = λ t element low high is. by_shape t (shape.Elements low high element) is;
     same = λ t u is. designated t u (nat_eq (meant_type table t) (meant_type table u)) refl is;
-    small = λ t. (within t).few_words;
+    small = small;
     accesses = λ t o has. access_at table law settled t o has;
   }
 
