@@ -1,5 +1,5 @@
 -- What a command gives to the store, and what it answers.
-use Rattle.std.proofs.Common.{◌≡◌, ◌⊎◌, inl, inr, ℕ, ap, subst, sym, List, All, Option, None, Some, Result, Ok, Err, IfSome, IfOk, IsSomeAnd}
+use Rattle.std.proofs.Common.{◌≡◌, ◌⊎◌, inl, inr, ℕ, subst, sym, List, All, Option, None, Some, Result, Ok, Err, IfSome, IfOk, IsSomeAnd}
 use Rattle.spark_base.specs.declared.limits.TheConstants.{SOURCE_BYTES}
 use Rattle.spark_base.specs.Lists.{Has}
 use Rattle.spark_base.proofs.Lists.{All-has_itself}

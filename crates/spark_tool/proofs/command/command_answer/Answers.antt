@@ -1,6 +1,6 @@
-use Rattle.std.proofs.Common.{◌≡◌, ◌∙◌, sym, ap, List, ℕ, map, string_bytes}
+use Rattle.std.proofs.Common.{◌∙◌, sym, ap, map, string_bytes}
 use Rattle.spark_base.specs.Words.{operands}
-use Rattle.command_words.specs.Words.{Command, Check, command_in}
+use Rattle.command_words.specs.Words.{Check, command_in}
 use Rattle.spark_tool.specs.Answers.{answer_of}
 use Rattle.spark_tool.specs.Commands.{there}
 use Rattle.spark_tool.proofs.CommandWords.{may_be_opened, unread_answers, checked_answers, usage_answers, made_answers}
