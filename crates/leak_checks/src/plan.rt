@@ -117,26 +117,28 @@ pub fn plan_leaks<L: Ledger>(
     Ok(plan_of(alloc, laid, steps)?)
 }
 
-/// The same, over a new ledger.
+/// The plan of a program, over a new ledger.
 fn plan_counted<L: Ledger>(
     alloc: Global,
-    program: &AcceptedProgram,
+    laid: &Laid,
     blank: Blank,
 ) -> Result<Vec<LeakLine>, AllocError>
     requires name { blank.name ≡ L.name }
     requires parts { blank.parts ≡ L.parts }
     requires some { 0 < L.parts }
     ensures { IfOk result
-        (λ plan. LeakPlan (program_of program.now.laid) program.now.effects plan.items) }
+        (λ plan. (effects : Effects) → LeakPlan (program_of laid.now) effects plan.items) }
 {
     let mut steps: Steps<L> = Steps::new(blank);
-    Ok(plan_leaks(alloc, program, &mut steps)?)
+    Ok(plan_of(alloc, laid, &mut steps)?)
 }
 
-/// The same, which counts on a ledger of its own.
+/// The same plan, counted on a ledger of its own. It is the plan whatever subprograms read and
+/// write.
 pub fn leak_plan(alloc: Global, program: &AcceptedProgram) -> Result<Vec<LeakLine>, AllocError>
     ensures { IfOk result
-        (λ plan. LeakPlan (program_of program.now.laid) program.now.effects plan.items) }
+        (λ plan. (effects : Effects) → LeakPlan (program_of program.now.laid) effects plan.items) }
 {
-    plan_counted::<Brand>(alloc, program, Blank::new(1))
+    let laid = program.laid();
+    Ok(plan_counted::<Brand>(alloc, laid, Blank::new(1))?)
 }
