@@ -11,16 +11,13 @@ use Rattle.type_definitions.specs.declared.table.Known.{Known}
 use Rattle.typed_tree.specs.Programs.{site_of}
 use Rattle.resolved_tree.specs.Trees.{Code}
 use Rattle.typing_steps.specs.Programs.{program_of}
-use Rattle.flow_paths.specs.Objects.{is_package_object}
 use Rattle.flow_paths.specs.Points.{FlowPoint}
 use Rattle.flow_paths.specs.Laid.{FlowSub}
-use Rattle.scope_laws.specs.Code.{body_seen, roots, is_seen, is_each_seen}
 use Rattle.soundness.specs.Sound.{calls_nothing}
 use Rattle.typed_laws.specs.Fine.{IsMeant}
 use Rattle.typed_points.specs.Meant.{IsMeantCode, AreMeantBodies, AreMeantObjects, typing_meant}
 use Rattle.gathered_laws.specs.Made.{IsMade}
 use Rattle.gathered_laws.specs.Named.{IsNamed}
-use Rattle.order_laws.specs.Orderly.{typing_in, bodies_of}
 use Rattle.program_check.specs.Sources.{flow_of}
 use Rattle.sound_files.specs.Class.{IsFormless}
 use Rattle.accepted_runs.proofs.Main.{AreLeft}
@@ -76,19 +73,18 @@ Meant u =
 
 -- The text is of the class, and meets what is left.
 pub left : AreLeft files
-unfolding computes naming typing IsNamed IsFormless AreMeantBodies IsMeantCode IsMeant roots is_seen is_each_seen
+unfolding computes naming typing IsNamed IsFormless AreMeantBodies IsMeantCode IsMeant
 left = record {
   text = record {
     named = λ u has. one IsNamed _ u ((tt, tt), tt, (tt, tt)) has;
     formless = λ u has. one IsFormless _ u (refl, tt, (tt, tt)) has;
+    main = 1;
+    is_main = refl;
   };
   calls = λ sub has p there.
       each (λ (p : FlowPoint). calls_nothing p.instr) sub.points
       (each (λ (s : FlowSub). all_pass (λ (p : FlowPoint). calls_nothing p.instr) s.points) (flow_of files).subs refl sub has) p there;
   orderly = record {
-    seen = each (body_seen (is_package_object (typing_in (program_of files)))) (bodies_of (program_of files)) refl;
-    main = 1;
-    is_main = refl;
     meant = λ u has. one Meant _ u ((tt, (tt, tt)), tt) has;
   };
 }

@@ -4,7 +4,7 @@ use Rattle.std.specs.Prelude.{flat_map}
 use Rattle.std.specs.List.{AllByRecursion}
 use Rattle.spark_base.specs.Lists.{Has}
 use Rattle.spark_base.proofs.Lists.{Has-append_left, Has-append_right}
-use Rattle.resolved_tree.specs.Trees.{NoMore, More, Code, Anonymous, Enumeration, Incomplete, Private, TypeDecl, Subtype, ConstrainedSubtype, Objects, Numbers, Instance, Formals, Front, SubDecl, SubBody, Package, PackageBody, If, Branch, Case, When, Loop, While, For, Block, Program}
+use Rattle.resolved_tree.specs.Trees.{More, Code, Anonymous, Enumeration, Incomplete, Private, TypeDecl, Subtype, ConstrainedSubtype, Objects, Numbers, Instance, Formals, Front, SubDecl, SubBody, Package, PackageBody, If, Branch, Case, When, Loop, While, For, Block, Program}
 use Rattle.type_definitions.specs.declared.table.InitialValue.{InitialValue}
 use Rattle.type_definitions.specs.declared.table.Known.{Known}
 use Rattle.type_definitions.specs.declared.table.Kind.TheVariants as kind
@@ -14,7 +14,8 @@ use Rattle.type_definitions.specs.Entries.{entry_of}
 use Rattle.type_definitions.specs.Names.{Context}
 use Rattle.type_definitions.specs.Gathered.{gather, each, with_entry, with_type, with_indication, full_info, with_literals, with_definition, with_object, object_info, constant_value, indicated, with_number, number_info, initial_value, with_formal, with_formal_group, with_formals, with_result, with_front, with_body_front, profile, is_subprogram, front_number, plain_object, parameter_type, in_subprogram, in_visible, in_hidden, instance_type, declared_number}
 use Rattle.type_definitions.specs.Whole.{predefined_entries, at_first, outside, gather_units, known_from, known_of}
-use Rattle.called_subs.specs.Called.{is_subprogram_entry, sub_numbers}
+use Rattle.meant_files.proofs.Puts.{sub_numbers}
+use Rattle.called_subs.specs.Called.{is_subprogram_entry}
 
 entry_put : (P : ℕ → Type 0) (xs : List Entry) (d : ℕ) (x : Entry) → (is_subprogram_entry x ≡ true → P d)
     → ((t : ℕ) → is_subprogram_entry (get_or xs t entry.Nothing) ≡ true → P t) → (t : ℕ) → is_subprogram_entry (get_or (set xs d x) t entry.Nothing) ≡ true → P t
@@ -103,7 +104,7 @@ module _ (asked : ℕ → Type 0) where
       by false = front_keeps front c is keeps
 
   code_keeps : (code : Code) (c : Context) → Are asked (sub_numbers code) → Keeps asked c → Keeps asked (gather code c)
-  unfolding gather sub_numbers
+  unfolding gather
   code_keeps (Incomplete d) c are keeps = put (declared_number d) entry.Type c other keeps
   code_keeps (Private d) c are keeps = put (declared_number d) entry.Type c other keeps
   code_keeps (TypeDecl d def end) c are keeps =

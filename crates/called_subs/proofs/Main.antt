@@ -1,11 +1,10 @@
 -- Calls at points go to subprograms with a body, where each subprogram that is declared has one.
-use Rattle.std.proofs.Common.{◌≡◌, inl, inr, ℕ, zero, suc, ◌+◌, ◌<◌, Bool, true, false, List, [], ◌∷◌, ◌++◌, map, length, get_or, nat_eq, not, cond, refl, sym, ap, subst, ◌∙◌, arith, Option, Some, None, length-append, if◌then◌else◌}
+use Rattle.std.proofs.Common.{◌≡◌, inl, inr, ℕ, zero, suc, ◌+◌, ◌<◌, Bool, true, false, List, [], ◌∷◌, map, length, get_or, nat_eq, not, cond, refl, sym, ap, subst, ◌∙◌, arith, Option, length-append, if◌then◌else◌}
 use Rattle.std.specs.Prelude.{flat_map, is_some}
 use Rattle.std.specs.List.{AllByRecursion, position_or_len}
 use Rattle.std.proofs.lemmas.List.{length-map}
 use Rattle.spark_base.specs.Lists.{Has}
 use Rattle.resolved_tree.specs.Trees.{Code, More, SubBody, PackageBody, Program}
-use Rattle.type_definitions.specs.declared.table.Known.{Known}
 use Rattle.type_definitions.specs.Entries.{entry_of}
 use Rattle.type_definitions.specs.Gathered.{declared_number, in_hidden}
 use Rattle.type_definitions.specs.Types.{Table}
@@ -20,11 +19,11 @@ use Rattle.flow_paths.specs.Acts.{Frame}
 use Rattle.flow_paths.specs.Points.{PointName, NamedPoint, entry, flow_point}
 use Rattle.flow_paths.specs.Prep.{Setting}
 use Rattle.flow_paths.specs.Layout.{laid}
-use Rattle.flow_paths.specs.Laid.{NamedSub, around_body, procedure_end, function_end, body_points, sub_points, elaboration_points, sub_temporaries, named_subs, all_named, flow_sub, FlowProgram, typing_of, flow_program}
+use Rattle.flow_paths.specs.Laid.{NamedSub, around_body, procedure_end, function_end, body_points, sub_points, sub_temporaries, named_subs, all_named, flow_sub, FlowProgram, typing_of, flow_program}
 use Rattle.machine.specs.States.{no_sub, sub_of}
 use Rattle.machine.specs.Run.{no_point}
 use Rattle.scope_laws.proofs.Lists.{all_both, all_if, all_one}
-use Rattle.called_subs.specs.Called.{PointCalls, CodeCalls, is_subprogram_entry, sub_numbers, HaveBodies}
+use Rattle.called_subs.specs.Called.{PointCalls, CodeCalls, is_subprogram_entry, HaveBodies}
 use Rattle.called_subs.proofs.Points.{IsAsked, Asked, laid_asked, ends_asked}
 use Rattle.called_subs.proofs.Statements.{IsFineSub, all_subs_fine}
 use Rattle.called_subs.proofs.Entries.{known_declared}

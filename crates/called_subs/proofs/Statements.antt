@@ -2,7 +2,7 @@
 use Rattle.std.proofs.Common.{◌≡◌, ℕ, ◌+◌, true, List, [], ◌∷◌, ◌++◌, map, refl}
 use Rattle.std.specs.List.{AllByRecursion}
 use Rattle.spark_base.specs.declared.position.Pos.{Pos}
-use Rattle.resolved_tree.specs.Trees.{Tree, Named, position, Code, Bounds, Marked, Constrained, RangeOf, Objects, Numbers, SubBody, Package, PackageBody, Skip, Assign, Call, Exit, Return, If, Branch, Case, When, Loop, While, For, Block, More, code_items}
+use Rattle.resolved_tree.specs.Trees.{Tree, Named, Code, Bounds, Marked, Constrained, RangeOf, Objects, Numbers, SubBody, Package, PackageBody, Skip, Assign, Call, Exit, Return, If, Branch, Case, When, Loop, While, For, Block, More, code_items}
 use Rattle.type_definitions.specs.declared.table.Predefined.{Predefined}
 use Rattle.type_definitions.specs.declared.table.Predefined.TheVariants as predefined
 use Rattle.type_definitions.specs.declared.table.Entry.{Entry}
@@ -112,9 +112,13 @@ module _ (asked : ℕ → Type 0) where
 
     pub statements_fine : (n : ℕ) (c : Code) → AllFine (statements s n c)
     unfolding statements CodeCalls
-    statements_fine n (If p branches otherwise) =
-        ((list_fine (statements s n branches) (statements_fine n branches),
-        list_fine (statements s (n + scope_count branches) otherwise) (statements_fine (n + scope_count branches) otherwise)), tt)
+    statements_fine n (If p branches otherwise) = (
+      (
+        list_fine (statements s n branches) (statements_fine n branches),
+        list_fine (statements s (n + scope_count branches) otherwise) (statements_fine (n + scope_count branches) otherwise),
+      ),
+      tt,
+    )
     statements_fine n (Branch p e stmts) = ((expression boolean e, list_fine (statements s n stmts) (statements_fine n stmts)), tt)
     statements_fine n (Case p e whens) = ((expression integer e, list_fine (statements s n whens) (statements_fine n whens)), tt)
     statements_fine n (When choices stmts) = (list_fine (statements s n stmts) (statements_fine n stmts), tt)
@@ -122,9 +126,11 @@ module _ (asked : ℕ → Type 0) where
     statements_fine n (While p e stmts) = ((expression boolean e, list_fine (statements s n stmts) (statements_fine n stmts)), tt)
     statements_fine n (For p d reversed range stmts) =
         (((range_fine range).0, ((range_fine range).1, list_fine (statements s (n + 1) stmts) (statements_fine (n + 1) stmts))), tt)
-    statements_fine n (Block p items stmts end) =
-        (list_fine (statements s (n + 1) items ++ statements s (n + 1 + scope_count items) stmts)
-        (both (statements s (n + 1) items) (statements s (n + 1 + scope_count items) stmts) (statements_fine (n + 1) items) (statements_fine (n + 1 + scope_count items) stmts)), tt)
+    statements_fine n (Block p items stmts end) = (
+      list_fine (statements s (n + 1) items ++ statements s (n + 1 + scope_count items) stmts)
+          (both (statements s (n + 1) items) (statements s (n + 1 + scope_count items) stmts) (statements_fine (n + 1) items) (statements_fine (n + 1 + scope_count items) stmts)),
+      tt,
+    )
     statements_fine n (More a rest) =
         both (statements s n a) (statements s (n + scope_count a) rest) (statements_fine n a) (statements_fine (n + scope_count a) rest)
     statements_fine n c = plain_fine c
@@ -162,6 +168,7 @@ module _ (asked : ℕ → Type 0) where
   over P f each n (u ∷ us) = all_both P (f n u) (over_units f (n + scope_count u) us) (each n u) (over P f each (n + scope_count u) us)
 
   pub all_subs_fine : (s : Site) → IsKnown asked s → (us : List Code) → AllByRecursion IsFineSub (programs.elaboration s us ∷ over_units (subs_in s) 1 us)
-  all_subs_fine s known us =
-      (list_fine (over_units (programs.elaborated s) 1 us) (over Fine (programs.elaborated s) (λ n u. elaborated_fine s known n u) 1 us),
-      over IsFineSub (subs_in s) (λ n u. subs_fine s known n u) 1 us)
+  all_subs_fine s known us = (
+    list_fine (over_units (programs.elaborated s) 1 us) (over Fine (programs.elaborated s) (λ n u. elaborated_fine s known n u) 1 us),
+    over IsFineSub (subs_in s) (λ n u. subs_fine s known n u) 1 us,
+  )

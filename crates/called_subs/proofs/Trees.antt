@@ -1,5 +1,5 @@
 -- Calls in a typed expression go to what is known as a subprogram.
-use Rattle.std.proofs.Common.{◌≡◌, ℕ, ◌+◌, Bool, true, false, List, [], ◌∷◌, map, refl, nat_eq, Option, Some, None, ℤ, negsuc, if◌then◌else◌}
+use Rattle.std.proofs.Common.{◌≡◌, ℕ, ◌+◌, Bool, true, false, List, [], ◌∷◌, map, nat_eq, ℤ, negsuc, if◌then◌else◌}
 use Rattle.spark_base.specs.declared.position.Pos.{Pos}
 use Rattle.resolved_tree.specs.declared.operator.Operator.{Operator}
 use Rattle.resolved_tree.specs.declared.operator.Operator.TheVariants as operator

@@ -1,0 +1,2 @@
+//! Files that are meant: definitions and laws, for readers.
+#![tactic(auto)]
