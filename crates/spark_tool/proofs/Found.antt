@@ -1,22 +1,19 @@
 -- What commands answer to what is found of sources.
-use Rattle.std.proofs.Common.{◌≡◌, ◌⊎◌, inl, inr, ℕ, List, Ok, None, refl, sym, ap, ◌∙◌, subst, arith}
+use Rattle.std.proofs.Common.{◌≡◌, inr, ℕ, List, Ok, None, sym, ap, ◌∙◌, subst, arith}
 use Rattle.ada_tree.specs.declared.unit.SourceUnit.{SourceUnit}
 use Rattle.name_events.specs.Faults.{name_fault}
 use Rattle.flow_paths.specs.Laid.{FlowProgram}
-use Rattle.laid_program.specs.Programs.{program_of}
 use Rattle.path_check.specs.declared.verdict.Verdict.{Verdict}
 use Rattle.path_check.specs.declared.verdict.Verdict.TheVariants.{Accepted, Rejected}
 use Rattle.leak_checks.specs.Plan.{LeakPlan}
 use Rattle.program_check.specs.Answers.{Answers}
-use Rattle.program_check.specs.Sources.{flow_of, printed_in}
+use Rattle.program_check.specs.Sources.{printed_in}
 use Rattle.rule_reports.specs.Lines.{leak_plan_lines}
-use Rattle.spark_tool.specs.declared.check.Found.{Found}
 use Rattle.spark_tool.specs.declared.check.Found.TheVariants as found
-use Rattle.spark_tool.specs.Answers.{answer_of}
 use Rattle.spark_tool.specs.Parsing.{AreRead}
 use Rattle.spark_tool.specs.Product.{Answer, Checks, Lists, unaccepted, planned, listed}
 use Rattle.spark_tool.specs.Reading.{Sources, Texts}
-use Rattle.spark_tool.specs.Refusals.{Tells, TellsPlan, IsChecked, IsRefusal, IsJudged, Finds}
+use Rattle.spark_tool.specs.Refusals.{Tells, TellsPlan, IsChecked, IsRefusal, Finds}
 use Rattle.spark_tool.proofs.Judged.{verdict_answers}
 
 -- ---- a refusal
