@@ -85,7 +85,7 @@ fn in_order(
     Ok(without_texts(alloc, &texts)?)
 }
 
-/// The plan of a program, whatever its subprograms read and write.
+/// The plan of a program that is laid out.
 fn plan_of<L: Ledger>(
     alloc: Global,
     laid: &Laid,
@@ -101,44 +101,42 @@ fn plan_of<L: Ledger>(
     Ok(in_order(alloc, table, objects, &lines)?)
 }
 
-/// Tells all leak checks of a program, each excused or not, sorted by position and printed name.
-/// Each state that is carried along a successor counts one step, whatever comes of it. The only
-/// error is out of memory.
+/// Tells all leak checks of a program, each excused or not, sorted by position and printed name. The
+/// plan is the same whatever subprograms read and write. Each state that is carried along a
+/// successor counts one step, whatever comes of it. The only error is out of memory.
 pub fn plan_leaks<L: Ledger>(
     alloc: Global,
     program: &AcceptedProgram,
     steps: &mut Steps<L>,
 ) -> Result<Vec<LeakLine>, AllocError>
     ensures plan { IfOk result
-        (λ plan. LeakPlan (program_of program.now.laid) program.now.effects plan.items) }
+        (λ plan. (effects : Effects) → LeakPlan (program_of program.now.laid) effects plan.items) }
     ensures cost { steps.new ≤ steps.old + all_steps program.now.laid.subs }
 {
     let laid = program.laid();
     Ok(plan_of(alloc, laid, steps)?)
 }
 
-/// The plan of a program, over a new ledger.
+/// The same, over a new ledger.
 fn plan_counted<L: Ledger>(
     alloc: Global,
-    laid: &Laid,
+    program: &AcceptedProgram,
     blank: Blank,
 ) -> Result<Vec<LeakLine>, AllocError>
     requires name { blank.name ≡ L.name }
     requires parts { blank.parts ≡ L.parts }
     requires some { 0 < L.parts }
     ensures { IfOk result
-        (λ plan. (effects : Effects) → LeakPlan (program_of laid.now) effects plan.items) }
+        (λ plan. (effects : Effects) → LeakPlan (program_of program.now.laid) effects plan.items) }
 {
     let mut steps: Steps<L> = Steps::new(blank);
-    Ok(plan_of(alloc, laid, &mut steps)?)
+    Ok(plan_leaks(alloc, program, &mut steps)?)
 }
 
-/// The same plan, counted on a ledger of its own. It is the plan whatever subprograms read and
-/// write.
+/// Tells all leak checks of a program, as `plan_leaks` does, and forgets how many steps it took.
 pub fn leak_plan(alloc: Global, program: &AcceptedProgram) -> Result<Vec<LeakLine>, AllocError>
     ensures { IfOk result
         (λ plan. (effects : Effects) → LeakPlan (program_of program.now.laid) effects plan.items) }
 {
-    let laid = program.laid();
-    Ok(plan_counted::<Brand>(alloc, laid, Blank::new(1))?)
+    plan_counted::<Brand>(alloc, program, Blank::new(1))
 }
