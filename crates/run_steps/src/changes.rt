@@ -4,7 +4,7 @@ ghost use Rattle.going_points.specs.Groups.{group_of};
 ghost use Rattle.run_steps.specs.Stages.{IsAt, turn_at, outcome_at};
 ghost use Rattle.run_steps.specs.Steps.{Leads};
 
-use crate::goes::go_on;
+use crate::goes::{go_on, go_told};
 use crate::halt::Halt;
 use crate::parts::Parts;
 use code_rows::{Codes, Point};
