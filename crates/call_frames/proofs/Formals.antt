@@ -1,5 +1,5 @@
 -- What formals are passed, one after the other.
-use Rattle.std.proofs.Common.{◌≡◌, ◌≢◌, ℕ, zero, suc, ◌+◌, ◌≤◌, ◌<◌, ◌⊎◌, inl, inr, Bool, true, false, List, [], ◌∷◌, ◌++◌, map, length, take, drop, get_or, min, nat_le, refl, sym, ap, subst, ◌∙◌, append_assoc, append-nil, arith, ℤ, Result, Ok, Err, if◌then◌else◌}
+use Rattle.std.proofs.Common.{◌≡◌, ◌≢◌, ℕ, zero, suc, ◌+◌, ◌≤◌, ◌<◌, ◌⊎◌, inl, inr, Bool, true, false, List, [], ◌∷◌, ◌++◌, map, length, drop, get_or, min, nat_le, refl, sym, ap, subst, ◌∙◌, append_assoc, append-nil, arith, ℤ, Result, Ok, Err, if◌then◌else◌}
 use Rattle.std.specs.Prelude.{OnErr}
 use Rattle.std.proofs.lemmas.List.{drop_all, map-append}
 use Rattle.type_definitions.specs.Types.{Table}
@@ -18,13 +18,13 @@ use Rattle.run_memory.specs.Answers.{Appends, Stores}
 use Rattle.run_frames.specs.declared.rows.Return.{Return}
 use Rattle.run_frames.specs.Frames.{return_of}
 use Rattle.run_frames.specs.Stacks.{Stacked}
-use Rattle.fill_values.proofs.Makes.{first_whole, next_whole}
+use Rattle.fill_values.proofs.Makes.{first_whole}
 use Rattle.call_steps.specs.declared.actuals.Pass.{Pass}
 use Rattle.call_steps.specs.declared.actuals.Pass.TheVariants as pass
 use Rattle.call_steps.specs.Calls.{passed_of, IsWithin, AreWithin}
 use Rattle.call_steps.proofs.Back.{moved_cells}
 use Rattle.call_frames.specs.Calls.{rows_of, returned}
-use Rattle.call_steps.proofs.Passing.{drop_one, all_at}
+use Rattle.call_steps.proofs.Passing.{drop_one}
 
 -- ---- words that are appended
 

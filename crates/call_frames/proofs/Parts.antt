@@ -1,5 +1,5 @@
 -- What a call comes to, by what its parts give.
-use Rattle.std.proofs.Common.{◌≡◌, ◌≢◌, ℕ, ◌+◌, Bool, true, false, List, [], ◌∷◌, ◌++◌, map, flat_map, length, nat_le, refl, sym, ap, subst, ◌∙◌, ℤ, Result, Ok, Err, if◌then◌else◌}
+use Rattle.std.proofs.Common.{◌≡◌, ◌≢◌, ℕ, ◌+◌, Bool, true, false, List, ◌++◌, map, length, nat_le, refl, sym, ap, subst, ◌∙◌, ℤ, Result, Ok, Err, if◌then◌else◌}
 use Rattle.std.specs.Prelude.{IfOk, OnOk}
 use Rattle.type_definitions.specs.Types.{Table}
 use Rattle.machine.specs.Evaluate.{StorageError}
@@ -7,23 +7,22 @@ use Rattle.machine.specs.States.{Leak, stack_words}
 use Rattle.run_codes.specs.Codes.{Actual, Sub}
 use Rattle.run_codes.specs.Flat as flat
 use Rattle.run_codes.specs.Flat.{Flat, Got, Given, and_then, is_broken, Raises, Made, Done, Halted, made_then, reads}
-use Rattle.run_codes.specs.Points.{Passed, all_passed, out_leaks, returns_of}
+use Rattle.run_codes.specs.Points.{Passed, all_passed, out_leaks, returns_of, with_formals, template}
 use Rattle.run_codes.specs.Points as points
 use Rattle.code_rows.specs.declared.stop.Stop.{Stop}
 use Rattle.code_rows.specs.declared.stop.Stop.TheVariants as stop
 use Rattle.code_rows.specs.Stops.{stop_of}
-use Rattle.run_memory.specs.Memory.{Kept, flat as memory_of, elsewhere}
+use Rattle.run_memory.specs.Memory.{Kept, flat as memory_of}
 use Rattle.run_memory.specs.Answers.{Stores}
 use Rattle.run_frames.specs.declared.rows.Return.{Return}
-use Rattle.run_frames.specs.Frames.{return_of}
 use Rattle.run_frames.specs.Stacks.{Stacked}
 use Rattle.fill_values.specs.Values.{is_failed, Finds}
-use Rattle.fill_values.proofs.Makes.{reads_first, reads_next}
+use Rattle.fill_values.proofs.Makes.{reads_first}
 use Rattle.call_steps.specs.declared.actuals.Pass.{Pass}
 use Rattle.call_steps.specs.Calls.{passed_of}
 use Rattle.call_steps.proofs.Reading.{failed_first}
 use Rattle.call_frames.specs.Calls.{Begun, filled_frame, framed, begun, called, returned, Stops}
-use Rattle.call_frames.specs.Entries.{IsBegun, Begins}
+use Rattle.call_frames.specs.Entries.{Begins}
 use Rattle.call_frames.proofs.Formals.{rows_are}
 
 -- ---- the frame
@@ -109,6 +108,18 @@ framed_from u table sub zs us ps qs m n s t r before after words actuals finds a
     framed_begins u table sub zs ps m n s t r before after
     (subst (λ xs. Finds (out_leaks table (memory_of m) (map (passed_of zs) xs)) (Ok u) before after) actuals finds) at
     (subst (λ (xs : List ℤ). Stores (filled_frame table sub (map (passed_of xs) ps) (memory_of m)) r (memory_of n)) words stored) returns cells
+
+-- The frame is filled so where its parts are named otherwise.
+pub filled_is : (table : Table) (sub : Sub) (zs us : List ℤ) (ps qs : List Pass) (fs : List ℕ) (base : ℕ) (m k : Kept)
+    → base ≡ length m.stack → fs ≡ sub.formals → us ≡ zs → qs ≡ ps → k ≡ record m { stack = m.stack ++ template table sub }
+    → filled_frame table sub (map (passed_of zs) ps) (memory_of m) ≡ with_formals table base fs (map (passed_of us) qs) (memory_of k)
+filled_is table sub zs us ps qs fs base m k at formals words actuals memory =
+    let grown : Kept = record m { stack = m.stack ++ template table sub } in
+    ap (λ b. with_formals table b sub.formals (map (passed_of zs) ps) (memory_of grown)) (sym at)
+    ∙ ap (λ l. with_formals table base l (map (passed_of zs) ps) (memory_of grown)) (sym formals)
+    ∙ ap (λ (xs : List ℤ). with_formals table base fs (map (passed_of xs) ps) (memory_of grown)) (sym words)
+    ∙ ap (λ l. with_formals table base fs (map (passed_of us) l) (memory_of grown)) (sym actuals)
+    ∙ ap (λ x. with_formals table base fs (map (passed_of us) qs) (memory_of x)) (sym memory)
 
 -- There is room for the frame, or there isn't.
 pub begun_room : (table : Table) (sub : Sub) (words : ℕ) (passed : List Passed) (m : Flat) → nat_le (sub.words + words) stack_words ≡ true

@@ -1,6 +1,6 @@
 -- What a call does to the state of a run.
-use Rattle.std.proofs.Common.{◌≡◌, ◌≢◌, ℕ, ◌+◌, ◌-◌, Bool, false, List, [], ◌∷◌, ◌++◌, map, length, take, drop, nat_le, refl, sym, ap, subst, ◌∙◌, arith, Some, Option, if◌then◌else◌}
-use Rattle.std.specs.Prelude.{sum, reverse}
+use Rattle.std.proofs.Common.{◌≡◌, ℕ, ◌+◌, ◌-◌, false, List, [], ◌∷◌, ◌++◌, map, length, take, drop, nat_le, refl, sym, ap, subst, ◌∙◌, arith, Some, Option, if◌then◌else◌}
+use Rattle.std.specs.Prelude.{reverse}
 use Rattle.std.proofs.lemmas.List.Sums.{sum_by-cons}
 use Rattle.type_definitions.specs.Types.{Table}
 use Rattle.machine.specs.Evaluate.{StorageError}
@@ -12,7 +12,7 @@ use Rattle.run_codes.specs.Points.{Held, State, Outcome, Goes, Turn, Passed, sta
 use Rattle.run_codes.specs.Points as points
 use Rattle.code_rows.specs.declared.stop.Stop.{Stop}
 use Rattle.code_rows.specs.Stops.{stop_of}
-use Rattle.run_memory.specs.Memory.{Kept, flat, elsewhere, Elsewhere}
+use Rattle.run_memory.specs.Memory.{Kept, flat, Elsewhere}
 use Rattle.run_frames.specs.declared.rows.Frame.{Frame}
 use Rattle.run_frames.specs.declared.rows.Return.{Return}
 use Rattle.run_frames.specs.Stacks.{Stacked}

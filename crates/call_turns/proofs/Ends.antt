@@ -1,21 +1,21 @@
 -- What the end of a call does to the state of a run.
-use Rattle.std.proofs.Common.{◌≡◌, ◌≢◌, ◌<◌, ◌≤◌, ℕ, zero, suc, Bool, true, false, List, [], ◌∷◌, ◌++◌, length, refl, sym, ap, subst, ◌∙◌, arith, Option, IsTrue}
+use Rattle.std.proofs.Common.{◌≡◌, ◌<◌, ℕ, true, false, List, [], ◌∷◌, ◌++◌, length, refl, sym, ap, subst, ◌∙◌, arith, IsTrue}
 use Rattle.type_definitions.specs.Types.{Table}
 use Rattle.machine.specs.States.{Leak, Normal}
 use Rattle.run_codes.specs.Codes.{Point}
-use Rattle.run_codes.specs.Flat.{Flat, Made, Done, Halted}
+use Rattle.run_codes.specs.Flat.{Flat, Made, Halted}
 use Rattle.run_codes.specs.Programs.{Program}
 use Rattle.run_codes.specs.Points.{State, Outcome, Goes, Ends, Turn, start, counted, halted, on_made, copied_back, finish}
 use Rattle.code_rows.specs.declared.stop.Stop.{Stop}
 use Rattle.code_rows.specs.Stops.{stop_of}
-use Rattle.run_memory.specs.Memory.{Kept, flat, elsewhere, Elsewhere}
+use Rattle.run_memory.specs.Memory.{Kept, flat, Elsewhere}
 use Rattle.run_frames.specs.declared.rows.Frame.{Frame}
 use Rattle.run_frames.specs.Stacks.{Stacked}
 use Rattle.run_frames.specs.Frames.{word_at, AreLatest}
 use Rattle.run_frames.specs.Parts.{own_returns, outside}
 use Rattle.fill_values.specs.Values.{is_failed}
 use Rattle.whole_runs.specs.Turns.{is_failing, bare, IsSeen}
-use Rattle.run_stages.specs.Stages.{Stage, state_of, IsStage, running, turn_of, without_frame}
+use Rattle.run_stages.specs.Stages.{state_of, IsStage, turn_of, without_frame}
 use Rattle.run_stages.proofs.Sights.{start_is}
 use Rattle.run_stages.proofs.Frames.{leaves}
 use Rattle.run_stages.proofs.Calls.{cut_kept, cut, left_of, finishes_on}

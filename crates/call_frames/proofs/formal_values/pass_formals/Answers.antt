@@ -1,4 +1,4 @@
-use Rattle.std.proofs.Common.{◌≡◌, ◌+◌, ◌≤◌, ◌<◌, ◌++◌, List, length, min, sym, subst, ◌∙◌, arith, ℤ}
+use Rattle.std.proofs.Common.{◌+◌, ◌≤◌, ◌<◌, ◌++◌, List, length, min, sym, subst, ◌∙◌, arith, ℤ}
 use Rattle.run_memory.specs.Memory.{flat}
 use Rattle.call_steps.specs.Calls.{AreWithin}
 use Rattle.call_frames.specs.Calls.{returned}

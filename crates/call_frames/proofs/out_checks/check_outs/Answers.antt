@@ -1,4 +1,4 @@
-use Rattle.std.proofs.Common.{◌≡◌, ◌≢◌, ◌+◌, ◌∷◌, [], map, drop, Err, length, ◌<◌, sym, subst, ◌∙◌, rules}
+use Rattle.std.proofs.Common.{◌≡◌, ◌≢◌, ◌∷◌, [], map, Err, length, ◌<◌, sym, subst, ◌∙◌, rules}
 use Rattle.run_codes.specs.Flat.{Given, Stops}
 use Rattle.run_codes.specs.Points.{out_leaks}
 use Rattle.code_rows.specs.declared.stop.Stop.TheVariants as stop
