@@ -31,7 +31,7 @@ returns-in-Ok c =
     (leaks_of c.tell.new.parts.leaks.items ≡ telling mid) c.tell.ensures.told c.tell.ensures.memory
     (λ told. subst (λ p. GoesOn (outcome_at c.args.codes.now c.args.table.now c.args.point c.args.parts.now) c.args.parts.now p) (sym c.tell.ensures.rest)
     (call_go c.args.codes.now c.args.table.now c.args.point c.args.k c.args.parts.now c.requires.at c.args.sub c.args.actuals c.args.next c.requires.does _ (leaks_of c.call.new.found.items) (record mid { leaks = c.tell.new.parts.leaks })
-    (ap leaks_of c.clear.ensures) c.in-Ok.ensures.next c.in-Ok.ensures.called c.call.ensures.words refl told))
+    (ap leaks_of c.clear.ensures.items) c.in-Ok.ensures.next c.in-Ok.ensures.called c.call.ensures.words refl told))
 
 pub returns-in-Err : goal.returns-in-Err
 returns-in-Err c =
