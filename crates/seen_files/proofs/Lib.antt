@@ -1,0 +1,13 @@
+pub mod Expressions
+pub mod Steps
+pub mod Held
+pub mod Told
+pub mod Runs
+pub mod Statements
+pub mod Units
+pub mod Files
+pub mod Entries
+pub mod Names
+pub mod Typed
+pub mod Packages
+pub mod Main
