@@ -16,7 +16,7 @@ TOP = pathlib.Path(__file__).resolve().parent.parent
 LINES = TOP / "crates.txt"
 
 # Libraries that a crate needs and no text of it names: (crate, library) with the reason.
-UNNAMED = {}
+UNNAMED = {("run_ready", "run_codes"): "only clauses in its code name it"}
 
 
 def bare(path):

@@ -1,5 +1,5 @@
 #!/usr/bin/env python3
-"""Writes the sources in data/ of flow_tests, machine_tests and run_code_tests as terms of the proofs.
+"""Writes the sources in data/ of flow_tests, machine_tests, leak_tests and run_code_tests as terms of the proofs.
 
     tools/flow_sources.py          writes proofs/Sources.antt of these crates
     tools/flow_sources.py --check  ends with 1 where they aren't what would be written
@@ -48,7 +48,7 @@ def main():
     options = argparse.ArgumentParser()
     options.add_argument("--check", action="store_true")
     check = options.parse_args().check
-    for crate in "flow_tests", "machine_tests", "run_code_tests":
+    for crate in "flow_tests", "machine_tests", "leak_tests", "run_code_tests":
         path, text = CRATES / crate / "proofs" / "Sources.antt", SourceLemmas(crate).text()
         if not check:
             path.write_text(text)

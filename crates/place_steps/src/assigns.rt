@@ -19,7 +19,7 @@ use spark_base::Pos;
 use type_table::TypeTable;
 
 /// The same spot once more.
-fn same(spot: &Spot) -> Spot
+pub(crate) fn same(spot: &Spot) -> Spot
     ensures { result ≡ spot.now }
 {
     match spot {

@@ -2,7 +2,9 @@
 #![tactic(auto)]
 
 mod assigns;
+mod releases;
 mod scopes;
 
 pub use assigns::assign;
+pub use releases::release;
 pub use scopes::end_scope;

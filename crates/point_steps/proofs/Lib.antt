@@ -5,3 +5,4 @@ pub mod Words
 pub mod Strings
 pub mod Looping
 pub mod Storing
+pub mod Reading

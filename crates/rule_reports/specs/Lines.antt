@@ -1,5 +1,7 @@
--- The lines of refusals and reports, and the fixed lines (docs/TOOL.md, "Lines").
-use Rattle.std.specs.Prelude.{ℕ, List, [], ◌∷◌, ◌++◌, Option, Some, None, flat_map, codes}
+-- The lines of refusals, reports, leak checks and self tests, and the fixed lines (docs/TOOL.md,
+-- "Lines").
+use Rattle.std.specs.Prelude.{ℕ, Bool, true, false, List, [], ◌∷◌, ◌++◌, Option, Some, None, flat_map, codes}
+use Rattle.std.specs.Fmt.{decimal}
 use Rattle.spark_base.specs.declared.position.Pos.{Pos}
 use Rattle.spark_base.specs.Positions.{position_text}
 use Rattle.place_names.specs.declared.rule.State.{State}
@@ -8,7 +10,9 @@ use Rattle.place_names.specs.declared.rule.Rule.TheVariants.{O1, O2, O3, O4, O5,
 use Rattle.place_names.specs.Names.{Name}
 use Rattle.place_names.specs.Reports.{Report}
 use Rattle.place_names.specs.Texts.{state_text, rule_text}
+use Rattle.flow_paths.specs.declared.report.LeakLine.{LeakLine}
 use Rattle.rule_reports.specs.declared.code.Code.{Code}
+use Rattle.rule_reports.specs.declared.summary.Summary.{Summary}
 use Rattle.rule_reports.specs.Codes.{code_letters, code_text}
 
 -- A text and the line feed that ends each line.
@@ -55,6 +59,32 @@ report_line files printed r =
 -- The lines of some reports, in their order.
 abbrev pub report_lines : List (List ℕ) → (Name → List ℕ) → List Report → List ℕ
 report_lines files printed reports = flat_map (report_line files printed) reports
+
+-- What is said of a leak check.
+abbrev pub check_word : Bool → List ℕ
+check_word true = codes "excused"
+check_word false = codes "checked"
+
+-- POS: NAME checked, or POS: NAME excused
+abbrev pub leak_plan_line : List (List ℕ) → (Name → List ℕ) → LeakLine → List ℕ
+leak_plan_line files printed check =
+    line (position_text files check.pos ++ codes ": " ++ printed check.name ++ codes " " ++ check_word check.excused)
+
+-- The lines of some leak checks, in their order.
+abbrev pub leak_plan_lines : List (List ℕ) → (Name → List ℕ) → List LeakLine → List ℕ
+leak_plan_lines files printed checks = flat_map (leak_plan_line files printed) checks
+
+-- selftest N: output B bytes, steps S, made M, freed F, leaked K
+abbrev pub output_part : ℕ → ℕ → List ℕ
+output_part number bytes = codes "selftest " ++ decimal number ++ codes ": output " ++ decimal bytes ++ codes " bytes"
+
+abbrev pub counts_part : ℕ → ℕ → ℕ → ℕ → List ℕ
+counts_part steps made freed leaked =
+    line (codes ", steps " ++ decimal steps ++ codes ", made " ++ decimal made ++ codes ", freed " ++ decimal freed
+    ++ codes ", leaked " ++ decimal leaked)
+
+abbrev pub summary_line : Summary → List ℕ
+summary_line s = output_part s.number s.bytes ++ counts_part s.steps s.made s.freed s.leaked
 
 -- What `spark check` writes where nothing is reported.
 abbrev pub accepted_line : List ℕ

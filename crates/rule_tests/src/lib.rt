@@ -6,6 +6,8 @@
 #![tactic(auto)]
 
 #[cfg(test)]
+mod leaks;
+#[cfg(test)]
 mod lines;
 #[cfg(test)]
 mod names;

@@ -1,7 +1,7 @@
 //! Lines of refusals, and the fixed lines, written out by hand from the table of codes and the form
 //! of each line.
 use crate::texts::files;
-use rule_reports::{Code, accepted_line, refusal_line, usage_line};
+use rule_reports::{Code, Summary, accepted_line, refusal_line, summary_line, usage_line};
 use spark_base::Pos;
 use std::test::Fail;
 
@@ -83,4 +83,39 @@ fn codes(rt: HostRuntime) {
         assert!(rt; code.letters() == letters, "{letters}");
         assert!(rt; code.text() == text, "{text}");
     }
+}
+
+/// Each row: what a self test tells, and its line.
+const SUMMARIES: [(Summary, &str); 2] = [
+    (
+        Summary {
+            number: 3,
+            bytes: 3,
+            steps: 29,
+            made: 1,
+            freed: 1,
+            leaked: 0,
+        },
+        "selftest 3: output 3 bytes, steps 29, made 1, freed 1, leaked 0\n",
+    ),
+    (
+        Summary {
+            number: 10000,
+            bytes: 7,
+            steps: 16_731_674,
+            made: 3334,
+            freed: 3333,
+            leaked: 1,
+        },
+        "selftest 10000: output 7 bytes, steps 16731674, made 3334, freed 3333, leaked 1\n",
+    ),
+];
+
+#[test]
+fn summaries(rt: HostRuntime) -> Result<(), Fail> {
+    for row in &SUMMARIES {
+        let text = summary_line(rt.alloc(), row.0)?;
+        assert!(rt; text.as_slice() == row.1.as_bytes(), "{}", row.1);
+    }
+    Ok(())
 }

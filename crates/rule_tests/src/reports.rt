@@ -55,7 +55,7 @@ fn cell(alloc: Global) -> Result<Shape, AllocError> {
 }
 
 /// The types, by number.
-fn table(alloc: Global) -> Result<Vec<Info>, AllocError> {
+pub(crate) fn table(alloc: Global) -> Result<Vec<Info>, AllocError> {
     let mut table = Vec::new(alloc);
     let whole = Shape::Whole {
         low: i32::MIN,
@@ -91,7 +91,7 @@ fn object(alloc: Global, name: &[u8], home: Option<Word>, of: u32) -> Result<Obj
 }
 
 /// The objects, by number.
-fn objects(alloc: Global) -> Result<Vec<Object>, AllocError> {
+pub(crate) fn objects(alloc: Global) -> Result<Vec<Object>, AllocError> {
     let mut objects = Vec::new(alloc);
     objects.push(object(alloc, b"X", None, PTR)?)?;
     objects.push(object(alloc, b"R", None, ROW)?)?;
@@ -215,7 +215,7 @@ const REPORTS: [(u16, u32, u32, Rule, u32, &[Sel], Option<State>, &str); 10] = [
     ),
 ];
 
-fn name(root: u32, sels: &[Sel]) -> Result<PlaceName, Fail> {
+pub(crate) fn name(root: u32, sels: &[Sel]) -> Result<PlaceName, Fail> {
     let mut made = PlaceName::new(root);
     for sel in sels {
         made.push(*sel)?;

@@ -1,4 +1,4 @@
--- What frames that enter ask of a program, where its typed code is in order.
+-- What frames that enter ask of a program that is laid out, where its typed program can be entered.
 use Rattle.std.proofs.Common.{◌≡◌, inl, inr, ℕ, zero, suc, ◌+◌, ◌<◌, true, false, Bool, ◌||◌, List, [], ◌∷◌, ◌++◌, map, length, get_or, refl, sym, ap, subst, ◌∙◌, arith, Some, length-append, if◌then◌else◌}
 use Rattle.std.specs.Prelude.{◌==◌, ◌&&◌, not, is_some, flat_map, reverse}
 use Rattle.std.specs.List.{list_any}
@@ -12,28 +12,18 @@ use Rattle.flow_paths.specs.Instructions.{Finish, Fall}
 use Rattle.flow_paths.specs.Points.{PointName, NamedPoint, row_at, point, entry, flow_point}
 use Rattle.flow_paths.specs.Layout.{ending, ends, laid}
 use Rattle.flow_paths.specs.Prep.{Setting}
-use Rattle.flow_paths.specs.Laid.{Temporary, temporary_object, FlowSub, FlowProgram, NamedSub, typing_of, flow_typing, around_body, scope_at_end, function_end, procedure_end, body_points, sub_points, sub_temporaries, named_sub, named_subs, all_named, flow_sub, flow_named, flow_program, declared_within, number_in, kept_roots, sub_facts, frame_of, numbers_from}
+use Rattle.flow_paths.specs.Laid.{Temporary, temporary_object, FlowSub, FlowProgram, NamedSub, typing_of, flow_typing, around_body, scope_at_end, function_end, procedure_end, body_points, sub_points, sub_temporaries, named_sub, named_subs, all_named, flow_sub, flow_named, flow_program, number_in, kept_roots, sub_facts, frame_of, numbers_from}
 use Rattle.machine.specs.States.{no_sub, sub_of}
-use Rattle.scope_laws.specs.Code.{Once, objects_of}
-use Rattle.ready_laws.specs.InOrder.{IsSub, IsInOrder}
+use Rattle.scope_laws.specs.Code.{Once}
+use Rattle.ready_laws.specs.InOrder.{IsSub}
 use Rattle.run_points.specs.Frames.{AreDifferent, IsCallable, HasFrames}
 use Rattle.run_tables.specs.Calls.{CallsStand}
+use Rattle.run_tables.specs.Entered.{CanEnter}
 
 -- ---- numbers that stand once
 
 same_number : (a b : ℕ) → (a == b) ≡ true → a ≡ b
 same_number a b is = grind arith
-
-first_once : (xs ys : List ℕ) → Once (xs ++ ys) → Once xs
-first_once [] ys once = tt
-first_once (x ∷ xs) ys once = (λ has. once.0 (left xs ys x has), first_once xs ys once.1)
-  where
-    left : (xs ys : List ℕ) (x : ℕ) → Has xs x → Has (xs ++ ys) x
-    left [] ys x has = absurd has
-    left (y ∷ xs) ys x has = elim has [
-      | inl same ↦ inl same
-      | inr more ↦ inr (left xs ys x more)
-    ]
 
 none_by : (x y : ℕ) (xs : List ℕ) → (Has (y ∷ xs) x → ⊥) → ((Has xs x → ⊥) → list_any (λ y. y == x) xs ≡ false) → (b : Bool) → (y == x) ≡ b → b || list_any (λ y. y == x) xs ≡ false
 none_by x y xs lacks rest true same = absurd (lacks (inl (same_number y x same)))
@@ -116,12 +106,9 @@ object_kept [] more x low = absurd (omega (arith, low))
 object_kept (o ∷ objects) more zero low = refl
 object_kept (o ∷ objects) more (suc x) low = object_kept objects more x (omega (arith, low))
 
-module _ (table : Table) (program : TypedProgram) (order : IsInOrder table program) where
+module _ (table : Table) (program : TypedProgram) (order : CanEnter table program) where
   abbrev flow : FlowProgram
   flow = flow_program table program
-
-  in_rest : (sub : TypedSub) → Has order.rest sub → Has program.subs sub
-  in_rest sub has = subst (λ l. Has l sub) (sym order.subs) (inr has)
 
   -- the others follow the first one
   sub_is : (n : ℕ) (sub : TypedSub) → IsSub order.rest n sub → IsLaidOut (typing_of table program) sub (sub_of flow (suc n))
@@ -138,37 +125,27 @@ module _ (table : Table) (program : TypedProgram) (order : IsInOrder table progr
   unfolding flow_program
   object_is x low = object_kept program.objects (map temporary_object (flat_map (λ (n : NamedSub). n.temporaries) (flow_named table program))) x low
 
-  in_formals : (xs ys : List ℕ) (x : ℕ) → Has xs x → Has (xs ++ ys) x
-  in_formals [] ys x has = absurd has
-  in_formals (y ∷ xs) ys x has = elim has [
-    | inl same ↦ inl same
-    | inr more ↦ inr (in_formals xs ys x more)
-  ]
-
   callable : (n : ℕ) (sub : TypedSub) → IsSub order.rest n sub → IsCallable flow (suc n)
   callable n sub is =
       let there : Has order.rest sub = subst (λ l. Has l sub) (sym is.2) (in_list is.0 is.1 sub) in
-      let body = order.bodies sub (in_rest sub there) in
-      let own = order.local sub there in
       let out = sub_is n sub is in
       record {
         points = out.points;
         other = not_zero n;
-        formals = subst AreDifferent (sym out.formals) (different sub.formals (first_once sub.formals (declared_within sub.body) body.once));
+        formals = subst AreDifferent (sym out.formals) (different sub.formals (order.once sub there));
         own = λ x has.
-            let among : Has (objects_of sub) x = in_formals sub.formals (declared_within sub.body) x (subst (λ l. Has l x) out.formals has) in
-            ap (λ (o : Object). is_some o.«package» && not (is_state o.kind)) (object_is x (body.numbered x among).1) ∙ own.own x among;
+            let formal : Has sub.formals x = subst (λ l. Has l x) out.formals has in
+            ap (λ (o : Object). is_some o.«package» && not (is_state o.kind)) (object_is x (order.within sub there x formal)) ∙ order.own sub there x formal;
       }
     where
       not_zero : (n : ℕ) → (suc n == 0) ≡ false
       not_zero n = grind arith
 
-  main_is : (n : ℕ) → flow.main ≡ Some n → n ≡ suc order.number
+  main_callable : (n : ℕ) → flow.main ≡ Some n → IsCallable flow n
   unfolding flow_program
-  main_is n is = same n (suc order.number) (sym is ∙ order.is_main)
-    where
-      same : (a b : ℕ) → Some a ≡ Some b → a ≡ b
-      same a b is = cc
+  main_callable n is =
+      let main = order.main n is in
+      subst (λ k. IsCallable flow k) (sym main.2) (callable main.0 main.1 main.3)
 
   rest_long : length flow.subs ≡ suc (length order.rest)
   unfolding flow_program
@@ -191,8 +168,7 @@ module _ (table : Table) (program : TypedProgram) (order : IsInOrder table progr
 
   pub has_frames : CallsStand flow → HasFrames flow
   has_frames calls = record {
-    packages = subst AreDifferent (sym first_formals)
-        (different order.first.formals (first_once order.first.formals (declared_within order.first.body) (order.bodies order.first (subst (λ l. Has l order.first) (sym order.subs) (inl refl))).once));
-    main = λ n is. subst (λ k. IsCallable flow k) (sym (main_is n is)) (callable order.number order.main order.stands);
+    packages = subst AreDifferent (sym first_formals) (different order.first.formals order.packages);
+    main = main_callable;
     calls = λ n k sub e result low is. let there = calls n k sub e result low is in called sub there.0 there.1;
   }

@@ -1,11 +1,4 @@
-pub mod Sorts
-pub mod Offsets
-pub mod Tables
-pub mod Statics
-pub mod Gathers
 pub mod Programs
 pub mod Frames
+pub mod Entered
 pub mod Runs
-pub mod Standing
-pub mod FirstClass
-pub mod FirstFiles

@@ -1,8 +1,8 @@
 -- What runs ask of the tables of programs without a fault of typing.
-use Rattle.std.proofs.Common.{◌≡◌, [], ◌∷◌, false, ap, ◌∙◌, arith, IsTrue, None, slice_get}
+use Rattle.std.proofs.Common.{◌≡◌, ◌≤◌, ℕ, [], ◌∷◌, false, ap, ◌∙◌, arith, IsTrue, None, slice_get}
 use Rattle.std.specs.Prelude.{codes}
 use Rattle.resolved_tree.specs.Trees.{Program}
-use Rattle.type_definitions.specs.Types.{shape_found, meant_type_found}
+use Rattle.type_definitions.specs.Types.{shape_found, meant_type_found, words}
 use Rattle.type_definitions.specs.Entries.{boolean}
 use Rattle.type_definitions.specs.Whole.{type_fault, known_of, predefined_types}
 use Rattle.type_sizes.specs.Formed.{all_formed}
@@ -13,15 +13,18 @@ use Rattle.gathered_laws.proofs.Main.{are_types}
 use Rattle.machine.specs.Typed.{Position, sorts}
 use Rattle.run_codes.specs.Related.{IsTable}
 use Rattle.run_fills.specs.Filled.{HasParts}
-use Rattle.run_tables.proofs.Gathers.{has_bounds}
-use Rattle.run_tables.proofs.Tables.{is_table, has_parts, truth_sorts}
+use Rattle.table_laws.proofs.Gathers.{has_bounds}
+use Rattle.table_laws.proofs.Tables.{is_table, has_parts, truth_sorts}
 
 module _ (p : Program) (formed : IsTrue (all_formed p.units)) (orderly : IsOrderly p) (none : type_fault p ≡ None) where
+  small : (t : ℕ) → words (known_of p).table t ≤ 65536
+  small t = (within_limits p formed none t).few_words
+
   pub program_table : IsTable (known_of p).table
-  program_table = is_table (known_of p).table (finite p formed orderly none) (within_limits p formed none)
+  program_table = is_table (known_of p).table (finite p formed orderly none) small
 
   pub program_parts : HasParts (known_of p).table
-  program_parts = has_parts (known_of p).table (finite p formed orderly none) (within_limits p formed none) (has_bounds p)
+  program_parts = has_parts (known_of p).table (finite p formed orderly none) small (has_bounds p)
 
   -- Boolean is predefined
   boolean_there : slice_get (known_of p).table boolean ≡ slice_get (predefined_types false) boolean
@@ -29,5 +32,5 @@ module _ (p : Program) (formed : IsTrue (all_formed p.units)) (orderly : IsOrder
 
   pub program_truth : sorts (known_of p).table boolean ≡ Position ∷ []
   program_truth =
-      truth_sorts (known_of p).table (finite p formed orderly none) (within_limits p formed none) boolean (codes "False" ∷ codes "True" ∷ []) 0 1
+      truth_sorts (known_of p).table (finite p formed orderly none) small boolean (codes "False" ∷ codes "True" ∷ []) 0 1
       (ap (λ o. shape_found (slice_get (known_of p).table (meant_type_found boolean o))) boolean_there ∙ ap shape_found boolean_there)

@@ -1,4 +1,4 @@
--- what is asked of the bounds of types
-pub mod Bounds
 -- what is asked of the calls of a program
 pub mod Calls
+-- what is asked of the subprograms of a typed program
+pub mod Entered

@@ -25,11 +25,12 @@ use Rattle.program_check.specs.Sources.{flow_of, printed_in}
 use Rattle.program_check.proofs.OneEffects.{one_effects}
 use Rattle.rule_reports.specs.declared.code.Code.{Code}
 use Rattle.rule_reports.specs.declared.code.Code.TheVariants.{S1}
-use Rattle.spark_tool.specs.Commands.{Command, Check, command_of}
+use Rattle.command_words.specs.Words.{Command, Check, Run, Leaks, Make, Selftest}
+use Rattle.spark_tool.specs.Commands.{command_of}
 use Rattle.spark_tool.specs.Reading.{Sources, Texts, TooLarge, Missing, sources}
 use Rattle.spark_tool.specs.Lexing.{AllTokens, all_tokens}
 use Rattle.spark_tool.specs.Parsing.{told_cut, IsParsed, AreTreesOf, IsRefusedAt, FirstRefused}
-use Rattle.spark_tool.specs.Product.{Answer, Product, usage, check, Checks, missing, too_large, lexical, syntactic, unresolved, mistyped, beyond, checked, refused, unread, misused, judged, lexical_code, syntactic_code, name_code, type_code, limit_code}
+use Rattle.spark_tool.specs.Product.{Answer, Answers, Product, usage, check, make, made, Checks, missing, too_large, lexical, syntactic, unresolved, mistyped, beyond, checked, refused, unread, misused, judged, lexical_code, syntactic_code, name_code, type_code, limit_code}
 use Rattle.spark_tool.proofs.Parsed.{at_middle, parsed_of}
 
 -- ---- pairs
@@ -231,19 +232,26 @@ says_once names (Texts texts) a b one two = cut_once names (all_tokens 0 TOKENS 
 
 -- ---- the answer to words
 
-abbrev Answers : List (List ℕ × List ℕ) → Option Command → Answer → Type 0
-Answers stored None answer = answer ≡ misused
-Answers stored (Some (Check names)) answer = Says names (sources stored 0 SOURCE_BYTES names) answer
+abbrev Told : List (List ℕ × List ℕ) → Option Command → Answer → Type 0
+Told stored None answer = answer ≡ misused
+Told stored (Some (Check names)) answer = Says names (sources stored 0 SOURCE_BYTES names) answer
+Told stored (Some (Run names steps stats)) answer = ⊥
+Told stored (Some (Leaks names)) answer = ⊥
+Told stored (Some (Make n)) answer = answer ≡ made n
+Told stored (Some (Selftest n)) answer = ⊥
 
-answers : (stored : List (List ℕ × List ℕ)) (words : List (List ℕ)) (answer : Answer) → Product stored words answer
-    → Answers stored (command_of words) answer
-answers stored words _ (usage none) = subst (λ (c : Option Command). Answers stored c misused) (sym none) refl
-answers stored words _ (check names answer command checks) =
-    subst (λ (c : Option Command). Answers stored c answer) (sym command) (says names (sources stored 0 SOURCE_BYTES names) answer checks)
+told : (stored : List (List ℕ × List ℕ)) (command : Option Command) (answer : Answer) → Answers stored command answer → Told stored command answer
+told stored _ _ usage = refl
+told stored _ _ (check names answer checks) = says names (sources stored 0 SOURCE_BYTES names) answer checks
+told stored _ _ (make n) = refl
 
-answers_once : (stored : List (List ℕ × List ℕ)) (command : Option Command) (a b : Answer) → Answers stored command a → Answers stored command b → a ≡ b
-answers_once stored None a b one two = one ∙ sym two
-answers_once stored (Some (Check names)) a b one two = says_once names (sources stored 0 SOURCE_BYTES names) a b one two
+told_once : (stored : List (List ℕ × List ℕ)) (command : Option Command) (a b : Answer) → Told stored command a → Told stored command b → a ≡ b
+told_once stored None a b one two = one ∙ sym two
+told_once stored (Some (Check names)) a b one two = says_once names (sources stored 0 SOURCE_BYTES names) a b one two
+told_once stored (Some (Run names steps stats)) a b one two = absurd one
+told_once stored (Some (Leaks names)) a b one two = absurd one
+told_once stored (Some (Make n)) a b one two = one ∙ sym two
+told_once stored (Some (Selftest n)) a b one two = absurd one
 
 pub one_answer : (stored : List (List ℕ × List ℕ)) (words : List (List ℕ)) (a b : Answer) → Product stored words a → Product stored words b → a ≡ b
-one_answer stored words a b one two = answers_once stored (command_of words) a b (answers stored words a one) (answers stored words b two)
+one_answer stored words a b one two = told_once stored (command_of words) a b (told stored (command_of words) a one) (told stored (command_of words) b two)

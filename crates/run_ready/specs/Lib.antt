@@ -1,0 +1,2 @@
+-- what is tested of subprograms
+pub mod Tests

@@ -1,0 +1,17 @@
+//! From programs that are laid out to programs that may be run.
+//!
+//! `lower_ready` lowers a `Laid` program as `lower` of `program_lowering` does, and gives it only where what the
+//! laws on runs ask of a program holds: `HasTypes` and `HasFrames` of `run_points`. What a `Laid` keeps says
+//! nothing of positions, and identifiers with one position have one number. So what rests on that is tested:
+//! that no type has itself in it (by ranks, `specs/Ranks.antt` of `table_laws`), that formals are different and
+//! belong to no package, and that what is called has points (`specs/Tests.antt`). A program that fails a test
+//! gives `Memory`.
+//! Time and memory are linear in the table of types and in the points.
+#![tactic(auto)]
+
+mod frames;
+mod ranks;
+mod ready;
+mod types;
+
+pub use ready::lower_ready;

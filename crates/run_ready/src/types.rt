@@ -1,0 +1,143 @@
+//! Whether a table of types is fit for runs.
+ghost use Rattle.std.specs.Prelude.{◌≡◌, ◌<◌, ℕ, IfOk, IsTrue, length, nat_le, slice_get, true};
+ghost use Rattle.std.specs.List.{list_all};
+ghost use Rattle.type_definitions.specs.Types.{shape_found, full, words};
+ghost use Rattle.type_definitions.specs.Entries.{boolean};
+ghost use Rattle.table_laws.specs.Ranks as spec;
+ghost use Rattle.table_laws.specs.Ranks.{shape_all, parent_all, is_same_as, is_listed, fits, IsFit};
+
+use crate::ranks::ranks;
+use std::alloc::{AllocError, Global};
+use type_definitions::{Component, Info, Shape, View};
+use type_table::TypeTable;
+
+/// The declaration of Boolean.
+const BOOLEAN: u32 = 3;
+
+/// The rank of a type.
+fn rank(ranks: &[usize], t: usize) -> usize
+    ensures { result ≡ spec.rank ranks.now t }
+{
+    match ranks.get(t) {
+        Some(rank) => *rank,
+        None => 0,
+    }
+}
+
+/// Whether a type has a lower rank than this.
+fn is_below(ranks: &[usize], limit: usize, t: u32) -> bool
+    ensures { result ≡ spec.is_below ranks.now limit t }
+{
+    rank(ranks, t as usize) < limit
+}
+
+/// Whether the types of all components have lower ranks.
+fn are_below(ranks: &[usize], limit: usize, components: &[Component]) -> bool
+    ensures { result ≡ list_all (λ component. spec.is_below ranks.now limit component.of) components.now }
+{
+    components
+        .iter()
+        .all(|component| is_below(ranks, limit, component.of))
+}
+
+/// Whether the types that a definition is made of have lower ranks.
+fn is_shape_below(ranks: &[usize], limit: usize, shape: &Shape) -> bool
+    ensures { result ≡ shape_all (spec.is_below ranks.now limit) shape.now }
+{
+    match shape {
+        Shape::Fields { components } => are_below(ranks, limit, components.as_slice()),
+        Shape::Elements { element, .. } => is_below(ranks, limit, *element),
+        Shape::Same { of } => is_below(ranks, limit, *of),
+        Shape::Whole { .. } | Shape::Listed { .. } | Shape::Access { .. } => true,
+    }
+}
+
+/// Whether the type in a mark has a lower rank.
+fn is_parent_below(ranks: &[usize], limit: usize, parent: Option<u32>) -> bool
+    ensures { result ≡ parent_all (spec.is_below ranks.now limit) parent }
+{
+    match parent {
+        Some(t) => is_below(ranks, limit, t),
+        None => true,
+    }
+}
+
+/// Whether all that a type is made of has lower ranks.
+fn is_ranked(ranks: &[usize], t: usize, info: &Info) -> bool
+    ensures { result ≡ spec.is_ranked ranks.now t info.now }
+{
+    let limit = rank(ranks, t);
+    is_shape_below(ranks, limit, &info.shape) && is_parent_below(ranks, limit, info.parent)
+}
+
+/// Whether a type is a subtype without a constraint.
+fn is_same_as(table: &[Info], t: u32) -> bool
+    ensures { result ≡ is_same_as (shape_found (slice_get table.now t)) }
+{
+    match table.get(t as usize) {
+        Some(info) => matches!(info.shape, Shape::Same { .. }),
+        None => false,
+    }
+}
+
+/// Whether what a subtype without a constraint is the same as is no such subtype.
+fn is_plain(table: &[Info], shape: &Shape) -> bool
+    ensures { result ≡ spec.is_plain table.now shape.now }
+{
+    match shape {
+        Shape::Same { of } => !is_same_as(table, *of),
+        _ => true,
+    }
+}
+
+/// Whether a type is within the limit of words.
+fn has_few_words(table: &TypeTable, t: usize) -> bool
+    ensures { IsTrue result → nat_le (words table.now t) 65536 ≡ true }
+{
+    match u32::try_from(t) {
+        Ok(t) => table.words(t) <= 65_536,
+        Err(_) => false,
+    }
+}
+
+/// Whether a type is as is asked.
+fn fits(table: &TypeTable, ranks: &[usize], t: usize) -> bool
+    ensures { IsTrue result → fits table.now ranks.now t (slice_get table.now t) ≡ true }
+{
+    let infos = table.infos();
+    match infos.get(t) {
+        Some(info) => {
+            is_ranked(ranks, t, info) && is_plain(infos, &info.shape) && has_few_words(table, t)
+        }
+        None => true,
+    }
+}
+
+/// Whether all types are.
+fn all_fit(table: &TypeTable, ranks: &[usize]) -> bool
+    ensures { IsTrue result → (t : ℕ) → t < length table.now → fits table.now ranks.now t (slice_get table.now t) ≡ true }
+{
+    let infos = table.infos();
+    'types: for t in 0..infos.len() {
+        if !fits(table, ranks, t) {
+            return false;
+        }
+    }
+    true
+}
+
+/// Whether Boolean is an enumeration.
+fn has_truth(table: &TypeTable) -> bool
+    ensures { result ≡ is_listed (full table.now boolean) }
+{
+    matches!(table.view(BOOLEAN), View::Listed { .. })
+}
+
+/// Whether no type of a table has itself in it, all are within the limit of words, and Boolean is an
+/// enumeration.
+pub fn is_fit(alloc: Global, table: &TypeTable) -> Result<bool, AllocError>
+    ensures { IfOk result (λ fit. IsTrue fit → IsFit table.now) }
+{
+    let ranks = ranks(alloc, table.infos())?;
+    Ok(all_fit(table, &ranks) && has_truth(table))
+}
