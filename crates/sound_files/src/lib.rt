@@ -7,7 +7,7 @@
 //! (`Written`); and each declaration of an object has a number of its own (`Once`). That what names
 //! denote is in scope stands in `seen_files`. The class of programs stands in `specs/Class.antt`, and is
 //! the first one of `soundness` (`Access`, `Formals`, `First`): subprograms have no formals there
-//! (`Formless`), and instructions are typed (`Fine`). What is left stands in `specs/Left.antt`. `Main`
-//! joins this with the types of files, and `Examples` has a program whose code is orderly. Nothing here
-//! runs.
+//! (`Formless`), and instructions are typed (`Fine`), since files are meant (`meant_files`). What is left
+//! stands in `specs/Left.antt`. `Main` joins this with the types of files, and `Examples` has a program
+//! whose code is orderly. Nothing here runs.
 #![tactic(auto)]
