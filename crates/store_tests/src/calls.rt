@@ -39,3 +39,17 @@ pub(crate) fn keeps_sizes_apart<R: Store>(store: &mut R) -> Result<bool, AllocEr
     let number = store.read(two, 1, Kind::Int);
     Ok(slots == 2 && number == Value::Int(5))
 }
+
+/// Two freed slots have a new cell each.
+pub(crate) fn uses_each_once<R: Store>(store: &mut R) -> Result<bool, AllocError>
+    requires { R.Means store.old no_heap }
+{
+    let first = store.allocate(&[Value::Int(1)])?;
+    let second = store.allocate(&[Value::Int(2)])?;
+    store.free(first, 1);
+    store.free(second, 1);
+    let third = store.allocate(&[Value::Int(3)])?;
+    let fourth = store.allocate(&[Value::Int(4)])?;
+    let number = store.read(fourth, 0, Kind::Int);
+    Ok(store.slots() == 2 && third != fourth && number == Value::Int(4))
+}
