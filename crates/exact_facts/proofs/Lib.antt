@@ -1,0 +1,9 @@
+-- over ways and locations
+pub mod Steps
+-- over memories
+pub mod Parts
+pub mod Memories
+-- expressions
+pub mod Evaluated
+-- leak checks
+pub mod Checks
