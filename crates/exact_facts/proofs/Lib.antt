@@ -7,3 +7,6 @@ pub mod Memories
 pub mod Evaluated
 -- leak checks
 pub mod Checks
+-- instructions
+pub mod Stored
+pub mod Instructions

@@ -173,23 +173,21 @@ module _ (s : Typing) (settled : IsSettled s.table) (depth : ℕ) where
 
   -- ---- a variable is declared of which no fact speaks
 
-  pub declared_exact : (other : Way → Type 0) (m : Memory) (v : Waiting) (rest : List Waiting) (leaks : List Leak) (facts : List Fact) (f x : ℕ)
+  pub declared_exact : (other : Way → Type 0) (m : Memory) (v : Waiting) (rest : List Waiting) (leaks : List Leak) (facts : List Fact) (f x : ℕ) (pos : Pos)
       → Sound (home s depth) other (seen s m (v ∷ rest) leaks) facts → Kept s m (v ∷ rest)
-      → ((p : List Step) → word_in s.table (content s m (v ∷ rest) (OfRoot (OfVariable f x))) p ≡ Empty)
       → is_in_formal s x ≡ false → length v.words ≡ words s.table (object_at s x).of → Alike s.table v.of (object_at s x).of
       → ((w : Way) → IsDefinite (home s depth) facts w → Under (Object (OfVariable f x)) w → ⊥)
       → IsExact s depth m facts → IsExact s depth (declared f x v.words m) facts
-  declared_exact other m v rest leaks facts f x sound kept blank own long like none exact =
+  declared_exact other m v rest leaks facts f x pos sound kept own long like none exact =
       let a : Loc → Content = content s m (v ∷ rest) in
       let b : Loc → Content = content s (declared f x v.words m) rest in
       let change = declares s m f x v rest kept long like own in
-      let checks : Checks s.table (a (OfRoot (OfVariable f x))) [] leaks leaks = record {
-        keeps = λ n e. e;
-        checks = λ p n e. (let no_number : Empty ≡ Held n = sym (blank (p ++ [])) ∙ e in cc);
-        only = λ n e. inl e;
-      } in
-      let after_it : View = seen_of s.table b (length m.cells) (λ n. (cell m n).freed) leaks in
-      let move = stored_step s.table settled a b (length rest) v (OfRoot (OfVariable f x)) (length m.cells) (λ n. (cell m n).freed) leaks leaks change checks in
+      let checks = checks_made s.table settled (a (OfRoot (OfVariable f x))) [] (object_at s x).of pos leaks refl (ap not own)
+      (record { leaf = λ p. refl; at = λ p e. refl }) in
+      let more : List Leak = leaks ++ checked_at pos (offset_in s.table (a (OfRoot (OfVariable f x))).of []) (a (OfRoot (OfVariable f x))).slots
+      (access_offsets s.table (object_at s x).of) in
+      let after_it : View = seen_of s.table b (length m.cells) (λ n. (cell m n).freed) more in
+      let move = stored_step s.table settled a b (length rest) v (OfRoot (OfVariable f x)) (length m.cells) (λ n. (cell m n).freed) leaks more change checks in
       let given = given_apart (seen s m (v ∷ rest) leaks) after_it (Object (OfHand (length rest))) (Object (OfVariable f x)) (hand (length rest))
       (OfRoot (OfVariable f x)) sound.owned move refl refl (λ e. cc) in
       exact_from s depth after_it (declared f x v.words m) rest facts (λ z. refl)

@@ -1,7 +1,13 @@
 -- What excused leak checks rest on: what a fact without an element calls moved is gone.
-use Rattle.std.specs.Prelude.{◌≡◌, ℕ, List, [], ◌∷◌}
+use Rattle.std.specs.Prelude.{◌≡◌, ℕ, false, List, [], ◌∷◌, ◌++◌}
+use Rattle.spark_base.specs.Lists.{Has}
+use Rattle.spark_base.specs.declared.position.Pos.{Pos}
+use Rattle.place_names.specs.declared.selector.Sel.{Sel}
 use Rattle.place_names.specs.declared.fact.Fact.{Fact}
+use Rattle.place_names.specs.declared.fact.Fact.TheVariants.{Moved}
+use Rattle.place_names.specs.Names.{Name, extend, has_elem}
 use Rattle.flow_paths.specs.declared.point.LeakSpot.{LeakSpot}
+use Rattle.flow_paths.specs.Acts.{spot}
 use Rattle.flow_paths.specs.Objects.{Typing}
 use Rattle.machine.specs.Memory.{Memory}
 use Rattle.machine.specs.States.{Leak}
@@ -20,3 +26,9 @@ abbrev pub NoneFails : (LeakSpot → Type 0) → List LeakSpot → List (List Le
 NoneFails Excused [] checks = Unit {0}
 NoneFails Excused (spot ∷ spots) [] = Unit {0}
 NoneFails Excused (spot ∷ spots) (failed ∷ checks) = (Excused spot → failed ≡ []) × NoneFails Excused spots checks
+
+-- A spot of a name is excused only where facts say that just its place was moved.
+abbrev pub Knows : (LeakSpot → Type 0) → Pos → Name → ℕ → List Fact → List (List Sel) → Type 0
+Knows Excused pos name before facts parts =
+    (q : List Sel) → Has parts q → Excused (spot pos name before q)
+    → (has_elem (name.sels ++ q) ≡ false) × Has facts (Moved (extend name q))
