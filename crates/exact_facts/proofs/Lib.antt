@@ -10,3 +10,4 @@ pub mod Checks
 -- instructions
 pub mod Stored
 pub mod Instructions
+pub mod Releases
