@@ -3,48 +3,44 @@
 use Rattle.std.proofs.Common.{◌≡◌, refl, sym, ap, ◌∙◌, subst, inl, inr, ℕ, Bool, true, false, not, List, [], ◌∷◌, ◌++◌, map, length, nat_lt, append-nil, Option, Some, None, if◌then◌else◌}
 use Rattle.spark_base.specs.Lists.{Has}
 use Rattle.spark_base.specs.declared.position.Pos.{Pos}
-use Rattle.place_names.specs.declared.selector.Sel.{Sel}
-use Rattle.place_names.specs.declared.selector.Sel.TheVariants as sel
-use Rattle.place_names.specs.declared.act.Act.{Act}
 use Rattle.place_names.specs.declared.act.Act.TheVariants as act
 use Rattle.place_names.specs.declared.fact.Fact.{Fact}
 use Rattle.place_names.specs.declared.fact.Fact.TheVariants.{Moved}
-use Rattle.place_names.specs.Names.{Name as PlaceName, object, extend}
+use Rattle.place_names.specs.Names.{Name as PlaceName, object}
 use Rattle.place_names.specs.Facts.{effect}
 use Rattle.type_definitions.specs.declared.table.Shape.TheVariants as shape
-use Rattle.type_definitions.specs.Types.{shape_of, words, parts}
+use Rattle.type_definitions.specs.Types.{shape_of, parts}
 use Rattle.typed_tree.specs.Trees.{TypedTree, TypedCode, Name, NoMore, More}
 use Rattle.flow_paths.specs.declared.point.LeakSpot.{LeakSpot}
-use Rattle.flow_paths.specs.Instructions.{Skip, Fall}
-use Rattle.flow_paths.specs.Objects.{Typing, object_at, is_anonymous, is_observer}
+use Rattle.flow_paths.specs.Instructions.{Skip}
+use Rattle.flow_paths.specs.Objects.{Typing, object_at, is_observer}
 use Rattle.flow_paths.specs.Names.{has_call, name_of, whole, first}
 use Rattle.flow_paths.specs.Scopes.{taken}
 use Rattle.flow_paths.specs.Acts.{acts_in, stored_acts, declared_acts, assigned_to, source_acts, index_acts, observe, reborrow, spot, target_pos as acts_target_pos}
 use Rattle.flow_paths.specs.Names as names
 use Rattle.machine.specs.Words as machine
-use Rattle.machine.specs.Memory.{Memory, Place, declared, undeclared, stored}
+use Rattle.machine.specs.Memory.{Memory, declared, undeclared, stored}
 use Rattle.machine.specs.Evaluate.{Here, Now, AsValue, Evaluated, Done, Raises, Traps, followed_by, evaluate, initial, checked, value, viewed, place_of, variable_place}
 use Rattle.machine.specs.Evaluate as run
-use Rattle.machine.specs.Calls.{checks_at, checked_at}
+use Rattle.machine.specs.Calls.{checks_at}
 use Rattle.machine.specs.States.{Waiting, State, Outcome, Goes, Ends}
 use Rattle.machine.specs.Step.{Turn, typing, here, start, Stored, first_value, taken_by, declare, assign, end_scope, goes, leaking_goes, target_pos}
 use Rattle.machine.specs.Step as steps
 use Rattle.machine.specs.Owners.{is_in_formal, waiting_in}
-use Rattle.owned_ways.specs.Ways.{Root, OfVariable, OfRoot, Way, Object, Under, after, AllowsAll, name_of as way_name}
+use Rattle.owned_ways.specs.Ways.{OfVariable, OfRoot, Way, Object, after, AllowsAll, name_of as way_name}
 use Rattle.owned_ways.proofs.Named.{longer}
 use Rattle.part_offsets.specs.Parts.{IsSettled}
-use Rattle.soundness.specs.Seen.{content, seen, home}
+use Rattle.soundness.specs.Seen.{content, home}
 use Rattle.soundness.specs.Typed.{OwnsByShape}
-use Rattle.soundness.specs.Sound.{IsDefinite}
 use Rattle.typed_laws.specs.Needed.{Stays, Leads, Source, FirstSource}
-use Rattle.soundness.proofs.Contents.{bool_cases, checks_made}
+use Rattle.soundness.proofs.Contents.{checks_made}
 use Rattle.soundness.proofs.Steps.{alike}
 use Rattle.soundness.proofs.Scalars.{acts}
 use Rattle.soundness.proofs.Stays.{Quiet, One, quiet}
 use Rattle.soundness.proofs.Numbers.{index_law}
 use Rattle.soundness.proofs.Lasting.{keeps}
 use Rattle.soundness.proofs.Waits.{or_both}
-use Rattle.soundness.proofs.Evaluated.{live_trunk, Ready, Given}
+use Rattle.soundness.proofs.Evaluated.{live_trunk}
 use Rattle.soundness.proofs.Instructions.{not_anonymous, not_borrower, not_observer, Holds, Given_here, start_is}
 use Rattle.exact_facts.specs.Exact.{IsExact, NoneFails, Knows}
 use Rattle.exact_facts.proofs.Memories.{declared_exact, ended_exact}
@@ -197,8 +193,7 @@ module _ (t : Turn) (settled : IsSettled (typing t).table) (own_law : OwnsByShap
     end_scope_exact x borrower mine facts holds exact pos count known =
         let m : Memory = t.state.memory in
         let checks = checks_made s.table settled (content s m hands (OfRoot (OfVariable (home s depth x) x))) [] (object_at s x).of t.point.pos t.state.leaks refl
-        (ap not (no_formals x)) (alike s.table settled (object_at s x).of (object_at s x).of (inl refl)) in
-        (
+        (ap not (no_formals x)) (alike s.table settled (object_at s x).of (object_at s x).of (inl refl)) in (
           subst (λ f. IsExact s depth (undeclared f x m) (effect (act.EndScope x borrower) facts)) mine
               (ended_exact s settled depth m hands t.state.leaks _ facts x borrower holds.0.owned checks exact),
           place_holds s settled depth m hands t.state.leaks facts exact (variable_place (here t) x) (OfRoot (OfVariable (home s depth x) x)) (Object (OfVariable (home s depth x) x))

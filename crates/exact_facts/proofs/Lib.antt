@@ -11,3 +11,4 @@ pub mod Checks
 pub mod Stored
 pub mod Instructions
 pub mod Releases
+pub mod Loops

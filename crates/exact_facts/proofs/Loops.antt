@@ -26,7 +26,7 @@ use Rattle.machine.specs.Words as machine
 use Rattle.machine.specs.Memory.{Memory, Place, Slot, fresh, variable_slots, words_of, declared, undeclared, stored}
 use Rattle.machine.specs.Evaluate.{Now, AsValue, Evaluated, Done, Raises, Traps, followed_by, value, place_of, variable_place, walked, steps_of, text_of}
 use Rattle.machine.specs.Evaluate as run
-use Rattle.machine.specs.States.{Waiting, State, Outcome, Goes, Ends}
+use Rattle.machine.specs.States.{Waiting, State, Outcome, Goes}
 use Rattle.machine.specs.Step.{Turn, typing, here, start, waiting, behind}
 use Rattle.machine.specs.Step as steps
 use Rattle.machine.specs.Owners.{is_in_formal, waiting_in}
@@ -95,14 +95,12 @@ module _ (t : Turn) (settled : IsSettled (typing t).table) (own_law : OwnsByShap
       let value : List machine.Word = steps.parameter_words ws v in
       let all : List Slot = variable_slots s f x m.variables in
       let slots : List Slot = take 0 all ++ fresh value ++ drop (0 + length (fresh value)) all in
-      let next : Memory = stored s k value m in
-      (
+      let next : Memory = stored s k value m in (
         same_exact next facts (scalar_same s settled m hands t.state.leaks f x scalar next.variables (λ g y ne. put_other s f x g y ne slots m.variables)) exact,
         tt,
       )
   next_by x scalar facts exact ws None =
-      let next : Memory = undeclared depth x m in
-      (
+      let next : Memory = undeclared depth x m in (
         same_exact next facts (scalar_same s settled m hands t.state.leaks depth x scalar next.variables (λ g y ne. removed_other s depth x g y ne m.variables)) exact,
         tt,
       )

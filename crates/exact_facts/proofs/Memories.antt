@@ -18,7 +18,7 @@ use Rattle.machine.specs.Memory.{Memory, HeapCell, Place, cell, no_slot, words_o
 use Rattle.machine.specs.Calls.{checked_at}
 use Rattle.machine.specs.States.{Waiting, Leak}
 use Rattle.machine.specs.Owners.{is_in_formal}
-use Rattle.owned_ways.specs.Ways.{Step, OfVariable, OfHand, Loc, OfRoot, OfCell, Inside, Way, Object, Empty, Gone, Held, View, Reaches, part, along, Told, Owned, Named, Spares, Excused, Allows, Sound, Under, sels_of, name_of, sel_of}
+use Rattle.owned_ways.specs.Ways.{Step, OfVariable, OfHand, Loc, OfRoot, OfCell, Inside, Way, Object, Gone, View, Reaches, part, along, Told, Owned, Named, Spares, Excused, Allows, Sound, Under, sels_of, name_of, sel_of}
 use Rattle.owned_ways.proofs.Locations.{under_along, under_itself, named_along, reaches_along}
 use Rattle.owned_ways.proofs.Named.{same_way}
 use Rattle.owned_ways.proofs.Assigned.{move_clean, named_rooted, given_apart}

@@ -1,5 +1,5 @@
 -- Facts without an element stay exact in a release, and its excused leak checks don't fail.
-use Rattle.std.proofs.Common.{◌≡◌, refl, sym, ap, ◌∙◌, subst, ◌⊎◌, inl, inr, ℕ, suc, Bool, true, false, not, List, [], ◌∷◌, ◌++◌, map, length, arith}
+use Rattle.std.proofs.Common.{◌≡◌, refl, sym, ap, ◌∙◌, subst, inl, inr, ℕ, suc, Bool, true, false, not, List, [], ◌∷◌, ◌++◌, map, length, arith}
 use Rattle.spark_base.specs.declared.position.Pos.{Pos}
 use Rattle.place_names.specs.declared.selector.Sel.TheVariants as sel
 use Rattle.place_names.specs.declared.act.Act.{Act}
@@ -19,7 +19,6 @@ use Rattle.machine.specs.Words as machine
 use Rattle.machine.specs.Memory.{Memory, Slot, Place, cell, freed, stored, words_of}
 use Rattle.machine.specs.Evaluate.{Now, Evaluated, Done, Raises, Traps, followed_by, place_of, cell_place, variable_place, walked, steps_of}
 use Rattle.machine.specs.Evaluate as run
-use Rattle.machine.specs.Calls.{checks_at}
 use Rattle.machine.specs.States.{Waiting, Leak, State, Outcome}
 use Rattle.machine.specs.Step.{Turn, release, typing, here, start}
 use Rattle.machine.specs.Step as steps
@@ -47,7 +46,7 @@ use Rattle.soundness.proofs.Lasting.{keeps}
 use Rattle.soundness.proofs.Evaluated.{live_trunk}
 use Rattle.soundness.proofs.Instructions.{Holds, Releases, start_is}
 use Rattle.soundness.proofs.Freeing.{free_way}
-use Rattle.exact_facts.specs.Exact.{IsExact, NoneFails, Knows}
+use Rattle.exact_facts.specs.Exact.{IsExact, Knows}
 use Rattle.exact_facts.proofs.Steps.{told_released, told_unfreed}
 use Rattle.exact_facts.proofs.Memories.{told_seen, exact_from}
 use Rattle.exact_facts.proofs.Checks.{place_holds}
