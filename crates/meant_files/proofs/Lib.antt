@@ -7,6 +7,7 @@ pub mod Walk
 pub mod Events
 pub mod Given
 pub mod Stays
+pub mod Rows
 pub mod Types
 pub mod Bodies
 pub mod Told

@@ -1,6 +1,7 @@
 -- Files of the first class without a fault of names are meant, where parameters of loops have the types of their
 -- bounds.
 use Rattle.std.proofs.Common.{◌≡◌, ℕ, zero, suc, ◌-◌, ◌<◌, ◌≤◌, false, List, [], ◌∷◌, ◌++◌, flat_map, length, get_or, replicate, refl, sym, arith, subst, None, length-append}
+use Rattle.std.specs.Prelude.{slice_get}
 use Rattle.std.proofs.lemmas.List.{length-map, length-replicate}
 use Rattle.spark_base.specs.Lists.{Has}
 use Rattle.ada_tree.specs.declared.unit.SourceUnit.{SourceUnit}
@@ -16,9 +17,9 @@ use Rattle.expression_lowering.specs.LoweredExpressions.{Numbers}
 use Rattle.typing_steps.specs.Programs.{program_of}
 use Rattle.type_definitions.specs.declared.table.Entry.{Entry}
 use Rattle.type_definitions.specs.declared.table.Entry.TheVariants as entry
-use Rattle.type_definitions.specs.Types.{Table}
+use Rattle.type_definitions.specs.Types.{Table, no_type}
 use Rattle.type_definitions.specs.Names.{Context}
-use Rattle.type_definitions.specs.Whole.{predefined_entries, at_first, outside, known_from, known_of}
+use Rattle.type_definitions.specs.Whole.{predefined_types, predefined_entries, at_first, outside, known_from, known_of}
 use Rattle.typed_tree.specs.Programs.{site_of}
 use Rattle.file_positions.specs.Order.{Ascends, event_positions}
 use Rattle.typed_laws.specs.Fine.{Denotes}
@@ -37,7 +38,7 @@ use Rattle.meant_files.proofs.Walk.{files_low}
 use Rattle.meant_files.proofs.Told.{files_followed}
 use Rattle.meant_files.proofs.Bodies.{kind_in, files_counted, files_kinds, files_have_bodies}
 use Rattle.meant_files.proofs.Given.{IsRight, Given, Goes}
-use Rattle.meant_files.proofs.Types.{units_given, units_typed}
+use Rattle.meant_files.proofs.Types.{units_given, units_first, units_typed}
 
 -- ---- what is known at first
 
@@ -67,6 +68,18 @@ first_given kind_at count = record {
       let c : length predefined_entries ≡ 15 = refl in
       omega (arith, a, b, c);
 }
+
+-- The rows of predefined types are there.
+abbrev AreFirst : Table → Type 0
+AreFirst table = (t : ℕ) → t < 5 → slice_get table t ≡ slice_get (predefined_types false) t
+
+row_low : (xs ys : Table) (t : ℕ) → t < length xs → slice_get (xs ++ ys) t ≡ slice_get xs t
+row_low [] ys t less = absurd (omega (arith, less))
+row_low (x ∷ xs) ys zero less = refl
+row_low (x ∷ xs) ys (suc t) less = row_low xs ys t (omega (arith, less))
+
+rows_first : (count : ℕ) → AreFirst (at_first false count).table
+rows_first count t less = row_low (predefined_types false) (replicate (count - 5) no_type) t less
 
 module _ (files : List (List SourceUnit)) where
   abbrev p : Program
@@ -107,12 +120,21 @@ module _ (files : List (List SourceUnit)) where
         subst (λ n. Given kinds p.count (known_of p).entries n) all_counted
         (units_given kinds p.count p.units start 15 (length (names.known_of files).declared) formless goes (first_given kinds p.count))
 
+    firsts : AreFirst first_table
+    firsts =
+        units_first kinds p.count p.units (outside (record (at_first false p.count) { table = (at_first false p.count).table })) 15
+        (length (names.known_of files).declared) formless plain goes (rows_first p.count)
+
+    lasts : AreFirst (known_of p).table
+    unfolding known_of
+    lasts = units_first kinds p.count p.units start 15 (length (names.known_of files).declared) formless plain goes firsts
+
     -- Objects have the types that are indicated for them.
     pub files_typed : AllBounded p → (u : Code) → Has p.units u → AreTyped (outside (known_of p)) u
     unfolding known_of
     files_typed bounded =
         units_typed kinds p.count p.units (outside (known_of p)) start 15 (length (names.known_of files).declared) formless plain
-        (files_low numbers files known_at_first followed) bounded goes (first_given kinds p.count) ends (λ n less is. refl)
+        (files_low numbers files known_at_first followed) bounded goes (first_given kinds p.count) ends firsts lasts (λ n less is. refl)
 
     -- Each identifier denotes what is declared, or a function with a body.
     pub files_denote : (d : ℕ) → Denotes (site_of (known_of p) p.units) (typing_meant (known_of p) p.units) d

@@ -1,8 +1,11 @@
 -- Objects of a text without formals and anonymous types have the types that are indicated for them.
 use Rattle.std.proofs.Common.{◌≡◌, ◌⊎◌, inl, inr, ℕ, zero, suc, ◌<◌, ◌≤◌, Bool, true, false, List, [], ◌∷◌, ◌++◌, flat_map, set, get_or, refl, sym, ap, ◌∙◌, arith, subst, Option, Some, None, true≢false, if◌then◌else◌}
+use Rattle.std.specs.Prelude.{slice_get}
 use Rattle.spark_base.specs.Lists.{Has}
 use Rattle.resolved_tree.specs.declared.node.Mark.{Mark}
-use Rattle.resolved_tree.specs.Trees.{More, Code, Plain, Anonymous, Bounds, Marked, Constrained, Objects, Numbers, SubBody, Package, PackageBody, If, Branch, Case, When, Loop, While, For, Block}
+use Rattle.resolved_tree.specs.declared.operator.UnaryOperator.{UnaryOperator}
+use Rattle.resolved_tree.specs.declared.operator.UnaryOperator.TheVariants as unary
+use Rattle.resolved_tree.specs.Trees.{Tree, Named, Parens, Unary, Binary, More, Code, Plain, Anonymous, Bounds, Marked, Constrained, Objects, Numbers, SubBody, Package, PackageBody, If, Branch, Case, When, Loop, While, For, Block}
 use Rattle.name_events.specs.declared.declaration.DeclarationForm.{DeclarationForm}
 use Rattle.name_events.specs.declared.declaration.DeclarationForm.TheVariants as form
 use Rattle.name_events.specs.declared.declaration.DeclKind.{DeclKind}
@@ -13,18 +16,22 @@ use Rattle.type_definitions.specs.declared.table.Known.{Known}
 use Rattle.type_definitions.specs.declared.table.Kind.TheVariants as kind
 use Rattle.type_definitions.specs.declared.table.Entry.{Entry}
 use Rattle.type_definitions.specs.declared.table.Entry.TheVariants as entry
-use Rattle.type_definitions.specs.Types.{untyped}
-use Rattle.type_definitions.specs.Entries.{entry_of, integer, is_type, type_of_entry, type_of_mark, marked}
+use Rattle.type_definitions.specs.declared.judgement.Own.TheVariants as own
+use Rattle.type_definitions.specs.Types.{Table, untyped, base, base_found, full, shape_found, view_of, meant_type_found, is_scalar}
+use Rattle.type_definitions.specs.Entries.{entry_of, integer, boolean, is_type, type_of_entry, type_of_mark, marked}
 use Rattle.type_definitions.specs.Names.{Context}
+use Rattle.type_definitions.specs.Expressions.{own_type, unary_type, is_join, is_arithmetic}
+use Rattle.type_definitions.specs.Statements.{type_or_integer}
 use Rattle.type_definitions.specs.Gathered.{gather, each, with_entry, with_indication, with_object, object_info, constant_value, indicated, with_number, number_info, initial_value, with_body_front, plain_object, parameter_type, in_subprogram, in_visible, in_hidden, declared_number}
-use Rattle.type_definitions.specs.Whole.{gather_units}
+use Rattle.type_definitions.specs.Whole.{predefined_types, gather_units}
 use Rattle.meant_files.specs.Formless.{IsFormless}
 use Rattle.gathered_laws.specs.Named.{IsPlain, IsNamed}
 use Rattle.meant_files.specs.Declarations.{Declarations, each_as, declarations, last_from, IsLow, IsLowIndication, IsLowRange, AreLow, AllLow}
-use Rattle.meant_files.specs.Counted.{is_completing}
+use Rattle.meant_files.specs.Counted.{is_completing, Counts}
 use Rattle.meant_files.specs.Typed.{IsParameterOf, AreIndicated, AreIntegers, AreTyped}
-use Rattle.meant_files.specs.Bounded.{IsBounded, AreBounded}
+use Rattle.meant_files.specs.Bounded.{is_named, IsBounded, AreBounded}
 use Rattle.meant_files.proofs.Given.{entry_there, counts_has, counts_grow, is_type_kind, is_object_kind, is_put, IsRight, Given, Goes, goes_both, put, all_given, other_right, indication_given, body_given}
+use Rattle.meant_files.proofs.Rows.{row_stays, body_stays}
 use Rattle.meant_files.proofs.Stays.{Without, stays, objects_stay, numbers_stay}
 
 module _ (kind_at : ℕ → DeclKind) (limit : ℕ) where
@@ -230,6 +237,58 @@ module _ (kind_at : ℕ → DeclKind) (limit : ℕ) where
       )
   numbers_typed v ids c known k j goes given agrees = tt
 
+  -- ---- rows of predefined types
+
+  abbrev AreFirst : Table → Type 0
+  AreFirst table = (t : ℕ) → t < 5 → slice_get table t ≡ slice_get (predefined_types false) t
+
+  counts_high : (k : ℕ) (L : Declarations) (j : ℕ) (new : DeclarationForm) (n : ℕ) → Counts k L j → 15 ≤ k → Has L (new, n) → 15 ≤ n
+  counts_high k [] j new n counts high has = absurd has
+  counts_high k (x ∷ L) j new n (inl next) high (inl same) =
+      let a = next.0 in let b = ap (λ (x : DeclarationForm × ℕ). x.1) same in omega (arith, a, b, high)
+  counts_high k (x ∷ L) j new n (inl next) high (inr has) = counts_high (suc k) L j new n next.1 (omega (arith, high)) has
+  counts_high k (x ∷ L) j new n (inr late) high (inl same) =
+      let a = late.0 in let b = ap (λ (x : DeclarationForm × ℕ). x.1) same in omega (arith, a, b)
+  counts_high k (x ∷ L) j new n (inr late) high (inr has) = counts_high k L j new n late.3 high has
+
+  firsts_after : (code : Code) (c : Context) (k j : ℕ) → IsFormless code → IsNamed code → Goes kind_at limit k (declarations code) j → AreFirst c.known.table
+      → AreFirst (gather code c).known.table
+  firsts_after code c k j none named goes firsts t less =
+      row_stays t code c none named (λ new has. let high = counts_high k (declarations code) j new t goes.0 goes.2 has in absurd (omega (arith, high, less))) ∙ firsts t less
+
+  abbrev IsBare : ℕ → Type 0
+  IsBare t = (t ≡ integer) ⊎ (t ≡ boolean)
+
+  -- the type of what is no name
+  own_bare : (c : Context) (e : Tree) → is_named e ≡ false → IsBare (type_or_integer (own_type c e))
+  unfolding own_type
+  own_bare c (Named p d rest) never = absurd (true≢false never)
+  own_bare c (Parens p e) never = own_bare c e never
+  own_bare c (Unary p op e) never = by op
+    where
+      by : (op : UnaryOperator) → IsBare (unary_type op)
+      by unary.Not = inr refl
+      by _ = inl refl
+  own_bare c (Binary p op a b) never = by (is_join op) (is_arithmetic op)
+    where
+      by : (join arithmetic : Bool) → IsBare (type_or_integer (if join then own.Text else if arithmetic then own.Of integer else own.Of boolean))
+      by true arithmetic = inl refl
+      by false true = inl refl
+      by false false = inr refl
+  own_bare c _ never = inl refl
+
+  bare_scalar : (table final : Table) (t : ℕ) → AreFirst table → AreFirst final → IsBare t → is_scalar (full final (base table t)) ≡ true
+  bare_scalar table final t here there (inl same) =
+      ap (λ u. is_scalar (full final (base table u))) same
+      ∙ (ap (λ o. is_scalar (full final (base_found o))) (here 0 (omega arith))
+      ∙ (ap (λ o. is_scalar (view_of (shape_found (slice_get final (meant_type_found 0 o))))) (there 0 (omega arith))
+      ∙ ap (λ o. is_scalar (view_of (shape_found o))) (there 0 (omega arith))))
+  bare_scalar table final t here there (inr same) =
+      ap (λ u. is_scalar (full final (base table u))) same
+      ∙ (ap (λ o. is_scalar (full final (base_found o))) (here 3 (omega arith))
+      ∙ (ap (λ o. is_scalar (view_of (shape_found (slice_get final (meant_type_found 3 o))))) (there 3 (omega arith))
+      ∙ ap (λ o. is_scalar (view_of (shape_found o))) (there 3 (omega arith))))
+
   -- ---- parameters of loops
 
   parameter_same : (d : ℕ) (m : Mark) (k : ℕ) (c known : Known) → k ≤ limit → d ≡ k → 15 ≤ k → is_type_kind (kind_at d) ≡ false → IsLow d m
@@ -243,11 +302,15 @@ module _ (kind_at : ℕ → DeclKind) (limit : ℕ) where
       equal : (d n : ℕ) → d ≤ n → n ≤ d → d ≡ n
       equal d n a b = omega (arith, a, b)
 
+  either : {A : Type 0} (c b : Bool) → c ≡ b → (c ≡ true → A) → (c ≡ false → A) → A
+  either c true is so never = so is
+  either c false is so never = never is
+
   parameter_typed : (d range : Code) (k j : ℕ) (L : Declarations) (c outer : Context) → Goes kind_at limit k ((form.LoopParameter, declared_number d) ∷ L) j
-      → Given kind_at limit c.known.entries k → Given kind_at limit outer.known.entries limit → IsLowRange (declared_number d) range → IsBounded outer d range
-      → entry_of outer.known (declared_number d) ≡ entry.Object (plain_object (parameter_type c range) kind.Parameter)
+      → Given kind_at limit c.known.entries k → Given kind_at limit outer.known.entries limit → IsLowRange (declared_number d) range → IsBounded outer d range → AreFirst c.known.table
+      → AreFirst outer.known.table → entry_of outer.known (declared_number d) ≡ entry.Object (plain_object (parameter_type c range) kind.Parameter)
       → IsParameterOf outer d range
-  parameter_typed d range k j L c outer goes given ends low bounded is =
+  parameter_typed d range k j L c outer goes given ends low bounded firsts lasts is =
       let f = object_form k (declared_number d) L j form.LoopParameter refl goes in
       let within = goes.3 in
       let grows = f.3 in
@@ -257,7 +320,8 @@ module _ (kind_at : ℕ → DeclKind) (limit : ℕ) where
           → IsBounded outer d range → entry_of outer.known (declared_number d) ≡ entry.Object (plain_object (parameter_type c range) kind.Parameter)
           → IsParameterOf outer d range
       by (Bounds low high) within at never under bounded is =
-          let o : ObjectInfo = plain_object (parameter_type c (Bounds low high)) kind.Parameter in (o, is, bounded o is)
+          let o : ObjectInfo = plain_object (parameter_type c (Bounds low high)) kind.Parameter in
+          (o, is, either (is_named low) (is_named low) refl (λ so. bounded so o is) (λ never. bare_scalar c.known.table outer.known.table (type_or_integer (own_type c low)) firsts lasts (own_bare c low never)))
       by (Marked m) within at never under bounded is =
           (plain_object (marked c.known m) kind.Parameter, is, parameter_same (declared_number d) m k c.known outer.known within at goes.2 never under given ends)
       by (Constrained m low high) within at never under bounded is =
@@ -272,21 +336,24 @@ module _ (kind_at : ℕ → DeclKind) (limit : ℕ) where
       ∙ stays n y c none (later m (declarations y) j n goes less is)
 
   typed_all : (code : Code) (outer c : Context) (k j : ℕ) → IsFormless code → IsNamed code → AreLow code → AreBounded outer code → Goes kind_at limit k (declarations code) j
-      → Given kind_at limit c.known.entries k → Given kind_at limit outer.known.entries limit → Agrees outer.known j (gather code c).known → AreTyped outer code
+      → Given kind_at limit c.known.entries k → Given kind_at limit outer.known.entries limit → AreFirst c.known.table → AreFirst outer.known.table
+      → Agrees outer.known j (gather code c).known → AreTyped outer code
   unfolding gather IsFormless IsNamed AreLow AreBounded AreTyped
-  typed_all (Objects ids constant i v) outer c k j none named low bounded goes given ends agrees =
+  typed_all (Objects ids constant i v) outer c k j none named low bounded goes given ends firsts lasts agrees =
       objects_typed constant i (constant_value c constant v) ids c outer.known k j
       (λ m e more within there d. indicated_same d i ids k m j e.known outer.known named low goes more within there ends) goes given agrees
-  typed_all (Numbers ids e) outer c k j none named low bounded goes given ends agrees = numbers_typed (initial_value c e) ids c outer.known k j goes given agrees
-  typed_all (SubBody front items stmts end) outer c k j none named low bounded goes given ends agrees =
+  typed_all (Numbers ids e) outer c k j none named low bounded goes given ends firsts lasts agrees = numbers_typed (initial_value c e) ids c outer.known k j goes given agrees
+  typed_all (SubBody front items stmts end) outer c k j none named low bounded goes given ends firsts lasts agrees =
       let inner : Context = in_subprogram front (with_body_front front c) in
       let f = body_given kind_at limit front c k (declarations items ++ declarations stmts) j none.0 goes given in
       let s = goes_both kind_at limit f.0 (declarations items) (declarations stmts) j f.1 in
+      let inner_firsts : AreFirst inner.known.table = λ t less. body_stays t front c none.0 named.0 ∙ firsts t less in
+      let middle_firsts : AreFirst (gather items inner).known.table = firsts_after items inner f.0 s.0 none.1 named.1 s.1 inner_firsts in
       let middle = all_given kind_at limit items inner f.0 s.0 none.1 s.1 f.2 in (
-        typed_all items (in_subprogram front outer) inner f.0 s.0 none.1 named.1 low.0 bounded.0 s.1 f.2 ends (agrees_before outer.known stmts (gather items inner) s.0 j none.2 s.2 agrees),
-        typed_all stmts (in_subprogram front outer) (gather items inner) s.0 j none.2 named.2 low.1 bounded.1 s.2 middle ends agrees,
+        typed_all items (in_subprogram front outer) inner f.0 s.0 none.1 named.1 low.0 bounded.0 s.1 f.2 ends inner_firsts lasts (agrees_before outer.known stmts (gather items inner) s.0 j none.2 s.2 agrees),
+        typed_all stmts (in_subprogram front outer) (gather items inner) s.0 j none.2 named.2 low.1 bounded.1 s.2 middle ends middle_firsts lasts agrees,
       )
-  typed_all (Package d visible hidden) outer c k j none named low bounded goes given ends agrees =
+  typed_all (Package d visible hidden) outer c k j none named low bounded goes given ends firsts lasts agrees =
       let n : ℕ = declared_number d in
       let start : Context = in_visible n (with_entry n entry.Package c) in
       let second : Context = in_hidden n (gather visible start) in
@@ -294,22 +361,23 @@ module _ (kind_at : ℕ → DeclKind) (limit : ℕ) where
       let now = more_given form.Package n k j (declarations visible ++ declarations hidden) entry.Package c.known.entries goes refl refl refl refl given in
       let s = goes_both kind_at limit (suc k) (declarations visible) (declarations hidden) j f.1 in
       let middle = all_given kind_at limit visible start (suc k) s.0 none.0 s.1 now in (
-        typed_all visible (in_visible n outer) start (suc k) s.0 none.0 named.0 low.0 bounded.0 s.1 now ends (agrees_before outer.known hidden second s.0 j none.1 s.2 agrees),
-        typed_all hidden (in_hidden n outer) second s.0 j none.1 named.1 low.1 bounded.1 s.2 middle ends agrees,
+        typed_all visible (in_visible n outer) start (suc k) s.0 none.0 named.0 low.0 bounded.0 s.1 now ends firsts lasts (agrees_before outer.known hidden second s.0 j none.1 s.2 agrees),
+        typed_all hidden (in_hidden n outer) second s.0 j none.1 named.1 low.1 bounded.1 s.2 middle ends (firsts_after visible start (suc k) s.0 none.0 named.0 s.1 firsts) lasts agrees,
       )
-  typed_all (PackageBody d parts) outer c k j none named low bounded goes given ends agrees =
-      typed_all parts (in_hidden (declared_number d) outer) (in_hidden (declared_number d) c) k j none named low bounded goes given ends agrees
-  typed_all (If p x y) outer c k j none named low bounded goes given ends agrees =
+  typed_all (PackageBody d parts) outer c k j none named low bounded goes given ends firsts lasts agrees =
+      typed_all parts (in_hidden (declared_number d) outer) (in_hidden (declared_number d) c) k j none named low bounded goes given ends firsts lasts agrees
+  typed_all (If p x y) outer c k j none named low bounded goes given ends firsts lasts agrees =
       let s = goes_both kind_at limit k (declarations x) (declarations y) j goes in (
-        typed_all x outer c k s.0 none.0 named.0 low.0 bounded.0 s.1 given ends (agrees_before outer.known y (gather x c) s.0 j none.1 s.2 agrees),
-        typed_all y outer (gather x c) s.0 j none.1 named.1 low.1 bounded.1 s.2 (all_given kind_at limit x c k s.0 none.0 s.1 given) ends agrees,
+        typed_all x outer c k s.0 none.0 named.0 low.0 bounded.0 s.1 given ends firsts lasts (agrees_before outer.known y (gather x c) s.0 j none.1 s.2 agrees),
+        typed_all y outer (gather x c) s.0 j none.1 named.1 low.1 bounded.1 s.2 (all_given kind_at limit x c k s.0 none.0 s.1 given) ends
+            (firsts_after x c k s.0 none.0 named.0 s.1 firsts) lasts agrees,
       )
-  typed_all (Branch p e x) outer c k j none named low bounded goes given ends agrees = typed_all x outer c k j none named low bounded goes given ends agrees
-  typed_all (Case p e x) outer c k j none named low bounded goes given ends agrees = typed_all x outer c k j none named low bounded goes given ends agrees
-  typed_all (When choices x) outer c k j none named low bounded goes given ends agrees = typed_all x outer c k j none named low bounded goes given ends agrees
-  typed_all (Loop p x) outer c k j none named low bounded goes given ends agrees = typed_all x outer c k j none named low bounded goes given ends agrees
-  typed_all (While p e x) outer c k j none named low bounded goes given ends agrees = typed_all x outer c k j none named low bounded goes given ends agrees
-  typed_all (For p d reversed range x) outer c k j none named low bounded goes given ends agrees =
+  typed_all (Branch p e x) outer c k j none named low bounded goes given ends firsts lasts agrees = typed_all x outer c k j none named low bounded goes given ends firsts lasts agrees
+  typed_all (Case p e x) outer c k j none named low bounded goes given ends firsts lasts agrees = typed_all x outer c k j none named low bounded goes given ends firsts lasts agrees
+  typed_all (When choices x) outer c k j none named low bounded goes given ends firsts lasts agrees = typed_all x outer c k j none named low bounded goes given ends firsts lasts agrees
+  typed_all (Loop p x) outer c k j none named low bounded goes given ends firsts lasts agrees = typed_all x outer c k j none named low bounded goes given ends firsts lasts agrees
+  typed_all (While p e x) outer c k j none named low bounded goes given ends firsts lasts agrees = typed_all x outer c k j none named low bounded goes given ends firsts lasts agrees
+  typed_all (For p d reversed range x) outer c k j none named low bounded goes given ends firsts lasts agrees =
       let n : ℕ = declared_number d in
       let o : Entry = entry.Object (plain_object (parameter_type c range) kind.Parameter) in
       let inner : Context = with_entry n o c in
@@ -321,21 +389,23 @@ module _ (kind_at : ℕ → DeclKind) (limit : ℕ) where
       = agrees n (omega (arith, at, grows)) is
       ∙ (stays n x inner none (later (suc k) (declarations x) j n f.1 (omega (arith, at)) is)
       ∙ there_still form.LoopParameter n k j (declarations x) o c.known.entries goes refl given) in (
-        parameter_typed d range k j (declarations x) c outer goes given ends low.0 bounded.0 known,
+        parameter_typed d range k j (declarations x) c outer goes given ends low.0 bounded.0 firsts lasts known,
         typed_all x outer inner (suc k) j none named low.1 bounded.1 f.1
-            (more_given form.LoopParameter n k j (declarations x) o c.known.entries goes refl refl refl refl given) ends agrees,
+            (more_given form.LoopParameter n k j (declarations x) o c.known.entries goes refl refl refl refl given) ends firsts lasts agrees,
       )
-  typed_all (Block p x y end) outer c k j none named low bounded goes given ends agrees =
+  typed_all (Block p x y end) outer c k j none named low bounded goes given ends firsts lasts agrees =
       let s = goes_both kind_at limit k (declarations x) (declarations y) j goes in (
-        typed_all x outer c k s.0 none.0 named.0 low.0 bounded.0 s.1 given ends (agrees_before outer.known y (gather x c) s.0 j none.1 s.2 agrees),
-        typed_all y outer (gather x c) s.0 j none.1 named.1 low.1 bounded.1 s.2 (all_given kind_at limit x c k s.0 none.0 s.1 given) ends agrees,
+        typed_all x outer c k s.0 none.0 named.0 low.0 bounded.0 s.1 given ends firsts lasts (agrees_before outer.known y (gather x c) s.0 j none.1 s.2 agrees),
+        typed_all y outer (gather x c) s.0 j none.1 named.1 low.1 bounded.1 s.2 (all_given kind_at limit x c k s.0 none.0 s.1 given) ends
+            (firsts_after x c k s.0 none.0 named.0 s.1 firsts) lasts agrees,
       )
-  typed_all (More x y) outer c k j none named low bounded goes given ends agrees =
+  typed_all (More x y) outer c k j none named low bounded goes given ends firsts lasts agrees =
       let s = goes_both kind_at limit k (declarations x) (declarations y) j goes in (
-        typed_all x outer c k s.0 none.0 named.0 low.0 bounded.0 s.1 given ends (agrees_before outer.known y (gather x c) s.0 j none.1 s.2 agrees),
-        typed_all y outer (gather x c) s.0 j none.1 named.1 low.1 bounded.1 s.2 (all_given kind_at limit x c k s.0 none.0 s.1 given) ends agrees,
+        typed_all x outer c k s.0 none.0 named.0 low.0 bounded.0 s.1 given ends firsts lasts (agrees_before outer.known y (gather x c) s.0 j none.1 s.2 agrees),
+        typed_all y outer (gather x c) s.0 j none.1 named.1 low.1 bounded.1 s.2 (all_given kind_at limit x c k s.0 none.0 s.1 given) ends
+            (firsts_after x c k s.0 none.0 named.0 s.1 firsts) lasts agrees,
       )
-  typed_all code outer c k j none named low bounded goes given ends agrees = tt
+  typed_all code outer c k j none named low bounded goes given ends firsts lasts agrees = tt
 
   -- ---- units
 
@@ -356,17 +426,26 @@ module _ (kind_at : ℕ → DeclKind) (limit : ℕ) where
       let s = goes_both kind_at limit m (declarations u) (flat_map declarations rest) j goes in
       agrees_before known u c m s.0 (none u (inl refl)) s.1 (units_before known rest (gather u c) s.0 j (λ v has. none v (inr has)) s.2 agrees) n less is
 
+  pub units_first : (units : List Code) (c : Context) (k j : ℕ) → All IsFormless units → All IsNamed units → Goes kind_at limit k (flat_map declarations units) j
+      → AreFirst c.known.table → AreFirst (gather_units units c).known.table
+  units_first [] c k j none named goes firsts = firsts
+  units_first (u ∷ rest) c k j none named goes firsts =
+      let s = goes_both kind_at limit k (declarations u) (flat_map declarations rest) j goes in
+      units_first rest (gather u c) s.0 j (λ v is. none v (inr is)) (λ v is. named v (inr is)) s.2
+      (firsts_after u c k s.0 (none u (inl refl)) (named u (inl refl)) s.1 firsts)
+
   pub units_typed : (units : List Code) (outer c : Context) (k j : ℕ) → All IsFormless units → All IsNamed units → AllLow units → All (AreBounded outer) units
       → Goes kind_at limit k (flat_map declarations units) j → Given kind_at limit c.known.entries k → Given kind_at limit outer.known.entries limit
-      → Agrees outer.known j (gather_units units c).known → All (AreTyped outer) units
-  units_typed [] outer c k j none named low bounded goes given ends agrees u has = absurd has
-  units_typed (u ∷ rest) outer c k j none named low bounded goes given ends agrees v has =
+      → AreFirst c.known.table → AreFirst outer.known.table → Agrees outer.known j (gather_units units c).known → All (AreTyped outer) units
+  units_typed [] outer c k j none named low bounded goes given ends firsts lasts agrees u has = absurd has
+  units_typed (u ∷ rest) outer c k j none named low bounded goes given ends firsts lasts agrees v has =
       let s = goes_both kind_at limit k (declarations u) (flat_map declarations rest) j goes in
       let middle = all_given kind_at limit u c k s.0 (none u (inl refl)) s.1 given in elim has [
         | inl same ↦
             subst (AreTyped outer) same
-            (typed_all u outer c k s.0 (none u (inl refl)) (named u (inl refl)) low.0 (bounded u (inl refl)) s.1 given ends
+            (typed_all u outer c k s.0 (none u (inl refl)) (named u (inl refl)) low.0 (bounded u (inl refl)) s.1 given ends firsts lasts
             (units_before outer.known rest (gather u c) s.0 j (λ w is. none w (inr is)) s.2 agrees))
         | inr more ↦
-            units_typed rest outer (gather u c) s.0 j (λ w is. none w (inr is)) (λ w is. named w (inr is)) low.1 (λ w is. bounded w (inr is)) s.2 middle ends agrees v more
+            units_typed rest outer (gather u c) s.0 j (λ w is. none w (inr is)) (λ w is. named w (inr is)) low.1 (λ w is. bounded w (inr is)) s.2 middle ends
+            (firsts_after u c k s.0 (none u (inl refl)) (named u (inl refl)) s.1 firsts) lasts agrees v more
       ]

@@ -1,7 +1,7 @@
--- The parameter of a loop whose range is given by its bounds has a scalar type.
-use Rattle.std.specs.Prelude.{◌≡◌, true}
+-- The parameter of a loop whose range is given by its bounds has a scalar type, where the lower one is a name.
+use Rattle.std.specs.Prelude.{◌≡◌, Bool, true, false}
 use Rattle.spark_base.specs.Lists.{Has}
-use Rattle.resolved_tree.specs.Trees.{Code, Bounds, SubBody, Package, PackageBody, If, Branch, Case, When, Loop, While, For, Block, More, Program}
+use Rattle.resolved_tree.specs.Trees.{Tree, Named, Parens, Code, Bounds, SubBody, Package, PackageBody, If, Branch, Case, When, Loop, While, For, Block, More, Program}
 use Rattle.type_definitions.specs.declared.table.ObjectInfo.{ObjectInfo}
 use Rattle.type_definitions.specs.declared.table.Entry.TheVariants as entry
 use Rattle.type_definitions.specs.Types.{full, is_scalar}
@@ -10,9 +10,15 @@ use Rattle.type_definitions.specs.Names.{Context}
 use Rattle.type_definitions.specs.Gathered.{declared_number, in_subprogram, in_visible, in_hidden}
 use Rattle.type_definitions.specs.Whole.{outside, known_of}
 
+-- A name, in parentheses or not.
+abbrev pub is_named : Tree → Bool
+is_named (Named p d rest) = true
+is_named (Parens p e) = is_named e
+is_named e = false
+
 abbrev pub IsBounded : Context → Code → Code → Type 0
 IsBounded c d (Bounds low high) =
-    (o : ObjectInfo) → entry_of c.known (declared_number d) ≡ entry.Object o → is_scalar (full c.known.table o.of) ≡ true
+    is_named low ≡ true → (o : ObjectInfo) → entry_of c.known (declared_number d) ≡ entry.Object o → is_scalar (full c.known.table o.of) ≡ true
 IsBounded c d range = Unit {0}
 
 unfoldable pub AreBounded : Context → Code → Type 0
