@@ -61,11 +61,7 @@ pub fn check_program<L: Ledger>(
 }
 
 /// As `judged`, over a new ledger.
-fn judge_counted<L: Ledger>(
-    alloc: Global,
-    laid: Laid,
-    blank: Blank,
-) -> Result<Verdict, AllocError>
+fn judge_counted<L: Ledger>(alloc: Global, laid: Laid, blank: Blank) -> Result<Verdict, AllocError>
     requires name { blank.name ≡ L.name }
     requires parts { blank.parts ≡ L.parts }
     requires some { 0 < L.parts }

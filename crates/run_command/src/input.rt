@@ -13,10 +13,7 @@ const PIECE: usize = 16_384;
 
 /// All bytes of a source, or nothing where it has more than a run may have. At most one byte past
 /// the limit is taken.
-pub fn read_input<S: Source>(
-    alloc: Global,
-    input: &mut S,
-) -> Result<Option<Vec<u8>>, RunFault>
+pub fn read_input<S: Source>(alloc: Global, input: &mut S) -> Result<Option<Vec<u8>>, RunFault>
     ensures bytes { IfOk result (λ found. IfSome (S.left input.old) (λ bytes. IsWithin bytes INPUT_BYTES found)) }
     ensures within { IfOk result (λ found. IfSome found (λ text. length text.items ≤ INPUT_BYTES)) }
     ensures at_end { IfOk result (λ found. IfSome found (λ text. IfSome (S.left input.old) (λ bytes. IsAtEnd (S.left input.new)))) }

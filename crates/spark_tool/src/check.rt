@@ -73,10 +73,7 @@ fn judged(alloc: Global, names: &[String], checked: Checked) -> Result<Finding, 
         Verdict::Rejected {
             names: printed,
             reports,
-        } => Ok(Finding::Rejects(
-            has_main,
-            lines_of(alloc, names, printed, reports)?,
-        )),
+        } => Ok(Finding::Rejects(has_main, lines_of(alloc, names, printed, reports)?)),
     }
 }
 

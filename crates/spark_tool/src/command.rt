@@ -90,11 +90,7 @@ fn plan_lines(
 }
 
 /// What `leaks` does. A program is leaked, as by `check`.
-fn list_outcome(
-    alloc: Global,
-    names: &[String],
-    finding: Finding,
-) -> Result<Outcome, AllocError>
+fn list_outcome(alloc: Global, names: &[String], finding: Finding) -> Result<Outcome, AllocError>
     requires { IsChecked (finding_of finding) }
     ensures answer { IfOk result (λ made. (input : List ℕ)
         → Lists (map string_bytes names.now) (finding_of finding) (answer_for input made)) }
@@ -119,12 +115,7 @@ fn refuse(alloc: Global, names: &[String]) -> Result<Outcome, AllocError>
     ensures ready { IfOk result IsReady }
     ensures only { IfOk result (λ made. (command : Option grammar.Command) → runs command ≡ true → IsFor command made) }
 {
-    Ok(Outcome::Answers(file_refusal_answer(
-        alloc,
-        names,
-        0,
-        Code::N5,
-    )?))
+    Ok(Outcome::Answers(file_refusal_answer(alloc, names, 0, Code::N5)?))
 }
 
 /// What `run` does with a program of which nothing is reported.

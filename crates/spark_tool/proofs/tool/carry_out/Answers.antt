@@ -1,6 +1,7 @@
 use Rattle.std.proofs.Common.{◌≡◌, ap, subst, sym, map, string_bytes, true, List, ℕ, Option, IfSome}
 use Rattle.laid_program.specs.Programs.{program_of}
-use Rattle.run_command.specs.Answers.{Answer}
+use Rattle.run_command.specs.Answers.{Answer, Tells}
+use Rattle.spark_tool.specs.Promises.{TellsFront}
 use Rattle.run_command.specs.Runs.{run_answer}
 use Rattle.spark_tool.specs.declared.finding.Outcome.{Outcome}
 use Rattle.spark_tool.specs.declared.finding.Outcome.TheVariants as outcome
@@ -68,7 +69,9 @@ returns-in-Runs-clause-answered g c =
 pub returns-in-Runs-clause-fixed : goal.returns-in-Runs-clause-fixed
 returns-in-Runs-clause-fixed g c =
     let fixed : Option Answer = fixed_answer (command_of (map string_bytes c.args.words.now)) in
-    ok_no_fixed c.start.result fixed _ (subst (λ (o : Outcome). IfSome fixed (λ told. IsMade told o)) c.in-Runs.is c.in_ok-answer.ensures.fixed)
+    ok_no_fixed c.start.result fixed
+    (λ status told. Tells told (g.K.Sink.written c.args.out.now) (g.K.Sink.written c.start.new.out) (g.K.Sink.written c.args.err.now) (g.K.Sink.written c.start.new.err) status)
+    (subst (λ (o : Outcome). IfSome fixed (λ told. IsMade told o)) c.in-Runs.is c.in_ok-answer.ensures.fixed)
 
 pub returns-in-Runs-clause-reads : goal.returns-in-Runs-clause-reads
 returns-in-Runs-clause-reads g c stopped =
@@ -78,4 +81,6 @@ returns-in-Runs-clause-reads g c stopped =
 pub returns-in-Runs-clause-fixed_front : goal.returns-in-Runs-clause-fixed_front
 returns-in-Runs-clause-fixed_front g c stopped =
     let fixed : Option Answer = fixed_answer (command_of (map string_bytes c.args.words.now)) in
-    no_fixed fixed _ (subst (λ (o : Outcome). IfSome fixed (λ told. IsMade told o)) c.in-Runs.is c.in_ok-answer.ensures.fixed)
+    no_fixed fixed
+    (λ told. TellsFront told (g.K.Sink.written c.args.out.now) (g.K.Sink.written c.start.new.out) (g.K.Sink.written c.args.err.now) (g.K.Sink.written c.start.new.err))
+    (subst (λ (o : Outcome). IfSome fixed (λ told. IsMade told o)) c.in-Runs.is c.in_ok-answer.ensures.fixed)
