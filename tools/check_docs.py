@@ -223,7 +223,7 @@ def faults_of_code(pages):
 def faults_of_codes(pages):
     """The codes that can come, by TOOL.md and RULES.md, are those of ERRORS.md."""
     texts = {page.name: page.text for page in pages}
-    can_come = set(re.findall(r"^\| (\w\d+) \|.*\| yes[^|]*\|$", texts["docs/TOOL.md"], re.M))
+    can_come = set(re.findall(r"^\| ([A-Z]\d+) \|.*\| yes[^|]*\|$", texts["docs/TOOL.md"], re.M))
     can_come |= set(re.findall(r"^### (\w\d+):", texts["docs/RULES.md"], re.M))
     told = {row.code for row in errors_page.ROWS}
     for code in sorted(can_come - told):

@@ -16,7 +16,10 @@ TOP = pathlib.Path(__file__).resolve().parent.parent
 LINES = TOP / "crates.txt"
 
 # Libraries that a crate needs and no text of it names: (crate, library) with the reason.
-UNNAMED = {("run_ready", "run_codes"): "only clauses in its code name it"}
+UNNAMED = {
+    ("run_ready", "run_codes"): "only clauses in its code name it",
+    ("run_command", "laid_program"): "only clauses in its code name it",
+}
 
 
 def bare(path):

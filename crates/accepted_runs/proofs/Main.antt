@@ -12,9 +12,10 @@ use Rattle.sound_files.specs.Class.{IsPlainText, CallsNothing}
 use Rattle.sound_files.specs.Left.{AreOrderly}
 use Rattle.sound_files.proofs.Main.{parsed_sound}
 use Rattle.command_words.specs.Words.{Check}
+use Rattle.run_command.specs.Answers.{Answer}
 use Rattle.spark_tool.specs.Commands.{command_of}
 use Rattle.spark_tool.specs.Reading.{sources}
-use Rattle.spark_tool.specs.Product.{Answer, Product}
+use Rattle.spark_tool.specs.Product.{Product}
 use Rattle.accepted_runs.specs.Passed.{Passes}
 use Rattle.accepted_runs.proofs.Passing.{Passed, product_passed}
 use Rattle.accepted_runs.proofs.Parsed.{are_parsed}
@@ -36,9 +37,9 @@ passed_sound texts trees effects passes left input =
 
 -- If the tool answers a check with status 0, the named files are there and their texts pass; where
 -- their program is in the class and the premises that are left hold, its runs are sound.
-pub accepted_sound : (stored : List (List ℕ × List ℕ)) (words names : List (List ℕ)) (answer : Answer) → command_of words ≡ Some (Check names)
-    → Product stored words answer → answer.status ≡ 0
+pub accepted_sound : (stored : List (List ℕ × List ℕ)) (input : List ℕ) (words names : List (List ℕ)) (answer : Answer)
+    → command_of words ≡ Some (Check names) → Product stored input words answer → answer.status ≡ 0
     → (is : Passed (sources stored 0 SOURCE_BYTES names)) × (AreLeft is.trees → RunsAreSound is.trees)
-accepted_sound stored words names answer command product zero =
-    let is : Passed (sources stored 0 SOURCE_BYTES names) = product_passed stored words names answer command product zero in
+accepted_sound stored input words names answer command product zero =
+    let is : Passed (sources stored 0 SOURCE_BYTES names) = product_passed stored input words names answer command product zero in
     (is, passed_sound is.texts is.trees is.effects is.passes)

@@ -5,11 +5,12 @@ use Rattle.place_names.specs.Reports.{Report}
 use Rattle.ada_tree.specs.declared.unit.SourceUnit.{SourceUnit}
 use Rattle.flow_paths.specs.declared.report.Effects.{Effects}
 use Rattle.flow_paths.specs.Reports.{AreReports}
-use Rattle.program_check.specs.Sources.{flow_of, printed_in}
+use Rattle.program_check.specs.Sources.{flow_of}
 use Rattle.command_words.specs.Words.{Command, Check, Run, Leaks, Make, Selftest}
+use Rattle.run_command.specs.Answers.{Answer}
 use Rattle.spark_tool.specs.Commands.{command_of}
 use Rattle.spark_tool.specs.Reading.{Sources, Texts, sources}
-use Rattle.spark_tool.specs.Product.{Answer, judged, Checks, missing, too_large, lexical, syntactic, unresolved, mistyped, beyond, checked, Answers, Product, usage, check, leaks, make}
+use Rattle.spark_tool.specs.Product.{Finding, check_answer, judged, Checks, missing, too_large, lexical, syntactic, unresolved, mistyped, beyond, checked, Answers, Product, usage, check, run, leaks, make}
 use Rattle.accepted_runs.specs.Passed.{Passes}
 
 -- Such texts, with what their program is.
@@ -24,12 +25,12 @@ differs : (k : ℕ) → suc k ≡ 0 → ⊥
 differs k e = omega (arith, e)
 
 none_left : (names : List (List ℕ)) (trees : List (List SourceUnit)) (effects : Effects) (reports : List Report)
-    → (judged names (printed_in (flow_of trees)) reports).status ≡ 0 → AreReports (flow_of trees) effects reports
+    → (check_answer (judged names (flow_of trees) reports)).status ≡ 0 → AreReports (flow_of trees) effects reports
     → AreReports (flow_of trees) effects []
 none_left names trees effects [] is_zero are = are
 none_left names trees effects (report ∷ more) is_zero are = absurd (differs 0 is_zero)
 
-pub passed : (names : List (List ℕ)) (found : Sources) (answer : Answer) → Checks names found answer → answer.status ≡ 0 → Passed found
+pub passed : (names : List (List ℕ)) (found : Sources) (finding : Finding) → Checks names found finding → (check_answer finding).status ≡ 0 → Passed found
 passed names found answer missing is_zero = absurd (differs 6 is_zero)
 passed names found answer (too_large file) is_zero = absurd (differs 1 is_zero)
 passed names found answer (lexical texts fault pos code cut is) is_zero = absurd (differs 1 is_zero)
@@ -63,14 +64,16 @@ PassesIf stored (Some (Make n)) answer = Unit {0}
 PassesIf stored (Some (Selftest n)) answer = Unit {0}
 PassesIf stored None answer = Unit {0}
 
-answers_passed : (stored : List (List ℕ × List ℕ)) (command : Option Command) (answer : Answer) → Answers stored command answer → PassesIf stored command answer
-answers_passed stored _ _ usage = tt
-answers_passed stored _ _ (check names told checks) = λ is_zero. passed names (sources stored 0 SOURCE_BYTES names) told checks is_zero
-answers_passed stored _ _ (leaks names told lists) = tt
-answers_passed stored _ _ (make n) = tt
+answers_passed : (stored : List (List ℕ × List ℕ)) (input : List ℕ) (command : Option Command) (answer : Answer) → Answers stored input command answer
+    → PassesIf stored command answer
+answers_passed stored input _ _ usage = tt
+answers_passed stored input _ _ (check names finding checks) = λ is_zero. passed names (sources stored 0 SOURCE_BYTES names) finding checks is_zero
+answers_passed stored input _ _ (run names budget stats finding checks) = tt
+answers_passed stored input _ _ (leaks names finding answer checks lists) = tt
+answers_passed stored input _ _ (make n) = tt
 
 -- A check that the tool answers with status 0 is one of files that pass.
-pub product_passed : (stored : List (List ℕ × List ℕ)) (words names : List (List ℕ)) (answer : Answer) → command_of words ≡ Some (Check names)
-    → Product stored words answer → answer.status ≡ 0 → Passed (sources stored 0 SOURCE_BYTES names)
-product_passed stored words names answer command product =
-    subst (λ (c : Option Command). PassesIf stored c answer) command (answers_passed stored (command_of words) answer product)
+pub product_passed : (stored : List (List ℕ × List ℕ)) (input : List ℕ) (words names : List (List ℕ)) (answer : Answer)
+    → command_of words ≡ Some (Check names) → Product stored input words answer → answer.status ≡ 0 → Passed (sources stored 0 SOURCE_BYTES names)
+product_passed stored input words names answer command product =
+    subst (λ (c : Option Command). PassesIf stored c answer) command (answers_passed stored input (command_of words) answer product)

@@ -1,5 +1,5 @@
 -- The answer for files whose program is laid out.
-use Rattle.std.proofs.Common.{◌≡◌, refl, ap, subst, List, [], ◌∷◌, map, None, Result, Ok, Err}
+use Rattle.std.proofs.Common.{◌≡◌, refl, ap, subst, List, [], ◌∷◌, map, string_bytes, None, Result, Ok, Err}
 use Rattle.ada_tree.specs.declared.unit.SourceUnit.{SourceUnit}
 use Rattle.place_names.specs.Reports.{Report}
 use Rattle.type_definitions.specs.Types.{Table}
@@ -21,7 +21,7 @@ use Rattle.path_check.specs.Verdicts.{IsVerdict}
 use Rattle.path_check.specs.declared.verdict.Verdict.{Verdict}
 use Rattle.path_check.specs.declared.verdict.Verdict.TheVariants.{Accepted, Rejected}
 use Rattle.program_check.specs.Sources.{flow_of}
-use Rattle.program_check.specs.Answers.{HasReports, Answers}
+use Rattle.program_check.specs.Answers.{HasReports, Answers, KeepsNames}
 use Rattle.program_check.specs.Judged.{IsLaidOut, AreTheReports, IsJudged}
 
 -- ---- the layout of what the files mean
@@ -52,6 +52,10 @@ judged_of laid effects (Rejected names reports) are is = record {
   some = λ e. is.1.1 (none_mapped report_of reports e);
   are = record { effects = effects; are_effects = are; are_reports = is.1.0 };
 }
+
+pub names_kept : (laid : Laid) (effects : Effects) (v : Verdict) → IsVerdict laid effects v → KeepsNames (map string_bytes laid.names.items) v
+names_kept laid effects (Accepted accepted) is = ap (λ (l : Laid). map string_bytes l.names.items) is.0
+names_kept laid effects (Rejected names reports) is = tt
 
 -- ---- the answer
 

@@ -1,5 +1,5 @@
 -- The answer on the program that files mean (docs/TOOL.md, "Order of work").
-use Rattle.std.specs.Prelude.{◌≡◌, ◌≢◌, List, [], None, Result, Ok, Err}
+use Rattle.std.specs.Prelude.{◌≡◌, ◌≢◌, ℕ, List, [], None, Result, Ok, Err, map, string_bytes}
 use Rattle.ada_tree.specs.declared.unit.SourceUnit.{SourceUnit}
 use Rattle.place_names.specs.Reports.{Report}
 use Rattle.type_definitions.specs.Refusals as types
@@ -16,6 +16,7 @@ use Rattle.path_check.specs.declared.accepted.AcceptedProgram.{AcceptedProgram}
 use Rattle.path_check.specs.declared.verdict.Verdict.{Verdict}
 use Rattle.path_check.specs.declared.verdict.Verdict.TheVariants as verdict
 use Rattle.laid_program.specs.declared.names.Names.{Names}
+use Rattle.program_check.specs.declared.checked.Checked.{Checked}
 use Rattle.program_check.specs.declared.refusal.ProgramRefusal.{ProgramRefusal}
 use Rattle.program_check.specs.declared.refusal.ProgramRefusal.TheVariants.{Mistyped, Beyond, Memory}
 use Rattle.program_check.specs.Sources.{flow_of}
@@ -33,6 +34,16 @@ pub record HasReports (trees : List (List SourceUnit)) (reports : List Report) :
 pub record IsAccepted (trees : List (List SourceUnit)) (program : AcceptedProgram) : Type 0 where
   pub laid : program_of program.laid ≡ flow_of trees
   pub reports : HasReports trees []
+
+-- The verdict of what was found.
+abbrev pub verdict_of : Result Checked ProgramRefusal → Result Verdict ProgramRefusal
+verdict_of (Ok checked) = Ok checked.verdict
+verdict_of (Err refusal) = Err refusal
+
+-- What is accepted keeps the names of the files.
+abbrev pub KeepsNames : List (List ℕ) → Verdict → Type 0
+KeepsNames names (verdict.Accepted program) = map string_bytes program.laid.names.items ≡ names
+KeepsNames names (verdict.Rejected those reports) = Unit {0}
 
 -- What is rejected has some reports, and is printed by the names of the program.
 pub record IsRejected (trees : List (List SourceUnit)) (names : Names) (found : List Report) : Type 0 where

@@ -1,12 +1,13 @@
 //! The verdict on a program.
-ghost use Rattle.std.specs.Prelude.{◌≡◌, ◌+◌, ◌<◌, ◌≤◌, IfOk};
+ghost use Rattle.std.specs.Prelude.{◌≡◌, ◌+◌, ◌<◌, ◌≤◌, IfOk, is_some, map, string_bytes};
 ghost use Rattle.name_resolve.specs.Inputs.{trees_of};
 ghost use Rattle.laid_program.specs.Programs.{program_of};
 ghost use Rattle.program_check.specs.Sources.{flow_of};
-ghost use Rattle.program_check.specs.Answers.{Answers};
+ghost use Rattle.program_check.specs.Answers.{Answers, KeepsNames, verdict_of};
 ghost use Rattle.program_check.specs.Steps.{program_steps};
 ghost use Rattle.program_check.specs.Judged.{IsJudged, LaysOut};
 
+use crate::checked::Checked;
 use crate::refusal::ProgramRefusal;
 use alias_rules::alias_reports;
 use call_effects::effects;
@@ -23,7 +24,8 @@ use type_rules::type_check;
 
 /// The program of the files, laid out.
 fn laid(alloc: Global, resolved: Resolved) -> Result<Laid, ProgramRefusal>
-    ensures { LaysOut (trees_of resolved.files.items) result }
+    ensures laid { LaysOut (trees_of resolved.files.items) result }
+    ensures names { IfOk result (λ laid. laid.names ≡ resolved.names) }
 {
     let typed = type_check(alloc, resolved)?;
     Ok(lay_out(alloc, typed)?)
@@ -33,6 +35,7 @@ fn laid(alloc: Global, resolved: Resolved) -> Result<Laid, ProgramRefusal>
 /// on the text, and those of the rules on facts over all control paths.
 fn judged<L: Ledger>(alloc: Global, laid: Laid, steps: &mut Steps<L>) -> Result<Verdict, AllocError>
     ensures verdict { IfOk result (λ verdict. IsJudged (program_of laid) verdict) }
+    ensures names { IfOk result (KeepsNames (map string_bytes laid.names.items)) }
     ensures cost { steps.new ≤ steps.old + program_steps (program_of laid) }
 {
     let effects = effects(alloc, &laid)?;
@@ -50,31 +53,34 @@ pub fn check_program<L: Ledger>(
     steps: &mut Steps<L>,
 ) -> Result<Verdict, ProgramRefusal>
     ensures answers { Answers (trees_of resolved.files.items) result }
+    ensures names { IfOk result (KeepsNames (map string_bytes resolved.names.items)) }
     ensures cost { steps.new ≤ steps.old + program_steps (flow_of (trees_of resolved.files.items)) }
 {
     let laid = laid(alloc, resolved)?;
     Ok(judged(alloc, laid, steps)?)
 }
 
-/// The same, over a new ledger.
-fn check_counted<L: Ledger>(
-    alloc: Global,
-    resolved: Resolved,
-    blank: Blank,
-) -> Result<Verdict, ProgramRefusal>
+/// As `judged`, over a new ledger.
+fn judge_counted<L: Ledger>(alloc: Global, laid: Laid, blank: Blank) -> Result<Verdict, AllocError>
     requires name { blank.name ≡ L.name }
     requires parts { blank.parts ≡ L.parts }
     requires some { 0 < L.parts }
-    ensures { Answers (trees_of resolved.files.items) result }
+    ensures verdict { IfOk result (λ verdict. IsJudged (program_of laid) verdict) }
+    ensures names { IfOk result (KeepsNames (map string_bytes laid.names.items)) }
 {
     let mut steps: Steps<L> = Steps::new(blank);
-    check_program(alloc, resolved, &mut steps)
+    judged(alloc, laid, &mut steps)
 }
 
 /// Checks the program of resolved files, as `check_program` does, and forgets how many steps it
 /// took.
-pub fn check_files(alloc: Global, resolved: Resolved) -> Result<Verdict, ProgramRefusal>
-    ensures { Answers (trees_of resolved.files.items) result }
+pub fn check_files(alloc: Global, resolved: Resolved) -> Result<Checked, ProgramRefusal>
+    ensures answers { Answers (trees_of resolved.files.items) (verdict_of result) }
+    ensures names { IfOk result (λ checked. KeepsNames (map string_bytes resolved.names.items) checked.verdict) }
+    ensures main { IfOk result (λ checked. checked.has_main ≡ is_some (flow_of (trees_of resolved.files.items)).main) }
 {
-    check_counted::<Brand>(alloc, resolved, Blank::new(1))
+    let laid = laid(alloc, resolved)?;
+    let has_main = laid.main.is_some();
+    let verdict = judge_counted::<Brand>(alloc, laid, Blank::new(1))?;
+    Ok(Checked { verdict, has_main })
 }

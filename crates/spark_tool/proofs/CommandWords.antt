@@ -1,103 +1,148 @@
--- What a command gives to the store, and what it answers.
-use Rattle.std.proofs.Common.{◌≡◌, ◌⊎◌, inl, inr, ℕ, arith, subst, sym, List, All, Option, None, Some, Result, Ok, Err, IfSome, IfOk, IsSomeAnd}
+-- What a command gives to the store, and what it does.
+use Rattle.std.proofs.Common.{◌≡◌, ◌⊎◌, ◌∙◌, inl, inr, ℕ, Bool, ap, subst, sym, List, All, Option, None, Some, Result, Ok, Err, IfSome, IfOk, IsSomeAnd}
 use Rattle.spark_base.specs.declared.limits.TheConstants.{SOURCE_BYTES}
 use Rattle.spark_base.specs.Lists.{Has}
 use Rattle.spark_base.proofs.Lists.{All-has_itself}
-use Rattle.command_words.specs.Words.{Command, Check, Leaks, Make, Fits}
-use Rattle.spark_tool.specs.declared.answer.Answer as held
+use Rattle.flow_paths.specs.declared.report.Effects.{Effects}
+use Rattle.flow_paths.specs.declared.report.LeakLine.{LeakLine}
+use Rattle.flow_paths.specs.Laid.{FlowProgram}
+use Rattle.leak_checks.specs.Plan.{LeakPlan}
+use Rattle.program_check.specs.Sources.{printed_in}
+use Rattle.rule_reports.specs.Lines.{leak_plan_lines}
+use Rattle.command_words.specs.Words.{Command, Check, Run, Leaks, Make, Fits}
+use Rattle.run_command.specs.Answers.{Answer}
+use Rattle.spark_tool.specs.declared.finding.Outcome.{Outcome}
 use Rattle.spark_tool.specs.declared.stop.Stop.{Stop}
-use Rattle.spark_tool.specs.Answers.{answer_of}
-use Rattle.spark_tool.specs.Commands.{there}
-use Rattle.spark_tool.specs.Product.{Answer, Answers, usage, check, leaks, make, made, Checks, missing, Lists, unaccepted, misused, unread}
+use Rattle.spark_tool.specs.Answers.{answer_for}
+use Rattle.spark_tool.specs.Product.{Finding, Ends, Passes, Lists, ends, planned, listed, Answers, usage, check, check_answer, leaks, run, run_answer_of, make, made, Checks, missing, misused, unread, fixed_answer}
 use Rattle.spark_tool.specs.Reading.{Sources, Missing, sources}
+use Rattle.spark_tool.specs.Refusals.{Gives, IsFor}
 
--- each file of a check is an operand, and may be opened
-pub may_be_opened : (operands names : List (List ℕ)) (command : Command) → command ≡ Check names → Fits operands command → All (Has operands) names
-may_be_opened operands names command is fits =
-    let same : names ≡ operands = (subst (Fits operands) is fits).0 in
-    subst (λ (words : List (List ℕ)). All (Has words) names) same (All-has_itself names)
+-- each file of a command is an operand, and may be opened
+pub may_be_opened : (operands names : List (List ℕ)) → names ≡ operands → All (Has operands) names
+may_be_opened operands names same = subst (λ (words : List (List ℕ)). All (Has words) names) same (All-has_itself names)
 
--- where a named file isn't there
-pub unread_answers : {Rose : Type 0} (stored : Option (List (List ℕ × List ℕ))) (command : Command) (names : List (List ℕ)) → command ≡ Check names
+pub fits_check : (operands names : List (List ℕ)) (command : Command) → command ≡ Check names → Fits operands command → names ≡ operands
+fits_check operands names command is fits = (subst (Fits operands) is fits).0
+
+pub fits_leaks : (operands names : List (List ℕ)) (command : Command) → command ≡ Leaks names → Fits operands command → names ≡ operands
+fits_leaks operands names command is fits = (subst (Fits operands) is fits).0
+
+pub fits_run : (operands names : List (List ℕ)) (budget : ℕ) (stats : Bool) (command : Command) → command ≡ Run names budget stats → Fits operands command
+    → names ≡ operands
+fits_run operands names budget stats command is fits = (subst (Fits operands) is fits).0
+
+-- what is found of files, by what was read
+pub gathered_checks : (stored : Option (List (List ℕ × List ℕ))) (names : List (List ℕ)) (found : Sources) (finding : Finding)
+    → IfSome stored (λ files. sources files 0 SOURCE_BYTES names ≡ found) → Checks names found finding
+    → IfSome stored (λ files. Checks names (sources files 0 SOURCE_BYTES names) finding)
+gathered_checks None names found finding is checks = tt
+gathered_checks (Some files) names found finding is checks = subst (λ (s : Sources). Checks names s finding) (sym is) checks
+
+-- ---- what a command does, by what is found of its files
+
+pub check_gives : (stored : Option (List (List ℕ × List ℕ))) (names : List (List ℕ)) (finding : Finding) (done : Outcome)
+    → IfSome stored (λ files. Checks names (sources files 0 SOURCE_BYTES names) finding)
+    → ((input : List ℕ) → answer_for input done ≡ check_answer finding) → IfSome stored (λ files. Gives files (Some (Check names)) done)
+check_gives None names finding done checks is = tt
+check_gives (Some files) names finding done checks is =
+    λ input. subst (λ (a : Answer). Answers files input (Some (Check names)) a) (sym (is input)) (check names finding checks)
+
+pub run_gives : (stored : Option (List (List ℕ × List ℕ))) (names : List (List ℕ)) (budget : ℕ) (finding : Finding) (done : Outcome)
+    → IfSome stored (λ files. Checks names (sources files 0 SOURCE_BYTES names) finding)
+    → ((input : List ℕ) → answer_for input done ≡ run_answer_of names budget input finding)
+    → IfSome stored (λ files. (stats : Bool) → Gives files (Some (Run names budget stats)) done)
+run_gives None names budget finding done checks is = tt
+run_gives (Some files) names budget finding done checks is =
+    λ stats input. subst (λ (a : Answer). Answers files input (Some (Run names budget stats)) a) (sym (is input)) (run names budget stats finding checks)
+
+pub list_gives : (stored : Option (List (List ℕ × List ℕ))) (names : List (List ℕ)) (finding : Finding) (done : Outcome)
+    → IfSome stored (λ files. Checks names (sources files 0 SOURCE_BYTES names) finding)
+    → ((input : List ℕ) → Lists names finding (answer_for input done)) → IfSome stored (λ files. Gives files (Some (Leaks names)) done)
+list_gives None names finding done checks lists = tt
+list_gives (Some files) names finding done checks lists = λ input. leaks names finding (answer_for input done) checks (lists input)
+
+-- the lines of the plan of a program that passes
+pub plan_lists : (names : List (List ℕ)) (program : FlowProgram) (lines : List ℕ) (answer : Answer)
+    → (plan : List LeakLine) × ((effects : Effects) → LeakPlan program effects plan) × (lines ≡ leak_plan_lines names (printed_in program) plan)
+    → answer ≡ listed lines → Lists names (Passes program) answer
+plan_lists names program lines answer of is =
+    subst (λ (a : Answer). Lists names (Passes program) a) (sym (is ∙ ap listed of.2)) (planned program of.0 of.1)
+
+-- the same of a command that is this one
+pub gives_as : (stored : Option (List (List ℕ × List ℕ))) (command other : Option Command) (result : Result Outcome Stop) → command ≡ other
+    → IfOk result (λ done. IfSome stored (λ files. Gives files other done)) → IfOk result (λ done. IfSome stored (λ files. Gives files command done))
+gives_as stored command other result same gives =
+    subst (λ (c : Option Command). IfOk result (λ done. IfSome stored (λ files. Gives files c done))) (sym same) gives
+
+pub run_gives_as : (stored : Option (List (List ℕ × List ℕ))) (command : Option Command) (names : List (List ℕ)) (budget : ℕ) (stats : Bool)
+    (result : Result Outcome Stop) → command ≡ Some (Run names budget stats)
+    → IfOk result (λ done. IfSome stored (λ files. (stats : Bool) → Gives files (Some (Run names budget stats)) done))
+    → IfOk result (λ done. IfSome stored (λ files. Gives files command done))
+run_gives_as stored command names budget stats (Err stop) same gives = tt
+run_gives_as None command names budget stats (Ok done) same gives = tt
+run_gives_as (Some files) command names budget stats (Ok done) same gives =
+    subst (λ (c : Option Command). Gives files c done) (sym same) (gives stats)
+
+pub only_as : (command : Option Command) (result : Result Outcome Stop) → IfOk result (λ done. (c : Option Command) → IsFor c done) → IfOk result (IsFor command)
+only_as command (Ok done) only = only command
+only_as command (Err stop) only = tt
+
+-- ---- where a named file isn't there
+
+check_unread : (stored : Option (List (List ℕ × List ℕ))) (command : Option Command) (names : List (List ℕ)) → command ≡ Some (Check names)
+    → IsSomeAnd stored (λ files. sources files 0 SOURCE_BYTES names ≡ Missing) → IsSomeAnd stored (λ files. (input : List ℕ) → Answers files input command unread)
+check_unread None command names same gone = absurd gone
+check_unread (Some files) command names same gone =
+    λ input. subst (λ (c : Option Command). Answers files input c unread) (sym same)
+    (check names (Ends unread) (subst (λ (s : Sources). Checks names s (Ends unread)) (sym gone) missing))
+
+run_unread : (stored : Option (List (List ℕ × List ℕ))) (command : Option Command) (names : List (List ℕ)) (budget : ℕ) (stats : Bool)
+    → command ≡ Some (Run names budget stats) → IsSomeAnd stored (λ files. sources files 0 SOURCE_BYTES names ≡ Missing)
+    → IsSomeAnd stored (λ files. (input : List ℕ) → Answers files input command unread)
+run_unread None command names budget stats same gone = absurd gone
+run_unread (Some files) command names budget stats same gone =
+    λ input. subst (λ (c : Option Command). Answers files input c unread) (sym same)
+    (run names budget stats (Ends unread) (subst (λ (s : Sources). Checks names s (Ends unread)) (sym gone) missing))
+
+pub check_fault : {Rose : Type 0} (stored : Option (List (List ℕ × List ℕ))) (command : Option Command) (names : List (List ℕ)) → command ≡ Some (Check names)
     → Rose ⊎ IsSomeAnd stored (λ files. sources files 0 SOURCE_BYTES names ≡ Missing)
-    → Rose ⊎ IsSomeAnd stored (λ files. Answers files (there command) unread)
-unread_answers {Rose} stored command names is found = elim found [ inl rose ↦ inl rose | inr gone ↦ inr (at stored gone) ]
-  where
-    at : (stored : Option (List (List ℕ × List ℕ))) → IsSomeAnd stored (λ files. sources files 0 SOURCE_BYTES names ≡ Missing)
-        → IsSomeAnd stored (λ files. Answers files (there command) unread)
-    at None none = absurd none
-    at (Some files) gone =
-        subst (λ (c : Command). Answers files (there c) unread) (sym is)
-        (check names unread (subst (λ (s : Sources). Checks names s unread) (sym gone) missing))
+    → Rose ⊎ IsSomeAnd stored (λ files. (input : List ℕ) → Answers files input command unread)
+check_fault stored command names same found = elim found [ inl rose ↦ inl rose | inr gone ↦ inr (check_unread stored command names same gone) ]
 
--- where the sources are checked
-check_answers : (stored : Option (List (List ℕ × List ℕ))) (command : Command) (names : List (List ℕ)) (answer : Answer) → command ≡ Check names
-    → IfSome stored (λ files. Checks names (sources files 0 SOURCE_BYTES names) answer) → IfSome stored (λ files. Answers files (there command) answer)
-check_answers None command names answer is checks = tt
-check_answers (Some files) command names answer is checks =
-    subst (λ (c : Command). Answers files (there c) answer) (sym is) (check names answer checks)
+leaks_unread : (stored : Option (List (List ℕ × List ℕ))) (command : Option Command) (names : List (List ℕ)) → command ≡ Some (Leaks names)
+    → IsSomeAnd stored (λ files. sources files 0 SOURCE_BYTES names ≡ Missing) → IsSomeAnd stored (λ files. (input : List ℕ) → Answers files input command unread)
+leaks_unread None command names same gone = absurd gone
+leaks_unread (Some files) command names same gone =
+    λ input. subst (λ (c : Option Command). Answers files input c unread) (sym same)
+    (leaks names (Ends unread) unread (subst (λ (s : Sources). Checks names s (Ends unread)) (sym gone) missing) (ends unread))
 
-pub checked_answers : (stored : Option (List (List ℕ × List ℕ))) (command : Command) (names : List (List ℕ)) (result : Result held.Answer Stop)
-    → command ≡ Check names → IfOk result (λ answer. IfSome stored (λ files. Checks names (sources files 0 SOURCE_BYTES names) (answer_of answer)))
-    → IfOk result (λ answer. IfSome stored (λ files. Answers files (there command) (answer_of answer)))
-checked_answers stored command names (Ok answer) is checks = check_answers stored command names (answer_of answer) is checks
-checked_answers stored command names (Err stop) is checks = tt
-
--- what a check answers, by what was read
-pub gathered_checks : (stored : Option (List (List ℕ × List ℕ))) (names : List (List ℕ)) (found : Sources) (answer : Answer)
-    → IfSome stored (λ files. sources files 0 SOURCE_BYTES names ≡ found) → Checks names found answer
-    → IfSome stored (λ files. Checks names (sources files 0 SOURCE_BYTES names) answer)
-gathered_checks None names found answer is checks = tt
-gathered_checks (Some files) names found answer is checks = subst (λ (s : Sources). Checks names s answer) (sym is) checks
-
--- ---- the same of a leak plan
-
-pub may_be_listed : (operands names : List (List ℕ)) (command : Command) → command ≡ Leaks names → Fits operands command → All (Has operands) names
-may_be_listed operands names command is fits =
-    let same : names ≡ operands = (subst (Fits operands) is fits).0 in
-    subst (λ (words : List (List ℕ)). All (Has words) names) same (All-has_itself names)
-
-pub unread_lists : {Rose : Type 0} (stored : Option (List (List ℕ × List ℕ))) (command : Command) (names : List (List ℕ)) → command ≡ Leaks names
+pub leaks_fault : {Rose : Type 0} (stored : Option (List (List ℕ × List ℕ))) (command : Option Command) (names : List (List ℕ)) → command ≡ Some (Leaks names)
     → Rose ⊎ IsSomeAnd stored (λ files. sources files 0 SOURCE_BYTES names ≡ Missing)
-    → Rose ⊎ IsSomeAnd stored (λ files. Answers files (there command) unread)
-unread_lists {Rose} stored command names is found = elim found [ inl rose ↦ inl rose | inr gone ↦ inr (at stored gone) ]
-  where
-    at : (stored : Option (List (List ℕ × List ℕ))) → IsSomeAnd stored (λ files. sources files 0 SOURCE_BYTES names ≡ Missing)
-        → IsSomeAnd stored (λ files. Answers files (there command) unread)
-    at None none = absurd none
-    at (Some files) gone =
-        subst (λ (c : Command). Answers files (there c) unread) (sym is)
-        (leaks names unread (subst (λ (s : Sources). Lists names s unread) (sym gone)
-        (unaccepted Missing unread missing (λ zero. absurd (let seven : 7 ≡ 0 = zero in omega (arith, seven))))))
+    → Rose ⊎ IsSomeAnd stored (λ files. (input : List ℕ) → Answers files input command unread)
+leaks_fault stored command names same found = elim found [ inl rose ↦ inl rose | inr gone ↦ inr (leaks_unread stored command names same gone) ]
 
-list_answers : (stored : Option (List (List ℕ × List ℕ))) (command : Command) (names : List (List ℕ)) (answer : Answer) → command ≡ Leaks names
-    → IfSome stored (λ files. Lists names (sources files 0 SOURCE_BYTES names) answer) → IfSome stored (λ files. Answers files (there command) answer)
-list_answers None command names answer is lists = tt
-list_answers (Some files) command names answer is lists =
-    subst (λ (c : Command). Answers files (there c) answer) (sym is) (leaks names answer lists)
-
-pub listed_answers : (stored : Option (List (List ℕ × List ℕ))) (command : Command) (names : List (List ℕ)) (result : Result held.Answer Stop)
-    → command ≡ Leaks names → IfOk result (λ answer. IfSome stored (λ files. Lists names (sources files 0 SOURCE_BYTES names) (answer_of answer)))
-    → IfOk result (λ answer. IfSome stored (λ files. Answers files (there command) (answer_of answer)))
-listed_answers stored command names (Ok answer) is lists = list_answers stored command names (answer_of answer) is lists
-listed_answers stored command names (Err stop) is lists = tt
-
-pub gathered_lists : (stored : Option (List (List ℕ × List ℕ))) (names : List (List ℕ)) (found : Sources) (answer : Answer)
-    → IfSome stored (λ files. sources files 0 SOURCE_BYTES names ≡ found) → Lists names found answer
-    → IfSome stored (λ files. Lists names (sources files 0 SOURCE_BYTES names) answer)
-gathered_lists None names found answer is lists = tt
-gathered_lists (Some files) names found answer is lists = subst (λ (s : Sources). Lists names s answer) (sym is) lists
+pub run_fault : {Rose : Type 0} (stored : Option (List (List ℕ × List ℕ))) (command : Option Command) (names : List (List ℕ)) (budget : ℕ) (stats : Bool)
+    → command ≡ Some (Run names budget stats) → Rose ⊎ IsSomeAnd stored (λ files. sources files 0 SOURCE_BYTES names ≡ Missing)
+    → Rose ⊎ IsSomeAnd stored (λ files. (input : List ℕ) → Answers files input command unread)
+run_fault stored command names budget stats same found =
+    elim found [ inl rose ↦ inl rose | inr gone ↦ inr (run_unread stored command names budget stats same gone) ]
 
 -- ---- where no file is read
 
-pub usage_answers : (stored : Option (List (List ℕ × List ℕ))) (command : Option Command) (answer : Answer) → command ≡ None → answer ≡ misused
-    → IfSome stored (λ files. Answers files command answer)
-usage_answers None command answer none is = tt
-usage_answers (Some files) command answer none is =
-    subst (λ (c : Option Command). Answers files c answer) (sym none) (subst (λ (a : Answer). Answers files None a) (sym is) usage)
+pub usage_gives : (stored : Option (List (List ℕ × List ℕ))) (command : Option Command) (answer : Answer) → command ≡ None → answer ≡ misused
+    → IfSome stored (λ files. (input : List ℕ) → Answers files input command answer)
+usage_gives None command answer none is = tt
+usage_gives (Some files) command answer none is =
+    λ input. subst (λ (c : Option Command). Answers files input c answer) (sym none) (subst (λ (a : Answer). Answers files input None a) (sym is) usage)
 
-pub made_answers : (stored : Option (List (List ℕ × List ℕ))) (command : Option Command) (n : ℕ) (answer : Answer) → command ≡ Some (Make n)
-    → answer ≡ made n → IfSome stored (λ files. Answers files command answer)
-made_answers None command n answer asked is = tt
-made_answers (Some files) command n answer asked is =
-    subst (λ (c : Option Command). Answers files c answer) (sym asked) (subst (λ (a : Answer). Answers files (Some (Make n)) a) (sym is) (make n))
+pub made_gives : (stored : Option (List (List ℕ × List ℕ))) (command : Option Command) (n : ℕ) (answer : Answer) → command ≡ Some (Make n)
+    → answer ≡ made n → IfSome stored (λ files. (input : List ℕ) → Answers files input command answer)
+made_gives None command n answer asked is = tt
+made_gives (Some files) command n answer asked is =
+    λ input. subst (λ (c : Option Command). Answers files input c answer) (sym asked)
+    (subst (λ (a : Answer). Answers files input (Some (Make n)) a) (sym is) (make n))
+
+pub made_fixed : (command : Option Command) (n : ℕ) (answer : Answer) → command ≡ Some (Make n) → answer ≡ made n
+    → IfSome (fixed_answer command) (λ told. answer ≡ told)
+made_fixed command n answer asked is = subst (λ (c : Option Command). IfSome (fixed_answer c) (λ told. answer ≡ told)) (sym asked) is

@@ -1,94 +1,94 @@
 -- An answer is the one that is defined, also where no count rose, and what was written where a
 -- write failed.
-use Rattle.std.proofs.Common.{◌≡◌, ◌≢◌, ◌⊎◌, inl, inr, ℕ, refl, sym, subst, List, [], Option, None, Some, IfSome, IsSomeAnd}
+use Rattle.std.proofs.Common.{◌≡◌, ◌≢◌, ◌⊎◌, inl, inr, ℕ, Bool, true, false, refl, sym, ◌∙◌, subst, List, [], ◌∷◌, ◌++◌, Option, None, Some, IfSome, IsSomeAnd}
 use Rattle.std.specs.Io.KnownBytes.{Appends, Keeps}
 use Rattle.std.proofs.KnownBytes.{Appends-nil, Appends-kept}
 use Rattle.spark_base.specs.Outside.{AppendsPrefix}
-use Rattle.spark_tool.specs.Product.{Answer, Product, unread}
-use Rattle.spark_tool.specs.Promises.{Delivers, DeliversFront, Tells, TellsFront}
-use Rattle.spark_tool.specs.Answers.{answer_to}
-use Rattle.spark_tool.specs.declared.answer.Stream.{Stream}
-use Rattle.spark_tool.specs.declared.answer.Stream.TheVariants.{Out, Err}
+use Rattle.run_command.specs.Answers.{Answer, Tells}
+use Rattle.spark_tool.specs.Product.{Product, unread}
+use Rattle.spark_tool.specs.Promises.{Delivers, DeliversFront, HasInput, TellsFront}
 use Rattle.spark_tool.specs.Stops.{stop_status}
 use Rattle.spark_tool.specs.declared.stop.Stop.{Stop}
 use Rattle.spark_tool.specs.declared.stop.Stop.TheVariants.{Read, Write, Memory}
 use Rattle.spark_tool.proofs.OneAnswer.{one_answer}
 
--- the status of an answer that a program holds
-pub status_to : (stream : Stream) (text : List ℕ) (status : ℕ) → (answer_to stream text status).status ≡ status
-status_to Out text status = refl
-status_to Err text status = refl
-
--- the answer was written
-pub answer_delivers : (stored : Option (List (List ℕ × List ℕ))) (words : List (List ℕ)) (answer : Answer) (out new_out err new_err : Option (List ℕ))
-    → IfSome stored (λ files. Product files words answer) → Appends out new_out answer.out → Appends err new_err answer.err
-    → IfSome stored (λ files. Delivers files words out new_out err new_err answer.status)
-answer_delivers None words answer out new_out err new_err is to_out to_err = tt
-answer_delivers (Some files) words answer out new_out err new_err is to_out to_err = record {
+delivers : (files : List (List ℕ × List ℕ)) (input : List ℕ) (words : List (List ℕ)) (answer : Answer) (out new_out err new_err : Option (List ℕ)) (status : ℕ)
+    → Product files input words answer → Tells answer out new_out err new_err status → Delivers files input words out new_out err new_err status
+delivers files input words answer out new_out err new_err status is told = record {
   answer = answer;
   defined = is;
-  only = λ other other_is. one_answer files words other answer other_is is;
-  to_out = to_out;
-  to_err = to_err;
-  answered = refl;
+  only = λ other other_is. one_answer files input words other answer other_is is;
+  told = told;
 }
+
+-- an answer was written that is defined whatever the input has
+pub answer_delivers : (stored : Option (List (List ℕ × List ℕ))) (runs : Bool) (left : Option (List ℕ)) (words : List (List ℕ)) (answer : Answer)
+    (out new_out err new_err : Option (List ℕ)) (status : ℕ) → IfSome stored (λ files. (input : List ℕ) → Product files input words answer)
+    → Tells answer out new_out err new_err status
+    → IfSome stored (λ files. (input : List ℕ) → HasInput runs left input → Delivers files input words out new_out err new_err status)
+answer_delivers None runs left words answer out new_out err new_err status is told = tt
+answer_delivers (Some files) runs left words answer out new_out err new_err status is told =
+    λ input has. delivers files input words answer out new_out err new_err status (is input) told
+
+-- a program was run on the input
+pub run_delivers : (stored : Option (List (List ℕ × List ℕ))) (runs : Bool) (left : Option (List ℕ)) (words : List (List ℕ)) (answer : List ℕ → Answer)
+    (out new_out err new_err : Option (List ℕ)) (status : ℕ) → runs ≡ true → IfSome stored (λ files. (input : List ℕ) → Product files input words (answer input))
+    → ((input : List ℕ) → left ≡ Some input → Tells (answer input) out new_out err new_err status)
+    → IfSome stored (λ files. (input : List ℕ) → HasInput runs left input → Delivers files input words out new_out err new_err status)
+run_delivers None runs left words answer out new_out err new_err status runs_is is told = tt
+run_delivers (Some files) true left words answer out new_out err new_err status runs_is is told =
+    λ input has. delivers files input words (answer input) out new_out err new_err status (is input) (told input has)
+run_delivers (Some files) false left words answer out new_out err new_err status runs_is is told = absurd (cc)
 
 -- a front of it was written
 pub answer_delivers_front : (stored : Option (List (List ℕ × List ℕ))) (words : List (List ℕ)) (answer : Answer) (out new_out err new_err : Option (List ℕ))
-    → IfSome stored (λ files. Product files words answer) → AppendsPrefix out new_out answer.out → AppendsPrefix err new_err answer.err
-    → IfSome stored (λ files. DeliversFront files words out new_out err new_err)
-answer_delivers_front None words answer out new_out err new_err is to_out to_err = tt
-answer_delivers_front (Some files) words answer out new_out err new_err is to_out to_err = record {
+    → IfSome stored (λ files. (input : List ℕ) → Product files input words answer) → TellsFront answer out new_out err new_err
+    → IfSome stored (λ files. (input : List ℕ) → DeliversFront files input words out new_out err new_err)
+answer_delivers_front None words answer out new_out err new_err is told = tt
+answer_delivers_front (Some files) words answer out new_out err new_err is told = λ input. record {
   answer = answer;
-  defined = is;
-  only = λ other other_is. one_answer files words other answer other_is is;
-  to_out = to_out;
-  to_err = to_err;
+  defined = is input;
+  only = λ other other_is. one_answer files input words other answer other_is (is input);
+  told = told;
 }
 
 kept : (old new : Option (List ℕ)) → Keeps old new → Appends old new []
 kept old new same = Appends-kept old old new [] (Appends-nil old) same
 
 -- a named file isn't there, and nothing was written
-pub unread_delivers : (stored : Option (List (List ℕ × List ℕ))) (words : List (List ℕ)) (out new_out err new_err : Option (List ℕ))
-    → Keeps out new_out → Keeps err new_err → IsSomeAnd stored (λ files. Product files words unread)
-    → IfSome stored (λ files. Delivers files words out new_out err new_err 7)
-unread_delivers None words out new_out err new_err same_out same_err gone = tt
-unread_delivers (Some files) words out new_out err new_err same_out same_err gone =
-    record {
-      answer = unread;
-      defined = gone;
-      only = λ other is. one_answer files words other unread is gone;
-      to_out = kept out new_out same_out;
-      to_err = kept err new_err same_err;
-      answered = refl;
-    }
+pub unread_delivers : (stored : Option (List (List ℕ × List ℕ))) (runs : Bool) (left : Option (List ℕ)) (words : List (List ℕ))
+    (out new_out err new_err : Option (List ℕ)) → Keeps out new_out → Keeps err new_err
+    → IsSomeAnd stored (λ files. (input : List ℕ) → Product files input words unread)
+    → IfSome stored (λ files. (input : List ℕ) → HasInput runs left input → Delivers files input words out new_out err new_err 7)
+unread_delivers None runs left words out new_out err new_err same_out same_err gone = tt
+unread_delivers (Some files) runs left words out new_out err new_err same_out same_err gone =
+    λ input has. delivers files input words unread out new_out err new_err 7 (gone input) (refl, kept out new_out same_out, kept err new_err same_err)
 
 -- each way to stop: one with a count that rose, one with no memory, or a file that isn't there
-pub stop_delivers : (stop : Stop) (status : ℕ) (stored : Option (List (List ℕ × List ℕ))) (words : List (List ℕ)) (out new_out err new_err : Option (List ℕ))
-    (FilesRose OutRose ErrRose : Type 0) → status ≡ stop_status stop → ¬ FilesRose → ¬ OutRose → ¬ ErrRose → status ≢ 9
-    → (stop ≡ Read → FilesRose ⊎ IsSomeAnd stored (λ files. Product files words unread)) → (stop ≡ Write → OutRose ⊎ ErrRose)
-    → (stop ≢ Write → Keeps out new_out × Keeps err new_err)
-    → IfSome stored (λ files. Delivers files words out new_out err new_err status)
-stop_delivers Read status stored words out new_out err new_err F O E is files_stay out_stays err_stays memory read write nothing =
-    let same : Keeps out new_out × Keeps err new_err = nothing (λ e. cc) in
-    let gone : IsSomeAnd stored (λ files. Product files words unread) = elim (read refl) [ inl rose ↦ absurd (files_stay rose) | inr gone ↦ gone ] in
-    subst (λ (n : ℕ). IfSome stored (λ files. Delivers files words out new_out err new_err n)) (sym is)
-    (unread_delivers stored words out new_out err new_err same.0 same.1 gone)
-stop_delivers Write status stored words out new_out err new_err F O E is files_stay out_stays err_stays memory read write nothing =
+pub stop_delivers : (stop : Stop) (status : ℕ) (stored : Option (List (List ℕ × List ℕ))) (runs : Bool) (left : Option (List ℕ)) (words : List (List ℕ))
+    (out new_out err new_err : Option (List ℕ)) (FilesRose InputRose OutRose ErrRose : Type 0) → status ≡ stop_status stop → ¬ FilesRose
+    → (runs ≡ true → ¬ InputRose) → ¬ OutRose → ¬ ErrRose → status ≢ 9
+    → (stop ≡ Read → FilesRose ⊎ ((runs ≡ true) × InputRose) ⊎ IsSomeAnd stored (λ files. (input : List ℕ) → Product files input words unread))
+    → (stop ≡ Write → OutRose ⊎ ErrRose) → (stop ≡ Read → Keeps out new_out × Keeps err new_err)
+    → IfSome stored (λ files. (input : List ℕ) → HasInput runs left input → Delivers files input words out new_out err new_err status)
+stop_delivers Read status stored runs left words out new_out err new_err F I O E is files_stay input_stays out_stays err_stays memory read write nothing =
+    let same : Keeps out new_out × Keeps err new_err = nothing refl in
+    let gone : IsSomeAnd stored (λ files. (input : List ℕ) → Product files input words unread) =
+    elim (read refl) [ inl rose ↦ absurd (files_stay rose) | inr later ↦ elim later [ inl rose ↦ absurd (input_stays rose.0 rose.1) | inr gone ↦ gone ] ] in
+    subst (λ (n : ℕ). IfSome stored (λ files. (input : List ℕ) → HasInput runs left input → Delivers files input words out new_out err new_err n)) (sym is)
+    (unread_delivers stored runs left words out new_out err new_err same.0 same.1 gone)
+stop_delivers Write status stored runs left words out new_out err new_err F I O E is files_stay input_stays out_stays err_stays memory read write nothing =
     absurd (elim (write refl) [ inl rose ↦ out_stays rose | inr rose ↦ err_stays rose ])
-stop_delivers Memory status stored words out new_out err new_err F O E is files_stay out_stays err_stays memory read write nothing = absurd (memory is)
+stop_delivers Memory status stored runs left words out new_out err new_err F I O E is files_stay input_stays out_stays err_stays memory read write nothing = absurd (memory is)
 
 -- an answer that needs no file was written
-pub fixed_tells : (fixed : Option Answer) (answer : Answer) (out new_out err new_err : Option (List ℕ)) → IfSome fixed (λ told. answer ≡ told)
-    → Appends out new_out answer.out → Appends err new_err answer.err → IfSome fixed (λ told. Tells told out new_out err new_err answer.status)
-fixed_tells None answer out new_out err new_err is to_out to_err = tt
-fixed_tells (Some told) answer out new_out err new_err is to_out to_err =
-    subst (λ (a : Answer). Tells a out new_out err new_err answer.status) is (refl, to_out, to_err)
+pub fixed_tells : (fixed : Option Answer) (answer : Answer) (out new_out err new_err : Option (List ℕ)) (status : ℕ) → IfSome fixed (λ told. answer ≡ told)
+    → Tells answer out new_out err new_err status → IfSome fixed (λ told. Tells told out new_out err new_err status)
+fixed_tells None answer out new_out err new_err status is told = tt
+fixed_tells (Some fixed) answer out new_out err new_err status is told = subst (λ (a : Answer). Tells a out new_out err new_err status) is told
 
 -- a front of it was written
 pub fixed_tells_front : (fixed : Option Answer) (answer : Answer) (out new_out err new_err : Option (List ℕ)) → IfSome fixed (λ told. answer ≡ told)
-    → AppendsPrefix out new_out answer.out → AppendsPrefix err new_err answer.err → IfSome fixed (λ told. TellsFront told out new_out err new_err)
-fixed_tells_front None answer out new_out err new_err is to_out to_err = tt
-fixed_tells_front (Some told) answer out new_out err new_err is to_out to_err =
-    subst (λ (a : Answer). TellsFront a out new_out err new_err) is (to_out, to_err)
+    → TellsFront answer out new_out err new_err → IfSome fixed (λ told. TellsFront told out new_out err new_err)
+fixed_tells_front None answer out new_out err new_err is told = tt
+fixed_tells_front (Some fixed) answer out new_out err new_err is told = subst (λ (a : Answer). TellsFront a out new_out err new_err) is told

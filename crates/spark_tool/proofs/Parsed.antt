@@ -17,7 +17,7 @@ use Rattle.ada_parser.specs.declared.refusal.ParseRefusal.TheVariants.{Syntax, T
 use Rattle.ada_parser.specs.Refused.{RefusedAt, IsRefusal}
 use Rattle.spark_tool.specs.Lexing.{all_tokens, cuts_of}
 use Rattle.spark_tool.specs.Parsing.{told_cut, IsParsed, AreTreesOf, IsRefusedAt, FirstRefused}
-use Rattle.spark_tool.specs.Product.{Answer, Checks, syntactic}
+use Rattle.spark_tool.specs.Product.{Finding, Checks, syntactic}
 use Rattle.spark_tool.specs.Reading.{Texts}
 use Rattle.spark_tool.specs.Refusals.{IsFirstRefusal, IsRefused, parse_code}
 
@@ -100,7 +100,7 @@ at_middle P [] x behind all = all 0 x (omega arith)
 at_middle P (b ∷ before) x behind all = at_middle P before x behind (λ k d within. all (suc k) d (omega (arith, within)))
 
 -- the line of the first refusal answers the check
-pub refusal_answers : (names texts : List (List ℕ)) (cuts : List (List Cut)) (refusal : ParseRefusal) (answer : Answer)
+pub refusal_answers : (names texts : List (List ℕ)) (cuts : List (List Cut)) (refusal : ParseRefusal) (answer : Finding)
     → all_tokens 0 TOKENS texts ≡ Ok cuts → IsFirstRefusal cuts refusal → IsRefused names (parse_code refusal) answer → Checks names (Texts texts) answer
 refusal_answers names texts cuts (Syntax pos) answer cut first line = subst (Checks names (Texts texts)) (sym line) (syntactic texts cuts grammar.Syntax pos cut first)
 refusal_answers names texts cuts (TooDeep pos) answer cut first line = subst (Checks names (Texts texts)) (sym line) (syntactic texts cuts grammar.TooDeep pos cut first)

@@ -9,16 +9,16 @@ use Rattle.name_resolve.specs.declared.refusal.NameRefusal.{NameRefusal}
 use Rattle.name_resolve.specs.declared.refusal.NameRefusal.TheVariants as refusal
 use Rattle.name_resolve.specs.Judges.{Says}
 use Rattle.spark_tool.specs.Parsing.{AreRead}
-use Rattle.spark_tool.specs.Product.{Answer, Checks, unresolved, name_code, refused}
+use Rattle.spark_tool.specs.Product.{Finding, Checks, unresolved, name_code, stops}
 use Rattle.spark_tool.specs.Reading.{Texts}
 use Rattle.spark_tool.specs.Refusals.{IsRefused, naming_code}
 
-broken_answers : (names texts : List (List ℕ)) (trees : List (List SourceUnit)) (broken : NameRule) (pos : Pos) (answer : Answer) → AreRead texts trees
-    → name_fault trees ≡ Some (broken, pos) → answer ≡ refused names pos (name_code broken) → Checks names (Texts texts) answer
+broken_answers : (names texts : List (List ℕ)) (trees : List (List SourceUnit)) (broken : NameRule) (pos : Pos) (answer : Finding) → AreRead texts trees
+    → name_fault trees ≡ Some (broken, pos) → answer ≡ stops names pos (name_code broken) → Checks names (Texts texts) answer
 broken_answers names texts trees broken pos answer read fault line =
-    subst (λ (a : Answer). Checks names (Texts texts) a) (sym line) (unresolved texts read.cuts trees broken pos read.cut read.parsed fault)
+    subst (λ (a : Finding). Checks names (Texts texts) a) (sym line) (unresolved texts read.cuts trees broken pos read.cut read.parsed fault)
 
-pub names_answer : (names texts : List (List ℕ)) (trees : List (List SourceUnit)) (found : NameRefusal) (answer : Answer) → AreRead texts trees
+pub names_answer : (names texts : List (List ℕ)) (trees : List (List SourceUnit)) (found : NameRefusal) (answer : Finding) → AreRead texts trees
     → Says found (name_fault trees) → IsRefused names (naming_code found) answer → Checks names (Texts texts) answer
 names_answer names texts trees (refusal.Unknown pos) answer read fault line = broken_answers names texts trees rule.Unknown pos answer read fault line
 names_answer names texts trees (refusal.Twice pos) answer read fault line = broken_answers names texts trees rule.Twice pos answer read fault line

@@ -1,9 +1,17 @@
--- Answers that a program holds.
-use Rattle.std.specs.Prelude.{ℕ, List, []}
+-- Answers, findings and outcomes that a program holds.
+use Rattle.std.specs.Prelude.{ℕ, List, [], map, string_bytes}
+use Rattle.laid_program.specs.Programs as laid
+use Rattle.path_check.specs.declared.accepted.AcceptedProgram.{AcceptedProgram}
+use Rattle.run_command.specs.Answers.{Answer}
+use Rattle.run_command.specs.Runs.{run_answer}
 use Rattle.spark_tool.specs.declared.answer.Stream.{Stream}
 use Rattle.spark_tool.specs.declared.answer.Stream.TheVariants as stream
 use Rattle.spark_tool.specs.declared.answer.Answer as held
-use Rattle.spark_tool.specs.Product.{Answer}
+use Rattle.spark_tool.specs.declared.finding.Finding as held_finding
+use Rattle.spark_tool.specs.declared.finding.Finding.TheVariants as found
+use Rattle.spark_tool.specs.declared.finding.Outcome.{Outcome}
+use Rattle.spark_tool.specs.declared.finding.Outcome.TheVariants as outcome
+use Rattle.spark_tool.specs.Product.{Finding, Ends, Rejects, Passes}
 
 abbrev pub answer_to : Stream → List ℕ → ℕ → Answer
 answer_to stream.Out text status = record { out = text; err = []; status = status }
@@ -11,3 +19,17 @@ answer_to stream.Err text status = record { out = []; err = text; status = statu
 
 abbrev pub answer_of : held.Answer → Answer
 answer_of answer = answer_to answer.stream answer.text.items answer.status
+
+abbrev pub finding_of : held_finding.Finding → Finding
+finding_of (found.Ends answer) = Ends (answer_of answer)
+finding_of (found.Rejects main lines) = Rejects main lines.items
+finding_of (found.Passes program) = Passes (laid.program_of program.laid)
+
+-- The names of the files of a program.
+abbrev pub names_of : AcceptedProgram → List (List ℕ)
+names_of program = map string_bytes program.laid.names.items
+
+-- What it writes and answers for an input.
+abbrev pub answer_for : List ℕ → Outcome → Answer
+answer_for input (outcome.Answers answer) = answer_of answer
+answer_for input (outcome.Runs program budget) = run_answer (names_of program) (laid.program_of program.laid) input budget

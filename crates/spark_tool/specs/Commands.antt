@@ -6,7 +6,7 @@ use Rattle.command_words.specs.Words.{Command, Check, Run, Leaks, Make, Selftest
 -- Commands that aren't there yet are none.
 abbrev pub there : Command → Option Command
 there (Check names) = Some (Check names)
-there (Run names steps stats) = None
+there (Run names steps stats) = Some (Run names steps stats)
 there (Leaks names) = Some (Leaks names)
 there (Make n) = Some (Make n)
 there (Selftest n) = None
@@ -23,3 +23,12 @@ reads_files (Some (Run names steps stats)) = true
 reads_files (Some (Leaks names)) = true
 reads_files (Some (Make n)) = false
 reads_files (Some (Selftest n)) = false
+
+-- Whether a program is run for it, on the input.
+abbrev pub runs : Option Command → Bool
+runs None = false
+runs (Some (Check names)) = false
+runs (Some (Run names steps stats)) = true
+runs (Some (Leaks names)) = false
+runs (Some (Make n)) = false
+runs (Some (Selftest n)) = false

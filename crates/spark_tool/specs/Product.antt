@@ -1,5 +1,5 @@
 -- What a command writes and answers (docs/TOOL.md, "Order of work").
-use Rattle.std.specs.Prelude.{◌≡◌, ◌≢◌, ℕ, List, [], ◌∷◌, Option, None, Some, Ok, Err}
+use Rattle.std.specs.Prelude.{◌≡◌, ℕ, Bool, List, [], ◌∷◌, Option, None, Some, is_some, Ok, Err, if◌then◌else◌}
 use Rattle.spark_base.specs.declared.position.Pos.{Pos}
 use Rattle.spark_base.specs.declared.limits.TheConstants.{SOURCE_BYTES, TOKENS}
 use Rattle.ada_lexer.specs.declared.refusal.LexRefusal.{LexRefusal}
@@ -16,13 +16,13 @@ use Rattle.type_definitions.specs.declared.refusal.TypeRefusal.TheVariants as un
 use Rattle.type_definitions.specs.Whole.{TypeFault, type_fault}
 use Rattle.type_definitions.specs.Refusals.{refusal_of}
 use Rattle.typing_steps.specs.Programs.{program_of}
-use Rattle.place_names.specs.Names.{Name}
 use Rattle.place_names.specs.Reports.{Report}
 use Rattle.flow_paths.specs.declared.refusal.LayFault.{LayFault}
 use Rattle.flow_paths.specs.declared.refusal.LayFault.TheVariants as limit
 use Rattle.flow_paths.specs.declared.report.Effects.{Effects}
 use Rattle.flow_paths.specs.declared.report.LeakLine.{LeakLine}
 use Rattle.flow_paths.specs.Effects.{AreEffects}
+use Rattle.flow_paths.specs.Laid.{FlowProgram}
 use Rattle.flow_paths.specs.Limits.{lay_fault}
 use Rattle.flow_paths.specs.Reports.{AreReports}
 use Rattle.leak_checks.specs.Plan.{LeakPlan}
@@ -31,17 +31,13 @@ use Rattle.rule_reports.specs.declared.code.Code.{Code}
 use Rattle.rule_reports.specs.declared.code.Code.TheVariants.{S1, L1, L2, L3, L4, L5, P1, P2, P3, N1, N2, N3, N4, N5, N6, Y1, Y2, Y3, K1, K2, K3, K4, K5, K6, K7, K8, M1, G1, G2}
 use Rattle.rule_reports.specs.Lines.{refusal_line, report_lines, leak_plan_lines, accepted_line, usage_line}
 use Rattle.prog_maker.specs.Texts.{program_text}
-use Rattle.command_words.specs.Words.{Command, Check, Leaks, Make}
+use Rattle.command_words.specs.Words.{Command, Check, Run, Leaks, Make}
+use Rattle.run_command.specs.Answers.{Answer}
+use Rattle.run_command.specs.Runs.{run_answer}
 use Rattle.spark_tool.specs.Commands.{command_of}
 use Rattle.spark_tool.specs.Reading.{Sources, Texts, TooLarge, Missing, sources}
 use Rattle.spark_tool.specs.Lexing.{all_tokens}
 use Rattle.spark_tool.specs.Parsing.{AreTreesOf, FirstRefused}
-
--- The bytes for both outputs, and the status.
-pub record Answer : Type 0 where
-  pub out : List ℕ
-  pub err : List ℕ
-  pub status : ℕ
 
 -- One refusal line.
 abbrev pub refused : List (List ℕ) → Pos → Code → Answer
@@ -116,69 +112,96 @@ limit_code (limit.NameTooDeep pos) = (pos, M1)
 limit_code (limit.TooManyPoints pos) = (pos, G1)
 limit_code (limit.TooManyFacts pos) = (pos, G2)
 
--- The reports, or that there are none.
-abbrev pub judged : List (List ℕ) → (Name → List ℕ) → List Report → Answer
-judged names printed [] = accepted
-judged names printed (report ∷ more) = rejected (report_lines names printed (report ∷ more))
+-- What is found of the sources: an answer that ends each command; the lines of reports, and whether
+-- the program has a main procedure; or a program of which nothing is reported.
+pub data Finding : Type 0 where
+  Ends : Answer → Finding
+  Rejects : Bool → List ℕ → Finding
+  Passes : FlowProgram → Finding
 
--- What `check` answers on the sources of the named files. The first row that applies decides.
-pub data Checks (names : List (List ℕ)) : Sources → Answer → Type 0 where
+-- A refusal ends each command.
+abbrev pub stops : List (List ℕ) → Pos → Code → Finding
+stops names pos code = Ends (refused names pos code)
+
+-- What the reports of a program say.
+abbrev pub judged : List (List ℕ) → FlowProgram → List Report → Finding
+judged names program [] = Passes program
+judged names program (report ∷ more) = Rejects (is_some program.main) (report_lines names (printed_in program) (report ∷ more))
+
+-- What is found of the sources of the named files. The first row that applies decides.
+pub data Checks (names : List (List ℕ)) : Sources → Finding → Type 0 where
   -- a named file isn't there
-  missing : Checks names Missing unread
+  missing : Checks names Missing (Ends unread)
   -- a file has the first byte past the limit
-  too_large : (file : ℕ) → Checks names (TooLarge file) (refused names (first_position file) S1)
+  too_large : (file : ℕ) → Checks names (TooLarge file) (stops names (first_position file) S1)
   -- the first lexical fault over all files in order
   lexical : (texts : List (List ℕ)) (fault : LexRefusal) (pos : Pos) (code : Code) → all_tokens 0 TOKENS texts ≡ Err fault
-      → lexical_code fault ≡ Some (pos, code) → Checks names (Texts texts) (refused names pos code)
+      → lexical_code fault ≡ Some (pos, code) → Checks names (Texts texts) (stops names pos code)
   -- the first file in order that the grammar refuses
   syntactic : (texts : List (List ℕ)) (cuts : List (List Cut)) (code : grammar.Code) (pos : Pos) → all_tokens 0 TOKENS texts ≡ Ok cuts
-      → FirstRefused code pos cuts → Checks names (Texts texts) (refused names pos (syntactic_code code))
+      → FirstRefused code pos cuts → Checks names (Texts texts) (stops names pos (syntactic_code code))
   -- the first broken rule of names over the trees of all files in order
   unresolved : (texts : List (List ℕ)) (cuts : List (List Cut)) (trees : List (List SourceUnit)) (broken : NameRule) (pos : Pos)
       → all_tokens 0 TOKENS texts ≡ Ok cuts → AreTreesOf cuts trees → name_fault trees ≡ Some (broken, pos)
-      → Checks names (Texts texts) (refused names pos (name_code broken))
+      → Checks names (Texts texts) (stops names pos (name_code broken))
   -- the first broken sentence on types
   mistyped : (texts : List (List ℕ)) (cuts : List (List Cut)) (trees : List (List SourceUnit)) (broken : TypeFault) (pos : Pos) (code : Code)
       → all_tokens 0 TOKENS texts ≡ Ok cuts → AreTreesOf cuts trees → name_fault trees ≡ None → type_fault (program_of trees) ≡ Some broken
-      → type_code (refusal_of broken) ≡ Some (pos, code) → Checks names (Texts texts) (refused names pos code)
+      → type_code (refusal_of broken) ≡ Some (pos, code) → Checks names (Texts texts) (stops names pos code)
   -- a name, the points or the facts of the program are beyond a limit
   beyond : (texts : List (List ℕ)) (cuts : List (List Cut)) (trees : List (List SourceUnit)) (fault : LayFault)
       → all_tokens 0 TOKENS texts ≡ Ok cuts → AreTreesOf cuts trees → name_fault trees ≡ None → type_fault (program_of trees) ≡ None
       → lay_fault (flow_of trees) ≡ Some fault
-      → Checks names (Texts texts) (refused names (limit_code fault).0 (limit_code fault).1)
+      → Checks names (Texts texts) (stops names (limit_code fault).0 (limit_code fault).1)
   -- the reports of the program
   checked : (texts : List (List ℕ)) (cuts : List (List Cut)) (trees : List (List SourceUnit)) (effects : Effects) (reports : List Report)
       → all_tokens 0 TOKENS texts ≡ Ok cuts → AreTreesOf cuts trees → name_fault trees ≡ None → type_fault (program_of trees) ≡ None
       → lay_fault (flow_of trees) ≡ None → AreEffects (flow_of trees) effects → AreReports (flow_of trees) effects reports
-      → Checks names (Texts texts) (judged names (printed_in (flow_of trees)) reports)
+      → Checks names (Texts texts) (judged names (flow_of trees) reports)
 
--- What `leaks` answers on them.
-pub data Lists (names : List (List ℕ)) : Sources → Answer → Type 0 where
-  -- where `check` doesn't accept them, what `check` answers
-  unaccepted : (found : Sources) (answer : Answer) → Checks names found answer → answer.status ≢ 0 → Lists names found answer
-  -- the leak plan of a program that has no reports
-  planned : (texts : List (List ℕ)) (cuts : List (List Cut)) (trees : List (List SourceUnit)) (effects : Effects) (lines : List LeakLine)
-      → all_tokens 0 TOKENS texts ≡ Ok cuts → AreTreesOf cuts trees → name_fault trees ≡ None → type_fault (program_of trees) ≡ None
-      → lay_fault (flow_of trees) ≡ None → AreEffects (flow_of trees) effects → AreReports (flow_of trees) effects []
-      → LeakPlan (flow_of trees) effects lines
-      → Lists names (Texts texts) (listed (leak_plan_lines names (printed_in (flow_of trees)) lines))
+-- What `check` answers.
+abbrev pub check_answer : Finding → Answer
+check_answer (Ends answer) = answer
+check_answer (Rejects main lines) = rejected lines
+check_answer (Passes program) = accepted
 
--- What the tool answers to a command, or to words that give none, over the files of a store.
-pub data Answers (stored : List (List ℕ × List ℕ)) : Option Command → Answer → Type 0 where
+-- A program without a main procedure isn't run, whatever is reported of it.
+abbrev pub with_main : List (List ℕ) → Bool → Answer → Answer
+with_main names main answer = if main then answer else refused names (first_position 0) N5
+
+-- What `run` answers.
+abbrev pub run_answer_of : List (List ℕ) → ℕ → List ℕ → Finding → Answer
+run_answer_of names budget input (Ends answer) = answer
+run_answer_of names budget input (Rejects main lines) = with_main names main (rejected lines)
+run_answer_of names budget input (Passes program) = with_main names (is_some program.main) (run_answer names program input budget)
+
+-- What `leaks` answers. The plan is the same whatever subprograms read and write.
+pub data Lists (names : List (List ℕ)) : Finding → Answer → Type 0 where
+  ends : (answer : Answer) → Lists names (Ends answer) answer
+  rejects : (main : Bool) (lines : List ℕ) → Lists names (Rejects main lines) (rejected lines)
+  planned : (program : FlowProgram) (plan : List LeakLine) → ((effects : Effects) → LeakPlan program effects plan)
+      → Lists names (Passes program) (listed (leak_plan_lines names (printed_in program) plan))
+
+-- What the tool answers to a command, or to words that give none, over the files of a store and an
+-- input.
+pub data Answers (stored : List (List ℕ × List ℕ)) (input : List ℕ) : Option Command → Answer → Type 0 where
   -- the words give no command
-  usage : Answers stored None misused
+  usage : Answers stored input None misused
   -- check FILE..
-  check : (names : List (List ℕ)) (answer : Answer) → Checks names (sources stored 0 SOURCE_BYTES names) answer
-      → Answers stored (Some (Check names)) answer
+  check : (names : List (List ℕ)) (finding : Finding) → Checks names (sources stored 0 SOURCE_BYTES names) finding
+      → Answers stored input (Some (Check names)) (check_answer finding)
+  -- run FILE..
+  run : (names : List (List ℕ)) (budget : ℕ) (stats : Bool) (finding : Finding) → Checks names (sources stored 0 SOURCE_BYTES names) finding
+      → Answers stored input (Some (Run names budget stats)) (run_answer_of names budget input finding)
   -- leaks FILE..
-  leaks : (names : List (List ℕ)) (answer : Answer) → Lists names (sources stored 0 SOURCE_BYTES names) answer
-      → Answers stored (Some (Leaks names)) answer
+  leaks : (names : List (List ℕ)) (finding : Finding) (answer : Answer) → Checks names (sources stored 0 SOURCE_BYTES names) finding
+      → Lists names finding answer → Answers stored input (Some (Leaks names)) answer
   -- make N
-  make : (n : ℕ) → Answers stored (Some (Make n)) (made n)
+  make : (n : ℕ) → Answers stored input (Some (Make n)) (made n)
 
 -- What it answers to words.
-abbrev pub Product : List (List ℕ × List ℕ) → List (List ℕ) → Answer → Type 0
-Product stored words answer = Answers stored (command_of words) answer
+abbrev pub Product : List (List ℕ × List ℕ) → List ℕ → List (List ℕ) → Answer → Type 0
+Product stored input words answer = Answers stored input (command_of words) answer
 
 -- What it answers where no file is read.
 abbrev pub fixed_answer : Option Command → Option Answer

@@ -1,43 +1,42 @@
 -- What the call of the program promises (docs/TOOL.md, "Statuses").
-use Rattle.std.specs.Prelude.{◌≡◌, ℕ, List, Option, [], ◌∷◌}
-use Rattle.std.specs.Io.KnownBytes.{Appends}
+use Rattle.std.specs.Prelude.{◌≡◌, ℕ, List, Bool, true, false, Option, Some, [], ◌∷◌}
 use Rattle.spark_base.specs.Lists.{Has}
 use Rattle.spark_base.specs.Outside.{AppendsPrefix}
-use Rattle.spark_tool.specs.Product.{Answer, Product}
+use Rattle.run_command.specs.Answers.{Answer, Tells}
+use Rattle.spark_tool.specs.Product.{Product}
 
--- The statuses of an answer: accepted, rejected, refused, misused.
+-- The statuses of an answer: done; rejected; refused; the ends of a run by an exception, by its
+-- budget and after a leak; misused; an input that is too large; the end of a run by a trap.
 abbrev pub IsRegular : ℕ → Type 0
-IsRegular status = Has (0 ∷ 1 ∷ 2 ∷ 6 ∷ []) status
+IsRegular status = Has (0 ∷ 1 ∷ 2 ∷ 3 ∷ 4 ∷ 5 ∷ 6 ∷ 10 ∷ 20 ∷ []) status
 
 -- The statuses of the program: those of an answer, and a read fault, a write fault, out of memory.
 abbrev pub IsStatus : ℕ → Type 0
-IsStatus status = Has (0 ∷ 1 ∷ 2 ∷ 6 ∷ 7 ∷ 8 ∷ 9 ∷ []) status
+IsStatus status = Has (0 ∷ 1 ∷ 2 ∷ 3 ∷ 4 ∷ 5 ∷ 6 ∷ 7 ∷ 8 ∷ 9 ∷ 10 ∷ 20 ∷ []) status
 
--- Some bytes were added after what a stream held.
-abbrev pub Grows : Option (List ℕ) → Option (List ℕ) → Type 0
-Grows old new = (piece : List ℕ) × Appends old new piece
+-- Those with which nothing was run, and nothing goes to the first output.
+abbrev pub IsUnrun : ℕ → Type 0
+IsUnrun status = Has (1 ∷ 2 ∷ 6 ∷ 7 ∷ 10 ∷ []) status
 
--- Both streams got the bytes of this answer, and its status was answered.
-abbrev pub Tells : Answer → Option (List ℕ) → Option (List ℕ) → Option (List ℕ) → Option (List ℕ) → ℕ → Type 0
-Tells answer out new_out err new_err status = (status ≡ answer.status) × Appends out new_out answer.out × Appends err new_err answer.err
+-- The input has these bytes, if a program is run on it.
+abbrev pub HasInput : Bool → Option (List ℕ) → List ℕ → Type 0
+HasInput true left input = left ≡ Some input
+HasInput false left input = Unit {0}
 
--- Both streams got some front of its bytes.
+-- Both streams got some front of the bytes of an answer.
 abbrev pub TellsFront : Answer → Option (List ℕ) → Option (List ℕ) → Option (List ℕ) → Option (List ℕ) → Type 0
 TellsFront answer out new_out err new_err = AppendsPrefix out new_out answer.out × AppendsPrefix err new_err answer.err
 
 -- Both streams got the bytes of the one answer that is defined, and its status was answered.
-pub record Delivers (stored : List (List ℕ × List ℕ)) (words : List (List ℕ)) (out new_out err new_err : Option (List ℕ)) (status : ℕ) : Type 0 where
+pub record Delivers (stored : List (List ℕ × List ℕ)) (input : List ℕ) (words : List (List ℕ)) (out new_out err new_err : Option (List ℕ)) (status : ℕ) : Type 0 where
   pub answer : Answer
-  pub defined : Product stored words answer
-  pub only : (other : Answer) → Product stored words other → other ≡ answer
-  pub to_out : Appends out new_out answer.out
-  pub to_err : Appends err new_err answer.err
-  pub answered : status ≡ answer.status
+  pub defined : Product stored input words answer
+  pub only : (other : Answer) → Product stored input words other → other ≡ answer
+  pub told : Tells answer out new_out err new_err status
 
 -- Both streams got some front of the bytes of the one answer that is defined.
-pub record DeliversFront (stored : List (List ℕ × List ℕ)) (words : List (List ℕ)) (out new_out err new_err : Option (List ℕ)) : Type 0 where
+pub record DeliversFront (stored : List (List ℕ × List ℕ)) (input : List ℕ) (words : List (List ℕ)) (out new_out err new_err : Option (List ℕ)) : Type 0 where
   pub answer : Answer
-  pub defined : Product stored words answer
-  pub only : (other : Answer) → Product stored words other → other ≡ answer
-  pub to_out : AppendsPrefix out new_out answer.out
-  pub to_err : AppendsPrefix err new_err answer.err
+  pub defined : Product stored input words answer
+  pub only : (other : Answer) → Product stored input words other → other ≡ answer
+  pub told : TellsFront answer out new_out err new_err

@@ -1,43 +1,42 @@
--- Refusals and answers of a check, as its functions promise them to each other.
-use Rattle.std.specs.Prelude.{◌≡◌, ◌≢◌, ◌⊎◌, ℕ, List, [], Option, None, Some, Ok, Err}
+-- Refusals, findings and outcomes, as functions promise them to each other.
+use Rattle.std.specs.Prelude.{◌≡◌, ◌≢◌, ◌⊎◌, ◌≤◌, ℕ, Bool, true, List, [], ◌∷◌, Option, None, Some, Ok, Err, IsSome}
 use Rattle.spark_base.specs.declared.position.Pos.{Pos}
-use Rattle.spark_base.specs.declared.limits.TheConstants.{TOKENS}
+use Rattle.spark_base.specs.declared.limits.TheConstants.{STEPS, TOKENS}
+use Rattle.spark_base.specs.Lists.{Has}
 use Rattle.ada_lexer.specs.declared.refusal.LexRefusal.TheVariants as lexical
 use Rattle.ada_lexer.specs.Tokens.{Cut}
 use Rattle.ada_tree.specs.Refusals as grammar
-use Rattle.ada_tree.specs.declared.unit.SourceUnit.{SourceUnit}
 use Rattle.ada_parser.specs.declared.refusal.ParseRefusal.{ParseRefusal}
 use Rattle.ada_parser.specs.declared.refusal.ParseRefusal.TheVariants as parse
 use Rattle.name_events.specs.declared.declaration.NameRule.TheVariants as rule
-use Rattle.name_events.specs.Faults.{name_fault}
 use Rattle.name_resolve.specs.declared.refusal.NameRefusal.{NameRefusal}
 use Rattle.name_resolve.specs.declared.refusal.NameRefusal.TheVariants as unresolved
 use Rattle.flow_paths.specs.declared.refusal.LayFault.TheVariants as limit
-use Rattle.flow_paths.specs.declared.report.Effects.{Effects}
-use Rattle.flow_paths.specs.declared.report.LeakLine.{LeakLine}
 use Rattle.flow_paths.specs.Printing.{printed_name}
-use Rattle.laid_program.specs.Programs.{program_of}
 use Rattle.lay_out.specs.declared.refusal.LayRefusal.{LayRefusal}
 use Rattle.lay_out.specs.declared.refusal.LayRefusal.TheVariants as lay
+use Rattle.command_words.specs.Words.{Command}
+use Rattle.laid_program.specs.Programs.{program_of}
+use Rattle.run_command.specs.Answers.{Answer}
 use Rattle.path_check.specs.Told.{reports_in}
 use Rattle.path_check.specs.declared.verdict.Verdict.{Verdict}
 use Rattle.path_check.specs.declared.verdict.Verdict.TheVariants as verdict
-use Rattle.leak_checks.specs.Plan.{LeakPlan}
-use Rattle.program_check.specs.Answers as judging
 use Rattle.program_check.specs.declared.refusal.ProgramRefusal.{ProgramRefusal}
 use Rattle.program_check.specs.declared.refusal.ProgramRefusal.TheVariants as unchecked
 use Rattle.rule_reports.specs.declared.code.Code.{Code}
-use Rattle.rule_reports.specs.Lines.{report_lines, leak_plan_lines}
-use Rattle.spark_tool.specs.declared.check.Found.{Found}
-use Rattle.spark_tool.specs.declared.check.Found.TheVariants as found
+use Rattle.rule_reports.specs.Lines.{report_lines}
 use Rattle.spark_tool.specs.declared.parsing.SourceRefusal.{SourceRefusal}
 use Rattle.spark_tool.specs.declared.parsing.SourceRefusal.TheVariants as source
 use Rattle.spark_tool.specs.Lexing.{all_tokens}
-use Rattle.spark_tool.specs.Answers.{answer_of}
-use Rattle.spark_tool.specs.Parsing.{AreRead, FirstRefused}
+use Rattle.spark_tool.specs.Parsing.{FirstRefused}
 use Rattle.spark_tool.specs.Product as product
-use Rattle.spark_tool.specs.Product.{Answer, Checks}
-use Rattle.spark_tool.specs.Reading.{Sources, Texts}
+use Rattle.spark_tool.specs.Product.{Finding, Ends, Rejects, Passes}
+use Rattle.spark_tool.specs.declared.finding.Finding as held
+use Rattle.spark_tool.specs.declared.finding.Finding.TheVariants as found
+use Rattle.spark_tool.specs.declared.finding.Outcome.{Outcome}
+use Rattle.spark_tool.specs.declared.finding.Outcome.TheVariants as outcome
+use Rattle.spark_tool.specs.Answers.{answer_of, answer_for, names_of}
+use Rattle.spark_tool.specs.Commands.{runs}
 
 -- The refusal is that of the first of the files that isn't that of a source; out of memory has no
 -- cause in them.
@@ -85,45 +84,50 @@ program_code (unchecked.Mistyped refusal) = product.type_code refusal
 program_code (unchecked.Beyond refusal) = layout_code refusal
 program_code unchecked.Memory = None
 
--- The answer is the line of a refusal with this position and this code.
-abbrev pub IsRefused : List (List ℕ) → Option (Pos × Code) → Answer → Type 0
-IsRefused names None answer = ⊥
-IsRefused names (Some found) answer = answer ≡ product.refused names found.0 found.1
+-- What is found is a refusal with this position and this code.
+abbrev pub IsRefused : List (List ℕ) → Option (Pos × Code) → Finding → Type 0
+IsRefused names None finding = ⊥
+IsRefused names (Some found) finding = finding ≡ product.stops names found.0 found.1
 
--- ---- answers
+-- ---- findings
 
--- The answer is that there is no report, or the lines of all.
-abbrev pub Tells : List (List ℕ) → Verdict → Answer → Type 0
-Tells names (verdict.Accepted program) answer = answer ≡ product.accepted
-Tells names (verdict.Rejected those reports) answer =
-    answer ≡ product.rejected (report_lines names (printed_name those.table those.objects) (reports_in reports))
+-- There is no report, or these are the lines of all.
+abbrev pub Tells : List (List ℕ) → Bool → Verdict → Finding → Type 0
+Tells names main (verdict.Accepted program) finding = finding ≡ Passes (program_of program.laid)
+Tells names main (verdict.Rejected those reports) finding =
+    finding ≡ Rejects main (report_lines names (printed_name those.table those.objects) (reports_in reports))
 
--- Accepted; or rejected or refused, and then nothing goes to the first output.
-abbrev pub IsChecked : Answer → Type 0
-IsChecked answer = (answer.status ≡ 0) ⊎ ((answer.out ≡ []) × ((answer.status ≡ 1) ⊎ (answer.status ≡ 2)))
+-- An answer that ends each command refuses the sources, and nothing goes to the first output.
+abbrev pub IsChecked : Finding → Type 0
+IsChecked (Ends answer) = (answer.out ≡ []) × (answer.status ≡ 2)
+IsChecked (Rejects main lines) = Unit {0}
+IsChecked (Passes program) = Unit {0}
 
--- The same of a program that is accepted by its leak plan.
-abbrev pub TellsPlan : List (List ℕ) → Verdict → Answer → Type 0
-TellsPlan names (verdict.Accepted program) answer =
-    (plan : List LeakLine) × ((effects : Effects) → LeakPlan (program_of program.laid) effects plan)
-    × (answer ≡ product.listed (leak_plan_lines names (printed_name program.laid.table program.laid.objects) plan))
-TellsPlan names (verdict.Rejected those reports) answer =
-    answer ≡ product.rejected (report_lines names (printed_name those.table those.objects) (reports_in reports))
+-- A program that passes has these names of files.
+abbrev pub IsNamed : List (List ℕ) → held.Finding → Type 0
+IsNamed names (found.Ends answer) = Unit {0}
+IsNamed names (found.Rejects main lines) = Unit {0}
+IsNamed names (found.Passes program) = names_of program ≡ names
 
--- ---- what is found of sources
+-- ---- outcomes
 
--- A refusal: nothing goes to the first output.
-abbrev pub IsRefusal : Answer → Type 0
-IsRefusal answer = (answer.out ≡ []) × (answer.status ≡ 2)
+-- Whatever the input holds, this is what is answered to the command.
+abbrev pub Gives : List (List ℕ × List ℕ) → Option Command → Outcome → Type 0
+Gives stored command made = (input : List ℕ) → product.Answers stored input command (answer_for input made)
 
--- The verdict is that on the program of some texts.
-pub record IsJudged (texts : List (List ℕ)) (of : Verdict) : Type 0 where
-  pub trees : List (List SourceUnit)
-  pub read : AreRead texts trees
-  pub named : name_fault trees ≡ None
-  pub is : judging.Answers trees (Ok of)
+-- An answer is made without the input, and nothing goes to the first output but with status 0; or
+-- a program can be run.
+abbrev pub IsReady : Outcome → Type 0
+IsReady (outcome.Answers answer) = Has (0 ∷ 1 ∷ 2 ∷ 6 ∷ []) answer.status × (answer.status ≢ 0 → (answer_of answer).out ≡ [])
+IsReady (outcome.Runs program budget) = IsSome program.laid.main × (budget ≤ STEPS)
 
--- A check refuses the sources with this answer; or this is the verdict on their program.
-abbrev pub Finds : List (List ℕ) → Sources → Found → Type 0
-Finds names sources (found.Refused answer) = Checks names sources (answer_of answer) × IsRefusal (answer_of answer)
-Finds names sources (found.Judged of) = (texts : List (List ℕ)) × (sources ≡ Texts texts) × IsJudged texts of
+-- This answer is made, and it needs no input.
+abbrev pub IsMade : Answer → Outcome → Type 0
+IsMade told (outcome.Answers answer) = answer_of answer ≡ told
+IsMade told (outcome.Runs program budget) = ⊥
+
+-- The usage line is for words without a command. A program is run only for a command that runs one,
+-- which has no other end with status 0.
+abbrev pub IsFor : Option Command → Outcome → Type 0
+IsFor command (outcome.Answers answer) = (answer.status ≡ 6 → command ≡ None) × (runs command ≡ true → answer.status ≢ 0)
+IsFor command (outcome.Runs program budget) = runs command ≡ true

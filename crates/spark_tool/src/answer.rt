@@ -40,6 +40,17 @@ pub(crate) fn usage_answer(alloc: Global) -> Result<Answer, AllocError>
     })
 }
 
+/// The lines of leak checks.
+pub(crate) fn listed_answer(lines: Vec<u8>) -> Answer
+    ensures { answer_of result ≡ spec.listed lines.items }
+{
+    Answer {
+        stream: Stream::Out,
+        text: lines,
+        status: 0,
+    }
+}
+
 /// The program that is made for a number.
 pub(crate) fn made_answer(alloc: Global, n: u32) -> Result<Answer, AllocError>
     ensures { IfOk result (λ answer. answer_of answer ≡ spec.made n) }
@@ -103,16 +114,5 @@ pub(crate) fn rejected_answer(lines: Vec<u8>) -> Answer
         stream: Stream::Err,
         text: lines,
         status: 1,
-    }
-}
-
-/// The lines of leak checks.
-pub(crate) fn listed_answer(lines: Vec<u8>) -> Answer
-    ensures { answer_of result ≡ spec.listed lines.items }
-{
-    Answer {
-        stream: Stream::Out,
-        text: lines,
-        status: 0,
     }
 }

@@ -1,7 +1,8 @@
 //! Why a command ends before its answer is written.
 ghost use Rattle.std.specs.Prelude.{◌≡◌};
-ghost use Rattle.spark_tool.specs.Stops.{stop_status};
+ghost use Rattle.spark_tool.specs.Stops.{stop_status, stop_of};
 
+use run_command::RunFault;
 use std::alloc::{AllocError, AllocFailed};
 
 /// What ends a command before its answer is written.
@@ -47,5 +48,17 @@ impl<T: Drop> From<AllocFailed<T>> for Stop {
 
     fn from(_: AllocFailed<T>) -> Self {
         Stop::Memory
+    }
+}
+
+impl From<RunFault> for Stop {
+    ghost from_gives = { λ fault stop. stop ≡ stop_of fault };
+
+    fn from(fault: RunFault) -> Self {
+        match fault {
+            RunFault::Read => Stop::Read,
+            RunFault::Write => Stop::Write,
+            RunFault::Memory => Stop::Memory,
+        }
     }
 }

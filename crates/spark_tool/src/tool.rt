@@ -1,89 +1,119 @@
 //! The call that the program makes.
-ghost use Rattle.std.specs.Prelude.{◌≡◌, ◌≢◌, ◌<◌, ◌⊎◌, Err, IfOk, OnErr, IfSome, IsSomeAnd, IsTrue, None, [], map, string_bytes};
-ghost use Rattle.std.specs.Io.KnownBytes.{Keeps};
+ghost use Rattle.std.specs.Prelude.{◌≡◌, ◌≢◌, ◌<◌, ◌⊎◌, ℕ, List, true, false, Err, IfOk, OnOk, OnErr, IfSome, IsSomeAnd, IsTrue, None, [], ◌∷◌, map, string_bytes};
+ghost use Rattle.std.specs.Io.KnownBytes.{IsAtEnd, Keeps};
+ghost use Rattle.spark_base.specs.Lists.{Has};
 ghost use Rattle.spark_base.specs.Outside.{Rose};
+ghost use Rattle.run_command.specs.Answers.{Grows, Tells};
 ghost use Rattle.spark_tool.specs.Answers.{answer_of};
-ghost use Rattle.spark_tool.specs.Commands.{command_of, reads_files};
+ghost use Rattle.spark_tool.specs.Commands.{command_of, reads_files, runs};
 ghost use Rattle.spark_tool.specs.Product.{Product, fixed_answer, unread};
-ghost use Rattle.spark_tool.specs.Promises.{IsStatus, IsRegular, Delivers, DeliversFront, Grows, Tells, TellsFront};
+ghost use Rattle.spark_tool.specs.Promises.{IsStatus, IsRegular, IsUnrun, HasInput, Delivers, DeliversFront, TellsFront};
+ghost use Rattle.spark_tool.specs.Refusals.{Gives, IsFor, IsMade, IsReady};
 
 use crate::answer::{Answer, usage_answer};
-use crate::command::command_answer;
+use crate::command::command_outcome;
 use crate::deliver::deliver;
+use crate::finding::Outcome;
+use crate::start::start;
 use crate::stop::Stop;
 use command_words::{WordFault, read_words};
 use spark_base::{FileStore, Sink, Source};
 use std::alloc::Global;
 
-/// What the words ask for, before anything is written.
-fn words_answer<F: FileStore>(
+/// What the words ask for, before anything is written and before anything is run.
+fn words_outcome<F: FileStore>(
     alloc: Global,
     words: &[String],
     files: &mut F,
-) -> Result<Answer, Stop>
+) -> Result<Outcome, Stop>
     requires { F.words files.old ≡ map string_bytes words.now }
-    ensures product { IfOk result (λ answer. IfSome (F.stored files.old)
-        (λ stored. Product stored (map string_bytes words.now) (answer_of answer))) }
-    ensures fixed { IfOk result (λ answer. IfSome (fixed_answer (command_of (map string_bytes words.now))) (λ told. answer_of answer ≡ told)) }
-    ensures usage { IfOk result (λ answer. answer.status ≡ 6 → command_of (map string_bytes words.now) ≡ None) }
-    ensures regular { IfOk result (λ answer. IsRegular answer.status) }
-    ensures silent { IfOk result (λ answer. answer.status ≢ 0 → (answer_of answer).out ≡ []) }
+    ensures gives { IfOk result (λ made. IfSome (F.stored files.old)
+        (λ stored. Gives stored (command_of (map string_bytes words.now)) made)) }
+    ensures fixed { IfOk result (λ made. IfSome (fixed_answer (command_of (map string_bytes words.now))) (λ told. IsMade told made)) }
+    ensures ready { IfOk result IsReady }
+    ensures only { IfOk result (IsFor (command_of (map string_bytes words.now))) }
     ensures fault { result ≡ Err Stop.Read → Rose (F.faults files.old) (F.faults files.new)
-        ⊎ IsSomeAnd (F.stored files.old) (λ stored. Product stored (map string_bytes words.now) unread) }
+        ⊎ IsSomeAnd (F.stored files.old) (λ stored. (bytes : List ℕ) → Product stored bytes (map string_bytes words.now) unread) }
     ensures reads { result ≡ Err Stop.Read → IsTrue (reads_files (command_of (map string_bytes words.now))) }
     ensures no_fault { result ≢ Err Stop.Read → F.faults files.new ≡ F.faults files.old }
     ensures nothing_written { result ≢ Err Stop.Write }
 {
     match read_words(alloc, words) {
-        Ok(command) => command_answer(alloc, &command, files),
-        Err(WordFault::Usage) => Ok(usage_answer(alloc)?),
+        Ok(command) => command_outcome(alloc, &command, files),
+        Err(WordFault::Usage) => Ok(Outcome::Answers(usage_answer(alloc)?)),
         Err(WordFault::Memory) => Err(Stop::Memory),
     }
 }
 
-/// Writes the answer, or says why there is none.
-fn carry_out<F: FileStore, K: Sink>(
+/// Writes an answer, and gives its status.
+fn write_answer<K: Sink>(answer: &Answer, out: &mut K, err: &mut K) -> Result<u8, Stop>
+    ensures told { IfOk result (Tells (answer_of answer.now) (K.written out.old) (K.written out.new) (K.written err.old) (K.written err.new)) }
+    ensures status { IfOk result (λ status. status ≡ answer.now.status) }
+    ensures front { OnErr result (TellsFront (answer_of answer.now) (K.written out.old) (K.written out.new) (K.written err.old) (K.written err.new)) }
+    ensures memory { result ≡ Err Stop.Memory → Keeps (K.written out.old) (K.written out.new) × Keeps (K.written err.old) (K.written err.new) }
+    ensures fault { result ≡ Err Stop.Write → Rose (K.faults out.old) (K.faults out.new) ⊎ Rose (K.faults err.old) (K.faults err.new) }
+    ensures no_fault { result ≢ Err Stop.Write → (K.faults out.new ≡ K.faults out.old) × (K.faults err.new ≡ K.faults err.old) }
+    ensures no_read { result ≢ Err Stop.Read }
+{
+    deliver(answer, out, err)?;
+    Ok(answer.status)
+}
+
+/// Writes the answer or runs the program, or says why nothing is answered.
+fn carry_out<F: FileStore, S: Source, K: Sink>(
     alloc: Global,
     words: &[String],
     files: &mut F,
+    input: &mut S,
     out: &mut K,
     err: &mut K,
 ) -> Result<u8, Stop>
     requires { F.words files.old ≡ map string_bytes words.now }
     ensures answered { IfOk result (λ status. IfSome (F.stored files.old)
-        (λ stored. Delivers stored (map string_bytes words.now)
+        (λ stored. (bytes : List ℕ) → HasInput (runs (command_of (map string_bytes words.now))) (S.left input.old) bytes
+        → Delivers stored bytes (map string_bytes words.now)
         (K.written out.old) (K.written out.new) (K.written err.old) (K.written err.new) status)) }
     ensures fixed { IfOk result (λ status. IfSome (fixed_answer (command_of (map string_bytes words.now)))
         (λ told. Tells told (K.written out.old) (K.written out.new) (K.written err.old) (K.written err.new) status)) }
     ensures usage { IfOk result (λ status. status ≡ 6 → command_of (map string_bytes words.now) ≡ None) }
     ensures regular { IfOk result IsRegular }
-    ensures silent { IfOk result (λ status. status ≢ 0 → Keeps (K.written out.old) (K.written out.new)) }
-    ensures grows { Grows (K.written out.old) (K.written out.new) × Grows (K.written err.old) (K.written err.new) }
+    ensures unrun { IfOk result (λ status. IsUnrun status → Keeps (K.written out.old) (K.written out.new)) }
+    ensures silent { runs (command_of (map string_bytes words.now)) ≡ false
+        → IfOk result (λ status. status ≢ 0 → Keeps (K.written out.old) (K.written out.new)) }
+    ensures grows { IfOk result (λ _. Grows (K.written out.old) (K.written out.new) × Grows (K.written err.old) (K.written err.new)) }
+    ensures grows_unrun { runs (command_of (map string_bytes words.now)) ≡ false
+        → Grows (K.written out.old) (K.written out.new) × Grows (K.written err.old) (K.written err.new) }
+    ensures all_read { runs (command_of (map string_bytes words.now)) ≡ true
+        → IfOk result (λ status. IsUnrun status ⊎ IfSome (S.left input.old) (λ bytes. IsAtEnd (S.left input.new))) }
+    ensures input { runs (command_of (map string_bytes words.now)) ≡ false → input.new ≡ input.old }
+    ensures early { IfOk result (λ status. Has (1 ∷ 2 ∷ 6 ∷ []) status → input.new ≡ input.old) }
     ensures read { result ≡ Err Stop.Read → Rose (F.faults files.old) (F.faults files.new)
-        ⊎ IsSomeAnd (F.stored files.old) (λ stored. Product stored (map string_bytes words.now) unread) }
+        ⊎ ((runs (command_of (map string_bytes words.now)) ≡ true) × Rose (S.faults input.old) (S.faults input.new))
+        ⊎ IsSomeAnd (F.stored files.old) (λ stored. (bytes : List ℕ) → Product stored bytes (map string_bytes words.now) unread) }
     ensures reads { result ≡ Err Stop.Read → IsTrue (reads_files (command_of (map string_bytes words.now))) }
     ensures write { result ≡ Err Stop.Write → Rose (K.faults out.old) (K.faults out.new) ⊎ Rose (K.faults err.old) (K.faults err.new) }
-    ensures front { result ≡ Err Stop.Write → IfSome (F.stored files.old)
-        (λ stored. DeliversFront stored (map string_bytes words.now)
+    ensures front { result ≡ Err Stop.Write → runs (command_of (map string_bytes words.now)) ≡ false → IfSome (F.stored files.old)
+        (λ stored. (bytes : List ℕ) → DeliversFront stored bytes (map string_bytes words.now)
         (K.written out.old) (K.written out.new) (K.written err.old) (K.written err.new)) }
     ensures fixed_front { result ≡ Err Stop.Write → IfSome (fixed_answer (command_of (map string_bytes words.now)))
         (λ told. TellsFront told (K.written out.old) (K.written out.new) (K.written err.old) (K.written err.new)) }
-    ensures nothing { result ≢ Err Stop.Write → OnErr result
-        (Keeps (K.written out.old) (K.written out.new) × Keeps (K.written err.old) (K.written err.new)) }
-    ensures no_read_fault { result ≢ Err Stop.Read → F.faults files.new ≡ F.faults files.old }
-    ensures no_write_fault { result ≢ Err Stop.Write → (K.faults out.new ≡ K.faults out.old) × (K.faults err.new ≡ K.faults err.old) }
+    ensures nothing { result ≡ Err Stop.Read → Keeps (K.written out.old) (K.written out.new) × Keeps (K.written err.old) (K.written err.new) }
+    ensures nothing_unrun { result ≡ Err Stop.Memory → runs (command_of (map string_bytes words.now)) ≡ false
+        → Keeps (K.written out.old) (K.written out.new) × Keeps (K.written err.old) (K.written err.new) }
+    ensures no_read_fault { result ≢ Err Stop.Read → (F.faults files.new ≡ F.faults files.old) × (S.faults input.new ≡ S.faults input.old) }
+    ensures no_write_fault { result ≢ Err Stop.Write → (result ≡ Err Stop.Memory → runs (command_of (map string_bytes words.now)) ≡ false)
+        → (K.faults out.new ≡ K.faults out.old) × (K.faults err.new ≡ K.faults err.old) }
 {
-    let answer = words_answer(alloc, words, files)?;
-    deliver(&answer, out, err)?;
-    Ok(answer.status)
+    match words_outcome(alloc, words, files)? {
+        Outcome::Answers(answer) => write_answer(&answer, out, err),
+        Outcome::Runs(program, steps) => start(alloc, &program, steps, input, out, err),
+    }
 }
 
 /// Runs the command that the words give (`docs/TOOL.md`). `check` reads the files that they name,
-/// checks the sources, and writes the reports, a refusal or that there is nothing to report; `leaks`
-/// does the same, but writes the leak plan of a program without reports; `make` writes a program.
-/// The words are those after the program's name. The answer is the status of the program.
-///
-/// Nothing of the input is read.
+/// checks the sources, and writes the reports, a refusal or that there is nothing to report. `run`
+/// does the same, and then runs the program on the input. `make` writes a program. The words are
+/// those after the program's name. The answer is the status of the program.
 pub fn run_tool<F: FileStore, S: Source, K: Sink>(
     alloc: Global,
     words: &[String],
@@ -96,17 +126,21 @@ pub fn run_tool<F: FileStore, S: Source, K: Sink>(
 
     ensures status { IsStatus result }
 
-    // 0, 1, 2 and 6: both streams get the defined bytes, and the status is the defined one.
+    // All but 7, 8 and 9: both streams get the defined bytes, and the status is the defined one; of
+    // a run where the input tells its bytes.
     ensures defined { IsRegular result → IfSome (F.stored files.old)
-        (λ stored. Delivers stored (map string_bytes words.now)
+        (λ stored. (bytes : List ℕ) → HasInput (runs (command_of (map string_bytes words.now))) (S.left input.old) bytes
+        → Delivers stored bytes (map string_bytes words.now)
         (K.written out.old) (K.written out.new) (K.written err.old) (K.written err.new) result) }
 
     // Where no count rose in the call, that is so of each status but 9, and 7 too is the defined
     // one.
     ensures complete { ¬ Rose (F.faults files.old) (F.faults files.new)
+        → (runs (command_of (map string_bytes words.now)) ≡ true → ¬ Rose (S.faults input.old) (S.faults input.new))
         → ¬ Rose (K.faults out.old) (K.faults out.new) → ¬ Rose (K.faults err.old) (K.faults err.new)
         → result ≢ 9 → IfSome (F.stored files.old)
-        (λ stored. Delivers stored (map string_bytes words.now)
+        (λ stored. (bytes : List ℕ) → HasInput (runs (command_of (map string_bytes words.now))) (S.left input.old) bytes
+        → Delivers stored bytes (map string_bytes words.now)
         (K.written out.old) (K.written out.new) (K.written err.old) (K.written err.new) result) }
 
     // Where no file is read, that is so whatever the store tells: of the usage line and of a program
@@ -118,34 +152,48 @@ pub fn run_tool<F: FileStore, S: Source, K: Sink>(
     ensures usage { result ≡ 6 → command_of (map string_bytes words.now) ≡ None }
 
     // 7: only with a command that reads files, and only where their count rose or a named file isn't
-    // there. Nothing is written.
+    // there, or with `run` where the count of the input rose. Nothing is written.
     ensures read_fault { result ≡ 7 → Rose (F.faults files.old) (F.faults files.new)
-        ⊎ IsSomeAnd (F.stored files.old) (λ stored. Product stored (map string_bytes words.now) unread) }
+        ⊎ ((runs (command_of (map string_bytes words.now)) ≡ true) × Rose (S.faults input.old) (S.faults input.new))
+        ⊎ IsSomeAnd (F.stored files.old) (λ stored. (bytes : List ℕ) → Product stored bytes (map string_bytes words.now) unread) }
     ensures reads { result ≡ 7 → IsTrue (reads_files (command_of (map string_bytes words.now))) }
+    ensures nothing { result ≡ 7 → Keeps (K.written out.old) (K.written out.new) × Keeps (K.written err.old) (K.written err.new) }
 
-    // 8: only where the count of an output rose. A front of the defined bytes was written, where no
-    // file is read whatever the store tells.
+    // 8: only where the count of an output rose. Where nothing is run, a front of the defined bytes
+    // was written, and where no file is read whatever the store tells.
     ensures write_fault { result ≡ 8 → Rose (K.faults out.old) (K.faults out.new) ⊎ Rose (K.faults err.old) (K.faults err.new) }
-    ensures front { result ≡ 8 → IfSome (F.stored files.old)
-        (λ stored. DeliversFront stored (map string_bytes words.now)
+    ensures front { result ≡ 8 → runs (command_of (map string_bytes words.now)) ≡ false → IfSome (F.stored files.old)
+        (λ stored. (bytes : List ℕ) → DeliversFront stored bytes (map string_bytes words.now)
         (K.written out.old) (K.written out.new) (K.written err.old) (K.written err.new)) }
     ensures fixed_front { result ≡ 8 → IfSome (fixed_answer (command_of (map string_bytes words.now)))
         (λ told. TellsFront told (K.written out.old) (K.written out.new) (K.written err.old) (K.written err.new)) }
 
-    // 7 and 9: nothing is written.
-    ensures nothing { (result ≡ 7) ⊎ (result ≡ 9)
+    // 9: where nothing is run, nothing is written.
+    ensures nothing_unrun { result ≡ 9 → runs (command_of (map string_bytes words.now)) ≡ false
         → Keeps (K.written out.old) (K.written out.new) × Keeps (K.written err.old) (K.written err.new) }
 
-    // Nothing goes to `out` but at 0 and 8. Bytes are only added.
-    ensures silent { result ≢ 0 → result ≢ 8 → Keeps (K.written out.old) (K.written out.new) }
-    ensures grows { Grows (K.written out.old) (K.written out.new) × Grows (K.written err.old) (K.written err.new) }
+    // Nothing goes to `out` with 1, 2, 6, 7 and 10, and but for `run` with 9. Bytes are only added,
+    // with `run` where it answers another status than 8 and 9.
+    ensures unrun { IsUnrun result → Keeps (K.written out.old) (K.written out.new) }
+    ensures silent { runs (command_of (map string_bytes words.now)) ≡ false → result ≢ 0 → result ≢ 8
+        → Keeps (K.written out.old) (K.written out.new) }
+    ensures grows { result ≢ 8 → result ≢ 9 → Grows (K.written out.old) (K.written out.new) × Grows (K.written err.old) (K.written err.new) }
+    ensures grows_unrun { runs (command_of (map string_bytes words.now)) ≡ false
+        → Grows (K.written out.old) (K.written out.new) × Grows (K.written err.old) (K.written err.new) }
 
-    // A count that isn't the cause of the answer stays.
-    ensures no_read_fault { result ≢ 7 → F.faults files.new ≡ F.faults files.old }
-    ensures no_write_fault { result ≢ 8 → (K.faults out.new ≡ K.faults out.old) × (K.faults err.new ≡ K.faults err.old) }
-    ensures input { input.new ≡ input.old }
+    // A run has read the input to its end. Every other command leaves it as it was, and so does
+    // `run` with 1, 2 and 6.
+    ensures all_read { IsRegular result → runs (command_of (map string_bytes words.now)) ≡ true
+        → IsUnrun result ⊎ IfSome (S.left input.old) (λ bytes. IsAtEnd (S.left input.new)) }
+    ensures input { runs (command_of (map string_bytes words.now)) ≡ false → input.new ≡ input.old }
+    ensures early { Has (1 ∷ 2 ∷ 6 ∷ []) result → input.new ≡ input.old }
+
+    // A count that isn't the cause of the answer stays; those of the outputs with `run` but at 9.
+    ensures no_read_fault { result ≢ 7 → (F.faults files.new ≡ F.faults files.old) × (S.faults input.new ≡ S.faults input.old) }
+    ensures no_write_fault { result ≢ 8 → (result ≡ 9 → runs (command_of (map string_bytes words.now)) ≡ false)
+        → (K.faults out.new ≡ K.faults out.old) × (K.faults err.new ≡ K.faults err.old) }
 {
-    match carry_out(alloc, words, files, out, err) {
+    match carry_out(alloc, words, files, input, out, err) {
         Ok(status) => status,
         Err(stop) => stop.status(),
     }

@@ -54,19 +54,30 @@ fn sink(alloc: Global, fails: u64) -> Result<MemSink, AllocError> {
     Ok(MemSink::new(alloc, Vec::from_slice(alloc, &[fails])?))
 }
 
-/// What the words do over these files.
+/// What the words do over these files, without input.
 pub(crate) fn run(
     alloc: Global,
     words: &[String],
     stored: Vec<(String, Vec<u8>)>,
     faults: Faults,
 ) -> Result<Response, AllocError> {
+    let mut input = MemSource::new(Vec::new(alloc), Vec::new(alloc));
+    run_on(alloc, words, stored, &mut input, faults)
+}
+
+/// What the words do over these files and this input.
+pub(crate) fn run_on(
+    alloc: Global,
+    words: &[String],
+    stored: Vec<(String, Vec<u8>)>,
+    input: &mut MemSource,
+    faults: Faults,
+) -> Result<Response, AllocError> {
     let mut out = sink(alloc, faults.1)?;
     let mut err = sink(alloc, faults.2)?;
     let fails = Vec::from_slice(alloc, &[faults.0])?;
     let mut files = MemFiles::new(copied(alloc, words)?, stored, fails);
-    let mut input = MemSource::new(Vec::new(alloc), Vec::new(alloc));
-    let status = run_tool(alloc, words, &mut files, &mut input, &mut out, &mut err);
+    let status = run_tool(alloc, words, &mut files, input, &mut out, &mut err);
     Ok(Response { out, err, status })
 }
 

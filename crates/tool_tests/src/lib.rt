@@ -17,6 +17,8 @@ mod prefixes;
 #[cfg(test)]
 mod refusals;
 #[cfg(test)]
+mod runs;
+#[cfg(test)]
 mod statements;
 #[cfg(test)]
 mod words;

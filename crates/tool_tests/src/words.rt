@@ -5,7 +5,7 @@ use std::test::Fail;
 const USAGE: &str =
     "usage: spark check FILE... | run [--steps=N] [--stats] FILE... | leaks FILE... | make N | selftest N\n";
 
-const LINES: [&str; 23] = [
+const LINES: [&str; 28] = [
     "",
     "check",
     "check ",
@@ -14,8 +14,13 @@ const LINES: [&str; 23] = [
     "check f.adb -x",
     "Check f.adb",
     " f.adb",
-    "run f.adb",
-    "run --steps=1 f.adb",
+    "run",
+    "run --steps=1",
+    "run --steps= f.adb",
+    "run --steps=4294967297 f.adb",
+    "run --steps=00000000001 f.adb",
+    "run --steps=1 f.adb --steps=1",
+    "run --stats f.adb",
     "leaks",
     "leaks f.adb -x",
     "selftest 3",

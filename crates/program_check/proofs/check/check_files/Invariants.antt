@@ -1,4 +1,4 @@
 use Rattle.program_check.proofs.check.check_files.Given as goal
 
-abbrev pub ghosts-check_counted : goal.ghosts-check_counted
-ghosts-check_counted a = record { name = a.blank.name; parts = a.blank.parts }
+abbrev pub ghosts-judge_counted : goal.ghosts-judge_counted
+ghosts-judge_counted a = record { name = a.blank.name; parts = a.blank.parts }

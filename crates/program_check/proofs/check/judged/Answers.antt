@@ -1,5 +1,5 @@
 use Rattle.std.proofs.Common.{◌+◌, ◌≤◌, subst}
-use Rattle.program_check.proofs.Answered.{judged_of}
+use Rattle.program_check.proofs.Answered.{judged_of, names_kept}
 use Rattle.program_check.proofs.Counted.{steps_counted}
 use Rattle.program_check.proofs.check.judged.Goals as goal
 
@@ -14,3 +14,7 @@ returns-clause-verdict g c =
 pub returns-clause-cost : goal.returns-clause-cost
 returns-clause-cost g c =
     subst (λ n. c.check_paths.new.steps ≤ c.args.steps.now + n) (steps_counted c.args.laid) c.in_ok-check_paths.ensures.cost
+
+pub returns-clause-names : goal.returns-clause-names
+returns-clause-names g c =
+    names_kept c.args.laid c.in_ok-effects.effects c.in_ok-check_paths.field-0 c.in_ok-check_paths.ensures.verdict

@@ -1,39 +1,86 @@
-use Rattle.std.proofs.Common.{ℕ, map, string_bytes, subst, IfSome}
-use Rattle.spark_tool.specs.Answers.{answer_of}
-use Rattle.spark_tool.specs.Commands.{command_of}
+use Rattle.std.proofs.Common.{◌≡◌, ap, subst, sym, map, string_bytes, true, List, ℕ, Option, IfSome}
+use Rattle.laid_program.specs.Programs.{program_of}
+use Rattle.run_command.specs.Answers.{Answer, Tells}
+use Rattle.spark_tool.specs.Promises.{TellsFront}
+use Rattle.run_command.specs.Runs.{run_answer}
+use Rattle.spark_tool.specs.declared.finding.Outcome.{Outcome}
+use Rattle.spark_tool.specs.declared.finding.Outcome.TheVariants as outcome
+use Rattle.spark_tool.specs.Answers.{answer_of, names_of}
+use Rattle.spark_tool.specs.Commands.{command_of, runs}
 use Rattle.spark_tool.specs.Product.{fixed_answer}
-use Rattle.spark_tool.specs.Promises.{Delivers, Tells}
-use Rattle.spark_tool.proofs.Complete.{status_to, answer_delivers, answer_delivers_front, fixed_tells, fixed_tells_front}
+use Rattle.spark_tool.specs.Refusals.{IsFor, IsMade, IsReady}
+use Rattle.spark_tool.proofs.Complete.{answer_delivers_front, fixed_tells_front}
+use Rattle.spark_tool.proofs.Outcomes.{gives_this, ok_delivers, ok_fixed, ok_unrun, front_of, run_ok_delivers, no_fixed, ok_no_fixed, run_reads}
 use Rattle.spark_tool.proofs.tool.carry_out.Goals as goal
 
-pub returns-clause-answered : goal.returns-clause-answered
-returns-clause-answered g c =
-    subst (λ (status : ℕ). IfSome (g.F.FileStore.stored c.args.files.now)
-    (λ files. Delivers files (map string_bytes c.args.words.now) (g.K.Sink.written c.args.out.now) (g.K.Sink.written c.deliver.new.out)
-    (g.K.Sink.written c.args.err.now) (g.K.Sink.written c.deliver.new.err) status))
-    (status_to c.in_ok-answer.answer.stream c.in_ok-answer.answer.text.items c.in_ok-answer.answer.status)
-    (answer_delivers (g.F.FileStore.stored c.args.files.now) (map string_bytes c.args.words.now) (answer_of c.in_ok-answer.answer)
-    (g.K.Sink.written c.args.out.now) (g.K.Sink.written c.deliver.new.out) (g.K.Sink.written c.args.err.now) (g.K.Sink.written c.deliver.new.err)
-    c.in_ok-answer.ensures.product c.in_ok-deliver.ensures.out c.in_ok-deliver.ensures.err)
+pub returns-in-Answers-clause-answered : goal.returns-in-Answers-clause-answered
+returns-in-Answers-clause-answered g c =
+    let words : List (List ℕ) = map string_bytes c.args.words.now in
+    ok_delivers c.write_answer.result (g.F.FileStore.stored c.args.files.now) (runs (command_of words)) (g.S.Source.left c.args.input.now) words
+    (answer_of c.in-Answers.answer) (g.K.Sink.written c.args.out.now) (g.K.Sink.written c.write_answer.new.out)
+    (g.K.Sink.written c.args.err.now) (g.K.Sink.written c.write_answer.new.err)
+    (gives_this (g.F.FileStore.stored c.args.files.now) (command_of words) c.in_ok-answer.field-0 (outcome.Answers c.in-Answers.answer) c.in-Answers.is
+    c.in_ok-answer.ensures.gives) c.write_answer.ensures.told
 
-pub returns-clause-fixed : goal.returns-clause-fixed
-returns-clause-fixed g c =
-    subst (λ (status : ℕ). IfSome (fixed_answer (command_of (map string_bytes c.args.words.now)))
-    (λ told. Tells told (g.K.Sink.written c.args.out.now) (g.K.Sink.written c.deliver.new.out)
-    (g.K.Sink.written c.args.err.now) (g.K.Sink.written c.deliver.new.err) status))
-    (status_to c.in_ok-answer.answer.stream c.in_ok-answer.answer.text.items c.in_ok-answer.answer.status)
-    (fixed_tells (fixed_answer (command_of (map string_bytes c.args.words.now))) (answer_of c.in_ok-answer.answer)
-    (g.K.Sink.written c.args.out.now) (g.K.Sink.written c.deliver.new.out) (g.K.Sink.written c.args.err.now) (g.K.Sink.written c.deliver.new.err)
-    c.in_ok-answer.ensures.fixed c.in_ok-deliver.ensures.out c.in_ok-deliver.ensures.err)
+pub returns-in-Answers-clause-fixed : goal.returns-in-Answers-clause-fixed
+returns-in-Answers-clause-fixed g c =
+    let fixed : Option Answer = fixed_answer (command_of (map string_bytes c.args.words.now)) in
+    ok_fixed c.write_answer.result fixed (answer_of c.in-Answers.answer) (g.K.Sink.written c.args.out.now) (g.K.Sink.written c.write_answer.new.out)
+    (g.K.Sink.written c.args.err.now) (g.K.Sink.written c.write_answer.new.err)
+    (subst (λ (o : Outcome). IfSome fixed (λ told. IsMade told o)) c.in-Answers.is c.in_ok-answer.ensures.fixed) c.write_answer.ensures.told
 
-pub returns-in_err-deliver-clause-front : goal.returns-in_err-deliver-clause-front
-returns-in_err-deliver-clause-front g c stopped =
-    answer_delivers_front (g.F.FileStore.stored c.args.files.now) (map string_bytes c.args.words.now) (answer_of c.in_ok-answer.answer)
-    (g.K.Sink.written c.args.out.now) (g.K.Sink.written c.deliver.new.out) (g.K.Sink.written c.args.err.now) (g.K.Sink.written c.deliver.new.err)
-    c.in_ok-answer.ensures.product c.in_err-deliver.ensures.front_of_out c.in_err-deliver.ensures.front_of_err
+pub returns-in-Answers-clause-all_read : goal.returns-in-Answers-clause-all_read
+returns-in-Answers-clause-all_read g c run =
+    let ready : IsReady (outcome.Answers c.in-Answers.answer) = subst IsReady c.in-Answers.is c.in_ok-answer.ensures.ready in
+    let only : IsFor (command_of (map string_bytes c.args.words.now)) (outcome.Answers c.in-Answers.answer) =
+    subst (IsFor (command_of (map string_bytes c.args.words.now))) c.in-Answers.is c.in_ok-answer.ensures.only in
+    ok_unrun c.write_answer.result c.in-Answers.answer.status _ c.write_answer.ensures.status ready.0 (only.1 run)
 
-pub returns-in_err-deliver-clause-fixed_front : goal.returns-in_err-deliver-clause-fixed_front
-returns-in_err-deliver-clause-fixed_front g c stopped =
-    fixed_tells_front (fixed_answer (command_of (map string_bytes c.args.words.now))) (answer_of c.in_ok-answer.answer)
-    (g.K.Sink.written c.args.out.now) (g.K.Sink.written c.deliver.new.out) (g.K.Sink.written c.args.err.now) (g.K.Sink.written c.deliver.new.err)
-    c.in_ok-answer.ensures.fixed c.in_err-deliver.ensures.front_of_out c.in_err-deliver.ensures.front_of_err
+pub returns-in-Answers-clause-front : goal.returns-in-Answers-clause-front
+returns-in-Answers-clause-front g c stopped unrun =
+    let words : List (List ℕ) = map string_bytes c.args.words.now in
+    answer_delivers_front (g.F.FileStore.stored c.args.files.now) words
+    (answer_of c.in-Answers.answer) (g.K.Sink.written c.args.out.now) (g.K.Sink.written c.write_answer.new.out)
+    (g.K.Sink.written c.args.err.now) (g.K.Sink.written c.write_answer.new.err)
+    (gives_this (g.F.FileStore.stored c.args.files.now) (command_of words) c.in_ok-answer.field-0 (outcome.Answers c.in-Answers.answer) c.in-Answers.is
+    c.in_ok-answer.ensures.gives)
+    (front_of c.write_answer.result (answer_of c.in-Answers.answer) (g.K.Sink.written c.args.out.now) (g.K.Sink.written c.write_answer.new.out)
+    (g.K.Sink.written c.args.err.now) (g.K.Sink.written c.write_answer.new.err) stopped c.write_answer.ensures.front)
+
+pub returns-in-Answers-clause-fixed_front : goal.returns-in-Answers-clause-fixed_front
+returns-in-Answers-clause-fixed_front g c stopped =
+    let fixed : Option Answer = fixed_answer (command_of (map string_bytes c.args.words.now)) in
+    fixed_tells_front fixed (answer_of c.in-Answers.answer) (g.K.Sink.written c.args.out.now) (g.K.Sink.written c.write_answer.new.out)
+    (g.K.Sink.written c.args.err.now) (g.K.Sink.written c.write_answer.new.err)
+    (subst (λ (o : Outcome). IfSome fixed (λ told. IsMade told o)) c.in-Answers.is c.in_ok-answer.ensures.fixed)
+    (front_of c.write_answer.result (answer_of c.in-Answers.answer) (g.K.Sink.written c.args.out.now) (g.K.Sink.written c.write_answer.new.out)
+    (g.K.Sink.written c.args.err.now) (g.K.Sink.written c.write_answer.new.err) stopped c.write_answer.ensures.front)
+
+pub returns-in-Runs-clause-answered : goal.returns-in-Runs-clause-answered
+returns-in-Runs-clause-answered g c =
+    let words : List (List ℕ) = map string_bytes c.args.words.now in
+    let run : runs (command_of words) ≡ true = subst (IsFor (command_of words)) c.in-Runs.is c.in_ok-answer.ensures.only in
+    run_ok_delivers c.start.result (g.F.FileStore.stored c.args.files.now) (runs (command_of words)) (g.S.Source.left c.args.input.now) words
+    (λ input. run_answer (names_of c.in-Runs.program) (program_of c.in-Runs.program.laid) input c.in-Runs.steps)
+    (g.K.Sink.written c.args.out.now) (g.K.Sink.written c.start.new.out) (g.K.Sink.written c.args.err.now) (g.K.Sink.written c.start.new.err) run
+    (gives_this (g.F.FileStore.stored c.args.files.now) (command_of words) c.in_ok-answer.field-0 (outcome.Runs c.in-Runs.program c.in-Runs.steps) c.in-Runs.is
+    c.in_ok-answer.ensures.gives) c.start.ensures.answer
+
+pub returns-in-Runs-clause-fixed : goal.returns-in-Runs-clause-fixed
+returns-in-Runs-clause-fixed g c =
+    let fixed : Option Answer = fixed_answer (command_of (map string_bytes c.args.words.now)) in
+    ok_no_fixed c.start.result fixed
+    (λ status told. Tells told (g.K.Sink.written c.args.out.now) (g.K.Sink.written c.start.new.out) (g.K.Sink.written c.args.err.now) (g.K.Sink.written c.start.new.err) status)
+    (subst (λ (o : Outcome). IfSome fixed (λ told. IsMade told o)) c.in-Runs.is c.in_ok-answer.ensures.fixed)
+
+pub returns-in-Runs-clause-reads : goal.returns-in-Runs-clause-reads
+returns-in-Runs-clause-reads g c stopped =
+    let words : List (List ℕ) = map string_bytes c.args.words.now in
+    run_reads (command_of words) (subst (IsFor (command_of words)) c.in-Runs.is c.in_ok-answer.ensures.only)
+
+pub returns-in-Runs-clause-fixed_front : goal.returns-in-Runs-clause-fixed_front
+returns-in-Runs-clause-fixed_front g c stopped =
+    let fixed : Option Answer = fixed_answer (command_of (map string_bytes c.args.words.now)) in
+    no_fixed fixed
+    (λ told. TellsFront told (g.K.Sink.written c.args.out.now) (g.K.Sink.written c.start.new.out) (g.K.Sink.written c.args.err.now) (g.K.Sink.written c.start.new.err))
+    (subst (λ (o : Outcome). IfSome fixed (λ told. IsMade told o)) c.in-Runs.is c.in_ok-answer.ensures.fixed)

@@ -1,0 +1,72 @@
+//! Lines and statuses of how runs end.
+use code_rows::Exception;
+use reuse_heap::Trap;
+use run_command::{ending_line, ending_status};
+use run_results::{Ending, Ran};
+use spark_base::Pos;
+use std::test::Fail;
+
+const POS: Pos = Pos {
+    file: 0,
+    line: 16,
+    column: 29,
+};
+
+/// Each row: an ending, how many leak checks failed, the line with a budget of 100 steps, and the
+/// status.
+const ROWS: [(Ending, u64, &str, u8); 8] = [
+    (Ending::Normal, 0, "", 0),
+    (Ending::Normal, 1, "", 5),
+    (
+        Ending::Raised {
+            exception: Exception::ConstraintError,
+            pos: POS,
+        },
+        0,
+        "m.adb:16:29: raised Constraint_Error\n",
+        3,
+    ),
+    (
+        Ending::Raised {
+            exception: Exception::EndError,
+            pos: POS,
+        },
+        2,
+        "m.adb:16:29: raised End_Error\n",
+        3,
+    ),
+    (Ending::Spent, 0, "steps spent: 100\n", 4),
+    (Ending::Spent, 1, "steps spent: 100\n", 4),
+    (
+        Ending::Trapped(Trap::Touched, POS),
+        0,
+        "m.adb:16:29: trapped Touched\n",
+        20,
+    ),
+    (
+        Ending::Trapped(Trap::Twice, POS),
+        1,
+        "m.adb:16:29: trapped Twice\n",
+        20,
+    ),
+];
+
+#[test]
+fn lines_and_statuses(rt: HostRuntime) -> Result<(), Fail> {
+    let alloc = rt.alloc();
+    let files = vec![in alloc; String::from_str(alloc, "m.adb")?]?;
+    for row in &ROWS {
+        let (ending, leaked, text, status) = *row;
+        let line = ending_line(alloc, &files, 100, ending)?;
+        let ran = Ran {
+            ending,
+            steps: 100,
+            made: 3,
+            freed: 1,
+            leaked,
+        };
+        assert!(rt; line.as_slice() == text.as_bytes(), "{text}");
+        assert!(rt; ending_status(&ran) == status, "{status}");
+    }
+    Ok(())
+}

@@ -1,0 +1,7 @@
+-- what the public contract rests on
+pub mod Answers
+pub mod Endings
+pub mod Runs
+-- what the functions inside promise each other
+pub mod Inputs
+pub mod Faults

@@ -1,0 +1,97 @@
+//! Runs a program.
+ghost use Rattle.std.specs.Prelude.{◌≡◌, ◌≢◌, ◌≤◌, ◌⊎◌, ℕ, List, Some, Err, IfOk, IfSome, OnOk, IsSome, length, map, string_bytes};
+ghost use Rattle.std.specs.Io.KnownBytes.{Appends, IsAtEnd, Keeps};
+ghost use Rattle.spark_base.specs.Outside.{Rose};
+ghost use Rattle.laid_program.specs.Programs.{program_of};
+ghost use Rattle.machine.specs.Run.{run};
+ghost use Rattle.run_command.specs.Answers.{Grows, Tells};
+ghost use Rattle.run_command.specs.Runs.{IsEnded, run_answer, told, too_large_line};
+
+use crate::ending::{ending_line, ending_status};
+use crate::fault::RunFault;
+use crate::input::read_input;
+use executor::execute;
+use path_check::AcceptedProgram;
+use reuse_heap::TrapStore;
+use run_results::write_all;
+use spark_base::{INPUT_BYTES, STEPS, Sink, Source};
+use std::alloc::Global;
+
+/// Runs a program on these bytes, and writes the line of its ending.
+fn run_on<K: Sink>(
+    alloc: Global,
+    program: &AcceptedProgram,
+    input: &[u8],
+    steps: u64,
+    out: &mut K,
+    err: &mut K,
+) -> Result<u8, RunFault>
+    requires main { IsSome program.now.laid.main }
+    requires few { length input.now ≤ INPUT_BYTES }
+    requires steps { steps ≤ STEPS }
+    ensures told { IfOk result (λ status.
+        Tells (told (map string_bytes program.now.laid.names.items) steps (run (program_of program.now.laid) input.now steps))
+        (K.written out.old) (K.written out.new) (K.written err.old) (K.written err.new) status) }
+    ensures ended { IfOk result IsEnded }
+    ensures write { result ≡ Err RunFault.Write → Rose (K.faults out.old) (K.faults out.new) ⊎ Rose (K.faults err.old) (K.faults err.new) }
+    ensures no_read { result ≢ Err RunFault.Read }
+    ensures no_fault { OnOk result ((K.faults out.new ≡ K.faults out.old) × (K.faults err.new ≡ K.faults err.old)) }
+{
+    let mut store = TrapStore::new(alloc);
+    let ran = execute(alloc, program, &mut store, input, steps, out, err)?;
+    let line = ending_line(alloc, program.laid().names.as_slice(), steps, ran.ending)?;
+    write_all(&line, err)?;
+    Ok(ending_status(&ran))
+}
+
+/// Writes that the input is too large.
+fn refuse_input<K: Sink>(err: &mut K) -> Result<u8, RunFault>
+    ensures told { IfOk result (λ status. (status ≡ 10) × Appends (K.written err.old) (K.written err.new) too_large_line) }
+    ensures write { result ≡ Err RunFault.Write → Rose (K.faults err.old) (K.faults err.new) }
+    ensures no_read { result ≢ Err RunFault.Read }
+    ensures no_fault { OnOk result (K.faults err.new ≡ K.faults err.old) }
+{
+    write_all("input too large\n".as_bytes(), err)?;
+    Ok(10)
+}
+
+/// Runs an accepted program on all of the input, within a budget of steps, and gives the status
+/// (`docs/TOOL.md`, "Order of work"): 0 or 5 at the end of the main procedure, 3 at an exception, 4
+/// where the steps are spent, 20 at a touch of a freed cell, and 10 where the input is too large and
+/// nothing is run.
+pub fn run_program<S: Source, K: Sink>(
+    alloc: Global,
+    program: &AcceptedProgram,
+    steps: u64,
+    input: &mut S,
+    out: &mut K,
+    err: &mut K,
+) -> Result<u8, RunFault>
+    requires main { IsSome program.now.laid.main }
+    requires steps { steps ≤ STEPS }
+
+    // What is defined, where the input tells its bytes.
+    ensures answer { IfOk result (λ status. (bytes : List ℕ) → S.left input.old ≡ Some bytes
+        → Tells (run_answer (map string_bytes program.now.laid.names.items) (program_of program.now.laid) bytes steps)
+        (K.written out.old) (K.written out.new) (K.written err.old) (K.written err.new) status) }
+    ensures grows { IfOk result (λ _. Grows (K.written out.old) (K.written out.new) × Grows (K.written err.old) (K.written err.new)) }
+
+    // What ran has read the input to its end; and what is refused has written nothing to `out`.
+    ensures ended { IfOk result (λ status. (status ≡ 10) ⊎ (IsEnded status × IfSome (S.left input.old) (λ bytes. IsAtEnd (S.left input.new)))) }
+    ensures refused { IfOk result (λ status. status ≡ 10 → Keeps (K.written out.old) (K.written out.new)) }
+
+    // A failed read comes before the run.
+    ensures read { result ≡ Err RunFault.Read → Rose (S.faults input.old) (S.faults input.new) }
+    ensures unrun { result ≡ Err RunFault.Read → Keeps (K.written out.old) (K.written out.new) × Keeps (K.written err.old) (K.written err.new) }
+    ensures no_fault_unrun { result ≡ Err RunFault.Read → (K.faults out.new ≡ K.faults out.old) × (K.faults err.new ≡ K.faults err.old) }
+    ensures write { result ≡ Err RunFault.Write → Rose (K.faults out.old) (K.faults out.new) ⊎ Rose (K.faults err.old) (K.faults err.new) }
+
+    // A count that isn't the cause stays.
+    ensures no_read_fault { result ≢ Err RunFault.Read → S.faults input.new ≡ S.faults input.old }
+    ensures no_write_fault { OnOk result ((K.faults out.new ≡ K.faults out.old) × (K.faults err.new ≡ K.faults err.old)) }
+{
+    match read_input(alloc, input)? {
+        Some(text) => Ok(run_on(alloc, program, &text, steps, out, err)?),
+        None => Ok(refuse_input(err)?),
+    }
+}
