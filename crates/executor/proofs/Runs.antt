@@ -1,5 +1,5 @@
 -- Runs of programs in rows.
-use Rattle.std.proofs.Common.{◌≡◌, ℕ, Bool, true, false, List, [], ◌∷◌, ◌++◌, map, length, refl, sym, ap, subst, ◌∙◌, Option, Some, None, append-nil, Result, Ok, Err}
+use Rattle.std.proofs.Common.{◌≡◌, ℕ, Bool, true, false, List, [], length, refl, sym, ap, subst, ◌∙◌, Option, Some, None, append-nil, Result, Ok, Err}
 use Rattle.std.specs.Prelude.{IfOk}
 use Rattle.std.specs.Io.KnownBytes.{Appends}
 use Rattle.flow_paths.specs.Laid.{FlowProgram, flow_typing}
@@ -12,7 +12,7 @@ use Rattle.type_definitions.specs.Types.{Table}
 use Rattle.code_rows.specs.declared.codes.Codes.{Codes}
 use Rattle.code_rows.specs.Points.{program_of}
 use Rattle.run_codes.specs.Programs.{Program}
-use Rattle.run_codes.specs.Points.{State, Ran, ran_of, run_given, run_with, state_at_start, is_declaring}
+use Rattle.run_codes.specs.Points.{State, Ran, ran_of, run_with, state_at_start, is_declaring}
 use Rattle.run_results.specs.declared.ran.Ran.{Ran as RanRow}
 use Rattle.run_results.specs.Results.{ending_of, IsRun}
 use Rattle.run_results.specs.Lines.{leak_lines}

@@ -35,7 +35,7 @@ use Rattle.run_steps.specs.declared.parts.Parts.{Parts}
 use Rattle.run_steps.specs.Stages.{stage_of, turn_at, outcome_at, IsAt}
 use Rattle.run_steps.specs.Steps.{GoesOn, IsEnded, Halts, Steps}
 use Rattle.run_steps.proofs.Sights.{start_now, does_at}
-use Rattle.run_steps.proofs.Leads.{told_is, within}
+use Rattle.run_steps.proofs.Leads.{within}
 use Rattle.run_steps.proofs.Changed.{halts_by}
 
 module _ (codes : Codes) (table : Table) (point : Point) (k : ℕ) (old : Parts) (at : IsAt codes table point k old) where

@@ -1,19 +1,19 @@
 -- Where the run goes on.
-use Rattle.std.proofs.Common.{◌≡◌, ◌≤◌, ℕ, List, [], ◌∷◌, ◌++◌, length, take, refl, sym, ap, subst, ◌∙◌, Option, Some, None, append-nil, ℤ}
+use Rattle.std.proofs.Common.{◌≡◌, ◌≤◌, ℕ, List, [], ◌++◌, length, take, refl, sym, ap, subst, ◌∙◌, Option, Some, None, append-nil, ℤ}
 use Rattle.type_definitions.specs.Types.{Table}
 use Rattle.machine.specs.States.{Leak}
 use Rattle.code_rows.specs.declared.point.Point.{Point as PointRow}
 use Rattle.code_rows.specs.declared.codes.Codes.{Codes}
-use Rattle.code_rows.specs.Points.{some, point_of, program_of}
+use Rattle.code_rows.specs.Points.{point_of, program_of}
 use Rattle.run_codes.specs.Codes.{Point, Sub}
-use Rattle.run_codes.specs.Points.{Outcome, State, Goes, Turn, after, waiting, goes, template, sub_at, leaking}
+use Rattle.run_codes.specs.Points.{Goes, Turn, after, waiting, goes, template, sub_at, leaking}
 use Rattle.run_memory.specs.Memory.{Kept, flat, elsewhere, Elsewhere}
 use Rattle.run_results.specs.Results.{leaks_of}
 use Rattle.run_frames.specs.declared.rows.Return.{Return}
 use Rattle.run_frames.specs.Stacks.{Stacked}
 use Rattle.run_frames.specs.Frames.{word_at, AreLatest}
 use Rattle.whole_runs.specs.Turns.{bare}
-use Rattle.run_stages.specs.Stages.{Stage, state_of, IsStage, turn_of, without, at_point, with_frame}
+use Rattle.run_stages.specs.Stages.{Stage, state_of, IsStage, turn_of, without, at_point}
 use Rattle.run_stages.proofs.Goes.{goes_on, cut_is, at_is}
 use Rattle.run_stages.proofs.Frames.{enters}
 use Rattle.run_stages.proofs.Mains.{main_frame, main_stage, main_on}

@@ -1,12 +1,12 @@
 -- What a step sees of the parts of a run, and what it asks for.
-use Rattle.std.proofs.Common.{◌≡◌, ◌≤◌, ℕ, Bool, true, false, ◌&&◌, List, length, refl, sym, ap, ◌∙◌}
+use Rattle.std.proofs.Common.{◌≡◌, ◌≤◌, ℕ, true, false, ◌&&◌, length, refl, sym, ap, ◌∙◌}
 use Rattle.type_definitions.specs.Types.{Table}
 use Rattle.code_rows.specs.declared.point.Point.{Point}
 use Rattle.code_rows.specs.declared.codes.Codes.{Codes}
 use Rattle.code_rows.specs.Points.{some, point_of, program_of, are_parts_there, is_choice_there, are_sound, are_all_there, is_does_there, is_range, AreSound, IsWhole}
 use Rattle.code_rows.specs.Values.{are_within}
 use Rattle.std.specs.List.{list_all}
-use Rattle.code_rows.proofs.Grown.{and_first, and_second}
+use Rattle.code_rows.proofs.Grown.{and_first}
 use Rattle.run_codes.specs.Flat.{Flat, Got, Given, Stops, Broken, is_broken, Made, Done, Halted, Failed}
 use Rattle.run_codes.specs.Points.{Turn, Outcome, Fails, start, on_got, on_made}
 use Rattle.run_memory.specs.Memory.{flat}

@@ -1,5 +1,5 @@
 -- Where a run starts.
-use Rattle.std.proofs.Common.{◌≡◌, ◌≤◌, ◌+◌, ℕ, Bool, true, false, List, [], ◌∷◌, ◌++◌, length, refl, sym, ap, subst, ◌∙◌, arith, ℤ}
+use Rattle.std.proofs.Common.{◌≡◌, ◌≤◌, ◌+◌, ℕ, true, false, List, [], ◌∷◌, ◌++◌, length, sym, ap, subst, ◌∙◌, arith, ℤ}
 use Rattle.type_definitions.specs.Types.{Table}
 use Rattle.code_rows.specs.declared.codes.Codes.{Codes}
 use Rattle.code_rows.specs.Points.{program_of}

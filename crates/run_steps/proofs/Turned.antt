@@ -1,20 +1,18 @@
 -- What a step comes to, of a run that isn't over.
-use Rattle.std.proofs.Common.{◌≡◌, ◌≢◌, ◌≤◌, ◌<◌, ◌⊎◌, inl, inr, ℕ, zero, suc, ◌+◌, ◌-◌, Bool, true, false, List, [], ◌∷◌, ◌++◌, map, length, drop, refl, sym, ap, subst, ◌∙◌, arith, Option, Some, None, Result, Ok, Err}
-use Rattle.std.specs.Prelude.{slice_get, replicate, IsTrue}
+use Rattle.std.proofs.Common.{◌≡◌, ◌≢◌, ◌≤◌, ◌<◌, ◌⊎◌, inl, inr, ℕ, zero, suc, ◌+◌, ◌-◌, true, false, List, [], ◌∷◌, map, length, drop, refl, sym, ap, subst, ◌∙◌, arith, Option, Some, None, Result, Ok, Err}
+use Rattle.std.specs.Prelude.{slice_get, IsTrue}
 use Rattle.std.proofs.lemmas.List.{length-append, length-drop, length-replicate}
 use Rattle.type_definitions.specs.Types.{Table}
 use Rattle.spark_base.specs.declared.position.Pos.{Pos}
-use Rattle.machine.specs.States.{Normal}
 use Rattle.code_rows.specs.declared.point.Point.{Point as PointRow}
 use Rattle.code_rows.specs.declared.codes.Codes.{Codes}
 use Rattle.code_rows.specs.declared.stop.Stop.{Stop}
 use Rattle.code_rows.specs.declared.stop.Stop.TheVariants as stop
 use Rattle.code_rows.specs.Stops.{stop_of}
 use Rattle.code_rows.specs.Points.{some, point_of, program_of, is_point_there, IsWhole}
-use Rattle.reuse_heap.specs.Cells.{Cell}
 use Rattle.run_codes.specs.Codes.{Point}
 use Rattle.run_codes.specs.Flat.{Flat}
-use Rattle.run_codes.specs.Points.{State, Turn, Outcome, Goes, Ends, Fails, counted, as_freed, given_up, halted, turned, stepped}
+use Rattle.run_codes.specs.Points.{Turn, Outcome, Goes, Ends, Fails, counted, as_freed, given_up, halted, turned, stepped}
 use Rattle.run_memory.specs.Memory.{Kept}
 use Rattle.run_frames.specs.Stacks.{Stacked}
 use Rattle.run_frames.specs.Frames.{word_at, IsStacked, AreLatest}
@@ -24,7 +22,7 @@ use Rattle.run_results.specs.declared.ran.Ending.TheVariants as ending
 use Rattle.run_results.specs.Results.{ending_of, leaks_of}
 use Rattle.whole_runs.specs.declared.stepping.Turn.TheVariants as turn
 use Rattle.whole_runs.specs.Pasts.{mapped}
-use Rattle.whole_runs.specs.Turns.{Setting, one_step, IsRunning, IsTurned, IsSeen, bare, is_failing}
+use Rattle.whole_runs.specs.Turns.{Setting, one_step, IsRunning, IsTurned, bare, is_failing}
 use Rattle.run_stages.specs.Stages.{Stage, state_of, running}
 use Rattle.run_stages.proofs.Sights.{frames_are}
 use Rattle.run_stages.proofs.Turns.{step_is}

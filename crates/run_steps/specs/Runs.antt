@@ -4,7 +4,6 @@ use Rattle.type_definitions.specs.Types.{Table}
 use Rattle.spark_base.specs.declared.position.Pos.{Pos}
 use Rattle.code_rows.specs.declared.codes.Codes.{Codes}
 use Rattle.reuse_heap.specs.Cells.{Cell}
-use Rattle.machine.specs.States as machine
 use Rattle.code_rows.specs.declared.stop.Stop.{Stop}
 use Rattle.code_rows.specs.declared.stop.Stop.TheVariants as stop
 use Rattle.run_codes.specs.Points.{State, Outcome, Ends}

@@ -1,4 +1,4 @@
-use Rattle.std.proofs.Common.{◌≡◌, refl, ap}
+use Rattle.std.proofs.Common.{refl, ap}
 use Rattle.spark_base.specs.declared.position.Pos.{Pos}
 use Rattle.machine.specs.Evaluate.{StorageError}
 use Rattle.machine.specs.States.{Raised}

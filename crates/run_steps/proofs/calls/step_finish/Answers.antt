@@ -1,5 +1,4 @@
-use Rattle.std.proofs.Common.{◌≡◌, refl}
-use Rattle.run_steps.specs.Stages.{turn_at, outcome_at}
+use Rattle.std.proofs.Common.{refl}
 use Rattle.run_steps.proofs.Called.{finish_whole, finish_steps, finish_halt}
 use Rattle.run_steps.proofs.calls.step_finish.Goals as goal
 

@@ -1,4 +1,4 @@
-use Rattle.std.proofs.Common.{◌≡◌, refl}
+use Rattle.std.proofs.Common.{refl}
 use Rattle.run_steps.proofs.Sights.{taken_below, within_at}
 use Rattle.run_steps.proofs.Called.{hold_there, hold_whole, hold_go, hold_halt}
 use Rattle.run_steps.proofs.calls.step_hold.Goals as goal

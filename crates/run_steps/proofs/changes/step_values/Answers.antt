@@ -1,4 +1,4 @@
-use Rattle.std.proofs.Common.{◌≡◌, refl}
+use Rattle.std.proofs.Common.{refl}
 use Rattle.code_rows.specs.Points.{next_of}
 use Rattle.run_memory.specs.Memory.{flat}
 use Rattle.run_results.specs.Results.{leaks_of}

@@ -1,4 +1,4 @@
-use Rattle.std.proofs.Common.{◌≡◌, refl, sym, subst}
+use Rattle.std.proofs.Common.{refl}
 use Rattle.code_rows.specs.Points.{next_of}
 use Rattle.run_steps.specs.Stages.{turn_at, outcome_at}
 use Rattle.run_steps.specs.Steps.{Led}

@@ -1,4 +1,4 @@
-use Rattle.std.proofs.Common.{◌≡◌, ◌≤◌, length, sym, ap, ◌∙◌, subst}
+use Rattle.std.proofs.Common.{◌≤◌, length, sym, ap, ◌∙◌, subst}
 use Rattle.run_frames.specs.Frames.{word_at}
 use Rattle.held_results.proofs.Laws.{first_below}
 use Rattle.run_steps.proofs.takes.take.Goals as goal
