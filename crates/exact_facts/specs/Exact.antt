@@ -1,19 +1,26 @@
 -- What excused leak checks rest on: what a fact without an element calls moved is gone.
-use Rattle.std.specs.Prelude.{◌≡◌, ℕ, false, List, [], ◌∷◌, ◌++◌}
+use Rattle.std.specs.Prelude.{◌≡◌, ℕ, false, List, [], ◌∷◌, ◌++◌, get_or}
 use Rattle.spark_base.specs.Lists.{Has}
 use Rattle.spark_base.specs.declared.position.Pos.{Pos}
 use Rattle.place_names.specs.declared.selector.Sel.{Sel}
 use Rattle.place_names.specs.declared.fact.Fact.{Fact}
 use Rattle.place_names.specs.declared.fact.Fact.TheVariants.{Moved}
 use Rattle.place_names.specs.Names.{Name, extend, has_elem}
+use Rattle.type_definitions.specs.Types.{Table}
+use Rattle.typed_tree.specs.Programs.{TypedProgram}
+use Rattle.flow_paths.specs.declared.report.Effects.{Effects}
 use Rattle.flow_paths.specs.declared.point.LeakSpot.{LeakSpot}
 use Rattle.flow_paths.specs.Acts.{spot}
 use Rattle.flow_paths.specs.Objects.{Typing}
+use Rattle.flow_paths.specs.Laid.{flow_program}
+use Rattle.flow_paths.specs.Effects.{path_points}
+use Rattle.flow_paths.specs.LeakPlan.{IsExcused}
 use Rattle.machine.specs.Memory.{Memory}
-use Rattle.machine.specs.States.{Leak}
+use Rattle.machine.specs.States.{Leak, State, Outcome, Goes, Ends, sub_of}
+use Rattle.machine.specs.Run.{no_point, step}
 use Rattle.owned_ways.specs.Ways.{Told}
 use Rattle.soundness.specs.Seen.{seen, home}
-use Rattle.soundness.specs.Sound.{IsDefinite}
+use Rattle.soundness.specs.Sound.{IsDefinite, IsSound, AreExact}
 
 -- So it is of the facts of a frame, in a memory. (What is in hand has no name, and leak checks
 -- change no word.)
@@ -32,3 +39,18 @@ abbrev pub Knows : (LeakSpot → Type 0) → Pos → Name → ℕ → List Fact 
 Knows Excused pos name before facts parts =
     (q : List Sel) → Has parts q → Excused (spot pos name before q)
     → (has_elem (name.sels ++ q) ≡ false) × Has facts (Moved (extend name q))
+
+-- ---- the law
+
+abbrev pub checks_of : Outcome → List (List Leak)
+checks_of (Goes state) = state.checks
+checks_of (Ends e state) = state.checks
+
+-- At each sound state whose facts are exact: of the leak checks of the step, none fails that the
+-- leak plan excuses.
+abbrev pub ExcusedHold : Table → TypedProgram → Effects → List ℕ → Type 0
+ExcusedHold table typed effects input =
+    (state : State) (sound : IsSound table typed effects state) → AreExact table typed effects state sound
+    → NoneFails (IsExcused (path_points (flow_program table typed) effects (sub_of (flow_program table typed) sound.top.frame.sub)) sound.top.frame.next)
+    (get_or (sub_of (flow_program table typed) sound.top.frame.sub).points sound.top.frame.next no_point).leaks
+    (checks_of (step (flow_program table typed) input state))

@@ -3,6 +3,8 @@
 //! `specs/Exact.antt` says it of a memory, and when no leak check of a step fails that is excused.
 //! Each of the four steps of `owned_ways` keeps facts exact, under the act that it goes with
 //! (`proofs/Steps.antt`), and so do the functions of the machine's memory (`Memories`), expressions
-//! without calls (`Evaluated`) and instructions (`Stored`, `Instructions`, `Releases`, `Loops`). A
-//! leak check doesn't fail at a part that is called moved so (`Checks`). Nothing here runs.
+//! without calls (`Evaluated`), instructions (`Stored`, `Instructions`, `Releases`, `Loops`) and
+//! steps of the main procedure (`Stepping`). A leak check doesn't fail at a part that is called
+//! moved so (`Checks`); so at each sound state whose facts are exact, none fails that the leak plan
+//! excuses (`Main`). That the facts of a whole run are exact isn't shown yet. Nothing here runs.
 #![tactic(auto)]
