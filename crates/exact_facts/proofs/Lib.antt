@@ -15,3 +15,5 @@ pub mod Loops
 -- steps, and the law
 pub mod Stepping
 pub mod Main
+pub mod Going
+pub mod Runs
