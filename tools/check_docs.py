@@ -29,7 +29,7 @@ WIDTH = 100
 DATA = TOP / "crates" / "spark_examples" / "data"
 
 # The folders of examples of one file.
-FOLDERS = ["accepted", "leaks", "refusals", "rules", "runs"]
+FOLDERS = ["accepted", "commands", "leaks", "refusals", "rules", "runs"]
 
 # The page, and the file whose program it quotes.
 QUOTED = [

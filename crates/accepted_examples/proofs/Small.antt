@@ -6,23 +6,16 @@ use Rattle.ada_tree.specs.declared.unit.SourceUnit.{SourceUnit}
 use Rattle.ada_tree.specs.declared.unit.SourceUnit.TheVariants as unit
 use Rattle.ada_grammar.proofs.SmallSources.{IsTextOf, computes, source_of, at, id, null_at, subprogram_of}
 use Rattle.name_events.specs.Faults.{name_fault}
-use Rattle.type_definitions.specs.Whole.{known_of, type_fault}
+use Rattle.type_definitions.specs.Whole.{outside, known_of, type_fault}
 use Rattle.type_definitions.specs.declared.table.Known.{Known}
-use Rattle.typed_tree.specs.Programs.{site_of}
-use Rattle.resolved_tree.specs.Trees.{Code}
 use Rattle.typing_steps.specs.Programs.{program_of}
-use Rattle.flow_paths.specs.Objects.{is_package_object}
 use Rattle.flow_paths.specs.Points.{FlowPoint}
 use Rattle.flow_paths.specs.Laid.{FlowSub}
-use Rattle.scope_laws.specs.Code.{body_seen, roots, is_seen, is_each_seen}
 use Rattle.soundness.specs.Sound.{calls_nothing}
-use Rattle.typed_laws.specs.Fine.{IsMeant}
-use Rattle.typed_points.specs.Meant.{IsMeantCode, AreMeantBodies, AreMeantObjects, typing_meant}
-use Rattle.gathered_laws.specs.Made.{IsMade}
 use Rattle.gathered_laws.specs.Named.{IsNamed}
-use Rattle.order_laws.specs.Orderly.{typing_in, bodies_of}
 use Rattle.program_check.specs.Sources.{flow_of}
-use Rattle.sound_files.specs.Class.{IsFormless}
+use Rattle.meant_files.specs.Formless.{IsFormless}
+use Rattle.meant_files.specs.Bounded.{AreBounded}
 use Rattle.accepted_runs.proofs.Main.{AreLeft}
 use Rattle.accepted_examples.proofs.Naming.{naming}
 use Rattle.accepted_examples.proofs.Typing.{typing}
@@ -69,26 +62,20 @@ one P y x h (inr none) = absurd none
 abbrev known : Known
 known = known_of (program_of files)
 
-abbrev Meant : Code → Type 0
-Meant u =
-    AreMeantBodies (site_of known (program_of files).units) (typing_meant known (program_of files).units) (IsMade (program_of files).units) u
-    × AreMeantObjects (site_of known (program_of files).units) (typing_meant known (program_of files).units) (IsMade (program_of files).units) u
-
 -- The text is of the class, and meets what is left.
 pub left : AreLeft files
-unfolding computes naming typing IsNamed IsFormless AreMeantBodies IsMeantCode IsMeant roots is_seen is_each_seen
+unfolding computes naming typing IsNamed IsFormless AreBounded
 left = record {
   text = record {
     named = λ u has. one IsNamed _ u ((tt, tt), tt, (tt, tt)) has;
     formless = λ u has. one IsFormless _ u (refl, tt, (tt, tt)) has;
+    main = 1;
+    is_main = refl;
   };
   calls = λ sub has p there.
       each (λ (p : FlowPoint). calls_nothing p.instr) sub.points
       (each (λ (s : FlowSub). all_pass (λ (p : FlowPoint). calls_nothing p.instr) s.points) (flow_of files).subs refl sub has) p there;
   orderly = record {
-    seen = each (body_seen (is_package_object (typing_in (program_of files)))) (bodies_of (program_of files)) refl;
-    main = 1;
-    is_main = refl;
-    meant = λ u has. one Meant _ u ((tt, (tt, tt)), tt) has;
+    bounded = λ u has. one (AreBounded (outside known)) _ u (tt, (tt, tt)) has;
   };
 }

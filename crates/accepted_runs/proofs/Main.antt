@@ -11,7 +11,8 @@ use Rattle.order_laws.specs.Orderly.{typed_of}
 use Rattle.sound_files.specs.Class.{IsPlainText, CallsNothing}
 use Rattle.sound_files.specs.Left.{AreOrderly}
 use Rattle.sound_files.proofs.Main.{parsed_sound}
-use Rattle.spark_tool.specs.Commands.{Check, command_of}
+use Rattle.command_words.specs.Words.{Check}
+use Rattle.spark_tool.specs.Commands.{command_of}
 use Rattle.spark_tool.specs.Reading.{sources}
 use Rattle.spark_tool.specs.Product.{Answer, Product}
 use Rattle.accepted_runs.specs.Passed.{Passes}
@@ -33,12 +34,11 @@ passed_sound texts trees effects passes left input =
     parsed_sound trees passes.cuts (are_parsed texts 0 TOKENS passes.cuts trees passes.cut passes.parsed) passes.named passes.typed left.text left.orderly
     effects passes.effects_are passes.none left.calls input
 
--- If the tool answers with status 0, the named files are there and their texts pass; where their program is in
--- the class and the premises that are left hold, its runs are sound.
-pub accepted_sound : (stored : List (List ℕ × List ℕ)) (words : List (List ℕ)) (answer : Answer) → Product stored words answer → answer.status ≡ 0
-    → (names : List (List ℕ)) × (command_of words ≡ Some (Check names)) × (is : Passed (sources stored 0 SOURCE_BYTES names))
-    × (AreLeft is.trees → RunsAreSound is.trees)
-accepted_sound stored words answer product zero =
-    let found = product_passed stored words answer product zero in
-    let is : Passed (sources stored 0 SOURCE_BYTES found.0) = found.2 in
-    (found.0, found.1, is, passed_sound is.texts is.trees is.effects is.passes)
+-- If the tool answers a check with status 0, the named files are there and their texts pass; where
+-- their program is in the class and the premises that are left hold, its runs are sound.
+pub accepted_sound : (stored : List (List ℕ × List ℕ)) (words names : List (List ℕ)) (answer : Answer) → command_of words ≡ Some (Check names)
+    → Product stored words answer → answer.status ≡ 0
+    → (is : Passed (sources stored 0 SOURCE_BYTES names)) × (AreLeft is.trees → RunsAreSound is.trees)
+accepted_sound stored words names answer command product zero =
+    let is : Passed (sources stored 0 SOURCE_BYTES names) = product_passed stored words names answer command product zero in
+    (is, passed_sound is.texts is.trees is.effects is.passes)

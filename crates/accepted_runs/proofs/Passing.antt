@@ -1,14 +1,15 @@
 -- What is answered with status 0 passes.
-use Rattle.std.proofs.Common.{◌≡◌, ℕ, suc, List, [], ◌∷◌, Some, refl, arith}
+use Rattle.std.proofs.Common.{◌≡◌, ℕ, suc, List, [], ◌∷◌, Option, None, Some, refl, arith, subst}
 use Rattle.spark_base.specs.declared.limits.TheConstants.{SOURCE_BYTES}
 use Rattle.place_names.specs.Reports.{Report}
 use Rattle.ada_tree.specs.declared.unit.SourceUnit.{SourceUnit}
 use Rattle.flow_paths.specs.declared.report.Effects.{Effects}
 use Rattle.flow_paths.specs.Reports.{AreReports}
 use Rattle.program_check.specs.Sources.{flow_of, printed_in}
-use Rattle.spark_tool.specs.Commands.{Check, command_of}
+use Rattle.command_words.specs.Words.{Command, Check, Run, Leaks, Make, Selftest}
+use Rattle.spark_tool.specs.Commands.{command_of}
 use Rattle.spark_tool.specs.Reading.{Sources, Texts, sources}
-use Rattle.spark_tool.specs.Product.{Answer, judged, Checks, missing, too_large, lexical, syntactic, unresolved, mistyped, beyond, checked, Product, usage, check}
+use Rattle.spark_tool.specs.Product.{Answer, judged, Checks, missing, too_large, lexical, syntactic, unresolved, mistyped, beyond, checked, Answers, Product, usage, check, leaks, make}
 use Rattle.accepted_runs.specs.Passed.{Passes}
 
 -- Such texts, with what their program is.
@@ -53,9 +54,23 @@ passed names found answer (checked texts cuts trees effects reports cut parsed n
   };
 }
 
--- What the tool answers with status 0 is a check of files that pass.
-pub product_passed : (stored : List (List ℕ × List ℕ)) (words : List (List ℕ)) (answer : Answer) → Product stored words answer → answer.status ≡ 0
-    → (names : List (List ℕ)) × (command_of words ≡ Some (Check names)) × Passed (sources stored 0 SOURCE_BYTES names)
-product_passed stored words answer (usage none) is_zero = absurd (differs 5 is_zero)
-product_passed stored words answer (check names told is checks) is_zero =
-    (names, is, passed names (sources stored 0 SOURCE_BYTES names) told checks is_zero)
+-- What a check gives where it is answered with status 0.
+abbrev PassesIf : List (List ℕ × List ℕ) → Option Command → Answer → Type 0
+PassesIf stored (Some (Check names)) answer = answer.status ≡ 0 → Passed (sources stored 0 SOURCE_BYTES names)
+PassesIf stored (Some (Run names steps stats)) answer = Unit {0}
+PassesIf stored (Some (Leaks names)) answer = Unit {0}
+PassesIf stored (Some (Make n)) answer = Unit {0}
+PassesIf stored (Some (Selftest n)) answer = Unit {0}
+PassesIf stored None answer = Unit {0}
+
+answers_passed : (stored : List (List ℕ × List ℕ)) (command : Option Command) (answer : Answer) → Answers stored command answer → PassesIf stored command answer
+answers_passed stored _ _ usage = tt
+answers_passed stored _ _ (check names told checks) = λ is_zero. passed names (sources stored 0 SOURCE_BYTES names) told checks is_zero
+answers_passed stored _ _ (leaks names told lists) = tt
+answers_passed stored _ _ (make n) = tt
+
+-- A check that the tool answers with status 0 is one of files that pass.
+pub product_passed : (stored : List (List ℕ × List ℕ)) (words names : List (List ℕ)) (answer : Answer) → command_of words ≡ Some (Check names)
+    → Product stored words answer → answer.status ≡ 0 → Passed (sources stored 0 SOURCE_BYTES names)
+product_passed stored words names answer command product =
+    subst (λ (c : Option Command). PassesIf stored c answer) command (answers_passed stored (command_of words) answer product)

@@ -4,3 +4,5 @@ pub mod Reading
 pub mod Back
 -- one formal after the other
 pub mod Turns
+-- actuals one after the other
+pub mod Passing

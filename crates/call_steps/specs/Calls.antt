@@ -1,5 +1,5 @@
 -- What calls and their ends answer.
-use Rattle.std.specs.Prelude.{◌≡◌, ◌≢◌, ◌≤◌, ◌-◌, ℕ, ℤ, List, length, take, drop, Result, Ok, Err, if◌then◌else◌}
+use Rattle.std.specs.Prelude.{◌≡◌, ◌≢◌, ◌≤◌, ◌-◌, ℕ, ℤ, List, [], ◌∷◌, length, take, drop, Result, Ok, Err, if◌then◌else◌}
 use Rattle.type_definitions.specs.Types.{Table}
 use Rattle.run_codes.specs.Flat.{Flat, Got, Given, Stops, and_then, constraint, Made, Done, Halted}
 use Rattle.run_codes.specs.Points.{Passed, Value, FromSpot, ToSpot, fits}
@@ -39,3 +39,13 @@ IsWithin n p = 0 ≤ n
 abbrev pub Passes : Made Passed → Result Pass Stop → List ℤ → List ℤ → Flat → Type 0
 Passes made (Ok p) old new m = (made ≡ Done (passed_of new p) m) × (take (length old) new ≡ old) × IsWithin (length new) p
 Passes made (Err s) old new m = s ≢ stop.Memory → made ≡ Halted (stop_of s) m
+
+-- All actuals are passed, but where there is too little memory.
+abbrev pub PassesAll : {U : Type 0} → Made (List Passed) → Result U Stop → List Passed → Flat → Type 0
+PassesAll made (Ok u) passed m = made ≡ Done passed m
+PassesAll made (Err s) passed m = s ≢ stop.Memory → made ≡ Halted (stop_of s) m
+
+-- The words of all values that are passed are among so many.
+abbrev pub AreWithin : ℕ → List Pass → Type 0
+AreWithin n [] = Unit {0}
+AreWithin n (p ∷ ps) = IsWithin n p × AreWithin n ps

@@ -1,15 +1,16 @@
 //! Actuals, as they are evaluated before a call.
-ghost use Rattle.std.specs.Prelude.{◌≡◌, ◌<◌, [], false, length, OnOk, OnErr, IfOk, IsTrue};
+ghost use Rattle.std.specs.Prelude.{◌≡◌, ◌<◌, ◌++◌, ◌∷◌, [], false, length, map, OnOk, OnErr, IfOk, IsTrue};
+ghost use Rattle.std.specs.List.{list_all};
 ghost use Rattle.code_rows.specs.Rows.{code_at, place_of, is_place_below};
 ghost use Rattle.code_rows.specs.Points.{actual_of, is_actual_there, AreSound};
 ghost use Rattle.code_rows.specs.Values.{fill_at, are_within};
 ghost use Rattle.run_codes.specs.Codes as codes;
 ghost use Rattle.run_codes.specs.Flat.{is_broken, kinds, held};
-ghost use Rattle.run_codes.specs.Points.{passed};
+ghost use Rattle.run_codes.specs.Points.{passed, all_passed};
 ghost use Rattle.run_memory.specs.Memory.{flat, elsewhere};
 ghost use Rattle.run_memory.specs.Spots.{spot_of};
 ghost use Rattle.fill_values.specs.Values.{is_failed};
-ghost use Rattle.call_steps.specs.Calls.{Passes, Tests};
+ghost use Rattle.call_steps.specs.Calls.{passed_of, Passes, PassesAll, AreWithin, Tests};
 
 use crate::bounds::fits;
 use code_rows::{Actual, Exception, Fills, Nodes, Place, Rows, Stop};
@@ -17,6 +18,7 @@ use fill_values::{Hand, fill};
 use run_memory::{Memory, Spot};
 use run_words::{spot, within, word};
 use spark_base::Pos;
+use std::alloc::AllocError;
 use type_table::TypeTable;
 
 /// What is known of an actual before the call: the words at hand of its value, from one index to
@@ -176,4 +178,42 @@ pub fn pass_actual(
             pass_to(table, &rows.nodes, memory, hand, place, of, pos)
         }
     }
+}
+
+/// One more is passed.
+fn push_pass(passes: &mut Vec<Pass>, pass: Pass) -> Result<(), AllocError>
+    ensures { OnOk result (passes.new.items ≡ passes.old.items ++ pass ∷ []) }
+{
+    match pass {
+        Pass::Value { first, end } => passes.push(Pass::Value { first, end })?,
+        Pass::From { spot, of } => passes.push(Pass::From { spot, of })?,
+        Pass::To { spot, of, pos } => passes.push(Pass::To { spot, of, pos })?,
+    }
+    Ok(())
+}
+
+/// Actuals are passed in order.
+pub fn pass_actuals(
+    table: &TypeTable,
+    rows: &Rows,
+    memory: &mut Memory,
+    hand: &mut Hand,
+    actuals: &[Actual],
+    passes: &mut Vec<Pass>,
+) -> Result<(), Stop>
+    requires sound { AreSound rows.now }
+    requires there { IsTrue (list_all (is_actual_there rows.now) actuals.now) }
+    requires none { passes.old.items ≡ [] }
+    requires whole { is_failed (all_passed table.now (map (actual_of rows.now) actuals.now) (flat memory.old)) ≡ false }
+    ensures passed { PassesAll (all_passed table.now (map (actual_of rows.now) actuals.now) (flat memory.old)) result (map (passed_of hand.new) passes.new.items) (flat memory.new) }
+    ensures within { OnOk result (AreWithin (length hand.new) passes.new.items) }
+    ensures elsewhere { elsewhere memory.new ≡ elsewhere memory.old }
+{
+    'actuals: for i in 0..actuals.len() {
+        match pass_actual(table, rows, memory, hand, actuals[i]) {
+            Ok(pass) => push_pass(passes, pass)?,
+            Err(stop) => return Err(stop),
+        }
+    }
+    Ok(())
 }

@@ -1,5 +1,5 @@
 -- The commands and their words (docs/TOOL.md, "Words").
-use Rattle.std.specs.Prelude.{◌≡◌, ℕ, Bool, false, not, ◌&&◌, ◌==◌, nat_le, nat_lt, if◌then◌else◌, List, [], ◌∷◌, length, map, filter, take, drop, Option, None, Some, option_and_then, codes, string_bytes, Result, Ok, Err}
+use Rattle.std.specs.Prelude.{◌≡◌, ◌≤◌, ℕ, Bool, false, not, ◌&&◌, ◌==◌, nat_le, nat_lt, if◌then◌else◌, List, [], ◌∷◌, length, map, filter, take, drop, Option, None, Some, option_and_then, codes, string_bytes, Result, Ok, Err}
 use Rattle.std.specs.List.{list_all}
 use Rattle.std.specs.Option.{option_map}
 use Rattle.std.specs.Char.{is_ascii_digit}
@@ -85,6 +85,15 @@ asked word options operands =
 abbrev pub command_of : List (List ℕ) → Option Command
 command_of [] = None
 command_of (word ∷ rest) = asked word (options (word ∷ rest)) (operands (word ∷ rest))
+
+-- The operands are the files of a command that names files, and there are few. The budget of a run
+-- is within the limit.
+abbrev pub Fits : List (List ℕ) → Command → Type 0
+Fits operands (Check names) = (names ≡ operands) × (length names ≤ FILES)
+Fits operands (Run names steps stats) = (names ≡ operands) × (length names ≤ FILES) × (steps ≤ most_steps)
+Fits operands (Leaks names) = (names ≡ operands) × (length names ≤ FILES)
+Fits operands (Make n) = Unit {0}
+Fits operands (Selftest n) = Unit {0}
 
 -- The command that a program holds.
 abbrev pub command_in : held.Command → Command

@@ -1,9 +1,10 @@
 //! From words to commands.
-ghost use Rattle.std.specs.Prelude.{◌≡◌, None, Some, map, string_bytes, MatchOption};
+ghost use Rattle.std.specs.Prelude.{◌≡◌, ◌≤◌, length, None, Some, map, string_bytes, IfSome, IfOk, IsTrue};
 ghost use Rattle.std.specs.List.{list_all};
 ghost use Rattle.std.specs.Option.{option_map};
 ghost use Rattle.command_words.specs.Words as spec;
-ghost use Rattle.command_words.specs.Words.{are_file_names, asked, budget_of, count_of, plain_files, run_of, steps_of, IsReadAs};
+ghost use Rattle.command_words.specs.Words.{are_file_names, asked, budget_of, count_of, plain_files, run_of, steps_of, Fits, IsReadAs};
+ghost use Rattle.spark_base.specs.Words.{operands};
 
 use crate::command::{Command, WordFault};
 use crate::number::number;
@@ -30,14 +31,16 @@ fn all_are_named(names: &[String]) -> bool
 
 /// Whether words are from 1 to 64 file names.
 fn are_file_names(names: &[String]) -> bool
-    ensures { result ≡ are_file_names (map string_bytes names.now) }
+    ensures are { result ≡ are_file_names (map string_bytes names.now) }
+    ensures few { IsTrue result → length (map string_bytes names.now) ≤ FILES }
 {
     !names.is_empty() && names.len() <= FILES && all_are_named(names)
 }
 
 /// The budget that an option gives.
 fn steps(word: &String) -> Option<u64>
-    ensures { result ≡ steps_of (string_bytes word.now) }
+    ensures steps { result ≡ steps_of (string_bytes word.now) }
+    ensures within { IfSome result (λ steps. steps ≤ spec.most_steps) }
 {
     let digits = word.as_str().strip_prefix("--steps=")?;
     number(digits, 10, 0, MOST_STEPS)
@@ -45,7 +48,8 @@ fn steps(word: &String) -> Option<u64>
 
 /// The budget that the options of a run give.
 fn budget(options: &[String]) -> Option<u64>
-    ensures { result ≡ budget_of (map string_bytes options.now) }
+    ensures budget { result ≡ budget_of (map string_bytes options.now) }
+    ensures within { IfSome result (λ steps. steps ≤ spec.most_steps) }
 {
     match options.len() {
         0 => Some(MOST_STEPS),
@@ -56,8 +60,10 @@ fn budget(options: &[String]) -> Option<u64>
 
 /// Files and no option.
 fn plain_files(options: &[String], operands: Vec<String>) -> Option<Vec<String>>
-    ensures { option_map (λ names. map string_bytes names.items) result
+    ensures files { option_map (λ names. map string_bytes names.items) result
         ≡ plain_files (map string_bytes options.now) (map string_bytes operands.items) }
+    ensures are { IfSome result (λ names. map string_bytes names.items ≡ map string_bytes operands.items) }
+    ensures few { IfSome result (λ names. length (map string_bytes names.items) ≤ FILES) }
 {
     if options.is_empty() && are_file_names(&operands) {
         Some(operands)
@@ -68,7 +74,8 @@ fn plain_files(options: &[String], operands: Vec<String>) -> Option<Vec<String>>
 
 /// Files, and a budget.
 fn run(options: &[String], operands: Vec<String>) -> Option<Command>
-    ensures { option_map spec.command_in result ≡ run_of (budget_of (map string_bytes options.now)) (map string_bytes operands.items) }
+    ensures command { option_map spec.command_in result ≡ run_of (budget_of (map string_bytes options.now)) (map string_bytes operands.items) }
+    ensures fits { IfSome result (λ command. Fits (map string_bytes operands.items) (spec.command_in command)) }
 {
     let steps = budget(options)?;
     if !are_file_names(&operands) {
@@ -94,7 +101,8 @@ fn count(options: &[String], operands: &[String]) -> Option<u32>
 
 /// What a command's word asks for, with options and operands.
 fn asked(word: &str, options: &[String], operands: Vec<String>) -> Option<Command>
-    ensures { option_map spec.command_in result ≡ asked word.now (map string_bytes options.now) (map string_bytes operands.items) }
+    ensures command { option_map spec.command_in result ≡ asked word.now (map string_bytes options.now) (map string_bytes operands.items) }
+    ensures fits { IfSome result (λ command. Fits (map string_bytes operands.items) (spec.command_in command)) }
 {
     match word {
         "check" => Some(Command::Check(plain_files(options, operands)?)),
@@ -106,9 +114,11 @@ fn asked(word: &str, options: &[String], operands: Vec<String>) -> Option<Comman
     }
 }
 
-/// What the words after the program's name ask for.
+/// What the words after the program's name ask for. The files of a command are operands of the
+/// words, so that a store opens them.
 pub fn read_words(alloc: Global, words: &[String]) -> Result<Command, WordFault>
-    ensures { IsReadAs (map string_bytes words.now) result }
+    ensures read { IsReadAs (map string_bytes words.now) result }
+    ensures fits { IfOk result (λ command. Fits (operands (map string_bytes words.now)) (spec.command_in command)) }
 {
     match words.split_first() {
         Some((word, rest)) => {

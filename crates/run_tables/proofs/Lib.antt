@@ -2,4 +2,3 @@ pub mod Programs
 pub mod Frames
 pub mod Entered
 pub mod Runs
-pub mod Standing

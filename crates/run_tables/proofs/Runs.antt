@@ -4,6 +4,7 @@ use Rattle.std.proofs.Common.{◌≡◌, ℕ, List, [], ◌∷◌, refl, sym, su
 use Rattle.ada_lexer.specs.Tokens.{Cut}
 use Rattle.ada_tree.specs.declared.unit.SourceUnit.{SourceUnit}
 use Rattle.name_events.specs.Identified.{identified}
+use Rattle.name_events.specs.Outline.{source_events}
 use Rattle.name_events.specs.Faults.{name_fault}
 use Rattle.resolved_tree.specs.Trees.{Program}
 use Rattle.type_definitions.specs.Types.{Table}
@@ -16,13 +17,19 @@ use Rattle.settled_types.specs.Orderly.{IsOrderly, at_start}
 use Rattle.orderly_files.specs.Apart.{AreApart}
 use Rattle.orderly_files.specs.Ended.{AllEnded}
 use Rattle.orderly_files.proofs.Main.{files_in_order}
+use Rattle.file_positions.specs.Order.{Ascends, event_positions}
 use Rattle.file_positions.specs.Texts.{AreParsed}
+use Rattle.file_positions.proofs.Ascending.{events_ascend}
 use Rattle.file_positions.proofs.Main.{files_apart, files_ended}
 use Rattle.typed_tree.specs.Programs.{TypedProgram}
 use Rattle.flow_paths.specs.Laid.{FlowProgram, flow_program}
 use Rattle.machine.specs.Run as machine_run
 use Rattle.machine.specs.Typed.{Position, sorts}
 use Rattle.named_files.proofs.Library.{procedures}
+use Rattle.meant_files.proofs.Told.{files_followed}
+use Rattle.meant_files.proofs.Bodies.{files_have_bodies}
+use Rattle.called_subs.specs.Called.{HaveBodies}
+use Rattle.called_subs.proofs.Main.{calls_within}
 use Rattle.order_laws.specs.Orderly.{typed_of}
 use Rattle.order_laws.proofs.Faults.{units_faultless}
 use Rattle.sound_files.proofs.Once.{files_once}
@@ -66,22 +73,30 @@ module _ (files : List (List SourceUnit)) where
   pub files_types : AreApart (identified files) → AllEnded at_start p.units → type_fault p ≡ None → HasTypes flow
   files_types apart ended none = program_types p (files_formed (identified files) files) (files_in_order files apart ended) none (typed_of p)
 
-  pub files_frames : AreApart (identified files) → name_fault files ≡ None → type_fault p ≡ None → CallsStand flow → HasFrames flow
-  files_frames apart named none calls =
+  -- Each subprogram that is declared has a body, since no rule of names is broken.
+  files_bodies : Ascends (event_positions (source_events files)) → name_fault files ≡ None → HaveBodies p
+  unfolding name_fault
+  files_bodies up named d has = files_have_bodies files (identified files) (files_followed files up named) named d has
+
+  files_calls : Ascends (event_positions (source_events files)) → name_fault files ≡ None → CallsStand flow
+  files_calls up named n k sub e result low is = calls_within p (files_bodies up named) n k sub e result is
+
+  pub files_frames : AreApart (identified files) → Ascends (event_positions (source_events files)) → name_fault files ≡ None → type_fault p ≡ None → HasFrames flow
+  files_frames apart up named none =
       has_frames (known_of p).table (typed_of p)
       (can_enter (known_of p).table (known_of p) p.units
       (λ u has. files_written (identified files) (outside (known_of p)) files (procedures files named) u has (units_faultless p none u has))
-      (files_once files apart (known_of p))) calls
+      (files_once files apart (known_of p))) (files_calls up named)
 
   -- So it is of files that are parsed from texts.
   pub parsed_types : (texts : List (List Cut)) → AreParsed 0 texts files → type_fault p ≡ None → HasTypes flow
   parsed_types texts parsed = files_types (files_apart texts files parsed) (files_ended (identified files) texts files parsed)
 
-  pub parsed_frames : (texts : List (List Cut)) → AreParsed 0 texts files → name_fault files ≡ None → type_fault p ≡ None → CallsStand flow → HasFrames flow
-  parsed_frames texts parsed = files_frames (files_apart texts files parsed)
+  pub parsed_frames : (texts : List (List Cut)) → AreParsed 0 texts files → name_fault files ≡ None → type_fault p ≡ None → HasFrames flow
+  parsed_frames texts parsed = files_frames (files_apart texts files parsed) (events_ascend texts files parsed)
 
-  -- Where there is a main procedure and what is called has a body, the run of what is lowered is the machine's.
-  pub parsed_gives : (texts : List (List Cut)) → AreParsed 0 texts files → name_fault files ≡ None → type_fault p ≡ None → CallsStand flow
+  -- Where there is a main procedure, the run of what is lowered is the machine's.
+  pub parsed_gives : (texts : List (List Cut)) → AreParsed 0 texts files → name_fault files ≡ None → type_fault p ≡ None
       → (main : ℕ) → flow.main ≡ Some main → (input : List ℕ) (n : ℕ) → GivesAlike (machine_run.run flow input n) (lowered_run flow input n)
-  parsed_gives texts parsed named none calls main is input n =
-      lowered_gives flow input n (parsed_types texts parsed none) (parsed_frames texts parsed named none calls) main is
+  parsed_gives texts parsed named none main is input n =
+      lowered_gives flow input n (parsed_types texts parsed none) (parsed_frames texts parsed named none) main is

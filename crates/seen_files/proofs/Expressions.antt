@@ -48,7 +48,7 @@ use Rattle.resolved_tree.specs.declared.operator.Operator.{Operator}
 use Rattle.resolved_tree.specs.declared.operator.Operator.TheVariants as op
 use Rattle.resolved_tree.specs.Trees.{Tree, list_of}
 use Rattle.resolved_tree.specs.Trees as t
-use Rattle.expression_lowering.specs.LoweredExpressions.{Numbers, number_of, before_others, last_of, sign_operator, chained, selected_number, selected_numbers, lowered_name, lowered_suffixes, lowered_suffix, box_before, args_row, next_arg_before, arg_before, lowered_expr_box, lowered_expr, operands_row, lowered_operand, short_operands_row, lowered_short_operand, lowered_rel_box, lowered_rel, lowered_sum_box, lowered_sum, terms_row, lowered_next_term, lowered_term, factors_row, lowered_next_factor, lowered_factor, lowered_primary, lowered_name_box, lowered_aggregate_box, lowered_aggregate, further_args, lowered_range}
+use Rattle.expression_lowering.specs.LoweredExpressions.{Numbers, number_of, before_others, last_of, sign_operator, chained, selected_number, selected_numbers, lowered_name, lowered_suffixes, lowered_suffix, box_before, args_row, next_arg_before, arg_before, lowered_expr_box, lowered_expr, operands_row, lowered_operand, short_operands_row, lowered_short_operand, lowered_rel_box, lowered_rel, lowered_sum_box, lowered_sum, terms_row, lowered_next_term, lowered_term, factors_row, lowered_next_factor, lowered_factor, lowered_primary, lowered_name_box, lowered_aggregate_box, lowered_aggregate, lowered_range}
 use Rattle.seen_files.specs.Uses.{Uses, numbers_along, AreAllowed}
 use Rattle.seen_files.specs.Fits.{RangeFits, IsKept}
 
@@ -318,15 +318,7 @@ module _ (numbers : Numbers) (asked : ℕ → Type 0) where
     aggregate_speaks (aggregate.Single' pos id arrow _ value right_paren) = let s = expr_box_speaks value in (s.0, λ a. (s.1 a, tt))
     aggregate_speaks (aggregate.Others' pos others arrow _ value right_paren) = expr_box_speaks value
 
-  -- ---- arguments, and choices, of which nothing is asked
-
-  further_speak : (rest : List NextArg) → Speaks (flat_map next_arg_events rest) (Use (further_args numbers rest))
-  unfolding Uses
-  further_speak [] = nothing (Unit {0}) tt
-  further_speak (part ∷ rest) =
-      let others : Tree = further_args numbers rest in
-      two_args (next_arg_events part) (flat_map next_arg_events rest) (Use others) (Use (next_arg_before numbers others part)) (next_arg_speaks others part)
-      (further_speak rest)
+  -- ---- choices, of which nothing is asked
 
   pub choice_speaks : (c : Choice) → Speaks (choice_events c) (Unit {0})
   unfolding choice_events

@@ -1,6 +1,7 @@
 -- The instructions of files of the first class are typed, where no fault of typing is found.
 use Rattle.std.proofs.Common.{◌≡◌, true, List, IsTrue, None, refl, sym, true≢false}
 use Rattle.ada_tree.specs.declared.unit.SourceUnit.{SourceUnit}
+use Rattle.name_events.specs.Outline.{source_events}
 use Rattle.name_events.specs.Identified.{identified}
 use Rattle.name_events.specs.Faults.{name_fault}
 use Rattle.resolved_tree.specs.Trees.{Program}
@@ -19,10 +20,12 @@ use Rattle.settled_types.specs.Orderly.{at_start, IsOrderly as IsInOrder}
 use Rattle.orderly_files.specs.Apart.{AreApart}
 use Rattle.orderly_files.specs.Ended.{AllEnded}
 use Rattle.orderly_files.proofs.Main.{files_in_order}
+use Rattle.file_positions.specs.Order.{Ascends, event_positions}
 use Rattle.gathered_laws.specs.Made.{IsMade}
 use Rattle.gathered_laws.proofs.Components.{components_left}
 use Rattle.gathered_laws.proofs.Laws.{program_laws}
 use Rattle.named_files.proofs.Records.{records_apart}
+use Rattle.meant_files.proofs.Main.{files_meant}
 use Rattle.soundness.specs.Sound.{calls_nothing}
 use Rattle.ready_laws.proofs.Temporaries.{no_temporaries}
 use Rattle.order_laws.specs.Orderly.{typed_of}
@@ -47,10 +50,10 @@ module _ (files : List (List SourceUnit)) where
   undivided : CallsNothing flow → AreUndivided flow
   undivided calls sub has point is = whole_of point.instr (calls sub has point is)
 
-  pub files_fine : AreApart (identified files) → AllEnded at_start p.units → name_fault files ≡ None → type_fault p ≡ None → IsPlainText p → AreOrderly files
+  pub files_fine : AreApart (identified files) → AllEnded at_start p.units → Ascends (event_positions (source_events files)) → name_fault files ≡ None → type_fault p ≡ None → IsPlainText p → AreOrderly files
       → CallsNothing flow → AreFine flow
-  files_fine apart ended named none text left calls =
+  files_fine apart ended up named none text left calls =
       let formed : IsTrue (all_formed p.units) = files_formed (identified files) files in
       let orderly : IsInOrder p = files_in_order files apart ended in
       let laws : Laws (known_of p) (IsMade p.units) = program_laws p formed orderly none text.named (components_left p (records_apart (identified files) files named)) in
-      are_fine p (IsMade p.units) none laws left.meant (no_temporaries table (typed_of p) calls) (undivided calls)
+      are_fine p (IsMade p.units) none laws (files_meant files up named text.formless text.named (IsMade p.units) left.bounded) (no_temporaries table (typed_of p) calls) (undivided calls)

@@ -14,11 +14,10 @@ use Rattle.type_definitions.specs.Entries.{entry_of}
 use Rattle.type_definitions.specs.Names.{Context}
 use Rattle.type_definitions.specs.Gathered.{gather, each, with_entry, with_type, with_indication, full_info, with_literals, with_definition, with_object, object_kind, object_info, constant_value, indicated, with_number, number_info, initial_value, with_formal_group, with_formals, with_result, with_front, with_body_front, profile, is_subprogram, front_number, plain_object, parameter_type, in_subprogram, in_visible, in_hidden, instance_type, declared_number, declared_text}
 use Rattle.type_definitions.specs.Whole.{predefined_entries, at_first, outside, gather_units, known_from, known_of}
-use Rattle.typed_tree.specs.declared.object.Object.{Object}
 use Rattle.typed_tree.specs.Statements.{scope_count}
 use Rattle.typed_tree.specs.Programs.{kind_of, entry_kind, DeclaredObject, Home, object_of, formals_of, front_formals, package_text, objects_in, program_objects, text_io, over_units, typed_program}
 use Rattle.flow_paths.specs.Objects.{is_formal_kind}
-use Rattle.sound_files.specs.Class.{IsFormlessFront, IsFormless}
+use Rattle.meant_files.specs.Formless.{IsFormlessFront, IsFormless}
 
 -- ---- entries
 

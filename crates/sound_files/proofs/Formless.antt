@@ -7,7 +7,7 @@ use Rattle.type_definitions.specs.Gathered.{declared_number, in_hidden}
 use Rattle.typed_tree.specs.Expressions.{Site}
 use Rattle.typed_tree.specs.Statements.{scope_count}
 use Rattle.typed_tree.specs.Programs.{TypedSub, front_formals, formal_numbers, placed, subs_in, over_units}
-use Rattle.sound_files.specs.Class.{IsFormlessFront, IsFormless}
+use Rattle.meant_files.specs.Formless.{IsFormlessFront, IsFormless}
 
 front_none : (s : Site) (front : Code) → IsFormlessFront front → flat_map (formal_numbers s) (front_formals front) ≡ []
 front_none s (Front d formals result) none = ap (λ list. flat_map (formal_numbers s) (code_items list)) none

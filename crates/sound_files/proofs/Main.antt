@@ -4,6 +4,7 @@ use Rattle.std.proofs.Common.{◌≡◌, subst, ℕ, true, List, [], None}
 use Rattle.spark_base.specs.Lists.{Has}
 use Rattle.ada_lexer.specs.Tokens.{Cut}
 use Rattle.ada_tree.specs.declared.unit.SourceUnit.{SourceUnit}
+use Rattle.name_events.specs.Outline.{source_events}
 use Rattle.name_events.specs.Identified.{identified}
 use Rattle.name_events.specs.Faults.{name_fault}
 use Rattle.resolved_tree.specs.Trees.{Program}
@@ -20,7 +21,9 @@ use Rattle.settled_types.specs.Orderly.{at_start}
 use Rattle.orderly_files.specs.Apart.{AreApart}
 use Rattle.orderly_files.specs.Ended.{AllEnded}
 use Rattle.orderly_files.proofs.Main.{files_in_order}
+use Rattle.file_positions.specs.Order.{Ascends, event_positions}
 use Rattle.file_positions.specs.Texts.{AreParsed}
+use Rattle.file_positions.proofs.Ascending.{events_ascend}
 use Rattle.file_positions.proofs.Main.{files_apart, files_ended}
 use Rattle.ready_types.proofs.Files.{files_settled, files_own}
 use Rattle.soundness.specs.Typed.{OwnsByShape}
@@ -31,6 +34,7 @@ use Rattle.order_laws.proofs.Faults.{units_faultless}
 use Rattle.order_laws.proofs.Accepted.{accepted_sound}
 use Rattle.sound_files.specs.Class.{IsPlainText, CallsNothing}
 use Rattle.sound_files.specs.Left.{AreOrderly}
+use Rattle.seen_files.proofs.Main.{files_seen}
 use Rattle.sound_files.proofs.Whole.{whole}
 use Rattle.sound_files.proofs.Once.{files_once}
 use Rattle.sound_files.proofs.Written.{files_written}
@@ -49,7 +53,7 @@ module _ (files : List (List SourceUnit)) where
   abbrev flow : FlowProgram
   flow = flow_program table (typed_of p)
 
-  module _ (apart : AreApart (identified files)) (ended : AllEnded at_start p.units) (named : name_fault files ≡ None) (no_fault : type_fault p ≡ None) (text : IsPlainText p) (left : AreOrderly files) where
+  module _ (apart : AreApart (identified files)) (ended : AllEnded at_start p.units) (up : Ascends (event_positions (source_events files))) (named : name_fault files ≡ None) (no_fault : type_fault p ≡ None) (text : IsPlainText p) (left : AreOrderly files) where
     -- no subprogram has formals
     formals_known : (sub : TypedSub) → Has (bodies_of p) sub → (x : ℕ) → Has sub.formals x → is_formal (typing_in p) x ≡ true
     formals_known sub has x is = absurd (subst (λ xs. Has xs x) (subs_none (site_of (known_of p) p.units) 1 p.units sub text.formless has) is)
@@ -60,10 +64,10 @@ module _ (files : List (List SourceUnit)) where
       written = λ u has. files_written (identified files) (outside (known_of p)) files (procedures files named) u has (units_faultless p no_fault u has);
       once = files_once files apart (known_of p);
       formals = formals_known;
-      seen = left.seen;
+      seen = files_seen files up named (files_once files apart (known_of p));
       whole = whole p (files_in_order files apart ended);
-      main = left.main;
-      is_main = left.is_main;
+      main = text.main;
+      is_main = text.is_main;
     }
 
     -- Where there are no reports, each moment of each run is well owned, and none is a trap.
@@ -75,7 +79,7 @@ module _ (files : List (List SourceUnit)) where
           no_reports = none;
           effects_are = are;
           settled = files_settled files apart ended no_fault (typed_of p);
-          fine = files_fine files apart ended named no_fault text left calls;
+          fine = files_fine files apart ended up named no_fault text left calls;
         })
         (subst OwnsByShape (flow_table table (typed_of p)) (files_own files apart ended no_fault (typed_of p))) (first_class p text calls) files_orderly input
 
@@ -84,4 +88,4 @@ module _ (files : List (List SourceUnit)) where
       → (effects : Effects) → AreEffects flow effects → AreReports flow effects [] → CallsNothing flow
       → (input : List ℕ) → RunIsSound table (typed_of p) input
   parsed_sound texts parsed named no_fault text left =
-      files_sound (files_apart texts files parsed) (files_ended (identified files) texts files parsed) named no_fault text left
+      files_sound (files_apart texts files parsed) (files_ended (identified files) texts files parsed) (events_ascend texts files parsed) named no_fault text left

@@ -4,7 +4,7 @@ use std::{fs, io};
 
 /// The folders of examples, below the folder where the program runs. One that isn't there has no
 /// examples.
-const FOLDERS: [&str; 5] = ["accepted", "leaks", "refusals", "rules", "runs"];
+const FOLDERS: [&str; 6] = ["accepted", "commands", "leaks", "refusals", "rules", "runs"];
 
 /// Adds the paths of the files of a folder.
 fn add_folder(rt: &HostRuntime, folder: &str, paths: &mut Vec<String>) -> io::Result<()> {

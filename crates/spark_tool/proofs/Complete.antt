@@ -1,13 +1,11 @@
 -- An answer is the one that is defined, also where no count rose, and what was written where a
 -- write failed.
-use Rattle.std.proofs.Common.{◌≡◌, ◌≢◌, ◌⊎◌, inl, inr, ℕ, refl, sym, ◌∙◌, subst, List, [], ◌∷◌, ◌++◌, Option, None, Some, IfSome, IsSomeAnd}
+use Rattle.std.proofs.Common.{◌≡◌, ◌≢◌, ◌⊎◌, inl, inr, ℕ, refl, sym, subst, List, [], Option, None, Some, IfSome, IsSomeAnd}
 use Rattle.std.specs.Io.KnownBytes.{Appends, Keeps}
 use Rattle.std.proofs.KnownBytes.{Appends-nil, Appends-kept}
-use Rattle.std.proofs.lemmas.List.{append-nil}
 use Rattle.spark_base.specs.Outside.{AppendsPrefix}
-use Rattle.rule_reports.specs.Lines.{usage_line}
-use Rattle.spark_tool.specs.Product.{Answer, Product, unread, misused}
-use Rattle.spark_tool.specs.Promises.{Delivers, DeliversFront}
+use Rattle.spark_tool.specs.Product.{Answer, Product, unread}
+use Rattle.spark_tool.specs.Promises.{Delivers, DeliversFront, Tells, TellsFront}
 use Rattle.spark_tool.specs.Answers.{answer_to}
 use Rattle.spark_tool.specs.declared.answer.Stream.{Stream}
 use Rattle.spark_tool.specs.declared.answer.Stream.TheVariants.{Out, Err}
@@ -81,20 +79,16 @@ stop_delivers Write status stored words out new_out err new_err F O E is files_s
     absurd (elim (write refl) [ inl rose ↦ out_stays rose | inr rose ↦ err_stays rose ])
 stop_delivers Memory status stored words out new_out err new_err F O E is files_stay out_stays err_stays memory read write nothing = absurd (memory is)
 
-kept_by_none : (front back xs ys : List ℕ) → [] ≡ front ++ back → ys ≡ xs ++ front → ys ≡ xs
-kept_by_none [] back xs ys none is = is ∙ append-nil xs
-kept_by_none (b ∷ front) back xs ys none is = absurd (cc)
+-- an answer that needs no file was written
+pub fixed_tells : (fixed : Option Answer) (answer : Answer) (out new_out err new_err : Option (List ℕ)) → IfSome fixed (λ told. answer ≡ told)
+    → Appends out new_out answer.out → Appends err new_err answer.err → IfSome fixed (λ told. Tells told out new_out err new_err answer.status)
+fixed_tells None answer out new_out err new_err is to_out to_err = tt
+fixed_tells (Some told) answer out new_out err new_err is to_out to_err =
+    subst (λ (a : Answer). Tells a out new_out err new_err answer.status) is (refl, to_out, to_err)
 
--- a front of no bytes is none
-front_of_none : (old new : Option (List ℕ)) → AppendsPrefix old new [] → Keeps old new
-front_of_none None new front = tt
-front_of_none (Some xs) None front = front.3
-front_of_none (Some xs) (Some ys) front = kept_by_none front.0 front.1 xs ys front.2 front.3
-
--- where the usage line can't be written whole
-pub front_of_usage : (answer : Answer) (out new_out err new_err : Option (List ℕ)) → answer ≡ misused → AppendsPrefix out new_out answer.out
-    → AppendsPrefix err new_err answer.err → Keeps out new_out × AppendsPrefix err new_err usage_line
-front_of_usage answer out new_out err new_err is to_out to_err = (
-  front_of_none out new_out (subst (λ (a : Answer). AppendsPrefix out new_out a.out) is to_out),
-  subst (λ (a : Answer). AppendsPrefix err new_err a.err) is to_err,
-)
+-- a front of it was written
+pub fixed_tells_front : (fixed : Option Answer) (answer : Answer) (out new_out err new_err : Option (List ℕ)) → IfSome fixed (λ told. answer ≡ told)
+    → AppendsPrefix out new_out answer.out → AppendsPrefix err new_err answer.err → IfSome fixed (λ told. TellsFront told out new_out err new_err)
+fixed_tells_front None answer out new_out err new_err is to_out to_err = tt
+fixed_tells_front (Some told) answer out new_out err new_err is to_out to_err =
+    subst (λ (a : Answer). TellsFront a out new_out err new_err) is (to_out, to_err)

@@ -17,6 +17,14 @@ IsStatus status = Has (0 ∷ 1 ∷ 2 ∷ 6 ∷ 7 ∷ 8 ∷ 9 ∷ []) status
 abbrev pub Grows : Option (List ℕ) → Option (List ℕ) → Type 0
 Grows old new = (piece : List ℕ) × Appends old new piece
 
+-- Both streams got the bytes of this answer, and its status was answered.
+abbrev pub Tells : Answer → Option (List ℕ) → Option (List ℕ) → Option (List ℕ) → Option (List ℕ) → ℕ → Type 0
+Tells answer out new_out err new_err status = (status ≡ answer.status) × Appends out new_out answer.out × Appends err new_err answer.err
+
+-- Both streams got some front of its bytes.
+abbrev pub TellsFront : Answer → Option (List ℕ) → Option (List ℕ) → Option (List ℕ) → Option (List ℕ) → Type 0
+TellsFront answer out new_out err new_err = AppendsPrefix out new_out answer.out × AppendsPrefix err new_err answer.err
+
 -- Both streams got the bytes of the one answer that is defined, and its status was answered.
 pub record Delivers (stored : List (List ℕ × List ℕ)) (words : List (List ℕ)) (out new_out err new_err : Option (List ℕ)) (status : ℕ) : Type 0 where
   pub answer : Answer

@@ -4,6 +4,7 @@ ghost use Rattle.ada_lexer.specs.Positions.{first_position};
 ghost use Rattle.spark_tool.specs.Product as spec;
 ghost use Rattle.spark_tool.specs.Answers.{answer_of};
 
+use prog_maker::make_program;
 use rule_reports::{Code, accepted_line, refusal_line, usage_line};
 use spark_base::Pos;
 use std::alloc::{AllocError, Global};
@@ -36,6 +37,17 @@ pub(crate) fn usage_answer(alloc: Global) -> Result<Answer, AllocError>
         stream: Stream::Err,
         text: Vec::from_slice(alloc, usage_line().as_bytes())?,
         status: 6,
+    })
+}
+
+/// The program that is made for a number.
+pub(crate) fn made_answer(alloc: Global, n: u32) -> Result<Answer, AllocError>
+    ensures { IfOk result (λ answer. answer_of answer ≡ spec.made n) }
+{
+    Ok(Answer {
+        stream: Stream::Out,
+        text: make_program(alloc, n)?,
+        status: 0,
     })
 }
 
@@ -91,5 +103,16 @@ pub(crate) fn rejected_answer(lines: Vec<u8>) -> Answer
         stream: Stream::Err,
         text: lines,
         status: 1,
+    }
+}
+
+/// The lines of leak checks.
+pub(crate) fn listed_answer(lines: Vec<u8>) -> Answer
+    ensures { answer_of result ≡ spec.listed lines.items }
+{
+    Answer {
+        stream: Stream::Out,
+        text: lines,
+        status: 0,
     }
 }

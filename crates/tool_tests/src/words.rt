@@ -5,7 +5,7 @@ use std::test::Fail;
 const USAGE: &str =
     "usage: spark check FILE... | run [--steps=N] [--stats] FILE... | leaks FILE... | make N | selftest N\n";
 
-const LINES: [&str; 11] = [
+const LINES: [&str; 23] = [
     "",
     "check",
     "check ",
@@ -15,7 +15,19 @@ const LINES: [&str; 11] = [
     "Check f.adb",
     " f.adb",
     "run f.adb",
+    "run --steps=1 f.adb",
+    "leaks",
+    "leaks f.adb -x",
     "selftest 3",
+    "make",
+    "make 0",
+    "make 10001",
+    "make 000001",
+    "make 1 1",
+    "make 1 -x",
+    "make -1",
+    "make +1",
+    "make 1.0",
     "--help",
 ];
 
@@ -30,6 +42,38 @@ fn words_out_of_form(rt: HostRuntime) -> Result<(), Fail> {
     let response = run(alloc, &[], Vec::new(alloc), NO_FAULTS)?;
     assert!(rt; response.is("", USAGE, 6));
     let response = run(alloc, &[], Vec::new(alloc), (NONE, NONE, 0))?;
+    assert!(rt; response.is("", "", 8));
+    Ok(())
+}
+
+const MADE: &str = "with Ada.Unchecked_Deallocation;
+package Work is
+type Cell; type List is access Cell;
+type Cell is record Value : Integer; Next : List; end record;
+procedure Free is new Ada.Unchecked_Deallocation (Cell, List);
+procedure P1 (L : in out List);
+end Work;
+package body Work is
+procedure P1 (L : in out List) is begin L := new Cell'(1, L); end P1;
+end Work;
+with Work; use Work; with Ada.Text_IO; use Ada.Text_IO;
+procedure Main is L : List;
+begin
+P1 (L);
+Put_Line (Integer'Image (L.Value));
+declare Old : List; begin while L /= null loop Old := L; L := Old.Next; Free (Old); end loop; end;
+end Main;
+";
+
+#[test]
+fn a_made_program(rt: HostRuntime) -> Result<(), Fail> {
+    let alloc = rt.alloc();
+    let words = words_of(alloc, "make 1")?;
+    let response = run(alloc, &words, Vec::new(alloc), NO_FAULTS)?;
+    assert!(rt; response.is(MADE, "", 0));
+    let response = run(alloc, &words, Vec::new(alloc), (0, NONE, 0))?;
+    assert!(rt; response.is(MADE, "", 0));
+    let response = run(alloc, &words, Vec::new(alloc), (NONE, 0, NONE))?;
     assert!(rt; response.is("", "", 8));
     Ok(())
 }

@@ -1,23 +1,24 @@
 -- Code that breaks no sentence: its instructions are as soundness needs them.
 use Rattle.std.proofs.Common.{◌≡◌, sym, subst, ℕ, ◌+◌, Bool, true, ◌&&◌, List, [], ◌∷◌, ◌++◌, Option}
 use Rattle.std.specs.List.{AllByRecursion}
-use Rattle.resolved_tree.specs.Trees.{NoMore, More, Code, Objects, Numbers, Skip, Assign, Call, Exit, Return, If, Branch, Case, When, Loop, While, For, Block, code_items}
+use Rattle.resolved_tree.specs.Trees.{NoMore, More, Code, Bounds, Objects, Numbers, Skip, Assign, Call, Exit, Return, If, Branch, Case, When, Loop, While, For, Block, code_items}
 use Rattle.type_definitions.specs.Types.{full, is_scalar}
 use Rattle.type_definitions.specs.Entries.{boolean}
 use Rattle.type_definitions.specs.Faults.{demand}
 use Rattle.type_definitions.specs.Expressions.{faults, own_type}
 use Rattle.type_definitions.specs.declared.judgement.Where.TheVariants as stands
+use Rattle.type_definitions.specs.Gathered.{declared_number}
 use Rattle.type_definitions.specs.Statements.{target_faults, range_faults, type_or_integer, is_one_choice, coverage}
 use Rattle.type_definitions.specs.Declarations.{code_faults, alternatives_faults, alternative_faults, choices_faults, selector_faults, choices_of, is_last}
 use Rattle.typed_tree.specs.Trees.{TypedCode, typed_code_list}
 use Rattle.typed_tree.specs.declared.object.Object.{Object}
-use Rattle.typed_tree.specs.Expressions.{Site}
+use Rattle.typed_tree.specs.Expressions.{Site, object_number}
 use Rattle.typed_tree.specs.Statements.{scope_count, statements, typed_body}
-use Rattle.flow_paths.specs.Objects.{Typing, Signature}
+use Rattle.flow_paths.specs.Objects.{Typing, Signature, object_at}
 use Rattle.typed_laws.specs.Fine.{Laws}
 use Rattle.typed_laws.proofs.Agreeing.{nil_left, nil_right}
 use Rattle.typed_points.specs.Code.{IsFineCode}
-use Rattle.typed_points.specs.Meant.{IsMeantCode, AreAlternatives}
+use Rattle.typed_points.specs.Meant.{IsMeantRange, IsParameter, IsMeantCode, AreAlternatives}
 use Rattle.typed_points.proofs.Flags.{flagged}
 use Rattle.typed_points.proofs.Values.{first_stays, condition_stays}
 use Rattle.typed_points.proofs.Sources.{assigned_fine}
@@ -42,6 +43,13 @@ module _ (s : Site) (objects : List Object) (subs : List Signature) (made : ℕ 
   unfolding IsFineCode
   listed [] h = tt
   listed (x ∷ xs) h = (h.0, listed xs h.1)
+
+  -- the parameter of a loop is scalar
+  parameter_is : (looped : Bool) (d range : Code) → IsMeantRange s y range → IsParameter s y d range → range_faults (flagged looped s.context.starts s.context) range ≡ []
+      → is_scalar (full s.context.known.table (object_at y (object_number s (declared_number d))).of) ≡ true
+  parameter_is looped d (Bounds low high) meant is none = is
+  parameter_is looped d range meant is none =
+      subst (λ x. is_scalar (full s.context.known.table x) ≡ true) (sym is) (parameter_scalar s objects subs made laws looped s.context.starts range meant none)
 
   mutual
     unfolding code_faults alternatives_faults alternative_faults statements IsMeantCode AreAlternatives IsFineCode
@@ -89,7 +97,7 @@ module _ (s : Site) (objects : List Object) (subs : List Signature) (made : ℕ 
         let c = flagged looped s.context.starts s.context in
         let own = nil_left (range_faults c range) _ none in
         let bounds = range_stays s objects subs made laws looped s.context.starts range meant.0 own in
-        let scalar = subst (λ x. is_scalar (full s.context.known.table x) ≡ true) (sym meant.1) (parameter_scalar s objects subs made laws looped s.context.starts range meant.0 own) in (
+        let scalar = parameter_is looped d range meant.0 meant.1 own in (
           (
             (scalar, bounds.0, bounds.1),
             scalar,

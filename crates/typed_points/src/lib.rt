@@ -6,6 +6,6 @@
 //! sources (`Sources`), strings (`Strings`), declarations (`Statements`) and calls (`Calls`) come
 //! together in bodies (`Bodies`), these in points (`Points`, `Laid`), and all of it in the law on
 //! programs (`Main`). Objects and subprograms have the numbers of their declarations (`Numbers`).
-//! That texts and tables of accepted programs are as asked for isn't proved yet: docs/SOUNDNESS.md
-//! has what is open. Nothing here runs.
+//! `gathered_laws` and `meant_files` say what accepted programs meet of it, and docs/SOUNDNESS.md has
+//! what is open. Nothing here runs.
 #![tactic(auto)]

@@ -1,4 +1,4 @@
-use Rattle.std.proofs.Common.{◌≡◌, ◌++◌, drop, map, string_bytes, not}
+use Rattle.std.proofs.Common.{◌≡◌, ◌++◌, drop, map, string_bytes}
 use Rattle.std.specs.Prelude.{filter}
 use Rattle.spark_base.specs.Words.{is_option}
 use Rattle.command_words.proofs.operand.options.Given as goal

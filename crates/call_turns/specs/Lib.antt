@@ -1,0 +1,2 @@
+-- what is kept, part by part
+pub mod Stages

@@ -1,0 +1,300 @@
+-- Items, statements and units of files are meant, where their objects have the types that are indicated.
+use Rattle.std.proofs.Common.{◌≡◌, ◌∙◌, inl, inr, ℕ, true, List, [], ◌∷◌, map, flat_map, Option, Some, None, sym, subst}
+use Rattle.spark_base.specs.Lists.{Has}
+use Rattle.spark_base.proofs.Lists.{Has-append_cases, Has-map_from}
+use Rattle.ada_tree.specs.declared.declaration.Item.{Item}
+use Rattle.ada_tree.specs.declared.declaration.Item.TheVariants as item
+use Rattle.ada_tree.specs.declared.statement.Stmts.{Stmts, Row_of-Stmt, end_of-Stmt, more_of-Stmt}
+use Rattle.ada_tree.specs.declared.statement.Stmts.TheVariants as stmts
+use Rattle.ada_tree.specs.declared.statement.Stmt.{Stmt, Row_of-Stmts, more_of-Stmts, Row_of-Elsif, end_of-Elsif, more_of-Elsif, Row_of-When, end_of-When, more_of-When}
+use Rattle.ada_tree.specs.declared.statement.Stmt.TheVariants as stmt
+use Rattle.ada_tree.specs.declared.statement.Elsif.{Elsif}
+use Rattle.ada_tree.specs.declared.statement.Elsif.TheVariants as branch
+use Rattle.ada_tree.specs.declared.statement.When.{When}
+use Rattle.ada_tree.specs.declared.statement.When.TheVariants as alternative
+use Rattle.ada_tree.specs.declared.subprogram.Decl.{Decl}
+use Rattle.ada_tree.specs.declared.subprogram.Decl.TheVariants as decl
+use Rattle.ada_tree.specs.declared.unit.SourceUnit.{SourceUnit}
+use Rattle.ada_tree.specs.declared.unit.SourceUnit.TheVariants as unit
+use Rattle.ada_tree.specs.declared.unit.PrivatePart.{PrivatePart}
+use Rattle.ada_tree.specs.declared.unit.BodyPart.{BodyPart}
+use Rattle.ada_tree.specs.declared.unit.BodyPart.TheVariants as part
+use Rattle.ada_tree.specs.declared.unit.SubprogramBody.{SubprogramBody}
+use Rattle.ada_tree.specs.declared.expression.Expr.{Expr}
+use Rattle.ada_tree.specs.declared.expression.Name.{Name}
+use Rattle.ada_tree.specs.declared.range.Range.{Range}
+use Rattle.ada_tree.specs.declared.range.Range.TheVariants as range
+use Rattle.resolved_tree.specs.Trees.{Code, More, code_list}
+use Rattle.resolved_tree.specs.Trees as t
+use Rattle.type_definitions.specs.Gathered.{declared_number, in_subprogram, in_visible, in_hidden}
+use Rattle.type_definitions.specs.Types.{full, is_scalar}
+use Rattle.typed_tree.specs.Expressions.{Site}
+use Rattle.typed_tree.specs.Programs.{placed}
+use Rattle.flow_paths.specs.Objects.{Typing}
+use Rattle.expression_lowering.specs.LoweredExpressions.{Numbers, lowered_expr, lowered_name, lowered_range}
+use Rattle.tree_lowering.specs.Lowered as tree
+use Rattle.tree_lowering.specs.Lowered.{declared_all, lowered_indication, lowered_subtype, lowered_type, lowered_declaration, item_before, before_all, lowered_items, lowered_simple, lowered_stmts, lowered_stmt_box, stmts_row, lowered_stmt, lowered_stmts_box, elsifs_row, lowered_elsif, lowered_when_box, whens_row, lowered_when, lowered_subspec, lowered_subprogram, decl_before, part_before, lowered_decls, lowered_private, lowered_package, lowered_package_body, lowered_unit, lowered_files}
+use Rattle.gathered_laws.specs.Named.{IsPlain, IsNamed}
+use Rattle.typed_laws.specs.Fine.{Denotes, IsMeant}
+use Rattle.typed_points.specs.Meant.{IsIndicated, AreDeclared, AreNumbers, IsParameter, IsMeantRange, IsMeantCode, AreAlternatives, AreMeantBodies, AreMeantObjects}
+use Rattle.meant_files.specs.Typed.{IsParameterOf, AreIndicated, AreIntegers, AreTyped}
+use Rattle.meant_files.proofs.Trees as trees
+
+module _ (numbers : Numbers) (y : Typing) (made : ℕ → Type 0) where
+  module _ (s : Site) (all : (d : ℕ) → Denotes s y d) where
+    abbrev Meant : Code → Type 0
+    Meant code = IsNamed code → AreTyped s.context code → IsMeantCode s y made code
+
+    expr_meant : (x : Expr) → IsMeant s y (lowered_expr numbers x)
+    expr_meant x = trees.expr_meant numbers s y all x
+
+    name_meant : (x : Name) → IsMeant s y (lowered_name numbers x)
+    name_meant x = trees.name_meant numbers s y all x
+
+    two : (a b : Code) → Meant a → Meant b → Meant (More a b)
+    unfolding IsNamed AreTyped IsMeantCode
+    two a b f g named typed = (f named.0 typed.0, g named.1 typed.1)
+
+    nothing : Meant t.NoMore
+    unfolding IsMeantCode
+    nothing named typed = tt
+
+    -- ---- items
+
+    plain : (d : ℕ) (i : Code) → IsPlain i → IsIndicated s.context.known made d i
+    plain d (t.Anonymous p constant m) never = absurd never
+    plain d _ is = tt
+
+    declared : (i ids : Code) → IsPlain i → AreIndicated s.context.known i ids → AreDeclared s y made i ids
+    declared i (More d rest) is are =
+        let o = are.0 in
+        ((all (declared_number d)).0 o.0 o.1 ∙ o.2, plain (declared_number d) i is, declared i rest is are.1)
+    declared i _ is are = tt
+
+    integers : (ids : Code) → AreIntegers s.context.known ids → AreNumbers s y ids
+    integers (More d rest) are = let o = are.0 in ((all (declared_number d)).0 o.0 o.1 ∙ o.2, integers rest are.1)
+    integers _ are = tt
+
+    range_meant : (r : Range) → IsMeantRange s y (lowered_range numbers r)
+    unfolding lowered_range
+    range_meant (range.Bounds pos low dots high) = (expr_meant low, expr_meant high)
+    range_meant (range.Marked pos mark) = tt
+    range_meant (range.Constrained pos mark of_range low dots high) = (expr_meant low, expr_meant high)
+    range_meant (range.RangeOf pos prefix apostrophe of_range) = tt
+
+    parameter_meant : (d : Code) (r : Range) → IsParameterOf s.context d (lowered_range numbers r) → IsParameter s y d (lowered_range numbers r)
+    unfolding lowered_range
+    parameter_meant d (range.Bounds pos low dots high) o =
+        subst (λ t. is_scalar (full s.context.known.table t) ≡ true) (sym ((all (declared_number d)).0 o.0 o.1)) o.2
+    parameter_meant d (range.Marked pos mark) o = (all (declared_number d)).0 o.0 o.1 ∙ o.2
+    parameter_meant d (range.Constrained pos mark of_range low dots high) o = (all (declared_number d)).0 o.0 o.1 ∙ o.2
+    parameter_meant d (range.RangeOf pos prefix apostrophe of_range) o = (all (declared_number d)).0 o.0 o.1 ∙ o.2
+
+    subtype_meant : (i : Item) → Meant (lowered_subtype numbers i)
+    unfolding lowered_subtype IsMeantCode
+    subtype_meant (item.Subtype pos id is mark semicolon) named typed = tt
+    subtype_meant (item.ConstrainedSubtype pos id is mark of_range low dots high semicolon) named typed = tt
+    subtype_meant _ named typed = tt
+
+    type_meant : (i : Item) → Meant (lowered_type numbers i)
+    unfolding lowered_type IsMeantCode
+    type_meant (item.IncompleteType pos id semicolon) named typed = tt
+    type_meant (item.PrivateType pos id is private semicolon) named typed = tt
+    type_meant (item.EnumerationType pos id is left_paren first rest right_paren semicolon) named typed = tt
+    type_meant (item.RecordType pos id is record_word first rest end end_record semicolon) named typed = tt
+    type_meant (item.ArrayType pos id is array left_paren index right_paren of element semicolon) named typed = tt
+    type_meant (item.AccessType pos id is access designated semicolon) named typed = tt
+    type_meant other named typed = subtype_meant other named typed
+
+    declaration_meant : (i : Item) → Meant (lowered_declaration numbers i)
+    unfolding lowered_declaration IsMeantCode IsNamed AreTyped
+    declaration_meant (item.Objects pos first rest colon is_constant of semicolon) named typed =
+        (declared (lowered_indication numbers of) (declared_all numbers first rest) named typed, tt)
+    declaration_meant (item.InitializedObjects pos first rest colon is_constant of becomes value semicolon) named typed =
+        (declared (lowered_indication numbers of) (declared_all numbers first rest) named typed, expr_meant value)
+    declaration_meant (item.Numbers pos first rest colon is_constant becomes value semicolon) named typed =
+        (integers (declared_all numbers first rest) typed, expr_meant value)
+    declaration_meant (item.Instance pos id is new generic left_paren first rest right_paren semicolon) named typed = tt
+    declaration_meant other named typed = type_meant other named typed
+
+    item_meant : (others : Code) (i : Item) → Meant others → Meant (item_before numbers others i)
+    unfolding item_before
+    item_meant others (item.Use pos clause) f = f
+    item_meant others (item.Pragma pos clause) f = f
+    item_meant others declaration f = two (lowered_declaration numbers declaration) others (declaration_meant declaration) f
+
+    pub items_meant : (items : List Item) → Meant (lowered_items numbers items)
+    items_meant [] = nothing
+    items_meant (i ∷ rest) = item_meant (lowered_items numbers rest) i (items_meant rest)
+
+    decl_meant : (others : Code) (d : Decl) → Meant others → Meant (decl_before numbers others d)
+    unfolding decl_before IsNamed AreTyped IsMeantCode
+    decl_meant others (decl.OfItem pos declaration) f = item_meant others declaration f
+    decl_meant others (decl.Subprogram pos spec mode semicolon) f = λ named typed. (tt, f named.1 typed.1)
+
+    pub decls_meant : (decls : List Decl) → Meant (lowered_decls numbers decls)
+    decls_meant [] = nothing
+    decls_meant (d ∷ rest) = decl_meant (lowered_decls numbers rest) d (decls_meant rest)
+
+    pub private_meant : (p : Option PrivatePart) → Meant (lowered_private numbers p)
+    private_meant None = nothing
+    private_meant (Some p) = decls_meant p.decls
+
+    part_meant : (others : Code) (p : BodyPart) → Meant others → Meant (part_before numbers others p)
+    unfolding part_before lowered_subprogram IsNamed AreTyped IsMeantCode
+    part_meant others (part.Declared pos declaration) f = decl_meant others declaration f
+    part_meant others (part.Completed pos body) f = λ named typed. (tt, f named.1 typed.1)
+
+    pub parts_meant : (parts : List BodyPart) → Meant (before_all (part_before numbers) parts)
+    parts_meant [] = nothing
+    parts_meant (p ∷ rest) = part_meant (before_all (part_before numbers) rest) p (parts_meant rest)
+
+    -- ---- statements
+
+    simple_meant : (x : Stmt) → Meant (lowered_simple numbers x)
+    unfolding lowered_simple IsMeantCode
+    simple_meant (stmt.Null pos semicolon) named typed = tt
+    simple_meant (stmt.Assign pos target becomes value semicolon) named typed = (name_meant target, expr_meant value)
+    simple_meant (stmt.Call pos callee semicolon) named typed = name_meant callee
+    simple_meant (stmt.Exit pos semicolon) named typed = tt
+    simple_meant (stmt.ExitWhen pos when condition semicolon) named typed = expr_meant condition
+    simple_meant (stmt.Return pos semicolon) named typed = tt
+    simple_meant (stmt.ReturnValue pos value semicolon) named typed = expr_meant value
+    simple_meant _ named typed = tt
+
+    abbrev Chosen : Code → Type 0
+    Chosen code = IsNamed code → AreTyped s.context code → AreAlternatives s y made code
+
+    mutual
+      unfolding IsNamed AreTyped IsMeantCode AreAlternatives lowered_stmts lowered_stmt_box stmts_row lowered_stmt lowered_stmts_box elsifs_row lowered_elsif lowered_when_box whens_row lowered_when
+
+      pub stmts_meant : (tree : Stmts) → Meant (lowered_stmts numbers tree)
+      stmts_meant (stmts.Sequence' pos _ first _ rest) named typed = (stmt_box_meant first named.0 typed.0, row_meant rest named.1 typed.1)
+
+      stmt_box_meant : (row : Row_of-Stmt 1) → Meant (lowered_stmt_box numbers row)
+      stmt_box_meant (more_of-Stmt part rest) = stmt_meant part
+
+      row_meant : {n : _} (row : Row_of-Stmt n) → Meant (code_list (stmts_row numbers row))
+      row_meant end_of-Stmt named typed = tt
+      row_meant (more_of-Stmt part rest) named typed = (stmt_meant part named.0 typed.0, row_meant rest named.1 typed.1)
+
+      stmt_meant : (tree : Stmt) → Meant (lowered_stmt numbers tree)
+      stmt_meant (stmt.If' pos condition then_word _ body _ elsifs end end_if semicolon) named typed =
+          (((expr_meant condition, stmts_box_meant body named.0.0 typed.0.0), elsifs_meant elsifs named.0.1 typed.0.1), tt)
+      stmt_meant (stmt.IfElse' pos condition then_word _ body _ elsifs otherwise _ other end end_if semicolon) named typed =
+          (((expr_meant condition, stmts_box_meant body named.0.0 typed.0.0), elsifs_meant elsifs named.0.1 typed.0.1), stmts_box_meant other named.1 typed.1)
+      stmt_meant (stmt.Case' pos selecting is _ first _ rest end end_case semicolon) named typed =
+          (expr_meant selecting, when_box_meant (code_list (whens_row numbers rest)) first (whens_meant rest) named typed)
+      stmt_meant (stmt.Loop' pos _ body end end_loop semicolon) named typed = stmts_box_meant body named typed
+      stmt_meant (stmt.While' pos condition loop_word _ body end end_loop semicolon) named typed = (expr_meant condition, stmts_box_meant body named typed)
+      stmt_meant (stmt.For' pos parameter in_word reverse steps loop_word _ body end end_loop semicolon) named typed =
+          (range_meant steps, parameter_meant (tree.declared numbers parameter) steps typed.0, stmts_box_meant body named typed.1)
+      stmt_meant (stmt.Block' pos _ body end semicolon) named typed = (tt, stmts_box_meant body named.1 typed.1)
+      stmt_meant (stmt.DeclareBlock' pos items begin _ body end semicolon) named typed =
+          (items_meant items named.0 typed.0, stmts_box_meant body named.1 typed.1)
+      stmt_meant simple named typed = simple_meant simple named typed
+
+      stmts_box_meant : (row : Row_of-Stmts 1) → Meant (lowered_stmts_box numbers row)
+      stmts_box_meant (more_of-Stmts part rest) = stmts_meant part
+
+      elsifs_meant : {n : _} (row : Row_of-Elsif n) → Meant (code_list (elsifs_row numbers row))
+      elsifs_meant end_of-Elsif named typed = tt
+      elsifs_meant (more_of-Elsif part rest) named typed = (elsif_meant part named.0 typed.0, elsifs_meant rest named.1 typed.1)
+
+      elsif_meant : (tree : Elsif) → Meant (lowered_elsif numbers tree)
+      elsif_meant (branch.Branch' pos condition then_word _ body) named typed = (expr_meant condition, stmts_box_meant body named typed)
+
+      when_box_meant : (others : Code) (row : Row_of-When 1) → Chosen others → Chosen (More (lowered_when_box numbers row) others)
+      when_box_meant others (more_of-When part rest) f = when_meant others part f
+
+      whens_meant : {n : _} (row : Row_of-When n) → Chosen (code_list (whens_row numbers row))
+      whens_meant end_of-When = λ named typed. tt
+      whens_meant (more_of-When part rest) = when_meant (code_list (whens_row numbers rest)) part (whens_meant rest)
+
+      when_meant : (others : Code) (tree : When) → Chosen others → Chosen (More (lowered_when numbers tree) others)
+      when_meant others (alternative.Alternative' pos first rest arrow _ body) f named typed =
+          (stmts_box_meant body named.0 typed.0, f named.1 typed.1)
+
+  -- ---- bodies
+
+  module _ (s : Site) (all : (d : ℕ) → Denotes s y d) where
+    abbrev Bodied : Code → Type 0
+    Bodied code = IsNamed code → AreTyped s.context code → AreMeantBodies s y made code
+
+    subprogram_bodied : (body : SubprogramBody) → Bodied (lowered_subprogram numbers body)
+    unfolding lowered_subprogram IsNamed AreTyped AreMeantBodies
+    subprogram_bodied body named typed =
+        let front : Code = lowered_subspec numbers body.spec in
+        let inner : Site = placed (in_subprogram front) s in
+        (items_meant inner all body.items named.1 typed.0, stmts_meant inner all body.stmts named.2 typed.1)
+
+    subtype_bodied : (i : Item) → AreMeantBodies s y made (lowered_subtype numbers i)
+    unfolding lowered_subtype AreMeantBodies
+    subtype_bodied (item.Subtype pos id is mark semicolon) = tt
+    subtype_bodied (item.ConstrainedSubtype pos id is mark of_range low dots high semicolon) = tt
+    subtype_bodied _ = tt
+
+    type_bodied : (i : Item) → AreMeantBodies s y made (lowered_type numbers i)
+    unfolding lowered_type AreMeantBodies
+    type_bodied (item.IncompleteType pos id semicolon) = tt
+    type_bodied (item.PrivateType pos id is private semicolon) = tt
+    type_bodied (item.EnumerationType pos id is left_paren first rest right_paren semicolon) = tt
+    type_bodied (item.RecordType pos id is record_word first rest end end_record semicolon) = tt
+    type_bodied (item.ArrayType pos id is array left_paren index right_paren of element semicolon) = tt
+    type_bodied (item.AccessType pos id is access designated semicolon) = tt
+    type_bodied other = subtype_bodied other
+
+    declaration_bodied : (i : Item) → AreMeantBodies s y made (lowered_declaration numbers i)
+    unfolding lowered_declaration AreMeantBodies
+    declaration_bodied (item.Objects pos first rest colon is_constant of semicolon) = tt
+    declaration_bodied (item.InitializedObjects pos first rest colon is_constant of becomes value semicolon) = tt
+    declaration_bodied (item.Numbers pos first rest colon is_constant becomes value semicolon) = tt
+    declaration_bodied (item.Instance pos id is new generic left_paren first rest right_paren semicolon) = tt
+    declaration_bodied other = type_bodied other
+
+    item_bodied : (others : Code) (i : Item) → Bodied others → Bodied (item_before numbers others i)
+    unfolding item_before IsNamed AreTyped AreMeantBodies
+    item_bodied others (item.Use pos clause) f = f
+    item_bodied others (item.Pragma pos clause) f = f
+    item_bodied others declaration f = λ named typed. (declaration_bodied declaration, f named.1 typed.1)
+
+    decl_bodied : (others : Code) (d : Decl) → Bodied others → Bodied (decl_before numbers others d)
+    unfolding decl_before IsNamed AreTyped AreMeantBodies
+    decl_bodied others (decl.OfItem pos declaration) f = item_bodied others declaration f
+    decl_bodied others (decl.Subprogram pos spec mode semicolon) f = λ named typed. (tt, f named.1 typed.1)
+
+    part_bodied : (others : Code) (p : BodyPart) → Bodied others → Bodied (part_before numbers others p)
+    unfolding part_before IsNamed AreTyped AreMeantBodies
+    part_bodied others (part.Declared pos declaration) f = decl_bodied others declaration f
+    part_bodied others (part.Completed pos body) f = λ named typed. (subprogram_bodied body named.0 typed.0, f named.1 typed.1)
+
+    parts_bodied : (parts : List BodyPart) → Bodied (before_all (part_before numbers) parts)
+    unfolding AreMeantBodies
+    parts_bodied [] named typed = tt
+    parts_bodied (p ∷ rest) named typed = part_bodied (before_all (part_before numbers) rest) p (parts_bodied rest) named typed
+
+  -- ---- units
+
+  unit_meant : (s : Site) (all : (d : ℕ) → Denotes s y d) (u : SourceUnit) → IsNamed (lowered_unit numbers u) → AreTyped s.context (lowered_unit numbers u)
+      → AreMeantBodies s y made (lowered_unit numbers u) × AreMeantObjects s y made (lowered_unit numbers u)
+  unfolding lowered_unit lowered_package lowered_package_body lowered_subprogram IsNamed AreTyped AreMeantBodies
+  unit_meant s all (unit.OfPackage pos clauses whole) named typed =
+      (tt, (decls_meant (placed (in_visible _) s) all whole.visible named.0 typed.0, private_meant (placed (in_hidden _) s) all whole.private named.1 typed.1))
+  unit_meant s all (unit.OfBody pos clauses body) named typed =
+      (parts_bodied (placed (in_hidden _) s) all body.parts named typed, parts_meant (placed (in_hidden _) s) all body.parts named typed)
+  unit_meant s all (unit.OfSubprogram pos clauses body) named typed = (subprogram_bodied s all body named typed, tt)
+
+  pub files_meant : (s : Site) (all : (d : ℕ) → Denotes s y d) (files : List (List SourceUnit))
+      → ((u : Code) → Has (lowered_files numbers files) u → IsNamed u) → ((u : Code) → Has (lowered_files numbers files) u → AreTyped s.context u)
+      → (u : Code) → Has (lowered_files numbers files) u → AreMeantBodies s y made u × AreMeantObjects s y made u
+  unfolding lowered_files
+  files_meant s all files named typed u has = let f = found files u has in
+      subst (λ (v : Code). AreMeantBodies s y made v × AreMeantObjects s y made v) f.1
+      (unit_meant s all f.0 (subst IsNamed (sym f.1) (named u has)) (subst (AreTyped s.context) (sym f.1) (typed u has)))
+    where
+      found : (files : List (List SourceUnit)) (u : Code) → Has (lowered_files numbers files) u → (x : SourceUnit) × (lowered_unit numbers x ≡ u)
+      found [] u has = absurd has
+      found (f ∷ files) u has = elim (Has-append_cases (map (lowered_unit numbers) f) (flat_map (map (lowered_unit numbers)) files) u has) [
+        | inl here ↦ let x = Has-map_from (lowered_unit numbers) f u here in (x.0, x.2)
+        | inr more ↦ found files u more
+      ]

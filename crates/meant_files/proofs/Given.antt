@@ -1,0 +1,372 @@
+-- What is known of declarations at a place of the text: each that stands before has its kind, and those of objects
+-- stay as they are.
+use Rattle.std.proofs.Common.{◌≡◌, ◌⊎◌, inl, inr, ℕ, zero, suc, ◌+◌, ◌<◌, ◌≤◌, Bool, true, false, List, [], ◌∷◌, ◌++◌, length, set, get_or, refl, sym, ap, ◌∙◌, arith, subst, true≢false, if◌then◌else◌}
+use Rattle.spark_base.specs.Lists.{Has}
+use Rattle.spark_base.proofs.Lists.{Has-append_left, Has-append_right}
+use Rattle.resolved_tree.specs.Trees.{NoMore, More, Code, Anonymous, Enumeration, Incomplete, Private, TypeDecl, Subtype, ConstrainedSubtype, Objects, Numbers, Instance, Front, SubDecl, SubBody, Package, PackageBody, If, Branch, Case, When, Loop, While, For, Block}
+use Rattle.name_events.specs.declared.declaration.DeclarationForm.{DeclarationForm}
+use Rattle.name_events.specs.declared.declaration.DeclarationForm.TheVariants as form
+use Rattle.name_events.specs.declared.declaration.DeclKind.{DeclKind}
+use Rattle.name_events.specs.declared.declaration.DeclKind.TheVariants as kinds
+use Rattle.name_events.specs.Denotes.{kind_of}
+use Rattle.type_definitions.specs.declared.table.InitialValue.{InitialValue}
+use Rattle.type_definitions.specs.declared.table.Kind.TheVariants as kind
+use Rattle.type_definitions.specs.declared.table.Entry.{Entry}
+use Rattle.type_definitions.specs.declared.table.Entry.TheVariants as entry
+use Rattle.type_definitions.specs.Entries.{entry_of, is_type}
+use Rattle.type_definitions.specs.Names.{Context}
+use Rattle.type_definitions.specs.Gathered.{gather, each, with_entry, with_type, with_indication, full_info, with_literals, with_definition, with_object, object_info, constant_value, indicated, with_number, number_info, initial_value, with_formal_group, with_formals, with_result, with_front, with_body_front, profile, is_subprogram, front_number, plain_object, parameter_type, in_subprogram, in_visible, in_hidden, instance_type, declared_number}
+use Rattle.type_definitions.specs.Whole.{predefined_entries}
+use Rattle.meant_files.specs.Formless.{IsFormlessFront, IsFormless}
+use Rattle.meant_files.specs.Declarations.{Declarations, each_as, literals_of, formal_declarations, front_declarations, body_form, form_of_result, declarations}
+use Rattle.meant_files.specs.Counted.{is_completing, Counts}
+
+-- ---- lists of entries
+
+entry_put : {A : Type 0} (Q : ℕ → A → Type 0) (xs : List A) (d t : ℕ) (x fallback : A) → Q d x → Q t (get_or xs t fallback) → Q t (get_or (set xs d x) t fallback)
+entry_put Q [] d t x fallback new old = old
+entry_put Q (y ∷ xs) zero zero x fallback new old = new
+entry_put Q (y ∷ xs) zero (suc t) x fallback new old = old
+entry_put Q (y ∷ xs) (suc d) zero x fallback new old = old
+entry_put Q (y ∷ xs) (suc d) (suc t) x fallback new old = entry_put (λ n. Q (suc n)) xs d t x fallback new old
+
+pub entry_there : {A : Type 0} (xs : List A) (d : ℕ) (x fallback : A) → d < length xs → get_or (set xs d x) d fallback ≡ x
+entry_there [] d x fallback less = absurd (omega (arith, less))
+entry_there (y ∷ xs) zero x fallback less = refl
+entry_there (y ∷ xs) (suc d) x fallback less = entry_there xs d x fallback (omega (arith, less))
+
+pub entry_other : {A : Type 0} (xs : List A) (d t : ℕ) (x fallback : A) → (t ≡ d → ⊥) → get_or (set xs d x) t fallback ≡ get_or xs t fallback
+entry_other [] d t x fallback other = refl
+entry_other (y ∷ xs) zero zero x fallback other = absurd (other refl)
+entry_other (y ∷ xs) zero (suc t) x fallback other = refl
+entry_other (y ∷ xs) (suc d) zero x fallback other = refl
+entry_other (y ∷ xs) (suc d) (suc t) x fallback other = entry_other xs d t x fallback (λ same. other (ap suc same))
+
+set_long : {A : Type 0} (xs : List A) (d : ℕ) (x : A) → length (set xs d x) ≡ length xs
+set_long [] d x = refl
+set_long (y ∷ xs) zero x = refl
+set_long (y ∷ xs) (suc d) x = ap suc (set_long xs d x)
+
+-- ---- numbers that are counted
+
+pub counts_grow : (k : ℕ) (L : Declarations) (j : ℕ) → Counts k L j → k ≤ j
+counts_grow k [] j is = omega (arith, is)
+counts_grow k (x ∷ L) j (inl new) = let more = counts_grow (suc k) L j new.1 in omega (arith, more)
+counts_grow k (x ∷ L) j (inr late) = counts_grow k L j late.3
+
+counts_both : (k : ℕ) (L K : Declarations) (j : ℕ) → Counts k (L ++ K) j → (m : ℕ) × Counts k L m × Counts m K j
+counts_both k [] K j counts = (k, refl, counts)
+counts_both k (x ∷ L) K j (inl new) = let s = counts_both (suc k) L K j new.1 in (s.0, inl (new.0, s.1), s.2)
+counts_both k (x ∷ L) K j (inr late) = let s = counts_both k L K j late.3 in (s.0, inr (late.0, late.1, late.2, s.1), s.2)
+
+-- What is counted later has a later number, or completes another declaration.
+pub counts_has : (k : ℕ) (L : Declarations) (j : ℕ) (new : DeclarationForm) (n : ℕ) → Counts k L j → Has L (new, n) → (k ≤ n) ⊎ (is_completing new ≡ true)
+counts_has k [] j new n counts has = absurd has
+counts_has k (x ∷ L) j new n (inl next) (inl same) = let a = next.0 in let b = ap (λ (x : DeclarationForm × ℕ). x.1) same in inl (omega (arith, a, b))
+counts_has k (x ∷ L) j new n (inl next) (inr has) = elim (counts_has (suc k) L j new n next.1 has) [
+  | inl more ↦ inl (omega (arith, more))
+  | inr late ↦ inr late
+]
+counts_has k (x ∷ L) j new n (inr late) (inl same) = inr (ap (λ (x : DeclarationForm × ℕ). is_completing x.0) (sym same) ∙ late.2)
+counts_has k (x ∷ L) j new n (inr late) (inr has) = counts_has k L j new n late.3 has
+
+-- ---- kinds
+
+abbrev pub is_type_kind : DeclKind → Bool
+is_type_kind kinds.TypeName = true
+is_type_kind _ = false
+
+abbrev pub is_object_kind : DeclKind → Bool
+is_object_kind kinds.Object = true
+is_object_kind kinds.Parameter = true
+is_object_kind _ = false
+
+abbrev pub is_put : Entry → Bool
+is_put entry.Nothing = false
+is_put _ = true
+
+module _ (kind_at : ℕ → DeclKind) where
+  -- An entry is one of a type where its number is that of a type.
+  abbrev pub IsRight : ℕ → Entry → Type 0
+  IsRight n entry.Nothing = Unit {0}
+  IsRight n entry.Type = is_type_kind (kind_at n) ≡ true
+  IsRight n x = is_type_kind (kind_at n) ≡ false
+
+  abbrev pub AreKinds : Declarations → Type 0
+  AreKinds all = (new : DeclarationForm) (n : ℕ) → Has all (new, n) → kind_of new ≡ kind_at n
+
+  pub record Given (limit : ℕ) (xs : List Entry) (k : ℕ) : Type 0 where
+    pub low : (n : ℕ) → n < 15 → get_or xs n entry.Nothing ≡ get_or predefined_entries n entry.Nothing
+    pub right : (n : ℕ) → 15 ≤ n → IsRight n (get_or xs n entry.Nothing)
+    pub covered : (n : ℕ) → 15 ≤ n → n < k → is_put (get_or xs n entry.Nothing) ≡ true
+    pub long : limit ≤ length xs
+
+  -- What is declared here has the next number, or an earlier one.
+  abbrev Places : ℕ → ℕ → ℕ → Type 0
+  Places k d j = ((d ≡ k) × (j ≡ suc k)) ⊎ ((15 ≤ d) × (d < k) × (j ≡ k))
+
+  pub put : (limit : ℕ) (xs : List Entry) (k d j : ℕ) (x : Entry) → 15 ≤ k → j ≤ limit → Places k d j → IsRight d x → is_put x ≡ true → Given limit xs k → Given limit (set xs d x) j
+  put limit xs k d j x high within at right is given =
+      let late : 15 ≤ d = elim at [ inl next ↦ (let a = next.0 in omega (arith, a, high)) | inr old ↦ old.0 ] in record {
+        low = λ n less. entry_other xs d n x entry.Nothing (λ same. omega (arith, same, less, late)) ∙ given.low n less;
+        right = λ n more. entry_put IsRight xs d n x entry.Nothing right (given.right n more);
+        covered = λ n more less. by n more less (elim at [
+          | inl next ↦ (let a = next.0 in let b = next.1 in elim (split n d (omega (arith, a, b, less))) [
+            | inl same ↦ inl same
+            | inr under ↦ inr (omega (arith, under, a))
+          ])
+          | inr old ↦ (let b = old.2 in inr (omega (arith, b, less)))
+        ]);
+        long = let a = set_long xs d x in let b = given.long in omega (arith, a, b);
+      }
+    where
+      split : (n d : ℕ) → n ≤ d → (n ≡ d) ⊎ (n < d)
+      split zero zero le = inl refl
+      split zero (suc d) le = inr (omega arith)
+      split (suc n) zero le = absurd (omega (arith, le))
+      split (suc n) (suc d) le = elim (split n d (omega (arith, le))) [ inl same ↦ inl (ap suc same) | inr less ↦ inr (omega (arith, less)) ]
+
+      by : (n : ℕ) → 15 ≤ n → n < j → (n ≡ d) ⊎ (n < k) → is_put (get_or (set xs d x) n entry.Nothing) ≡ true
+      by n more less (inl same) =
+          ap is_put (ap (λ m. get_or (set xs d x) m entry.Nothing) same ∙ entry_there xs d x entry.Nothing (let a = given.long in omega (arith, a, within, same, less))) ∙ is
+      by n more less (inr low) = entry_put (λ m e. is_put e ≡ true) xs d n x entry.Nothing is (given.covered n more low)
+
+  -- What is known of code without formals.
+  abbrev pub Goes : ℕ → ℕ → Declarations → ℕ → Type 0
+  Goes limit k all j = Counts k all j × AreKinds all × (15 ≤ k) × (j ≤ limit)
+
+  pub goes_both : (limit k : ℕ) (L K : Declarations) (j : ℕ) → Goes limit k (L ++ K) j → (m : ℕ) × Goes limit k L m × Goes limit m K j
+  goes_both limit k L K j goes =
+      let s = counts_both k L K j goes.0 in
+      let first = counts_grow k L s.0 s.1 in
+      let second = counts_grow s.0 K j s.2 in
+      let high = goes.2 in
+      let within = goes.3 in (
+        s.0,
+        (s.1, (λ new n has. goes.1 new n (Has-append_left L K (new, n) has)), high, omega (arith, second, within)),
+        (s.2, (λ new n has. goes.1 new n (Has-append_right L K (new, n) has)), omega (arith, high, first), within),
+      )
+
+  -- the first of a list
+  pub first_placed : (limit k : ℕ) (new : DeclarationForm) (d : ℕ) (L : Declarations) (j : ℕ) → Goes limit k ((new, d) ∷ L) j
+      → (m : ℕ) × Places k d m × Goes limit m L j × (kind_of new ≡ kind_at d) × (m ≤ limit)
+  first_placed limit k new d L j goes =
+      let high = goes.2 in
+      let within = goes.3 in
+      let rest : AreKinds L = λ made n has. goes.1 made n (inr has) in
+      elim goes.0 [
+        | inl next ↦
+            (let grows = counts_grow (suc k) L j next.1 in
+            (suc k, inl (next.0, refl), (next.1, rest, omega (arith, high), within), goes.1 new d (inl refl), omega (arith, grows, within)))
+        | inr late ↦
+            (let grows = counts_grow k L j late.3 in
+            (k, inr (late.0, late.1, refl), (late.3, rest, high, within), goes.1 new d (inl refl), omega (arith, grows, within)))
+      ]
+
+  module _ (limit : ℕ) where
+    abbrev pub At : Context → ℕ → Type 0
+    At c k = Given limit c.known.entries k
+
+    -- one that is put, and what follows
+    one : (k : ℕ) (new : DeclarationForm) (d : ℕ) (L : Declarations) (j : ℕ) (x : Entry) (c : Context) (T : Type 0) → Goes limit k ((new, d) ∷ L) j
+        → (kind_of new ≡ kind_at d → IsRight d x) → is_put x ≡ true → At c k → ((m : ℕ) → Goes limit m L j → At (with_entry d x c) m → T) → T
+    one k new d L j x c T goes right is given on =
+        let f = first_placed limit k new d L j goes in
+        on f.0 f.2 (put limit c.known.entries k d f.0 x goes.2 f.4 f.1 (right f.3) is given)
+
+    done : (k j : ℕ) (c : Context) → Goes limit k [] j → At c k → At c j
+    done k j c goes given = subst (λ n. At c n) goes.0 given
+
+    type_right : (new : DeclarationForm) (d : ℕ) → is_type_kind (kind_of new) ≡ true → kind_of new ≡ kind_at d → IsRight d entry.Type
+    type_right new d is same = ap is_type_kind (sym same) ∙ is
+
+    pub other_right : (new : DeclarationForm) (d : ℕ) (x : Entry) → is_type_kind (kind_of new) ≡ false → is_type x ≡ false → kind_of new ≡ kind_at d → IsRight d x
+    other_right new d entry.Nothing never other same = tt
+    other_right new d entry.Type never other same = absurd (true≢false other)
+    other_right new d entry.Package never other same = ap is_type_kind (sym same) ∙ never
+    other_right new d (entry.Object o) never other same = ap is_type_kind (sym same) ∙ never
+    other_right new d (entry.Literal t n) never other same = ap is_type_kind (sym same) ∙ never
+    other_right new d (entry.Subprogram p) never other same = ap is_type_kind (sym same) ∙ never
+    other_right new d (entry.Instance t) never other same = ap is_type_kind (sym same) ∙ never
+    other_right new d (entry.Predefined p) never other same = ap is_type_kind (sym same) ∙ never
+
+    literals_given : (t n : ℕ) (ids : Code) (c : Context) (k j : ℕ) → Goes limit k (each_as form.Literal ids) j → At c k → At (with_literals t n ids c) j
+    literals_given t n (More d rest) c k j goes given =
+        one k form.Literal (declared_number d) (each_as form.Literal rest) j (entry.Literal t n) c (At (with_literals t n (More d rest) c) j) goes
+        (other_right form.Literal (declared_number d) (entry.Literal t n) refl refl) refl given
+        (λ m on now. literals_given t (n + 1) rest (with_entry (declared_number d) (entry.Literal t n) c) m j on now)
+    literals_given t n ids c k j goes given = done k j c goes given
+
+    definition_given : (t : ℕ) (def : Code) (c : Context) (k j : ℕ) → Goes limit k (literals_of def) j → At c k → At (with_definition t def c) j
+    definition_given t (Enumeration literals) c k j goes given = literals_given t 0 literals c k j goes given
+    definition_given t def c k j goes given = done k j c goes given
+
+    pub indication_given : (d : ℕ) (i : Code) (c : Context) (k : ℕ) → At c k → At (with_indication d i c) k
+    indication_given d (Anonymous p constant m) c k given = given
+    indication_given d i c k given = given
+
+    objects_given : (constant : Bool) (i : Code) (v : InitialValue) (ids : Code) (c : Context) (k j : ℕ) → Goes limit k (each_as form.Object ids) j → At c k
+        → At (each (with_object constant i v) ids c) j
+    objects_given constant i v (More d rest) c k j goes given =
+        let n : ℕ = declared_number d in
+        let inner : Context = with_indication n i c in
+        let x : Entry = entry.Object (object_info c constant (indicated c.known n i) v) in
+        one k form.Object n (each_as form.Object rest) j x inner (At (each (with_object constant i v) (More d rest) c) j) goes
+        (other_right form.Object n x refl refl) refl (indication_given n i c k given)
+        (λ m on now. objects_given constant i v rest (with_object constant i v d c) m j on now)
+    objects_given constant i v ids c k j goes given = done k j c goes given
+
+    numbers_given : (v : InitialValue) (ids : Code) (c : Context) (k j : ℕ) → Goes limit k (each_as form.Object ids) j → At c k → At (each (with_number v) ids c) j
+    numbers_given v (More d rest) c k j goes given =
+        let n : ℕ = declared_number d in
+        let x : Entry = entry.Object (number_info c v) in
+        one k form.Object n (each_as form.Object rest) j x c (At (each (with_number v) (More d rest) c) j) goes
+        (other_right form.Object n x refl refl) refl given (λ m on now. numbers_given v rest (with_number v d c) m j on now)
+    numbers_given v ids c k j goes given = done k j c goes given
+
+    result_given : (d : ℕ) (result : Code) (c : Context) (k : ℕ) → At c k → At (with_result d result c) k
+    result_given d (More i rest) c k given = indication_given d i c k given
+    result_given d result c k given = given
+
+    groups_given : (formals : Code) (c : Context) (k : ℕ) → formals ≡ NoMore → At c k → At (each with_formal_group formals c) k
+    groups_given formals c k none given = subst (λ list. At (each with_formal_group list c) k) (sym none) given
+
+    no_front : (k : ℕ) (new : DeclarationForm) (L : Declarations) (j : ℕ) → Goes limit k ((new, 0) ∷ L) j → ⊥
+    no_front k new L j goes =
+        let f = first_placed limit k new 0 L j goes in
+        let high = goes.2 in elim f.1 [
+          | inl next ↦ (let a = next.0 in absurd (omega (arith, a, high)))
+          | inr late ↦ (let a = late.0 in absurd (omega (arith, a)))
+        ]
+
+    front_given : (new : DeclarationForm) (front : Code) (c : Context) (k : ℕ) (L : Declarations) (j : ℕ) → IsFormlessFront front → is_type_kind (kind_of new) ≡ false
+        → Goes limit k ((new, front_number front) ∷ (front_declarations front ++ L)) j → At c k
+        → (m : ℕ) × Goes limit m L j × At (with_front front c) m
+    front_given new (Front d formals result) c k L j none never goes given =
+        let n : ℕ = declared_number d in
+        let inner : Context = each with_formal_group formals (with_result n result c) in
+        let x : Entry = entry.Subprogram (profile inner.known (Front d formals result)) in
+        let bare = subst (λ list. Goes limit k ((new, n) ∷ (formal_declarations list ++ L)) j) none goes in
+        one k new n L j x inner ((m : ℕ) × Goes limit m L j × At (with_front (Front d formals result) c) m) bare
+        (other_right new n x never refl) refl (groups_given formals (with_result n result c) k none (result_given n result c k given))
+        (λ m on now. (m, on, now))
+    front_given new front c k L j none never goes given = absurd (no_front k new (front_declarations front ++ L) j goes)
+
+    formals_given : (front : Code) (c : Context) (k : ℕ) → IsFormlessFront front → At c k → At (with_formals front c) k
+    formals_given (Front d formals result) c k none given = groups_given formals c k none given
+    formals_given front c k none given = given
+
+    already : (xs : List Entry) (k d m : ℕ) → Places k d m → is_put (get_or xs d entry.Nothing) ≡ true → Given limit xs k → Given limit xs m
+    already xs k d m (inl next) is given = record {
+      low = given.low;
+      right = given.right;
+      covered = λ n more less. by n more (split n k (let a = next.1 in omega (arith, a, less)));
+      long = given.long;
+    }
+      where
+        split : (n d : ℕ) → n ≤ d → (n ≡ d) ⊎ (n < d)
+        split zero zero le = inl refl
+        split zero (suc d) le = inr (omega arith)
+        split (suc n) zero le = absurd (omega (arith, le))
+        split (suc n) (suc d) le = elim (split n d (omega (arith, le))) [ inl same ↦ inl (ap suc same) | inr less ↦ inr (omega (arith, less)) ]
+
+        by : (n : ℕ) → 15 ≤ n → (n ≡ k) ⊎ (n < k) → is_put (get_or xs n entry.Nothing) ≡ true
+        by n more (inl same) = ap (λ m. is_put (get_or xs m entry.Nothing)) (same ∙ sym next.0) ∙ is
+        by n more (inr less) = given.covered n more less
+    already xs k d m (inr late) is given = subst (λ n. Given limit xs n) (sym late.2) given
+
+    front_bare : (front : Code) (L : Declarations) → IsFormlessFront front → (k j n : ℕ) (new : DeclarationForm) → Goes limit k ((new, n) ∷ (front_declarations front ++ L)) j
+        → Goes limit k ((new, n) ∷ L) j
+    front_bare (Front d formals result) L none k j n new goes = subst (λ list. Goes limit k ((new, n) ∷ (formal_declarations list ++ L)) j) none goes
+    front_bare front L none k j n new goes = goes
+
+    sub_put : (e : Entry) → is_subprogram e ≡ true → is_put e ≡ true
+    sub_put (entry.Subprogram p) is = refl
+    sub_put _ is = absurd (true≢false (sym is))
+
+    not_type_body : (front : Code) → is_type_kind (kind_of (body_form front)) ≡ false
+    not_type_body (Front d formals result) = by result
+      where
+        by : (result : Code) → is_type_kind (kind_of (form_of_result result)) ≡ false
+        by (More i rest) = refl
+        by _ = refl
+    not_type_body _ = refl
+
+    pub body_given : (front : Code) (c : Context) (k : ℕ) (L : Declarations) (j : ℕ) → IsFormlessFront front
+        → Goes limit k ((body_form front, front_number front) ∷ (front_declarations front ++ L)) j → At c k
+        → (m : ℕ) × Goes limit m L j × At (with_body_front front c) m
+    body_given front c k L j none goes given = by (is_subprogram (entry_of c.known (front_number front))) refl
+      where
+        by : (b : Bool) → is_subprogram (entry_of c.known (front_number front)) ≡ b
+            → (m : ℕ) × Goes limit m L j × At (if b then with_formals front c else with_front front c) m
+        by true is =
+            let f = first_placed limit k (body_form front) (front_number front) L j (front_bare front L none k j (front_number front) (body_form front) goes) in
+            (f.0, f.2, formals_given front c f.0 none (already c.known.entries k (front_number front) f.0 f.1 (sub_put (entry_of c.known (front_number front)) is) given))
+        by false is = front_given (body_form front) front c k L j none (not_type_body front) goes given
+
+    two_given : (x y : Code) (c : Context) (k j : ℕ) → Goes limit k (declarations x ++ declarations y) j
+        → ((m : ℕ) → Goes limit k (declarations x) m → At (gather x c) m) → ((m : ℕ) → Goes limit m (declarations y) j → At (gather x c) m → At (gather y (gather x c)) j)
+        → At (gather y (gather x c)) j
+    two_given x y c k j goes first second = let s = goes_both limit k (declarations x) (declarations y) j goes in second s.0 s.2 (first s.0 s.1)
+
+    append_nothing : {A : Type 0} (xs : List A) → xs ++ [] ≡ xs
+    append_nothing [] = refl
+    append_nothing (x ∷ xs) = ap (λ ys. x ∷ ys) (append_nothing xs)
+
+    pub all_given : (code : Code) (c : Context) (k j : ℕ) → IsFormless code → Goes limit k (declarations code) j → At c k → At (gather code c) j
+    unfolding gather IsFormless
+    all_given (Incomplete d) c k j none goes given =
+        one k form.IncompleteType (declared_number d) [] j entry.Type c (At (gather (Incomplete d) c) j) goes (type_right form.IncompleteType (declared_number d) refl) refl given
+        (λ m on now. done m j (with_entry (declared_number d) entry.Type c) on now)
+    all_given (Private d) c k j none goes given =
+        one k form.PrivateType (declared_number d) [] j entry.Type c (At (gather (Private d) c) j) goes (type_right form.PrivateType (declared_number d) refl) refl given
+        (λ m on now. done m j (with_entry (declared_number d) entry.Type c) on now)
+    all_given (TypeDecl d def end) c k j none goes given =
+        let n : ℕ = declared_number d in
+        one k form.FullType n (literals_of def) j entry.Type c (At (gather (TypeDecl d def end) c) j) goes (type_right form.FullType n refl) refl given
+        (λ m on now. definition_given n def (with_type n (full_info c n def end) c) m j on now)
+    all_given (Subtype d m) c k j none goes given =
+        one k form.Subtype (declared_number d) [] j entry.Type c (At (gather (Subtype d m) c) j) goes (type_right form.Subtype (declared_number d) refl) refl given
+        (λ m on now. done m j (with_entry (declared_number d) entry.Type c) on now)
+    all_given (ConstrainedSubtype d m low high) c k j none goes given =
+        one k form.Subtype (declared_number d) [] j entry.Type c (At (gather (ConstrainedSubtype d m low high) c) j) goes (type_right form.Subtype (declared_number d) refl) refl given
+        (λ m on now. done m j (with_entry (declared_number d) entry.Type c) on now)
+    all_given (Objects ids constant i v) c k j none goes given = objects_given constant i (constant_value c constant v) ids c k j goes given
+    all_given (Numbers ids e) c k j none goes given = numbers_given (initial_value c e) ids c k j goes given
+    all_given (Instance d m args) c k j none goes given =
+        let x : Entry = entry.Instance (instance_type args) in
+        one k form.Instance (declared_number d) [] j x c (At (gather (Instance d m args) c) j) goes (other_right form.Instance (declared_number d) x refl refl) refl given
+        (λ m on now. done m j (with_entry (declared_number d) x c) on now)
+    all_given (SubDecl front) c k j none goes given =
+        let f = front_given form.SubprogramDeclaration front c k [] j none refl
+        (subst (λ L. Goes limit k ((form.SubprogramDeclaration, front_number front) ∷ L) j) (sym (append_nothing (front_declarations front))) goes) given in
+        done f.0 j (with_front front c) f.1 f.2
+    all_given (SubBody front items stmts end) c k j none goes given =
+        let inner : Context = in_subprogram front (with_body_front front c) in
+        let f = body_given front c k (declarations items ++ declarations stmts) j none.0 goes given in
+        two_given items stmts inner f.0 j f.1 (λ m on. all_given items inner f.0 m none.1 on f.2) (λ m on now. all_given stmts (gather items inner) m j none.2 on now)
+    all_given (Package d visible hidden) c k j none goes given =
+        let n : ℕ = declared_number d in
+        let start : Context = in_visible n (with_entry n entry.Package c) in
+        one k form.Package n (declarations visible ++ declarations hidden) j entry.Package c (At (gather (Package d visible hidden) c) j) goes
+        (other_right form.Package n entry.Package refl refl) refl given
+        (λ m on now. let s = goes_both limit m (declarations visible) (declarations hidden) j on in
+        all_given hidden (in_hidden n (gather visible start)) s.0 j none.1 s.2 (all_given visible start m s.0 none.0 s.1 now))
+    all_given (PackageBody d parts) c k j none goes given = all_given parts (in_hidden (declared_number d) c) k j none goes given
+    all_given (If at x y) c k j none goes given =
+        two_given x y c k j goes (λ m on. all_given x c k m none.0 on given) (λ m on now. all_given y (gather x c) m j none.1 on now)
+    all_given (Branch at e x) c k j none goes given = all_given x c k j none goes given
+    all_given (Case at e x) c k j none goes given = all_given x c k j none goes given
+    all_given (When choices x) c k j none goes given = all_given x c k j none goes given
+    all_given (Loop at x) c k j none goes given = all_given x c k j none goes given
+    all_given (While at e x) c k j none goes given = all_given x c k j none goes given
+    all_given (For at d reversed range x) c k j none goes given =
+        let o : Entry = entry.Object (plain_object (parameter_type c range) kind.Parameter) in
+        one k form.LoopParameter (declared_number d) (declarations x) j o c (At (gather (For at d reversed range x) c) j) goes
+        (other_right form.LoopParameter (declared_number d) o refl refl) refl given
+        (λ m on now. all_given x (with_entry (declared_number d) o c) m j none on now)
+    all_given (Block at x y end) c k j none goes given =
+        two_given x y c k j goes (λ m on. all_given x c k m none.0 on given) (λ m on now. all_given y (gather x c) m j none.1 on now)
+    all_given (More x y) c k j none goes given =
+        two_given x y c k j goes (λ m on. all_given x c k m none.0 on given) (λ m on now. all_given y (gather x c) m j none.1 on now)
+    all_given code c k j none goes given = done k j c goes given

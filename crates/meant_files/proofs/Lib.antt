@@ -1,0 +1,14 @@
+pub mod Objects
+pub mod Puts
+pub mod Trees
+pub mod Codes
+pub mod Silent
+pub mod Walk
+pub mod Events
+pub mod Given
+pub mod Stays
+pub mod Rows
+pub mod Types
+pub mod Bodies
+pub mod Told
+pub mod Main

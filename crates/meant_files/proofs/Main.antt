@@ -1,0 +1,150 @@
+-- Files of the first class without a fault of names are meant, where parameters of loops have the types of their
+-- bounds.
+use Rattle.std.proofs.Common.{◌≡◌, ℕ, zero, suc, ◌-◌, ◌<◌, ◌≤◌, false, List, [], ◌∷◌, ◌++◌, flat_map, length, get_or, replicate, refl, sym, arith, subst, None, length-append}
+use Rattle.std.specs.Prelude.{slice_get}
+use Rattle.std.proofs.lemmas.List.{length-map, length-replicate}
+use Rattle.spark_base.specs.Lists.{Has}
+use Rattle.ada_tree.specs.declared.unit.SourceUnit.{SourceUnit}
+use Rattle.resolved_tree.specs.Trees.{Code, Program}
+use Rattle.name_events.specs.declared.declaration.DeclKind.{DeclKind}
+use Rattle.name_events.specs.Outline.{source_events}
+use Rattle.name_events.specs.KnownBehind.{known_at_first}
+use Rattle.name_events.specs.Denotes.{decl_infos, info_of}
+use Rattle.name_events.specs.Denotes as names
+use Rattle.name_events.specs.Identified.{identified}
+use Rattle.name_events.specs.Faults.{name_fault}
+use Rattle.expression_lowering.specs.LoweredExpressions.{Numbers}
+use Rattle.typing_steps.specs.Programs.{program_of}
+use Rattle.type_definitions.specs.declared.table.Entry.{Entry}
+use Rattle.type_definitions.specs.declared.table.Entry.TheVariants as entry
+use Rattle.type_definitions.specs.Types.{Table, no_type}
+use Rattle.type_definitions.specs.Names.{Context}
+use Rattle.type_definitions.specs.Whole.{predefined_types, predefined_entries, at_first, outside, known_from, known_of}
+use Rattle.typed_tree.specs.Programs.{site_of}
+use Rattle.file_positions.specs.Order.{Ascends, event_positions}
+use Rattle.typed_laws.specs.Fine.{Denotes}
+use Rattle.typed_points.specs.Meant.{typing_meant, AreMeantUnits}
+use Rattle.typed_points.proofs.Numbers.{denotes}
+use Rattle.gathered_laws.specs.Named.{IsNamed}
+use Rattle.meant_files.specs.Formless.{IsFormless}
+use Rattle.meant_files.specs.Declarations.{declarations}
+use Rattle.meant_files.specs.Followed.{AreFollowed}
+use Rattle.meant_files.specs.Typed.{AreTyped}
+use Rattle.meant_files.specs.Bounded.{AllBounded}
+use Rattle.meant_files.proofs.Objects.{units_same}
+use Rattle.meant_files.proofs.Puts.{object_declared, function_declared}
+use Rattle.meant_files.proofs.Codes as codes
+use Rattle.meant_files.proofs.Walk.{files_low}
+use Rattle.meant_files.proofs.Told.{files_followed}
+use Rattle.meant_files.proofs.Bodies.{kind_in, files_counted, files_kinds, files_have_bodies}
+use Rattle.meant_files.proofs.Given.{IsRight, Given, Goes}
+use Rattle.meant_files.proofs.Types.{units_given, units_first, units_typed}
+
+-- ---- what is known at first
+
+append_low : {A : Type 0} (xs ys : List A) (n : ℕ) (fallback : A) → n < length xs → get_or (xs ++ ys) n fallback ≡ get_or xs n fallback
+append_low [] ys n fallback less = absurd (omega (arith, less))
+append_low (x ∷ xs) ys zero fallback less = refl
+append_low (x ∷ xs) ys (suc n) fallback less = append_low xs ys n fallback (omega (arith, less))
+
+none_at : (k n : ℕ) → get_or (replicate k entry.Nothing) n entry.Nothing ≡ entry.Nothing
+none_at zero n = refl
+none_at (suc k) zero = refl
+none_at (suc k) (suc n) = none_at k n
+
+append_high : (xs : List Entry) (k n : ℕ) → length xs ≤ n → get_or (xs ++ replicate k entry.Nothing) n entry.Nothing ≡ entry.Nothing
+append_high [] k n more = none_at k n
+append_high (x ∷ xs) k zero more = absurd (omega (arith, more))
+append_high (x ∷ xs) k (suc n) more = append_high xs k n (omega (arith, more))
+
+first_given : (kind_at : ℕ → DeclKind) (count : ℕ) → Given kind_at count (predefined_entries ++ replicate (count - 15) entry.Nothing) 15
+first_given kind_at count = record {
+  low = λ n less. append_low predefined_entries (replicate (count - 15) entry.Nothing) n entry.Nothing less;
+  right = λ n more. subst (IsRight kind_at n) (sym (append_high predefined_entries (count - 15) n more)) tt;
+  covered = λ n more less. absurd (omega (arith, more, less));
+  long =
+      let a = length-append predefined_entries (replicate (count - 15) entry.Nothing) in
+      let b = length-replicate (count - 15) entry.Nothing in
+      let c : length predefined_entries ≡ 15 = refl in
+      omega (arith, a, b, c);
+}
+
+-- The rows of predefined types are there.
+abbrev AreFirst : Table → Type 0
+AreFirst table = (t : ℕ) → t < 5 → slice_get table t ≡ slice_get (predefined_types false) t
+
+row_low : (xs ys : Table) (t : ℕ) → t < length xs → slice_get (xs ++ ys) t ≡ slice_get xs t
+row_low [] ys t less = absurd (omega (arith, less))
+row_low (x ∷ xs) ys zero less = refl
+row_low (x ∷ xs) ys (suc t) less = row_low xs ys t (omega (arith, less))
+
+rows_first : (count : ℕ) → AreFirst (at_first false count).table
+rows_first count t less = row_low (predefined_types false) (replicate (count - 5) no_type) t less
+
+module _ (files : List (List SourceUnit)) where
+  abbrev p : Program
+  p = program_of files
+
+  abbrev numbers : Numbers
+  numbers = identified files
+
+  abbrev kinds : ℕ → DeclKind
+  kinds = kind_in files numbers
+
+  abbrev first_table : Table
+  first_table = (known_from p (at_first false p.count).table).table
+
+  abbrev start : Context
+  start = outside (record (at_first false p.count) { table = first_table })
+
+  all_counted : length (names.known_of files).declared ≡ p.count
+  unfolding decl_infos
+  all_counted = sym (length-map (names.known_of files).declared info_of)
+
+  module _ (up : Ascends (event_positions (source_events files))) (named : name_fault files ≡ None) (formless : (u : Code) → Has p.units u → IsFormless u)
+      (plain : (u : Code) → Has p.units u → IsNamed u) where
+    followed : AreFollowed numbers known_at_first (source_events files)
+    followed = files_followed files up named
+
+    goes : Goes kinds p.count 15 (flat_map declarations p.units) (length (names.known_of files).declared)
+    goes = (
+      files_counted files numbers followed,
+      files_kinds files numbers followed,
+      omega arith,
+      let a = all_counted in omega (arith, a),
+    )
+
+    ends : Given kinds p.count (known_of p).entries p.count
+    unfolding known_of
+    ends =
+        subst (λ n. Given kinds p.count (known_of p).entries n) all_counted
+        (units_given kinds p.count p.units start 15 (length (names.known_of files).declared) formless goes (first_given kinds p.count))
+
+    firsts : AreFirst first_table
+    firsts =
+        units_first kinds p.count p.units (outside (record (at_first false p.count) { table = (at_first false p.count).table })) 15
+        (length (names.known_of files).declared) formless plain goes (rows_first p.count)
+
+    lasts : AreFirst (known_of p).table
+    unfolding known_of
+    lasts = units_first kinds p.count p.units start 15 (length (names.known_of files).declared) formless plain goes firsts
+
+    -- Objects have the types that are indicated for them.
+    pub files_typed : AllBounded p → (u : Code) → Has p.units u → AreTyped (outside (known_of p)) u
+    unfolding known_of
+    files_typed bounded =
+        units_typed kinds p.count p.units (outside (known_of p)) start 15 (length (names.known_of files).declared) formless plain
+        (files_low numbers files known_at_first followed) bounded goes (first_given kinds p.count) ends firsts lasts (λ n less is. refl)
+
+    -- Each identifier denotes what is declared, or a function with a body.
+    pub files_denote : (d : ℕ) → Denotes (site_of (known_of p) p.units) (typing_meant (known_of p) p.units) d
+    unfolding name_fault
+    files_denote d =
+        denotes (known_of p) p.units d
+        (λ o is. subst (λ ns. Has ns d) (sym (units_same p.units (record { known = known_of p; identifier = None }) 1 p.units)) (object_declared p formless d o is))
+        (λ t is. files_have_bodies files numbers followed named d (function_declared p formless d t is))
+
+    -- The files are meant.
+    pub files_meant : (made : ℕ → Type 0) → AllBounded p → AreMeantUnits (known_of p) made p.units
+    files_meant made bounded =
+        codes.files_meant numbers (typing_meant (known_of p) p.units) made (site_of (known_of p) p.units) files_denote files plain (files_typed bounded)

@@ -1,0 +1,451 @@
+-- Objects of a text without formals and anonymous types have the types that are indicated for them.
+use Rattle.std.proofs.Common.{◌≡◌, ◌⊎◌, inl, inr, ℕ, zero, suc, ◌<◌, ◌≤◌, Bool, true, false, List, [], ◌∷◌, ◌++◌, flat_map, set, get_or, refl, sym, ap, ◌∙◌, arith, subst, Option, Some, None, true≢false, if◌then◌else◌}
+use Rattle.std.specs.Prelude.{slice_get}
+use Rattle.spark_base.specs.Lists.{Has}
+use Rattle.resolved_tree.specs.declared.node.Mark.{Mark}
+use Rattle.resolved_tree.specs.declared.operator.UnaryOperator.{UnaryOperator}
+use Rattle.resolved_tree.specs.declared.operator.UnaryOperator.TheVariants as unary
+use Rattle.resolved_tree.specs.Trees.{Tree, Named, Parens, Unary, Binary, More, Code, Plain, Anonymous, Bounds, Marked, Constrained, Objects, Numbers, SubBody, Package, PackageBody, If, Branch, Case, When, Loop, While, For, Block}
+use Rattle.name_events.specs.declared.declaration.DeclarationForm.{DeclarationForm}
+use Rattle.name_events.specs.declared.declaration.DeclarationForm.TheVariants as form
+use Rattle.name_events.specs.declared.declaration.DeclKind.{DeclKind}
+use Rattle.name_events.specs.Denotes.{kind_of}
+use Rattle.type_definitions.specs.declared.table.InitialValue.{InitialValue}
+use Rattle.type_definitions.specs.declared.table.ObjectInfo.{ObjectInfo}
+use Rattle.type_definitions.specs.declared.table.Known.{Known}
+use Rattle.type_definitions.specs.declared.table.Kind.TheVariants as kind
+use Rattle.type_definitions.specs.declared.table.Entry.{Entry}
+use Rattle.type_definitions.specs.declared.table.Entry.TheVariants as entry
+use Rattle.type_definitions.specs.declared.judgement.Own.TheVariants as own
+use Rattle.type_definitions.specs.Types.{Table, untyped, base, base_found, full, shape_found, view_of, meant_type_found, is_scalar}
+use Rattle.type_definitions.specs.Entries.{entry_of, integer, boolean, is_type, type_of_entry, type_of_mark, marked}
+use Rattle.type_definitions.specs.Names.{Context}
+use Rattle.type_definitions.specs.Expressions.{own_type, unary_type, is_join, is_arithmetic}
+use Rattle.type_definitions.specs.Statements.{type_or_integer}
+use Rattle.type_definitions.specs.Gathered.{gather, each, with_entry, with_indication, with_object, object_info, constant_value, indicated, with_number, number_info, initial_value, with_body_front, plain_object, parameter_type, in_subprogram, in_visible, in_hidden, declared_number}
+use Rattle.type_definitions.specs.Whole.{predefined_types, gather_units}
+use Rattle.meant_files.specs.Formless.{IsFormless}
+use Rattle.gathered_laws.specs.Named.{IsPlain, IsNamed}
+use Rattle.meant_files.specs.Declarations.{Declarations, each_as, declarations, last_from, IsLow, IsLowIndication, IsLowRange, AreLow, AllLow}
+use Rattle.meant_files.specs.Counted.{is_completing, Counts}
+use Rattle.meant_files.specs.Typed.{IsParameterOf, AreIndicated, AreIntegers, AreTyped}
+use Rattle.meant_files.specs.Bounded.{is_named, IsBounded, AreBounded}
+use Rattle.meant_files.proofs.Given.{entry_there, counts_has, counts_grow, is_type_kind, is_object_kind, is_put, IsRight, Given, Goes, goes_both, put, all_given, other_right, indication_given, body_given}
+use Rattle.meant_files.proofs.Rows.{row_stays, body_stays}
+use Rattle.meant_files.proofs.Stays.{Without, stays, objects_stay, numbers_stay}
+
+module _ (kind_at : ℕ → DeclKind) (limit : ℕ) where
+  -- ---- types
+
+  is_as : (n : ℕ) (e : Entry) → IsRight kind_at n e → is_put e ≡ true → is_type e ≡ is_type_kind (kind_at n)
+  is_as n entry.Nothing right put = absurd (true≢false (sym put))
+  is_as n entry.Type right put = sym right
+  is_as n entry.Package right put = sym right
+  is_as n (entry.Object o) right put = sym right
+  is_as n (entry.Literal t i) right put = sym right
+  is_as n (entry.Subprogram p) right put = sym right
+  is_as n (entry.Instance t) right put = sym right
+  is_as n (entry.Predefined p) right put = sym right
+
+  is_none : (n : ℕ) (e : Entry) → IsRight kind_at n e → is_type_kind (kind_at n) ≡ false → is_type e ≡ false
+  is_none n entry.Type right never = absurd (true≢false (sym right ∙ never))
+  is_none n entry.Nothing right never = refl
+  is_none n entry.Package right never = refl
+  is_none n (entry.Object o) right never = refl
+  is_none n (entry.Literal t i) right never = refl
+  is_none n (entry.Subprogram p) right never = refl
+  is_none n (entry.Instance t) right never = refl
+  is_none n (entry.Predefined p) right never = refl
+
+  -- A number that stands before here, or is none of a type.
+  abbrev IsSure : ℕ → ℕ → Type 0
+  IsSure k n = (n < k) ⊎ ((15 ≤ n) × (is_type_kind (kind_at n) ≡ false))
+
+  same_type : (xs ys : List Entry) (k n : ℕ) → k ≤ limit → Given kind_at limit xs k → Given kind_at limit ys limit → IsSure k n
+      → is_type (get_or xs n entry.Nothing) ≡ is_type (get_or ys n entry.Nothing)
+  same_type xs ys k n within here there (inr never) =
+      is_none n (get_or xs n entry.Nothing) (here.right n never.0) never.1 ∙ sym (is_none n (get_or ys n entry.Nothing) (there.right n never.0) never.1)
+  same_type xs ys k n within here there (inl less) = elim (split n) [
+    | inl low ↦ ap is_type (here.low n low ∙ sym (there.low n low))
+    | inr high ↦
+        is_as n (get_or xs n entry.Nothing) (here.right n high) (here.covered n high less)
+        ∙ sym (is_as n (get_or ys n entry.Nothing) (there.right n high) (there.covered n high (omega (arith, less, within))))
+  ]
+    where
+      split : (n : ℕ) → (n < 15) ⊎ (15 ≤ n)
+      split n = by 15 n
+        where
+          by : (m n : ℕ) → (n < m) ⊎ (m ≤ n)
+          by zero n = inr (omega arith)
+          by (suc m) zero = inl (omega arith)
+          by (suc m) (suc n) = elim (by m n) [ inl less ↦ inl (omega (arith, less)) | inr more ↦ inr (omega (arith, more)) ]
+
+  type_or : (d : ℕ) (e : Entry) → type_of_entry d e ≡ (if is_type e then d else untyped)
+  type_or d entry.Type = refl
+  type_or d _ = refl
+
+  mark_same : (m : Mark) (k : ℕ) (c known : Known) → k ≤ limit → Given kind_at limit c.entries k → Given kind_at limit known.entries limit
+      → ((n : ℕ) → m.decl ≡ Some n → IsSure k n) → marked c m ≡ marked known m
+  mark_same m k c known within here there sure = by m.decl (λ n is. same_type c.entries known.entries k n within here there (sure n is))
+    where
+      by : (o : Option ℕ) → ((n : ℕ) → o ≡ Some n → is_type (entry_of c n) ≡ is_type (entry_of known n)) → type_of_mark c o ≡ type_of_mark known o
+      by None same = refl
+      by (Some d) same =
+          type_or d (entry_of c d) ∙ (ap (λ b. if b then d else untyped) (same d refl) ∙ sym (type_or d (entry_of known d)))
+
+  -- ---- objects that stay
+
+  no_object : (new : DeclarationForm) → is_completing new ≡ true → is_object_kind (kind_of new) ≡ false
+  no_object form.FullType is = refl
+  no_object form.ProcedureBody is = refl
+  no_object form.FunctionBody is = refl
+  no_object _ is = absurd (true≢false (sym is))
+
+  later : (k : ℕ) (L : Declarations) (j n : ℕ) → Goes kind_at limit k L j → n < k → is_object_kind (kind_at n) ≡ true → Without n L
+  later k L j n goes less is new has = elim (counts_has k L j new n goes.0 has) [
+    | inl more ↦ absurd (omega (arith, less, more))
+    | inr late ↦ absurd (true≢false (sym is ∙ (ap is_object_kind (sym (goes.1 new n has)) ∙ no_object new late)))
+  ]
+
+  object_form : (k : ℕ) (d : ℕ) (L : Declarations) (j : ℕ) (new : DeclarationForm) → is_completing new ≡ false → Goes kind_at limit k ((new, d) ∷ L) j
+      → (d ≡ k) × Goes kind_at limit (suc k) L j × (kind_of new ≡ kind_at d) × (suc k ≤ j)
+  object_form k d L j new never goes = elim goes.0 [
+    | inl next ↦
+        (let high = goes.2 in (
+          next.0,
+          (next.1, (λ made n has. goes.1 made n (inr has)), omega (arith, high), goes.3),
+          goes.1 new d (inl refl),
+          counts_grow (suc k) L j next.1,
+        ))
+    | inr late ↦ absurd (true≢false (sym late.2 ∙ never))
+  ]
+
+  -- The objects up to here are as they are known at last.
+  abbrev Agrees : Known → ℕ → Known → Type 0
+  Agrees known j c = (n : ℕ) → n < j → is_object_kind (kind_at n) ≡ true → entry_of known n ≡ entry_of c n
+
+  object_kind : (new : DeclarationForm) (d : ℕ) → is_object_kind (kind_of new) ≡ true → kind_of new ≡ kind_at d → is_object_kind (kind_at d) ≡ true
+  object_kind new d is same = ap is_object_kind (sym same) ∙ is
+
+  objects_kinds : (ids : Code) (k j : ℕ) → Goes kind_at limit k (each_as form.Object ids) j → (n : ℕ) → k ≤ n → n < j → is_type_kind (kind_at n) ≡ false
+  objects_kinds (More d rest) k j goes n more less =
+      let f = object_form k (declared_number d) (each_as form.Object rest) j form.Object refl goes in
+      elim (split k n more) [
+        | inl same ↦ ap (λ m. is_type_kind (kind_at m)) (sym same ∙ sym f.0) ∙ ap is_type_kind (sym f.2)
+        | inr over ↦ objects_kinds rest (suc k) j f.1 n over less
+      ]
+    where
+      split : (n d : ℕ) → n ≤ d → (n ≡ d) ⊎ (n < d)
+      split zero zero le = inl refl
+      split zero (suc d) le = inr (omega arith)
+      split (suc n) zero le = absurd (omega (arith, le))
+      split (suc n) (suc d) le = elim (split n d (omega (arith, le))) [ inl same ↦ inl (ap suc same) | inr less ↦ inr (omega (arith, less)) ]
+  objects_kinds ids k j goes n more less = let a = goes.0 in absurd (omega (arith, a, more, less))
+
+  last_low : (n : ℕ) (ids : Code) (k j : ℕ) → n < k → Goes kind_at limit k (each_as form.Object ids) j → last_from n ids < j
+  last_low n (More d rest) k j less goes =
+      let f = object_form k (declared_number d) (each_as form.Object rest) j form.Object refl goes in
+      last_low (declared_number d) rest (suc k) j (let a = f.0 in omega (arith, a)) f.1
+  last_low n ids k j less goes = let a = goes.0 in omega (arith, a, less)
+
+  sure_later : (k m n : ℕ) → k ≤ m → IsSure k n → IsSure m n
+  sure_later k m n more (inl less) = inl (omega (arith, more, less))
+  sure_later k m n more (inr never) = inr never
+
+  over : (k n : ℕ) → (n < k) ⊎ (k ≤ n)
+  over zero n = inr (omega arith)
+  over (suc k) zero = inl (omega arith)
+  over (suc k) (suc n) = elim (over k n) [ inl less ↦ inl (omega (arith, less)) | inr more ↦ inr (omega (arith, more)) ]
+
+  -- A mark that denotes nothing after the last of some objects.
+  objects_sure : (ids : Code) (k j : ℕ) (m : Mark) → Goes kind_at limit k (each_as form.Object ids) j → IsLow (last_from 0 ids) m → (n : ℕ) → m.decl ≡ Some n → IsSure k n
+  objects_sure ids k j m goes low n is =
+      let high = goes.2 in
+      let last = last_low 0 ids k j (omega (arith, high)) goes in
+      let under = low n is in
+      elim (over k n) [
+        | inl less ↦ inl less
+        | inr more ↦ inr (omega (arith, high, more), objects_kinds ids k j goes n more (omega (arith, under, last)))
+      ]
+
+  indicated_same : (d : ℕ) (i ids : Code) (k m j : ℕ) (c known : Known) → IsPlain i → IsLowIndication (last_from 0 ids) i → Goes kind_at limit k (each_as form.Object ids) j
+      → k ≤ m → m ≤ limit → Given kind_at limit c.entries m → Given kind_at limit known.entries limit → indicated c d i ≡ indicated known d i
+  indicated_same d (Plain mark) ids k m j c known plain low goes more within here there =
+      mark_same mark m c known within here there (λ n is. sure_later k m n more (objects_sure ids k j mark goes low n is))
+  indicated_same d (Anonymous p constant mark) ids k m j c known plain low goes more within here there = absurd plain
+  indicated_same d _ ids k m j c known plain low goes more within here there = refl
+
+  -- one object more
+  more_given : (new : DeclarationForm) (d k j : ℕ) (L : Declarations) (x : Entry) (xs : List Entry) → Goes kind_at limit k ((new, d) ∷ L) j
+      → is_completing new ≡ false → is_type_kind (kind_of new) ≡ false → is_type x ≡ false → is_put x ≡ true → Given kind_at limit xs k → Given kind_at limit (set xs d x) (suc k)
+  more_given new d k j L x xs goes never kind other is given =
+      let f = object_form k d L j new never goes in
+      let grows = f.3 in
+      let within = goes.3 in
+      put kind_at limit xs k d (suc k) x goes.2 (omega (arith, grows, within)) (inl (f.0, refl)) (other_right kind_at limit new d x kind other f.2) is given
+
+  -- what is put stays till the end
+  there_still : (new : DeclarationForm) (d k j : ℕ) (L : Declarations) (x : Entry) (xs : List Entry) → Goes kind_at limit k ((new, d) ∷ L) j → is_completing new ≡ false
+      → Given kind_at limit xs k → get_or (set xs d x) d entry.Nothing ≡ x
+  there_still new d k j L x xs goes never given =
+      let f = object_form k d L j new never goes in
+      let at = f.0 in
+      let grows = f.3 in
+      let within = goes.3 in
+      let long = given.long in
+      entry_there xs d x entry.Nothing (omega (arith, at, grows, within, long))
+
+  objects_typed : (constant : Bool) (i : Code) (v : InitialValue) (ids : Code) (c : Context) (known : Known) (k j : ℕ)
+      → ((m : ℕ) (e : Context) → k ≤ m → m ≤ limit → Given kind_at limit e.known.entries m → (d : ℕ) → indicated e.known d i ≡ indicated known d i)
+      → Goes kind_at limit k (each_as form.Object ids) j → Given kind_at limit c.known.entries k
+      → Agrees known j (each (with_object constant i v) ids c).known → AreIndicated known i ids
+  objects_typed constant i v (More d rest) c known k j same goes given agrees =
+      let n : ℕ = declared_number d in
+      let L : Declarations = each_as form.Object rest in
+      let inner : Context = with_indication n i c in
+      let x : Entry = entry.Object (object_info c constant (indicated c.known n i) v) in
+      let f = object_form k n L j form.Object refl goes in
+      let at = f.0 in
+      let grows = f.3 in
+      let within = goes.3 in
+      let is : is_object_kind (kind_at n) ≡ true = object_kind form.Object n refl f.2 in
+      let now : Given kind_at limit inner.known.entries k = indication_given kind_at limit n i c k given in
+      let stay = objects_stay n constant i v rest (with_object constant i v d c) (later (suc k) L j n f.1 (omega (arith, at)) is) in (
+        (
+          object_info c constant (indicated c.known n i) v,
+          agrees n (omega (arith, at, grows)) is ∙ (stay ∙ there_still form.Object n k j L x inner.known.entries goes refl now),
+          same k c (omega arith) (omega (arith, grows, within)) given n,
+        ),
+        objects_typed constant i v rest (with_object constant i v d c) known (suc k) j (λ m e more. same m e (omega (arith, more))) f.1
+            (more_given form.Object n k j L x inner.known.entries goes refl refl refl refl now) agrees,
+      )
+  objects_typed constant i v ids c known k j same goes given agrees = tt
+
+  numbers_typed : (v : InitialValue) (ids : Code) (c : Context) (known : Known) (k j : ℕ) → Goes kind_at limit k (each_as form.Object ids) j
+      → Given kind_at limit c.known.entries k → Agrees known j (each (with_number v) ids c).known → AreIntegers known ids
+  numbers_typed v (More d rest) c known k j goes given agrees =
+      let n : ℕ = declared_number d in
+      let L : Declarations = each_as form.Object rest in
+      let x : Entry = entry.Object (number_info c v) in
+      let f = object_form k n L j form.Object refl goes in
+      let at = f.0 in
+      let grows = f.3 in
+      let is : is_object_kind (kind_at n) ≡ true = object_kind form.Object n refl f.2 in
+      let stay = numbers_stay n v rest (with_number v d c) (later (suc k) L j n f.1 (omega (arith, at)) is) in (
+        (number_info c v, agrees n (omega (arith, at, grows)) is ∙ (stay ∙ there_still form.Object n k j L x c.known.entries goes refl given), refl),
+        numbers_typed v rest (with_number v d c) known (suc k) j f.1 (more_given form.Object n k j L x c.known.entries goes refl refl refl refl given) agrees,
+      )
+  numbers_typed v ids c known k j goes given agrees = tt
+
+  -- ---- rows of predefined types
+
+  abbrev AreFirst : Table → Type 0
+  AreFirst table = (t : ℕ) → t < 5 → slice_get table t ≡ slice_get (predefined_types false) t
+
+  counts_high : (k : ℕ) (L : Declarations) (j : ℕ) (new : DeclarationForm) (n : ℕ) → Counts k L j → 15 ≤ k → Has L (new, n) → 15 ≤ n
+  counts_high k [] j new n counts high has = absurd has
+  counts_high k (x ∷ L) j new n (inl next) high (inl same) =
+      let a = next.0 in let b = ap (λ (x : DeclarationForm × ℕ). x.1) same in omega (arith, a, b, high)
+  counts_high k (x ∷ L) j new n (inl next) high (inr has) = counts_high (suc k) L j new n next.1 (omega (arith, high)) has
+  counts_high k (x ∷ L) j new n (inr late) high (inl same) =
+      let a = late.0 in let b = ap (λ (x : DeclarationForm × ℕ). x.1) same in omega (arith, a, b)
+  counts_high k (x ∷ L) j new n (inr late) high (inr has) = counts_high k L j new n late.3 high has
+
+  firsts_after : (code : Code) (c : Context) (k j : ℕ) → IsFormless code → IsNamed code → Goes kind_at limit k (declarations code) j → AreFirst c.known.table
+      → AreFirst (gather code c).known.table
+  firsts_after code c k j none named goes firsts t less =
+      row_stays t code c none named (λ new has. let high = counts_high k (declarations code) j new t goes.0 goes.2 has in absurd (omega (arith, high, less))) ∙ firsts t less
+
+  abbrev IsBare : ℕ → Type 0
+  IsBare t = (t ≡ integer) ⊎ (t ≡ boolean)
+
+  -- the type of what is no name
+  own_bare : (c : Context) (e : Tree) → is_named e ≡ false → IsBare (type_or_integer (own_type c e))
+  unfolding own_type
+  own_bare c (Named p d rest) never = absurd (true≢false never)
+  own_bare c (Parens p e) never = own_bare c e never
+  own_bare c (Unary p op e) never = by op
+    where
+      by : (op : UnaryOperator) → IsBare (unary_type op)
+      by unary.Not = inr refl
+      by _ = inl refl
+  own_bare c (Binary p op a b) never = by (is_join op) (is_arithmetic op)
+    where
+      by : (join arithmetic : Bool) → IsBare (type_or_integer (if join then own.Text else if arithmetic then own.Of integer else own.Of boolean))
+      by true arithmetic = inl refl
+      by false true = inl refl
+      by false false = inr refl
+  own_bare c _ never = inl refl
+
+  bare_scalar : (table final : Table) (t : ℕ) → AreFirst table → AreFirst final → IsBare t → is_scalar (full final (base table t)) ≡ true
+  bare_scalar table final t here there (inl same) =
+      ap (λ u. is_scalar (full final (base table u))) same
+      ∙ (ap (λ o. is_scalar (full final (base_found o))) (here 0 (omega arith))
+      ∙ (ap (λ o. is_scalar (view_of (shape_found (slice_get final (meant_type_found 0 o))))) (there 0 (omega arith))
+      ∙ ap (λ o. is_scalar (view_of (shape_found o))) (there 0 (omega arith))))
+  bare_scalar table final t here there (inr same) =
+      ap (λ u. is_scalar (full final (base table u))) same
+      ∙ (ap (λ o. is_scalar (full final (base_found o))) (here 3 (omega arith))
+      ∙ (ap (λ o. is_scalar (view_of (shape_found (slice_get final (meant_type_found 3 o))))) (there 3 (omega arith))
+      ∙ ap (λ o. is_scalar (view_of (shape_found o))) (there 3 (omega arith))))
+
+  -- ---- parameters of loops
+
+  parameter_same : (d : ℕ) (m : Mark) (k : ℕ) (c known : Known) → k ≤ limit → d ≡ k → 15 ≤ k → is_type_kind (kind_at d) ≡ false → IsLow d m
+      → Given kind_at limit c.entries k → Given kind_at limit known.entries limit → marked c m ≡ marked known m
+  parameter_same d m k c known within at high never low here there =
+      mark_same m k c known within here there (λ n is. let under = low n is in elim (over k n) [
+        | inl less ↦ inl less
+        | inr more ↦ inr (omega (arith, high, more), subst (λ l. is_type_kind (kind_at l) ≡ false) (equal d n (omega (arith, at, more)) under) never)
+      ])
+    where
+      equal : (d n : ℕ) → d ≤ n → n ≤ d → d ≡ n
+      equal d n a b = omega (arith, a, b)
+
+  either : {A : Type 0} (c b : Bool) → c ≡ b → (c ≡ true → A) → (c ≡ false → A) → A
+  either c true is so never = so is
+  either c false is so never = never is
+
+  parameter_typed : (d range : Code) (k j : ℕ) (L : Declarations) (c outer : Context) → Goes kind_at limit k ((form.LoopParameter, declared_number d) ∷ L) j
+      → Given kind_at limit c.known.entries k → Given kind_at limit outer.known.entries limit → IsLowRange (declared_number d) range → IsBounded outer d range → AreFirst c.known.table
+      → AreFirst outer.known.table → entry_of outer.known (declared_number d) ≡ entry.Object (plain_object (parameter_type c range) kind.Parameter)
+      → IsParameterOf outer d range
+  parameter_typed d range k j L c outer goes given ends low bounded firsts lasts is =
+      let f = object_form k (declared_number d) L j form.LoopParameter refl goes in
+      let within = goes.3 in
+      let grows = f.3 in
+      by range (omega (arith, within, grows)) f.0 (ap is_type_kind (sym f.2)) low bounded is
+    where
+      by : (range : Code) → k ≤ limit → declared_number d ≡ k → is_type_kind (kind_at (declared_number d)) ≡ false → IsLowRange (declared_number d) range
+          → IsBounded outer d range → entry_of outer.known (declared_number d) ≡ entry.Object (plain_object (parameter_type c range) kind.Parameter)
+          → IsParameterOf outer d range
+      by (Bounds low high) within at never under bounded is =
+          let o : ObjectInfo = plain_object (parameter_type c (Bounds low high)) kind.Parameter in
+          (o, is, either (is_named low) (is_named low) refl (λ so. bounded so o is) (λ never. bare_scalar c.known.table outer.known.table (type_or_integer (own_type c low)) firsts lasts (own_bare c low never)))
+      by (Marked m) within at never under bounded is =
+          (plain_object (marked c.known m) kind.Parameter, is, parameter_same (declared_number d) m k c.known outer.known within at goes.2 never under given ends)
+      by (Constrained m low high) within at never under bounded is =
+          (plain_object (marked c.known m) kind.Parameter, is, parameter_same (declared_number d) m k c.known outer.known within at goes.2 never under given ends)
+      by _ within at never under bounded is = (plain_object integer kind.Parameter, is, refl)
+
+  -- ---- all of the code
+
+  agrees_before : (known : Known) (y : Code) (c : Context) (m j : ℕ) → IsFormless y → Goes kind_at limit m (declarations y) j → Agrees known j (gather y c).known → Agrees known m c.known
+  agrees_before known y c m j none goes agrees n less is =
+      agrees n (let a = counts_grow m (declarations y) j goes.0 in omega (arith, a, less)) is
+      ∙ stays n y c none (later m (declarations y) j n goes less is)
+
+  typed_all : (code : Code) (outer c : Context) (k j : ℕ) → IsFormless code → IsNamed code → AreLow code → AreBounded outer code → Goes kind_at limit k (declarations code) j
+      → Given kind_at limit c.known.entries k → Given kind_at limit outer.known.entries limit → AreFirst c.known.table → AreFirst outer.known.table
+      → Agrees outer.known j (gather code c).known → AreTyped outer code
+  unfolding gather IsFormless IsNamed AreLow AreBounded AreTyped
+  typed_all (Objects ids constant i v) outer c k j none named low bounded goes given ends firsts lasts agrees =
+      objects_typed constant i (constant_value c constant v) ids c outer.known k j
+      (λ m e more within there d. indicated_same d i ids k m j e.known outer.known named low goes more within there ends) goes given agrees
+  typed_all (Numbers ids e) outer c k j none named low bounded goes given ends firsts lasts agrees = numbers_typed (initial_value c e) ids c outer.known k j goes given agrees
+  typed_all (SubBody front items stmts end) outer c k j none named low bounded goes given ends firsts lasts agrees =
+      let inner : Context = in_subprogram front (with_body_front front c) in
+      let f = body_given kind_at limit front c k (declarations items ++ declarations stmts) j none.0 goes given in
+      let s = goes_both kind_at limit f.0 (declarations items) (declarations stmts) j f.1 in
+      let inner_firsts : AreFirst inner.known.table = λ t less. body_stays t front c none.0 named.0 ∙ firsts t less in
+      let middle_firsts : AreFirst (gather items inner).known.table = firsts_after items inner f.0 s.0 none.1 named.1 s.1 inner_firsts in
+      let middle = all_given kind_at limit items inner f.0 s.0 none.1 s.1 f.2 in (
+        typed_all items (in_subprogram front outer) inner f.0 s.0 none.1 named.1 low.0 bounded.0 s.1 f.2 ends inner_firsts lasts (agrees_before outer.known stmts (gather items inner) s.0 j none.2 s.2 agrees),
+        typed_all stmts (in_subprogram front outer) (gather items inner) s.0 j none.2 named.2 low.1 bounded.1 s.2 middle ends middle_firsts lasts agrees,
+      )
+  typed_all (Package d visible hidden) outer c k j none named low bounded goes given ends firsts lasts agrees =
+      let n : ℕ = declared_number d in
+      let start : Context = in_visible n (with_entry n entry.Package c) in
+      let second : Context = in_hidden n (gather visible start) in
+      let f = object_form k n (declarations visible ++ declarations hidden) j form.Package refl goes in
+      let now = more_given form.Package n k j (declarations visible ++ declarations hidden) entry.Package c.known.entries goes refl refl refl refl given in
+      let s = goes_both kind_at limit (suc k) (declarations visible) (declarations hidden) j f.1 in
+      let middle = all_given kind_at limit visible start (suc k) s.0 none.0 s.1 now in (
+        typed_all visible (in_visible n outer) start (suc k) s.0 none.0 named.0 low.0 bounded.0 s.1 now ends firsts lasts (agrees_before outer.known hidden second s.0 j none.1 s.2 agrees),
+        typed_all hidden (in_hidden n outer) second s.0 j none.1 named.1 low.1 bounded.1 s.2 middle ends (firsts_after visible start (suc k) s.0 none.0 named.0 s.1 firsts) lasts agrees,
+      )
+  typed_all (PackageBody d parts) outer c k j none named low bounded goes given ends firsts lasts agrees =
+      typed_all parts (in_hidden (declared_number d) outer) (in_hidden (declared_number d) c) k j none named low bounded goes given ends firsts lasts agrees
+  typed_all (If p x y) outer c k j none named low bounded goes given ends firsts lasts agrees =
+      let s = goes_both kind_at limit k (declarations x) (declarations y) j goes in (
+        typed_all x outer c k s.0 none.0 named.0 low.0 bounded.0 s.1 given ends firsts lasts (agrees_before outer.known y (gather x c) s.0 j none.1 s.2 agrees),
+        typed_all y outer (gather x c) s.0 j none.1 named.1 low.1 bounded.1 s.2 (all_given kind_at limit x c k s.0 none.0 s.1 given) ends
+            (firsts_after x c k s.0 none.0 named.0 s.1 firsts) lasts agrees,
+      )
+  typed_all (Branch p e x) outer c k j none named low bounded goes given ends firsts lasts agrees = typed_all x outer c k j none named low bounded goes given ends firsts lasts agrees
+  typed_all (Case p e x) outer c k j none named low bounded goes given ends firsts lasts agrees = typed_all x outer c k j none named low bounded goes given ends firsts lasts agrees
+  typed_all (When choices x) outer c k j none named low bounded goes given ends firsts lasts agrees = typed_all x outer c k j none named low bounded goes given ends firsts lasts agrees
+  typed_all (Loop p x) outer c k j none named low bounded goes given ends firsts lasts agrees = typed_all x outer c k j none named low bounded goes given ends firsts lasts agrees
+  typed_all (While p e x) outer c k j none named low bounded goes given ends firsts lasts agrees = typed_all x outer c k j none named low bounded goes given ends firsts lasts agrees
+  typed_all (For p d reversed range x) outer c k j none named low bounded goes given ends firsts lasts agrees =
+      let n : ℕ = declared_number d in
+      let o : Entry = entry.Object (plain_object (parameter_type c range) kind.Parameter) in
+      let inner : Context = with_entry n o c in
+      let f = object_form k n (declarations x) j form.LoopParameter refl goes in
+      let at = f.0 in
+      let grows = f.3 in
+      let is : is_object_kind (kind_at n) ≡ true = object_kind form.LoopParameter n refl f.2 in
+      let known : entry_of outer.known n ≡ o
+      = agrees n (omega (arith, at, grows)) is
+      ∙ (stays n x inner none (later (suc k) (declarations x) j n f.1 (omega (arith, at)) is)
+      ∙ there_still form.LoopParameter n k j (declarations x) o c.known.entries goes refl given) in (
+        parameter_typed d range k j (declarations x) c outer goes given ends low.0 bounded.0 firsts lasts known,
+        typed_all x outer inner (suc k) j none named low.1 bounded.1 f.1
+            (more_given form.LoopParameter n k j (declarations x) o c.known.entries goes refl refl refl refl given) ends firsts lasts agrees,
+      )
+  typed_all (Block p x y end) outer c k j none named low bounded goes given ends firsts lasts agrees =
+      let s = goes_both kind_at limit k (declarations x) (declarations y) j goes in (
+        typed_all x outer c k s.0 none.0 named.0 low.0 bounded.0 s.1 given ends firsts lasts (agrees_before outer.known y (gather x c) s.0 j none.1 s.2 agrees),
+        typed_all y outer (gather x c) s.0 j none.1 named.1 low.1 bounded.1 s.2 (all_given kind_at limit x c k s.0 none.0 s.1 given) ends
+            (firsts_after x c k s.0 none.0 named.0 s.1 firsts) lasts agrees,
+      )
+  typed_all (More x y) outer c k j none named low bounded goes given ends firsts lasts agrees =
+      let s = goes_both kind_at limit k (declarations x) (declarations y) j goes in (
+        typed_all x outer c k s.0 none.0 named.0 low.0 bounded.0 s.1 given ends firsts lasts (agrees_before outer.known y (gather x c) s.0 j none.1 s.2 agrees),
+        typed_all y outer (gather x c) s.0 j none.1 named.1 low.1 bounded.1 s.2 (all_given kind_at limit x c k s.0 none.0 s.1 given) ends
+            (firsts_after x c k s.0 none.0 named.0 s.1 firsts) lasts agrees,
+      )
+  typed_all code outer c k j none named low bounded goes given ends firsts lasts agrees = tt
+
+  -- ---- units
+
+  abbrev All : (Code → Type 0) → List Code → Type 0
+  All P units = (u : Code) → Has units u → P u
+
+  pub units_given : (units : List Code) (c : Context) (k j : ℕ) → All IsFormless units → Goes kind_at limit k (flat_map declarations units) j
+      → Given kind_at limit c.known.entries k → Given kind_at limit (gather_units units c).known.entries j
+  units_given [] c k j none goes given = subst (λ n. Given kind_at limit c.known.entries n) goes.0 given
+  units_given (u ∷ rest) c k j none goes given =
+      let s = goes_both kind_at limit k (declarations u) (flat_map declarations rest) j goes in
+      units_given rest (gather u c) s.0 j (λ v has. none v (inr has)) s.2 (all_given kind_at limit u c k s.0 (none u (inl refl)) s.1 given)
+
+  units_before : (known : Known) (units : List Code) (c : Context) (m j : ℕ) → All IsFormless units → Goes kind_at limit m (flat_map declarations units) j
+      → Agrees known j (gather_units units c).known → Agrees known m c.known
+  units_before known [] c m j none goes agrees n less is = agrees n (let a = goes.0 in omega (arith, a, less)) is
+  units_before known (u ∷ rest) c m j none goes agrees n less is =
+      let s = goes_both kind_at limit m (declarations u) (flat_map declarations rest) j goes in
+      agrees_before known u c m s.0 (none u (inl refl)) s.1 (units_before known rest (gather u c) s.0 j (λ v has. none v (inr has)) s.2 agrees) n less is
+
+  pub units_first : (units : List Code) (c : Context) (k j : ℕ) → All IsFormless units → All IsNamed units → Goes kind_at limit k (flat_map declarations units) j
+      → AreFirst c.known.table → AreFirst (gather_units units c).known.table
+  units_first [] c k j none named goes firsts = firsts
+  units_first (u ∷ rest) c k j none named goes firsts =
+      let s = goes_both kind_at limit k (declarations u) (flat_map declarations rest) j goes in
+      units_first rest (gather u c) s.0 j (λ v is. none v (inr is)) (λ v is. named v (inr is)) s.2
+      (firsts_after u c k s.0 (none u (inl refl)) (named u (inl refl)) s.1 firsts)
+
+  pub units_typed : (units : List Code) (outer c : Context) (k j : ℕ) → All IsFormless units → All IsNamed units → AllLow units → All (AreBounded outer) units
+      → Goes kind_at limit k (flat_map declarations units) j → Given kind_at limit c.known.entries k → Given kind_at limit outer.known.entries limit
+      → AreFirst c.known.table → AreFirst outer.known.table → Agrees outer.known j (gather_units units c).known → All (AreTyped outer) units
+  units_typed [] outer c k j none named low bounded goes given ends firsts lasts agrees u has = absurd has
+  units_typed (u ∷ rest) outer c k j none named low bounded goes given ends firsts lasts agrees v has =
+      let s = goes_both kind_at limit k (declarations u) (flat_map declarations rest) j goes in
+      let middle = all_given kind_at limit u c k s.0 (none u (inl refl)) s.1 given in elim has [
+        | inl same ↦
+            subst (AreTyped outer) same
+            (typed_all u outer c k s.0 (none u (inl refl)) (named u (inl refl)) low.0 (bounded u (inl refl)) s.1 given ends firsts lasts
+            (units_before outer.known rest (gather u c) s.0 j (λ w is. none w (inr is)) s.2 agrees))
+        | inr more ↦
+            units_typed rest outer (gather u c) s.0 j (λ w is. none w (inr is)) (λ w is. named w (inr is)) low.1 (λ w is. bounded w (inr is)) s.2 middle ends
+            (firsts_after u c k s.0 (none u (inl refl)) (named u (inl refl)) s.1 firsts) lasts agrees v more
+      ]

@@ -1,0 +1,15 @@
+use Rattle.std.proofs.Common.{◌≡◌, None, ap, subst, map, string_bytes, Err}
+use Rattle.std.specs.Prelude.{option_and_then}
+use Rattle.command_words.specs.Words as grammar
+use Rattle.command_words.specs.declared.command.WordFault.{WordFault}
+use Rattle.spark_tool.specs.Answers.{answer_of}
+use Rattle.spark_tool.specs.Commands.{command_of, there}
+use Rattle.spark_tool.proofs.CommandWords.{usage_answers}
+use Rattle.spark_tool.proofs.tool.words_answer.Goals as goal
+
+pub returns-in_ok-usage_answer-in-Err-Usage-clause-product : goal.returns-in_ok-usage_answer-in-Err-Usage-clause-product
+returns-in_ok-usage_answer-in-Err-Usage-clause-product g c =
+    let none : grammar.command_of (map string_bytes c.args.words.now) ≡ None =
+    subst (λ (fault : WordFault). grammar.IsReadAs (map string_bytes c.args.words.now) (Err fault)) c.in-Err-Usage.field-0-is c.in-Err-Usage.ensures.read in
+    usage_answers (g.F.FileStore.stored c.args.files.now) (command_of (map string_bytes c.args.words.now)) (answer_of c.in_ok-usage_answer-in-Err-Usage.field-0)
+    (ap (option_and_then there) none) c.in_ok-usage_answer-in-Err-Usage.ensures
