@@ -38,10 +38,11 @@ use Rattle.soundness.proofs.Steps.{alike}
 use Rattle.soundness.proofs.Scalars.{acts}
 use Rattle.soundness.proofs.Stays.{Quiet, One, quiet}
 use Rattle.soundness.proofs.Numbers.{index_law}
-use Rattle.soundness.proofs.Lasting.{keeps}
+use Rattle.soundness.proofs.Defaults.{none_default}
+use Rattle.soundness.proofs.Lasting.{keeps, lengths}
 use Rattle.soundness.proofs.Waits.{or_both}
-use Rattle.soundness.proofs.Evaluated.{live_trunk}
-use Rattle.soundness.proofs.Instructions.{not_anonymous, not_borrower, not_observer, Holds, Given_here, start_is}
+use Rattle.soundness.proofs.Evaluated.{live_trunk, blank_ready}
+use Rattle.soundness.proofs.Instructions.{not_anonymous, not_borrower, not_observer, Holds, Given_here, source_given, start_is}
 use Rattle.exact_facts.specs.Exact.{IsExact, NoneFails, Knows}
 use Rattle.exact_facts.proofs.Memories.{declared_exact, ended_exact}
 use Rattle.exact_facts.proofs.Evaluated.{ExactTo, checked_exact, exact_after}
@@ -108,6 +109,23 @@ module _ (t : Turn) (settled : IsSettled (typing t).table) (own_law : OwnsByShap
     first_exact u NoMore gives calls facts holds allowed exact = exact
     first_exact u v gives calls facts holds allowed exact = absurd gives
 
+    first_given : (u : ℕ) (v : TypedTree) → FirstSource s u v → has_call v ≡ false → (facts : List Fact) → HoldsHere facts t.state
+        → AllowsAll facts (acts (acts_in s v))
+        → Given_here t settled own_law other alone no_formals all_named frames u (after (acts (acts_in s v)) facts) (first_value t u v now)
+    unfolding acts_in has_call initial
+    first_given u (More e rest) (last, gives) calls facts holds allowed =
+        let same : acts_in s e ++ acts_in s rest ≡ acts_in s e = ap (λ z. acts_in s e ++ acts_in s z) last ∙ append-nil (acts_in s e) in
+        subst (λ z. Given_here t settled own_law other alone no_formals all_named frames u (after (acts z) facts) (taken_by t u e now)) (sym same)
+        (source_given t settled own_law other alone no_formals all_named frames none u e gives (or_both (has_call e) (has_call rest) calls).0 facts holds
+        (subst (λ z. AllowsAll facts (acts z)) same allowed))
+    first_given u NoMore gives calls facts holds allowed = (
+      blank_ready (here t) settled t.state.leaks [] other alone (keeps s settled own_law) no_formals index_law own_law all_named
+          t.state.memory hands facts u (machine.default s.table u) (none_default s.table u) (record { sound = holds.0; kept = holds.1 }),
+      lengths s.table u,
+      refl,
+    )
+    first_given u v gives calls facts holds allowed = absurd gives
+
     then_declared : (x : ℕ) (facts : List Fact) (y : Evaluated (List machine.Word))
         → Given_here t settled own_law other alone no_formals all_named frames (object_at s x).of facts y
         → ExactIn facts y → ((name : PlaceName) → Has facts (Moved name) → name.root ≡ x → ⊥)
@@ -125,23 +143,23 @@ module _ (t : Turn) (settled : IsSettled (typing t).table) (own_law : OwnsByShap
         → (facts : List Fact) → HoldsHere facts t.state
         → AllowsAll facts (acts (declared_acts s x v))
         → ((name : PlaceName) → Has (after (acts (declared_acts s x v)) facts) (Moved name) → name.root ≡ x → ⊥)
-        → Given_here t settled own_law other alone no_formals all_named frames (object_at s x).of (after (acts (acts_in s v)) facts) (first_value t (object_at s x).of v now)
         → IsExact s depth t.state.memory facts
         → ExactOn (after (acts (declared_acts s x v)) facts) [] (declare t x v)
-    declare_exact x v gives calls facts holds allowed no_fact given exact =
+    declare_exact x v gives calls facts holds allowed no_fact exact =
         let same : declared_acts s x v ≡ acts_in s v =
         ap (λ b. if b then source_acts s (first v) (act.Borrow x) else
         (if is_observer s x then source_acts s (first v) (observe s x) else acts_in s v)) (not_borrower s all_named x)
         ∙ ap (λ b. if b then source_acts s (first v) (observe s x) else acts_in s v) (not_observer s all_named x) in
         subst (λ z. ExactOn (after (acts z) facts) [] (declare t x v)) (sym same)
         (subst (λ z. ExactOn (after (acts (acts_in s v)) facts) [] (steps.evaluated t (first_value t (object_at s x).of v z) (λ ws m. goes t (declared depth x ws m) 0))) (sym started)
-        (then_declared x (after (acts (acts_in s v)) facts) (first_value t (object_at s x).of v now) given
+        (then_declared x (after (acts (acts_in s v)) facts) (first_value t (object_at s x).of v now)
+        (first_given (object_at s x).of v gives calls facts holds (subst (λ z. AllowsAll facts (acts z)) same allowed))
         (first_exact (object_at s x).of v gives calls facts holds (subst (λ z. AllowsAll facts (acts z)) same allowed) exact)
         (λ name has. no_fact name (subst (λ z. Has (after (acts z) facts) (Moved name)) (sym same) has))))
 
     -- ---- assignments
 
-    assigned_acts : (p : Pos) (o : Option ℕ) (target e : TypedTree) → assigned_to s p o target e ≡ stored_acts s target e
+    pub assigned_acts : (p : Pos) (o : Option ℕ) (target e : TypedTree) → assigned_to s p o target e ≡ stored_acts s target e
     assigned_acts p None target e = refl
     assigned_acts p (Some x) target e =
         ap (λ b. if b then index_acts s e ++ reborrow (acts_target_pos p (names.written target)) x (names.source e)

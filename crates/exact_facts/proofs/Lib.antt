@@ -12,3 +12,8 @@ pub mod Stored
 pub mod Instructions
 pub mod Releases
 pub mod Loops
+-- steps, and the law
+pub mod Stepping
+pub mod Main
+pub mod Going
+pub mod Runs

@@ -1,19 +1,26 @@
 -- What excused leak checks rest on: what a fact without an element calls moved is gone.
-use Rattle.std.specs.Prelude.{◌≡◌, ℕ, false, List, [], ◌∷◌, ◌++◌}
+use Rattle.std.specs.Prelude.{◌≡◌, ℕ, zero, suc, false, List, [], ◌∷◌, ◌++◌, get_or}
 use Rattle.spark_base.specs.Lists.{Has}
 use Rattle.spark_base.specs.declared.position.Pos.{Pos}
 use Rattle.place_names.specs.declared.selector.Sel.{Sel}
 use Rattle.place_names.specs.declared.fact.Fact.{Fact}
 use Rattle.place_names.specs.declared.fact.Fact.TheVariants.{Moved}
 use Rattle.place_names.specs.Names.{Name, extend, has_elem}
+use Rattle.type_definitions.specs.Types.{Table}
+use Rattle.typed_tree.specs.Programs.{TypedProgram}
+use Rattle.flow_paths.specs.declared.report.Effects.{Effects}
 use Rattle.flow_paths.specs.declared.point.LeakSpot.{LeakSpot}
 use Rattle.flow_paths.specs.Acts.{spot}
 use Rattle.flow_paths.specs.Objects.{Typing}
+use Rattle.flow_paths.specs.Laid.{FlowProgram, flow_program}
+use Rattle.flow_paths.specs.Effects.{path_points}
+use Rattle.flow_paths.specs.LeakPlan.{IsExcused}
 use Rattle.machine.specs.Memory.{Memory}
-use Rattle.machine.specs.States.{Leak}
+use Rattle.machine.specs.States.{Frame, Leak, State, Outcome, Goes, Ends, sub_of}
+use Rattle.machine.specs.Run.{no_point, step, then_on, state_at_start}
 use Rattle.owned_ways.specs.Ways.{Told}
 use Rattle.soundness.specs.Seen.{seen, home}
-use Rattle.soundness.specs.Sound.{IsDefinite}
+use Rattle.soundness.specs.Sound.{IsDefinite, IsSound, AreExact}
 
 -- So it is of the facts of a frame, in a memory. (What is in hand has no name, and leak checks
 -- change no word.)
@@ -32,3 +39,49 @@ abbrev pub Knows : (LeakSpot → Type 0) → Pos → Name → ℕ → List Fact 
 Knows Excused pos name before facts parts =
     (q : List Sel) → Has parts q → Excused (spot pos name before q)
     → (has_elem (name.sels ++ q) ≡ false) × Has facts (Moved (extend name q))
+
+-- ---- the law
+
+abbrev pub checks_of : Outcome → List (List Leak)
+checks_of (Goes state) = state.checks
+checks_of (Ends e state) = state.checks
+
+-- At each sound state whose facts are exact: of the leak checks of the step, none fails that the
+-- leak plan excuses.
+abbrev pub ExcusedHold : Table → TypedProgram → Effects → List ℕ → Type 0
+ExcusedHold table typed effects input =
+    (state : State) (sound : IsSound table typed effects state) → AreExact table typed effects state sound
+    → NoneFails (IsExcused (path_points (flow_program table typed) effects (sub_of (flow_program table typed) sound.top.frame.sub)) sound.top.frame.next)
+    (get_or (sub_of (flow_program table typed) sound.top.frame.sub).points sound.top.frame.next no_point).leaks
+    (checks_of (step (flow_program table typed) input state))
+
+-- A sound state whose facts are exact, and that each step of one leads to one.
+abbrev pub IsExactly : Table → TypedProgram → Effects → State → Type 0
+IsExactly table typed effects state = (sound : IsSound table typed effects state) × AreExact table typed effects state sound
+
+abbrev pub LeadsExactly : Table → TypedProgram → Effects → Outcome → Type 0
+LeadsExactly table typed effects (Goes state) = IsExactly table typed effects state
+LeadsExactly table typed effects (Ends e state) = Unit {0}
+
+abbrev pub StepsLeadExactly : Table → TypedProgram → Effects → List ℕ → Type 0
+StepsLeadExactly table typed effects input =
+    (state : State) → IsExactly table typed effects state → LeadsExactly table typed effects (step (flow_program table typed) input state)
+
+-- ---- runs
+
+-- The state after so many steps, or how the run ended before.
+abbrev pub goes_for : FlowProgram → List ℕ → ℕ → Outcome
+goes_for program input zero = Goes (state_at_start program)
+goes_for program input (suc n) = then_on (goes_for program input n) (step program input)
+
+-- Of the leak checks of the step from a state, none fails that the leak plan excuses.
+abbrev pub StepHolds : FlowProgram → Effects → List ℕ → State → List Frame → Type 0
+StepHolds program effects input state [] = Unit {0}
+StepHolds program effects input state (f ∷ outer) =
+    NoneFails (IsExcused (path_points program effects (sub_of program f.sub)) f.next)
+    (get_or (sub_of program f.sub).points f.next no_point).leaks (checks_of (step program input state))
+
+-- So it is at each step of the run.
+abbrev pub RunHolds : FlowProgram → Effects → List ℕ → Type 0
+RunHolds program effects input =
+    (n : ℕ) (state : State) → goes_for program input n ≡ Goes state → StepHolds program effects input state state.frames

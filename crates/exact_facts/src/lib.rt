@@ -3,6 +3,8 @@
 //! `specs/Exact.antt` says it of a memory, and when no leak check of a step fails that is excused.
 //! Each of the four steps of `owned_ways` keeps facts exact, under the act that it goes with
 //! (`proofs/Steps.antt`), and so do the functions of the machine's memory (`Memories`), expressions
-//! without calls (`Evaluated`) and instructions (`Stored`, `Instructions`, `Releases`, `Loops`). A
-//! leak check doesn't fail at a part that is called moved so (`Checks`). Nothing here runs.
+//! without calls (`Evaluated`), instructions (`Stored`, `Instructions`, `Releases`, `Loops`) and
+//! steps (`Stepping`, `Going`). A leak check doesn't fail at a part that is called moved so
+//! (`Checks`); so at no step of the run of a program that is ready, as soundness has it, one fails
+//! that the leak plan excuses (`Main`, `Runs`). Nothing here runs.
 #![tactic(auto)]
