@@ -1,0 +1,55 @@
+//! The line of a self test.
+ghost use Rattle.std.specs.Prelude.{◌≡◌, ◌≢◌, [], Err, IfOk, IsSome};
+ghost use Rattle.spark_base.specs.MemSinks.{plain_bytes};
+ghost use Rattle.laid_program.specs.Programs.{program_of};
+ghost use Rattle.self_test.specs.Runs.{HasCounts, run_of};
+ghost use Rattle.self_test.specs.Summaries.{test_line};
+
+use executor::execute;
+use path_check::AcceptedProgram;
+use reuse_heap::TrapStore;
+use rule_reports::{Summary, summary_line};
+use run_results::{ExecFault, Ran};
+use spark_base::{PlainSink, STEPS};
+use std::alloc::Global;
+
+/// A run without input, and its output.
+fn run_in_memory(
+    alloc: Global,
+    program: &AcceptedProgram,
+    out: &mut PlainSink,
+) -> Result<Ran, ExecFault>
+    requires main { IsSome program.now.laid.main }
+    requires empty { plain_bytes out.old ≡ [] }
+    ensures run { IfOk result (HasCounts (run_of program.now.laid)) }
+    ensures output { IfOk result (λ _. plain_bytes out.new ≡ (run_of program.now.laid).output) }
+    ensures memory { result ≢ Err ExecFault.WriteFault }
+{
+    let mut store = TrapStore::new(alloc);
+    let mut lines = PlainSink::new(alloc);
+    execute(alloc, program, &mut store, &[], STEPS, out, &mut lines)
+}
+
+/// Runs an accepted program with a main procedure, made for a number, and gives the line of the
+/// run (`docs/TOOL.md`, "Lines").
+pub fn self_test(
+    alloc: Global,
+    program: &AcceptedProgram,
+    number: u32,
+) -> Result<Vec<u8>, ExecFault>
+    requires main { IsSome program.now.laid.main }
+    ensures line { IfOk result (λ line. line.items ≡ test_line number (program_of program.now.laid)) }
+    ensures memory { result ≢ Err ExecFault.WriteFault }
+{
+    let mut out = PlainSink::new(alloc);
+    let ran = run_in_memory(alloc, program, &mut out)?;
+    let summary = Summary {
+        number,
+        bytes: out.bytes().len() as u64,
+        steps: ran.steps,
+        made: ran.made,
+        freed: ran.freed,
+        leaked: ran.leaked,
+    };
+    Ok(summary_line(alloc, summary)?)
+}
