@@ -89,6 +89,19 @@ fn plan_lines(
     Ok(leak_plan_lines(alloc, names, table, objects, &plan)?)
 }
 
+/// The same lines. The program is leaked.
+fn leaked_plan_lines(
+    alloc: Global,
+    names: &[String],
+    program: AcceptedProgram,
+) -> Result<Vec<u8>, AllocError>
+    ensures { IfOk result (λ lines. (plan : List LeakLine) × ((effects : Effects) → LeakPlan (program_of program.laid) effects plan)
+        × (lines.items ≡ leak_plan_lines (map string_bytes names.now) (printed_in (program_of program.laid)) plan)) }
+{
+    let program = ManuallyDrop::new(program);
+    plan_lines(alloc, names, &program)
+}
+
 /// What `leaks` does. A program is leaked, as by `check`.
 fn list_outcome(alloc: Global, names: &[String], finding: Finding) -> Result<Outcome, AllocError>
     requires { IsChecked (finding_of finding) }
@@ -101,8 +114,7 @@ fn list_outcome(alloc: Global, names: &[String], finding: Finding) -> Result<Out
         Finding::Ends(answer) => Ok(Outcome::Answers(answer)),
         Finding::Rejects(_, lines) => Ok(Outcome::Answers(rejected_answer(lines))),
         Finding::Passes(program) => {
-            let program = ManuallyDrop::new(program);
-            let lines = plan_lines(alloc, names, &program)?;
+            let lines = leaked_plan_lines(alloc, names, program)?;
             Ok(Outcome::Answers(listed_answer(lines)))
         }
     }
