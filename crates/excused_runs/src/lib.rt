@@ -1,4 +1,5 @@
 //! At no step of the run of an accepted program of the first class a leak check fails that the leak
-//! plan excuses, if its resolved code is orderly: a law, for readers. It stands beside
-//! `accepted_sound` of `order_laws`, under the same premises. Nothing here runs.
+//! plan excuses: laws, for readers. `Main` has it of resolved code that is orderly, beside
+//! `accepted_sound` of `order_laws`; `Files` of parsed files, beside `files_sound` of `sound_files`,
+//! under the same premises. Nothing here runs.
 #![tactic(auto)]
