@@ -4,7 +4,7 @@ use ada_parser::parse;
 use executor::execute;
 use name_resolve::resolve;
 use path_check::{AcceptedProgram, Verdict};
-use program_check::check_files;
+use program_check::{Checked, check_files};
 use reuse_heap::TrapStore;
 use run_results::{ExecFault, Ran};
 use spark_base::{MemSink, SOURCE_BYTES, TOKENS};
@@ -57,9 +57,13 @@ fn accepted(alloc: Global, text: &str) -> Result<Option<AcceptedProgram>, AllocE
     let Ok(resolved) = resolve(alloc, names, files) else {
         return Ok(None);
     };
-    match check_files(alloc, resolved) {
-        Ok(Verdict::Accepted(program)) => Ok(Some(program)),
-        _ => Ok(None),
+    let Ok(checked) = check_files(alloc, resolved) else {
+        return Ok(None);
+    };
+    let Checked { verdict, .. } = checked;
+    match verdict {
+        Verdict::Accepted(program) => Ok(Some(program)),
+        Verdict::Rejected { .. } => Ok(None),
     }
 }
 
