@@ -1,6 +1,6 @@
 -- What is known of declarations at a place of the text: each that stands before has its kind, and those of objects
 -- stay as they are.
-use Rattle.std.proofs.Common.{◌≡◌, ◌⊎◌, inl, inr, ℕ, zero, suc, ◌+◌, ◌<◌, ◌≤◌, Bool, true, false, List, [], ◌∷◌, ◌++◌, length, set, get_or, refl, sym, ap, ◌∙◌, arith, subst, true≢false, if◌then◌else◌}
+use Rattle.std.proofs.Common.{◌≡◌, ◌⊎◌, inl, inr, ℕ, suc, ◌+◌, ◌<◌, ◌≤◌, Bool, true, false, List, [], ◌∷◌, ◌++◌, length, set, get_or, refl, sym, ap, ◌∙◌, arith, subst, true≢false, if◌then◌else◌}
 use Rattle.spark_base.specs.Lists.{Has}
 use Rattle.spark_base.proofs.Lists.{Has-append_left, Has-append_right}
 use Rattle.resolved_tree.specs.Trees.{NoMore, More, Code, Anonymous, Enumeration, Incomplete, Private, TypeDecl, Subtype, ConstrainedSubtype, Objects, Numbers, Instance, Front, SubDecl, SubBody, Package, PackageBody, If, Branch, Case, When, Loop, While, For, Block}
@@ -17,35 +17,10 @@ use Rattle.type_definitions.specs.Entries.{entry_of, is_type}
 use Rattle.type_definitions.specs.Names.{Context}
 use Rattle.type_definitions.specs.Gathered.{gather, each, with_entry, with_type, with_indication, full_info, with_literals, with_definition, with_object, object_info, constant_value, indicated, with_number, number_info, initial_value, with_formal_group, with_formals, with_result, with_front, with_body_front, profile, is_subprogram, front_number, plain_object, parameter_type, in_subprogram, in_visible, in_hidden, instance_type, declared_number}
 use Rattle.type_definitions.specs.Whole.{predefined_entries}
+use Rattle.meant_files.proofs.Lists.{entry_put, entry_there, entry_other, set_long, append_nothing, at_most}
 use Rattle.meant_files.specs.Formless.{IsFormlessFront, IsFormless}
 use Rattle.meant_files.specs.Declarations.{Declarations, each_as, literals_of, formal_declarations, front_declarations, body_form, form_of_result, declarations}
 use Rattle.meant_files.specs.Counted.{is_completing, Counts}
-
--- ---- lists of entries
-
-entry_put : {A : Type 0} (Q : ℕ → A → Type 0) (xs : List A) (d t : ℕ) (x fallback : A) → Q d x → Q t (get_or xs t fallback) → Q t (get_or (set xs d x) t fallback)
-entry_put Q [] d t x fallback new old = old
-entry_put Q (y ∷ xs) zero zero x fallback new old = new
-entry_put Q (y ∷ xs) zero (suc t) x fallback new old = old
-entry_put Q (y ∷ xs) (suc d) zero x fallback new old = old
-entry_put Q (y ∷ xs) (suc d) (suc t) x fallback new old = entry_put (λ n. Q (suc n)) xs d t x fallback new old
-
-pub entry_there : {A : Type 0} (xs : List A) (d : ℕ) (x fallback : A) → d < length xs → get_or (set xs d x) d fallback ≡ x
-entry_there [] d x fallback less = absurd (omega (arith, less))
-entry_there (y ∷ xs) zero x fallback less = refl
-entry_there (y ∷ xs) (suc d) x fallback less = entry_there xs d x fallback (omega (arith, less))
-
-pub entry_other : {A : Type 0} (xs : List A) (d t : ℕ) (x fallback : A) → (t ≡ d → ⊥) → get_or (set xs d x) t fallback ≡ get_or xs t fallback
-entry_other [] d t x fallback other = refl
-entry_other (y ∷ xs) zero zero x fallback other = absurd (other refl)
-entry_other (y ∷ xs) zero (suc t) x fallback other = refl
-entry_other (y ∷ xs) (suc d) zero x fallback other = refl
-entry_other (y ∷ xs) (suc d) (suc t) x fallback other = entry_other xs d t x fallback (λ same. other (ap suc same))
-
-set_long : {A : Type 0} (xs : List A) (d : ℕ) (x : A) → length (set xs d x) ≡ length xs
-set_long [] d x = refl
-set_long (y ∷ xs) zero x = refl
-set_long (y ∷ xs) (suc d) x = ap suc (set_long xs d x)
 
 -- ---- numbers that are counted
 
@@ -111,7 +86,7 @@ module _ (kind_at : ℕ → DeclKind) where
         low = λ n less. entry_other xs d n x entry.Nothing (λ same. omega (arith, same, less, late)) ∙ given.low n less;
         right = λ n more. entry_put IsRight xs d n x entry.Nothing right (given.right n more);
         covered = λ n more less. by n more less (elim at [
-          | inl next ↦ (let a = next.0 in let b = next.1 in elim (split n d (omega (arith, a, b, less))) [
+          | inl next ↦ (let a = next.0 in let b = next.1 in elim (at_most n d (omega (arith, a, b, less))) [
             | inl same ↦ inl same
             | inr under ↦ inr (omega (arith, under, a))
           ])
@@ -120,12 +95,6 @@ module _ (kind_at : ℕ → DeclKind) where
         long = let a = set_long xs d x in let b = given.long in omega (arith, a, b);
       }
     where
-      split : (n d : ℕ) → n ≤ d → (n ≡ d) ⊎ (n < d)
-      split zero zero le = inl refl
-      split zero (suc d) le = inr (omega arith)
-      split (suc n) zero le = absurd (omega (arith, le))
-      split (suc n) (suc d) le = elim (split n d (omega (arith, le))) [ inl same ↦ inl (ap suc same) | inr less ↦ inr (omega (arith, less)) ]
-
       by : (n : ℕ) → 15 ≤ n → n < j → (n ≡ d) ⊎ (n < k) → is_put (get_or (set xs d x) n entry.Nothing) ≡ true
       by n more less (inl same) =
           ap is_put (ap (λ m. get_or (set xs d x) m entry.Nothing) same ∙ entry_there xs d x entry.Nothing (let a = given.long in omega (arith, a, within, same, less))) ∙ is
@@ -260,16 +229,10 @@ module _ (kind_at : ℕ → DeclKind) where
     already xs k d m (inl next) is given = record {
       low = given.low;
       right = given.right;
-      covered = λ n more less. by n more (split n k (let a = next.1 in omega (arith, a, less)));
+      covered = λ n more less. by n more (at_most n k (let a = next.1 in omega (arith, a, less)));
       long = given.long;
     }
       where
-        split : (n d : ℕ) → n ≤ d → (n ≡ d) ⊎ (n < d)
-        split zero zero le = inl refl
-        split zero (suc d) le = inr (omega arith)
-        split (suc n) zero le = absurd (omega (arith, le))
-        split (suc n) (suc d) le = elim (split n d (omega (arith, le))) [ inl same ↦ inl (ap suc same) | inr less ↦ inr (omega (arith, less)) ]
-
         by : (n : ℕ) → 15 ≤ n → (n ≡ k) ⊎ (n < k) → is_put (get_or xs n entry.Nothing) ≡ true
         by n more (inl same) = ap (λ m. is_put (get_or xs m entry.Nothing)) (same ∙ sym next.0) ∙ is
         by n more (inr less) = given.covered n more less
@@ -308,10 +271,6 @@ module _ (kind_at : ℕ → DeclKind) where
         → ((m : ℕ) → Goes limit k (declarations x) m → At (gather x c) m) → ((m : ℕ) → Goes limit m (declarations y) j → At (gather x c) m → At (gather y (gather x c)) j)
         → At (gather y (gather x c)) j
     two_given x y c k j goes first second = let s = goes_both limit k (declarations x) (declarations y) j goes in second s.0 s.2 (first s.0 s.1)
-
-    append_nothing : {A : Type 0} (xs : List A) → xs ++ [] ≡ xs
-    append_nothing [] = refl
-    append_nothing (x ∷ xs) = ap (λ ys. x ∷ ys) (append_nothing xs)
 
     pub all_given : (code : Code) (c : Context) (k j : ℕ) → IsFormless code → Goes limit k (declarations code) j → At c k → At (gather code c) j
     unfolding gather IsFormless

@@ -1,3 +1,4 @@
+pub mod Lists
 pub mod Objects
 pub mod Puts
 pub mod Trees

@@ -1,5 +1,5 @@
 -- Objects of a text without formals and anonymous types have the types that are indicated for them.
-use Rattle.std.proofs.Common.{◌≡◌, ◌⊎◌, inl, inr, ℕ, zero, suc, ◌<◌, ◌≤◌, Bool, true, false, List, [], ◌∷◌, ◌++◌, flat_map, set, get_or, refl, sym, ap, ◌∙◌, arith, subst, Option, Some, None, true≢false, if◌then◌else◌}
+use Rattle.std.proofs.Common.{◌≡◌, ◌⊎◌, inl, inr, ℕ, suc, ◌<◌, ◌≤◌, Bool, true, false, List, [], ◌∷◌, ◌++◌, flat_map, set, get_or, refl, sym, ap, ◌∙◌, arith, subst, Option, Some, None, true≢false, if◌then◌else◌}
 use Rattle.std.specs.Prelude.{slice_get}
 use Rattle.spark_base.specs.Lists.{Has}
 use Rattle.resolved_tree.specs.declared.node.Mark.{Mark}
@@ -30,7 +30,8 @@ use Rattle.meant_files.specs.Declarations.{Declarations, each_as, declarations, 
 use Rattle.meant_files.specs.Counted.{is_completing, Counts}
 use Rattle.meant_files.specs.Typed.{IsParameterOf, AreIndicated, AreIntegers, AreTyped}
 use Rattle.meant_files.specs.Bounded.{is_named, IsBounded, AreBounded}
-use Rattle.meant_files.proofs.Given.{entry_there, counts_has, counts_grow, is_type_kind, is_object_kind, is_put, IsRight, Given, Goes, goes_both, put, all_given, other_right, indication_given, body_given}
+use Rattle.meant_files.proofs.Lists.{entry_there, at_most, below_or}
+use Rattle.meant_files.proofs.Given.{counts_has, counts_grow, is_type_kind, is_object_kind, is_put, IsRight, Given, Goes, goes_both, put, all_given, other_right, indication_given, body_given}
 use Rattle.meant_files.proofs.Rows.{row_stays, body_stays}
 use Rattle.meant_files.proofs.Stays.{Without, stays, objects_stay, numbers_stay}
 
@@ -65,20 +66,12 @@ module _ (kind_at : ℕ → DeclKind) (limit : ℕ) where
       → is_type (get_or xs n entry.Nothing) ≡ is_type (get_or ys n entry.Nothing)
   same_type xs ys k n within here there (inr never) =
       is_none n (get_or xs n entry.Nothing) (here.right n never.0) never.1 ∙ sym (is_none n (get_or ys n entry.Nothing) (there.right n never.0) never.1)
-  same_type xs ys k n within here there (inl less) = elim (split n) [
+  same_type xs ys k n within here there (inl less) = elim (below_or 15 n) [
     | inl low ↦ ap is_type (here.low n low ∙ sym (there.low n low))
     | inr high ↦
         is_as n (get_or xs n entry.Nothing) (here.right n high) (here.covered n high less)
         ∙ sym (is_as n (get_or ys n entry.Nothing) (there.right n high) (there.covered n high (omega (arith, less, within))))
   ]
-    where
-      split : (n : ℕ) → (n < 15) ⊎ (15 ≤ n)
-      split n = by 15 n
-        where
-          by : (m n : ℕ) → (n < m) ⊎ (m ≤ n)
-          by zero n = inr (omega arith)
-          by (suc m) zero = inl (omega arith)
-          by (suc m) (suc n) = elim (by m n) [ inl less ↦ inl (omega (arith, less)) | inr more ↦ inr (omega (arith, more)) ]
 
   type_or : (d : ℕ) (e : Entry) → type_of_entry d e ≡ (if is_type e then d else untyped)
   type_or d entry.Type = refl
@@ -130,16 +123,10 @@ module _ (kind_at : ℕ → DeclKind) (limit : ℕ) where
   objects_kinds : (ids : Code) (k j : ℕ) → Goes kind_at limit k (each_as form.Object ids) j → (n : ℕ) → k ≤ n → n < j → is_type_kind (kind_at n) ≡ false
   objects_kinds (More d rest) k j goes n more less =
       let f = object_form k (declared_number d) (each_as form.Object rest) j form.Object refl goes in
-      elim (split k n more) [
+      elim (at_most k n more) [
         | inl same ↦ ap (λ m. is_type_kind (kind_at m)) (sym same ∙ sym f.0) ∙ ap is_type_kind (sym f.2)
         | inr over ↦ objects_kinds rest (suc k) j f.1 n over less
       ]
-    where
-      split : (n d : ℕ) → n ≤ d → (n ≡ d) ⊎ (n < d)
-      split zero zero le = inl refl
-      split zero (suc d) le = inr (omega arith)
-      split (suc n) zero le = absurd (omega (arith, le))
-      split (suc n) (suc d) le = elim (split n d (omega (arith, le))) [ inl same ↦ inl (ap suc same) | inr less ↦ inr (omega (arith, less)) ]
   objects_kinds ids k j goes n more less = let a = goes.0 in absurd (omega (arith, a, more, less))
 
   last_low : (n : ℕ) (ids : Code) (k j : ℕ) → n < k → Goes kind_at limit k (each_as form.Object ids) j → last_from n ids < j
@@ -152,18 +139,13 @@ module _ (kind_at : ℕ → DeclKind) (limit : ℕ) where
   sure_later k m n more (inl less) = inl (omega (arith, more, less))
   sure_later k m n more (inr never) = inr never
 
-  over : (k n : ℕ) → (n < k) ⊎ (k ≤ n)
-  over zero n = inr (omega arith)
-  over (suc k) zero = inl (omega arith)
-  over (suc k) (suc n) = elim (over k n) [ inl less ↦ inl (omega (arith, less)) | inr more ↦ inr (omega (arith, more)) ]
-
   -- A mark that denotes nothing after the last of some objects.
   objects_sure : (ids : Code) (k j : ℕ) (m : Mark) → Goes kind_at limit k (each_as form.Object ids) j → IsLow (last_from 0 ids) m → (n : ℕ) → m.decl ≡ Some n → IsSure k n
   objects_sure ids k j m goes low n is =
       let high = goes.2 in
       let last = last_low 0 ids k j (omega (arith, high)) goes in
       let under = low n is in
-      elim (over k n) [
+      elim (below_or k n) [
         | inl less ↦ inl less
         | inr more ↦ inr (omega (arith, high, more), objects_kinds ids k j goes n more (omega (arith, under, last)))
       ]
@@ -294,7 +276,7 @@ module _ (kind_at : ℕ → DeclKind) (limit : ℕ) where
   parameter_same : (d : ℕ) (m : Mark) (k : ℕ) (c known : Known) → k ≤ limit → d ≡ k → 15 ≤ k → is_type_kind (kind_at d) ≡ false → IsLow d m
       → Given kind_at limit c.entries k → Given kind_at limit known.entries limit → marked c m ≡ marked known m
   parameter_same d m k c known within at high never low here there =
-      mark_same m k c known within here there (λ n is. let under = low n is in elim (over k n) [
+      mark_same m k c known within here there (λ n is. let under = low n is in elim (below_or k n) [
         | inl less ↦ inl less
         | inr more ↦ inr (omega (arith, high, more), subst (λ l. is_type_kind (kind_at l) ≡ false) (equal d n (omega (arith, at, more)) under) never)
       ])
