@@ -13,7 +13,7 @@ use Rattle.type_definitions.specs.declared.table.InitialValue.{InitialValue}
 use Rattle.type_definitions.specs.declared.table.Kind.TheVariants as kind
 use Rattle.type_definitions.specs.declared.table.Entry.{Entry}
 use Rattle.type_definitions.specs.declared.table.Entry.TheVariants as entry
-use Rattle.type_definitions.specs.Entries.{entry_of, is_type}
+use Rattle.type_definitions.specs.Entries.{entry_of}
 use Rattle.type_definitions.specs.Names.{Context}
 use Rattle.type_definitions.specs.Gathered.{gather, each, with_entry, with_type, with_indication, full_info, with_literals, with_definition, with_object, object_info, constant_value, indicated, with_number, number_info, initial_value, with_formal_group, with_formals, with_result, with_front, with_body_front, profile, is_subprogram, front_number, plain_object, parameter_type, in_subprogram, in_visible, in_hidden, instance_type, declared_number}
 use Rattle.type_definitions.specs.Whole.{predefined_entries}
@@ -56,16 +56,27 @@ is_object_kind kinds.Object = true
 is_object_kind kinds.Parameter = true
 is_object_kind _ = false
 
+-- Types are 0, objects 1, others 2.
+abbrev pub kind_class : DeclKind → ℕ
+kind_class kinds.TypeName = 0
+kind_class kinds.Object = 1
+kind_class kinds.Parameter = 1
+kind_class _ = 2
+
+abbrev pub entry_class : Entry → ℕ
+entry_class entry.Type = 0
+entry_class (entry.Object o) = 1
+entry_class _ = 2
+
 abbrev pub is_put : Entry → Bool
 is_put entry.Nothing = false
 is_put _ = true
 
 module _ (kind_at : ℕ → DeclKind) where
-  -- An entry is one of a type where its number is that of a type.
+  -- An entry is one of a type where its number is that of a type, and so it is with objects.
   abbrev pub IsRight : ℕ → Entry → Type 0
   IsRight n entry.Nothing = Unit {0}
-  IsRight n entry.Type = is_type_kind (kind_at n) ≡ true
-  IsRight n x = is_type_kind (kind_at n) ≡ false
+  IsRight n x = kind_class (kind_at n) ≡ entry_class x
 
   abbrev pub AreKinds : Declarations → Type 0
   AreKinds all = (new : DeclarationForm) (n : ℕ) → Has all (new, n) → kind_of new ≡ kind_at n
@@ -146,23 +157,20 @@ module _ (kind_at : ℕ → DeclKind) where
     done : (k j : ℕ) (c : Context) → Goes limit k [] j → At c k → At c j
     done k j c goes given = subst (λ n. At c n) goes.0 given
 
-    type_right : (new : DeclarationForm) (d : ℕ) → is_type_kind (kind_of new) ≡ true → kind_of new ≡ kind_at d → IsRight d entry.Type
-    type_right new d is same = ap is_type_kind (sym same) ∙ is
-
-    pub other_right : (new : DeclarationForm) (d : ℕ) (x : Entry) → is_type_kind (kind_of new) ≡ false → is_type x ≡ false → kind_of new ≡ kind_at d → IsRight d x
-    other_right new d entry.Nothing never other same = tt
-    other_right new d entry.Type never other same = absurd (true≢false other)
-    other_right new d entry.Package never other same = ap is_type_kind (sym same) ∙ never
-    other_right new d (entry.Object o) never other same = ap is_type_kind (sym same) ∙ never
-    other_right new d (entry.Literal t n) never other same = ap is_type_kind (sym same) ∙ never
-    other_right new d (entry.Subprogram p) never other same = ap is_type_kind (sym same) ∙ never
-    other_right new d (entry.Instance t) never other same = ap is_type_kind (sym same) ∙ never
-    other_right new d (entry.Predefined p) never other same = ap is_type_kind (sym same) ∙ never
+    pub class_right : (new : DeclarationForm) (d : ℕ) (x : Entry) → kind_class (kind_of new) ≡ entry_class x → kind_of new ≡ kind_at d → IsRight d x
+    class_right new d entry.Nothing is same = tt
+    class_right new d entry.Type is same = ap kind_class (sym same) ∙ is
+    class_right new d entry.Package is same = ap kind_class (sym same) ∙ is
+    class_right new d (entry.Object o) is same = ap kind_class (sym same) ∙ is
+    class_right new d (entry.Literal t n) is same = ap kind_class (sym same) ∙ is
+    class_right new d (entry.Subprogram p) is same = ap kind_class (sym same) ∙ is
+    class_right new d (entry.Instance t) is same = ap kind_class (sym same) ∙ is
+    class_right new d (entry.Predefined p) is same = ap kind_class (sym same) ∙ is
 
     literals_given : (t n : ℕ) (ids : Code) (c : Context) (k j : ℕ) → Goes limit k (each_as form.Literal ids) j → At c k → At (with_literals t n ids c) j
     literals_given t n (More d rest) c k j goes given =
         one k form.Literal (declared_number d) (each_as form.Literal rest) j (entry.Literal t n) c (At (with_literals t n (More d rest) c) j) goes
-        (other_right form.Literal (declared_number d) (entry.Literal t n) refl refl) refl given
+        (class_right form.Literal (declared_number d) (entry.Literal t n) refl) refl given
         (λ m on now. literals_given t (n + 1) rest (with_entry (declared_number d) (entry.Literal t n) c) m j on now)
     literals_given t n ids c k j goes given = done k j c goes given
 
@@ -181,7 +189,7 @@ module _ (kind_at : ℕ → DeclKind) where
         let inner : Context = with_indication n i c in
         let x : Entry = entry.Object (object_info c constant (indicated c.known n i) v) in
         one k form.Object n (each_as form.Object rest) j x inner (At (each (with_object constant i v) (More d rest) c) j) goes
-        (other_right form.Object n x refl refl) refl (indication_given n i c k given)
+        (class_right form.Object n x refl) refl (indication_given n i c k given)
         (λ m on now. objects_given constant i v rest (with_object constant i v d c) m j on now)
     objects_given constant i v ids c k j goes given = done k j c goes given
 
@@ -190,7 +198,7 @@ module _ (kind_at : ℕ → DeclKind) where
         let n : ℕ = declared_number d in
         let x : Entry = entry.Object (number_info c v) in
         one k form.Object n (each_as form.Object rest) j x c (At (each (with_number v) (More d rest) c) j) goes
-        (other_right form.Object n x refl refl) refl given (λ m on now. numbers_given v rest (with_number v d c) m j on now)
+        (class_right form.Object n x refl) refl given (λ m on now. numbers_given v rest (with_number v d c) m j on now)
     numbers_given v ids c k j goes given = done k j c goes given
 
     result_given : (d : ℕ) (result : Code) (c : Context) (k : ℕ) → At c k → At (with_result d result c) k
@@ -208,7 +216,7 @@ module _ (kind_at : ℕ → DeclKind) where
           | inr late ↦ (let a = late.0 in absurd (omega (arith, a)))
         ]
 
-    front_given : (new : DeclarationForm) (front : Code) (c : Context) (k : ℕ) (L : Declarations) (j : ℕ) → IsFormlessFront front → is_type_kind (kind_of new) ≡ false
+    front_given : (new : DeclarationForm) (front : Code) (c : Context) (k : ℕ) (L : Declarations) (j : ℕ) → IsFormlessFront front → kind_class (kind_of new) ≡ 2
         → Goes limit k ((new, front_number front) ∷ (front_declarations front ++ L)) j → At c k
         → (m : ℕ) × Goes limit m L j × At (with_front front c) m
     front_given new (Front d formals result) c k L j none never goes given =
@@ -217,7 +225,7 @@ module _ (kind_at : ℕ → DeclKind) where
         let x : Entry = entry.Subprogram (profile inner.known (Front d formals result)) in
         let bare = subst (λ list. Goes limit k ((new, n) ∷ (formal_declarations list ++ L)) j) none goes in
         one k new n L j x inner ((m : ℕ) × Goes limit m L j × At (with_front (Front d formals result) c) m) bare
-        (other_right new n x never refl) refl (groups_given formals (with_result n result c) k none (result_given n result c k given))
+        (class_right new n x never) refl (groups_given formals (with_result n result c) k none (result_given n result c k given))
         (λ m on now. (m, on, now))
     front_given new front c k L j none never goes given = absurd (no_front k new (front_declarations front ++ L) j goes)
 
@@ -247,13 +255,13 @@ module _ (kind_at : ℕ → DeclKind) where
     sub_put (entry.Subprogram p) is = refl
     sub_put _ is = absurd (true≢false (sym is))
 
-    not_type_body : (front : Code) → is_type_kind (kind_of (body_form front)) ≡ false
-    not_type_body (Front d formals result) = by result
+    body_class : (front : Code) → kind_class (kind_of (body_form front)) ≡ 2
+    body_class (Front d formals result) = by result
       where
-        by : (result : Code) → is_type_kind (kind_of (form_of_result result)) ≡ false
+        by : (result : Code) → kind_class (kind_of (form_of_result result)) ≡ 2
         by (More i rest) = refl
         by _ = refl
-    not_type_body _ = refl
+    body_class _ = refl
 
     pub body_given : (front : Code) (c : Context) (k : ℕ) (L : Declarations) (j : ℕ) → IsFormlessFront front
         → Goes limit k ((body_form front, front_number front) ∷ (front_declarations front ++ L)) j → At c k
@@ -265,7 +273,7 @@ module _ (kind_at : ℕ → DeclKind) where
         by true is =
             let f = first_placed limit k (body_form front) (front_number front) L j (front_bare front L none k j (front_number front) (body_form front) goes) in
             (f.0, f.2, formals_given front c f.0 none (already c.known.entries k (front_number front) f.0 f.1 (sub_put (entry_of c.known (front_number front)) is) given))
-        by false is = front_given (body_form front) front c k L j none (not_type_body front) goes given
+        by false is = front_given (body_form front) front c k L j none (body_class front) goes given
 
     two_given : (x y : Code) (c : Context) (k j : ℕ) → Goes limit k (declarations x ++ declarations y) j
         → ((m : ℕ) → Goes limit k (declarations x) m → At (gather x c) m) → ((m : ℕ) → Goes limit m (declarations y) j → At (gather x c) m → At (gather y (gather x c)) j)
@@ -275,26 +283,26 @@ module _ (kind_at : ℕ → DeclKind) where
     pub all_given : (code : Code) (c : Context) (k j : ℕ) → IsFormless code → Goes limit k (declarations code) j → At c k → At (gather code c) j
     unfolding gather IsFormless
     all_given (Incomplete d) c k j none goes given =
-        one k form.IncompleteType (declared_number d) [] j entry.Type c (At (gather (Incomplete d) c) j) goes (type_right form.IncompleteType (declared_number d) refl) refl given
+        one k form.IncompleteType (declared_number d) [] j entry.Type c (At (gather (Incomplete d) c) j) goes (class_right form.IncompleteType (declared_number d) entry.Type refl) refl given
         (λ m on now. done m j (with_entry (declared_number d) entry.Type c) on now)
     all_given (Private d) c k j none goes given =
-        one k form.PrivateType (declared_number d) [] j entry.Type c (At (gather (Private d) c) j) goes (type_right form.PrivateType (declared_number d) refl) refl given
+        one k form.PrivateType (declared_number d) [] j entry.Type c (At (gather (Private d) c) j) goes (class_right form.PrivateType (declared_number d) entry.Type refl) refl given
         (λ m on now. done m j (with_entry (declared_number d) entry.Type c) on now)
     all_given (TypeDecl d def end) c k j none goes given =
         let n : ℕ = declared_number d in
-        one k form.FullType n (literals_of def) j entry.Type c (At (gather (TypeDecl d def end) c) j) goes (type_right form.FullType n refl) refl given
+        one k form.FullType n (literals_of def) j entry.Type c (At (gather (TypeDecl d def end) c) j) goes (class_right form.FullType n entry.Type refl) refl given
         (λ m on now. definition_given n def (with_type n (full_info c n def end) c) m j on now)
     all_given (Subtype d m) c k j none goes given =
-        one k form.Subtype (declared_number d) [] j entry.Type c (At (gather (Subtype d m) c) j) goes (type_right form.Subtype (declared_number d) refl) refl given
+        one k form.Subtype (declared_number d) [] j entry.Type c (At (gather (Subtype d m) c) j) goes (class_right form.Subtype (declared_number d) entry.Type refl) refl given
         (λ m on now. done m j (with_entry (declared_number d) entry.Type c) on now)
     all_given (ConstrainedSubtype d m low high) c k j none goes given =
-        one k form.Subtype (declared_number d) [] j entry.Type c (At (gather (ConstrainedSubtype d m low high) c) j) goes (type_right form.Subtype (declared_number d) refl) refl given
+        one k form.Subtype (declared_number d) [] j entry.Type c (At (gather (ConstrainedSubtype d m low high) c) j) goes (class_right form.Subtype (declared_number d) entry.Type refl) refl given
         (λ m on now. done m j (with_entry (declared_number d) entry.Type c) on now)
     all_given (Objects ids constant i v) c k j none goes given = objects_given constant i (constant_value c constant v) ids c k j goes given
     all_given (Numbers ids e) c k j none goes given = numbers_given (initial_value c e) ids c k j goes given
     all_given (Instance d m args) c k j none goes given =
         let x : Entry = entry.Instance (instance_type args) in
-        one k form.Instance (declared_number d) [] j x c (At (gather (Instance d m args) c) j) goes (other_right form.Instance (declared_number d) x refl refl) refl given
+        one k form.Instance (declared_number d) [] j x c (At (gather (Instance d m args) c) j) goes (class_right form.Instance (declared_number d) x refl) refl given
         (λ m on now. done m j (with_entry (declared_number d) x c) on now)
     all_given (SubDecl front) c k j none goes given =
         let f = front_given form.SubprogramDeclaration front c k [] j none refl
@@ -308,7 +316,7 @@ module _ (kind_at : ℕ → DeclKind) where
         let n : ℕ = declared_number d in
         let start : Context = in_visible n (with_entry n entry.Package c) in
         one k form.Package n (declarations visible ++ declarations hidden) j entry.Package c (At (gather (Package d visible hidden) c) j) goes
-        (other_right form.Package n entry.Package refl refl) refl given
+        (class_right form.Package n entry.Package refl) refl given
         (λ m on now. let s = goes_both limit m (declarations visible) (declarations hidden) j on in
         all_given hidden (in_hidden n (gather visible start)) s.0 j none.1 s.2 (all_given visible start m s.0 none.0 s.1 now))
     all_given (PackageBody d parts) c k j none goes given = all_given parts (in_hidden (declared_number d) c) k j none goes given
@@ -322,7 +330,7 @@ module _ (kind_at : ℕ → DeclKind) where
     all_given (For at d reversed range x) c k j none goes given =
         let o : Entry = entry.Object (plain_object (parameter_type c range) kind.Parameter) in
         one k form.LoopParameter (declared_number d) (declarations x) j o c (At (gather (For at d reversed range x) c) j) goes
-        (other_right form.LoopParameter (declared_number d) o refl refl) refl given
+        (class_right form.LoopParameter (declared_number d) o refl) refl given
         (λ m on now. all_given x (with_entry (declared_number d) o c) m j none on now)
     all_given (Block at x y end) c k j none goes given =
         two_given x y c k j goes (λ m on. all_given x c k m none.0 on given) (λ m on now. all_given y (gather x c) m j none.1 on now)
