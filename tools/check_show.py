@@ -12,6 +12,7 @@ Without --program it runs the script `spark`. Status 1 where something is wrong;
 - At each refused source of the table the construct is named, and none is named at a plain mistake.
 - Each example and program is as its head says, those in `natural`, as they are written in SPARK, and in `reduced`,
   changed for `spark`, among them.
+- `--leaks` lets each leak check through, with the line of the source, a caret and what its word means.
 - `--left-out` finds each row of the table in its refused source, and the first refusal of each program in `natural`;
   it finds nothing in an accepted program or row.
 - `--order`, `--explain`, `--sarif` and a missing file do what is said of them.
@@ -215,6 +216,33 @@ def try_examples(program):
     for position in sorted(set(WHERE) - MET):
         fault("no report at " + position)
     return len(all_examples)
+
+
+def faults_of_leaks(path, status, out, made):
+    """What is wrong with what spark-show adds to the leak checks of an example."""
+    if made.returncode != status:
+        yield "another status"
+    lines = made.stdout.decode().splitlines()
+    told = [text for text in lines if SPARK_SHOW.leak(text, [path.name])]
+    if told != out:
+        yield "the lines of spark don't come through"
+    source = path.read_bytes().decode().split("\n")
+    for at, text in enumerate(lines):
+        it = SPARK_SHOW.leak(text, [path.name])
+        if it and lines[at + 1 : at + 3] != ["%5d | %s" % (it.line, source[it.line - 1]), "      | %s^" % (" " * (it.column - 1))]:
+            yield "another line of the source or another caret below " + text
+        if it and lines[at + 3 : at + 4] != ["      = " + SPARK_SHOW.LEAKS[it.word]]:
+            yield "the word isn't explained below " + text
+
+
+def try_leaks(program):
+    """Runs the examples of leak checks through spark-show."""
+    paths = sorted(DATA.glob("leaks/*.adb"))
+    for path in paths:
+        files, status, out, _ = head(path)
+        for text in faults_of_leaks(path, status, out, run(path.parent, SHOW, "--program", program, "--leaks", *files)):
+            fault("%s: %s" % (path.relative_to(DATA), text))
+    return len(paths)
 
 
 def guessed(program, folder, source):
@@ -501,7 +529,7 @@ def main():
     words = argparse.ArgumentParser()
     words.add_argument("--program", default=str(TOP / "spark"))
     program = executable(pathlib.Path(words.parse_args().program).resolve())
-    count = try_examples(program)
+    count = try_examples(program) + try_leaks(program)
     try_constructs(program)
     try_rows()
     try_left_out(program)

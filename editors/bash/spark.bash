@@ -3,8 +3,8 @@ _spark() {
     local word=${COMP_WORDS[COMP_CWORD]} found
     COMPREPLY=()
     if [ "$COMP_CWORD" -eq 1 ]; then
-        COMPREPLY=($(compgen -W 'check make' -- "$word"))
-    elif [ "${COMP_WORDS[1]}" = check ]; then
+        COMPREPLY=($(compgen -W 'check leaks make' -- "$word"))
+    elif [ "${COMP_WORDS[1]}" = check ] || [ "${COMP_WORDS[1]}" = leaks ]; then
         # (a line each, as names may have blanks)
         while IFS= read -r found; do
             COMPREPLY+=("$found")

@@ -4,5 +4,6 @@ function __spark_sources
 end
 complete -c spark -f
 complete -c spark -n __fish_use_subcommand -a check -d 'Check Ada sources as one program'
+complete -c spark -n __fish_use_subcommand -a leaks -d 'List places that may lose an object'
 complete -c spark -n __fish_use_subcommand -a make -d 'Write an Ada program of a size'
-complete -c spark -n '__fish_seen_subcommand_from check' -a '(__spark_sources)'
+complete -c spark -n '__fish_seen_subcommand_from check leaks' -a '(__spark_sources)'

@@ -9,7 +9,7 @@ use Rattle.program_check.specs.Sources.{flow_of, printed_in}
 use Rattle.command_words.specs.Words.{Command, Check, Run, Leaks, Make, Selftest}
 use Rattle.spark_tool.specs.Commands.{command_of}
 use Rattle.spark_tool.specs.Reading.{Sources, Texts, sources}
-use Rattle.spark_tool.specs.Product.{Answer, judged, Checks, missing, too_large, lexical, syntactic, unresolved, mistyped, beyond, checked, Answers, Product, usage, check, make}
+use Rattle.spark_tool.specs.Product.{Answer, judged, Checks, missing, too_large, lexical, syntactic, unresolved, mistyped, beyond, checked, Answers, Product, usage, check, leaks, make}
 use Rattle.accepted_runs.specs.Passed.{Passes}
 
 -- Such texts, with what their program is.
@@ -66,6 +66,7 @@ PassesIf stored None answer = Unit {0}
 answers_passed : (stored : List (List ℕ × List ℕ)) (command : Option Command) (answer : Answer) → Answers stored command answer → PassesIf stored command answer
 answers_passed stored _ _ usage = tt
 answers_passed stored _ _ (check names told checks) = λ is_zero. passed names (sources stored 0 SOURCE_BYTES names) told checks is_zero
+answers_passed stored _ _ (leaks names told lists) = tt
 answers_passed stored _ _ (make n) = tt
 
 -- A check that the tool answers with status 0 is one of files that pass.

@@ -9,3 +9,5 @@ pub mod Telling
 pub mod Ordered
 -- there is no other plan
 pub mod Unique
+-- its lines, one by one
+pub mod Each

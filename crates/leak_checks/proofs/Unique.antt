@@ -30,7 +30,7 @@ same_truth true b to from = sym (to refl)
 same_truth false true to from = from refl
 same_truth false false to from = refl
 
-tells_same : (program : FlowProgram) (effects : Effects) (check : Check) (a b : LeakLine) → Tells program effects check a → Tells program effects check b → a ≡ b
+pub tells_same : (program : FlowProgram) (effects : Effects) (check : Check) (a b : LeakLine) → Tells program effects check a → Tells program effects check b → a ≡ b
 tells_same program effects check a b s t =
     let pos = s.pos ∙ sym t.pos in
     let name = s.name ∙ sym t.name in

@@ -7,7 +7,8 @@
 //! `docs/LEAKS.md` says what to make of it.
 //! The only error is out of memory. The trees are those by which `path_check` finds reports, so
 //! `Steps` counts at most `E * (2 * F + 2)` states for each subprogram with E successors and F
-//! facts. For each check, the acts before it at its point are applied to a copy of the point's tree.
+//! facts; `leak_plan` counts on a ledger of its own. For each check, the acts before it at its point
+//! are applied to a copy of the point's tree.
 #![tactic(auto)]
 
 mod excuse;
@@ -15,4 +16,4 @@ mod lines;
 mod plan;
 mod printed_line;
 
-pub use plan::plan_leaks;
+pub use plan::{leak_plan, plan_leaks};

@@ -1,5 +1,5 @@
 //! The leak plan of a program.
-ghost use Rattle.std.specs.Prelude.{◌≡◌, ◌+◌, ◌≤◌, map, IfOk};
+ghost use Rattle.std.specs.Prelude.{◌≡◌, ◌+◌, ◌<◌, ◌≤◌, map, IfOk};
 ghost use Rattle.flow_paths.specs.declared.report.Effects.{Effects};
 ghost use Rattle.flow_paths.specs.Printing.{printed_name};
 ghost use Rattle.path_check.specs.Verdicts.{all_steps};
@@ -14,7 +14,8 @@ use laid_program::Laid;
 use path_check::AcceptedProgram;
 use point_states::Steps;
 use std::alloc::{AllocError, Global};
-use std::sync::ledger::Ledger;
+use std::marker::Brand;
+use std::sync::ledger::{Blank, Ledger};
 use type_definitions::Info;
 use typed_tree::{Object, print_name};
 
@@ -114,4 +115,30 @@ pub fn plan_leaks<L: Ledger>(
 {
     let laid = program.laid();
     Ok(plan_of(alloc, laid, steps)?)
+}
+
+/// The plan of a program, over a new ledger.
+fn plan_counted<L: Ledger>(
+    alloc: Global,
+    laid: &Laid,
+    blank: Blank,
+) -> Result<Vec<LeakLine>, AllocError>
+    requires name { blank.name ≡ L.name }
+    requires parts { blank.parts ≡ L.parts }
+    requires some { 0 < L.parts }
+    ensures { IfOk result
+        (λ plan. (effects : Effects) → LeakPlan (program_of laid.now) effects plan.items) }
+{
+    let mut steps: Steps<L> = Steps::new(blank);
+    Ok(plan_of(alloc, laid, &mut steps)?)
+}
+
+/// The same plan, counted on a ledger of its own. It is the plan whatever subprograms read and
+/// write.
+pub fn leak_plan(alloc: Global, program: &AcceptedProgram) -> Result<Vec<LeakLine>, AllocError>
+    ensures { IfOk result
+        (λ plan. (effects : Effects) → LeakPlan (program_of program.now.laid) effects plan.items) }
+{
+    let laid = program.laid();
+    Ok(plan_counted::<Brand>(alloc, laid, Blank::new(1))?)
 }

@@ -1,6 +1,6 @@
 -- The plan of a program that moves what it then overwrites.
 use Rattle.std.proofs.Common.{◌≡◌, refl, sym, ap, subst, inl, inr, ℕ, zero, suc, Bool, true, false, List, [], ◌∷◌, take, arith}
-use Rattle.std.specs.List.Sorted.{IsPermutation, IsSorted}
+use Rattle.std.specs.List.Sorted.{IsSorted}
 use Rattle.spark_base.specs.Lists.{Has}
 use Rattle.place_names.specs.declared.fact.Fact.TheVariants.{Moved}
 use Rattle.place_names.specs.Names.{object}
@@ -15,7 +15,7 @@ use Rattle.flow_tests.proofs.Sources.{excused}
 use Rattle.flow_tests.proofs.Flow.{flow, laying, spot}
 use Rattle.flow_tests.proofs.Reported.{no_effects}
 use Rattle.leak_checks.specs.Plan.{checks_of, TellAll, line_cmp, LeakPlan}
-use Rattle.leak_tests.proofs.Straight.{is_straight, down, straight}
+use Rattle.leak_tests.proofs.Straight.{down, straight}
 
 -- X is 1, Y is 2. Points 0 and 1 declare them, 2 is `Y := X;`, 3 is `X := null;`, and 4 and 5 end
 -- the scopes of Y and X.

@@ -1,11 +1,10 @@
 -- What excuses no leak check: a move on one of two branches, a check that no path reaches, and the
 -- move of some element.
-use Rattle.std.proofs.Common.{◌≡◌, refl, inl, inr, ℕ, zero, suc, ◌<◌, true, false, List, [], ◌∷◌, arith}
+use Rattle.std.proofs.Common.{◌≡◌, refl, inl, inr, ℕ, zero, suc, ◌<◌, List, [], ◌∷◌, arith}
 use Rattle.spark_base.specs.Lists.{Has}
 use Rattle.place_names.specs.declared.selector.Sel.TheVariants.{Elem}
 use Rattle.place_names.specs.Names.{object}
 use Rattle.resolved_tree.specs.Trees.{Program}
-use Rattle.flow_paths.specs.declared.point.LeakSpot.{LeakSpot}
 use Rattle.flow_paths.specs.Paths.{PathPoint, path_point, ControlPath, begins, goes_on}
 use Rattle.flow_paths.specs.Effects.{path_points, flow_sub_at}
 use Rattle.flow_paths.specs.LeakPlan.{IsExcused}

@@ -1,6 +1,6 @@
 -- The plan of a program that loses a cell: no check is excused.
-use Rattle.std.proofs.Common.{◌≡◌, refl, ap, inl, inr, zero, suc, true, false, List, [], ◌∷◌, length, arith}
-use Rattle.std.specs.List.Sorted.{IsPermutation, IsSorted}
+use Rattle.std.proofs.Common.{◌≡◌, refl, ap, inl, inr, zero, suc, false, List, [], ◌∷◌, length, arith}
+use Rattle.std.specs.List.Sorted.{IsSorted}
 use Rattle.place_names.specs.declared.selector.Sel.TheVariants.{Field, Deref}
 use Rattle.place_names.specs.declared.fact.Fact.TheVariants.{Moved}
 use Rattle.place_names.specs.Names.{object}

@@ -5,6 +5,7 @@ pub mod Parsed
 pub mod Read
 pub mod Resolved
 pub mod Judged
+pub mod Found
 pub mod CommandWords
 pub mod OneAnswer
 pub mod Complete

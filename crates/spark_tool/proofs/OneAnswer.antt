@@ -1,5 +1,5 @@
 -- One answer is defined for the words and the files.
-use Rattle.std.proofs.Common.{◌≡◌, ℕ, refl, sym, ap, ◌∙◌, subst, List, [], ◌∷◌, ◌++◌, All, Option, None, Some, Ok, Err}
+use Rattle.std.proofs.Common.{◌≡◌, ◌≢◌, ◌⊎◌, inl, inr, ℕ, refl, sym, ap, ◌∙◌, subst, List, [], ◌∷◌, ◌++◌, All, Option, None, Some, Ok, Err}
 use Rattle.spark_base.specs.declared.position.Pos.{Pos}
 use Rattle.spark_base.specs.declared.limits.TheConstants.{SOURCE_BYTES, TOKENS}
 use Rattle.ada_lexer.specs.Positions.{first_position}
@@ -17,12 +17,16 @@ use Rattle.place_names.specs.Reports.{Report}
 use Rattle.place_names.proofs.Reports.{report_list-unique}
 use Rattle.flow_paths.specs.declared.refusal.LayFault.{LayFault}
 use Rattle.flow_paths.specs.declared.report.Effects.{Effects}
+use Rattle.flow_paths.specs.declared.report.LeakLine.{LeakLine}
 use Rattle.flow_paths.specs.Effects.{AreEffects}
 use Rattle.flow_paths.specs.Laid.{FlowProgram}
 use Rattle.flow_paths.specs.Limits.{lay_fault}
 use Rattle.flow_paths.specs.Reports.{ProgramReport, AreReports}
+use Rattle.leak_checks.specs.Plan.{LeakPlan}
+use Rattle.leak_checks.proofs.Unique.{plan-unique}
 use Rattle.program_check.specs.Sources.{flow_of, printed_in}
 use Rattle.program_check.proofs.OneEffects.{one_effects}
+use Rattle.rule_reports.specs.Lines.{leak_plan_lines}
 use Rattle.rule_reports.specs.declared.code.Code.{Code}
 use Rattle.rule_reports.specs.declared.code.Code.TheVariants.{S1}
 use Rattle.command_words.specs.Words.{Command, Check, Run, Leaks, Make, Selftest}
@@ -30,7 +34,7 @@ use Rattle.spark_tool.specs.Commands.{command_of}
 use Rattle.spark_tool.specs.Reading.{Sources, Texts, TooLarge, Missing, sources}
 use Rattle.spark_tool.specs.Lexing.{AllTokens, all_tokens}
 use Rattle.spark_tool.specs.Parsing.{told_cut, IsParsed, AreTreesOf, IsRefusedAt, FirstRefused}
-use Rattle.spark_tool.specs.Product.{Answer, Answers, Product, usage, check, make, made, Checks, missing, too_large, lexical, syntactic, unresolved, mistyped, beyond, checked, refused, unread, misused, judged, lexical_code, syntactic_code, name_code, type_code, limit_code}
+use Rattle.spark_tool.specs.Product.{Answer, Answers, Product, usage, check, leaks, make, made, accepted, listed, Lists, unaccepted, planned, Checks, missing, too_large, lexical, syntactic, unresolved, mistyped, beyond, checked, refused, unread, misused, judged, lexical_code, syntactic_code, name_code, type_code, limit_code}
 use Rattle.spark_tool.proofs.Parsed.{at_middle, parsed_of}
 
 -- ---- pairs
@@ -230,26 +234,118 @@ says_once names Missing a b one two = one ∙ sym two
 says_once names (TooLarge file) a b one two = one ∙ sym two
 says_once names (Texts texts) a b one two = cut_once names (all_tokens 0 TOKENS texts) a b one two
 
+-- ---- the answer of the command for leak plans
+
+-- the leak plan of a program that is accepted
+record IsPlanned (names texts : List (List ℕ)) (answer : Answer) : Type 0 where
+  cuts : List (List Cut)
+  trees : List (List SourceUnit)
+  effects : Effects
+  lines : List LeakLine
+  cut : all_tokens 0 TOKENS texts ≡ Ok cuts
+  parsed : AreTreesOf cuts trees
+  named : name_fault trees ≡ None
+  typed : type_fault (program_of trees) ≡ None
+  within : lay_fault (flow_of trees) ≡ None
+  are : AreEffects (flow_of trees) effects
+  none : AreReports (flow_of trees) effects []
+  plan : LeakPlan (flow_of trees) effects lines
+  says : answer ≡ listed (leak_plan_lines names (printed_in (flow_of trees)) lines)
+
+abbrev IsListed : List (List ℕ) → Sources → Answer → Type 0
+IsListed names found answer =
+    (Checks names found answer × (answer.status ≢ 0)) ⊎ ((texts : List (List ℕ)) × (found ≡ Texts texts) × IsPlanned names texts answer)
+
+is_listed : (names : List (List ℕ)) (found : Sources) (answer : Answer) → Lists names found answer → IsListed names found answer
+is_listed names _ _ (unaccepted found answer checks some) = inl (checks, some)
+is_listed names _ _ (planned texts cuts trees effects lines cut parsed named typed within are none plan) =
+    inr (
+      texts,
+      refl,
+      record {
+        cuts = cuts;
+        trees = trees;
+        effects = effects;
+        lines = lines;
+        cut = cut;
+        parsed = parsed;
+        named = named;
+        typed = typed;
+        within = within;
+        are = are;
+        none = none;
+        plan = plan;
+        says = refl;
+      },
+    )
+
+-- a check accepts such a program
+plan_accepted : (names texts : List (List ℕ)) (answer : Answer) → IsPlanned names texts answer → Checks names (Texts texts) accepted
+plan_accepted names texts answer p = checked texts p.cuts p.trees p.effects [] p.cut p.parsed p.named p.typed p.within p.are p.none
+
+not_accepted : (names : List (List ℕ)) (found : Sources) (a b : Answer) → Checks names found a → a.status ≢ 0 → (texts : List (List ℕ)) → found ≡ Texts texts
+    → IsPlanned names texts b → ⊥
+not_accepted names found a b checks some texts is p =
+    some (ap (λ (x : Answer). x.status)
+    (says_once names (Texts texts) a accepted (says names (Texts texts) a (subst (λ (s : Sources). Checks names s a) is checks))
+    (says names (Texts texts) accepted (plan_accepted names texts b p))))
+
+abbrev cuts_in : AllTokens → List (List Cut)
+cuts_in (Ok cuts) = cuts
+cuts_in (Err fault) = []
+
+abbrev texts_in : Sources → List (List ℕ)
+texts_in (Texts texts) = texts
+texts_in (TooLarge file) = []
+texts_in Missing = []
+
+plans_once : (names texts : List (List ℕ)) (a b : Answer) → IsPlanned names texts a → IsPlanned names texts b → a ≡ b
+plans_once names texts a b p q =
+    let cuts : q.cuts ≡ p.cuts = ap cuts_in (sym q.cut ∙ p.cut) in
+    let trees : q.trees ≡ p.trees =
+    trees_once p.cuts q.trees p.trees (subst (λ (c : List (List Cut)). AreTreesOf c q.trees) cuts q.parsed) p.parsed in
+    let are = subst (λ (t : List (List SourceUnit)). AreEffects (flow_of t) q.effects) trees q.are in
+    let plan = subst (λ (t : List (List SourceUnit)). LeakPlan (flow_of t) q.effects q.lines) trees q.plan in
+    let effects : q.effects ≡ p.effects = one_effects (flow_of p.trees) q.effects p.effects are p.are in
+    let lines : p.lines ≡ q.lines =
+    plan-unique (flow_of p.trees) p.effects p.lines q.lines p.plan (subst (λ (e : Effects). LeakPlan (flow_of p.trees) e q.lines) effects plan) in
+    p.says
+    ∙ (λ i. listed (leak_plan_lines names (printed_in (flow_of (sym trees i))) (lines i)))
+    ∙ sym q.says
+
+listed_once : (names : List (List ℕ)) (found : Sources) (a b : Answer) → IsListed names found a → IsListed names found b → a ≡ b
+listed_once names found a b one two = elim one [
+  | inl x ↦ elim two [
+    | inl y ↦ says_once names found a b (says names found a x.0) (says names found b y.0)
+    | inr q ↦ absurd (not_accepted names found a b x.0 x.1 q.0 q.1 q.2)
+  ]
+  | inr p ↦ elim two [
+    | inl y ↦ absurd (not_accepted names found b a y.0 y.1 p.0 p.1 p.2)
+    | inr q ↦ plans_once names p.0 a b p.2 (subst (λ (t : List (List ℕ)). IsPlanned names t b) (ap texts_in (sym q.1 ∙ p.1)) q.2)
+  ]
+]
+
 -- ---- the answer to words
 
 abbrev Told : List (List ℕ × List ℕ) → Option Command → Answer → Type 0
 Told stored None answer = answer ≡ misused
 Told stored (Some (Check names)) answer = Says names (sources stored 0 SOURCE_BYTES names) answer
 Told stored (Some (Run names steps stats)) answer = ⊥
-Told stored (Some (Leaks names)) answer = ⊥
+Told stored (Some (Leaks names)) answer = IsListed names (sources stored 0 SOURCE_BYTES names) answer
 Told stored (Some (Make n)) answer = answer ≡ made n
 Told stored (Some (Selftest n)) answer = ⊥
 
 told : (stored : List (List ℕ × List ℕ)) (command : Option Command) (answer : Answer) → Answers stored command answer → Told stored command answer
 told stored _ _ usage = refl
 told stored _ _ (check names answer checks) = says names (sources stored 0 SOURCE_BYTES names) answer checks
+told stored _ _ (leaks names answer lists) = is_listed names (sources stored 0 SOURCE_BYTES names) answer lists
 told stored _ _ (make n) = refl
 
 told_once : (stored : List (List ℕ × List ℕ)) (command : Option Command) (a b : Answer) → Told stored command a → Told stored command b → a ≡ b
 told_once stored None a b one two = one ∙ sym two
 told_once stored (Some (Check names)) a b one two = says_once names (sources stored 0 SOURCE_BYTES names) a b one two
 told_once stored (Some (Run names steps stats)) a b one two = absurd one
-told_once stored (Some (Leaks names)) a b one two = absurd one
+told_once stored (Some (Leaks names)) a b one two = listed_once names (sources stored 0 SOURCE_BYTES names) a b one two
 told_once stored (Some (Make n)) a b one two = one ∙ sym two
 told_once stored (Some (Selftest n)) a b one two = absurd one
 

@@ -7,7 +7,7 @@ use Rattle.command_words.specs.Words.{Command, Check, Run, Leaks, Make, Selftest
 abbrev pub there : Command → Option Command
 there (Check names) = Some (Check names)
 there (Run names steps stats) = None
-there (Leaks names) = None
+there (Leaks names) = Some (Leaks names)
 there (Make n) = Some (Make n)
 there (Selftest n) = None
 

@@ -1,5 +1,5 @@
 -- What a command writes and answers (docs/TOOL.md, "Order of work").
-use Rattle.std.specs.Prelude.{◌≡◌, ℕ, List, [], ◌∷◌, Option, None, Some, Ok, Err}
+use Rattle.std.specs.Prelude.{◌≡◌, ◌≢◌, ℕ, List, [], ◌∷◌, Option, None, Some, Ok, Err}
 use Rattle.spark_base.specs.declared.position.Pos.{Pos}
 use Rattle.spark_base.specs.declared.limits.TheConstants.{SOURCE_BYTES, TOKENS}
 use Rattle.ada_lexer.specs.declared.refusal.LexRefusal.{LexRefusal}
@@ -21,15 +21,17 @@ use Rattle.place_names.specs.Reports.{Report}
 use Rattle.flow_paths.specs.declared.refusal.LayFault.{LayFault}
 use Rattle.flow_paths.specs.declared.refusal.LayFault.TheVariants as limit
 use Rattle.flow_paths.specs.declared.report.Effects.{Effects}
+use Rattle.flow_paths.specs.declared.report.LeakLine.{LeakLine}
 use Rattle.flow_paths.specs.Effects.{AreEffects}
 use Rattle.flow_paths.specs.Limits.{lay_fault}
 use Rattle.flow_paths.specs.Reports.{AreReports}
+use Rattle.leak_checks.specs.Plan.{LeakPlan}
 use Rattle.program_check.specs.Sources.{flow_of, printed_in}
 use Rattle.rule_reports.specs.declared.code.Code.{Code}
 use Rattle.rule_reports.specs.declared.code.Code.TheVariants.{S1, L1, L2, L3, L4, L5, P1, P2, P3, N1, N2, N3, N4, N5, N6, Y1, Y2, Y3, K1, K2, K3, K4, K5, K6, K7, K8, M1, G1, G2}
-use Rattle.rule_reports.specs.Lines.{refusal_line, report_lines, accepted_line, usage_line}
+use Rattle.rule_reports.specs.Lines.{refusal_line, report_lines, leak_plan_lines, accepted_line, usage_line}
 use Rattle.prog_maker.specs.Texts.{program_text}
-use Rattle.command_words.specs.Words.{Command, Check, Make}
+use Rattle.command_words.specs.Words.{Command, Check, Leaks, Make}
 use Rattle.spark_tool.specs.Commands.{command_of}
 use Rattle.spark_tool.specs.Reading.{Sources, Texts, TooLarge, Missing, sources}
 use Rattle.spark_tool.specs.Lexing.{all_tokens}
@@ -56,6 +58,10 @@ accepted = record { out = accepted_line; err = []; status = 0 }
 -- The lines of reports.
 abbrev pub rejected : List ℕ → Answer
 rejected lines = record { out = []; err = lines; status = 1 }
+
+-- The lines of leak checks.
+abbrev pub listed : List ℕ → Answer
+listed lines = record { out = lines; err = []; status = 0 }
 
 -- A named file isn't there, and nothing is written.
 abbrev pub unread : Answer
@@ -146,6 +152,17 @@ pub data Checks (names : List (List ℕ)) : Sources → Answer → Type 0 where
       → lay_fault (flow_of trees) ≡ None → AreEffects (flow_of trees) effects → AreReports (flow_of trees) effects reports
       → Checks names (Texts texts) (judged names (printed_in (flow_of trees)) reports)
 
+-- What `leaks` answers on them.
+pub data Lists (names : List (List ℕ)) : Sources → Answer → Type 0 where
+  -- where `check` doesn't accept them, what `check` answers
+  unaccepted : (found : Sources) (answer : Answer) → Checks names found answer → answer.status ≢ 0 → Lists names found answer
+  -- the leak plan of a program that has no reports
+  planned : (texts : List (List ℕ)) (cuts : List (List Cut)) (trees : List (List SourceUnit)) (effects : Effects) (lines : List LeakLine)
+      → all_tokens 0 TOKENS texts ≡ Ok cuts → AreTreesOf cuts trees → name_fault trees ≡ None → type_fault (program_of trees) ≡ None
+      → lay_fault (flow_of trees) ≡ None → AreEffects (flow_of trees) effects → AreReports (flow_of trees) effects []
+      → LeakPlan (flow_of trees) effects lines
+      → Lists names (Texts texts) (listed (leak_plan_lines names (printed_in (flow_of trees)) lines))
+
 -- What the tool answers to a command, or to words that give none, over the files of a store.
 pub data Answers (stored : List (List ℕ × List ℕ)) : Option Command → Answer → Type 0 where
   -- the words give no command
@@ -153,6 +170,9 @@ pub data Answers (stored : List (List ℕ × List ℕ)) : Option Command → Ans
   -- check FILE..
   check : (names : List (List ℕ)) (answer : Answer) → Checks names (sources stored 0 SOURCE_BYTES names) answer
       → Answers stored (Some (Check names)) answer
+  -- leaks FILE..
+  leaks : (names : List (List ℕ)) (answer : Answer) → Lists names (sources stored 0 SOURCE_BYTES names) answer
+      → Answers stored (Some (Leaks names)) answer
   -- make N
   make : (n : ℕ) → Answers stored (Some (Make n)) (made n)
 

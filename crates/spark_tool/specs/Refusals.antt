@@ -5,28 +5,39 @@ use Rattle.spark_base.specs.declared.limits.TheConstants.{TOKENS}
 use Rattle.ada_lexer.specs.declared.refusal.LexRefusal.TheVariants as lexical
 use Rattle.ada_lexer.specs.Tokens.{Cut}
 use Rattle.ada_tree.specs.Refusals as grammar
+use Rattle.ada_tree.specs.declared.unit.SourceUnit.{SourceUnit}
 use Rattle.ada_parser.specs.declared.refusal.ParseRefusal.{ParseRefusal}
 use Rattle.ada_parser.specs.declared.refusal.ParseRefusal.TheVariants as parse
 use Rattle.name_events.specs.declared.declaration.NameRule.TheVariants as rule
+use Rattle.name_events.specs.Faults.{name_fault}
 use Rattle.name_resolve.specs.declared.refusal.NameRefusal.{NameRefusal}
 use Rattle.name_resolve.specs.declared.refusal.NameRefusal.TheVariants as unresolved
 use Rattle.flow_paths.specs.declared.refusal.LayFault.TheVariants as limit
+use Rattle.flow_paths.specs.declared.report.Effects.{Effects}
+use Rattle.flow_paths.specs.declared.report.LeakLine.{LeakLine}
 use Rattle.flow_paths.specs.Printing.{printed_name}
+use Rattle.laid_program.specs.Programs.{program_of}
 use Rattle.lay_out.specs.declared.refusal.LayRefusal.{LayRefusal}
 use Rattle.lay_out.specs.declared.refusal.LayRefusal.TheVariants as lay
 use Rattle.path_check.specs.Told.{reports_in}
 use Rattle.path_check.specs.declared.verdict.Verdict.{Verdict}
 use Rattle.path_check.specs.declared.verdict.Verdict.TheVariants as verdict
+use Rattle.leak_checks.specs.Plan.{LeakPlan}
+use Rattle.program_check.specs.Answers as judging
 use Rattle.program_check.specs.declared.refusal.ProgramRefusal.{ProgramRefusal}
 use Rattle.program_check.specs.declared.refusal.ProgramRefusal.TheVariants as unchecked
 use Rattle.rule_reports.specs.declared.code.Code.{Code}
-use Rattle.rule_reports.specs.Lines.{report_lines}
+use Rattle.rule_reports.specs.Lines.{report_lines, leak_plan_lines}
+use Rattle.spark_tool.specs.declared.check.Found.{Found}
+use Rattle.spark_tool.specs.declared.check.Found.TheVariants as found
 use Rattle.spark_tool.specs.declared.parsing.SourceRefusal.{SourceRefusal}
 use Rattle.spark_tool.specs.declared.parsing.SourceRefusal.TheVariants as source
 use Rattle.spark_tool.specs.Lexing.{all_tokens}
-use Rattle.spark_tool.specs.Parsing.{FirstRefused}
+use Rattle.spark_tool.specs.Answers.{answer_of}
+use Rattle.spark_tool.specs.Parsing.{AreRead, FirstRefused}
 use Rattle.spark_tool.specs.Product as product
-use Rattle.spark_tool.specs.Product.{Answer}
+use Rattle.spark_tool.specs.Product.{Answer, Checks}
+use Rattle.spark_tool.specs.Reading.{Sources, Texts}
 
 -- The refusal is that of the first of the files that isn't that of a source; out of memory has no
 -- cause in them.
@@ -90,3 +101,29 @@ Tells names (verdict.Rejected those reports) answer =
 -- Accepted; or rejected or refused, and then nothing goes to the first output.
 abbrev pub IsChecked : Answer → Type 0
 IsChecked answer = (answer.status ≡ 0) ⊎ ((answer.out ≡ []) × ((answer.status ≡ 1) ⊎ (answer.status ≡ 2)))
+
+-- The same of a program that is accepted by its leak plan.
+abbrev pub TellsPlan : List (List ℕ) → Verdict → Answer → Type 0
+TellsPlan names (verdict.Accepted program) answer =
+    (plan : List LeakLine) × ((effects : Effects) → LeakPlan (program_of program.laid) effects plan)
+    × (answer ≡ product.listed (leak_plan_lines names (printed_name program.laid.table program.laid.objects) plan))
+TellsPlan names (verdict.Rejected those reports) answer =
+    answer ≡ product.rejected (report_lines names (printed_name those.table those.objects) (reports_in reports))
+
+-- ---- what is found of sources
+
+-- A refusal: nothing goes to the first output.
+abbrev pub IsRefusal : Answer → Type 0
+IsRefusal answer = (answer.out ≡ []) × (answer.status ≡ 2)
+
+-- The verdict is that on the program of some texts.
+pub record IsJudged (texts : List (List ℕ)) (of : Verdict) : Type 0 where
+  pub trees : List (List SourceUnit)
+  pub read : AreRead texts trees
+  pub named : name_fault trees ≡ None
+  pub is : judging.Answers trees (Ok of)
+
+-- A check refuses the sources with this answer; or this is the verdict on their program.
+abbrev pub Finds : List (List ℕ) → Sources → Found → Type 0
+Finds names sources (found.Refused answer) = Checks names sources (answer_of answer) × IsRefusal (answer_of answer)
+Finds names sources (found.Judged of) = (texts : List (List ℕ)) × (sources ≡ Texts texts) × IsJudged texts of

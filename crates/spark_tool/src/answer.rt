@@ -105,3 +105,14 @@ pub(crate) fn rejected_answer(lines: Vec<u8>) -> Answer
         status: 1,
     }
 }
+
+/// The lines of leak checks.
+pub(crate) fn listed_answer(lines: Vec<u8>) -> Answer
+    ensures { answer_of result ≡ spec.listed lines.items }
+{
+    Answer {
+        stream: Stream::Out,
+        text: lines,
+        status: 0,
+    }
+}

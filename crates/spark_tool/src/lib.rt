@@ -1,5 +1,5 @@
 //! Runs a command: takes it from the words, reads its files, checks the sources, and writes the
-//! answer; or writes a program that is made.
+//! answer, which may be the leak plan of a program; or writes a program that is made.
 //!
 //! `run_tool` takes the words after the program's name, the outside (files, input, two outputs) and
 //! gives a status. What it writes and answers, `specs/Product.antt` defines; `docs/TOOL.md` says it

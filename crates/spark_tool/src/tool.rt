@@ -79,9 +79,9 @@ fn carry_out<F: FileStore, K: Sink>(
 }
 
 /// Runs the command that the words give (`docs/TOOL.md`). `check` reads the files that they name,
-/// checks the sources, and writes the reports, a refusal or that there is nothing to report; `make`
-/// writes a program. The words are those after the program's name. The answer is the status of the
-/// program.
+/// checks the sources, and writes the reports, a refusal or that there is nothing to report; `leaks`
+/// does the same, but writes the leak plan of a program without reports; `make` writes a program.
+/// The words are those after the program's name. The answer is the status of the program.
 ///
 /// Nothing of the input is read.
 pub fn run_tool<F: FileStore, S: Source, K: Sink>(

@@ -5,7 +5,7 @@ use std::test::Fail;
 const USAGE: &str =
     "usage: spark check FILE... | run [--steps=N] [--stats] FILE... | leaks FILE... | make N | selftest N\n";
 
-const LINES: [&str; 22] = [
+const LINES: [&str; 23] = [
     "",
     "check",
     "check ",
@@ -16,7 +16,8 @@ const LINES: [&str; 22] = [
     " f.adb",
     "run f.adb",
     "run --steps=1 f.adb",
-    "leaks f.adb",
+    "leaks",
+    "leaks f.adb -x",
     "selftest 3",
     "make",
     "make 0",

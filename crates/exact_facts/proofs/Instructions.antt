@@ -1,0 +1,248 @@
+-- Facts without an element stay exact in instructions, and excused leak checks don't fail:
+-- declarations, assignments, the ends of scopes, releases, and what changes nothing.
+use Rattle.std.proofs.Common.{◌≡◌, refl, sym, ap, ◌∙◌, subst, inl, inr, ℕ, Bool, true, false, not, List, [], ◌∷◌, ◌++◌, map, length, nat_lt, append-nil, Option, Some, None, if◌then◌else◌}
+use Rattle.spark_base.specs.Lists.{Has}
+use Rattle.spark_base.specs.declared.position.Pos.{Pos}
+use Rattle.place_names.specs.declared.act.Act.TheVariants as act
+use Rattle.place_names.specs.declared.fact.Fact.{Fact}
+use Rattle.place_names.specs.declared.fact.Fact.TheVariants.{Moved}
+use Rattle.place_names.specs.Names.{Name as PlaceName, object}
+use Rattle.place_names.specs.Facts.{effect}
+use Rattle.type_definitions.specs.declared.table.Shape.TheVariants as shape
+use Rattle.type_definitions.specs.Types.{shape_of, parts}
+use Rattle.typed_tree.specs.Trees.{TypedTree, TypedCode, Name, NoMore, More}
+use Rattle.flow_paths.specs.declared.point.LeakSpot.{LeakSpot}
+use Rattle.flow_paths.specs.Instructions.{Skip}
+use Rattle.flow_paths.specs.Objects.{Typing, object_at, is_observer}
+use Rattle.flow_paths.specs.Names.{has_call, name_of, whole, first}
+use Rattle.flow_paths.specs.Scopes.{taken}
+use Rattle.flow_paths.specs.Acts.{acts_in, stored_acts, declared_acts, assigned_to, source_acts, index_acts, observe, reborrow, spot, target_pos as acts_target_pos}
+use Rattle.flow_paths.specs.Names as names
+use Rattle.machine.specs.Words as machine
+use Rattle.machine.specs.Memory.{Memory, declared, undeclared, stored}
+use Rattle.machine.specs.Evaluate.{Here, Now, AsValue, Evaluated, Done, Raises, Traps, followed_by, evaluate, initial, checked, value, viewed, place_of, variable_place}
+use Rattle.machine.specs.Evaluate as run
+use Rattle.machine.specs.Calls.{checks_at}
+use Rattle.machine.specs.States.{Waiting, State, Outcome, Goes, Ends}
+use Rattle.machine.specs.Step.{Turn, typing, here, start, Stored, first_value, taken_by, declare, assign, end_scope, goes, leaking_goes, target_pos}
+use Rattle.machine.specs.Step as steps
+use Rattle.machine.specs.Owners.{is_in_formal, waiting_in}
+use Rattle.owned_ways.specs.Ways.{OfVariable, OfRoot, Way, Object, after, AllowsAll, name_of as way_name}
+use Rattle.owned_ways.proofs.Named.{longer}
+use Rattle.part_offsets.specs.Parts.{IsSettled}
+use Rattle.soundness.specs.Seen.{content, home}
+use Rattle.soundness.specs.Typed.{OwnsByShape}
+use Rattle.typed_laws.specs.Needed.{Stays, Leads, Source, FirstSource}
+use Rattle.soundness.proofs.Contents.{checks_made}
+use Rattle.soundness.proofs.Steps.{alike}
+use Rattle.soundness.proofs.Scalars.{acts}
+use Rattle.soundness.proofs.Stays.{Quiet, One, quiet}
+use Rattle.soundness.proofs.Numbers.{index_law}
+use Rattle.soundness.proofs.Lasting.{keeps}
+use Rattle.soundness.proofs.Waits.{or_both}
+use Rattle.soundness.proofs.Evaluated.{live_trunk}
+use Rattle.soundness.proofs.Instructions.{not_anonymous, not_borrower, not_observer, Holds, Given_here, start_is}
+use Rattle.exact_facts.specs.Exact.{IsExact, NoneFails, Knows}
+use Rattle.exact_facts.proofs.Memories.{declared_exact, ended_exact}
+use Rattle.exact_facts.proofs.Evaluated.{ExactTo, checked_exact, exact_after}
+use Rattle.exact_facts.proofs.Checks.{place_holds}
+use Rattle.exact_facts.proofs.Stored.{StoresExact, assigned_exact}
+
+-- no check fails where none is made
+pub none_made : (Excused : LeakSpot → Type 0) (spots : List LeakSpot) → NoneFails Excused spots []
+none_made Excused [] = tt
+none_made Excused (spot ∷ spots) = tt
+
+module _ (t : Turn) (settled : IsSettled (typing t).table) (own_law : OwnsByShape (typing t).table) (other : Way → Type 0)
+    (alone : (w : Way) → other w → ⊥) (no_formals : (x : ℕ) → is_in_formal (typing t) x ≡ false)
+    (all_named : (u d : ℕ) (c n : Bool) → shape_of (typing t).table u ≡ shape.Access d c n → n ≡ true)
+    (frames : t.state.frames ≡ t.frame ∷ t.outer) (Excused : LeakSpot → Type 0) where
+  abbrev s : Typing
+  s = typing t
+
+  abbrev depth : ℕ
+  depth = length t.outer
+
+  abbrev hands : List Waiting
+  hands = waiting_in t.state
+
+  abbrev HoldsHere : List Fact → State → Type 0
+  HoldsHere facts state = Holds t settled own_law other alone no_formals all_named frames facts state
+
+  -- Facts are exact where the step goes on, and of these leak checks none fails that is excused.
+  abbrev pub ExactOn : List Fact → List LeakSpot → Outcome → Type 0
+  ExactOn facts spots (Goes state) = IsExact s depth state.memory facts × NoneFails Excused spots state.checks
+  ExactOn facts spots (Ends e state) = NoneFails Excused spots state.checks
+
+  abbrev ExactIn : {A : Type 0} → List Fact → Evaluated A → Type 0
+  ExactIn facts x = ExactTo (here t) settled t.state.leaks [] other alone (keeps s settled own_law) no_formals index_law own_law all_named facts x
+
+  module _ (none : taken t.point.instr ≡ 0) where
+    abbrev now : Now
+    now = record { memory = t.state.memory; waits = [] }
+
+    started : start t ≡ record { memory = t.state.memory; waits = [] }
+    started = start_is t settled own_law other alone no_formals all_named frames none
+
+    -- ---- declarations
+
+    source_exact : (u : ℕ) (e : TypedTree) → Source s u e → has_call e ≡ false → (facts : List Fact)
+        → HoldsHere facts t.state → AllowsAll facts (acts (acts_in s e)) → IsExact s depth t.state.memory facts
+        → ExactIn (after (acts (acts_in s e)) facts) (taken_by t u e now)
+    source_exact u e (inl (view, is)) calls facts holds allowed exact = (let no : true ≡ false = sym view ∙ not_anonymous s all_named u in cc)
+    source_exact u e (inr gives) calls facts holds allowed exact =
+        subst (λ b. ExactIn (after (acts (acts_in s e)) facts) (if b then viewed (here t) e now else followed_by (value (here t) e now) (checked (here t) u)))
+        (sym (not_anonymous s all_named u))
+        (checked_exact (here t) settled t.state.leaks [] other alone (keeps s settled own_law) no_formals index_law own_law all_named u
+        (after (acts (acts_in s e)) facts) (evaluate (here t) AsValue e now)
+        (exact_after (here t) settled t.state.leaks [] other alone (keeps s settled own_law) no_formals index_law own_law all_named e u gives calls
+        t.state.memory hands facts (record { sound = holds.0; kept = holds.1 }) allowed exact))
+
+    first_exact : (u : ℕ) (v : TypedTree) → FirstSource s u v → has_call v ≡ false → (facts : List Fact) → HoldsHere facts t.state
+        → AllowsAll facts (acts (acts_in s v)) → IsExact s depth t.state.memory facts → ExactIn (after (acts (acts_in s v)) facts) (first_value t u v now)
+    unfolding acts_in has_call initial
+    first_exact u (More e rest) (last, gives) calls facts holds allowed exact =
+        let same : acts_in s e ++ acts_in s rest ≡ acts_in s e = ap (λ z. acts_in s e ++ acts_in s z) last ∙ append-nil (acts_in s e) in
+        subst (λ z. ExactIn (after (acts z) facts) (taken_by t u e now)) (sym same)
+        (source_exact u e gives (or_both (has_call e) (has_call rest) calls).0 facts holds (subst (λ z. AllowsAll facts (acts z)) same allowed) exact)
+    first_exact u NoMore gives calls facts holds allowed exact = exact
+    first_exact u v gives calls facts holds allowed exact = absurd gives
+
+    then_declared : (x : ℕ) (facts : List Fact) (y : Evaluated (List machine.Word))
+        → Given_here t settled own_law other alone no_formals all_named frames (object_at s x).of facts y
+        → ExactIn facts y → ((name : PlaceName) → Has facts (Moved name) → name.root ≡ x → ⊥)
+        → ExactOn facts [] (steps.evaluated t y (λ ws m. goes t (declared depth x ws m) 0))
+    then_declared x facts (Done ws n) (ready, long, same) exact no_fact = (
+      declared_exact s settled depth other n.memory (record { of = (object_at s x).of; words = ws }) hands t.state.leaks facts depth x t.point.pos
+          ready.sound ready.kept (no_formals x) long (alike s.table settled (object_at s x).of (object_at s x).of (inl refl))
+          (λ w definite u. no_fact (way_name w) definite.0.1 (longer (Object (OfVariable depth x)) w u).root) exact,
+      tt,
+    )
+    then_declared x facts (Raises e n) given exact no_fact = tt
+    then_declared x facts (Traps e n) never exact no_fact = tt
+
+    pub declare_exact : (x : ℕ) (v : TypedTree) → FirstSource s (object_at s x).of v → has_call v ≡ false
+        → (facts : List Fact) → HoldsHere facts t.state
+        → AllowsAll facts (acts (declared_acts s x v))
+        → ((name : PlaceName) → Has (after (acts (declared_acts s x v)) facts) (Moved name) → name.root ≡ x → ⊥)
+        → Given_here t settled own_law other alone no_formals all_named frames (object_at s x).of (after (acts (acts_in s v)) facts) (first_value t (object_at s x).of v now)
+        → IsExact s depth t.state.memory facts
+        → ExactOn (after (acts (declared_acts s x v)) facts) [] (declare t x v)
+    declare_exact x v gives calls facts holds allowed no_fact given exact =
+        let same : declared_acts s x v ≡ acts_in s v =
+        ap (λ b. if b then source_acts s (first v) (act.Borrow x) else
+        (if is_observer s x then source_acts s (first v) (observe s x) else acts_in s v)) (not_borrower s all_named x)
+        ∙ ap (λ b. if b then source_acts s (first v) (observe s x) else acts_in s v) (not_observer s all_named x) in
+        subst (λ z. ExactOn (after (acts z) facts) [] (declare t x v)) (sym same)
+        (subst (λ z. ExactOn (after (acts (acts_in s v)) facts) [] (steps.evaluated t (first_value t (object_at s x).of v z) (λ ws m. goes t (declared depth x ws m) 0))) (sym started)
+        (then_declared x (after (acts (acts_in s v)) facts) (first_value t (object_at s x).of v now) given
+        (first_exact (object_at s x).of v gives calls facts holds (subst (λ z. AllowsAll facts (acts z)) same allowed) exact)
+        (λ name has. no_fact name (subst (λ z. Has (after (acts z) facts) (Moved name)) (sym same) has))))
+
+    -- ---- assignments
+
+    assigned_acts : (p : Pos) (o : Option ℕ) (target e : TypedTree) → assigned_to s p o target e ≡ stored_acts s target e
+    assigned_acts p None target e = refl
+    assigned_acts p (Some x) target e =
+        ap (λ b. if b then index_acts s e ++ reborrow (acts_target_pos p (names.written target)) x (names.source e)
+        else (if is_observer s x then source_acts s e (observe s x) else stored_acts s target e)) (not_borrower s all_named x)
+        ∙ ap (λ b. if b then source_acts s e (observe s x) else stored_acts s target e) (not_observer s all_named x)
+
+    then_stored : (name : PlaceName) (u : ℕ) (before facts : List Fact) (pos pos' : Pos) (count : ℕ) → Knows Excused pos' name count before (parts s.table u)
+        → (y : Evaluated Stored)
+        → StoresExact (here t) settled t.state.leaks [] other alone (keeps s settled own_law) no_formals index_law own_law all_named Excused name u before facts y
+        → ExactOn facts (map (spot pos' name count) (parts s.table u))
+        (steps.evaluated t y (λ (st : Stored) m. leaking_goes (checks_at s pos m st.place) (goes t (stored s st.place st.words m) 0)))
+    then_stored name u before facts pos pos' count known (Done st n) given = (given.0, given.1 pos pos' count known)
+    then_stored name u before facts pos pos' count known (Raises e n) given = none_made Excused (map (spot pos' name count) (parts s.table u))
+    then_stored name u before facts pos pos' count known (Traps e n) given = none_made Excused (map (spot pos' name count) (parts s.table u))
+
+    pub assign_exact : (pos p : Pos) (x u : ℕ) (path e : TypedTree) → Source s u e → Leads s (object_at s x).of path u
+        → has_call e ≡ false → has_call path ≡ false → (facts : List Fact) → HoldsHere facts t.state
+        → AllowsAll facts (acts (assigned_to s pos (whole (Name p x path u)) (Name p x path u) e))
+        → IsExact s depth t.state.memory facts
+        → (count : ℕ) → Knows Excused p (name_of x path) count (after (acts (acts_in s e ++ acts_in s path)) facts) (parts s.table u)
+        → ExactOn (after (acts (assigned_to s pos (whole (Name p x path u)) (Name p x path u) e)) facts)
+        (map (spot p (name_of x path) count) (parts s.table u)) (assign t (Name p x path u) e)
+    assign_exact pos p x u path e (inl (view, is)) lead calls calls' facts holds allowed exact count known =
+        (let no : true ≡ false = sym view ∙ not_anonymous s all_named u in cc)
+    assign_exact pos p x u path e (inr gives) lead calls calls' facts holds allowed exact count known =
+        let target : TypedTree = Name p x path u in
+        let same = assigned_acts pos (whole target) target e in
+        let h : Here = here t in
+        let spots : List LeakSpot = map (spot p (name_of x path) count) (parts s.table u) in
+        let placed : List machine.Word → Now → Evaluated Stored = (λ ws now. followed_by (place_of h target now) (λ k now. Done (record { words = ws; place = k }) now)) in
+        subst (λ z. ExactOn (after (acts z) facts) spots (assign t target e)) (sym same)
+        (subst (λ z. ExactOn (after (acts (stored_acts s target e)) facts) spots (steps.evaluated t (followed_by (taken_by t u e z) placed)
+        (λ (st : Stored) m. leaking_goes (checks_at s (target_pos t target) m st.place) (goes t (stored s st.place st.words m) 0)))) (sym started)
+        (subst (λ b. ExactOn (after (acts (stored_acts s target e)) facts) spots
+        (steps.evaluated t (followed_by (if b then viewed h e now else followed_by (value h e now) (checked h u)) placed)
+        (λ (st : Stored) m. leaking_goes (checks_at s (target_pos t target) m st.place) (goes t (stored s st.place st.words m) 0)))) (sym (not_anonymous s all_named u))
+        (then_stored (name_of x path) u (after (acts (acts_in s e ++ acts_in s path)) facts) (after (acts (stored_acts s target e)) facts) (target_pos t target) p count known
+        (followed_by (followed_by (evaluate h AsValue e now) (checked h u)) placed)
+        (assigned_exact h settled t.state.leaks [] other alone (keeps s settled own_law) no_formals index_law own_law all_named Excused p x u path e gives lead calls calls'
+        t.state.memory hands facts (record { sound = holds.0; kept = holds.1 }) (subst (λ z. AllowsAll facts (acts z)) same allowed) exact))))
+
+    -- ---- the end of a scope
+
+    -- `mine`: the object is one of the frame
+    pub end_scope_exact : (x : ℕ) (borrower : Bool) → home s depth x ≡ depth → (facts : List Fact) → HoldsHere facts t.state
+        → IsExact s depth t.state.memory facts
+        → (pos : Pos) (count : ℕ) → Knows Excused pos (object x) count facts (parts s.table (object_at s x).of)
+        → ExactOn (effect (act.EndScope x borrower) facts) (map (spot pos (object x) count) (parts s.table (object_at s x).of)) (end_scope t x)
+    end_scope_exact x borrower mine facts holds exact pos count known =
+        let m : Memory = t.state.memory in
+        let checks = checks_made s.table settled (content s m hands (OfRoot (OfVariable (home s depth x) x))) [] (object_at s x).of t.point.pos t.state.leaks refl
+        (ap not (no_formals x)) (alike s.table settled (object_at s x).of (object_at s x).of (inl refl)) in (
+          subst (λ f. IsExact s depth (undeclared f x m) (effect (act.EndScope x borrower) facts)) mine
+              (ended_exact s settled depth m hands t.state.leaks _ facts x borrower holds.0.owned checks exact),
+          place_holds s settled depth m hands t.state.leaks facts exact (variable_place (here t) x) (OfRoot (OfVariable (home s depth x) x)) (Object (OfVariable (home s depth x) x))
+              (record { base = refl; made = tt; at = refl; there = refl; of = inl refl }) refl refl Excused t.point.pos pos count known,
+        )
+
+    -- ---- what changes nothing
+
+    quiet_on : {A : Type 0} (P : A → Type 0) (facts : List Fact) → IsExact s depth t.state.memory facts → (y : Evaluated A) → Quiet now P y → (f : A → Memory → Outcome)
+        → ((a : A) → P a → ExactOn facts [] (f a t.state.memory)) → ExactOn facts [] (steps.evaluated t y f)
+    quiet_on P facts exact (Done a n) (same, p) f next = subst (λ (z : Now). ExactOn facts [] (f a z.memory)) (sym same) (next a p)
+    quiet_on P facts exact (Raises e n) is f next = tt
+    quiet_on P facts exact (Traps e n) never f next = tt
+
+    -- a scalar expression, and what is done with its value
+    pub value_exact : (e : TypedTree) → Stays s e → has_call e ≡ false → (facts : List Fact) → HoldsHere facts t.state → AllowsAll facts (acts (acts_in s e))
+        → IsExact s depth t.state.memory facts → (f : List machine.Word → Memory → Outcome) → ((ws : List machine.Word) → ExactOn facts [] (f ws t.state.memory))
+        → ExactOn (after (acts (acts_in s e)) facts) [] (steps.evaluated t (value (here t) e (start t)) f)
+    value_exact e stays calls facts holds allowed exact f next =
+        let q = quiet (here t) settled hands t.state.leaks t.state.memory [] other facts holds.1 holds.0 alone
+        (live_trunk (here t) settled t.state.leaks [] other alone (keeps s settled own_law) no_formals index_law own_law all_named t.state.memory hands holds.0.owned)
+        index_law own_law all_named AsValue e stays calls allowed in
+        subst (λ z. ExactOn z [] (steps.evaluated t (value (here t) e (start t)) f)) (sym q.1)
+        (subst (λ z. ExactOn facts [] (steps.evaluated t (value (here t) e z) f)) (sym started)
+        (quiet_on One facts exact (value (here t) e now) q.0 f (λ ws one. next ws)))
+
+    pub test_exact : (e : TypedTree) → Stays s e → has_call e ≡ false → (facts : List Fact) → HoldsHere facts t.state → AllowsAll facts (acts (acts_in s e))
+        → IsExact s depth t.state.memory facts → ExactOn (after (acts (acts_in s e)) facts) [] (steps.test t e 0 1)
+    test_exact e stays calls facts holds allowed exact =
+        value_exact e stays calls facts holds allowed exact (λ ws m. goes t m (if run.is_true ws then 0 else 1)) (λ ws. (exact, tt))
+
+    pub choose_exact : (e : TypedTree) (choices : List TypedCode) → Stays s e → has_call e ≡ false → (facts : List Fact) → HoldsHere facts t.state
+        → AllowsAll facts (acts (acts_in s e)) → IsExact s depth t.state.memory facts → ExactOn (after (acts (acts_in s e)) facts) [] (steps.choose t e choices)
+    choose_exact e choices stays calls facts holds allowed exact =
+        value_exact e stays calls facts holds allowed exact (λ ws m. steps.chosen t (length choices) (steps.choice choices ws) m)
+        (λ ws. by_test (steps.choice choices ws) (nat_lt (steps.choice choices ws) (length choices)))
+      where
+        by_test : (k : ℕ) (b : Bool) → ExactOn facts [] (if b then goes t t.state.memory k else steps.raised t run.ConstraintError t.state.memory)
+        by_test k true = (exact, tt)
+        by_test k false = tt
+
+    pub leave_loop_exact : (e rest : TypedTree) → rest ≡ NoMore → Stays s e → has_call e ≡ false → (facts : List Fact) → HoldsHere facts t.state
+        → AllowsAll facts (acts (acts_in s (More e rest))) → IsExact s depth t.state.memory facts
+        → ExactOn (after (acts (acts_in s (More e rest))) facts) [] (steps.leave_loop t (More e rest))
+    unfolding acts_in
+    leave_loop_exact e rest last stays calls facts holds allowed exact =
+        let same : acts_in s e ++ acts_in s rest ≡ acts_in s e = ap (λ z. acts_in s e ++ acts_in s z) last ∙ append-nil (acts_in s e) in
+        subst (λ z. ExactOn (after (acts z) facts) [] (steps.test t e 0 1)) (sym same)
+        (test_exact e stays calls facts holds (subst (λ z. AllowsAll facts (acts z)) same allowed) exact)
+
+    pub skip_exact : (facts : List Fact) → IsExact s depth t.state.memory facts → ExactOn facts [] (steps.turn t Skip)
+    skip_exact facts exact = (exact, tt)

@@ -1,0 +1,14 @@
+-- over ways and locations
+pub mod Steps
+-- over memories
+pub mod Parts
+pub mod Memories
+-- expressions
+pub mod Evaluated
+-- leak checks
+pub mod Checks
+-- instructions
+pub mod Stored
+pub mod Instructions
+pub mod Releases
+pub mod Loops

@@ -1,0 +1,332 @@
+-- Facts without an element stay exact in output, input and the iterations of loops, which change
+-- scalar places at most.
+use Rattle.std.proofs.Common.{◌≡◌, refl, sym, ap, ◌∙◌, subst, inl, inr, ℕ, ◌+◌, Bool, true, false, not, ◌&&◌, List, [], ◌∷◌, ◌++◌, take, drop, length, append-nil, ℤ, int_le, Option, Some, None, if◌then◌else◌}
+use Rattle.std.specs.Prelude as int
+use Rattle.spark_base.specs.declared.position.Pos.{Pos}
+use Rattle.place_names.specs.declared.act.Act.{Act}
+use Rattle.place_names.specs.declared.act.Act.TheVariants as act
+use Rattle.place_names.specs.declared.act.Mode.TheVariants as mode
+use Rattle.place_names.specs.declared.fact.Fact.{Fact}
+use Rattle.place_names.specs.Names.{Name as PlaceName}
+use Rattle.place_names.specs.Rules.{breaks_O3}
+use Rattle.place_names.specs.Facts.{effect}
+use Rattle.type_definitions.specs.declared.table.Shape.TheVariants as shape
+use Rattle.type_definitions.specs.Types.{shape_of, words, is_scalar, full}
+use Rattle.typed_tree.specs.Trees.{TypedTree, Text, Name, Parens, Image, Binary, NoMore, More}
+use Rattle.flow_paths.specs.declared.point.LeakSpot.{LeakSpot}
+use Rattle.flow_paths.specs.Objects.{Typing, object_at}
+use Rattle.flow_paths.specs.Names.{has_call, name_of}
+use Rattle.flow_paths.specs.Scopes.{taken}
+use Rattle.flow_paths.specs.Acts.{acts_in, source_acts}
+use Rattle.run_values.specs.declared.items.Item.{Item}
+use Rattle.run_values.specs.declared.items.Item.TheVariants as item
+use Rattle.run_values.specs.Items.{next_item}
+use Rattle.machine.specs.Words.{fits_type}
+use Rattle.machine.specs.Words as machine
+use Rattle.machine.specs.Memory.{Memory, Place, Slot, fresh, variable_slots, words_of, declared, undeclared, stored}
+use Rattle.machine.specs.Evaluate.{Now, AsValue, Evaluated, Done, Raises, Traps, followed_by, value, place_of, variable_place, walked, steps_of, text_of}
+use Rattle.machine.specs.Evaluate as run
+use Rattle.machine.specs.States.{Waiting, State, Outcome, Goes}
+use Rattle.machine.specs.Step.{Turn, typing, here, start, waiting, behind}
+use Rattle.machine.specs.Step as steps
+use Rattle.machine.specs.Owners.{is_in_formal, waiting_in}
+use Rattle.owned_ways.specs.Ways.{OfVariable, OfRoot, Way, Object, Named, Allows, IsSame, after, AllowsAll}
+use Rattle.owned_ways.specs.Ways as ways
+use Rattle.owned_ways.proofs.Assigned.{write_clean, named_rooted}
+use Rattle.part_offsets.specs.Parts.{IsSettled}
+use Rattle.soundness.specs.Seen.{seen, home}
+use Rattle.soundness.specs.Typed.{OwnsByShape}
+use Rattle.typed_laws.specs.Needed.{Stays, Writes, Leads}
+use Rattle.soundness.proofs.Contents.{bool_cases}
+use Rattle.soundness.proofs.Memories.{put_other, removed_other}
+use Rattle.soundness.proofs.Walks.{way_along, Walked}
+use Rattle.soundness.proofs.Steps.{plain_shape}
+use Rattle.soundness.proofs.Scalars.{acts, acts_append, after_append, allows_both, number_along, named_along}
+use Rattle.soundness.proofs.Stays.{Quiet, Any, One, quiet_then, quiet, Goes as GoesAlong, steps_quiet, name_quiet}
+use Rattle.soundness.proofs.Numbers.{index_law}
+use Rattle.soundness.proofs.Lasting.{keeps}
+use Rattle.soundness.proofs.Evaluated.{live_trunk, Ready, blank_ready}
+use Rattle.soundness.proofs.Waits.{or_both}
+use Rattle.soundness.proofs.Freeing.{switched}
+use Rattle.soundness.proofs.Instructions.{Holds, Gets, start_is}
+use Rattle.soundness.proofs.Loops.{Starts, scalar_same}
+use Rattle.exact_facts.specs.Exact.{IsExact}
+use Rattle.exact_facts.proofs.Steps.{IsPlaced, keeps_placed, told_still}
+use Rattle.exact_facts.proofs.Memories.{told_seen, exact_from, stored_exact}
+use Rattle.exact_facts.proofs.Instructions.{ExactOn}
+
+module _ (t : Turn) (settled : IsSettled (typing t).table) (own_law : OwnsByShape (typing t).table) (other : Way → Type 0)
+    (alone : (w : Way) → other w → ⊥) (no_formals : (x : ℕ) → is_in_formal (typing t) x ≡ false)
+    (all_named : (u d : ℕ) (c n : Bool) → shape_of (typing t).table u ≡ shape.Access d c n → n ≡ true)
+    (frames : t.state.frames ≡ t.frame ∷ t.outer) (Excused : LeakSpot → Type 0) where
+  abbrev s : Typing
+  s = typing t
+
+  abbrev depth : ℕ
+  depth = length t.outer
+
+  abbrev hands : List Waiting
+  hands = waiting_in t.state
+
+  abbrev m : Memory
+  m = t.state.memory
+
+  abbrev HoldsHere : List Fact → State → Type 0
+  HoldsHere facts state = Holds t settled own_law other alone no_formals all_named frames facts state
+
+  abbrev ExactHere : List Fact → Outcome → Type 0
+  ExactHere facts outcome = ExactOn t settled own_law other alone no_formals all_named frames Excused facts [] outcome
+
+  same_exact : (next : Memory) (facts : List Fact) → IsSame (seen s m hands t.state.leaks) (seen s next hands t.state.leaks) → IsExact s depth m facts
+      → IsExact s depth next facts
+  same_exact next facts same exact =
+      exact_from s depth (seen s next hands t.state.leaks) next hands facts (λ l. refl)
+      (told_still (home s depth) (seen s m hands t.state.leaks) (seen s next hands t.state.leaks) IsPlaced facts
+      (keeps_placed (seen s m hands t.state.leaks) (seen s next hands t.state.leaks) (λ l n p h. sym (same.word l) ∙ h))
+      (λ l p gone. same.word l ∙ gone) (told_seen s depth m hands t.state.leaks facts exact))
+
+  -- ---- iterations
+
+  next_by : (x : ℕ) → is_scalar (full s.table (object_at s x).of) ≡ true → (facts : List Fact) → IsExact s depth m facts
+      → (ws : List machine.Word) (v : Option ℤ) → ExactHere facts (steps.turned_to t x (variable_place (here t) x) ws v)
+  next_by x scalar facts exact ws (Some v) =
+      let k : Place = variable_place (here t) x in
+      let f : ℕ = home s depth x in
+      let value : List machine.Word = steps.parameter_words ws v in
+      let all : List Slot = variable_slots s f x m.variables in
+      let slots : List Slot = take 0 all ++ fresh value ++ drop (0 + length (fresh value)) all in
+      let next : Memory = stored s k value m in (
+        same_exact next facts (scalar_same s settled m hands t.state.leaks f x scalar next.variables (λ g y ne. put_other s f x g y ne slots m.variables)) exact,
+        tt,
+      )
+  next_by x scalar facts exact ws None =
+      let next : Memory = undeclared depth x m in (
+        same_exact next facts (scalar_same s settled m hands t.state.leaks depth x scalar next.variables (λ g y ne. removed_other s depth x g y ne m.variables)) exact,
+        tt,
+      )
+
+  pub next_exact : (x : ℕ) (reversed : Bool) → is_scalar (full s.table (object_at s x).of) ≡ true → (facts : List Fact) → IsExact s depth m facts
+      → ExactHere facts (steps.next_turn t x reversed)
+  next_exact x reversed scalar facts exact =
+      let ws : List machine.Word = words_of s m (variable_place (here t) x) in
+      next_by x scalar facts exact ws (steps.next_value reversed (steps.loop_of x t.frame.loops) (steps.number ws))
+
+  module _ (none : taken t.point.instr ≡ 0) where
+    abbrev now : Now
+    now = record { memory = t.state.memory; waits = [] }
+
+    started : start t ≡ record { memory = t.state.memory; waits = [] }
+    started = start_is t settled own_law other alone no_formals all_named frames none
+
+    abbrev Both : steps.Bounds → Type 0
+    Both b = One b.low × One b.high
+
+    then_started : (x : ℕ) (f : steps.Bounds → Memory → Outcome) → Starts t settled own_law other alone no_formals all_named frames none x f
+        → is_scalar (full s.table (object_at s x).of) ≡ true → (facts : List Fact) → IsExact s depth m facts
+        → (y : Evaluated steps.Bounds) → Quiet now Both y → ExactHere facts (steps.evaluated t y f)
+    then_started x f starts scalar facts exact (Done b n) (same, both) =
+        let next : Memory = declared depth x b.low m in
+        subst (λ (z : Now). ExactHere facts (f b z.memory)) (sym same) (elim (bool_cases (starts.fails b)) [
+          | inl e ↦ subst (ExactHere facts) (sym (starts.at_fault b m e)) tt
+          | inr e ↦ subst (ExactHere facts) (sym (starts.at_turn b m e)) (
+            same_exact next facts (scalar_same s settled m hands t.state.leaks depth x scalar next.variables (λ g y ne. put_other s depth x g y ne (fresh b.low) m.variables)) exact,
+            tt,
+          )
+        ])
+    then_started x f starts scalar facts exact (Raises e n) is = tt
+    then_started x f starts scalar facts exact (Traps e n) never = tt
+
+    started_by : (x : ℕ) (f : steps.Bounds → Memory → Outcome) (low high : TypedTree) → Starts t settled own_law other alone no_formals all_named frames none x f
+        → is_scalar (full s.table (object_at s x).of) ≡ true
+        → Stays s low → Stays s high → has_call low ≡ false → has_call high ≡ false → (facts : List Fact) → HoldsHere facts t.state
+        → AllowsAll facts (acts (acts_in s low ++ acts_in s high)) → IsExact s depth m facts
+        → ExactHere (after (acts (acts_in s low ++ acts_in s high)) facts) (steps.evaluated t (steps.bounds t low high (start t)) f)
+    started_by x f low high starts scalar stays stays' calls calls' facts holds allowed exact =
+        let each = allows_both facts (acts (acts_in s low)) (acts (acts_in s high)) (subst (AllowsAll facts) (acts_append (acts_in s low) (acts_in s high)) allowed) in
+        let live = live_trunk (here t) settled t.state.leaks [] other alone (keeps s settled own_law) no_formals index_law own_law all_named t.state.memory hands holds.0.owned in
+        let first_bound = quiet (here t) settled hands t.state.leaks t.state.memory [] other facts holds.1 holds.0 alone live index_law own_law all_named AsValue low stays calls each.0 in
+        let second_bound = quiet (here t) settled hands t.state.leaks t.state.memory [] other facts holds.1 holds.0 alone live index_law own_law all_named AsValue high stays' calls'
+        (subst (λ z. AllowsAll z (acts (acts_in s high))) first_bound.1 each.1) in
+        let all : after (acts (acts_in s low ++ acts_in s high)) facts ≡ facts =
+        ap (λ z. after z facts) (acts_append (acts_in s low) (acts_in s high)) ∙ after_append (acts (acts_in s low)) (acts (acts_in s high)) facts
+        ∙ ap (after (acts (acts_in s high))) first_bound.1 ∙ second_bound.1 in
+        let q : Quiet now Both (steps.bounds t low high now) =
+        quiet_then now One Both (value (here t) low now) (λ a n. followed_by (value (here t) high n) (λ b n. Done (record { low = a; high = b }) n)) first_bound.0
+        (λ a one. quiet_then now One Both (value (here t) high now) (λ b n. Done (record { low = a; high = b }) n) second_bound.0 (λ b other_one. (refl, (one, other_one)))) in
+        subst (λ z. ExactHere z (steps.evaluated t (steps.bounds t low high (start t)) f)) (sym all)
+        (subst (λ z. ExactHere facts (steps.evaluated t (steps.bounds t low high z) f)) (sym started)
+        (then_started x f starts scalar facts exact (steps.bounds t low high now) q))
+
+    pub start_exact : (x : ℕ) (low high : TypedTree) → is_scalar (full s.table (object_at s x).of) ≡ true
+        → Stays s low → Stays s high → has_call low ≡ false → has_call high ≡ false → (facts : List Fact) → HoldsHere facts t.state
+        → AllowsAll facts (acts (acts_in s low ++ acts_in s high)) → IsExact s depth m facts
+        → ExactHere (after (acts (acts_in s low ++ acts_in s high)) facts) (steps.start_loop t x low high)
+    start_exact x low high scalar stays stays' calls calls' facts holds allowed exact =
+        started_by x _ low high (record {
+          fails = λ b. int_le (steps.number b.low) (steps.number b.high)
+              && not (fits_type s.table (object_at s x).of b.low && fits_type s.table (object_at s x).of b.high);
+          loop = λ b. record { parameter = x; low = steps.number b.low; high = steps.number b.high; first = true };
+          at_fault = λ b m e. rw e refl;
+          at_turn = λ b m e. rw e refl;
+        }) scalar stays stays' calls calls' facts holds allowed exact
+
+    -- ---- output
+
+    text_quiet : (e : TypedTree) → Writes s e → has_call e ≡ false → (facts : List Fact) → HoldsHere facts t.state → AllowsAll facts (acts (acts_in s e))
+        → Quiet now (Any {A = List ℕ}) (text_of (here t) e now) × (after (acts (acts_in s e)) facts ≡ facts)
+    unfolding Writes text_of has_call acts_in
+    text_quiet (Text b) writes calls facts holds allowed = ((refl, tt), refl)
+    text_quiet (Image u e) stays calls facts holds allowed =
+        let q = quiet (here t) settled hands t.state.leaks t.state.memory [] other facts holds.1 holds.0 alone
+        (live_trunk (here t) settled t.state.leaks [] other alone (keeps s settled own_law) no_formals index_law own_law all_named t.state.memory hands holds.0.owned)
+        index_law own_law all_named AsValue e stays calls allowed in
+        (quiet_then now One (Any {A = List ℕ}) (value (here t) e now) (λ ws n. Done (run.image_of s.table u ws) n) q.0 (λ ws one. (refl, tt)), q.1)
+    text_quiet (Parens e) writes calls facts holds allowed = text_quiet e writes calls facts holds allowed
+    text_quiet (Binary op a b) (wa, wb) calls facts holds allowed =
+        let both = or_both (has_call a) (has_call b) calls in
+        let each = allows_both facts (acts (acts_in s a)) (acts (acts_in s b)) (subst (AllowsAll facts) (acts_append (acts_in s a) (acts_in s b)) allowed) in
+        let left = text_quiet a wa both.0 facts holds each.0 in
+        let right = text_quiet b wb both.1 facts holds (subst (λ z. AllowsAll z (acts (acts_in s b))) left.1 each.1) in (
+          quiet_then now (Any {A = List ℕ}) (Any {A = List ℕ}) (text_of (here t) a now) (λ x n. followed_by (text_of (here t) b n) (λ y n. Done (x ++ y) n)) left.0
+              (λ x any. quiet_then now (Any {A = List ℕ}) (Any {A = List ℕ}) (text_of (here t) b now) (λ y n. Done (x ++ y) n) right.0 (λ y any. (refl, tt))),
+          ap (λ z. after z facts) (acts_append (acts_in s a) (acts_in s b)) ∙ after_append (acts (acts_in s a)) (acts (acts_in s b)) facts
+              ∙ ap (after (acts (acts_in s b))) left.1 ∙ right.1,
+        )
+    text_quiet e writes calls facts holds allowed = absurd writes
+
+    then_written : (facts : List Fact) → IsExact s depth m facts → (line : Bool) (y : Evaluated (List ℕ)) → Quiet now (Any {A = List ℕ}) y
+        → ExactHere facts (steps.evaluated t y (λ bytes m. Goes (record (behind t (waiting t) m 0) {
+          output = t.state.output ++ bytes ++ (if line then 10 ∷ [] else []);
+        })))
+    then_written facts exact line (Done a n) (same, p) = (subst (λ (z : Now). IsExact s depth z.memory facts) (sym same) exact, tt)
+    then_written facts exact line (Raises e n) is = tt
+    then_written facts exact line (Traps e n) never = tt
+
+    pub output_exact : (e rest : TypedTree) (line : Bool) → rest ≡ NoMore → Writes s e → has_call e ≡ false → (facts : List Fact) → HoldsHere facts t.state
+        → AllowsAll facts (acts (acts_in s (More e rest))) → IsExact s depth m facts
+        → ExactHere (after (acts (acts_in s (More e rest))) facts) (steps.output t (More e rest) line)
+    unfolding acts_in
+    output_exact e rest line last writes calls facts holds allowed exact =
+        let same : acts_in s e ++ acts_in s rest ≡ acts_in s e = ap (λ z. acts_in s e ++ acts_in s z) last ∙ append-nil (acts_in s e) in
+        let q = text_quiet e writes calls facts holds (subst (λ z. AllowsAll facts (acts z)) same allowed) in
+        subst (λ z. ExactHere z (steps.output t (More e rest) line)) (sym (ap (λ z. after (acts z) facts) same ∙ q.1))
+        (subst (λ z. ExactHere facts (steps.evaluated t (text_of (here t) e z) (λ bytes m. Goes (record (behind t (waiting t) m 0) {
+          output = t.state.output ++ bytes ++ (if line then 10 ∷ [] else []);
+        })))) (sym started) (then_written facts exact line (text_of (here t) e now) q.0))
+
+    -- a line that ends without a text
+    pub line_exact : (line : Bool) (facts : List Fact) → IsExact s depth m facts → ExactHere facts (steps.output t NoMore line)
+    unfolding text_of
+    line_exact line facts exact = then_written facts exact line (Done [] (start t)) (started, tt)
+
+    -- ---- input
+
+    abbrev value_in : ℤ → ℕ → Waiting
+    value_in v u = record { of = u; words = machine.Int v ∷ [] }
+
+    abbrev ReadyIn : Memory → List Waiting → List Fact → Type 0
+    ReadyIn memory held facts = Ready (here t) settled t.state.leaks [] other alone (keeps s settled own_law) no_formals index_law own_law all_named memory held facts
+
+    module _ (f : Place → Memory → Outcome) (gets : Gets t settled own_law other alone no_formals all_named frames none f) (facts : List Fact)
+        (holds : HoldsHere facts t.state) (exact : IsExact s depth m facts) (u : ℕ) (scalar : is_scalar (full s.table u) ≡ true) (v : ℤ) where
+      ready_in : ReadyIn t.state.memory (value_in v u ∷ hands) facts
+      ready_in = blank_ready (here t) settled t.state.leaks [] other alone (keeps s settled own_law) no_formals index_law own_law all_named
+          t.state.memory hands facts u (machine.Int v ∷ []) (λ k has. elim has [ inl e ↦ cc | inr e ↦ e ]) (record { sound = holds.0; kept = holds.1 })
+
+      got_at : (w : Way) → Named (home s depth) w → (y : Evaluated Place) → Walked s settled (value_in v u ∷ hands) t.state.leaks m [] w u y
+          → (end : ℕ) → next_item t.input t.state.at ≡ item.Number v end
+          → ExactHere (effect (act.Write (ways.name_of w)) facts) (steps.evaluated t y f)
+      got_at w named (Raises e n) is end next = tt
+      got_at w named (Traps e n) never end next = tt
+      got_at w named (Done k n) (l, same, place, reaches, of) end next =
+          subst (λ (z : Now). ExactHere (effect (act.Write (ways.name_of w)) facts) (f k z.memory)) (sym same)
+          (elim (bool_cases (fits_type s.table k.of (machine.Int v ∷ []))) [
+            | inr out ↦ subst (ExactHere (effect (act.Write (ways.name_of w)) facts)) (sym (gets.at_outside k t.state.memory v end next out)) tt
+            | inl fits ↦ (
+                let long : 1 ≡ words s.table k.of = sym (ap (words s.table) of ∙ settled.word_law u ∙ (plain_shape (shape_of s.table u) scalar).3 (words s.table)) in
+                let owns = live_trunk (here t) settled t.state.leaks [] other alone (keeps s settled own_law) no_formals index_law own_law all_named m (value_in v u ∷ hands)
+                ready_in.sound.owned w l (named_rooted (home s depth) w named) reaches in
+                subst (ExactHere (effect (act.Write (ways.name_of w)) facts)) (sym (gets.at_number k t.state.memory v end next fits)) (
+                  stored_exact s settled depth other m (value_in v u) hands t.state.leaks facts k l w t.point.pos ready_in.sound ready_in.kept place named reaches owns long
+                      (inl (ap (shape_of s.table) (sym of))) exact,
+                  tt,
+                ))
+          ])
+
+      -- where there is no number
+      got_none : ((k : Place) (memory : Memory) → (e : run.Exception) × (f k memory ≡ steps.raised t e memory))
+          → (w : Way) → Named (home s depth) w → (y : Evaluated Place) → Walked s settled (value_in v u ∷ hands) t.state.leaks m [] w u y
+          → ExactHere (effect (act.Write (ways.name_of w)) facts) (steps.evaluated t y f)
+      got_none next w named (Raises e n) is = tt
+      got_none next w named (Traps e n) never = tt
+      got_none next w named (Done k n) is = subst (ExactHere (effect (act.Write (ways.name_of w)) facts)) (sym (next k n.memory).1) tt
+
+      -- the steps of the name are evaluated
+      then_got : ((w : Way) → Named (home s depth) w → (y : Evaluated Place) → Walked s settled (value_in v u ∷ hands) t.state.leaks m [] w u y
+          → ExactHere (effect (act.Write (ways.name_of w)) facts) (steps.evaluated t y f))
+          → (x : ℕ) (path : TypedTree) → Allows facts (act.Write (name_of x path)) → (y : Evaluated (List run.Step))
+          → Quiet (record { memory = t.state.memory; waits = [] }) (λ way. GoesAlong s.table (object_at s x).of u path way) y
+          → ExactHere (effect (act.Write (name_of x path)) facts) (steps.evaluated t (followed_by y (λ way now. walked s way (variable_place (here t) x) now)) f)
+      then_got got x path allowed (Done way n) (same, goes) =
+          let w : Way = way_along way (Object (OfVariable (home s depth x) x)) in
+          let named : Named (home s depth) w = named_along (home s depth) way (Object (OfVariable (home s depth x) x)) refl in
+          let called : ways.name_of w ≡ name_of x path = (λ j. record {
+            root = number_along way (Object (OfVariable (home s depth x) x)) j;
+            sels = goes.sels (Object (OfVariable (home s depth x) x)) j;
+          }) in
+          subst (λ (z : Now). ExactHere (effect (act.Write (name_of x path)) facts) (steps.evaluated t (walked s way (variable_place (here t) x) z) f)) (sym same)
+          (subst (λ z. ExactHere (effect (act.Write z) facts) (steps.evaluated t (walked s way (variable_place (here t) x) (record { memory = t.state.memory; waits = [] })) f)) called
+          (got w named (walked s way (variable_place (here t) x) (record { memory = t.state.memory; waits = [] }))
+          (name_quiet (here t) settled (value_in v u ∷ hands) t.state.leaks t.state.memory [] other facts ready_in.kept ready_in.sound alone
+          (live_trunk (here t) settled t.state.leaks [] other alone (keeps s settled own_law) no_formals index_law own_law all_named t.state.memory (value_in v u ∷ hands) ready_in.sound.owned)
+          index_law own_law all_named x path u way goes
+          (λ v v_named v_called z past moved. write_clean (home s depth) facts v (subst (λ z. Allows facts (act.Write z)) (sym v_called) allowed) z past moved))))
+      then_got got x path allowed (Raises e n) is = tt
+      then_got got x path allowed (Traps e n) never = tt
+
+    abbrev out_act : PlaceName → Act
+    out_act name = act.Actual name mode.Out false false
+
+    got_by : (f : Place → Memory → Outcome) (p : Pos) (x u : ℕ) (path : TypedTree) → Gets t settled own_law other alone no_formals all_named frames none f
+        → is_scalar (full s.table u) ≡ true → Leads s (object_at s x).of path u → has_call path ≡ false → (facts : List Fact) → HoldsHere facts t.state
+        → AllowsAll facts (acts (source_acts s (Name p x path u) out_act)) → IsExact s depth m facts
+        → ExactHere (after (acts (source_acts s (Name p x path u) out_act)) facts) (steps.evaluated t (place_of (here t) (Name p x path u) (start t)) f)
+    got_by f p x u path gets scalar lead calls facts holds allowed exact =
+        let b : List Act = acts (acts_in s path) in
+        let whole_acts : acts (source_acts s (Name p x path u) out_act) ≡ b ++ (out_act (name_of x path) ∷ []) =
+        acts_append (acts_in s path) (record { pos = p; act = out_act (name_of x path) } ∷ []) in
+        let each = allows_both facts b (out_act (name_of x path) ∷ []) (subst (AllowsAll facts) whole_acts allowed) in
+        let inner = steps_quiet (here t) settled hands t.state.leaks t.state.memory [] other facts holds.1 holds.0 alone
+        (live_trunk (here t) settled t.state.leaks [] other alone (keeps s settled own_law) no_formals index_law own_law all_named t.state.memory hands holds.0.owned)
+        index_law own_law all_named (object_at s x).of u path lead calls each.0 in
+        let actual : Allows facts (out_act (name_of x path)) = subst (λ z. Allows z (out_act (name_of x path))) inner.1 each.1.0 in
+        let writes : Allows facts (act.Write (name_of x path)) = (λ g has. switched (breaks_O3 (name_of x path) g) _ _ (actual g has)) in
+        let behind_acts : after (acts (source_acts s (Name p x path u) out_act)) facts ≡ effect (act.Write (name_of x path)) facts =
+        ap (λ z. after z facts) whole_acts ∙ after_append b (out_act (name_of x path) ∷ []) facts ∙ ap (effect (act.Write (name_of x path))) inner.1 in
+        subst (λ z. ExactHere z (steps.evaluated t (place_of (here t) (Name p x path u) (start t)) f)) (sym behind_acts)
+        (subst (λ z. ExactHere (effect (act.Write (name_of x path)) facts) (steps.evaluated t (place_of (here t) (Name p x path u) z) f)) (sym started)
+        (by_item writes inner.0 (next_item t.input t.state.at) refl))
+      where
+        by_item : Allows facts (act.Write (name_of x path))
+            → Quiet now (λ way. GoesAlong s.table (object_at s x).of u path way) (steps_of (here t) path now)
+            → (it : Item) → next_item t.input t.state.at ≡ it
+            → ExactHere (effect (act.Write (name_of x path)) facts) (steps.evaluated t (place_of (here t) (Name p x path u) now) f)
+        by_item writes q item.Missing e =
+            then_got f gets facts holds exact u scalar (int.pos 0)
+            (got_none f gets facts holds exact u scalar (int.pos 0) (λ k memory. (run.EndError, gets.at_missing k memory e))) x path writes (steps_of (here t) path now) q
+        by_item writes q item.Bad e =
+            then_got f gets facts holds exact u scalar (int.pos 0)
+            (got_none f gets facts holds exact u scalar (int.pos 0) (λ k memory. (run.DataError, gets.at_bad k memory e))) x path writes (steps_of (here t) path now) q
+        by_item writes q (item.Number v end) e =
+            then_got f gets facts holds exact u scalar v (λ w named y is. got_at f gets facts holds exact u scalar v w named y is end e) x path writes (steps_of (here t) path now) q
+
+    pub input_exact : (p : Pos) (x u : ℕ) (path : TypedTree) → is_scalar (full s.table u) ≡ true → Leads s (object_at s x).of path u → has_call path ≡ false
+        → (facts : List Fact) → HoldsHere facts t.state → AllowsAll facts (acts (source_acts s (Name p x path u) out_act)) → IsExact s depth m facts
+        → ExactHere (after (acts (source_acts s (Name p x path u) out_act)) facts) (steps.input t (Name p x path u))
+    input_exact p x u path scalar lead calls facts holds allowed exact =
+        got_by _ p x u path (record {
+          at_missing = λ k m next. rw next refl;
+          at_bad = λ k m next. rw next refl;
+          at_number = λ k m v end next fits. rw (next, fits) refl;
+          at_outside = λ k m v end next out. rw (next, out) refl;
+        }) scalar lead calls facts holds allowed exact

@@ -1,0 +1,2 @@
+-- runs of programs in rows
+pub mod Runs

@@ -1,0 +1,138 @@
+//! Whole runs of programs.
+ghost use Rattle.std.specs.Prelude.{◌≡◌, ◌≤◌, ◌⊎◌, [], true, false, length, map, string_bytes, IsSome, Some, Err, IfOk, OnOk, ◌≢◌};
+ghost use Rattle.spark_base.specs.Outside.{Rose};
+ghost use Rattle.machine.specs.Run.{run, main_of};
+ghost use Rattle.laid_program.specs.Programs.{program_of};
+ghost use Rattle.code_rows.specs.Points.{program_of as rows_program};
+ghost use Rattle.run_codes.specs.Points.{ran_of};
+ghost use Rattle.run_results.specs.Results.{IsRun};
+ghost use Rattle.run_laws.specs.Settings as settings;
+ghost use Rattle.executor.specs.Executes.{IsExecuted, IsReady};
+
+use crate::starts::{fits, is_declaring, position};
+use code_rows::{Codes, Exception};
+use laid_program::Laid;
+use path_check::AcceptedProgram;
+use reuse_heap::TrapStore;
+use run_ready::lower_ready;
+use run_results::{Ending, ExecFault, Ran};
+use run_steps::Run;
+use spark_base::Sink;
+use std::alloc::Global;
+use whole_runs::run_whole;
+
+/// The run of a program whose first frames are too large: no step is made.
+fn unfit(laid: &Laid, codes: &Codes, input: &[u8], steps: u64, main: u32) -> Result<Ran, ExecFault>
+    requires ready { IsReady laid.now codes.now }
+    requires main { laid.now.main ≡ Some main }
+    requires unfit { settings.fits (rows_program codes.now) main ≡ false }
+    ensures ran { IfOk result (λ ran. IsRun (ran_of (run (program_of laid.now) input.now steps)) ran) }
+    ensures output { (run (program_of laid.now) input.now steps).output ≡ [] }
+    ensures leaks { (run (program_of laid.now) input.now steps).leaks ≡ [] }
+    ensures memory { result ≢ Err ExecFault.WriteFault }
+{
+    let Some(pos) = position(laid, main) else {
+        return Err(ExecFault::Memory);
+    };
+    Ok(Ran {
+        ending: Ending::Raised {
+            exception: Exception::StorageError,
+            pos,
+        },
+        steps: 0,
+        made: 0,
+        freed: 0,
+        leaked: 0,
+    })
+}
+
+/// Runs a program in rows whose first frames fit into the stack.
+fn run_fitting<K: Sink>(
+    alloc: Global,
+    laid: &Laid,
+    codes: Codes,
+    store: &mut TrapStore,
+    input: &[u8],
+    steps: u64,
+    out: &mut K,
+    err: &mut K,
+) -> Result<Ran, ExecFault>
+    requires ready { IsReady laid.now codes }
+    requires fits { settings.fits (rows_program codes) (main_of laid.now.main) ≡ true }
+    requires store { store.old ≡ [] }
+    ensures executed { IfOk result (λ ran. IsExecuted (map string_bytes laid.now.names.items) (run (program_of laid.now) input.now steps) ran
+        (record { output = K.written out.old; lines = K.written err.old }) (record { output = K.written out.new; lines = K.written err.new })) }
+    ensures later_out { K.faults out.old ≤ K.faults out.new }
+    ensures later_err { K.faults err.old ≤ K.faults err.new }
+    ensures cause { result ≡ Err ExecFault.WriteFault → Rose (K.faults out.old) (K.faults out.new) ⊎ Rose (K.faults err.old) (K.faults err.new) }
+    ensures no_fault_out { OnOk result (K.faults out.new ≡ K.faults out.old) }
+    ensures no_fault_err { OnOk result (K.faults err.new ≡ K.faults err.old) }
+{
+    let declares = is_declaring(laid);
+    let Ok(mut run) = Run::new(alloc, codes, &laid.table, store, input, declares) else {
+        return Err(ExecFault::Memory);
+    };
+    run_whole(alloc, &laid.names, &mut run, steps, out, err)
+}
+
+/// Runs a program in rows.
+fn run_codes<K: Sink>(
+    alloc: Global,
+    laid: &Laid,
+    codes: Codes,
+    main: u32,
+    store: &mut TrapStore,
+    input: &[u8],
+    steps: u64,
+    out: &mut K,
+    err: &mut K,
+) -> Result<Ran, ExecFault>
+    requires ready { IsReady laid.now codes }
+    requires main { laid.now.main ≡ Some main }
+    requires store { store.old ≡ [] }
+    ensures executed { IfOk result (λ ran. IsExecuted (map string_bytes laid.now.names.items) (run (program_of laid.now) input.now steps) ran
+        (record { output = K.written out.old; lines = K.written err.old }) (record { output = K.written out.new; lines = K.written err.new })) }
+    ensures later_out { K.faults out.old ≤ K.faults out.new }
+    ensures later_err { K.faults err.old ≤ K.faults err.new }
+    ensures cause { result ≡ Err ExecFault.WriteFault → Rose (K.faults out.old) (K.faults out.new) ⊎ Rose (K.faults err.old) (K.faults err.new) }
+    ensures no_fault_out { OnOk result (K.faults out.new ≡ K.faults out.old) }
+    ensures no_fault_err { OnOk result (K.faults err.new ≡ K.faults err.old) }
+{
+    if !fits(&codes, main) {
+        return unfit(laid, &codes, input, steps, main);
+    }
+    run_fitting(alloc, laid, codes, store, input, steps, out, err)
+}
+
+/// Runs an accepted program with a main procedure on an input, in so many steps at most. Its output
+/// goes to `out`, and its leak lines go to `err`. The store has handed out no handle.
+pub fn execute<K: Sink>(
+    alloc: Global,
+    program: &AcceptedProgram,
+    store: &mut TrapStore,
+    input: &[u8],
+    steps: u64,
+    out: &mut K,
+    err: &mut K,
+) -> Result<Ran, ExecFault>
+    requires main { IsSome program.now.laid.main }
+    requires store { store.old ≡ [] }
+    requires steps { steps ≤ 4294967296 }
+    requires input { length input.now ≤ 16777216 }
+    ensures executed { IfOk result (λ ran. IsExecuted (map string_bytes program.now.laid.names.items) (run (program_of program.now.laid) input.now steps) ran
+        (record { output = K.written out.old; lines = K.written err.old }) (record { output = K.written out.new; lines = K.written err.new })) }
+    ensures later_out { K.faults out.old ≤ K.faults out.new }
+    ensures later_err { K.faults err.old ≤ K.faults err.new }
+    ensures cause { result ≡ Err ExecFault.WriteFault → Rose (K.faults out.old) (K.faults out.new) ⊎ Rose (K.faults err.old) (K.faults err.new) }
+    ensures no_fault_out { OnOk result (K.faults out.new ≡ K.faults out.old) }
+    ensures no_fault_err { OnOk result (K.faults err.new ≡ K.faults err.old) }
+{
+    let laid = program.laid();
+    let Some(main) = laid.main else {
+        return Err(ExecFault::Memory);
+    };
+    match lower_ready(alloc, laid) {
+        Ok(codes) => run_codes(alloc, laid, codes, main, store, input, steps, out, err),
+        Err(_) => Err(ExecFault::Memory),
+    }
+}

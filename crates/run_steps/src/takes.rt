@@ -1,0 +1,28 @@
+//! The values that a point takes.
+ghost use Rattle.std.specs.Prelude.{◌≡◌, ◌≤◌, length, IfSome, OnSome, IsTrue};
+ghost use Rattle.code_rows.specs.Points.{some, is_range};
+ghost use Rattle.run_frames.specs.Frames.{word_at, IsStacked, AreLatest};
+
+use code_rows::{Codes, Range};
+use run_frames::Frames;
+use run_memory::Memory;
+
+/// The values that wait are taken from a number on, which have some types. None: no such values wait.
+pub(crate) fn take(
+    codes: &Codes,
+    memory: &mut Memory,
+    frames: &Frames,
+    takes: Range,
+) -> Option<usize>
+    requires range { IsTrue (is_range codes.now.types.items takes) }
+    requires stacked { IsStacked frames.now memory.old.waits }
+    ensures latest { IfSome result (λ k. AreLatest frames.now (some codes.now.types.items takes) k) }
+    ensures taken { IfSome result (λ k. memory.new ≡ record memory.old { taken = word_at frames.now.waits k (length memory.old.waits) }) }
+    ensures input { memory.new.input ≡ memory.old.input }
+{
+    let first = takes.first as usize;
+    let k = frames.latest(&codes.types[first..first + takes.count as usize])?;
+    let index = frames.first_word(k, memory.waiting_words());
+    memory.take_from(index);
+    Some(k)
+}
