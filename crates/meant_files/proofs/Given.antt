@@ -1,6 +1,6 @@
 -- What is known of declarations at a place of the text: each that stands before has its kind, and those of objects
 -- stay as they are.
-use Rattle.std.proofs.Common.{◌≡◌, ◌⊎◌, inl, inr, ℕ, zero, suc, ◌+◌, ◌<◌, ◌≤◌, Bool, true, false, List, [], ◌∷◌, ◌++◌, length, set, get_or, refl, sym, ap, ◌∙◌, arith, subst, true≢false, if◌then◌else◌}
+use Rattle.std.proofs.Common.{◌≡◌, ◌⊎◌, inl, inr, ℕ, suc, ◌+◌, ◌<◌, ◌≤◌, Bool, true, false, List, [], ◌∷◌, ◌++◌, length, set, get_or, refl, sym, ap, ◌∙◌, arith, subst, true≢false, if◌then◌else◌}
 use Rattle.spark_base.specs.Lists.{Has}
 use Rattle.spark_base.proofs.Lists.{Has-append_left, Has-append_right}
 use Rattle.resolved_tree.specs.Trees.{NoMore, More, Code, Anonymous, Enumeration, Incomplete, Private, TypeDecl, Subtype, ConstrainedSubtype, Objects, Numbers, Instance, Front, SubDecl, SubBody, Package, PackageBody, If, Branch, Case, When, Loop, While, For, Block}
@@ -13,39 +13,14 @@ use Rattle.type_definitions.specs.declared.table.InitialValue.{InitialValue}
 use Rattle.type_definitions.specs.declared.table.Kind.TheVariants as kind
 use Rattle.type_definitions.specs.declared.table.Entry.{Entry}
 use Rattle.type_definitions.specs.declared.table.Entry.TheVariants as entry
-use Rattle.type_definitions.specs.Entries.{entry_of, is_type}
+use Rattle.type_definitions.specs.Entries.{entry_of}
 use Rattle.type_definitions.specs.Names.{Context}
 use Rattle.type_definitions.specs.Gathered.{gather, each, with_entry, with_type, with_indication, full_info, with_literals, with_definition, with_object, object_info, constant_value, indicated, with_number, number_info, initial_value, with_formal_group, with_formals, with_result, with_front, with_body_front, profile, is_subprogram, front_number, plain_object, parameter_type, in_subprogram, in_visible, in_hidden, instance_type, declared_number}
 use Rattle.type_definitions.specs.Whole.{predefined_entries}
+use Rattle.meant_files.proofs.Lists.{entry_put, entry_there, entry_other, set_long, append_nothing, at_most}
 use Rattle.meant_files.specs.Formless.{IsFormlessFront, IsFormless}
 use Rattle.meant_files.specs.Declarations.{Declarations, each_as, literals_of, formal_declarations, front_declarations, body_form, form_of_result, declarations}
 use Rattle.meant_files.specs.Counted.{is_completing, Counts}
-
--- ---- lists of entries
-
-entry_put : {A : Type 0} (Q : ℕ → A → Type 0) (xs : List A) (d t : ℕ) (x fallback : A) → Q d x → Q t (get_or xs t fallback) → Q t (get_or (set xs d x) t fallback)
-entry_put Q [] d t x fallback new old = old
-entry_put Q (y ∷ xs) zero zero x fallback new old = new
-entry_put Q (y ∷ xs) zero (suc t) x fallback new old = old
-entry_put Q (y ∷ xs) (suc d) zero x fallback new old = old
-entry_put Q (y ∷ xs) (suc d) (suc t) x fallback new old = entry_put (λ n. Q (suc n)) xs d t x fallback new old
-
-pub entry_there : {A : Type 0} (xs : List A) (d : ℕ) (x fallback : A) → d < length xs → get_or (set xs d x) d fallback ≡ x
-entry_there [] d x fallback less = absurd (omega (arith, less))
-entry_there (y ∷ xs) zero x fallback less = refl
-entry_there (y ∷ xs) (suc d) x fallback less = entry_there xs d x fallback (omega (arith, less))
-
-pub entry_other : {A : Type 0} (xs : List A) (d t : ℕ) (x fallback : A) → (t ≡ d → ⊥) → get_or (set xs d x) t fallback ≡ get_or xs t fallback
-entry_other [] d t x fallback other = refl
-entry_other (y ∷ xs) zero zero x fallback other = absurd (other refl)
-entry_other (y ∷ xs) zero (suc t) x fallback other = refl
-entry_other (y ∷ xs) (suc d) zero x fallback other = refl
-entry_other (y ∷ xs) (suc d) (suc t) x fallback other = entry_other xs d t x fallback (λ same. other (ap suc same))
-
-set_long : {A : Type 0} (xs : List A) (d : ℕ) (x : A) → length (set xs d x) ≡ length xs
-set_long [] d x = refl
-set_long (y ∷ xs) zero x = refl
-set_long (y ∷ xs) (suc d) x = ap suc (set_long xs d x)
 
 -- ---- numbers that are counted
 
@@ -81,16 +56,27 @@ is_object_kind kinds.Object = true
 is_object_kind kinds.Parameter = true
 is_object_kind _ = false
 
+-- Types are 0, objects 1, others 2.
+abbrev pub kind_class : DeclKind → ℕ
+kind_class kinds.TypeName = 0
+kind_class kinds.Object = 1
+kind_class kinds.Parameter = 1
+kind_class _ = 2
+
+abbrev pub entry_class : Entry → ℕ
+entry_class entry.Type = 0
+entry_class (entry.Object o) = 1
+entry_class _ = 2
+
 abbrev pub is_put : Entry → Bool
 is_put entry.Nothing = false
 is_put _ = true
 
 module _ (kind_at : ℕ → DeclKind) where
-  -- An entry is one of a type where its number is that of a type.
+  -- An entry is one of a type where its number is that of a type, and so it is with objects.
   abbrev pub IsRight : ℕ → Entry → Type 0
   IsRight n entry.Nothing = Unit {0}
-  IsRight n entry.Type = is_type_kind (kind_at n) ≡ true
-  IsRight n x = is_type_kind (kind_at n) ≡ false
+  IsRight n x = kind_class (kind_at n) ≡ entry_class x
 
   abbrev pub AreKinds : Declarations → Type 0
   AreKinds all = (new : DeclarationForm) (n : ℕ) → Has all (new, n) → kind_of new ≡ kind_at n
@@ -111,7 +97,7 @@ module _ (kind_at : ℕ → DeclKind) where
         low = λ n less. entry_other xs d n x entry.Nothing (λ same. omega (arith, same, less, late)) ∙ given.low n less;
         right = λ n more. entry_put IsRight xs d n x entry.Nothing right (given.right n more);
         covered = λ n more less. by n more less (elim at [
-          | inl next ↦ (let a = next.0 in let b = next.1 in elim (split n d (omega (arith, a, b, less))) [
+          | inl next ↦ (let a = next.0 in let b = next.1 in elim (at_most n d (omega (arith, a, b, less))) [
             | inl same ↦ inl same
             | inr under ↦ inr (omega (arith, under, a))
           ])
@@ -120,12 +106,6 @@ module _ (kind_at : ℕ → DeclKind) where
         long = let a = set_long xs d x in let b = given.long in omega (arith, a, b);
       }
     where
-      split : (n d : ℕ) → n ≤ d → (n ≡ d) ⊎ (n < d)
-      split zero zero le = inl refl
-      split zero (suc d) le = inr (omega arith)
-      split (suc n) zero le = absurd (omega (arith, le))
-      split (suc n) (suc d) le = elim (split n d (omega (arith, le))) [ inl same ↦ inl (ap suc same) | inr less ↦ inr (omega (arith, less)) ]
-
       by : (n : ℕ) → 15 ≤ n → n < j → (n ≡ d) ⊎ (n < k) → is_put (get_or (set xs d x) n entry.Nothing) ≡ true
       by n more less (inl same) =
           ap is_put (ap (λ m. get_or (set xs d x) m entry.Nothing) same ∙ entry_there xs d x entry.Nothing (let a = given.long in omega (arith, a, within, same, less))) ∙ is
@@ -177,23 +157,20 @@ module _ (kind_at : ℕ → DeclKind) where
     done : (k j : ℕ) (c : Context) → Goes limit k [] j → At c k → At c j
     done k j c goes given = subst (λ n. At c n) goes.0 given
 
-    type_right : (new : DeclarationForm) (d : ℕ) → is_type_kind (kind_of new) ≡ true → kind_of new ≡ kind_at d → IsRight d entry.Type
-    type_right new d is same = ap is_type_kind (sym same) ∙ is
-
-    pub other_right : (new : DeclarationForm) (d : ℕ) (x : Entry) → is_type_kind (kind_of new) ≡ false → is_type x ≡ false → kind_of new ≡ kind_at d → IsRight d x
-    other_right new d entry.Nothing never other same = tt
-    other_right new d entry.Type never other same = absurd (true≢false other)
-    other_right new d entry.Package never other same = ap is_type_kind (sym same) ∙ never
-    other_right new d (entry.Object o) never other same = ap is_type_kind (sym same) ∙ never
-    other_right new d (entry.Literal t n) never other same = ap is_type_kind (sym same) ∙ never
-    other_right new d (entry.Subprogram p) never other same = ap is_type_kind (sym same) ∙ never
-    other_right new d (entry.Instance t) never other same = ap is_type_kind (sym same) ∙ never
-    other_right new d (entry.Predefined p) never other same = ap is_type_kind (sym same) ∙ never
+    pub class_right : (new : DeclarationForm) (d : ℕ) (x : Entry) → kind_class (kind_of new) ≡ entry_class x → kind_of new ≡ kind_at d → IsRight d x
+    class_right new d entry.Nothing is same = tt
+    class_right new d entry.Type is same = ap kind_class (sym same) ∙ is
+    class_right new d entry.Package is same = ap kind_class (sym same) ∙ is
+    class_right new d (entry.Object o) is same = ap kind_class (sym same) ∙ is
+    class_right new d (entry.Literal t n) is same = ap kind_class (sym same) ∙ is
+    class_right new d (entry.Subprogram p) is same = ap kind_class (sym same) ∙ is
+    class_right new d (entry.Instance t) is same = ap kind_class (sym same) ∙ is
+    class_right new d (entry.Predefined p) is same = ap kind_class (sym same) ∙ is
 
     literals_given : (t n : ℕ) (ids : Code) (c : Context) (k j : ℕ) → Goes limit k (each_as form.Literal ids) j → At c k → At (with_literals t n ids c) j
     literals_given t n (More d rest) c k j goes given =
         one k form.Literal (declared_number d) (each_as form.Literal rest) j (entry.Literal t n) c (At (with_literals t n (More d rest) c) j) goes
-        (other_right form.Literal (declared_number d) (entry.Literal t n) refl refl) refl given
+        (class_right form.Literal (declared_number d) (entry.Literal t n) refl) refl given
         (λ m on now. literals_given t (n + 1) rest (with_entry (declared_number d) (entry.Literal t n) c) m j on now)
     literals_given t n ids c k j goes given = done k j c goes given
 
@@ -212,7 +189,7 @@ module _ (kind_at : ℕ → DeclKind) where
         let inner : Context = with_indication n i c in
         let x : Entry = entry.Object (object_info c constant (indicated c.known n i) v) in
         one k form.Object n (each_as form.Object rest) j x inner (At (each (with_object constant i v) (More d rest) c) j) goes
-        (other_right form.Object n x refl refl) refl (indication_given n i c k given)
+        (class_right form.Object n x refl) refl (indication_given n i c k given)
         (λ m on now. objects_given constant i v rest (with_object constant i v d c) m j on now)
     objects_given constant i v ids c k j goes given = done k j c goes given
 
@@ -221,7 +198,7 @@ module _ (kind_at : ℕ → DeclKind) where
         let n : ℕ = declared_number d in
         let x : Entry = entry.Object (number_info c v) in
         one k form.Object n (each_as form.Object rest) j x c (At (each (with_number v) (More d rest) c) j) goes
-        (other_right form.Object n x refl refl) refl given (λ m on now. numbers_given v rest (with_number v d c) m j on now)
+        (class_right form.Object n x refl) refl given (λ m on now. numbers_given v rest (with_number v d c) m j on now)
     numbers_given v ids c k j goes given = done k j c goes given
 
     result_given : (d : ℕ) (result : Code) (c : Context) (k : ℕ) → At c k → At (with_result d result c) k
@@ -239,7 +216,7 @@ module _ (kind_at : ℕ → DeclKind) where
           | inr late ↦ (let a = late.0 in absurd (omega (arith, a)))
         ]
 
-    front_given : (new : DeclarationForm) (front : Code) (c : Context) (k : ℕ) (L : Declarations) (j : ℕ) → IsFormlessFront front → is_type_kind (kind_of new) ≡ false
+    front_given : (new : DeclarationForm) (front : Code) (c : Context) (k : ℕ) (L : Declarations) (j : ℕ) → IsFormlessFront front → kind_class (kind_of new) ≡ 2
         → Goes limit k ((new, front_number front) ∷ (front_declarations front ++ L)) j → At c k
         → (m : ℕ) × Goes limit m L j × At (with_front front c) m
     front_given new (Front d formals result) c k L j none never goes given =
@@ -248,7 +225,7 @@ module _ (kind_at : ℕ → DeclKind) where
         let x : Entry = entry.Subprogram (profile inner.known (Front d formals result)) in
         let bare = subst (λ list. Goes limit k ((new, n) ∷ (formal_declarations list ++ L)) j) none goes in
         one k new n L j x inner ((m : ℕ) × Goes limit m L j × At (with_front (Front d formals result) c) m) bare
-        (other_right new n x never refl) refl (groups_given formals (with_result n result c) k none (result_given n result c k given))
+        (class_right new n x never) refl (groups_given formals (with_result n result c) k none (result_given n result c k given))
         (λ m on now. (m, on, now))
     front_given new front c k L j none never goes given = absurd (no_front k new (front_declarations front ++ L) j goes)
 
@@ -260,16 +237,10 @@ module _ (kind_at : ℕ → DeclKind) where
     already xs k d m (inl next) is given = record {
       low = given.low;
       right = given.right;
-      covered = λ n more less. by n more (split n k (let a = next.1 in omega (arith, a, less)));
+      covered = λ n more less. by n more (at_most n k (let a = next.1 in omega (arith, a, less)));
       long = given.long;
     }
       where
-        split : (n d : ℕ) → n ≤ d → (n ≡ d) ⊎ (n < d)
-        split zero zero le = inl refl
-        split zero (suc d) le = inr (omega arith)
-        split (suc n) zero le = absurd (omega (arith, le))
-        split (suc n) (suc d) le = elim (split n d (omega (arith, le))) [ inl same ↦ inl (ap suc same) | inr less ↦ inr (omega (arith, less)) ]
-
         by : (n : ℕ) → 15 ≤ n → (n ≡ k) ⊎ (n < k) → is_put (get_or xs n entry.Nothing) ≡ true
         by n more (inl same) = ap (λ m. is_put (get_or xs m entry.Nothing)) (same ∙ sym next.0) ∙ is
         by n more (inr less) = given.covered n more less
@@ -284,13 +255,13 @@ module _ (kind_at : ℕ → DeclKind) where
     sub_put (entry.Subprogram p) is = refl
     sub_put _ is = absurd (true≢false (sym is))
 
-    not_type_body : (front : Code) → is_type_kind (kind_of (body_form front)) ≡ false
-    not_type_body (Front d formals result) = by result
+    body_class : (front : Code) → kind_class (kind_of (body_form front)) ≡ 2
+    body_class (Front d formals result) = by result
       where
-        by : (result : Code) → is_type_kind (kind_of (form_of_result result)) ≡ false
+        by : (result : Code) → kind_class (kind_of (form_of_result result)) ≡ 2
         by (More i rest) = refl
         by _ = refl
-    not_type_body _ = refl
+    body_class _ = refl
 
     pub body_given : (front : Code) (c : Context) (k : ℕ) (L : Declarations) (j : ℕ) → IsFormlessFront front
         → Goes limit k ((body_form front, front_number front) ∷ (front_declarations front ++ L)) j → At c k
@@ -302,40 +273,36 @@ module _ (kind_at : ℕ → DeclKind) where
         by true is =
             let f = first_placed limit k (body_form front) (front_number front) L j (front_bare front L none k j (front_number front) (body_form front) goes) in
             (f.0, f.2, formals_given front c f.0 none (already c.known.entries k (front_number front) f.0 f.1 (sub_put (entry_of c.known (front_number front)) is) given))
-        by false is = front_given (body_form front) front c k L j none (not_type_body front) goes given
+        by false is = front_given (body_form front) front c k L j none (body_class front) goes given
 
     two_given : (x y : Code) (c : Context) (k j : ℕ) → Goes limit k (declarations x ++ declarations y) j
         → ((m : ℕ) → Goes limit k (declarations x) m → At (gather x c) m) → ((m : ℕ) → Goes limit m (declarations y) j → At (gather x c) m → At (gather y (gather x c)) j)
         → At (gather y (gather x c)) j
     two_given x y c k j goes first second = let s = goes_both limit k (declarations x) (declarations y) j goes in second s.0 s.2 (first s.0 s.1)
 
-    append_nothing : {A : Type 0} (xs : List A) → xs ++ [] ≡ xs
-    append_nothing [] = refl
-    append_nothing (x ∷ xs) = ap (λ ys. x ∷ ys) (append_nothing xs)
-
     pub all_given : (code : Code) (c : Context) (k j : ℕ) → IsFormless code → Goes limit k (declarations code) j → At c k → At (gather code c) j
     unfolding gather IsFormless
     all_given (Incomplete d) c k j none goes given =
-        one k form.IncompleteType (declared_number d) [] j entry.Type c (At (gather (Incomplete d) c) j) goes (type_right form.IncompleteType (declared_number d) refl) refl given
+        one k form.IncompleteType (declared_number d) [] j entry.Type c (At (gather (Incomplete d) c) j) goes (class_right form.IncompleteType (declared_number d) entry.Type refl) refl given
         (λ m on now. done m j (with_entry (declared_number d) entry.Type c) on now)
     all_given (Private d) c k j none goes given =
-        one k form.PrivateType (declared_number d) [] j entry.Type c (At (gather (Private d) c) j) goes (type_right form.PrivateType (declared_number d) refl) refl given
+        one k form.PrivateType (declared_number d) [] j entry.Type c (At (gather (Private d) c) j) goes (class_right form.PrivateType (declared_number d) entry.Type refl) refl given
         (λ m on now. done m j (with_entry (declared_number d) entry.Type c) on now)
     all_given (TypeDecl d def end) c k j none goes given =
         let n : ℕ = declared_number d in
-        one k form.FullType n (literals_of def) j entry.Type c (At (gather (TypeDecl d def end) c) j) goes (type_right form.FullType n refl) refl given
+        one k form.FullType n (literals_of def) j entry.Type c (At (gather (TypeDecl d def end) c) j) goes (class_right form.FullType n entry.Type refl) refl given
         (λ m on now. definition_given n def (with_type n (full_info c n def end) c) m j on now)
     all_given (Subtype d m) c k j none goes given =
-        one k form.Subtype (declared_number d) [] j entry.Type c (At (gather (Subtype d m) c) j) goes (type_right form.Subtype (declared_number d) refl) refl given
+        one k form.Subtype (declared_number d) [] j entry.Type c (At (gather (Subtype d m) c) j) goes (class_right form.Subtype (declared_number d) entry.Type refl) refl given
         (λ m on now. done m j (with_entry (declared_number d) entry.Type c) on now)
     all_given (ConstrainedSubtype d m low high) c k j none goes given =
-        one k form.Subtype (declared_number d) [] j entry.Type c (At (gather (ConstrainedSubtype d m low high) c) j) goes (type_right form.Subtype (declared_number d) refl) refl given
+        one k form.Subtype (declared_number d) [] j entry.Type c (At (gather (ConstrainedSubtype d m low high) c) j) goes (class_right form.Subtype (declared_number d) entry.Type refl) refl given
         (λ m on now. done m j (with_entry (declared_number d) entry.Type c) on now)
     all_given (Objects ids constant i v) c k j none goes given = objects_given constant i (constant_value c constant v) ids c k j goes given
     all_given (Numbers ids e) c k j none goes given = numbers_given (initial_value c e) ids c k j goes given
     all_given (Instance d m args) c k j none goes given =
         let x : Entry = entry.Instance (instance_type args) in
-        one k form.Instance (declared_number d) [] j x c (At (gather (Instance d m args) c) j) goes (other_right form.Instance (declared_number d) x refl refl) refl given
+        one k form.Instance (declared_number d) [] j x c (At (gather (Instance d m args) c) j) goes (class_right form.Instance (declared_number d) x refl) refl given
         (λ m on now. done m j (with_entry (declared_number d) x c) on now)
     all_given (SubDecl front) c k j none goes given =
         let f = front_given form.SubprogramDeclaration front c k [] j none refl
@@ -349,7 +316,7 @@ module _ (kind_at : ℕ → DeclKind) where
         let n : ℕ = declared_number d in
         let start : Context = in_visible n (with_entry n entry.Package c) in
         one k form.Package n (declarations visible ++ declarations hidden) j entry.Package c (At (gather (Package d visible hidden) c) j) goes
-        (other_right form.Package n entry.Package refl refl) refl given
+        (class_right form.Package n entry.Package refl) refl given
         (λ m on now. let s = goes_both limit m (declarations visible) (declarations hidden) j on in
         all_given hidden (in_hidden n (gather visible start)) s.0 j none.1 s.2 (all_given visible start m s.0 none.0 s.1 now))
     all_given (PackageBody d parts) c k j none goes given = all_given parts (in_hidden (declared_number d) c) k j none goes given
@@ -363,7 +330,7 @@ module _ (kind_at : ℕ → DeclKind) where
     all_given (For at d reversed range x) c k j none goes given =
         let o : Entry = entry.Object (plain_object (parameter_type c range) kind.Parameter) in
         one k form.LoopParameter (declared_number d) (declarations x) j o c (At (gather (For at d reversed range x) c) j) goes
-        (other_right form.LoopParameter (declared_number d) o refl refl) refl given
+        (class_right form.LoopParameter (declared_number d) o refl) refl given
         (λ m on now. all_given x (with_entry (declared_number d) o c) m j none on now)
     all_given (Block at x y end) c k j none goes given =
         two_given x y c k j goes (λ m on. all_given x c k m none.0 on given) (λ m on now. all_given y (gather x c) m j none.1 on now)

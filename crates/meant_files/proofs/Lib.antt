@@ -1,3 +1,4 @@
+pub mod Lists
 pub mod Objects
 pub mod Puts
 pub mod Trees
@@ -7,6 +8,7 @@ pub mod Walk
 pub mod Events
 pub mod Given
 pub mod Stays
+pub mod Bare
 pub mod Rows
 pub mod Types
 pub mod Bodies

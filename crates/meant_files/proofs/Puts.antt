@@ -1,5 +1,5 @@
 -- What is known to be an object or a subprogram is declared as one, in a text without formals.
-use Rattle.std.proofs.Common.{◌≡◌, inl, inr, ℕ, zero, suc, ◌+◌, ◌-◌, Bool, true, false, List, [], ◌∷◌, ◌++◌, flat_map, set, get_or, replicate, refl, sym, subst, Some, if◌then◌else◌}
+use Rattle.std.proofs.Common.{◌≡◌, inl, inr, ℕ, zero, suc, ◌+◌, ◌-◌, Bool, true, false, List, [], ◌∷◌, ◌++◌, flat_map, get_or, replicate, refl, sym, subst, Some, if◌then◌else◌}
 use Rattle.spark_base.specs.Lists.{Has}
 use Rattle.spark_base.proofs.Lists.{Has-append_left, Has-append_right}
 use Rattle.resolved_tree.specs.Trees.{NoMore, More, Code, Anonymous, Enumeration, Incomplete, Private, TypeDecl, Subtype, ConstrainedSubtype, Objects, Numbers, Instance, Front, SubDecl, SubBody, Package, PackageBody, If, Branch, Case, When, Loop, While, For, Block, Program}
@@ -15,6 +15,7 @@ use Rattle.type_definitions.specs.Names.{Context}
 use Rattle.type_definitions.specs.Gathered.{gather, each, with_entry, with_type, with_indication, full_info, with_literals, with_definition, with_object, object_info, constant_value, indicated, with_number, number_info, initial_value, with_formal_group, with_formals, with_result, with_front, with_body_front, profile, is_subprogram, front_number, plain_object, parameter_type, in_subprogram, in_visible, in_hidden, instance_type, declared_number}
 use Rattle.type_definitions.specs.Whole.{predefined_entries, at_first, outside, gather_units, known_from, known_of}
 use Rattle.meant_files.specs.Formless.{IsFormlessFront, IsFormless}
+use Rattle.meant_files.proofs.Lists.{entry_put}
 use Rattle.meant_files.proofs.Objects.{object_numbers}
 
 -- The numbers of the subprograms that code declares.
@@ -35,13 +36,6 @@ sub_numbers (More a rest) = sub_numbers a ++ sub_numbers rest
 sub_numbers _ = []
 
 -- ---- entries
-
-entry_put : {A : Type 0} (Q : ℕ → A → Type 0) (xs : List A) (d t : ℕ) (x fallback : A) → Q d x → Q t (get_or xs t fallback) → Q t (get_or (set xs d x) t fallback)
-entry_put Q [] d t x fallback new old = old
-entry_put Q (y ∷ xs) zero zero x fallback new old = new
-entry_put Q (y ∷ xs) zero (suc t) x fallback new old = old
-entry_put Q (y ∷ xs) (suc d) zero x fallback new old = old
-entry_put Q (y ∷ xs) (suc d) (suc t) x fallback new old = entry_put (λ n. Q (suc n)) xs d t x fallback new old
 
 module _ (object sub : ℕ → Type 0) where
   abbrev SaidOf : ℕ → Entry → Type 0

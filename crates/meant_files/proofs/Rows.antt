@@ -1,5 +1,5 @@
 -- The rows of predefined types stay, in a text without formals and anonymous access types.
-use Rattle.std.proofs.Common.{◌≡◌, inl, inr, ℕ, zero, suc, ◌+◌, Bool, true, false, [], ◌∷◌, ◌++◌, set, refl, sym, ap, ◌∙◌, subst, Some, not, ◌||◌, if◌then◌else◌}
+use Rattle.std.proofs.Common.{◌≡◌, inl, inr, ℕ, ◌+◌, Bool, true, false, [], ◌∷◌, ◌++◌, refl, sym, ap, ◌∙◌, subst, Some, not, ◌||◌, if◌then◌else◌}
 use Rattle.std.specs.Prelude.{slice_get}
 use Rattle.spark_base.proofs.Lists.{Has-append_left, Has-append_right}
 use Rattle.resolved_tree.specs.Trees.{NoMore, More, Code, Anonymous, Enumeration, Incomplete, Private, TypeDecl, Subtype, ConstrainedSubtype, Objects, Numbers, Instance, Front, SubDecl, SubBody, Package, PackageBody, If, Branch, Case, When, Loop, While, For, Block}
@@ -10,21 +10,15 @@ use Rattle.type_definitions.specs.declared.table.Info.{Info}
 use Rattle.type_definitions.specs.declared.table.Kind.TheVariants as kind
 use Rattle.type_definitions.specs.declared.table.Shape.TheVariants as shape
 use Rattle.type_definitions.specs.declared.table.Entry.TheVariants as entry
-use Rattle.type_definitions.specs.Types.{Table, info, full, base}
+use Rattle.type_definitions.specs.Types.{info, full, base}
 use Rattle.type_definitions.specs.Entries.{entry_of, marked}
 use Rattle.type_definitions.specs.Names.{Context}
 use Rattle.type_definitions.specs.Gathered.{gather, each, with_entry, with_type, with_indication, awaited_info, full_info, subtype_info, meant_by, constrained_shape, bound_pair, is_asked, are_static_bounds, with_literals, with_definition, with_object, constant_value, with_number, initial_value, with_formal_group, with_formals, with_result, with_front, with_body_front, is_subprogram, front_number, plain_object, parameter_type, in_subprogram, in_visible, in_hidden, declared_number, declared_pos}
 use Rattle.gathered_laws.specs.Named.{IsPlain, IsPlainResult, IsPlainFront, IsNamed}
 use Rattle.meant_files.specs.Formless.{IsFormlessFront, IsFormless}
 use Rattle.meant_files.specs.Declarations.{Declarations, literals_of, front_declarations, body_form, declarations}
+use Rattle.meant_files.proofs.Lists.{row_other}
 use Rattle.meant_files.proofs.Stays.{Without}
-
-row_other : (table : Table) (d t : ℕ) (i : Info) → (t ≡ d → ⊥) → slice_get (set table d i) t ≡ slice_get table t
-row_other [] d t i other = refl
-row_other (y ∷ rest) zero zero i other = absurd (other refl)
-row_other (y ∷ rest) zero (suc t) i other = refl
-row_other (y ∷ rest) (suc d) zero i other = refl
-row_other (y ∷ rest) (suc d) (suc t) i other = row_other rest d t i (λ same. other (ap suc same))
 
 module _ (n : ℕ) where
   abbrev Same : Context → Context → Type 0

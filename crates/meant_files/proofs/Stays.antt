@@ -14,7 +14,7 @@ use Rattle.type_definitions.specs.Names.{Context}
 use Rattle.type_definitions.specs.Gathered.{gather, each, with_entry, with_type, with_indication, full_info, with_literals, with_definition, with_object, object_info, constant_value, indicated, with_number, number_info, initial_value, with_formal_group, with_formals, with_result, with_front, with_body_front, profile, is_subprogram, front_number, plain_object, parameter_type, in_subprogram, in_visible, in_hidden, instance_type, declared_number}
 use Rattle.meant_files.specs.Formless.{IsFormlessFront, IsFormless}
 use Rattle.meant_files.specs.Declarations.{Declarations, each_as, literals_of, front_declarations, body_form, declarations}
-use Rattle.meant_files.proofs.Given.{entry_other}
+use Rattle.meant_files.proofs.Lists.{entry_other}
 
 module _ (n : ℕ) where
   abbrev pub Without : Declarations → Type 0

@@ -1,14 +1,12 @@
 -- Objects of a text without formals and anonymous types have the types that are indicated for them.
-use Rattle.std.proofs.Common.{◌≡◌, ◌⊎◌, inl, inr, ℕ, zero, suc, ◌<◌, ◌≤◌, Bool, true, false, List, [], ◌∷◌, ◌++◌, flat_map, set, get_or, refl, sym, ap, ◌∙◌, arith, subst, Option, Some, None, true≢false, if◌then◌else◌}
-use Rattle.std.specs.Prelude.{slice_get}
+use Rattle.std.proofs.Common.{◌≡◌, ◌⊎◌, inl, inr, ℕ, suc, ◌<◌, ◌≤◌, Bool, true, false, List, [], ◌∷◌, ◌++◌, flat_map, set, get_or, refl, sym, ap, ◌∙◌, arith, subst, Option, Some, None, true≢false, if◌then◌else◌}
 use Rattle.spark_base.specs.Lists.{Has}
 use Rattle.resolved_tree.specs.declared.node.Mark.{Mark}
-use Rattle.resolved_tree.specs.declared.operator.UnaryOperator.{UnaryOperator}
-use Rattle.resolved_tree.specs.declared.operator.UnaryOperator.TheVariants as unary
-use Rattle.resolved_tree.specs.Trees.{Tree, Named, Parens, Unary, Binary, More, Code, Plain, Anonymous, Bounds, Marked, Constrained, Objects, Numbers, SubBody, Package, PackageBody, If, Branch, Case, When, Loop, While, For, Block}
+use Rattle.resolved_tree.specs.Trees.{More, Code, Plain, Anonymous, Bounds, Marked, Constrained, Objects, Numbers, SubBody, Package, PackageBody, If, Branch, Case, When, Loop, While, For, Block}
 use Rattle.name_events.specs.declared.declaration.DeclarationForm.{DeclarationForm}
 use Rattle.name_events.specs.declared.declaration.DeclarationForm.TheVariants as form
 use Rattle.name_events.specs.declared.declaration.DeclKind.{DeclKind}
+use Rattle.name_events.specs.declared.declaration.DeclKind.TheVariants as kinds
 use Rattle.name_events.specs.Denotes.{kind_of}
 use Rattle.type_definitions.specs.declared.table.InitialValue.{InitialValue}
 use Rattle.type_definitions.specs.declared.table.ObjectInfo.{ObjectInfo}
@@ -16,39 +14,49 @@ use Rattle.type_definitions.specs.declared.table.Known.{Known}
 use Rattle.type_definitions.specs.declared.table.Kind.TheVariants as kind
 use Rattle.type_definitions.specs.declared.table.Entry.{Entry}
 use Rattle.type_definitions.specs.declared.table.Entry.TheVariants as entry
-use Rattle.type_definitions.specs.declared.judgement.Own.TheVariants as own
-use Rattle.type_definitions.specs.Types.{Table, untyped, base, base_found, full, shape_found, view_of, meant_type_found, is_scalar}
-use Rattle.type_definitions.specs.Entries.{entry_of, integer, boolean, is_type, type_of_entry, type_of_mark, marked}
+use Rattle.type_definitions.specs.Types.{untyped}
+use Rattle.type_definitions.specs.Entries.{entry_of, integer, is_type, type_of_entry, type_of_mark, marked}
 use Rattle.type_definitions.specs.Names.{Context}
-use Rattle.type_definitions.specs.Expressions.{own_type, unary_type, is_join, is_arithmetic}
-use Rattle.type_definitions.specs.Statements.{type_or_integer}
+use Rattle.type_definitions.specs.Statements.{is_object_entry}
 use Rattle.type_definitions.specs.Gathered.{gather, each, with_entry, with_indication, with_object, object_info, constant_value, indicated, with_number, number_info, initial_value, with_body_front, plain_object, parameter_type, in_subprogram, in_visible, in_hidden, declared_number}
-use Rattle.type_definitions.specs.Whole.{predefined_types, gather_units}
+use Rattle.type_definitions.specs.Whole.{gather_units}
 use Rattle.meant_files.specs.Formless.{IsFormless}
 use Rattle.gathered_laws.specs.Named.{IsPlain, IsNamed}
 use Rattle.meant_files.specs.Declarations.{Declarations, each_as, declarations, last_from, IsLow, IsLowIndication, IsLowRange, AreLow, AllLow}
 use Rattle.meant_files.specs.Counted.{is_completing, Counts}
 use Rattle.meant_files.specs.Typed.{IsParameterOf, AreIndicated, AreIntegers, AreTyped}
 use Rattle.meant_files.specs.Bounded.{is_named, IsBounded, AreBounded}
-use Rattle.meant_files.proofs.Given.{entry_there, counts_has, counts_grow, is_type_kind, is_object_kind, is_put, IsRight, Given, Goes, goes_both, put, all_given, other_right, indication_given, body_given}
+use Rattle.meant_files.proofs.Lists.{entry_there, at_most, below_or}
+use Rattle.meant_files.proofs.Given.{counts_has, counts_grow, is_type_kind, is_object_kind, kind_class, entry_class, is_put, IsRight, Given, Goes, goes_both, put, all_given, class_right, indication_given, body_given}
+use Rattle.meant_files.proofs.Bare.{AreFirst, bound_scalar}
 use Rattle.meant_files.proofs.Rows.{row_stays, body_stays}
 use Rattle.meant_files.proofs.Stays.{Without, stays, objects_stay, numbers_stay}
 
 module _ (kind_at : ℕ → DeclKind) (limit : ℕ) where
   -- ---- types
 
+  type_kind : (k : DeclKind) → kind_class k ≡ 0 → is_type_kind k ≡ true
+  type_kind kinds.TypeName is = refl
+  type_kind kinds.Object is = cc
+  type_kind kinds.Parameter is = cc
+  type_kind _ is = cc
+
+  other_kind : (k : DeclKind) (n : ℕ) → kind_class k ≡ suc n → is_type_kind k ≡ false
+  other_kind kinds.TypeName n is = cc
+  other_kind _ n is = refl
+
   is_as : (n : ℕ) (e : Entry) → IsRight kind_at n e → is_put e ≡ true → is_type e ≡ is_type_kind (kind_at n)
   is_as n entry.Nothing right put = absurd (true≢false (sym put))
-  is_as n entry.Type right put = sym right
-  is_as n entry.Package right put = sym right
-  is_as n (entry.Object o) right put = sym right
-  is_as n (entry.Literal t i) right put = sym right
-  is_as n (entry.Subprogram p) right put = sym right
-  is_as n (entry.Instance t) right put = sym right
-  is_as n (entry.Predefined p) right put = sym right
+  is_as n entry.Type right put = sym (type_kind (kind_at n) right)
+  is_as n entry.Package right put = sym (other_kind (kind_at n) 1 right)
+  is_as n (entry.Object o) right put = sym (other_kind (kind_at n) 0 right)
+  is_as n (entry.Literal t i) right put = sym (other_kind (kind_at n) 1 right)
+  is_as n (entry.Subprogram p) right put = sym (other_kind (kind_at n) 1 right)
+  is_as n (entry.Instance t) right put = sym (other_kind (kind_at n) 1 right)
+  is_as n (entry.Predefined p) right put = sym (other_kind (kind_at n) 1 right)
 
   is_none : (n : ℕ) (e : Entry) → IsRight kind_at n e → is_type_kind (kind_at n) ≡ false → is_type e ≡ false
-  is_none n entry.Type right never = absurd (true≢false (sym right ∙ never))
+  is_none n entry.Type right never = absurd (true≢false (sym (type_kind (kind_at n) right) ∙ never))
   is_none n entry.Nothing right never = refl
   is_none n entry.Package right never = refl
   is_none n (entry.Object o) right never = refl
@@ -65,20 +73,12 @@ module _ (kind_at : ℕ → DeclKind) (limit : ℕ) where
       → is_type (get_or xs n entry.Nothing) ≡ is_type (get_or ys n entry.Nothing)
   same_type xs ys k n within here there (inr never) =
       is_none n (get_or xs n entry.Nothing) (here.right n never.0) never.1 ∙ sym (is_none n (get_or ys n entry.Nothing) (there.right n never.0) never.1)
-  same_type xs ys k n within here there (inl less) = elim (split n) [
+  same_type xs ys k n within here there (inl less) = elim (below_or 15 n) [
     | inl low ↦ ap is_type (here.low n low ∙ sym (there.low n low))
     | inr high ↦
         is_as n (get_or xs n entry.Nothing) (here.right n high) (here.covered n high less)
         ∙ sym (is_as n (get_or ys n entry.Nothing) (there.right n high) (there.covered n high (omega (arith, less, within))))
   ]
-    where
-      split : (n : ℕ) → (n < 15) ⊎ (15 ≤ n)
-      split n = by 15 n
-        where
-          by : (m n : ℕ) → (n < m) ⊎ (m ≤ n)
-          by zero n = inr (omega arith)
-          by (suc m) zero = inl (omega arith)
-          by (suc m) (suc n) = elim (by m n) [ inl less ↦ inl (omega (arith, less)) | inr more ↦ inr (omega (arith, more)) ]
 
   type_or : (d : ℕ) (e : Entry) → type_of_entry d e ≡ (if is_type e then d else untyped)
   type_or d entry.Type = refl
@@ -130,16 +130,10 @@ module _ (kind_at : ℕ → DeclKind) (limit : ℕ) where
   objects_kinds : (ids : Code) (k j : ℕ) → Goes kind_at limit k (each_as form.Object ids) j → (n : ℕ) → k ≤ n → n < j → is_type_kind (kind_at n) ≡ false
   objects_kinds (More d rest) k j goes n more less =
       let f = object_form k (declared_number d) (each_as form.Object rest) j form.Object refl goes in
-      elim (split k n more) [
+      elim (at_most k n more) [
         | inl same ↦ ap (λ m. is_type_kind (kind_at m)) (sym same ∙ sym f.0) ∙ ap is_type_kind (sym f.2)
         | inr over ↦ objects_kinds rest (suc k) j f.1 n over less
       ]
-    where
-      split : (n d : ℕ) → n ≤ d → (n ≡ d) ⊎ (n < d)
-      split zero zero le = inl refl
-      split zero (suc d) le = inr (omega arith)
-      split (suc n) zero le = absurd (omega (arith, le))
-      split (suc n) (suc d) le = elim (split n d (omega (arith, le))) [ inl same ↦ inl (ap suc same) | inr less ↦ inr (omega (arith, less)) ]
   objects_kinds ids k j goes n more less = let a = goes.0 in absurd (omega (arith, a, more, less))
 
   last_low : (n : ℕ) (ids : Code) (k j : ℕ) → n < k → Goes kind_at limit k (each_as form.Object ids) j → last_from n ids < j
@@ -152,18 +146,13 @@ module _ (kind_at : ℕ → DeclKind) (limit : ℕ) where
   sure_later k m n more (inl less) = inl (omega (arith, more, less))
   sure_later k m n more (inr never) = inr never
 
-  over : (k n : ℕ) → (n < k) ⊎ (k ≤ n)
-  over zero n = inr (omega arith)
-  over (suc k) zero = inl (omega arith)
-  over (suc k) (suc n) = elim (over k n) [ inl less ↦ inl (omega (arith, less)) | inr more ↦ inr (omega (arith, more)) ]
-
   -- A mark that denotes nothing after the last of some objects.
   objects_sure : (ids : Code) (k j : ℕ) (m : Mark) → Goes kind_at limit k (each_as form.Object ids) j → IsLow (last_from 0 ids) m → (n : ℕ) → m.decl ≡ Some n → IsSure k n
   objects_sure ids k j m goes low n is =
       let high = goes.2 in
       let last = last_low 0 ids k j (omega (arith, high)) goes in
       let under = low n is in
-      elim (over k n) [
+      elim (below_or k n) [
         | inl less ↦ inl less
         | inr more ↦ inr (omega (arith, high, more), objects_kinds ids k j goes n more (omega (arith, under, last)))
       ]
@@ -177,12 +166,12 @@ module _ (kind_at : ℕ → DeclKind) (limit : ℕ) where
 
   -- one object more
   more_given : (new : DeclarationForm) (d k j : ℕ) (L : Declarations) (x : Entry) (xs : List Entry) → Goes kind_at limit k ((new, d) ∷ L) j
-      → is_completing new ≡ false → is_type_kind (kind_of new) ≡ false → is_type x ≡ false → is_put x ≡ true → Given kind_at limit xs k → Given kind_at limit (set xs d x) (suc k)
-  more_given new d k j L x xs goes never kind other is given =
+      → is_completing new ≡ false → kind_class (kind_of new) ≡ entry_class x → is_put x ≡ true → Given kind_at limit xs k → Given kind_at limit (set xs d x) (suc k)
+  more_given new d k j L x xs goes never class is given =
       let f = object_form k d L j new never goes in
       let grows = f.3 in
       let within = goes.3 in
-      put kind_at limit xs k d (suc k) x goes.2 (omega (arith, grows, within)) (inl (f.0, refl)) (other_right kind_at limit new d x kind other f.2) is given
+      put kind_at limit xs k d (suc k) x goes.2 (omega (arith, grows, within)) (inl (f.0, refl)) (class_right kind_at limit new d x class f.2) is given
 
   -- what is put stays till the end
   there_still : (new : DeclarationForm) (d k j : ℕ) (L : Declarations) (x : Entry) (xs : List Entry) → Goes kind_at limit k ((new, d) ∷ L) j → is_completing new ≡ false
@@ -217,7 +206,7 @@ module _ (kind_at : ℕ → DeclKind) (limit : ℕ) where
           same k c (omega arith) (omega (arith, grows, within)) given n,
         ),
         objects_typed constant i v rest (with_object constant i v d c) known (suc k) j (λ m e more. same m e (omega (arith, more))) f.1
-            (more_given form.Object n k j L x inner.known.entries goes refl refl refl refl now) agrees,
+            (more_given form.Object n k j L x inner.known.entries goes refl refl refl now) agrees,
       )
   objects_typed constant i v ids c known k j same goes given agrees = tt
 
@@ -233,14 +222,11 @@ module _ (kind_at : ℕ → DeclKind) (limit : ℕ) where
       let is : is_object_kind (kind_at n) ≡ true = object_kind form.Object n refl f.2 in
       let stay = numbers_stay n v rest (with_number v d c) (later (suc k) L j n f.1 (omega (arith, at)) is) in (
         (number_info c v, agrees n (omega (arith, at, grows)) is ∙ (stay ∙ there_still form.Object n k j L x c.known.entries goes refl given), refl),
-        numbers_typed v rest (with_number v d c) known (suc k) j f.1 (more_given form.Object n k j L x c.known.entries goes refl refl refl refl given) agrees,
+        numbers_typed v rest (with_number v d c) known (suc k) j f.1 (more_given form.Object n k j L x c.known.entries goes refl refl refl given) agrees,
       )
   numbers_typed v ids c known k j goes given agrees = tt
 
   -- ---- rows of predefined types
-
-  abbrev AreFirst : Table → Type 0
-  AreFirst table = (t : ℕ) → t < 5 → slice_get table t ≡ slice_get (predefined_types false) t
 
   counts_high : (k : ℕ) (L : Declarations) (j : ℕ) (new : DeclarationForm) (n : ℕ) → Counts k L j → 15 ≤ k → Has L (new, n) → 15 ≤ n
   counts_high k [] j new n counts high has = absurd has
@@ -256,45 +242,34 @@ module _ (kind_at : ℕ → DeclKind) (limit : ℕ) where
   firsts_after code c k j none named goes firsts t less =
       row_stays t code c none named (λ new has. let high = counts_high k (declarations code) j new t goes.0 goes.2 has in absurd (omega (arith, high, less))) ∙ firsts t less
 
-  abbrev IsBare : ℕ → Type 0
-  IsBare t = (t ≡ integer) ⊎ (t ≡ boolean)
-
-  -- the type of what is no name
-  own_bare : (c : Context) (e : Tree) → is_named e ≡ false → IsBare (type_or_integer (own_type c e))
-  unfolding own_type
-  own_bare c (Named p d rest) never = absurd (true≢false never)
-  own_bare c (Parens p e) never = own_bare c e never
-  own_bare c (Unary p op e) never = by op
+  -- what is an object at last is one here, or isn't known yet
+  object_fits : (xs ys : List Entry) (k : ℕ) → Given kind_at limit xs k → Given kind_at limit ys limit → (d : ℕ)
+      → is_object_entry (get_or ys d entry.Nothing) ≡ true → (is_put (get_or xs d entry.Nothing) ≡ false) ⊎ (is_object_entry (get_or xs d entry.Nothing) ≡ true)
+  object_fits xs ys k here there d is = elim (below_or 15 d) [
+    | inl low ↦ inr (ap is_object_entry (here.low d low ∙ sym (there.low d low)) ∙ is)
+    | inr high ↦ by (get_or xs d entry.Nothing) (here.right d high) (class_of (get_or ys d entry.Nothing) (there.right d high) is)
+  ]
     where
-      by : (op : UnaryOperator) → IsBare (unary_type op)
-      by unary.Not = inr refl
-      by _ = inl refl
-  own_bare c (Binary p op a b) never = by (is_join op) (is_arithmetic op)
-    where
-      by : (join arithmetic : Bool) → IsBare (type_or_integer (if join then own.Text else if arithmetic then own.Of integer else own.Of boolean))
-      by true arithmetic = inl refl
-      by false true = inl refl
-      by false false = inr refl
-  own_bare c _ never = inl refl
+      class_of : (e : Entry) → IsRight kind_at d e → is_object_entry e ≡ true → kind_class (kind_at d) ≡ 1
+      class_of (entry.Object o) right is = right
+      class_of _ right is = absurd (true≢false (sym is))
 
-  bare_scalar : (table final : Table) (t : ℕ) → AreFirst table → AreFirst final → IsBare t → is_scalar (full final (base table t)) ≡ true
-  bare_scalar table final t here there (inl same) =
-      ap (λ u. is_scalar (full final (base table u))) same
-      ∙ (ap (λ o. is_scalar (full final (base_found o))) (here 0 (omega arith))
-      ∙ (ap (λ o. is_scalar (view_of (shape_found (slice_get final (meant_type_found 0 o))))) (there 0 (omega arith))
-      ∙ ap (λ o. is_scalar (view_of (shape_found o))) (there 0 (omega arith))))
-  bare_scalar table final t here there (inr same) =
-      ap (λ u. is_scalar (full final (base table u))) same
-      ∙ (ap (λ o. is_scalar (full final (base_found o))) (here 3 (omega arith))
-      ∙ (ap (λ o. is_scalar (view_of (shape_found (slice_get final (meant_type_found 3 o))))) (there 3 (omega arith))
-      ∙ ap (λ o. is_scalar (view_of (shape_found o))) (there 3 (omega arith))))
+      by : (e : Entry) → IsRight kind_at d e → kind_class (kind_at d) ≡ 1 → (is_put e ≡ false) ⊎ (is_object_entry e ≡ true)
+      by entry.Nothing right one = inl refl
+      by (entry.Object o) right one = inr refl
+      by entry.Type right one = absurd (let a = sym right ∙ one in omega (arith, a))
+      by entry.Package right one = absurd (let a = sym right ∙ one in omega (arith, a))
+      by (entry.Literal t i) right one = absurd (let a = sym right ∙ one in omega (arith, a))
+      by (entry.Subprogram p) right one = absurd (let a = sym right ∙ one in omega (arith, a))
+      by (entry.Instance t) right one = absurd (let a = sym right ∙ one in omega (arith, a))
+      by (entry.Predefined p) right one = absurd (let a = sym right ∙ one in omega (arith, a))
 
   -- ---- parameters of loops
 
   parameter_same : (d : ℕ) (m : Mark) (k : ℕ) (c known : Known) → k ≤ limit → d ≡ k → 15 ≤ k → is_type_kind (kind_at d) ≡ false → IsLow d m
       → Given kind_at limit c.entries k → Given kind_at limit known.entries limit → marked c m ≡ marked known m
   parameter_same d m k c known within at high never low here there =
-      mark_same m k c known within here there (λ n is. let under = low n is in elim (over k n) [
+      mark_same m k c known within here there (λ n is. let under = low n is in elim (below_or k n) [
         | inl less ↦ inl less
         | inr more ↦ inr (omega (arith, high, more), subst (λ l. is_type_kind (kind_at l) ≡ false) (equal d n (omega (arith, at, more)) under) never)
       ])
@@ -320,8 +295,12 @@ module _ (kind_at : ℕ → DeclKind) (limit : ℕ) where
           → IsBounded outer d range → entry_of outer.known (declared_number d) ≡ entry.Object (plain_object (parameter_type c range) kind.Parameter)
           → IsParameterOf outer d range
       by (Bounds low high) within at never under bounded is =
-          let o : ObjectInfo = plain_object (parameter_type c (Bounds low high)) kind.Parameter in
-          (o, is, either (is_named low) (is_named low) refl (λ so. bounded so o is) (λ never. bare_scalar c.known.table outer.known.table (type_or_integer (own_type c low)) firsts lasts (own_bare c low never)))
+          let o : ObjectInfo = plain_object (parameter_type c (Bounds low high)) kind.Parameter in (
+            o,
+            is,
+            either (is_named outer low) (is_named outer low) refl (λ so. bounded so o is)
+                (λ never. bound_scalar c outer (object_fits c.known.entries outer.known.entries k given ends) outer.known.table low firsts lasts never),
+          )
       by (Marked m) within at never under bounded is =
           (plain_object (marked c.known m) kind.Parameter, is, parameter_same (declared_number d) m k c.known outer.known within at goes.2 never under given ends)
       by (Constrained m low high) within at never under bounded is =
@@ -358,7 +337,7 @@ module _ (kind_at : ℕ → DeclKind) (limit : ℕ) where
       let start : Context = in_visible n (with_entry n entry.Package c) in
       let second : Context = in_hidden n (gather visible start) in
       let f = object_form k n (declarations visible ++ declarations hidden) j form.Package refl goes in
-      let now = more_given form.Package n k j (declarations visible ++ declarations hidden) entry.Package c.known.entries goes refl refl refl refl given in
+      let now = more_given form.Package n k j (declarations visible ++ declarations hidden) entry.Package c.known.entries goes refl refl refl given in
       let s = goes_both kind_at limit (suc k) (declarations visible) (declarations hidden) j f.1 in
       let middle = all_given kind_at limit visible start (suc k) s.0 none.0 s.1 now in (
         typed_all visible (in_visible n outer) start (suc k) s.0 none.0 named.0 low.0 bounded.0 s.1 now ends firsts lasts (agrees_before outer.known hidden second s.0 j none.1 s.2 agrees),
@@ -391,7 +370,7 @@ module _ (kind_at : ℕ → DeclKind) (limit : ℕ) where
       ∙ there_still form.LoopParameter n k j (declarations x) o c.known.entries goes refl given) in (
         parameter_typed d range k j (declarations x) c outer goes given ends low.0 bounded.0 firsts lasts known,
         typed_all x outer inner (suc k) j none named low.1 bounded.1 f.1
-            (more_given form.LoopParameter n k j (declarations x) o c.known.entries goes refl refl refl refl given) ends firsts lasts agrees,
+            (more_given form.LoopParameter n k j (declarations x) o c.known.entries goes refl refl refl given) ends firsts lasts agrees,
       )
   typed_all (Block p x y end) outer c k j none named low bounded goes given ends firsts lasts agrees =
       let s = goes_both kind_at limit k (declarations x) (declarations y) j goes in (

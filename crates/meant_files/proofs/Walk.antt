@@ -69,11 +69,8 @@ use Rattle.typed_tree.specs.Programs.{bodies_in}
 use Rattle.meant_files.specs.Declarations.{Declarations, each_as, group_declarations, formal_declarations, front_declarations, body_form, declarations, declared_by, HasBodies, last_from, IsLow, IsLowIndication, IsLowRange, AreLow, AllLow}
 use Rattle.meant_files.specs.Followed.{IsFollowed, AreFollowed}
 use Rattle.orderly_files.proofs.Steps.{completes_nothing}
+use Rattle.meant_files.proofs.Lists.{append_nothing}
 use Rattle.meant_files.proofs.Silent.{declared_both, silent_both, silent_each, name_silent, arg_silent, next_arg_silent, expr_silent, range_silent, choice_silent, next_choice_silent}
-
-append_nothing : {A : Type 0} (xs : List A) → xs ++ [] ≡ xs
-append_nothing [] = refl
-append_nothing (x ∷ xs) = ap (λ ys. x ∷ ys) (append_nothing xs)
 
 -- ---- one more declaration
 
@@ -309,15 +306,6 @@ module _ (numbers : Numbers) where
   items_go (i ∷ rest) = item_then (lowered_items numbers rest) i (items_go rest)
 
   -- ---- statements
-
-  simple_silent : (s : Stmt) → declared_by numbers (simple_events s) ≡ []
-  unfolding simple_events
-  simple_silent (stmt.Assign pos target becomes value semicolon) =
-      silent_both numbers (name_events target) (expr_events value) (name_silent numbers target) (expr_silent numbers value)
-  simple_silent (stmt.Call pos callee semicolon) = name_silent numbers callee
-  simple_silent (stmt.ExitWhen pos when condition semicolon) = expr_silent numbers condition
-  simple_silent (stmt.ReturnValue pos value semicolon) = expr_silent numbers value
-  simple_silent _ = refl
 
   simple_go : (s : Stmt) → Walks (simple_events s) (lowered_simple numbers s)
   unfolding simple_events lowered_simple AreLow

@@ -6,6 +6,6 @@ use Rattle.typing_steps.specs.Programs.{program_of}
 use Rattle.meant_files.specs.Bounded.{AllBounded}
 
 pub record AreOrderly (files : List (List SourceUnit)) : Type 0 where
-  -- the parameter of a loop whose range is given by its bounds has a scalar type, where the lower one is a name
-  -- (for `AreFine` of typed_laws)
+  -- the parameter of a loop whose range is given by its bounds has a scalar type, where the lower one is a name,
+  -- but no attribute of an object (for `AreFine` of typed_laws)
   pub bounded : AllBounded (program_of files)
