@@ -4,8 +4,8 @@
     python3 tools/mutated_sources.py [--count N] [--seed N] [--jobs N] [--program PATH] [--command check|run] [--seconds N] [FILE...]
 
 The sources are those given, or the examples of crates/spark_examples, one file each. Some of their tokens are dropped,
-doubled, exchanged, or replaced by others of the file; identifiers are replaced by identifiers; lines are exchanged, doubled
-or dropped; bytes are changed; or the text is cut. For each changed source the program has to end within --seconds, with a
+doubled, exchanged, or replaced by others of the file; identifiers are replaced by identifiers, and numbers by numbers;
+lines and statements are exchanged, doubled or dropped; bytes are changed; or the text is cut. For each changed source the program has to end within --seconds, with a
 status of the command, and with the lines that this status has, each in the form of docs/TOOL.md. `run` gets a few lines of
 numbers as input. The answers are counted by status and code. A source whose answer isn't well is kept in a folder that is
 named at the end, and the status is 1. With one seed and one number of jobs the sources are the same each time.
@@ -30,6 +30,8 @@ LEAK = rb"(?:" + PLACE + rb"leak of cell [1-9]\d*\n)*"
 RAISED = re.compile(LEAK + PLACE + rb"raised ([A-Z][a-z]+_[A-Z][a-z]+)\n")
 SPENT = re.compile(LEAK + rb"steps spent: \d+\n")
 TRAPPED = re.compile(LEAK + PLACE + rb"trapped (Touched|Twice)\n")
+RESERVED = {word.encode() for word in (TOP / "docs" / "LANGUAGE.md").read_text().split("\n## Reserved words\n")[1].strip().split("\n\n")[0].split()}
+OPENERS = set(b"begin case declare else elsif end for function if is loop package procedure record then type when while with".split())
 INPUT = b"12 -7\n 2147483647\n0 1 2 3\nx 5\n"
 STEPS = "100000"
 
@@ -67,10 +69,29 @@ def replace(rng, tokens):
 
 
 def rename(rng, tokens):
-    """An identifier or a word in the place of another one."""
-    words = [i for i in solid(tokens) if tokens[i][:1].isalpha()]
+    """An identifier in the place of another one."""
+    words = [i for i in solid(tokens) if tokens[i][:1].isalpha() and tokens[i].lower() not in RESERVED]
     if words:
         tokens[rng.choice(words)] = tokens[rng.choice(words)]
+
+
+def statements(rng, tokens):
+    """A declaration or statement without others in it is dropped or doubled, or exchanged with another one."""
+    ends = [i for i, token in enumerate(tokens) if token == b";"]
+    plain = [k for k in range(len(ends) - 1) if not any(token.lower() in OPENERS for token in tokens[ends[k] : ends[k + 1]])]
+    if len(plain) < 2:
+        return
+    i, j = sorted(rng.sample(plain, 2))
+    first, second = tokens[ends[i] + 1 : ends[i + 1] + 1], tokens[ends[j] + 1 : ends[j + 1] + 1]
+    kind = rng.randrange(4)
+    if kind == 0:
+        tokens[ends[i] + 1 : ends[i + 1] + 1] = []
+    elif kind == 1:
+        tokens[ends[j] + 1 : ends[j] + 1] = first
+    elif kind == 2:
+        tokens[ends[i] + 1 : ends[i] + 1] = second
+    else:
+        tokens[ends[j] + 1 : ends[j + 1] + 1], tokens[ends[i] + 1 : ends[i + 1] + 1] = first, second
 
 
 def renumber(rng, tokens):
@@ -106,13 +127,14 @@ def cut(rng, text):
     return text[: rng.randrange(len(text) + 1)]
 
 
-BY_TOKEN = (drop, double, exchange, replace, rename, rename, rename, renumber)
-BY_TEXT = (lines, lines, lines, byte, cut)
+# most changes keep the grammar, so that later stages are asked too
+BY_TOKEN = (drop, double, exchange, replace, renumber, renumber) + 6 * (rename,) + 6 * (statements,)
+BY_TEXT = (lines, lines, byte, cut)
 
 
 def changed(rng, text):
     for _ in range(rng.choice((1, 1, 1, 2, 3))):
-        if rng.randrange(3) == 0:
+        if rng.randrange(6) == 0:
             text = rng.choice(BY_TEXT)(rng, text)
         else:
             tokens = cut_up(text)
