@@ -3,7 +3,7 @@ _spark() {
     local word=${COMP_WORDS[COMP_CWORD]} found
     COMPREPLY=()
     if [ "$COMP_CWORD" -eq 1 ]; then
-        COMPREPLY=($(compgen -W 'check leaks make run' -- "$word"))
+        COMPREPLY=($(compgen -W 'check leaks make run selftest' -- "$word"))
     elif [[ "${COMP_WORDS[1]}" =~ ^(check|leaks|run)$ ]]; then
         # (a line each, as names may have blanks)
         while IFS= read -r found; do

@@ -10,7 +10,7 @@ use Rattle.command_words.specs.Words.{Command, Check, Run, Leaks, Make, Selftest
 use Rattle.run_command.specs.Answers.{Answer}
 use Rattle.spark_tool.specs.Commands.{command_of}
 use Rattle.spark_tool.specs.Reading.{Sources, Texts, sources}
-use Rattle.spark_tool.specs.Product.{Finding, check_answer, judged, Checks, missing, too_large, lexical, syntactic, unresolved, mistyped, beyond, checked, Answers, Product, usage, check, run, leaks, make}
+use Rattle.spark_tool.specs.Product.{Finding, check_answer, judged, Checks, missing, too_large, lexical, syntactic, unresolved, mistyped, beyond, checked, Answers, Product, usage, check, run, leaks, make, selftest}
 use Rattle.accepted_runs.specs.Passed.{Passes}
 
 -- Such texts, with what their program is.
@@ -71,6 +71,7 @@ answers_passed stored input _ _ (check names finding checks) = λ is_zero. passe
 answers_passed stored input _ _ (run names budget stats finding checks) = tt
 answers_passed stored input _ _ (leaks names finding answer checks lists) = tt
 answers_passed stored input _ _ (make n) = tt
+answers_passed stored input _ _ (selftest n finding checks) = tt
 
 -- A check that the tool answers with status 0 is one of files that pass.
 pub product_passed : (stored : List (List ℕ × List ℕ)) (input : List ℕ) (words names : List (List ℕ)) (answer : Answer)

@@ -9,12 +9,12 @@ use Rattle.flow_paths.specs.Laid.{FlowProgram}
 use Rattle.leak_checks.specs.Plan.{LeakPlan}
 use Rattle.program_check.specs.Sources.{printed_in}
 use Rattle.rule_reports.specs.Lines.{leak_plan_lines}
-use Rattle.command_words.specs.Words.{Command, Check, Run, Leaks, Make, Fits}
+use Rattle.command_words.specs.Words.{Command, Check, Run, Leaks, Make, Selftest, Fits}
 use Rattle.run_command.specs.Answers.{Answer}
 use Rattle.spark_tool.specs.declared.finding.Outcome.{Outcome}
 use Rattle.spark_tool.specs.declared.stop.Stop.{Stop}
 use Rattle.spark_tool.specs.Answers.{answer_for}
-use Rattle.spark_tool.specs.Product.{Finding, Ends, Passes, Lists, ends, planned, listed, Answers, usage, check, check_answer, leaks, run, run_answer_of, make, made, Checks, missing, misused, unread, fixed_answer}
+use Rattle.spark_tool.specs.Product.{Finding, Ends, Passes, Lists, ends, planned, listed, Answers, usage, check, check_answer, leaks, run, run_answer_of, make, made, Checks, missing, misused, unread, fixed_answer, selftest, made_names, made_source, test_answer}
 use Rattle.spark_tool.specs.Reading.{Sources, Missing, sources}
 use Rattle.spark_tool.specs.Refusals.{Gives, IsFor}
 
@@ -146,3 +146,29 @@ made_gives (Some files) command n answer asked is =
 pub made_fixed : (command : Option Command) (n : ℕ) (answer : Answer) → command ≡ Some (Make n) → answer ≡ made n
     → IfSome (fixed_answer command) (λ told. answer ≡ told)
 made_fixed command n answer asked is = subst (λ (c : Option Command). IfSome (fixed_answer c) (λ told. answer ≡ told)) (sym asked) is
+
+-- ---- the program that is made, as the one source
+
+pub test_gives : (stored : Option (List (List ℕ × List ℕ))) (command : Option Command) (n : ℕ) (result : Result Outcome Stop) → command ≡ Some (Selftest n)
+    → IfOk result (λ done. (finding : Finding) × (Checks made_names (made_source n) finding × ((input : List ℕ) → answer_for input done ≡ test_answer n finding)))
+    → IfOk result (λ done. IfSome stored (λ files. Gives files command done))
+test_gives stored command n (Err stop) asked is = tt
+test_gives None command n (Ok done) asked is = tt
+test_gives (Some files) command n (Ok done) asked is =
+    λ input. subst (λ (c : Option Command). Answers files input c (answer_for input done)) (sym asked)
+    (subst (λ (a : Answer). Answers files input (Some (Selftest n)) a) (sym (is.1.1 input)) (selftest n is.0 is.1.0))
+
+-- where the names of the files and what was read are those of it
+pub test_checks : (names : List (List ℕ)) (n : ℕ) (found : Sources) (finding : Finding) → names ≡ made_names → found ≡ made_source n
+    → Checks names found finding → Checks made_names (made_source n) finding
+test_checks names n found finding named is checks =
+    subst (λ (s : Sources). Checks made_names s finding) is (subst (λ (ns : List (List ℕ)). Checks ns found finding) named checks)
+
+-- what was found of it, and what is answered to that
+pub test_found : (n : ℕ) (names : List (List ℕ)) (found : Sources) (finding : Finding) (result : Result Outcome Stop) → names ≡ made_names
+    → found ≡ made_source n → Checks names found finding
+    → IfOk result (λ made. (input : List ℕ) → answer_for input made ≡ test_answer n finding)
+    → IfOk result (λ made. (x : Finding) × (Checks made_names (made_source n) x × ((input : List ℕ) → answer_for input made ≡ test_answer n x)))
+test_found n names found finding (Err stop) named is checks answers = tt
+test_found n names found finding (Ok done) named is checks answers =
+    (finding, (test_checks names n found finding named is checks, answers))

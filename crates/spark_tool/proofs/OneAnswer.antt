@@ -35,7 +35,7 @@ use Rattle.spark_tool.specs.Commands.{command_of}
 use Rattle.spark_tool.specs.Reading.{Sources, Texts, TooLarge, Missing, sources}
 use Rattle.spark_tool.specs.Lexing.{AllTokens, all_tokens}
 use Rattle.spark_tool.specs.Parsing.{told_cut, IsParsed, AreTreesOf, IsRefusedAt, FirstRefused}
-use Rattle.spark_tool.specs.Product.{Finding, Ends, Rejects, Passes, rejected, Lists, ends, rejects, planned, listed, leaks, Answers, Product, usage, check, check_answer, run, run_answer_of, make, made, Checks, missing, too_large, lexical, syntactic, unresolved, mistyped, beyond, checked, stops, unread, misused, judged, lexical_code, syntactic_code, name_code, type_code, limit_code}
+use Rattle.spark_tool.specs.Product.{Finding, Ends, Rejects, Passes, rejected, Lists, ends, rejects, planned, listed, leaks, Answers, Product, usage, check, check_answer, run, run_answer_of, make, made, Checks, missing, too_large, lexical, syntactic, unresolved, mistyped, beyond, checked, stops, unread, misused, judged, lexical_code, syntactic_code, name_code, type_code, limit_code, selftest, made_names, made_source, test_answer}
 use Rattle.spark_tool.proofs.Parsed.{at_middle, parsed_of}
 
 -- ---- pairs
@@ -270,7 +270,7 @@ Told stored input (Some (Run names budget stats)) answer =
     (found : Finding) × Says names (sources stored 0 SOURCE_BYTES names) found × (answer ≡ run_answer_of names budget input found)
 Told stored input (Some (Leaks names)) answer = (found : Finding) × Says names (sources stored 0 SOURCE_BYTES names) found × Listed names found answer
 Told stored input (Some (Make n)) answer = answer ≡ made n
-Told stored input (Some (Selftest n)) answer = ⊥
+Told stored input (Some (Selftest n)) answer = (found : Finding) × Says made_names (made_source n) found × (answer ≡ test_answer n found)
 
 told : (stored : List (List ℕ × List ℕ)) (input : List ℕ) (command : Option Command) (answer : Answer) → Answers stored input command answer
     → Told stored input command answer
@@ -280,6 +280,7 @@ told stored input _ _ (run names budget stats found checks) = (found, says names
 told stored input _ _ (leaks names found answer checks lists) =
     (found, says names (sources stored 0 SOURCE_BYTES names) found checks, is_listed names found answer lists)
 told stored input _ _ (make n) = refl
+told stored input _ _ (selftest n found checks) = (found, says made_names (made_source n) found checks, refl)
 
 found_once : {A : Type 0} (names : List (List ℕ)) (found : Sources) (f : Finding → A) (a b : A) → (x : Finding) × Says names found x × (a ≡ f x)
     → (x : Finding) × Says names found x × (b ≡ f x) → a ≡ b
@@ -295,7 +296,7 @@ told_once stored input (Some (Leaks names)) a b one two =
     listed_once names two.0 a b
     (subst (λ (f : Finding). Listed names f a) (says_once names (sources stored 0 SOURCE_BYTES names) one.0 two.0 one.1 two.1) one.2) two.2
 told_once stored input (Some (Make n)) a b one two = one ∙ sym two
-told_once stored input (Some (Selftest n)) a b one two = absurd one
+told_once stored input (Some (Selftest n)) a b one two = found_once made_names (made_source n) (test_answer n) a b one two
 
 pub one_answer : (stored : List (List ℕ × List ℕ)) (input : List ℕ) (words : List (List ℕ)) (a b : Answer) → Product stored input words a
     → Product stored input words b → a ≡ b

@@ -3,13 +3,13 @@ use Rattle.std.specs.Prelude.{ℕ, Bool, true, false, List, Option, None, Some, 
 use Rattle.command_words.specs.Words as grammar
 use Rattle.command_words.specs.Words.{Command, Check, Run, Leaks, Make, Selftest}
 
--- Commands that aren't there yet are none.
+-- All commands are there.
 abbrev pub there : Command → Option Command
 there (Check names) = Some (Check names)
 there (Run names steps stats) = Some (Run names steps stats)
 there (Leaks names) = Some (Leaks names)
 there (Make n) = Some (Make n)
-there (Selftest n) = None
+there (Selftest n) = Some (Selftest n)
 
 -- The command that the words give. Every other list of words is a usage fault.
 abbrev pub command_of : List (List ℕ) → Option Command
@@ -24,7 +24,7 @@ reads_files (Some (Leaks names)) = true
 reads_files (Some (Make n)) = false
 reads_files (Some (Selftest n)) = false
 
--- Whether a program is run for it, on the input.
+-- Whether a program is run for it, on the input. The program that is made runs on none.
 abbrev pub runs : Option Command → Bool
 runs None = false
 runs (Some (Check names)) = false

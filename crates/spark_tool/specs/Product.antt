@@ -1,5 +1,5 @@
 -- What a command writes and answers (docs/TOOL.md, "Order of work").
-use Rattle.std.specs.Prelude.{◌≡◌, ℕ, Bool, List, [], ◌∷◌, Option, None, Some, is_some, Ok, Err, if◌then◌else◌}
+use Rattle.std.specs.Prelude.{◌≡◌, ℕ, Bool, List, [], ◌∷◌, length, nat_le, codes, Option, None, Some, is_some, Ok, Err, if◌then◌else◌}
 use Rattle.spark_base.specs.declared.position.Pos.{Pos}
 use Rattle.spark_base.specs.declared.limits.TheConstants.{SOURCE_BYTES, TOKENS}
 use Rattle.ada_lexer.specs.declared.refusal.LexRefusal.{LexRefusal}
@@ -31,9 +31,10 @@ use Rattle.rule_reports.specs.declared.code.Code.{Code}
 use Rattle.rule_reports.specs.declared.code.Code.TheVariants.{S1, L1, L2, L3, L4, L5, P1, P2, P3, N1, N2, N3, N4, N5, N6, Y1, Y2, Y3, K1, K2, K3, K4, K5, K6, K7, K8, M1, G1, G2}
 use Rattle.rule_reports.specs.Lines.{refusal_line, report_lines, leak_plan_lines, accepted_line, usage_line}
 use Rattle.prog_maker.specs.Texts.{program_text}
-use Rattle.command_words.specs.Words.{Command, Check, Run, Leaks, Make}
+use Rattle.command_words.specs.Words.{Command, Check, Run, Leaks, Make, Selftest}
 use Rattle.run_command.specs.Answers.{Answer}
 use Rattle.run_command.specs.Runs.{run_answer}
+use Rattle.self_test.specs.Summaries.{test_line}
 use Rattle.spark_tool.specs.Commands.{command_of}
 use Rattle.spark_tool.specs.Reading.{Sources, Texts, TooLarge, Missing, sources}
 use Rattle.spark_tool.specs.Lexing.{all_tokens}
@@ -66,6 +67,10 @@ unread = record { out = []; err = []; status = 7 }
 -- The program that is made for a number.
 abbrev pub made : ℕ → Answer
 made n = record { out = program_text n; err = []; status = 0 }
+
+-- The line of a self test.
+abbrev pub tested : List ℕ → Answer
+tested line = record { out = line; err = []; status = 0 }
 
 -- The position and the code of a lexical fault. Out of memory is none.
 abbrev pub lexical_code : LexRefusal → Option (Pos × Code)
@@ -182,6 +187,21 @@ pub data Lists (names : List (List ℕ)) : Finding → Answer → Type 0 where
   planned : (program : FlowProgram) (plan : List LeakLine) → ((effects : Effects) → LeakPlan program effects plan)
       → Lists names (Passes program) (listed (leak_plan_lines names (printed_in program) plan))
 
+-- ---- the program that is made, as the one source
+
+abbrev pub made_names : List (List ℕ)
+made_names = codes "selftest.adb" ∷ []
+
+abbrev pub made_source : ℕ → Sources
+made_source n = if nat_le (length (program_text n)) SOURCE_BYTES then Texts (program_text n ∷ []) else TooLarge 0
+
+-- What `selftest` answers: the line of its run, however it ends; or what `run` answers where nothing
+-- is run.
+abbrev pub test_answer : ℕ → Finding → Answer
+test_answer n (Ends answer) = answer
+test_answer n (Rejects main lines) = with_main made_names main (rejected lines)
+test_answer n (Passes program) = with_main made_names (is_some program.main) (tested (test_line n program))
+
 -- What the tool answers to a command, or to words that give none, over the files of a store and an
 -- input.
 pub data Answers (stored : List (List ℕ × List ℕ)) (input : List ℕ) : Option Command → Answer → Type 0 where
@@ -198,12 +218,14 @@ pub data Answers (stored : List (List ℕ × List ℕ)) (input : List ℕ) : Opt
       → Lists names finding answer → Answers stored input (Some (Leaks names)) answer
   -- make N
   make : (n : ℕ) → Answers stored input (Some (Make n)) (made n)
+  -- selftest N
+  selftest : (n : ℕ) (finding : Finding) → Checks made_names (made_source n) finding → Answers stored input (Some (Selftest n)) (test_answer n finding)
 
 -- What it answers to words.
 abbrev pub Product : List (List ℕ × List ℕ) → List ℕ → List (List ℕ) → Answer → Type 0
 Product stored input words answer = Answers stored input (command_of words) answer
 
--- What it answers where no file is read.
+-- What it answers where no source is looked at.
 abbrev pub fixed_answer : Option Command → Option Answer
 fixed_answer None = Some misused
 fixed_answer (Some (Make n)) = Some (made n)

@@ -62,6 +62,17 @@ pub(crate) fn made_answer(alloc: Global, n: u32) -> Result<Answer, AllocError>
     })
 }
 
+/// The line of a self test.
+pub(crate) fn tested_answer(line: Vec<u8>) -> Answer
+    ensures { answer_of result ≡ spec.tested line.items }
+{
+    Answer {
+        stream: Stream::Out,
+        text: line,
+        status: 0,
+    }
+}
+
 /// One refusal line.
 pub(crate) fn refusal_answer(
     alloc: Global,

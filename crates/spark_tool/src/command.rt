@@ -19,11 +19,12 @@ ghost use Rattle.spark_tool.specs.Reading.{Missing, sources};
 ghost use Rattle.spark_tool.specs.Refusals.{Gives, IsChecked, IsFor, IsMade, IsNamed, IsReady};
 
 use crate::answer::{
-    accepted_answer, file_refusal_answer, listed_answer, made_answer, rejected_answer, usage_answer,
+    accepted_answer, file_refusal_answer, listed_answer, made_answer, rejected_answer,
 };
 use crate::check::check_sources;
 use crate::finding::{Finding, Outcome};
 use crate::reading::read_files;
+use crate::selftest::selftest;
 use crate::stop::Stop;
 use command_words::Command;
 use leak_checks::leak_plan;
@@ -120,12 +121,13 @@ fn list_outcome(alloc: Global, names: &[String], finding: Finding) -> Result<Out
     }
 }
 
-/// What `run` does where there is no main procedure.
-fn refuse(alloc: Global, names: &[String]) -> Result<Outcome, AllocError>
+/// What is done where a program without a main procedure was to be run.
+pub(crate) fn refuse(alloc: Global, names: &[String]) -> Result<Outcome, AllocError>
     ensures answer { IfOk result (λ made. (input : List ℕ)
         → answer_for input made ≡ refused (map string_bytes names.now) (first_position 0) Code.N5) }
     ensures ready { IfOk result IsReady }
     ensures only { IfOk result (λ made. (command : Option grammar.Command) → runs command ≡ true → IsFor command made) }
+    ensures other { IfOk result (λ made. (command : Option grammar.Command) → runs command ≡ false → IsFor command made) }
 {
     Ok(Outcome::Answers(file_refusal_answer(alloc, names, 0, Code::N5)?))
 }
@@ -151,8 +153,8 @@ fn begin(
     }
 }
 
-/// What `run` does with the reports of a program.
-fn reject(
+/// What is done with the reports of a program that was to be run.
+pub(crate) fn reject(
     alloc: Global,
     names: &[String],
     has_main: bool,
@@ -162,6 +164,7 @@ fn reject(
         → answer_for input made ≡ with_main (map string_bytes names.now) has_main (rejected lines.items)) }
     ensures ready { IfOk result IsReady }
     ensures only { IfOk result (λ made. (command : Option grammar.Command) → runs command ≡ true → IsFor command made) }
+    ensures other { IfOk result (λ made. (command : Option grammar.Command) → runs command ≡ false → IsFor command made) }
 {
     if has_main {
         Ok(Outcome::Answers(rejected_answer(lines)))
@@ -289,6 +292,6 @@ pub(crate) fn command_outcome<F: FileStore>(
         } => run_command(alloc, names, *steps, files),
         Command::Leaks(names) => list_command(alloc, names, files),
         Command::Make(n) => Ok(Outcome::Answers(made_answer(alloc, *n)?)),
-        Command::Selftest(_) => Ok(Outcome::Answers(usage_answer(alloc)?)),
+        Command::Selftest(n) => selftest(alloc, *n),
     }
 }

@@ -1,5 +1,5 @@
 //! Runs a command: takes it from the words, reads its files, checks the sources, and writes the
-//! answer; or writes a program that is made.
+//! answer; or writes a program that is made, or the line of its run.
 //!
 //! `run_tool` takes the words after the program's name, the outside (files, input, two outputs) and
 //! gives a status. What it writes and answers, `specs/Product.antt` defines; `docs/TOOL.md` says it
@@ -19,6 +19,7 @@ mod finding;
 mod lexing;
 mod parsing;
 mod reading;
+mod selftest;
 mod start;
 mod stop;
 mod tool;

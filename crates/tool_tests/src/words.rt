@@ -5,7 +5,7 @@ use std::test::Fail;
 const USAGE: &str =
     "usage: spark check FILE... | run [--steps=N] [--stats] FILE... | leaks FILE... | make N | selftest N\n";
 
-const LINES: [&str; 28] = [
+const LINES: [&str; 31] = [
     "",
     "check",
     "check ",
@@ -23,7 +23,10 @@ const LINES: [&str; 28] = [
     "run --stats f.adb",
     "leaks",
     "leaks f.adb -x",
-    "selftest 3",
+    "selftest",
+    "selftest 0",
+    "selftest 10001",
+    "selftest 1 1",
     "make",
     "make 0",
     "make 10001",

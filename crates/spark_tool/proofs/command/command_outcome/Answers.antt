@@ -3,7 +3,7 @@ use Rattle.spark_base.specs.Words.{operands}
 use Rattle.command_words.specs.Words.{Command, Check, Run, Leaks, command_in}
 use Rattle.spark_tool.specs.Answers.{answer_of}
 use Rattle.spark_tool.specs.Commands.{there}
-use Rattle.spark_tool.proofs.CommandWords.{may_be_opened, fits_check, fits_run, fits_leaks, check_fault, run_fault, leaks_fault, usage_gives, made_gives, made_fixed}
+use Rattle.spark_tool.proofs.CommandWords.{may_be_opened, fits_check, fits_run, fits_leaks, check_fault, run_fault, leaks_fault, made_gives, made_fixed, test_gives}
 use Rattle.spark_tool.proofs.command.command_outcome.Goals as goal
 
 pub check_command-requires-clause-operands : goal.check_command-requires-clause-operands
@@ -57,7 +57,7 @@ returns-in_ok-made_answer-in-Make-clause-fixed g c =
     made_fixed (there (command_in c.args.command.now)) c.in-Make.n (answer_of c.in_ok-made_answer-in-Make.field-0)
     (ap (λ command. there (command_in command)) c.in-Make.is) c.in_ok-made_answer-in-Make.ensures
 
-pub returns-in_ok-usage_answer-in-Selftest-clause-gives : goal.returns-in_ok-usage_answer-in-Selftest-clause-gives
-returns-in_ok-usage_answer-in-Selftest-clause-gives g c =
-    usage_gives (g.F.FileStore.stored c.args.files.now) (there (command_in c.args.command.now)) (answer_of c.in_ok-usage_answer-in-Selftest.field-0)
-    (ap (λ command. there (command_in command)) c.in-Selftest.is) c.in_ok-usage_answer-in-Selftest.ensures
+pub returns-in-Selftest-clause-gives : goal.returns-in-Selftest-clause-gives
+returns-in-Selftest-clause-gives g c =
+    test_gives (g.F.FileStore.stored c.args.files.now) (there (command_in c.args.command.now)) c.in-Selftest.n c.selftest.result
+    (ap (λ command. there (command_in command)) c.in-Selftest.is) c.selftest.ensures.gives

@@ -1,0 +1,103 @@
+//! What `selftest` does.
+ghost use Rattle.std.specs.Prelude.{◌≡◌, ◌≢◌, ℕ, List, Option, Err, false, IfOk, length, map, string_bytes};
+ghost use Rattle.command_words.specs.Words as grammar;
+ghost use Rattle.laid_program.specs.Programs.{program_of};
+ghost use Rattle.spark_tool.specs.Answers.{answer_for, finding_of};
+ghost use Rattle.spark_tool.specs.Commands.{runs};
+ghost use Rattle.spark_tool.specs.Product.{Checks, Passes, made_names, made_source, test_answer};
+ghost use Rattle.spark_tool.specs.Product as product;
+ghost use Rattle.spark_tool.specs.Reading.{IsWhole, sources_of};
+ghost use Rattle.spark_tool.specs.Refusals.{IsChecked, IsFor, IsReady};
+
+use crate::answer::tested_answer;
+use crate::check::check_sources;
+use crate::command::{refuse, reject};
+use crate::finding::{Finding, Outcome};
+use crate::reading::Gathered;
+use crate::stop::Stop;
+use path_check::AcceptedProgram;
+use prog_maker::make_program;
+use self_test::self_test;
+use spark_base::SOURCE_BYTES;
+use std::alloc::{AllocError, Global};
+use std::mem::ManuallyDrop;
+
+/// The name of the program that is made.
+fn made_name(alloc: Global) -> Result<Vec<String>, AllocError>
+    ensures names { IfOk result (λ names. map string_bytes names.items ≡ made_names) }
+    ensures one { IfOk result (λ names. length names.items ≡ 1) }
+{
+    let mut names = Vec::new(alloc);
+    names.push(String::from_str(alloc, "selftest.adb")?)?;
+    Ok(names)
+}
+
+/// The program that is made, as if it had been read.
+fn made_text(alloc: Global, n: u32) -> Result<Gathered, AllocError>
+    ensures source { IfOk result (λ gathered. sources_of gathered ≡ made_source n) }
+    ensures whole { IfOk result (IsWhole 1) }
+{
+    let text = make_program(alloc, n)?;
+    if text.len() > SOURCE_BYTES {
+        return Ok(Gathered::TooLarge(0));
+    }
+    let mut texts = Vec::new(alloc);
+    texts.push(text)?;
+    Ok(Gathered::All(texts))
+}
+
+/// What is done with it where nothing is reported of it. It is leaked, as by `check`.
+fn tested(
+    alloc: Global,
+    names: &[String],
+    n: u32,
+    program: AcceptedProgram,
+) -> Result<Outcome, Stop>
+    requires { map string_bytes names.now ≡ made_names }
+    ensures answer { IfOk result (λ made. (input : List ℕ) → answer_for input made ≡ test_answer n (Passes (program_of program.laid))) }
+    ensures ready { IfOk result IsReady }
+    ensures only { IfOk result (λ made. (command : Option grammar.Command) → runs command ≡ false → IsFor command made) }
+    ensures no_read { result ≢ Err Stop.Read }
+    ensures nothing_written { result ≢ Err Stop.Write }
+{
+    let program = ManuallyDrop::new(program);
+    if program.laid().main.is_none() {
+        return Ok(refuse(alloc, names)?);
+    }
+    match self_test(alloc, &program, n) {
+        Ok(line) => Ok(Outcome::Answers(tested_answer(line))),
+        Err(_) => Err(Stop::Memory),
+    }
+}
+
+/// What is done with it, by what is found of it.
+fn test_outcome(alloc: Global, names: &[String], n: u32, finding: Finding) -> Result<Outcome, Stop>
+    requires checked { IsChecked (finding_of finding) }
+    requires named { map string_bytes names.now ≡ made_names }
+    ensures answer { IfOk result (λ made. (input : List ℕ) → answer_for input made ≡ test_answer n (finding_of finding)) }
+    ensures ready { IfOk result IsReady }
+    ensures only { IfOk result (λ made. (command : Option grammar.Command) → runs command ≡ false → IsFor command made) }
+    ensures no_read { result ≢ Err Stop.Read }
+    ensures nothing_written { result ≢ Err Stop.Write }
+{
+    match finding {
+        Finding::Ends(answer) => Ok(Outcome::Answers(answer)),
+        Finding::Rejects(has_main, lines) => Ok(reject(alloc, names, has_main, lines)?),
+        Finding::Passes(program) => tested(alloc, names, n, program),
+    }
+}
+
+/// What `selftest` does: it checks the program that is made, and runs it.
+pub(crate) fn selftest(alloc: Global, n: u32) -> Result<Outcome, Stop>
+    ensures gives { IfOk result (λ made. (finding : product.Finding) × (Checks made_names (made_source n) finding
+        × ((input : List ℕ) → answer_for input made ≡ test_answer n finding))) }
+    ensures ready { IfOk result IsReady }
+    ensures only { IfOk result (λ made. (command : Option grammar.Command) → runs command ≡ false → IsFor command made) }
+    ensures no_read { result ≢ Err Stop.Read }
+    ensures nothing_written { result ≢ Err Stop.Write }
+{
+    let names = made_name(alloc)?;
+    let gathered = made_text(alloc, n)?;
+    let finding = check_sources(alloc, names.as_slice(), gathered)?;
+    test_outcome(alloc, names.as_slice(), n, finding)
+}
