@@ -23,10 +23,11 @@ use Rattle.owned_ways.specs.Ways.{OfVariable, Way, Object, Named, Allows, after,
 use Rattle.owned_ways.specs.Ways as ways
 use Rattle.owned_ways.proofs.Assigned.{move_way, named_rooted}
 use Rattle.part_offsets.specs.Parts.{IsSettled}
-use Rattle.soundness.specs.Seen.{home}
+use Rattle.soundness.specs.Seen.{home, IsNear}
 use Rattle.soundness.specs.Typed.{OwnsByShape}
 use Rattle.typed_laws.specs.Needed.{Stays, Gives, GivesParts, GivesFirst, IndexLaw}
 use Rattle.soundness.proofs.Defaults.{none_default}
+use Rattle.soundness.proofs.Near.{named_near, near_under}
 use Rattle.soundness.proofs.Walks.{way_along, Walked}
 use Rattle.soundness.proofs.Scalars.{after_append, allows_both, acts, acts_append, read_effect, read_way, number_along, named_along}
 use Rattle.soundness.proofs.Stays.{Quiet, One, Goes, quiet, steps_quiet, name_quiet}
@@ -36,7 +37,7 @@ use Rattle.exact_facts.specs.Exact.{IsExact}
 use Rattle.exact_facts.proofs.Memories.{taken_exact, made_exact}
 
 module _ (h : Here) (settled : IsSettled h.typing.table) (leaks : List Leak) (waits : List (List machine.Word)) (other : Way → Type 0)
-    (alone : (w : Way) → other w → ⊥) (keeps : Keeps h.typing)
+    (alone : (w : Way) → IsNear h.frame w → other w → ⊥) (keeps : Keeps h.typing)
     (no_formals : (x : ℕ) → is_in_formal h.typing x ≡ false) (index_law : IndexLaw) (own_law : OwnsByShape h.typing.table)
     (all_named : (t d : ℕ) (c n : Bool) → shape_of h.typing.table t ≡ shape.Access d c n → n ≡ true) where
   abbrev ReadyIn : Memory → List Waiting → List Fact → Type 0
@@ -92,7 +93,7 @@ module _ (h : Here) (settled : IsSettled h.typing.table) (leaks : List Leak) (wa
       (Done (words_of h.typing m k) (if b then record { memory = moved_out h.typing k m; waits = waits } else record { memory = m; waits = waits })))
       (sym (ap (is_owning h.typing.table) of ∙ owns))
       (subst (λ u. IsExact h.typing h.frame (moved_out h.typing k m) (effect (act.Move (ways.name_of w) (parts h.typing.table u)) facts)) of
-      (taken_exact h.typing settled h.frame other m hands leaks facts k l w ready.sound (λ v u o. alone v o) ready.kept spot named reaches
+      (taken_exact h.typing settled h.frame other m hands leaks facts k l w ready.sound (λ v u o. alone v (near_under h.frame w v u (named_near h.typing h.frame w named)) o) ready.kept spot named reaches
       (live_trunk h settled leaks waits other alone keeps no_formals index_law own_law all_named m hands ready.sound.owned w l
       (named_rooted (home h.typing h.frame) w named) reaches)
       (subst (λ u. Allows facts (act.Move (ways.name_of w) (parts h.typing.table u))) (sym of) allowed) exact)))

@@ -35,10 +35,10 @@ use Rattle.machine.specs.Run.{no_point, stepped, step}
 use Rattle.owned_ways.specs.Ways.{Step, OfVariable, OfRoot, Way, Held, Sound, Told, after, AllowsAll, along}
 use Rattle.owned_ways.specs.Ways as ways
 use Rattle.owned_ways.proofs.Locations.{reaches_along, named_along as rooted_along}
-use Rattle.soundness.specs.Seen.{content, word_in, home}
+use Rattle.soundness.specs.Seen.{content, word_in, home, IsNear}
 use Rattle.soundness.specs.Typed.{Kept}
 use Rattle.typed_laws.specs.Needed.{IsFine, Source, FirstSource, FirstWrites, FirstStays}
-use Rattle.soundness.specs.Sound.{calls_nothing, Stage, facts_of, Elsewhere, AreStages, AreFirst, InScope, IsNamedSub, IsAtPoint, view_of, IsDefinite}
+use Rattle.soundness.specs.Sound.{IsFirstClass, calls_nothing, Stage, facts_of, Elsewhere, AreStages, InScope, IsNamedSub, IsAtPoint, view_of, IsDefinite}
 use Rattle.soundness.specs.Ready.{stored_at, IsReady}
 use Rattle.soundness.proofs.Contents.{bool_cases, word_root}
 use Rattle.soundness.proofs.Moments.{number_part}
@@ -46,6 +46,7 @@ use Rattle.soundness.proofs.Scalars.{acts}
 use Rattle.soundness.proofs.Paths.{accepted_point, facts_next}
 use Rattle.soundness.proofs.Points.{path_of, flow_at, named_has, point_has, sub_there, sub_has, typing_same, point_there, point_in, path_there, IsLaid, all_laid, next_there, scope_next}
 use Rattle.soundness.proofs.Scoped.{MayHold}
+use Rattle.soundness.proofs.Near.{near_along}
 use Rattle.soundness.proofs.Following.{Each, GoesOn, Declares, declare_on, declare_follows, assign_follows, release_follows, input_follows, test_follows, choose_follows, stays_follows, output_follows, start_follows, next_follows, end_scope_follows}
 use Rattle.soundness.proofs.Waits.{drop_none, or_both}
 use Rattle.soundness.proofs.Successors.{not_true, both_not, takes_none, below_one, below_two, successor_there, successor_cases, unmoved_after}
@@ -53,9 +54,10 @@ use Rattle.soundness.proofs.Instructions.{Holds, Leads_on, declare_leads, assign
 use Rattle.soundness.proofs.Loops.{start_leads, next_leads}
 use Rattle.soundness.proofs.Endings.{finish_is, finish_leads, main_begins}
 use Rattle.soundness.proofs.Beginning.{stage, first_point}
-use Rattle.exact_facts.specs.Exact.{IsExactly, LeadsExactly, StepsLeadExactly}
+use Rattle.exact_facts.specs.Exact.{AreFirst, IsExactly, LeadsExactly, StepsLeadExactly}
 use Rattle.exact_facts.proofs.Memories.{told_seen, exact_from}
 use Rattle.exact_facts.proofs.Instructions.{ExactOn}
+use Rattle.exact_facts.proofs.Stepping.{running_of}
 use Rattle.exact_facts.proofs.Stepping as exactly
 
 or_right : (a b : Bool) → b ≡ true → a || b ≡ true
@@ -64,7 +66,8 @@ or_right false b e = e
 
 -- ---- the program
 
-module _ (table : Table) (typed : TypedProgram) (effects : Effects) (input : List ℕ) (ready : IsReady table typed effects) where
+module _ (table : Table) (typed : TypedProgram) (effects : Effects) (input : List ℕ) (ready : IsReady table typed effects)
+    (class : IsFirstClass (flow_program table typed)) where
   abbrev program : FlowProgram
   program = flow_program table typed
 
@@ -78,7 +81,7 @@ module _ (table : Table) (typed : TypedProgram) (effects : Effects) (input : Lis
   same = typing_same table typed ready.scoped.objects
 
   no_in_formals : (x : ℕ) → is_in_formal s x ≡ false
-  no_in_formals x = ap (λ b. b && is_in (object_at s x).mode) (ready.first_class.no_formals x)
+  no_in_formals x = ap (λ b. b && is_in (object_at s x).mode) (ready.class.no_formals x)
 
   laid : (named : NamedSub) → Has (flow_named table typed) named → IsLaid own named
   laid named has = all_laid own typed.subs ready.scoped.bodies named has
@@ -117,7 +120,7 @@ module _ (table : Table) (typed : TypedProgram) (effects : Effects) (input : Lis
         (ap (λ (z : FlowSub). get_or z.points top.frame.next no_point) sub_is ∙ point_there own named top.frame.next p at_point)
 
     pub calls_none : calls_nothing p.instr ≡ true
-    calls_none = ready.first_class.no_calls sub in_program here in_sub
+    calls_none = class.no_calls sub in_program here in_sub
 
     pub takes : taken here.instr ≡ 0
     takes = takes_none p.instr calls_none
@@ -207,7 +210,7 @@ module _ (table : Table) (typed : TypedProgram) (effects : Effects) (input : Lis
               top = at_next loops n;
               older = older;
               stages = subst (AreStages (at_next loops n ∷ older)) (sym is) (refl, deep, stages);
-              first = first;
+              running = running_of table typed effects input ready class after_step.memory (at_next loops n ∷ older) first;
               path = subst (λ (z : FlowSub). ControlPath (path_points program effects z) (top.frame.next ∷ top.before) n) (sym sub_is)
                   (goes_on top.before top.frame.next n path_here step_on);
               sound = subst (λ d. Sound (home s d) (Elsewhere program effects older) (view_of s after_step) (facts_of program effects (at_next loops n))) (sym deep)
@@ -219,13 +222,14 @@ module _ (table : Table) (typed : TypedProgram) (effects : Effects) (input : Lis
               at_point = successor_point.1;
               scope = subst (λ d. InScope s after_step.memory d q.scope) (sym deep) (by_typing after_step.memory q successor_point.2 scope);
             },
+            first,
             subst (λ d. Told (view_of s after_step) (IsDefinite (home s d) (facts_of program effects (at_next loops n)))) (sym deep)
                 (subst (λ z. Told (view_of s after_step) (IsDefinite (home s (length outer)) z)) (sym facts_there) exact),
           )
         where
           by_typing : (m : Memory) (q : NamedPoint) → Leads own (scope_behind p) q.scope → InScope s m (length outer) (scope_behind p) → InScope s m (length outer) q.scope
           by_typing m q leads scope =
-              scope_next s ready.owns ready.first_class.all_named m (length outer) (scope_behind p) q.scope scope
+              scope_next s ready.owns ready.class.all_named m (length outer) (scope_behind p) q.scope scope
               (subst (λ z. Leads z (scope_behind p) q.scope) (sym same) leads)
 
   -- ---- nothing is moved for the package objects
@@ -276,7 +280,7 @@ module _ (table : Table) (typed : TypedProgram) (effects : Effects) (input : Lis
       (frames : state.frames ≡ top.frame ∷ outer) (of_sub : IsNamedSub (flow_named table typed) top.frame.sub named)
       (at_point : IsAtPoint named.points top.frame.next p)
       (path : ControlPath (path_points program effects (sub_of program top.frame.sub)) top.before top.frame.next)
-      (alone : (w : Way) → Elsewhere program effects older w → ⊥)
+      (alone : (w : Way) → IsNear (length outer) w → Elsewhere program effects older w → ⊥)
       (sound : Sound (home s (length outer)) (Elsewhere program effects older) (view_of s state) (facts_before (path_points program effects (flow_sub own named)) top.before))
       (kept : Kept s state.memory (waiting_in state)) (scope : InScope s state.memory (length outer) p.scope)
       (plain : top.frame.waits ≡ []) where
@@ -288,7 +292,7 @@ module _ (table : Table) (typed : TypedProgram) (effects : Effects) (input : Lis
 
     abbrev LeadsBy : List Fact → Outcome → Type 0
     LeadsBy after_step outcome =
-        Leads_on at ready.accepted.settled ready.owns (Elsewhere program effects older) alone no_in_formals ready.first_class.all_named frames after_step outcome
+        Leads_on at ready.accepted.settled ready.owns (Elsewhere program effects older) alone no_in_formals ready.class.all_named frames after_step outcome
 
     abbrev acts_here : Instruction → List Act
     acts_here i = acts (acts_by state top older outer named p frames of_sub at_point s i)
@@ -327,19 +331,19 @@ module _ (table : Table) (typed : TypedProgram) (effects : Effects) (input : Lis
         (reaches_along (view_of s state) (ways.Object root) (OfRoot root) q refl)
         (word_root s.table (content s state.memory (waiting_in state)) root q ∙ is)) [
           | inl moved ↦ (new_fact x v e (ways.name_of w) (number_part (ways.Object root) q)).0 moved.1
-          | inr elsewhere ↦ alone w elsewhere
+          | inr elsewhere ↦ alone w (near_along (length outer) (ways.Object root) q (inr refl)) elsewhere
         ])
 
     declared_leads : (x : ℕ) (v : TypedTree) → p.instr ≡ Declare x v → FirstSource s (object_at s x).of v → has_call v ≡ false
         → AllowsAll before_step (acts_here (Declare x v))
         → LeadsBy (after (acts_here (Declare x v)) before_step) (turn at (Declare x v))
     declared_leads x v e gives calls allowed_there =
-        declare_leads at ready.accepted.settled ready.owns (Elsewhere program effects older) alone no_in_formals ready.first_class.all_named frames none_taken
+        declare_leads at ready.accepted.settled ready.owns (Elsewhere program effects older) alone no_in_formals ready.class.all_named frames none_taken
         x v gives calls before_step (sound, kept) allowed_there
         (λ q. blank_word_there x v e q (word_in s.table (content s state.memory [] (OfRoot (OfVariable (length outer) x))) q) refl)
-        (λ name has root. (new_fact x v e name root).1
-        (subst (λ z. Has z (Moved name))
-        (ap (λ i. after (acts_here i) before_step) (sym e) ∙ sym (facts_on state top older outer named p frames of_sub at_point path)) has))
+        (λ q moved. (new_fact x v e (ways.name_of (along (ways.Object (OfVariable (length outer) x)) q)) (number_part (ways.Object (OfVariable (length outer) x)) q)).1
+        (subst (λ z. Has z (Moved (ways.name_of (along (ways.Object (OfVariable (length outer) x)) q))))
+        (ap (λ i. after (acts_here i) before_step) (sym e) ∙ sym (facts_on state top older outer named p frames of_sub at_point path)) moved.1))
 
   -- the step to the next point, where there is one
   pub package_step : (state : State) (top : Stage) (named : NamedSub) (p : NamedPoint) → (frames : state.frames ≡ top.frame ∷ [])
@@ -358,8 +362,11 @@ module _ (table : Table) (typed : TypedProgram) (effects : Effects) (input : Lis
       subst (LeadsExactly table typed effects) (sym (step_is state top [] [] named p frames of_sub at_point))
       (by_declare declares.0 declares.1 declares.2)
     where
-      alone : (w : Way) → Elsewhere program effects [] w → ⊥
-      alone w (g, has, what) = has
+      alone : (w : Way) → IsNear 0 w → Elsewhere program effects [] w → ⊥
+      alone w near (g, has, what) = has
+
+      nowhere : (w : Way) → Elsewhere program effects [] w → ⊥
+      nowhere w (g, has, what) = has
 
       at_turn : Turn
       at_turn = t state top [] [] named p frames of_sub at_point
@@ -388,9 +395,9 @@ module _ (table : Table) (typed : TypedProgram) (effects : Effects) (input : Lis
           ∙ ap (λ (z : FlowSub). facts_before (path_points program effects z) (top.frame.next ∷ top.before)) (sym (sub_is state top [] [] named p frames of_sub at_point))) has)
 
       moment_leads : (x : ℕ) (v : TypedTree) → p.instr ≡ Declare x v → (outcome : Outcome)
-          → Leads_on at_turn ready.accepted.settled ready.owns (Elsewhere program effects []) alone no_in_formals ready.first_class.all_named frames
+          → Leads_on at_turn ready.accepted.settled ready.owns (Elsewhere program effects []) alone no_in_formals ready.class.all_named frames
           (after (acts_there p.instr) facts_there) outcome
-          → Each (Declares at_turn first.1.0 p.scope (x ∷ p.scope) scope) outcome → LeadsExactly table typed effects outcome
+          → Each (Declares at_turn first.1.0 (λ f y. f < 0) p.scope (x ∷ p.scope) scope) outcome → LeadsExactly table typed effects outcome
       moment_leads x v e (Ends how after_step) holds on = tt
       moment_leads x v e (Goes after_step) holds on = elim (successor_cases at_turn 0) [
         | inl found ↦ goes_to_next state top [] [] named p frames of_sub at_point path after_step top.frame.loops found.0 found.2
@@ -401,7 +408,7 @@ module _ (table : Table) (typed : TypedProgram) (effects : Effects) (input : Lis
             let below : Stage = record { frame = record top.frame { waits = [] }; depth = 0; before = top.frame.next ∷ top.before; returns = [] } in
             let begins_main : after_step.frames ≡ frame_at_start ready.main [] ∷ (record top.frame { waits = [] } ∷ []) =
             on.frames ∙ ap (led at_turn (record top.frame { waits = [] })) none
-            ∙ ap (λ z. main_frame (record program { main = z }) ++ (record top.frame { waits = [] } ∷ [])) ready.main_there.is in
+            ∙ ap (λ z. main_frame (record program { main = z }) ++ (record top.frame { waits = [] } ∷ [])) ready.is_main in
             let same_facts : after (acts_there p.instr) facts_there ≡ facts_of program effects below =
             sym (facts_on state top [] [] named p frames of_sub at_point path)
             ∙ ap (λ (z : FlowSub). facts_before (path_points program effects z) (top.frame.next ∷ top.before)) (sym (sub_is state top [] [] named p frames of_sub at_point)) in (
@@ -409,11 +416,11 @@ module _ (table : Table) (typed : TypedProgram) (effects : Effects) (input : Lis
                 top = stage table typed effects ready ready.main 1;
                 older = below ∷ [];
                 stages = subst (AreStages (stage table typed effects ready ready.main 1 ∷ (below ∷ []))) (sym begins_main) (refl, refl, (refl, refl, tt));
-                first = (ready.main_there.is, (refl, refl, refl), first.0, (refl, first.1.1, refl));
+                running = (ready.main_there, (refl, refl, refl), (first.0, (refl, first.1.1, refl)));
                 path = begins (first_point table typed effects ready ready.main ready.main_there.named ready.main_there.stands
                     ready.main_there.point ready.main_there.points ready.main_there.begins);
                 sound = main_begins s (Elsewhere program effects []) (Elsewhere program effects (below ∷ [])) (view_of s after_step) (after (acts_there p.instr) facts_there)
-                    holds.0 alone (λ name has. unmoved_stage below first.0 name (subst (λ z. Has z (Moved name)) same_facts has));
+                    holds.0 nowhere (λ name has. unmoved_stage below first.0 name (subst (λ z. Has z (Moved name)) same_facts has));
                 kept = holds.1;
                 named = ready.main_there.named;
                 of_sub = ready.main_there.stands;
@@ -424,6 +431,7 @@ module _ (table : Table) (typed : TypedProgram) (effects : Effects) (input : Lis
                   | inr mine ↦ (let same_frame = mine.0 in inl (omega (arith, same_frame)))
                 ];
               },
+              (ready.is_main, (refl, refl, refl), first.0, (refl, first.1.1, refl)),
               λ w l definite reaches. absurd definite.0.1,
             ))
       ]
@@ -433,12 +441,12 @@ module _ (table : Table) (typed : TypedProgram) (effects : Effects) (input : Lis
           let text = subst (IsFine s named.sub.result) e (fine state top [] [] named p frames of_sub at_point) in
           let calls = subst (λ i. calls_nothing i ≡ true) e (calls_none state top [] [] named p frames of_sub at_point) in
           moment_leads x v e (turn at_turn p.instr)
-          (subst (λ i. Leads_on at_turn ready.accepted.settled ready.owns (Elsewhere program effects []) alone no_in_formals ready.first_class.all_named frames
+          (subst (λ i. Leads_on at_turn ready.accepted.settled ready.owns (Elsewhere program effects []) alone no_in_formals ready.class.all_named frames
           (after (acts_there i) facts_there) (turn at_turn i)) (sym e)
           (declared_leads state top [] [] named p frames of_sub at_point path alone sound_there kept scope first.1.0 x v e text (not_true (has_call v) calls)
           (subst (λ i. AllowsAll facts_there (acts_there i)) e (allowed state top [] [] named p frames of_sub at_point path))))
-          (subst (λ i. Each (Declares at_turn first.1.0 p.scope (x ∷ p.scope) scope) (turn at_turn i)) (sym e)
-          (declare_on at_turn first.1.0 p.scope (x ∷ p.scope) scope (within_more x) x v (ap (λ b. b || is_within x p.scope) (eq-eqb x x refl))))
+          (subst (λ i. Each (Declares at_turn first.1.0 (λ f y. f < 0) p.scope (x ∷ p.scope) scope) (turn at_turn i)) (sym e)
+          (declare_on at_turn first.1.0 (λ f y. f < 0) p.scope (x ∷ p.scope) scope (within_more x) x v (ap (λ b. b || is_within x p.scope) (eq-eqb x x refl))))
 
   -- ---- a step of the main procedure
 
@@ -449,7 +457,7 @@ module _ (table : Table) (typed : TypedProgram) (effects : Effects) (input : Lis
   home_frame : (x : ℕ) → is_package_object s x ≡ false → home s 1 x ≡ 1
   home_frame x own_frame = ap (λ b. if b then 0 else 1) own_frame
 
-  may_hold : (x : ℕ) (scope : List ℕ) → (is_package_object s x ≡ true) ⊎ (is_within x scope ≡ true) → MayHold s 1 scope (home s 1 x) x
+  may_hold : (x : ℕ) (scope : List ℕ) → (is_package_object s x ≡ true) ⊎ (is_within x scope ≡ true) → MayHold s (λ f y. f < 1) 1 scope (home s 1 x) x
   may_hold x scope (inl of_package) = inl (subst (λ b. (if b then 0 else 1) < 1) (sym of_package) below_one)
   may_hold x scope (inr within) = elim (bool_cases (is_package_object s x)) [
     | inl of_package ↦ inl (subst (λ b. (if b then 0 else 1) < 1) (sym of_package) below_one)
@@ -469,8 +477,8 @@ module _ (table : Table) (typed : TypedProgram) (effects : Effects) (input : Lis
     abbrev other : Way → Type 0
     other = Elsewhere program effects (below ∷ [])
 
-    alone : (w : Way) → other w → ⊥
-    alone w what = nothing_else below first.2 first.3.2 w what
+    alone : (w : Way) → IsNear 1 w → other w → ⊥
+    alone w near what = nothing_else below first.2 first.3.2 w what
 
     plain : top.frame.waits ≡ []
     plain = first.1.0
@@ -491,7 +499,7 @@ module _ (table : Table) (typed : TypedProgram) (effects : Effects) (input : Lis
     none_takes = takes state top (below ∷ []) outer named p frames of_sub at_point
 
     main_sub : top.frame.sub ≡ ready.main
-    main_sub = (let both : Some top.frame.sub ≡ Some ready.main = sym first.0 ∙ ready.main_there.is in cc)
+    main_sub = (let both : Some top.frame.sub ≡ Some ready.main = sym first.0 ∙ ready.is_main in cc)
 
     no_result : named.sub.result ≡ None
     no_result = ready.main_there.procedure named (subst (λ n. IsNamedSub (flow_named table typed) n named) main_sub of_sub)
@@ -511,16 +519,16 @@ module _ (table : Table) (typed : TypedProgram) (effects : Effects) (input : Lis
     -- what holds of an instruction: where it leads, and where it goes on
     abbrev LeadsFrom : Instruction → Outcome → Type 0
     LeadsFrom i outcome =
-        Leads_on main_turn ready.accepted.settled ready.owns other alone no_in_formals ready.first_class.all_named frames
+        Leads_on main_turn ready.accepted.settled ready.owns other alone no_in_formals ready.class.all_named frames
         (after (acts_of_main i) facts_now) outcome
 
     abbrev GoesFrom : Instruction → Outcome → Type 0
-    GoesFrom i outcome = Each (GoesOn main_turn plain p.scope (brought i p.scope) scope) outcome
+    GoesFrom i outcome = Each (GoesOn main_turn plain (λ f y. f < 1) p.scope (brought i p.scope) scope) outcome
 
     abbrev Both : Instruction → Type 0
     Both i = LeadsFrom i (turn main_turn i) × GoesFrom i (turn main_turn i)
 
-    held_now : Holds main_turn ready.accepted.settled ready.owns other alone no_in_formals ready.first_class.all_named frames facts_now state
+    held_now : Holds main_turn ready.accepted.settled ready.owns other alone no_in_formals ready.class.all_named frames facts_now state
     held_now = (sound, kept)
 
     -- it has this many successors
@@ -536,7 +544,7 @@ module _ (table : Table) (typed : TypedProgram) (effects : Effects) (input : Lis
     new_one : (x : ℕ) → is_within x (x ∷ p.scope) ≡ true
     new_one x = ap (λ b. b || is_within x p.scope) (eq-eqb x x refl)
 
-    stored_there : (i : Instruction) → p.instr ≡ i → (x : ℕ) → Has (stored_at i) x → MayHold s 1 p.scope (home s 1 x) x
+    stored_there : (i : Instruction) → p.instr ≡ i → (x : ℕ) → Has (stored_at i) x → MayHold s (λ f y. f < 1) 1 p.scope (home s 1 x) x
     stored_there i e x has =
         may_hold x p.scope (ready.scoped.stored named named_in p point_in_named x (subst (λ z. Has (stored_at z) x) (sym e) has))
 
@@ -547,15 +555,15 @@ module _ (table : Table) (typed : TypedProgram) (effects : Effects) (input : Lis
 
     skips : (e : p.instr ≡ Skip) → Both Skip
     skips e = (
-      skip_leads main_turn ready.accepted.settled ready.owns other alone no_in_formals ready.first_class.all_named frames none_takes facts_now held_now,
-      stays_follows main_turn plain p.scope p.scope scope same_scope (with_successors Skip 0 e below_one),
+      skip_leads main_turn ready.accepted.settled ready.owns other alone no_in_formals ready.class.all_named frames none_takes facts_now held_now,
+      stays_follows main_turn plain (λ f y. f < 1) p.scope p.scope scope same_scope (with_successors Skip 0 e below_one),
     )
 
     declares : (x : ℕ) (v : TypedTree) (e : p.instr ≡ Declare x v) → IsFine s None (Declare x v) → calls_nothing (Declare x v) ≡ true
         → AllowsAll facts_now (acts_of_main (Declare x v)) → Both (Declare x v)
     declares x v e text calls allowed_there = (
       declared_leads state top (below ∷ []) outer named p frames of_sub at_point path alone sound kept scope plain x v e text (not_true (has_call v) calls) allowed_there,
-      declare_follows main_turn plain p.scope (x ∷ p.scope) scope (one_more x) x v (new_one x) (with_successors (Declare x v) 0 e below_one),
+      declare_follows main_turn plain (λ f y. f < 1) p.scope (x ∷ p.scope) scope (one_more x) x v (new_one x) (with_successors (Declare x v) 0 e below_one),
     )
 
     assigns : (target e : TypedTree) (is : p.instr ≡ Assign target e) → IsFine s None (Assign target e) → calls_nothing (Assign target e) ≡ true
@@ -563,9 +571,9 @@ module _ (table : Table) (typed : TypedProgram) (effects : Effects) (input : Lis
     unfolding has_call
     assigns (Name q x path u) e is (v, (leads, type), source) calls allowed_there =
         let both = both_not (has_call path) (has_call e) calls in (
-          assign_leads main_turn ready.accepted.settled ready.owns other alone no_in_formals ready.first_class.all_named frames none_takes
+          assign_leads main_turn ready.accepted.settled ready.owns other alone no_in_formals ready.class.all_named frames none_takes
               p.pos q x u path e (subst (λ z. Source s z e) (sym type) source) leads both.1 both.0 facts_now held_now allowed_there,
-          assign_follows main_turn plain p.scope p.scope scope same_scope q x u path e
+          assign_follows main_turn plain (λ f y. f < 1) p.scope p.scope scope same_scope q x u path e
               (stored_there (Assign (Name q x path u) e) is x (inl refl)) (with_successors (Assign (Name q x path u) e) 0 is below_one),
         )
     assigns target e is (v, never, source) calls allowed_there = absurd never
@@ -574,19 +582,19 @@ module _ (table : Table) (typed : TypedProgram) (effects : Effects) (input : Lis
         → AllowsAll facts_now (acts_of_main (Output text line)) → LeadsFrom (Output text line) (turn main_turn (Output text line))
     unfolding has_call acts_in
     writes (More e rest) line is (last, text) calls allowed_there =
-        output_leads main_turn ready.accepted.settled ready.owns other alone no_in_formals ready.first_class.all_named frames none_takes
+        output_leads main_turn ready.accepted.settled ready.owns other alone no_in_formals ready.class.all_named frames none_takes
         e rest line last text (or_both (has_call e) (has_call rest) (not_true (has_call e || has_call rest) calls)).0 facts_now held_now allowed_there
     writes NoMore line is text calls allowed_there =
-        line_leads main_turn ready.accepted.settled ready.owns other alone no_in_formals ready.first_class.all_named frames none_takes line facts_now held_now
+        line_leads main_turn ready.accepted.settled ready.owns other alone no_in_formals ready.class.all_named frames none_takes line facts_now held_now
     writes other_text line is never calls allowed_there = absurd never
 
     reads : (target : TypedTree) (is : p.instr ≡ Input target) → IsFine s None (Input target) → calls_nothing (Input target) ≡ true
         → AllowsAll facts_now (acts_of_main (Input target)) → Both (Input target)
     unfolding has_call
     reads (Name q x path u) is (v, (leads, type), scalar) calls allowed_there = (
-      input_leads main_turn ready.accepted.settled ready.owns other alone no_in_formals ready.first_class.all_named frames none_takes
+      input_leads main_turn ready.accepted.settled ready.owns other alone no_in_formals ready.class.all_named frames none_takes
           q x u path (subst (λ z. is_scalar (full s.table z) ≡ true) (sym type) scalar) leads (not_true (has_call path) calls) facts_now held_now allowed_there,
-      input_follows main_turn plain p.scope p.scope scope same_scope q x u path
+      input_follows main_turn plain (λ f y. f < 1) p.scope p.scope scope same_scope q x u path
           (stored_there (Input (Name q x path u)) is x (inl refl)) (with_successors (Input (Name q x path u)) 0 is below_one),
     )
     reads target is (v, never, scalar) calls allowed_there = absurd never
@@ -595,9 +603,9 @@ module _ (table : Table) (typed : TypedProgram) (effects : Effects) (input : Lis
         → AllowsAll facts_now (acts_of_main (Release target)) → Both (Release target)
     unfolding has_call
     releases (Name q x path u) is (v, d, (leads, type), access) calls allowed_there = (
-      release_leads main_turn ready.accepted.settled ready.owns other alone no_in_formals ready.first_class.all_named frames none_takes
+      release_leads main_turn ready.accepted.settled ready.owns other alone no_in_formals ready.class.all_named frames none_takes
           q x u d path (subst (λ z. shape_of s.table z ≡ shape.Access d false true) (sym type) access) leads (not_true (has_call path) calls) facts_now held_now allowed_there,
-      release_follows main_turn plain p.scope p.scope scope same_scope q x u path
+      release_follows main_turn plain (λ f y. f < 1) p.scope p.scope scope same_scope q x u path
           (stored_there (Release (Name q x path u)) is x (inl refl)) (with_successors (Release (Name q x path u)) 0 is below_one),
     )
     releases target is (v, d, never, access) calls allowed_there = absurd never
@@ -606,30 +614,30 @@ module _ (table : Table) (typed : TypedProgram) (effects : Effects) (input : Lis
         → AllowsAll facts_now (acts_of_main (LeaveLoop e)) → Both (LeaveLoop e)
     unfolding has_call acts_in
     leaves (More e rest) is (last, stays) calls allowed_there = (
-      leave_loop_leads main_turn ready.accepted.settled ready.owns other alone no_in_formals ready.first_class.all_named frames none_takes
+      leave_loop_leads main_turn ready.accepted.settled ready.owns other alone no_in_formals ready.class.all_named frames none_takes
           e rest last stays (or_both (has_call e) (has_call rest) (not_true (has_call e || has_call rest) calls)).0 facts_now held_now allowed_there,
-      test_follows main_turn plain p.scope p.scope scope same_scope e (with_successors (LeaveLoop (More e rest)) 1 is below_two),
+      test_follows main_turn plain (λ f y. f < 1) p.scope p.scope scope same_scope e (with_successors (LeaveLoop (More e rest)) 1 is below_two),
     )
     leaves NoMore is text calls allowed_there = (
-      skip_leads main_turn ready.accepted.settled ready.owns other alone no_in_formals ready.first_class.all_named frames none_takes facts_now held_now,
-      stays_follows main_turn plain p.scope p.scope scope same_scope (with_successors (LeaveLoop NoMore) 0 is below_one),
+      skip_leads main_turn ready.accepted.settled ready.owns other alone no_in_formals ready.class.all_named frames none_takes facts_now held_now,
+      stays_follows main_turn plain (λ f y. f < 1) p.scope p.scope scope same_scope (with_successors (LeaveLoop NoMore) 0 is below_one),
     )
     leaves e is never calls allowed_there = absurd never
 
     holds_nothing : (v : TypedTree) (is : p.instr ≡ Hold v) → v ≡ NoMore → Both (Hold v)
     unfolding acts_in
     holds_nothing v is none = subst Both (ap Hold (sym none)) (
-      subst (λ z. Leads_on main_turn ready.accepted.settled ready.owns other alone no_in_formals ready.first_class.all_named frames z (turn main_turn (Hold NoMore)))
+      subst (λ z. Leads_on main_turn ready.accepted.settled ready.owns other alone no_in_formals ready.class.all_named frames z (turn main_turn (Hold NoMore)))
           (sym (ap (λ r. after (acts (flow.returned_acts s r NoMore)) facts_now) no_result))
-          (skip_leads main_turn ready.accepted.settled ready.owns other alone no_in_formals ready.first_class.all_named frames none_takes facts_now held_now),
-      stays_follows main_turn plain p.scope p.scope scope same_scope (with_successors (Hold NoMore) 0 (is ∙ ap Hold none) below_one),
+          (skip_leads main_turn ready.accepted.settled ready.owns other alone no_in_formals ready.class.all_named frames none_takes facts_now held_now),
+      stays_follows main_turn plain (λ f y. f < 1) p.scope p.scope scope same_scope (with_successors (Hold NoMore) 0 (is ∙ ap Hold none) below_one),
     )
 
     ends_scope : (x : ℕ) (is : p.instr ≡ EndScope x) → Both (EndScope x)
     ends_scope x is = (
-      end_scope_leads main_turn ready.accepted.settled ready.owns other alone no_in_formals ready.first_class.all_named frames none_takes
+      end_scope_leads main_turn ready.accepted.settled ready.owns other alone no_in_formals ready.class.all_named frames none_takes
           x (is_borrower s x) (home_frame x (ready.scoped.ends named named_in p point_in_named x is)) facts_now held_now,
-      end_scope_follows main_turn plain p.scope (drop 1 p.scope) scope x (ready_there (EndScope x) is) refl (with_successors (EndScope x) 0 is below_one),
+      end_scope_follows main_turn plain (λ f y. f < 1) p.scope (drop 1 p.scope) scope x (ready_there (EndScope x) is) refl (with_successors (EndScope x) 0 is below_one),
     )
 
     nothing_left : p.instr ≡ Finish → (x : ℕ) (q : List Step) (n : ℕ)
@@ -643,10 +651,10 @@ module _ (table : Table) (typed : TypedProgram) (effects : Effects) (input : Lis
 
     finishes : p.instr ≡ Finish → Both Finish
     finishes is = (
-      finish_leads program input main_turn.point state top.frame below.frame ready.accepted.settled ready.owns other alone no_in_formals ready.first_class.all_named
+      finish_leads program input main_turn.point state top.frame below.frame ready.accepted.settled ready.owns other alone no_in_formals ready.class.all_named
           frames first.1.1 plain (after (acts_of_main Finish) facts_now) facts_now held_now (nothing_left is),
       subst (GoesFrom Finish) (sym (finish_is program input main_turn.point state top.frame below.frame ready.accepted.settled ready.owns other alone no_in_formals
-          ready.first_class.all_named frames first.1.1 plain)) tt,
+          ready.class.all_named frames first.1.1 plain)) tt,
     )
 
     each_instruction : (i : Instruction) → p.instr ≡ i → IsFine s None i → calls_nothing i ≡ true → AllowsAll facts_now (acts_of_main i) → Both i
@@ -656,29 +664,29 @@ module _ (table : Table) (typed : TypedProgram) (effects : Effects) (input : Lis
     each_instruction (Call sub actuals result) is text calls allowed_there = cc
     each_instruction (Output text line) is writing calls allowed_there = (
       writes text line is writing calls allowed_there,
-      output_follows main_turn plain p.scope p.scope scope same_scope text line (with_successors (Output text line) 0 is below_one),
+      output_follows main_turn plain (λ f y. f < 1) p.scope p.scope scope same_scope text line (with_successors (Output text line) 0 is below_one),
     )
     each_instruction (Input target) is text calls allowed_there = reads target is text calls allowed_there
     each_instruction (Release e) is text calls allowed_there = releases e is text calls allowed_there
     each_instruction (Test e) is stays calls allowed_there = (
-      test_leads main_turn ready.accepted.settled ready.owns other alone no_in_formals ready.first_class.all_named frames none_takes
+      test_leads main_turn ready.accepted.settled ready.owns other alone no_in_formals ready.class.all_named frames none_takes
           e stays (not_true (has_call e) calls) facts_now held_now allowed_there,
-      test_follows main_turn plain p.scope p.scope scope same_scope e (with_successors (Test e) 1 is below_two),
+      test_follows main_turn plain (λ f y. f < 1) p.scope p.scope scope same_scope e (with_successors (Test e) 1 is below_two),
     )
     each_instruction (Choose e choices) is stays calls allowed_there = (
-      choose_leads main_turn ready.accepted.settled ready.owns other alone no_in_formals ready.first_class.all_named frames none_takes
+      choose_leads main_turn ready.accepted.settled ready.owns other alone no_in_formals ready.class.all_named frames none_takes
           e choices stays (not_true (has_call e) calls) facts_now held_now allowed_there,
-      choose_follows main_turn plain p.scope p.scope scope same_scope e choices (ap successors (sym is)),
+      choose_follows main_turn plain (λ f y. f < 1) p.scope p.scope scope same_scope e choices (ap successors (sym is)),
     )
     each_instruction (Start x reversed low high) is (scalar, stays, stays') calls allowed_there =
         let both = both_not (has_call low) (has_call high) calls in (
-          start_leads main_turn ready.accepted.settled ready.owns other alone no_in_formals ready.first_class.all_named frames none_takes
+          start_leads main_turn ready.accepted.settled ready.owns other alone no_in_formals ready.class.all_named frames none_takes
               x low high scalar stays stays' both.0 both.1 facts_now held_now allowed_there,
-          start_follows main_turn plain p.scope (x ∷ p.scope) scope (one_more x) x low high (new_one x) (with_successors (Start x reversed low high) 0 is below_one),
+          start_follows main_turn plain (λ f y. f < 1) p.scope (x ∷ p.scope) scope (one_more x) x low high (new_one x) (with_successors (Start x reversed low high) 0 is below_one),
         )
     each_instruction (Next x reversed low high) is scalar calls allowed_there = (
-      next_leads main_turn ready.accepted.settled ready.owns other alone no_in_formals ready.first_class.all_named frames x reversed scalar facts_now held_now,
-      next_follows main_turn plain p.scope p.scope scope same_scope x reversed
+      next_leads main_turn ready.accepted.settled ready.owns other alone no_in_formals ready.class.all_named frames x reversed scalar facts_now held_now,
+      next_follows main_turn plain (λ f y. f < 1) p.scope p.scope scope same_scope x reversed
           (may_hold x p.scope (inr (last_within x p.scope (ready_there (Next x reversed low high) is)))) (with_successors (Next x reversed low high) 1 is below_two),
     )
     each_instruction (Evaluate temporary e left) is text calls allowed_there = cc
@@ -687,7 +695,7 @@ module _ (table : Table) (typed : TypedProgram) (effects : Effects) (input : Lis
     each_instruction (EndScope x) is text calls allowed_there = ends_scope x is
     each_instruction Finish is text calls allowed_there = finishes is
     each_instruction Fall is text calls allowed_there = (
-      fall_leads main_turn ready.accepted.settled ready.owns other alone no_in_formals ready.first_class.all_named frames none_takes facts_now held_now,
+      fall_leads main_turn ready.accepted.settled ready.owns other alone no_in_formals ready.class.all_named frames none_takes facts_now held_now,
       tt,
     )
 
@@ -701,12 +709,12 @@ module _ (table : Table) (typed : TypedProgram) (effects : Effects) (input : Lis
 
     abbrev ExactFrom : Outcome → Type 0
     ExactFrom outcome =
-        ExactOn main_turn ready.accepted.settled ready.owns other alone (exactly.no_in_formals table typed effects input ready) ready.first_class.all_named frames
+        ExactOn main_turn ready.accepted.settled ready.owns other alone (exactly.no_in_formals table typed effects input ready class) ready.class.all_named frames
         (IsExcused (path_points program effects (flow_sub own named)) top.frame.next) facts_next_point main_turn.point.leaks outcome
 
     exact_step : ExactFrom (step program input state)
     exact_step =
-        exactly.main_exact table typed effects input ready state top below named p frames first of_sub at_point path alone sound kept
+        exactly.main_exact table typed effects input ready class state top below named p frames first of_sub at_point path alone sound kept
         (exact_from s 1 (view_of s state) state.memory (waiting_in state) facts_now (λ l. refl)
         (subst (λ z. Told (view_of s state) (IsDefinite (home s 1) z)) (facts_are state top (below ∷ []) outer named p frames of_sub at_point path) exact_before))
 
@@ -755,6 +763,6 @@ module _ (table : Table) (typed : TypedProgram) (effects : Effects) (input : Lis
   by_stages state top (below ∷ []) (f ∷ (g ∷ (k ∷ others))) is stages first path well kept named of_sub p at_point scope exact = absurd stages.2.2
 
   pub exactly_step : StepsLeadExactly table typed effects input
-  exactly_step state (sound, exact) =
-      by_stages state sound.top sound.older state.frames refl sound.stages sound.first sound.path sound.sound sound.kept sound.named sound.of_sub
+  exactly_step state (sound, first, exact) =
+      by_stages state sound.top sound.older state.frames refl sound.stages first sound.path sound.sound sound.kept sound.named sound.of_sub
       sound.point sound.at_point sound.scope exact

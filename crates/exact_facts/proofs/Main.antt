@@ -28,17 +28,18 @@ use Rattle.owned_ways.specs.Ways.{Way, Sound, Told}
 use Rattle.owned_ways.specs.Ways as ways
 use Rattle.soundness.specs.Seen.{home}
 use Rattle.soundness.specs.Typed.{Kept}
-use Rattle.soundness.specs.Sound.{Stage, facts_of, Elsewhere, AreStages, AreFirst, IsNamedSub, IsAtPoint, view_of, IsDefinite}
+use Rattle.soundness.specs.Sound.{IsFirstClass, Stage, facts_of, Elsewhere, AreStages, IsNamedSub, IsAtPoint, view_of, IsDefinite}
 use Rattle.soundness.specs.Ready.{IsReady}
 use Rattle.soundness.proofs.Points.{path_of, flow_at, sub_there, point_there, point_in}
 use Rattle.soundness.proofs.Paths.{facts_next}
 use Rattle.soundness.proofs.Successors.{unmoved_after}
-use Rattle.exact_facts.specs.Exact.{IsExact, NoneFails, checks_of, ExcusedHold}
+use Rattle.exact_facts.specs.Exact.{AreFirst, IsExact, NoneFails, checks_of, ExcusedHold}
 use Rattle.exact_facts.proofs.Memories.{exact_from}
 use Rattle.exact_facts.proofs.Instructions.{ExactOn}
 use Rattle.exact_facts.proofs.Stepping.{no_in_formals, main_exact}
 
-module _ (table : Table) (typed : TypedProgram) (effects : Effects) (input : List ℕ) (ready : IsReady table typed effects) where
+module _ (table : Table) (typed : TypedProgram) (effects : Effects) (input : List ℕ) (ready : IsReady table typed effects)
+    (class : IsFirstClass (flow_program table typed)) where
   abbrev program : FlowProgram
   program = flow_program table typed
 
@@ -145,12 +146,12 @@ module _ (table : Table) (typed : TypedProgram) (effects : Effects) (input : Lis
       exact_from s 1 (view_of s state) state.memory (waiting_in state) (facts_before (path_points program effects (flow_sub own named)) top.before) (λ l. refl) told in
       laid_holds state top named p of_sub at_point
       (its_checks (step program input state)
-      (main_exact table typed effects input ready state top below named p frames first of_sub at_point path (nothing_else below first.2 first.3.2) sound_there kept exact_there))
+      (main_exact table typed effects input ready class state top below named p frames first of_sub at_point path (λ w near what. nothing_else below first.2 first.3.2 w what) sound_there kept exact_there))
     where
       its_checks : (outcome : Outcome)
           → ExactOn (record { program = program; input = input; point = flow_at own named p; state = state; frame = top.frame; outer = below.frame ∷ [] })
-          ready.accepted.settled ready.owns (Elsewhere program effects (below ∷ [])) (nothing_else below first.2 first.3.2) (no_in_formals table typed effects input ready)
-          ready.first_class.all_named frames (IsExcused (path_points program effects (flow_sub own named)) top.frame.next)
+          ready.accepted.settled ready.owns (Elsewhere program effects (below ∷ [])) (λ w near what. nothing_else below first.2 first.3.2 w what) (no_in_formals table typed effects input ready class)
+          ready.class.all_named frames (IsExcused (path_points program effects (flow_sub own named)) top.frame.next)
           (facts_before (path_points program effects (flow_sub own named)) (top.frame.next ∷ top.before)) (flow_at own named p).leaks outcome
           → NoneFails (IsExcused (path_points program effects (flow_sub own named)) top.frame.next) (flow_at own named p).leaks (checks_of outcome)
       its_checks (Goes after_step) holds = holds.1
@@ -171,6 +172,6 @@ module _ (table : Table) (typed : TypedProgram) (effects : Effects) (input : Lis
   by_stages state top (below ∷ []) (f ∷ (g ∷ (k ∷ others))) is stages first path sound kept named of_sub p at_point exact = absurd stages.2.2
 
   pub excused_hold : ExcusedHold table typed effects input
-  excused_hold state sound exact =
-      by_stages state sound.top sound.older state.frames refl sound.stages sound.first sound.path sound.sound sound.kept sound.named sound.of_sub
+  excused_hold state sound first exact =
+      by_stages state sound.top sound.older state.frames refl sound.stages first sound.path sound.sound sound.kept sound.named sound.of_sub
       sound.point sound.at_point exact

@@ -29,10 +29,11 @@ use Rattle.owned_ways.proofs.Locations.{past_under, under_itself, depth as depth
 use Rattle.owned_ways.proofs.Unique.{one_way}
 use Rattle.owned_ways.proofs.Assigned.{named_rooted}
 use Rattle.part_offsets.specs.Parts.{owns_one, is_leaf, IsSettled}
-use Rattle.soundness.specs.Seen.{content, trunk, steps_in, seen, home}
+use Rattle.soundness.specs.Seen.{content, trunk, steps_in, seen, home, IsNear}
 use Rattle.soundness.specs.Changes.{Alike as AlikeTypes, Checks, leaks_at}
 use Rattle.soundness.specs.Typed.{OwnsByShape, Spot}
 use Rattle.typed_laws.specs.Needed.{Leads}
+use Rattle.soundness.proofs.Near.{named_near}
 use Rattle.soundness.proofs.Contents.{checks_made}
 use Rattle.soundness.proofs.Joined.{below_cell}
 use Rattle.soundness.proofs.Walks.{both_true, way_along, Walked, slot_at, one_slot, type_is, held_there, cell_spot}
@@ -53,7 +54,7 @@ use Rattle.exact_facts.proofs.Checks.{place_holds}
 use Rattle.exact_facts.proofs.Instructions.{none_made, ExactOn}
 
 module _ (t : Turn) (settled : IsSettled (typing t).table) (own_law : OwnsByShape (typing t).table) (other : Way → Type 0)
-    (alone : (w : Way) → other w → ⊥) (no_formals : (x : ℕ) → is_in_formal (typing t) x ≡ false)
+    (alone : (w : Way) → IsNear (length t.outer) w → other w → ⊥) (no_formals : (x : ℕ) → is_in_formal (typing t) x ≡ false)
     (all_named : (u d : ℕ) (c n : Bool) → shape_of (typing t).table u ≡ shape.Access d c n → n ≡ true)
     (frames : t.state.frames ≡ t.frame ∷ t.outer) (Excused : LeakSpot → Type 0) (none : taken t.point.instr ≡ 0) where
   abbrev s : Typing
@@ -175,7 +176,7 @@ module _ (t : Turn) (settled : IsSettled (typing t).table) (own_law : OwnsByShap
         subst (λ (z : Now). ExactHere (effect (act.Free (name_of x path)) facts) (spots_of (name_of x path) pos' count u) (steps.evaluated t (walked s way (variable_place (here t) x) z) f)) (sym same)
         (subst (λ z. ExactHere (effect (act.Free z) facts) (spots_of z pos' count u) (steps.evaluated t (walked s way (variable_place (here t) x) (record { memory = m; waits = [] })) f)) called
         (released_at w named
-        (λ moved. elim moved [ inl mine ↦ free_way (home s depth) facts w frees w (under_itself w) mine | inr o ↦ alone w o ])
+        (λ moved. elim moved [ inl mine ↦ free_way (home s depth) facts w frees w (under_itself w) mine | inr o ↦ alone w (named_near s depth w named) o ])
         (subst (λ z. Knows Excused pos' (extend z (sel.Deref ∷ [])) count facts (parts s.table (designated s.table u))) (sym called) known)
         (walked s way (variable_place (here t) x) (record { memory = m; waits = [] }))
         (name_quiet (here t) settled hands t.state.leaks m [] other facts holds.1 holds.0 alone live index_law own_law all_named x path u way goes

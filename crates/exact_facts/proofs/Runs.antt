@@ -12,7 +12,7 @@ use Rattle.machine.specs.States.{Frame, State, Outcome, Goes, Ends, sub_of, fram
 use Rattle.machine.specs.Step.{main_frame}
 use Rattle.machine.specs.Run.{frames_at_start, state_at_start, no_point, step, then_on}
 use Rattle.soundness.specs.Seen.{home}
-use Rattle.soundness.specs.Sound.{Stage, Elsewhere, AreStages}
+use Rattle.soundness.specs.Sound.{IsFirstClass, Stage, Elsewhere, AreStages}
 use Rattle.soundness.specs.Ready.{IsReady}
 use Rattle.soundness.proofs.Points.{sub_there}
 use Rattle.soundness.proofs.Beginning.{empty_sound, empty_kept, empty_scope, stage, first_point}
@@ -20,7 +20,8 @@ use Rattle.exact_facts.specs.Exact.{NoneFails, checks_of, IsExactly, LeadsExactl
 use Rattle.exact_facts.proofs.Main.{excused_hold}
 use Rattle.exact_facts.proofs.Going.{exactly_step}
 
-module _ (table : Table) (typed : TypedProgram) (effects : Effects) (ready : IsReady table typed effects) where
+module _ (table : Table) (typed : TypedProgram) (effects : Effects) (ready : IsReady table typed effects)
+    (class : IsFirstClass (flow_program table typed)) where
   abbrev program : FlowProgram
   program = flow_program table typed
 
@@ -36,7 +37,7 @@ module _ (table : Table) (typed : TypedProgram) (effects : Effects) (ready : IsR
       top = stage table typed effects ready 0 0;
       older = [];
       stages = (refl, refl, tt);
-      first = (refl, (refl, refl, refl));
+      running = (refl, (refl, refl, refl));
       path = begins (first_point table typed effects ready 0 ready.packages ready.stands p rest is);
       sound = empty_sound (flow_typing program) (home (flow_typing program) 0) (Elsewhere program effects []) [];
       kept = empty_kept (flow_typing program);
@@ -46,6 +47,7 @@ module _ (table : Table) (typed : TypedProgram) (effects : Effects) (ready : IsR
       at_point = ([], rest, is, refl);
       scope = empty_scope (flow_typing program) 0 p.scope;
     },
+    (refl, (refl, refl, refl)),
     λ w l definite reaches. absurd definite.0.1,
   )
 
@@ -55,7 +57,7 @@ module _ (table : Table) (typed : TypedProgram) (effects : Effects) (ready : IsR
       top = stage table typed effects ready ready.main 1;
       older = stage table typed effects ready 0 0 ∷ [];
       stages = (refl, refl, (refl, refl, tt));
-      first = (ready.main_there.is, (refl, refl, refl), refl, (refl, refl, refl));
+      running = (ready.main_there, (refl, refl, refl), (refl, (refl, refl, refl)));
       path = begins (first_point table typed effects ready ready.main ready.main_there.named ready.main_there.stands ready.main_there.point
           ready.main_there.points ready.main_there.begins);
       sound = empty_sound (flow_typing program) (home (flow_typing program) 1) (Elsewhere program effects (stage table typed effects ready 0 0 ∷ [])) [];
@@ -66,6 +68,7 @@ module _ (table : Table) (typed : TypedProgram) (effects : Effects) (ready : IsR
       at_point = ([], ready.main_there.points, ready.main_there.begins, refl);
       scope = empty_scope (flow_typing program) 1 ready.main_there.point.scope;
     },
+    (ready.is_main, (refl, refl, refl), refl, (refl, refl, refl)),
     λ w l definite reaches. absurd definite.0.1,
   )
 
@@ -75,7 +78,7 @@ module _ (table : Table) (typed : TypedProgram) (effects : Effects) (ready : IsR
   by_points : (points : List NamedPoint) → ready.packages.points ≡ points → IsExactly table typed effects (started (frames_at_start program (numbered_there points)))
   by_points [] is =
       subst (λ fs. IsExactly table typed effects (started fs))
-      (sym (ap (λ z. main_frame (record program { main = z }) ++ (frame_at_start 0 [] ∷ [])) ready.main_there.is)) main_start
+      (sym (ap (λ z. main_frame (record program { main = z }) ++ (frame_at_start 0 [] ∷ [])) ready.is_main)) main_start
   by_points (p ∷ rest) is = packages_start p rest is
 
   pub exactly_start : IsExactly table typed effects (state_at_start program)
@@ -87,7 +90,7 @@ module _ (table : Table) (typed : TypedProgram) (effects : Effects) (ready : IsR
 
   module _ (input : List ℕ) where
     go : (o : Outcome) → LeadsExactly table typed effects o → LeadsExactly table typed effects (then_on o (step (flow_program table typed) input))
-    go (Goes state) exactly = exactly_step table typed effects input ready state exactly
+    go (Goes state) exactly = exactly_step table typed effects input ready class state exactly
     go (Ends e state) exactly = tt
 
     reached : (n : ℕ) → LeadsExactly table typed effects (goes_for (flow_program table typed) input n)
@@ -107,4 +110,4 @@ module _ (table : Table) (typed : TypedProgram) (effects : Effects) (ready : IsR
     run_holds n state is =
         let exactly : IsExactly table typed effects state = subst (LeadsExactly table typed effects) is (reached n) in
         by_frames state exactly.0.top exactly.0.older state.frames exactly.0.stages
-        (excused_hold table typed effects input ready state exactly.0 exactly.1)
+        (excused_hold table typed effects input ready class state exactly.0 exactly.1 exactly.2)

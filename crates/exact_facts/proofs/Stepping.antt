@@ -25,6 +25,7 @@ use Rattle.flow_paths.specs.Names.{has_call, name_of, whole}
 use Rattle.flow_paths.specs.Acts as flow
 use Rattle.flow_paths.specs.Acts.{acts_of, acts_in, leaks_of, spot, stored_acts}
 use Rattle.flow_paths.specs.Points.{NamedPoint, FlowPoint}
+use Rattle.machine.specs.Memory.{Memory}
 use Rattle.flow_paths.specs.Laid.{FlowProgram, NamedSub, flow_sub, kept_roots, sub_facts, typing_of, flow_typing, flow_program, flow_named}
 use Rattle.flow_paths.specs.Paths.{PathPoint, path_point, ControlPath, acts_along, facts_before, facts_within}
 use Rattle.flow_paths.specs.Effects.{path_points, called_acts}
@@ -35,19 +36,19 @@ use Rattle.machine.specs.Step.{Turn, turn}
 use Rattle.machine.specs.Owners.{is_in, is_in_formal, waiting_in}
 use Rattle.machine.specs.Run.{no_point, step}
 use Rattle.owned_ways.specs.Ways.{Way, Sound, after, AllowsAll}
-use Rattle.soundness.specs.Seen.{home}
+use Rattle.soundness.specs.Seen.{home, IsNear}
 use Rattle.soundness.specs.Typed.{Kept}
 use Rattle.typed_laws.specs.Needed.{IsFine, Source, FirstWrites, FirstStays}
-use Rattle.soundness.specs.Sound.{calls_nothing, Stage, Elsewhere, AreFirst, IsNamedSub, IsAtPoint, view_of}
+use Rattle.soundness.specs.Sound.{IsFirstClass, calls_nothing, Stage, Elsewhere, AreRunning, IsProcedure, IsNamedSub, IsAtPoint, view_of}
 use Rattle.soundness.specs.Ready.{IsReady}
 use Rattle.soundness.proofs.Scalars.{acts}
-use Rattle.soundness.proofs.Points.{flow_at, named_has, point_has, sub_has, typing_same, point_there, path_there}
+use Rattle.soundness.proofs.Points.{flow_at, named_has, point_has, sub_has, typing_same, point_there, point_in, path_there}
 use Rattle.soundness.proofs.Waits.{or_both}
 use Rattle.soundness.proofs.Successors.{not_true, both_not}
 use Rattle.soundness.proofs.Instructions.{Holds}
 use Rattle.soundness.proofs.Endings.{finish_is}
-use Rattle.soundness.proofs.Stepping.{step_is, calls_none, takes, fine, path_here, allowed, facts_on}
-use Rattle.exact_facts.specs.Exact.{IsExact, Knows}
+use Rattle.soundness.proofs.Stepping.{step_is, takes, fine, path_here, allowed, facts_on}
+use Rattle.exact_facts.specs.Exact.{AreFirst, IsExact, Knows}
 use Rattle.exact_facts.proofs.Instructions.{ExactOn, assigned_acts, declare_exact, assign_exact, end_scope_exact, test_exact, choose_exact, leave_loop_exact, skip_exact}
 use Rattle.exact_facts.proofs.Releases.{release_exact}
 use Rattle.exact_facts.proofs.Loops.{next_exact, start_exact, output_exact, line_exact, input_exact}
@@ -80,7 +81,8 @@ excused_knows points n before path front rest split check count excused =
     ∙ sym (after_behind (acts front) (facts_before points before)) in
     (is_plain (has_elem check.name.sels) excused.definite, subst (λ z. Has z (Moved check.name)) facts (excused.moved before path))
 
-module _ (table : Table) (typed : TypedProgram) (effects : Effects) (input : List ℕ) (ready : IsReady table typed effects) where
+module _ (table : Table) (typed : TypedProgram) (effects : Effects) (input : List ℕ) (ready : IsReady table typed effects)
+    (class : IsFirstClass (flow_program table typed)) where
   abbrev program : FlowProgram
   program = flow_program table typed
 
@@ -94,14 +96,24 @@ module _ (table : Table) (typed : TypedProgram) (effects : Effects) (input : Lis
   same = typing_same table typed ready.scoped.objects
 
   pub no_in_formals : (x : ℕ) → is_in_formal s x ≡ false
-  no_in_formals x = ap (λ b. b && is_in (object_at s x).mode) (ready.first_class.no_formals x)
+  no_in_formals x = ap (λ b. b && is_in (object_at s x).mode) (ready.class.no_formals x)
+
+  -- the frames of the first class are as those of the second one
+  pub running_of : (m : Memory) (stages : List Stage) → AreFirst program stages → AreRunning table typed effects m stages
+  running_of m [] first = absurd first
+  running_of m (e ∷ []) first = first
+  running_of m (g ∷ (e ∷ [])) first =
+      let both : Some g.frame.sub ≡ Some ready.main = sym first.0 ∙ ready.is_main in
+      let main_sub : g.frame.sub ≡ ready.main = cc in
+      (subst (IsProcedure table typed) (sym main_sub) ready.main_there, first.1, (first.2, first.3))
+  running_of m (g ∷ (e ∷ (h ∷ stages))) first = absurd first
 
   -- a point of the main procedure, in a state that is sound and whose facts are exact
   module _ (state : State) (top below : Stage) (named : NamedSub) (p : NamedPoint) (frames : state.frames ≡ top.frame ∷ (below.frame ∷ []))
       (first : AreFirst program (top ∷ (below ∷ [])))
       (of_sub : IsNamedSub (flow_named table typed) top.frame.sub named) (at_point : IsAtPoint named.points top.frame.next p)
       (path : ControlPath (path_points program effects (sub_of program top.frame.sub)) top.before top.frame.next)
-      (alone : (w : Way) → Elsewhere program effects (below ∷ []) w → ⊥)
+      (alone : (w : Way) → IsNear 1 w → Elsewhere program effects (below ∷ []) w → ⊥)
       (sound : Sound (home s 1) (Elsewhere program effects (below ∷ [])) (view_of s state) (facts_before (path_points program effects (flow_sub own named)) top.before))
       (kept : Kept s state.memory (waiting_in state))
       (exact : IsExact s 1 state.memory (facts_before (path_points program effects (flow_sub own named)) top.before)) where
@@ -138,14 +150,18 @@ module _ (table : Table) (typed : TypedProgram) (effects : Effects) (input : Lis
     here_path : ControlPath points top.before top.frame.next
     here_path = path_here table typed effects input ready state top (below ∷ []) outer named p frames of_sub at_point path
 
+    calls_none : calls_nothing p.instr ≡ true
+    calls_none =
+        class.no_calls (flow_sub own named) (sub_has table typed top.frame.sub named of_sub) (flow_at own named p) (point_in own named top.frame.next p at_point)
+
     none_takes : taken at.point.instr ≡ 0
     none_takes = takes table typed effects input ready state top (below ∷ []) outer named p frames of_sub at_point
 
-    holds_now : Holds at ready.accepted.settled ready.owns other alone no_in_formals ready.first_class.all_named frames facts_now state
+    holds_now : Holds at ready.accepted.settled ready.owns other alone no_in_formals ready.class.all_named frames facts_now state
     holds_now = (sound, kept)
 
     abbrev Exacts : Instruction → Type 0
-    Exacts i = ExactOn at ready.accepted.settled ready.owns other alone no_in_formals ready.first_class.all_named frames Excused
+    Exacts i = ExactOn at ready.accepted.settled ready.owns other alone no_in_formals ready.class.all_named frames Excused
         (after (acts_by i) facts_now) (spots_by i) (turn at i)
 
     -- the acts of the point are those of its instruction, and then what is called
@@ -174,7 +190,7 @@ module _ (table : Table) (typed : TypedProgram) (effects : Effects) (input : Lis
     named_in = named_has (flow_named table typed) top.frame.sub named of_sub
 
     main_sub : top.frame.sub ≡ ready.main
-    main_sub = (let both : Some top.frame.sub ≡ Some ready.main = sym first.0 ∙ ready.main_there.is in cc)
+    main_sub = (let both : Some top.frame.sub ≡ Some ready.main = sym first.0 ∙ ready.is_main in cc)
 
     no_result : named.sub.result ≡ None
     no_result = ready.main_there.procedure named (subst (λ n. IsNamedSub (flow_named table typed) n named) main_sub of_sub)
@@ -184,7 +200,7 @@ module _ (table : Table) (typed : TypedProgram) (effects : Effects) (input : Lis
     declares : (x : ℕ) (v : TypedTree) → p.instr ≡ Declare x v → IsFine s None (Declare x v) → calls_nothing (Declare x v) ≡ true
         → AllowsAll facts_now (acts_by (Declare x v)) → Exacts (Declare x v)
     declares x v is text calls allowed_there =
-        declare_exact at ready.accepted.settled ready.owns other alone no_in_formals ready.first_class.all_named frames Excused none_takes
+        declare_exact at ready.accepted.settled ready.owns other alone no_in_formals ready.class.all_named frames Excused none_takes
         x v text (not_true (has_call v) calls) facts_now holds_now allowed_there no_fact exact
       where
         instr_there : (get_or (flow_sub own named).points top.frame.next no_point).instr ≡ Declare x v
@@ -195,7 +211,7 @@ module _ (table : Table) (typed : TypedProgram) (effects : Effects) (input : Lis
             (ready.new (flow_sub own named) (sub_has table typed top.frame.sub named of_sub) top.before top.frame.next
             here_path x v instr_there name root).1
             (subst (λ z. Has z (Moved name))
-            (ap (λ i. after (acts_by i) facts_now) (sym is) ∙ sym (facts_on table typed effects input ready state top (below ∷ []) outer named p frames of_sub at_point path)) has)
+            (ap (λ i. after (acts_by i) facts_now) (sym is) ∙ sym (facts_on table typed effects input ready state top (below ∷ []) outer named p frames of_sub at_point path calls_none)) has)
 
     assigns : (target e : TypedTree) → p.instr ≡ Assign target e → IsFine s None (Assign target e) → calls_nothing (Assign target e) ≡ true
         → AllowsAll facts_now (acts_by (Assign target e)) → Exacts (Assign target e)
@@ -204,11 +220,11 @@ module _ (table : Table) (typed : TypedProgram) (effects : Effects) (input : Lis
         let both = both_not (has_call path_of) (has_call e) calls in
         let target : TypedTree = Name q x path_of u in
         let front : List Placed = acts_in s e ++ acts_in s path_of in
-        assign_exact at ready.accepted.settled ready.owns other alone no_in_formals ready.first_class.all_named frames Excused none_takes
+        assign_exact at ready.accepted.settled ready.owns other alone no_in_formals ready.class.all_named frames Excused none_takes
         p.pos q x u path_of e (subst (λ z. Source s z e) (sym type) source) leads both.1 both.0 facts_now holds_now allowed_there exact
         (length front)
         (knows (Assign target e) is front (record { pos = q; act = act.Write (name_of x path_of) } ∷ [])
-        (assigned_acts at ready.accepted.settled ready.owns other alone no_in_formals ready.first_class.all_named frames Excused none_takes p.pos (whole target) target e)
+        (assigned_acts at ready.accepted.settled ready.owns other alone no_in_formals ready.class.all_named frames Excused none_takes p.pos (whole target) target e)
         q (name_of x path_of) (parts s.table u))
     assigns target e is (v, never, source) calls allowed_there = absurd never
 
@@ -216,17 +232,17 @@ module _ (table : Table) (typed : TypedProgram) (effects : Effects) (input : Lis
         → AllowsAll facts_now (acts_by (Output text line)) → Exacts (Output text line)
     unfolding has_call acts_in
     writes (More e rest) line (last, text) calls allowed_there =
-        output_exact at ready.accepted.settled ready.owns other alone no_in_formals ready.first_class.all_named frames Excused none_takes
+        output_exact at ready.accepted.settled ready.owns other alone no_in_formals ready.class.all_named frames Excused none_takes
         e rest line last text (or_both (has_call e) (has_call rest) (not_true (has_call e || has_call rest) calls)).0 facts_now holds_now allowed_there exact
     writes NoMore line text calls allowed_there =
-        line_exact at ready.accepted.settled ready.owns other alone no_in_formals ready.first_class.all_named frames Excused none_takes line facts_now exact
+        line_exact at ready.accepted.settled ready.owns other alone no_in_formals ready.class.all_named frames Excused none_takes line facts_now exact
     writes other_text line never calls allowed_there = absurd never
 
     reads : (target : TypedTree) → IsFine s None (Input target) → calls_nothing (Input target) ≡ true
         → AllowsAll facts_now (acts_by (Input target)) → Exacts (Input target)
     unfolding has_call
     reads (Name q x path_of u) (v, (leads, type), scalar) calls allowed_there =
-        input_exact at ready.accepted.settled ready.owns other alone no_in_formals ready.first_class.all_named frames Excused none_takes
+        input_exact at ready.accepted.settled ready.owns other alone no_in_formals ready.class.all_named frames Excused none_takes
         q x u path_of (subst (λ z. is_scalar (full s.table z) ≡ true) (sym type) scalar) leads (not_true (has_call path_of) calls) facts_now holds_now allowed_there exact
     reads target (v, never, scalar) calls allowed_there = absurd never
 
@@ -234,7 +250,7 @@ module _ (table : Table) (typed : TypedProgram) (effects : Effects) (input : Lis
         → AllowsAll facts_now (acts_by (Release target)) → Exacts (Release target)
     unfolding has_call
     releases (Name q x path_of u) is (v, d, (leads, type), access) calls allowed_there =
-        release_exact at ready.accepted.settled ready.owns other alone no_in_formals ready.first_class.all_named frames Excused none_takes
+        release_exact at ready.accepted.settled ready.owns other alone no_in_formals ready.class.all_named frames Excused none_takes
         q x u d path_of (subst (λ z. shape_of s.table z ≡ shape.Access d false true) (sym type) access) leads (not_true (has_call path_of) calls)
         facts_now holds_now allowed_there exact q (length (acts_in s path_of))
         (knows (Release (Name q x path_of u)) is (acts_in s path_of) (record { pos = q; act = act.Free (name_of x path_of) } ∷ []) refl
@@ -244,34 +260,34 @@ module _ (table : Table) (typed : TypedProgram) (effects : Effects) (input : Lis
     leaves : (e : TypedTree) → FirstStays s e → calls_nothing (LeaveLoop e) ≡ true → AllowsAll facts_now (acts_by (LeaveLoop e)) → Exacts (LeaveLoop e)
     unfolding has_call acts_in
     leaves (More e rest) (last, stays) calls allowed_there =
-        leave_loop_exact at ready.accepted.settled ready.owns other alone no_in_formals ready.first_class.all_named frames Excused none_takes
+        leave_loop_exact at ready.accepted.settled ready.owns other alone no_in_formals ready.class.all_named frames Excused none_takes
         e rest last stays (or_both (has_call e) (has_call rest) (not_true (has_call e || has_call rest) calls)).0 facts_now holds_now allowed_there exact
     leaves NoMore text calls allowed_there =
-        skip_exact at ready.accepted.settled ready.owns other alone no_in_formals ready.first_class.all_named frames Excused none_takes facts_now exact
+        skip_exact at ready.accepted.settled ready.owns other alone no_in_formals ready.class.all_named frames Excused none_takes facts_now exact
     leaves e never calls allowed_there = absurd never
 
     holds_nothing : (v : TypedTree) → v ≡ NoMore → Exacts (Hold v)
     unfolding acts_in
     holds_nothing v is = subst (λ z. Exacts (Hold z)) (sym is)
-        (subst (λ z. ExactOn at ready.accepted.settled ready.owns other alone no_in_formals ready.first_class.all_named frames Excused z [] (turn at (Hold NoMore)))
+        (subst (λ z. ExactOn at ready.accepted.settled ready.owns other alone no_in_formals ready.class.all_named frames Excused z [] (turn at (Hold NoMore)))
         (sym (ap (λ r. after (acts (flow.returned_acts s r NoMore)) facts_now) no_result))
-        (skip_exact at ready.accepted.settled ready.owns other alone no_in_formals ready.first_class.all_named frames Excused none_takes facts_now exact))
+        (skip_exact at ready.accepted.settled ready.owns other alone no_in_formals ready.class.all_named frames Excused none_takes facts_now exact))
 
     ends_scope : (x : ℕ) → p.instr ≡ EndScope x → Exacts (EndScope x)
     ends_scope x is =
-        end_scope_exact at ready.accepted.settled ready.owns other alone no_in_formals ready.first_class.all_named frames Excused none_takes
+        end_scope_exact at ready.accepted.settled ready.owns other alone no_in_formals ready.class.all_named frames Excused none_takes
         x (is_borrower s x) (home_frame x (ready.scoped.ends named named_in p point_in_named x is)) facts_now holds_now exact p.pos 0
         (knows (EndScope x) is [] (placed_by (EndScope x)) refl p.pos (object x) (parts s.table (object_at s x).of))
 
     finishes : Exacts Finish
     finishes =
-        subst (ExactOn at ready.accepted.settled ready.owns other alone no_in_formals ready.first_class.all_named frames Excused (after (acts_by Finish) facts_now) [])
+        subst (ExactOn at ready.accepted.settled ready.owns other alone no_in_formals ready.class.all_named frames Excused (after (acts_by Finish) facts_now) [])
         (sym (finish_is program input at.point state top.frame below.frame ready.accepted.settled ready.owns other alone no_in_formals
-        ready.first_class.all_named frames first.1.1 first.1.0)) tt
+        ready.class.all_named frames first.1.1 first.1.0)) tt
 
     each_instruction : (i : Instruction) → p.instr ≡ i → IsFine s None i → calls_nothing i ≡ true → AllowsAll facts_now (acts_by i) → Exacts i
     each_instruction Skip is text calls allowed_there =
-        skip_exact at ready.accepted.settled ready.owns other alone no_in_formals ready.first_class.all_named frames Excused none_takes facts_now exact
+        skip_exact at ready.accepted.settled ready.owns other alone no_in_formals ready.class.all_named frames Excused none_takes facts_now exact
     each_instruction (Declare x v) is text calls allowed_there = declares x v is text calls allowed_there
     each_instruction (Assign target e) is text calls allowed_there = assigns target e is text calls allowed_there
     each_instruction (Call sub actuals result) is text calls allowed_there = cc
@@ -279,17 +295,17 @@ module _ (table : Table) (typed : TypedProgram) (effects : Effects) (input : Lis
     each_instruction (Input target) is text calls allowed_there = reads target text calls allowed_there
     each_instruction (Release e) is text calls allowed_there = releases e is text calls allowed_there
     each_instruction (Test e) is stays calls allowed_there =
-        test_exact at ready.accepted.settled ready.owns other alone no_in_formals ready.first_class.all_named frames Excused none_takes
+        test_exact at ready.accepted.settled ready.owns other alone no_in_formals ready.class.all_named frames Excused none_takes
         e stays (not_true (has_call e) calls) facts_now holds_now allowed_there exact
     each_instruction (Choose e choices) is stays calls allowed_there =
-        choose_exact at ready.accepted.settled ready.owns other alone no_in_formals ready.first_class.all_named frames Excused none_takes
+        choose_exact at ready.accepted.settled ready.owns other alone no_in_formals ready.class.all_named frames Excused none_takes
         e choices stays (not_true (has_call e) calls) facts_now holds_now allowed_there exact
     each_instruction (Start x reversed low high) is (scalar, stays, stays') calls allowed_there =
         let both = both_not (has_call low) (has_call high) calls in
-        start_exact at ready.accepted.settled ready.owns other alone no_in_formals ready.first_class.all_named frames Excused none_takes
+        start_exact at ready.accepted.settled ready.owns other alone no_in_formals ready.class.all_named frames Excused none_takes
         x low high scalar stays stays' both.0 both.1 facts_now holds_now allowed_there exact
     each_instruction (Next x reversed low high) is scalar calls allowed_there =
-        next_exact at ready.accepted.settled ready.owns other alone no_in_formals ready.first_class.all_named frames Excused x reversed scalar facts_now exact
+        next_exact at ready.accepted.settled ready.owns other alone no_in_formals ready.class.all_named frames Excused x reversed scalar facts_now exact
     each_instruction (Evaluate temporary e left) is text calls allowed_there = cc
     each_instruction (LeaveLoop e) is text calls allowed_there = leaves e text calls allowed_there
     each_instruction (Hold v) is none calls allowed_there = holds_nothing v none
@@ -299,16 +315,16 @@ module _ (table : Table) (typed : TypedProgram) (effects : Effects) (input : Lis
 
     -- Where the step goes on, facts are exact along the path that goes on by it; and of the leak
     -- checks of the point none fails that is excused.
-    pub main_exact : ExactOn at ready.accepted.settled ready.owns other alone no_in_formals ready.first_class.all_named frames Excused
+    pub main_exact : ExactOn at ready.accepted.settled ready.owns other alone no_in_formals ready.class.all_named frames Excused
         (facts_before points (top.frame.next ∷ top.before)) at.point.leaks (step program input state)
     main_exact =
         let text = subst (λ r. IsFine s r p.instr) no_result (fine table typed effects input ready state top (below ∷ []) outer named p frames of_sub at_point) in
-        let each = each_instruction p.instr refl text (calls_none table typed effects input ready state top (below ∷ []) outer named p frames of_sub at_point)
-        (allowed table typed effects input ready state top (below ∷ []) outer named p frames of_sub at_point path) in
-        subst (λ z. ExactOn at ready.accepted.settled ready.owns other alone no_in_formals ready.first_class.all_named frames Excused z at.point.leaks (step program input state))
-        (sym (facts_on table typed effects input ready state top (below ∷ []) outer named p frames of_sub at_point path))
-        (subst (λ z. ExactOn at ready.accepted.settled ready.owns other alone no_in_formals ready.first_class.all_named frames Excused
+        let each = each_instruction p.instr refl text calls_none
+        (allowed table typed effects input ready state top (below ∷ []) outer named p frames of_sub at_point path calls_none) in
+        subst (λ z. ExactOn at ready.accepted.settled ready.owns other alone no_in_formals ready.class.all_named frames Excused z at.point.leaks (step program input state))
+        (sym (facts_on table typed effects input ready state top (below ∷ []) outer named p frames of_sub at_point path calls_none))
+        (subst (λ z. ExactOn at ready.accepted.settled ready.owns other alone no_in_formals ready.class.all_named frames Excused
         (after (acts_by p.instr) facts_now) (leaks_of (frame_by z) p.pos p.instr) (step program input state)) same
-        (subst (ExactOn at ready.accepted.settled ready.owns other alone no_in_formals ready.first_class.all_named frames Excused
+        (subst (ExactOn at ready.accepted.settled ready.owns other alone no_in_formals ready.class.all_named frames Excused
         (after (acts_by p.instr) facts_now) (spots_by p.instr))
         (sym (step_is table typed effects input ready state top (below ∷ []) outer named p frames of_sub at_point)) each))

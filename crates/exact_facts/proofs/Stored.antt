@@ -26,7 +26,7 @@ use Rattle.owned_ways.specs.Ways.{OfVariable, Way, Object, Named, Allows, after,
 use Rattle.owned_ways.specs.Ways as ways
 use Rattle.owned_ways.proofs.Assigned.{write_clean, named_rooted}
 use Rattle.part_offsets.specs.Parts.{IsSettled}
-use Rattle.soundness.specs.Seen.{home}
+use Rattle.soundness.specs.Seen.{home, IsNear}
 use Rattle.soundness.specs.Typed.{OwnsByShape}
 use Rattle.typed_laws.specs.Needed.{Leads, Gives, IndexLaw}
 use Rattle.soundness.proofs.Walks.{way_along, Walked}
@@ -39,7 +39,7 @@ use Rattle.exact_facts.proofs.Evaluated.{ExactTo, checked_exact, exact_after}
 use Rattle.exact_facts.proofs.Checks.{place_holds}
 
 module _ (h : Here) (settled : IsSettled h.typing.table) (leaks : List Leak) (waits : List (List machine.Word)) (other : Way → Type 0)
-    (alone : (w : Way) → other w → ⊥) (keeps : Keeps h.typing)
+    (alone : (w : Way) → IsNear h.frame w → other w → ⊥) (keeps : Keeps h.typing)
     (no_formals : (x : ℕ) → is_in_formal h.typing x ≡ false) (index_law : IndexLaw) (own_law : OwnsByShape h.typing.table)
     (all_named : (t d : ℕ) (c n : Bool) → shape_of h.typing.table t ≡ shape.Access d c n → n ≡ true) (Excused : LeakSpot → Type 0) where
   -- What it comes to: facts are exact once the value is stored, and no check of the place fails that

@@ -1,5 +1,5 @@
 -- What excused leak checks rest on: what a fact without an element calls moved is gone.
-use Rattle.std.specs.Prelude.{◌≡◌, ℕ, zero, suc, false, List, [], ◌∷◌, ◌++◌, get_or}
+use Rattle.std.specs.Prelude.{◌≡◌, ℕ, zero, suc, false, List, [], ◌∷◌, ◌++◌, get_or, Some}
 use Rattle.spark_base.specs.Lists.{Has}
 use Rattle.spark_base.specs.declared.position.Pos.{Pos}
 use Rattle.place_names.specs.declared.selector.Sel.{Sel}
@@ -20,7 +20,7 @@ use Rattle.machine.specs.States.{Frame, Leak, State, Outcome, Goes, Ends, sub_of
 use Rattle.machine.specs.Run.{no_point, step, then_on, state_at_start}
 use Rattle.owned_ways.specs.Ways.{Told}
 use Rattle.soundness.specs.Seen.{seen, home}
-use Rattle.soundness.specs.Sound.{IsDefinite, IsSound, AreExact}
+use Rattle.soundness.specs.Sound.{Stage, IsPlain, IsDefinite, IsSound, AreExact}
 
 -- So it is of the facts of a frame, in a memory. (What is in hand has no name, and leak checks
 -- change no word.)
@@ -40,6 +40,15 @@ Knows Excused pos name before facts parts =
     (q : List Sel) → Has parts q → Excused (spot pos name before q)
     → (has_elem (name.sels ++ q) ≡ false) × Has facts (Moved (extend name q))
 
+-- ---- the frames
+
+-- The frames of a program of the first class: that of the package objects, at first alone, and then
+-- with that of the main procedure.
+abbrev pub AreFirst : FlowProgram → List Stage → Type 0
+AreFirst program (g ∷ []) = (g.frame.sub ≡ 0) × IsPlain g
+AreFirst program (g ∷ (e ∷ [])) = (program.main ≡ Some g.frame.sub) × IsPlain g × (e.frame.sub ≡ 0) × IsPlain e
+AreFirst program _ = ⊥
+
 -- ---- the law
 
 abbrev pub checks_of : Outcome → List (List Leak)
@@ -50,14 +59,16 @@ checks_of (Ends e state) = state.checks
 -- leak plan excuses.
 abbrev pub ExcusedHold : Table → TypedProgram → Effects → List ℕ → Type 0
 ExcusedHold table typed effects input =
-    (state : State) (sound : IsSound table typed effects state) → AreExact table typed effects state sound
+    (state : State) (sound : IsSound table typed effects state) → AreFirst (flow_program table typed) (sound.top ∷ sound.older)
+    → AreExact table typed effects state sound
     → NoneFails (IsExcused (path_points (flow_program table typed) effects (sub_of (flow_program table typed) sound.top.frame.sub)) sound.top.frame.next)
     (get_or (sub_of (flow_program table typed) sound.top.frame.sub).points sound.top.frame.next no_point).leaks
     (checks_of (step (flow_program table typed) input state))
 
 -- A sound state whose facts are exact, and that each step of one leads to one.
 abbrev pub IsExactly : Table → TypedProgram → Effects → State → Type 0
-IsExactly table typed effects state = (sound : IsSound table typed effects state) × AreExact table typed effects state sound
+IsExactly table typed effects state =
+    (sound : IsSound table typed effects state) × AreFirst (flow_program table typed) (sound.top ∷ sound.older) × AreExact table typed effects state sound
 
 abbrev pub LeadsExactly : Table → TypedProgram → Effects → Outcome → Type 0
 LeadsExactly table typed effects (Goes state) = IsExactly table typed effects state

@@ -16,4 +16,4 @@ pub accepted_holds : (p : Program) (effects : Effects) → type_fault p ≡ None
     → OwnsByShape (known_of p).table → IsFirstClass (flow_program (known_of p).table (typed_of p)) → IsOrderly p
     → (input : List ℕ) → RunHolds (flow_program (known_of p).table (typed_of p)) effects input
 accepted_holds p effects no_fault accepted owns class orderly input =
-    run_holds (known_of p).table (typed_of p) effects (accepted_ready p effects no_fault accepted owns class orderly) input
+    run_holds (known_of p).table (typed_of p) effects (accepted_ready p effects no_fault accepted owns class orderly) class input

@@ -1,38 +1,59 @@
--- An accepted program of the first class whose resolved code is orderly is ready, and its runs are sound.
-use Rattle.std.proofs.Common.{◌≡◌, sym, subst, ℕ, List, None}
+-- An accepted program of the second class whose resolved code is orderly is ready, and its runs are sound.
+use Rattle.std.proofs.Common.{◌≡◌, sym, ap, ◌∙◌, subst, ℕ, true, false, List, None}
 use Rattle.resolved_tree.specs.Trees.{Program}
 use Rattle.type_definitions.specs.Types.{Table}
 use Rattle.type_definitions.specs.Whole.{known_of, type_fault}
 use Rattle.flow_paths.specs.declared.report.Effects.{Effects}
-use Rattle.flow_paths.specs.Laid.{flow_program}
+use Rattle.flow_paths.specs.Laid.{FlowProgram, flow_program}
 use Rattle.soundness.specs.Typed.{OwnsByShape}
-use Rattle.soundness.specs.Sound.{Accepted, IsFirstClass, RunIsSound}
+use Rattle.soundness.specs.Sound.{Accepted, calls_nothing, IsFirstClass, IsProcedureClass, RunIsSound}
 use Rattle.soundness.specs.Ready.{IsReady}
 use Rattle.soundness.proofs.Points.{flow_table}
+use Rattle.soundness.proofs.Successors.{second_class}
 use Rattle.soundness.proofs.Main.{ready_sound}
-use Rattle.ready_laws.specs.InOrder.{IsInOrder}
-use Rattle.ready_laws.proofs.Temporaries.{no_temporaries}
+use Rattle.ready_laws.specs.InOrder.{IsInOrder, AreCallees}
+use Rattle.ready_laws.proofs.Temporaries.{few_temporaries}
 use Rattle.ready_laws.proofs.Ready.{is_ready_program}
-use Rattle.order_laws.specs.Orderly.{typed_of, IsOrderly}
+use Rattle.order_laws.specs.Orderly.{typed_of, bodies_of, IsOrderly}
 use Rattle.order_laws.proofs.Faults.{units_faultless}
 use Rattle.order_laws.proofs.Unmoved.{package_values}
 use Rattle.order_laws.proofs.Whole.{in_order}
 
 module _ (p : Program) (effects : Effects) (no_fault : type_fault p ≡ None) (accepted : Accepted (known_of p).table (typed_of p) effects)
-    (owns : OwnsByShape (known_of p).table) (class : IsFirstClass (flow_program (known_of p).table (typed_of p))) (orderly : IsOrderly p) where
+    (owns : OwnsByShape (known_of p).table) (class : IsProcedureClass (flow_program (known_of p).table (typed_of p))) (orderly : IsOrderly p) where
   abbrev table : Table
   table = (known_of p).table
 
   is_in_order : IsInOrder table (typed_of p)
   is_in_order =
-      in_order table (known_of p) p.units orderly.written orderly.once owns accepted.fine (no_temporaries table (typed_of p) class.no_calls)
+      in_order table (known_of p) p.units orderly.written orderly.once owns accepted.fine (few_temporaries table (typed_of p) class.calls)
       orderly.formals orderly.seen (package_values (known_of p) p.units orderly.whole orderly.written (units_faultless p no_fault))
       (units_faultless p no_fault) orderly.main orderly.is_main
 
-  pub accepted_ready : IsReady table (typed_of p) effects
-  accepted_ready =
-      is_ready_program table (typed_of p) effects accepted (subst OwnsByShape (sym (flow_table table (typed_of p))) owns) class is_in_order
+  -- What is called is a procedure with a body.
+  abbrev pub CallProcedures : Type 0
+  CallProcedures = AreCallees (known_of p).table (typed_of p) (bodies_of p)
+
+  pub procedures_ready : CallProcedures → IsReady table (typed_of p) effects
+  procedures_ready callees =
+      is_ready_program table (typed_of p) effects accepted (subst OwnsByShape (sym (flow_table table (typed_of p))) owns) class is_in_order callees
 
   -- Each moment of its run is well owned, and none is a trap.
-  pub accepted_sound : (input : List ℕ) → RunIsSound table (typed_of p) input
-  accepted_sound input = ready_sound table (typed_of p) effects input accepted_ready
+  pub procedures_sound : CallProcedures → (input : List ℕ) → RunIsSound table (typed_of p) input
+  procedures_sound callees input = ready_sound table (typed_of p) effects input (procedures_ready callees)
+
+-- So it is in the first class, where nothing is called.
+module _ (p : Program) (effects : Effects) (no_fault : type_fault p ≡ None) (accepted : Accepted (known_of p).table (typed_of p) effects)
+    (owns : OwnsByShape (known_of p).table) (class : IsFirstClass (flow_program (known_of p).table (typed_of p))) (orderly : IsOrderly p) where
+  abbrev program : FlowProgram
+  program = flow_program (known_of p).table (typed_of p)
+
+  none_called : AreCallees (known_of p).table (typed_of p) (bodies_of p)
+  none_called sub has q there n actuals result is =
+      (let calls : false ≡ true = sym (ap calls_nothing is) ∙ class.no_calls sub has q there in cc)
+
+  pub accepted_ready : IsReady (known_of p).table (typed_of p) effects
+  accepted_ready = procedures_ready p effects no_fault accepted owns (second_class program class) orderly none_called
+
+  pub accepted_sound : (input : List ℕ) → RunIsSound (known_of p).table (typed_of p) input
+  accepted_sound input = procedures_sound p effects no_fault accepted owns (second_class program class) orderly none_called input

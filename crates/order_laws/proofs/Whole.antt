@@ -257,7 +257,6 @@ module _ (table : Table) (known : Known) (units : List Code) (written : (u : Cod
       let there = main_at site units refl 1 unit.0 unit.1 unit.2 unit.3 unit.4 in
       let sub : TypedSub = there.2 in
       let stands = there.3 in
-      let in_bodies : Has bodies sub = subst (λ subs. Has subs sub) (sym stands.2) (Has-append_right stands.0 (sub ∷ stands.1) sub (inl refl)) in
       record {
         first = first;
         rest = bodies;
@@ -266,6 +265,7 @@ module _ (table : Table) (known : Known) (units : List Code) (written : (u : Cod
         unmoved = unmoved;
         bodies = each_is;
         local = λ sub has. record { own = (body_is sub has).1; formals = formals sub has; seen = seen sub has };
+        formed = λ sub has. (body_is sub has).2;
         number = there.0;
         main = sub;
         is_main = is ∙ ap Some (unit.5 ∙ there.1);
@@ -273,5 +273,5 @@ module _ (table : Table) (known : Known) (units : List Code) (written : (u : Cod
         procedure = there.4 ∙ procedure_result (outside known) unit.0 unit.1 unit.2 unit.3
             (and_first (is_procedure unit.0) (are_declarations unit.1 && are_statements false unit.2) (written (SubBody unit.0 unit.1 unit.2 unit.3) unit.4))
             (faults (SubBody unit.0 unit.1 unit.2 unit.3) unit.4);
-        formed = (body_is sub in_bodies).2;
+        text_io = ap (λ os. is_package_object (record own { objects = os }) 0) objects_are;
       }

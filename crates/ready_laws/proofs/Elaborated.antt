@@ -13,7 +13,7 @@ use Rattle.flow_paths.specs.Points.{Place, PointName, row_at, NamedPoint, point,
 use Rattle.flow_paths.specs.Prep.{Setting, with_held, prep}
 use Rattle.flow_paths.specs.Layout.{Around, with_scope, declared, laid}
 use Rattle.flow_paths.specs.Laid.{around_body, elaboration_points}
-use Rattle.soundness.specs.Sound.{calls_nothing}
+use Rattle.soundness.specs.Sound.{calls_procedures}
 use Rattle.scope_laws.specs.Code.{roots}
 use Rattle.scope_laws.proofs.Lists.{and_first, and_second, all_both, all_one, all_if, all_has}
 use Rattle.ready_laws.specs.InOrder.{declares_only, own_nothing, names_no_owner}
@@ -22,7 +22,7 @@ use Rattle.ready_laws.specs.InOrder.{declares_only, own_nothing, names_no_owner}
 
 -- A point with a call, or beside one.
 abbrev Calls : NamedPoint → Type 0
-Calls p = calls_nothing p.instr ≡ true → ⊥
+Calls p = calls_procedures p.instr ≡ true → ⊥
 
 not_false : false ≡ true → ⊥
 not_false e = cc
@@ -69,7 +69,7 @@ prep_calls s _ at scope k = tt
 
 -- A point without calls declares an object, and its initial value names nothing that owns.
 abbrev pub Declares : Typing → NamedPoint → Type 0
-Declares t p = calls_nothing p.instr ≡ true → (x : ℕ) × (v : TypedTree) × (p.instr ≡ Declare x v) × (own_nothing t (roots v) ≡ true)
+Declares t p = calls_procedures p.instr ≡ true → (x : ℕ) × (v : TypedTree) × (p.instr ≡ Declare x v) × (own_nothing t (roots v) ≡ true)
 
 calls_declare : (t : Typing) (ps : List NamedPoint) → AllByRecursion Calls ps → AllByRecursion (Declares t) ps
 calls_declare t [] h = tt

@@ -1,6 +1,6 @@
 -- Along a control path, what facts say was moved is in scope, or in an object of a package; so no fact speaks
 -- of an object that is declared.
-use Rattle.std.proofs.Common.{◌≡◌, refl, sym, ap, ◌∙◌, subst, ◌⊎◌, inl, inr, ℕ, Bool, true, false, not, ◌&&◌, ◌||◌, ◌==◌, eqb-true, eq-eqb, List, [], ◌∷◌, ◌++◌, map, drop, get_or, arith}
+use Rattle.std.proofs.Common.{◌≡◌, refl, sym, ap, ◌∙◌, subst, ◌⊎◌, inl, inr, ℕ, Bool, true, false, not, ◌&&◌, ◌||◌, ◌==◌, eqb-true, eq-eqb, List, [], ◌∷◌, ◌++◌, map, drop, get_or, arith, Option, Some, None}
 use Rattle.std.specs.Prelude.{filter}
 use Rattle.std.specs.List.{AllByRecursion}
 use Rattle.std.proofs.lemmas.Grind.{common_steps}
@@ -22,20 +22,24 @@ use Rattle.flow_paths.specs.declared.report.Effects.{Effects}
 use Rattle.flow_paths.specs.Instructions.{Instruction, Skip, Declare, Assign, Call, Output, Input, Release, Test, Choose, Start, Next, Evaluate, LeaveLoop, Hold, EndScope, Finish, Fall}
 use Rattle.flow_paths.specs.Objects.{Typing, object_at, is_anonymous, view_of, is_borrower}
 use Rattle.flow_paths.specs.Acts.{acts_of}
+use Rattle.flow_paths.specs.Acts as flow
 use Rattle.flow_paths.specs.Points.{NamedPoint, FlowPoint}
-use Rattle.flow_paths.specs.Laid.{FlowProgram, NamedSub, kept_roots, sub_facts, flow_sub, typing_of, flow_typing, flow_program, flow_named}
+use Rattle.flow_paths.specs.Laid.{FlowSub, FlowProgram, NamedSub, kept_roots, sub_facts, flow_sub, typing_of, flow_typing, flow_program, flow_named}
 use Rattle.flow_paths.specs.Paths.{PathPoint, ControlPath, begins, goes_on, is_some_point, acts_at, facts_before}
-use Rattle.flow_paths.specs.Effects.{called_acts, path_points}
+use Rattle.flow_paths.specs.Effects.{AreEffects, called_acts, path_points}
 use Rattle.flow_paths.specs.Scopes.{Leads, Silent, is_last, is_within, is_temporary, is_ready, brought, scope_behind}
+use Rattle.machine.specs.States.{sub_of}
 use Rattle.machine.specs.Run.{no_point}
 use Rattle.owned_ways.specs.Ways.{after}
 use Rattle.soundness.specs.Typed.{OwnsByShape}
 use Rattle.soundness.specs.Needed.{IsFine, AreFine}
-use Rattle.soundness.specs.Sound.{IsFirstClass, IsAtPoint, calls_nothing}
+use Rattle.soundness.specs.Sound.{IsProcedureClass, IsAtPoint, calls_procedures}
 use Rattle.soundness.proofs.Scalars.{acts}
 use Rattle.soundness.proofs.Paths.{facts_next}
 use Rattle.soundness.proofs.Points.{IsLaid, flow_at, typing_same, point_has, point_there, path_there, next_there}
-use Rattle.soundness.proofs.Successors.{takes_none}
+use Rattle.soundness.proofs.Successors.{calls_cases, procedures_take_none}
+use Rattle.soundness.proofs.Used.{called_add_none}
+use Rattle.soundness.proofs.Returning.{called_ways}
 use Rattle.soundness.proofs.Waits.{drop_none}
 use Rattle.scope_laws.specs.Order.{IsOrdered, named_in}
 use Rattle.ready_laws.proofs.Moves.{instruction_owned}
@@ -58,11 +62,12 @@ last_out x y (z ∷ rest) last within ne = elim (any_either (y == z) (is_within 
 ]
 
 -- What is in scope at an instruction is so after it, but for an object whose scope ends there.
-behind_within : (i : Instruction) (scope : List ℕ) (x : ℕ) → calls_nothing i ≡ true → ((y : ℕ) → i ≡ EndScope y → is_within x (drop 1 scope) ≡ true)
+behind_within : (i : Instruction) (scope : List ℕ) (x : ℕ) → calls_procedures i ≡ true → ((y : ℕ) → i ≡ EndScope y → is_within x (drop 1 scope) ≡ true)
     → is_within x scope ≡ true → is_within x (brought i scope) ≡ true
 behind_within (Declare y v) scope x calls ends within = or_right (x == y) (is_within x scope) within
 behind_within (Start y reversed low high) scope x calls ends within = or_right (x == y) (is_within x scope) within
-behind_within (Call sub actuals result) scope x calls ends within = cc
+behind_within (Call sub actuals None) scope x calls ends within = within
+behind_within (Call sub actuals (Some t)) scope x calls ends within = cc
 behind_within (Evaluate t e left) scope x calls ends within = cc
 behind_within (EndScope y) scope x calls ends within = ends y refl
 behind_within Skip scope x calls ends within = within
@@ -124,9 +129,16 @@ ended_fact x borrower facts name has root = elim (Has-append_cases (filter (λ f
 
 -- ---- paths
 
-module _ (table : Table) (typed : TypedProgram) (effects : Effects) (class : IsFirstClass (flow_program table typed))
+-- What is called has no formals.
+abbrev pub AreFormless : FlowProgram → Type 0
+AreFormless program =
+    (sub : FlowSub) → Has program.subs sub → (p : FlowPoint) → Has sub.points p → (n : ℕ) (actuals : TypedTree) (result : Option ℕ)
+    → p.instr ≡ Call n actuals result → (sub_of program n).formals ≡ []
+
+module _ (table : Table) (typed : TypedProgram) (effects : Effects) (class : IsProcedureClass (flow_program table typed))
     (owns : OwnsByShape (flow_program table typed).table) (fine : AreFine (flow_program table typed))
-    (objects : (flow_program table typed).objects ≡ typed.objects) where
+    (objects : (flow_program table typed).objects ≡ typed.objects) (effects_are : AreEffects (flow_program table typed) effects)
+    (formless : AreFormless (flow_program table typed)) where
   abbrev program : FlowProgram
   program = flow_program table typed
 
@@ -138,25 +150,6 @@ module _ (table : Table) (typed : TypedProgram) (effects : Effects) (class : IsF
 
   same : s ≡ own
   same = typing_same table typed objects
-
-  no_callee : (pos : Pos) (i : Instruction) → calls_nothing i ≡ true → called_acts program effects pos i ≡ []
-  no_callee pos Skip calls = refl
-  no_callee pos (Declare x v) calls = refl
-  no_callee pos (Assign target e) calls = refl
-  no_callee pos (Call sub actuals result) calls = cc
-  no_callee pos (Output text line) calls = refl
-  no_callee pos (Input target) calls = refl
-  no_callee pos (Release e) calls = refl
-  no_callee pos (Test e) calls = refl
-  no_callee pos (Choose e choices) calls = refl
-  no_callee pos (Start x reversed low high) calls = refl
-  no_callee pos (Next x reversed low high) calls = refl
-  no_callee pos (Evaluate temporary e left) calls = refl
-  no_callee pos (LeaveLoop e) calls = refl
-  no_callee pos (Hold v) calls = refl
-  no_callee pos (EndScope x) calls = refl
-  no_callee pos Finish calls = refl
-  no_callee pos Fall calls = refl
 
   -- One subprogram, in which what owns and is named is in scope, or in an object from outside.
   module _ (named : NamedSub) (has_sub : Has (flow_named table typed) named) (laid : IsLaid own named)
@@ -184,8 +177,8 @@ module _ (table : Table) (typed : TypedProgram) (effects : Effects) (class : IsF
       in_sub : Has (flow_sub own named).points (flow_at own named p)
       in_sub = Has-map (λ (q : NamedPoint). flow_at own named q) named.points p there
 
-      calls_none : calls_nothing p.instr ≡ true
-      calls_none = class.no_calls (flow_sub own named) in_program (flow_at own named p) in_sub
+      calls_there : calls_procedures p.instr ≡ true
+      calls_there = class.calls (flow_sub own named) in_program (flow_at own named p) in_sub
 
       fine_there : IsFine s named.sub.result p.instr
       fine_there = fine (flow_sub own named) in_program (flow_at own named p) in_sub
@@ -193,46 +186,62 @@ module _ (table : Table) (typed : TypedProgram) (effects : Effects) (class : IsF
       abbrev acts_here : Instruction → List Placed
       acts_here i = acts_of (record { typing = s; result = named.sub.result; roots = kept }) p.pos i
 
+      -- with those of a call on package objects
+      abbrev whole_acts : Instruction → List Placed
+      whole_acts i = acts_here i ++ called_acts program effects p.pos i
+
+      -- a call of a subprogram without formals does nothing to what it names
+      call_none : (n : ℕ) (actuals : TypedTree) → p.instr ≡ Call n actuals None → acts_here p.instr ≡ []
+      call_none n actuals e =
+          ap acts_here e
+          ∙ ap (λ ways. flow.actual_values s ways actuals ++ flow.actual_acts ways actuals)
+          (called_ways program n (formless (flow_sub own named) in_program (flow_at own named p) in_sub n actuals None e))
+
       -- what the acts of the point move
-      moves_known : (a : Act) → Has (acts (acts_here p.instr)) a → (name : PlaceName) → Has (adds a) (Moved name) → Known p name.root
+      own_known : (a : Placed) → Has (acts_here p.instr) a → (name : PlaceName) → Has (adds a.act) (Moved name) → Known p name.root
+      own_known a has name moved = elim (calls_cases p.instr calls_there) [
+        | inl calls ↦ (
+            let found = instruction_owned s owns class.all_named named.sub.result kept p.pos p.instr fine_there calls a has name moved in
+            (found.1, seen p there name.root found.0 found.1))
+        | inr call ↦ absurd (subst (λ z. Has z a) (call_none call.0 call.1 call.2) has)
+      ]
+
+      moves_known : (a : Act) → Has (acts (whole_acts p.instr)) a → (name : PlaceName) → Has (adds a) (Moved name) → Known p name.root
       moves_known a has name moved =
-          let stands = Has-map_from (λ (q : Placed). q.act) (acts_here p.instr) a has in
-          let found = instruction_owned s owns class.all_named named.sub.result kept p.pos p.instr fine_there calls_none stands.0 stands.1 name
-          (subst (λ z. Has (adds z) (Moved name)) (sym stands.2) moved) in
-          (found.1, seen p there name.root found.0 found.1)
+          let stands = Has-map_from (λ (q : Placed). q.act) (whole_acts p.instr) a has in
+          let adds_it : Has (adds (stands.0).act) (Moved name) = subst (λ z. Has (adds z) (Moved name)) (sym stands.2) moved in
+          elim (Has-append_cases (acts_here p.instr) (called_acts program effects p.pos p.instr) stands.0 stands.1) [
+            | inl own_act ↦ own_known stands.0 own_act name adds_it
+            | inr called ↦ absurd (called_add_none program effects effects_are p.pos p.instr stands.0 (Moved name) called adds_it)
+          ]
 
       module _ (n : ℕ) (at_point : IsAtPoint named.points n p) where
-        acts_are : acts_at points n ≡ acts (acts_here p.instr)
+        acts_are : acts_at points n ≡ acts (whole_acts p.instr)
         acts_are =
             ap (λ (z : PathPoint). acts z.acts) (path_there own named n p at_point program effects)
-            ∙ ap (λ z. acts (acts_of (record { typing = own; result = named.sub.result; roots = kept }) p.pos p.instr ++ z)) (no_callee p.pos p.instr calls_none)
-            ∙ ap acts (nothing_more (acts_of (record { typing = own; result = named.sub.result; roots = kept }) p.pos p.instr))
-            ∙ ap (λ z. acts (acts_of (record { typing = z; result = named.sub.result; roots = kept }) p.pos p.instr)) (sym same)
-          where
-            nothing_more : (xs : List Placed) → xs ++ [] ≡ xs
-            nothing_more xs = grind (arith, common_steps)
+            ∙ ap (λ z. acts (acts_of (record { typing = z; result = named.sub.result; roots = kept }) p.pos p.instr ++ called_acts program effects p.pos p.instr)) (sym same)
 
-        facts_are : (before : List ℕ) → facts_before points (n ∷ before) ≡ after (acts (acts_here p.instr)) (facts_before points before)
+        facts_are : (before : List ℕ) → facts_before points (n ∷ before) ≡ after (acts (whole_acts p.instr)) (facts_before points before)
         facts_are before = facts_next points before n ∙ ap (λ z. after z (facts_before points before)) acts_are
 
         -- the facts after the acts
         known_on : (before : List ℕ) → AreKnown before p → AreKnown (n ∷ before) p
         known_on before known name has =
-            facts_kept (Known p) (acts (acts_here p.instr)) (facts_before points before) known moves_known name
+            facts_kept (Known p) (acts (whole_acts p.instr)) (facts_before points before) known moves_known name
             (subst (λ z. Has z (Moved name)) (facts_are before) has)
 
         behind_is : scope_behind p ≡ brought p.instr p.scope
-        behind_is = ap (λ k. brought p.instr (drop k p.scope)) (takes_none p.instr calls_none) ∙ ap (brought p.instr) (drop_none p.scope)
+        behind_is = ap (λ k. brought p.instr (drop k p.scope)) (procedures_take_none p.instr calls_there) ∙ ap (brought p.instr) (drop_none p.scope)
 
         -- what they know is in scope after the instruction
         within_behind : (before : List ℕ) (name : PlaceName) → Has (facts_before points (n ∷ before)) (Moved name) → is_within name.root p.scope ≡ true
             → is_within name.root (scope_behind p) ≡ true
         within_behind before name has within =
             ap (is_within name.root) behind_is
-            ∙ behind_within p.instr p.scope name.root calls_none
+            ∙ behind_within p.instr p.scope name.root calls_there
             (λ x e. last_out x name.root p.scope (subst (λ i. is_ready p i ≡ true) e (ordered p there).ready) within
             (ended_fact x (is_borrower s x) (facts_before points before) name
-            (subst (λ z. Has z (Moved name)) (facts_are before ∙ ap (λ i. after (acts (acts_here i)) (facts_before points before)) e) has)))
+            (subst (λ z. Has z (Moved name)) (facts_are before ∙ ap (λ i. after (acts (whole_acts i)) (facts_before points before)) e) has)))
             within
 
     first_at : (f : FlowPoint → PathPoint) (g : NamedPoint → FlowPoint) (qs : List NamedPoint) → is_some_point (map f (map g qs)) → (p : NamedPoint) × IsAtPoint qs 0 p

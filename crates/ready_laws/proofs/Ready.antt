@@ -24,8 +24,8 @@ use Rattle.flow_paths.specs.Scopes.{is_within, is_ready}
 use Rattle.machine.specs.States.{sub_of}
 use Rattle.machine.specs.Typed.{successors}
 use Rattle.soundness.specs.Typed.{OwnsByShape}
-use Rattle.soundness.specs.Sound.{Accepted, IsFirstClass, IsNamedSub, calls_nothing}
-use Rattle.soundness.specs.Ready.{root_of, stored_at, AreScoped, AreNew, AreElaborated, HasMain, IsReady}
+use Rattle.soundness.specs.Sound.{Accepted, IsProcedureClass, IsNamedSub, IsProcedure, calls_nothing, calls_procedures}
+use Rattle.soundness.specs.Ready.{root_of, stored_at, AreScoped, AreNew, AreElaborated, AreCalled, IsReady}
 use Rattle.soundness.proofs.Points.{IsLaid, all_laid, flow_at, typing_same, sub_there, named_has}
 use Rattle.scope_laws.specs.Code.{roots, are_seen}
 use Rattle.scope_laws.specs.Order.{IsCounted, IsOrdered, named_in, IsSeen}
@@ -33,10 +33,10 @@ use Rattle.scope_laws.proofs.Lists.{and_first, and_second, all_has}
 use Rattle.scope_laws.proofs.Successors.{sub_counted, has_first}
 use Rattle.scope_laws.proofs.Ordered.{sub_ordered, package_ordered}
 use Rattle.scope_laws.proofs.Seen.{sub_seen}
-use Rattle.ready_laws.specs.InOrder.{own_nothing, IsInOrder}
-use Rattle.ready_laws.proofs.Temporaries.{no_temporaries}
+use Rattle.ready_laws.specs.InOrder.{own_nothing, IsSub, IsInOrder, AreCallees}
+use Rattle.ready_laws.proofs.Temporaries.{few_temporaries}
 use Rattle.ready_laws.proofs.Moves.{instruction_owned}
-use Rattle.ready_laws.proofs.Facts.{new_there}
+use Rattle.ready_laws.proofs.Facts.{AreFormless, new_there}
 use Rattle.ready_laws.proofs.Elaborated.{Declares, package_declares, owns_none}
 use Rattle.ready_laws.proofs.Subs.{setting_from, IsOfBody, named_cases, body_at, one_named}
 
@@ -65,10 +65,14 @@ seen_has outer scope (y ∷ xs) x seen (inl e) =
     either false b e = inl e
 seen_has outer scope (y ∷ xs) x seen (inr has) = seen_has outer scope xs x (and_second (is_within y scope || outer y) (are_seen outer scope xs) seen) has
 
+sub_in : (subs : List TypedSub) (k : ℕ) (sub : TypedSub) → IsSub subs k sub → Has subs sub
+sub_in subs k sub (front, rest, is, long) = subst (λ z. Has z sub) (sym is) (Has-append_right front (sub ∷ rest) sub (inl refl))
+
 -- ---- the program
 
 module _ (table : Table) (typed : TypedProgram) (effects : Effects) (accepted : Accepted table typed effects)
-    (owns : OwnsByShape (flow_program table typed).table) (class : IsFirstClass (flow_program table typed)) (order : IsInOrder table typed) where
+    (owns : OwnsByShape (flow_program table typed).table) (class : IsProcedureClass (flow_program table typed)) (order : IsInOrder table typed)
+    (callees : AreCallees table typed order.rest) where
   abbrev program : FlowProgram
   program = flow_program table typed
 
@@ -79,7 +83,7 @@ module _ (table : Table) (typed : TypedProgram) (effects : Effects) (accepted : 
   own = typing_of table typed
 
   objects : program.objects ≡ typed.objects
-  objects = no_temporaries table typed class.no_calls
+  objects = few_temporaries table typed class.calls
 
   same : s ≡ own
   same = typing_same table typed objects
@@ -91,9 +95,9 @@ module _ (table : Table) (typed : TypedProgram) (effects : Effects) (accepted : 
   unfolding flow_program
   in_program named has = Has-map (flow_sub own) (flow_named table typed) named has
 
-  calls_none : (named : NamedSub) → Has (flow_named table typed) named → (p : NamedPoint) → Has named.points p → calls_nothing p.instr ≡ true
-  calls_none named has p there =
-      class.no_calls (flow_sub own named) (in_program named has) (flow_at own named p) (Has-map (λ (q : NamedPoint). flow_at own named q) named.points p there)
+  calls_there : (named : NamedSub) → Has (flow_named table typed) named → (p : NamedPoint) → Has named.points p → calls_procedures p.instr ≡ true
+  calls_there named has p there =
+      class.calls (flow_sub own named) (in_program named has) (flow_at own named p) (Has-map (λ (q : NamedPoint). flow_at own named q) named.points p there)
 
   -- the package objects, or a body
   abbrev Elaborates : NamedSub → Type 0
@@ -176,7 +180,7 @@ module _ (table : Table) (typed : TypedProgram) (effects : Effects) (accepted : 
   stored_there : (named : NamedSub) → Has (flow_named table typed) named → (p : NamedPoint) → Has named.points p → (x : ℕ) → Has (stored_at p.instr) x
       → (is_package_object s x ≡ true) ⊎ (is_within x p.scope ≡ true)
   stored_there named has p there x stored = elim (cases named has) [
-    | inl e ↦ (let declared = declares named e p there (calls_none named has p there) in absurd (subst (λ i. Has (stored_at i) x) declared.2 stored))
+    | inl e ↦ (let declared = declares named e p there (calls_there named has p there) in absurd (subst (λ i. Has (stored_at i) x) declared.2 stored))
     | inr b ↦ subst (λ (z : Typing). (is_package_object z x ≡ true) ⊎ (is_within x p.scope ≡ true)) (sym same)
         (seen_has (is_package_object own) p.scope (named_in p.instr) x (body_is_seen named b p there) (stored_named p.instr x stored))
   ]
@@ -184,13 +188,13 @@ module _ (table : Table) (typed : TypedProgram) (effects : Effects) (accepted : 
   ends_there : (named : NamedSub) → Has (flow_named table typed) named → (p : NamedPoint) → Has named.points p → (x : ℕ) → p.instr ≡ EndScope x
       → is_package_object s x ≡ false
   ends_there named has p there x is = elim (cases named has) [
-    | inl e ↦ (let declared = declares named e p there (calls_none named has p there) in absurd (two_texts p.instr declared.0 x declared.1 declared.2 is))
+    | inl e ↦ (let declared = declares named e p there (calls_there named has p there) in absurd (two_texts p.instr declared.0 x declared.1 declared.2 is))
     | inr b ↦ ap (λ z. is_package_object z x) same ∙ ((body_is_ordered named b p there).ends x is).1
   ]
 
   finishes_there : (named : NamedSub) → Has (flow_named table typed) named → (p : NamedPoint) → Has named.points p → p.instr ≡ Finish → p.scope ≡ []
   finishes_there named has p there is = elim (cases named has) [
-    | inl e ↦ (let declared = declares named e p there (calls_none named has p there) in absurd (no_finish p.instr declared.0 declared.1 declared.2 is))
+    | inl e ↦ (let declared = declares named e p there (calls_there named has p there) in absurd (no_finish p.instr declared.0 declared.1 declared.2 is))
     | inr b ↦ (body_is_ordered named b p there).finishes is ∙ ap reverse (no_formals b.0 b.1)
   ]
 
@@ -203,6 +207,67 @@ module _ (table : Table) (typed : TypedProgram) (effects : Effects) (accepted : 
     ends = ends_there;
     finishes = finishes_there;
   }
+
+  -- ---- procedures
+
+  abbrev layout_at : (k : ℕ) (sub : TypedSub) → IsSub order.rest k sub → (m : ℕ) × IsNamedSub (all_named own (order.first ∷ order.rest)) (suc k) (named_sub own m (sub_temporaries own sub) sub)
+  layout_at k sub stands = body_at own order.first order.rest k sub stands
+
+  is_procedure : (k : ℕ) (sub : TypedSub) → IsSub order.rest k sub → sub.result ≡ None → IsProcedure table typed (suc k)
+  unfolding flow_program
+  is_procedure k sub is_sub none =
+      let there = layout_at k sub is_sub in
+      let named : NamedSub = named_sub own there.0 (sub_temporaries own sub) sub in
+      let stands : IsNamedSub (flow_named table typed) (suc k) named =
+      subst (λ subs. IsNamedSub (all_named own subs) (suc k) named) (sym order.subs) there.1 in
+      let begins = has_first (setting_from own there.0 sub) sub in
+      record {
+        named = named;
+        stands = stands;
+        procedure = λ other also. ap (λ (z : NamedSub). z.sub.result) (sym (one_named (flow_named table typed) (suc k) named other stands also)) ∙ none;
+        point = begins.0;
+        points = begins.1;
+        begins = begins.2;
+        leads = λ p has. counted there.0 stands p has;
+      }
+    where
+      in_rest : Has order.rest sub
+      in_rest = sub_in order.rest k sub is_sub
+
+      counted : (n : ℕ) → IsNamedSub (flow_named table typed) (suc k) (named_sub own n (sub_temporaries own sub) sub)
+          → (p : FlowPoint) → Has (sub_of program (suc k)).points p → length p.next ≡ successors p.instr
+      counted n stands p has =
+          let named : NamedSub = named_sub own n (sub_temporaries own sub) sub in
+          let q = Has-map_from (λ (z : NamedPoint). flow_at own named z) named.points p
+          (subst (λ (z : FlowSub). Has z.points p) (sub_there table typed (suc k) named stands) has) in
+          subst (λ (z : FlowPoint). length z.next ≡ successors z.instr) q.2
+          (length-map (q.0).next (number_in named.points)
+          ∙ all_has IsCounted named.points q.0 (sub_counted (setting_from own n sub) sub (order.formed sub in_rest)) q.1)
+
+  pub has_main : IsProcedure table typed (suc order.number)
+  has_main = is_procedure order.number order.main order.stands order.procedure
+
+  -- what is called has no formals
+  formless : AreFormless program
+  formless sub has p there n actuals result is =
+      let found = callees sub has p there n actuals result is in
+      ap (λ m. (sub_of program m).formals) found.2 ∙ no_formals_at found.0 found.1 found.3
+    where
+      no_formals_at : (k : ℕ) (callee : TypedSub) → IsSub order.rest k callee → (sub_of program (suc k)).formals ≡ []
+      no_formals_at k callee is_sub =
+          let there = layout_at k callee is_sub in
+          ap (λ (z : FlowSub). z.formals) (sub_there table typed (suc k) (named_sub own there.0 (sub_temporaries own callee) callee)
+          (subst (λ subs. IsNamedSub (all_named own subs) (suc k) (named_sub own there.0 (sub_temporaries own callee) callee)) (sym order.subs) there.1))
+          ∙ no_formals callee (sub_in order.rest k callee is_sub)
+
+  are_called : AreCalled table typed
+  are_called sub has p there n actuals result is =
+      let found = callees sub has p there n actuals result is in
+      record {
+        procedure = subst (IsProcedure table typed) (sym found.2) (is_procedure found.0 found.1 found.3 found.4);
+        formals = formless sub has p there n actuals result is;
+        text_io = ap (λ z. is_package_object z 0) same ∙ order.text_io;
+      }
 
   -- ---- facts
 
@@ -217,15 +282,15 @@ module _ (table : Table) (typed : TypedProgram) (effects : Effects) (accepted : 
   names_none : (named : NamedSub) → Has (flow_named table typed) named → Elaborates named → (p : NamedPoint) → Has named.points p → (x : ℕ)
       → Has (named_in p.instr) x → is_owning s.table (object_at s x).of ≡ true → ⊥
   names_none named has e p there x names owning =
-      let declared = declares named e p there (calls_none named has p there) in
+      let declared = declares named e p there (calls_there named has p there) in
       owns_none s (roots declared.1) x (ap (λ z. own_nothing z (roots declared.1)) same ∙ declared.3)
       (subst (λ i. Has (named_in i) x) declared.2 names) owning
 
   new_in : (named : NamedSub) → Has (flow_named table typed) named → IsNewIn (flow_sub own named)
   new_in named has = elim (cases named has) [
-    | inl e ↦ new_there table typed effects class owns accepted.fine objects named has (laid named has) IsNumbered (λ x. ⊥) (reverse order.first.formals)
+    | inl e ↦ new_there table typed effects class owns accepted.fine objects accepted.effects_are formless named has (laid named has) IsNumbered (λ x. ⊥) (reverse order.first.formals)
         (λ x what out. out) (package_is_ordered named e) (λ p there x names owning. absurd (names_none named has e p there x names owning))
-    | inr b ↦ new_there table typed effects class owns accepted.fine objects named has (laid named has) IsOwn (λ x. is_package_object own x ≡ true)
+    | inr b ↦ new_there table typed effects class owns accepted.fine objects accepted.effects_are formless named has (laid named has) IsOwn (λ x. is_package_object own x ≡ true)
         (reverse (b.0).formals) (λ x what out. (let both : false ≡ true = sym what.1 ∙ out in cc)) (body_is_ordered named b)
         (λ p there x names owning. seen_has (is_package_object own) p.scope (named_in p.instr) x (body_is_seen named b p there) names)
   ]
@@ -258,7 +323,7 @@ module _ (table : Table) (typed : TypedProgram) (effects : Effects) (accepted : 
       declared_there : (p : FlowPoint) → Has (sub_of program 0).points p → (x : ℕ) × (v : TypedTree) × (p.instr ≡ Declare x v)
       declared_there p has =
           let q = package_point p has in
-          let found = declares packages refl q.0 q.1 (calls_none packages packages_in q.0 q.1) in
+          let found = declares packages refl q.0 q.1 (calls_there packages packages_in q.0 q.1) in
           (found.0, found.1, sym (ap (λ (z : FlowPoint). z.instr) q.2) ∙ found.2)
 
       unmoved_there : (p : FlowPoint) → Has (sub_of program 0).points p → (a : Placed) → Has p.acts a → (name : PlaceName) → Has (adds a.act) (Moved name) → ⊥
@@ -267,50 +332,26 @@ module _ (table : Table) (typed : TypedProgram) (effects : Effects) (accepted : 
           let kept : List ℕ = kept_roots own 0 own.objects (sub_facts own order.first packages.points) in
           let fine = accepted.fine (flow_sub own packages) (in_program packages packages_in) (flow_at own packages q.0)
           (Has-map (λ (z : NamedPoint). flow_at own packages z) packages.points q.0 q.1) in
-          let found = instruction_owned s owns class.all_named order.first.result kept (q.0).pos (q.0).instr fine (calls_none packages packages_in q.0 q.1) a
+          let declared = declares packages refl q.0 q.1 (calls_there packages packages_in q.0 q.1) in
+          let calls : calls_nothing (q.0).instr ≡ true =
+          ap calls_nothing declared.2 ∙ sym (ap calls_procedures declared.2) ∙ calls_there packages packages_in q.0 q.1 in
+          let found = instruction_owned s owns class.all_named order.first.result kept (q.0).pos (q.0).instr fine calls a
           (subst (λ (z : Typing). Has (acts_of (record { typing = z; result = order.first.result; roots = kept }) (q.0).pos (q.0).instr) a) (sym same)
           (subst (λ (z : FlowPoint). Has z.acts a) (sym q.2) acts)) name moved in
           names_none packages packages_in refl q.0 q.1 name.root found.0 found.1
-
-  pub has_main : HasMain table typed (suc order.number)
-  unfolding flow_program
-  has_main =
-      let there = body_at own order.first order.rest order.number order.main order.stands in
-      let named : NamedSub = named_sub own there.0 (sub_temporaries own order.main) order.main in
-      let stands : IsNamedSub (flow_named table typed) (suc order.number) named =
-      subst (λ subs. IsNamedSub (all_named own subs) (suc order.number) named) (sym order.subs) there.1 in
-      let begins = has_first (setting_from own there.0 order.main) order.main in
-      record {
-        is = order.is_main;
-        named = named;
-        stands = stands;
-        procedure = λ sub other. ap (λ (z : NamedSub). z.sub.result) (sym (one_named (flow_named table typed) (suc order.number) named sub stands other)) ∙ order.procedure;
-        point = begins.0;
-        points = begins.1;
-        begins = begins.2;
-        leads = λ p has. counted there.0 stands p has;
-      }
-    where
-      counted : (n : ℕ) → IsNamedSub (flow_named table typed) (suc order.number) (named_sub own n (sub_temporaries own order.main) order.main)
-          → (p : FlowPoint) → Has (sub_of program (suc order.number)).points p → length p.next ≡ successors p.instr
-      counted n stands p has =
-          let named : NamedSub = named_sub own n (sub_temporaries own order.main) order.main in
-          let q = Has-map_from (λ (z : NamedPoint). flow_at own named z) named.points p
-          (subst (λ (z : FlowSub). Has z.points p) (sub_there table typed (suc order.number) named stands) has) in
-          subst (λ (z : FlowPoint). length z.next ≡ successors z.instr) q.2
-          (length-map (q.0).next (number_in named.points)
-          ∙ all_has IsCounted named.points q.0 (sub_counted (setting_from own n order.main) order.main order.formed) q.1)
 
   pub is_ready_program : IsReady table typed effects
   is_ready_program = record {
     accepted = accepted;
     owns = owns;
-    first_class = class;
+    class = class;
     scoped = are_scoped;
     new = are_new;
     elaborated = are_elaborated;
     packages = packages;
     stands = packages_stand;
+    called = are_called;
     main = suc order.number;
+    is_main = order.is_main;
     main_there = has_main;
   }

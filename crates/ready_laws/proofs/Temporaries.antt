@@ -19,7 +19,8 @@ use Rattle.flow_paths.specs.Points.{Place, PointName, row_at, NamedPoint, point,
 use Rattle.flow_paths.specs.Prep.{Setting, prep}
 use Rattle.flow_paths.specs.Layout.{Around, within_loop, within_block, with_scope, declared, from, ending, ends, closing, laid, laid_branches, laid_branch, laid_whens, laid_when}
 use Rattle.flow_paths.specs.Laid.{Temporary, temporary_object, filled, temporaries, numbers_from, unnumbered, around_body, scope_at_end, procedure_end, function_end, sub_points, sub_temporaries, NamedSub, named_sub, named_subs, all_named, frame_of, kept_roots, sub_facts, FlowSub, flow_sub, typing_of, flow_program, flow_named, number_in}
-use Rattle.soundness.specs.Sound.{calls_nothing}
+use Rattle.soundness.specs.Sound.{calls_nothing, calls_procedures}
+use Rattle.soundness.proofs.Successors.{nothing_procedures}
 use Rattle.scope_laws.proofs.Lists.{all_both, all_one}
 
 -- ---- lists
@@ -35,7 +36,7 @@ all_right P (x ∷ xs) ys h = all_right P xs ys h.1
 -- ---- points
 
 abbrev pub IsCalm : NamedPoint → Type 0
-IsCalm p = calls_nothing p.instr ≡ true
+IsCalm p = calls_procedures p.instr ≡ true
 
 module _ (t : Typing) where
   -- A point that fills no temporary.
@@ -68,7 +69,7 @@ module _ (t : Typing) where
   first_calm [] q qs h = h.0
   first_calm (p ∷ ps) q qs h = first_calm ps q qs h.1
 
-  refused : (i : Instruction) → calls_nothing i ≡ false → calls_nothing i ≡ true → ⊥
+  refused : (i : Instruction) → calls_procedures i ≡ false → calls_procedures i ≡ true → ⊥
   refused i h g = let both : false ≡ true = sym h ∙ g in cc
 
   -- The points are laid out by one setting, and by another one: only the temporaries have other numbers.
@@ -234,11 +235,11 @@ none_named s [] calm = refl
 none_named s (sub ∷ rest) calm = no_named s (length s.objects) rest (λ named has. calm named (inr has))
 
 -- The objects of the program are those of the typed program.
-pub no_temporaries : (table : Table) (typed : TypedProgram)
-    → ((sub : FlowSub) → Has (flow_program table typed).subs sub → (p : FlowPoint) → Has sub.points p → calls_nothing p.instr ≡ true)
+pub few_temporaries : (table : Table) (typed : TypedProgram)
+    → ((sub : FlowSub) → Has (flow_program table typed).subs sub → (p : FlowPoint) → Has sub.points p → calls_procedures p.instr ≡ true)
     → (flow_program table typed).objects ≡ typed.objects
 unfolding flow_program
-no_temporaries table typed calm =
+few_temporaries table typed calm =
     let s : Typing = typing_of table typed in
     let none : flat_map temporaries_of (flow_named table typed) ≡ [] =
     none_named s typed.subs (λ named has p there.
@@ -249,3 +250,9 @@ no_temporaries table typed calm =
   where
     nothing_more : (xs : List Object) → xs ++ [] ≡ xs
     nothing_more xs = grind (arith, common_steps)
+
+-- So it is where nothing is called.
+pub no_temporaries : (table : Table) (typed : TypedProgram)
+    → ((sub : FlowSub) → Has (flow_program table typed).subs sub → (p : FlowPoint) → Has sub.points p → calls_nothing p.instr ≡ true)
+    → (flow_program table typed).objects ≡ typed.objects
+no_temporaries table typed calm = few_temporaries table typed (λ sub has p there. nothing_procedures p.instr (calm sub has p there))

@@ -1,14 +1,16 @@
 -- What is asked of a typed program, subprogram by subprogram, so that it is ready. Nothing here speaks of
 -- points, paths or facts.
-use Rattle.std.specs.Prelude.{◌≡◌, ℕ, suc, ◌≤◌, ◌<◌, Bool, true, false, not, ◌&&◌, List, ◌∷◌, ◌++◌, length, Some, None}
+use Rattle.std.specs.Prelude.{◌≡◌, ℕ, suc, ◌≤◌, ◌<◌, Bool, true, false, not, ◌&&◌, List, ◌∷◌, ◌++◌, length, Option, Some, None}
 use Rattle.std.specs.List.{list_all}
 use Rattle.spark_base.specs.Lists.{Has}
 use Rattle.type_definitions.specs.Types.{Table, is_owning}
-use Rattle.typed_tree.specs.Trees.{TypedCode}
+use Rattle.typed_tree.specs.Trees.{TypedTree, TypedCode}
 use Rattle.typed_tree.specs.Trees as typed
 use Rattle.typed_tree.specs.Programs.{TypedSub, TypedProgram}
 use Rattle.flow_paths.specs.Objects.{Typing, object_at, is_formal, is_package_object}
-use Rattle.flow_paths.specs.Laid.{typing_of}
+use Rattle.flow_paths.specs.Instructions.{Call}
+use Rattle.flow_paths.specs.Points.{FlowPoint}
+use Rattle.flow_paths.specs.Laid.{FlowSub, typing_of, flow_program}
 use Rattle.flow_paths.specs.Scopes.{is_settled}
 use Rattle.scope_laws.specs.Code.{is_formed, Once, objects_of, roots, body_seen}
 
@@ -58,10 +60,19 @@ pub record IsInOrder (table : Table) (program : TypedProgram) : Type 0 where
   pub unmoved : names_no_owner (typing_of table program) first.body ≡ true
   pub bodies : (sub : TypedSub) → Has program.subs sub → IsBody (typing_of table program) sub
   pub local : (sub : TypedSub) → Has rest sub → IsLocal (typing_of table program) sub
-  -- the main procedure is one of the others, and each exit in it stands in a loop
+  -- in the others each exit stands in a loop
+  pub formed : (sub : TypedSub) → Has rest sub → is_formed false sub.body ≡ true
+  -- the main procedure is one of them
   pub number : ℕ
   pub main : TypedSub
   pub is_main : program.main ≡ Some (suc number)
   pub stands : IsSub rest number main
   pub procedure : main.result ≡ None
-  pub formed : is_formed false main.body ≡ true
+  -- object 0 is Ada.Text_IO
+  pub text_io : is_package_object (typing_of table program) 0 ≡ false
+
+-- What is called is a procedure with a body in the text.
+abbrev pub AreCallees : Table → TypedProgram → List TypedSub → Type 0
+AreCallees table program rest =
+    (sub : FlowSub) → Has (flow_program table program).subs sub → (p : FlowPoint) → Has sub.points p → (n : ℕ) (actuals : TypedTree) (result : Option ℕ)
+    → p.instr ≡ Call n actuals result → (k : ℕ) × (callee : TypedSub) × (n ≡ suc k) × IsSub rest k callee × (callee.result ≡ None)

@@ -111,7 +111,7 @@ module _ (table : Table) (typed : TypedProgram) (effects : Effects) (ready : IsR
     top = stage 0 0;
     older = [];
     stages = (refl, refl, tt);
-    first = (refl, (refl, refl, refl));
+    running = (refl, (refl, refl, refl));
     path = begins (first_point 0 ready.packages ready.stands p rest is);
     sound = empty_sound (flow_typing program) (home (flow_typing program) 0) (Elsewhere program effects []) [];
     kept = empty_kept (flow_typing program);
@@ -128,7 +128,7 @@ module _ (table : Table) (typed : TypedProgram) (effects : Effects) (ready : IsR
     top = stage ready.main 1;
     older = stage 0 0 ∷ [];
     stages = (refl, refl, (refl, refl, tt));
-    first = (ready.main_there.is, (refl, refl, refl), refl, (refl, refl, refl));
+    running = (ready.main_there, (refl, refl, refl), (refl, (refl, refl, refl)));
     path = begins (first_point ready.main ready.main_there.named ready.main_there.stands ready.main_there.point ready.main_there.points ready.main_there.begins);
     sound = empty_sound (flow_typing program) (home (flow_typing program) 1) (Elsewhere program effects (stage 0 0 ∷ [])) [];
     kept = empty_kept (flow_typing program);
@@ -146,7 +146,7 @@ module _ (table : Table) (typed : TypedProgram) (effects : Effects) (ready : IsR
   by_points : (points : List NamedPoint) → ready.packages.points ≡ points → IsSound table typed effects (started (frames_at_start program (numbered_there points)))
   by_points [] is =
       subst (λ fs. IsSound table typed effects (started fs))
-      (sym (ap (λ z. main_frame (record program { main = z }) ++ (frame_at_start 0 [] ∷ [])) ready.main_there.is)) main_start
+      (sym (ap (λ z. main_frame (record program { main = z }) ++ (frame_at_start 0 [] ∷ [])) ready.is_main)) main_start
   by_points (p ∷ rest) is = packages_start p rest is
 
   pub sound_start : IsSound table typed effects (state_at_start program)

@@ -19,7 +19,7 @@ use Rattle.machine.specs.Owners.{is_in_formal, waiting_in, WellOwned}
 use Rattle.owned_ways.specs.Ways.{Step, OfVariable, OfHand, Loc, OfRoot, OfCell, Inside, Way, Object, Lost, Into, All, Held, View, Reaches, Owned, Covered, Sound, name_of}
 use Rattle.owned_ways.proofs.Locations.{both_parts, same_loc}
 use Rattle.part_offsets.specs.Parts.{IsSettled}
-use Rattle.soundness.specs.Seen.{content, trunk, steps_in, word_in, seen, home}
+use Rattle.soundness.specs.Seen.{content, trunk, steps_in, word_in, seen, home, IsNear}
 use Rattle.soundness.specs.Typed.{OwnsByShape}
 use Rattle.soundness.proofs.Joined.{trunk_trunk, not_inside}
 use Rattle.soundness.proofs.Contents.{bool_cases}
@@ -40,10 +40,10 @@ module _ (s : Typing) (f : ℕ) where
       is_false true e = absurd (e refl)
       is_false false e = refl
 
-  abbrev rest_of : List Variable → List Variable
+  abbrev pub rest_of : List Variable → List Variable
   rest_of vs = filter (λ v. not (v.frame == f)) vs
 
-  frame_other : (g y : ℕ) → (g ≡ f → ⊥) → (vs : List Variable) → variable_slots s g y (rest_of vs) ≡ variable_slots s g y vs
+  pub frame_other : (g y : ℕ) → (g ≡ f → ⊥) → (vs : List Variable) → variable_slots s g y (rest_of vs) ≡ variable_slots s g y vs
   frame_other g y ne [] = refl
   frame_other g y ne (v ∷ rest) = elim (bool_cases (v.frame == f)) [
     | inl e ↦ ap (λ b. variable_slots s g y (cond (not b) (v ∷ rest_of rest) (rest_of rest))) e
@@ -53,7 +53,7 @@ module _ (s : Typing) (f : ℕ) where
         ∙ ap (λ z. if is_variable g y v then v.slots else z) (frame_other g y ne rest)
   ]
 
-  frame_same : (x : ℕ) (vs : List Variable) → variable_slots s f x (rest_of vs) ≡ fresh (default s.table (object_at s x).of)
+  pub frame_same : (x : ℕ) (vs : List Variable) → variable_slots s f x (rest_of vs) ≡ fresh (default s.table (object_at s x).of)
   frame_same x [] = refl
   frame_same x (v ∷ rest) = elim (bool_cases (v.frame == f)) [
     | inl e ↦ ap (λ b. variable_slots s f x (cond (not b) (v ∷ rest_of rest) (rest_of rest))) e ∙ frame_same x rest
@@ -82,7 +82,7 @@ module _ (a b : View) (same : SameNumbers a b) where
     counted = λ n x. subst (λ z. n < z) (sym same.made) (owned.counted n (sym (same.leaked n) ∙ x));
   }
 
-  reaches_on : (w : Way) (l : Loc) → Reaches a w l → Reaches b w l
+  pub reaches_on : (w : Way) (l : Loc) → Reaches a w l → Reaches b w l
   reaches_on (Object r) l e = e
   reaches_on (Lost n) l (lost, e) = (same.leaked n ∙ lost, e)
   reaches_on (Into w i) l (k, r, e) = (k, reaches_on w k r, e)
@@ -100,7 +100,7 @@ module _ (s : Typing) (m : Memory) (f : ℕ) (hands : List Waiting) (leaks : Lis
   abbrev left : Memory
   left = without_frame f m
 
-  left_blank : (x : ℕ) (p : List Step) (n : ℕ) → word_in s.table (content s left hands (OfRoot (OfVariable f x))) p ≡ Held n → ⊥
+  pub left_blank : (x : ℕ) (p : List Step) (n : ℕ) → word_in s.table (content s left hands (OfRoot (OfVariable f x))) p ≡ Held n → ⊥
   left_blank x p n h =
       let none = blank_word s.table (content s left hands (OfRoot (OfVariable f x))) (default s.table (object_at s x).of)
       (frame_same s f x m.variables) (none_default s.table (object_at s x).of) p in
@@ -142,7 +142,7 @@ module _ (program : FlowProgram) (input : List ℕ) (point : FlowPoint) (state :
   ending = record { program = program; input = input; point = point; state = state; frame = frame; outer = below ∷ [] }
 
   module _ (settled : IsSettled (typing ending).table) (own_law : OwnsByShape (typing ending).table) (other : Way → Type 0)
-      (alone : (w : Way) → other w → ⊥) (no_formals : (x : ℕ) → is_in_formal (typing ending) x ≡ false)
+      (alone : (w : Way) → IsNear 1 w → other w → ⊥) (no_formals : (x : ℕ) → is_in_formal (typing ending) x ≡ false)
       (all_named : (u d : ℕ) (c n : Bool) → shape_of (typing ending).table u ≡ shape.Access d c n → n ≡ true)
       (frames : state.frames ≡ frame ∷ below ∷ []) (no_returns : frame.returns ≡ []) (no_waits : frame.waits ≡ []) where
     abbrev s : Typing

@@ -27,10 +27,11 @@ use Rattle.owned_ways.specs.Ways.{Step, OfVariable, OfHand, Loc, OfRoot, OfCell,
 use Rattle.owned_ways.specs.Ways as ways
 use Rattle.owned_ways.proofs.Assigned.{same_sound, move_way, named_rooted}
 use Rattle.part_offsets.specs.Parts.{type_in, offset_in, has_part, owns_one, is_leaf, IsSettled}
-use Rattle.soundness.specs.Seen.{in_hand, owner_word, content, trunk, steps_in, word_in, seen, home}
+use Rattle.soundness.specs.Seen.{in_hand, owner_word, content, trunk, steps_in, word_in, seen, home, IsNear}
 use Rattle.soundness.specs.Changes.{Alike as AlikeTypes}
 use Rattle.soundness.specs.Typed.{Matches, OwnsByShape, Kept, Spot}
 use Rattle.typed_laws.specs.Needed.{Stays, Gives, GivesParts, GivesFirst, IndexLaw}
+use Rattle.soundness.proofs.Near.{named_near, near_under}
 use Rattle.soundness.proofs.Joined.{trunk_trunk, not_inside}
 use Rattle.soundness.proofs.Contents.{bool_cases, word_yes, word_no}
 use Rattle.soundness.proofs.Steps.{hand_past, no_leaf, plain_shape, matches_words, room, taken_slots, alike}
@@ -122,7 +123,7 @@ pub record Keeps (s : Typing) : Type 0 where
   pub ownerless : (t : ℕ) → is_owning s.table t ≡ false → (p : List Step) → is_leaf s.table t p ≡ false
 
 module _ (h : Here) (settled : IsSettled h.typing.table) (leaks : List Leak) (waits : List (List machine.Word)) (other : Way → Type 0)
-    (alone : (w : Way) → other w → ⊥) (keeps : Keeps h.typing)
+    (alone : (w : Way) → IsNear h.frame w → other w → ⊥) (keeps : Keeps h.typing)
     (no_formals : (x : ℕ) → is_in_formal h.typing x ≡ false) (index_law : IndexLaw) (own_law : OwnsByShape h.typing.table)
     (all_named : (t d : ℕ) (c n : Bool) → shape_of h.typing.table t ≡ shape.Access d c n → n ≡ true) where
   pub record Ready (m : Memory) (hands : List Waiting) (facts : List Fact) : Type 0 where
@@ -147,8 +148,8 @@ module _ (h : Here) (settled : IsSettled h.typing.table) (leaks : List Leak) (wa
   live_trunk m hands owned (All w) l n (k, c, r, held, e) =
       ap (λ z. (content h.typing m hands (trunk z)).owns) e ∙ ap not (owned.live k c held)
 
-  spared : (w : Way) → Spares other w
-  spared w v u o = alone v o
+  spared : (w : Way) → IsNear h.frame w → Spares other w
+  spared w near v u o = alone v (near_under h.frame w v u near) o
 
   -- a scalar value
   pub scalar_given : (m : Memory) (hands : List Waiting) (facts facts' : List Fact) (want : ℕ) → Ready m hands facts → facts ≡ facts'
@@ -217,7 +218,7 @@ module _ (h : Here) (settled : IsSettled h.typing.table) (leaks : List Leak) (wa
       (sym (ap (is_owning h.typing.table) of ∙ owns)) (
         subst (λ u. Ready (moved_out h.typing k m) (record { of = u; words = words_of h.typing m k } ∷ hands)
             (effect (act.Move (ways.name_of w) (parts h.typing.table u)) facts)) of (record {
-              sound = taken_sound h.typing settled (home h.typing h.frame) other m hands leaks facts k l w ready.sound (spared w) ready.kept spot named reaches
+              sound = taken_sound h.typing settled (home h.typing h.frame) other m hands leaks facts k l w ready.sound (spared w (named_near h.typing h.frame w named)) ready.kept spot named reaches
                   (live_trunk m hands ready.sound.owned w l (rooted w named) reaches)
                   (subst (λ u. Allows facts (act.Move (ways.name_of w) (parts h.typing.table u))) (sym of) allowed);
               kept = keeps.moved m hands k l spot ready.kept;
@@ -292,7 +293,7 @@ module _ (h : Here) (settled : IsSettled h.typing.table) (leaks : List Leak) (wa
           (if b then Done (machine.Cell (suc (length k.memory.cells)) ∷ []) (record k { memory = with_new_cell t ws k.memory }) else Raises StorageError k)
       by_test true = (
         record {
-          sound = made_sound h.typing settled k.memory t want ws hands leaks long own (home h.typing h.frame) other facts (λ z. spared (Object (OfHand z))) ready.sound;
+          sound = made_sound h.typing settled k.memory t want ws hands leaks long own (home h.typing h.frame) other facts (λ z. spared (Object (OfHand z)) tt) ready.sound;
           kept = keeps.made k.memory t want d c n ws hands long is fits ready.kept;
         },
         sym one_word,
@@ -361,7 +362,7 @@ module _ (h : Here) (settled : IsSettled h.typing.table) (leaks : List Leak) (wa
   part_joined m hands facts t u acc ws step there offset is long ready = record {
     sound = joined_sound h.typing settled m u t ws acc hands leaks step there offset (long ∙ ap (words h.typing.table) (sym is))
         (subst (AlikeTypes h.typing.table u) (sym is) (alike h.typing.table settled u u (inl refl)))
-        (home h.typing h.frame) other facts (λ z. spared (Object (OfHand z))) ready.sound;
+        (home h.typing h.frame) other facts (λ z. spared (Object (OfHand z)) tt) ready.sound;
     kept = joined h.typing settled m u t ws acc hands step there offset (long ∙ ap (words h.typing.table) (sym is))
         (inl (ap (shape_of h.typing.table) (sym is))) ready.kept;
   }

@@ -26,14 +26,13 @@ use Rattle.owned_ways.proofs.Locations.{same_loc}
 use Rattle.owned_ways.specs.Ways.{OfRoot}
 use Rattle.owned_ways.specs.Ways as ways
 use Rattle.soundness.specs.Seen.{home}
-use Rattle.soundness.specs.Sound.{InScope}
 use Rattle.soundness.proofs.Contents.{bool_cases}
 use Rattle.soundness.proofs.Defaults.{none_default}
 use Rattle.soundness.proofs.Memories.{removed_same, removed_other}
 use Rattle.soundness.proofs.Ends.{removed_blank}
 use Rattle.soundness.proofs.Keeping.{cell_has}
 use Rattle.soundness.proofs.Fading.{FadesTo, still, then_fades, if_fades, checked_fades, fades, steps_fade}
-use Rattle.soundness.proofs.Scoped.{OnlyAt, NoVariable, only_same, only_then, only_fades, only_stored, only_declared, only_freed, MayHold, scope_kept, scope_ends, IsFrom, LeadsFrom, walked_from}
+use Rattle.soundness.proofs.Scoped.{OnlyAt, NoVariable, only_same, only_then, only_fades, only_stored, only_declared, only_freed, MayHold, Inside, scope_kept, scope_ends, IsFrom, LeadsFrom, walked_from}
 
 abbrev no_hands : List Waiting
 no_hands = []
@@ -53,8 +52,9 @@ Gets Q (Done a n) = Q a n.memory
 Gets Q (Raises e n) = Unit {0}
 Gets Q (Traps e n) = Unit {0}
 
-module _ (t : Turn) (plain : t.frame.waits ≡ []) (scope scope' : List ℕ)
-    (within : InScope (typing t) t.state.memory (length t.outer) scope) where
+-- `older` has the variables that may own cells beside those of the innermost frame.
+module _ (t : Turn) (plain : t.frame.waits ≡ []) (older : ℕ → ℕ → Type 0) (scope scope' : List ℕ)
+    (within : Inside (typing t) older t.state.memory (length t.outer) scope) where
   abbrev s : Typing
   s = typing t
 
@@ -70,12 +70,12 @@ module _ (t : Turn) (plain : t.frame.waits ≡ []) (scope scope' : List ℕ)
     pub less : k < successors t.point.instr
     pub loops : List Loop
     pub frames : (n : ℕ) → successor t k ≡ Some n → state.frames ≡ record t.frame { waits = []; loops = loops; next = n } ∷ t.outer
-    pub inside : InScope s state.memory depth scope'
+    pub inside : Inside s older state.memory depth scope'
 
   -- After the last package object the main procedure begins.
   pub record Declares (state : State) : Type 0 where
     pub frames : state.frames ≡ led t (record t.frame { waits = [] }) (successor t 0)
-    pub inside : InScope s state.memory depth scope'
+    pub inside : Inside s older state.memory depth scope'
 
   abbrev pub Follows : Outcome → Type 0
   Follows outcome = Each GoesOn outcome
@@ -103,16 +103,16 @@ module _ (t : Turn) (plain : t.frame.waits ≡ []) (scope scope' : List ℕ)
   frames_behind m k n e =
       ap (led t (record t.frame { waits = waiting t })) e ∙ ap (λ z. record t.frame { waits = z; loops = t.frame.loops; next = n } ∷ t.outer) no_waiting
 
-  goes_follow : (m : Memory) (k : ℕ) → k < successors t.point.instr → InScope s m depth scope' → Follows (goes t m k)
+  goes_follow : (m : Memory) (k : ℕ) → k < successors t.point.instr → Inside s older m depth scope' → Follows (goes t m k)
   goes_follow m k less inside = record { k = k; less = less; loops = t.frame.loops; frames = frames_behind m k; inside = inside }
 
-  leaking_follow : (checks : List (List Leak)) (m : Memory) (k : ℕ) → k < successors t.point.instr → InScope s m depth scope'
+  leaking_follow : (checks : List (List Leak)) (m : Memory) (k : ℕ) → k < successors t.point.instr → Inside s older m depth scope'
       → Follows (leaking_goes checks (goes t m k))
   leaking_follow checks m k less inside = record { k = k; less = less; loops = t.frame.loops; frames = frames_behind m k; inside = inside }
 
   module _ (more : (x : ℕ) → is_within x scope ≡ true → is_within x scope' ≡ true) where
-    unstored_scope : (m : Memory) → Unstored m → InScope s m depth scope'
-    unstored_scope m only = scope_kept s NoVariable before m depth scope scope' only within more (λ f x none. absurd none)
+    unstored_scope : (m : Memory) → Unstored m → Inside s older m depth scope'
+    unstored_scope m only = scope_kept s older NoVariable before m depth scope scope' only within more (λ f x none. absurd none)
 
     -- ---- places that are named
 
@@ -146,18 +146,18 @@ module _ (t : Turn) (plain : t.frame.waits ≡ []) (scope scope' : List ℕ)
     place_found p x u path n only = then_led x n only (steps_of (here t) path n) (steps_fade (here t) path n)
 
     -- a store at a place keeps to what is in scope, where its name does
-    stored_scope : (x : ℕ) → MayHold s depth scope' (home s depth x) x → (k : Place) (ws : List machine.Word) (m : Memory) → IsFrom (base_named x) k
-        → Unstored m → InScope s (stored s k ws m) depth scope'
+    stored_scope : (x : ℕ) → MayHold s older depth scope' (home s depth x) x → (k : Place) (ws : List machine.Word) (m : Memory) → IsFrom (base_named x) k
+        → Unstored m → Inside s older (stored s k ws m) depth scope'
     stored_scope x holds k ws m from only =
-        scope_kept s (λ f y. k.base ≡ memory.OfVariable f y) before (stored s k ws m) depth scope scope'
+        scope_kept s older (λ f y. k.base ≡ memory.OfVariable f y) before (stored s k ws m) depth scope scope'
         (only_then s (λ f y. k.base ≡ memory.OfVariable f y) before m (stored s k ws m) only (only_stored s k ws m)) within more (λ f y. there from f y)
       where
-        there : IsFrom (base_named x) k → (f y : ℕ) → k.base ≡ memory.OfVariable f y → MayHold s depth scope' f y
+        there : IsFrom (base_named x) k → (f y : ℕ) → k.base ≡ memory.OfVariable f y → MayHold s older depth scope' f y
         there (inl is) f y e =
             let same : base_named x ≡ memory.OfVariable f y = sym is ∙ e in
             let frames : home s depth x ≡ f = cc in
             let objects : x ≡ y = cc in
-            subst (λ z. MayHold s depth scope' z y) frames (subst (λ z. MayHold s depth scope' (home s depth x) z) objects holds)
+            subst (λ z. MayHold s older depth scope' z y) frames (subst (λ z. MayHold s older depth scope' (home s depth x) z) objects holds)
         there (inr (c, is)) f y e = (let same : memory.OfCell c ≡ memory.OfVariable f y = sym is ∙ e in cc)
 
     -- ---- declarations
@@ -167,9 +167,9 @@ module _ (t : Turn) (plain : t.frame.waits ≡ []) (scope scope' : List ℕ)
     first_fades u (More e rest) = taken_fades u e
     first_fades u v = still s before
 
-    declared_scope : (x : ℕ) → is_within x scope' ≡ true → (ws : List machine.Word) (m : Memory) → Unstored m → InScope s (declared depth x ws m) depth scope'
+    declared_scope : (x : ℕ) → is_within x scope' ≡ true → (ws : List machine.Word) (m : Memory) → Unstored m → Inside s older (declared depth x ws m) depth scope'
     declared_scope x there ws m only =
-        scope_kept s (λ f y. memory.OfVariable depth x ≡ memory.OfVariable f y) before (declared depth x ws m) depth scope scope'
+        scope_kept s older (λ f y. memory.OfVariable depth x ≡ memory.OfVariable f y) before (declared depth x ws m) depth scope scope'
         (only_then s (λ f y. memory.OfVariable depth x ≡ memory.OfVariable f y) before m (declared depth x ws m) only (only_declared s depth x ws m)) within more
         (λ f y e. (
         let frames : depth ≡ f = cc in
@@ -206,7 +206,7 @@ module _ (t : Turn) (plain : t.frame.waits ≡ []) (scope scope' : List ℕ)
     then_placed p x u path (Raises e n) faint = tt
     then_placed p x u path (Traps e n) faint = tt
 
-    pub assign_follows : (p : Pos) (x u : ℕ) (path e : TypedTree) → MayHold s depth scope' (home s depth x) x → 0 < successors t.point.instr
+    pub assign_follows : (p : Pos) (x u : ℕ) (path e : TypedTree) → MayHold s older depth scope' (home s depth x) x → 0 < successors t.point.instr
         → Follows (steps.assign t (Name p x path u) e)
     assign_follows p x u path e holds less =
         let target : TypedTree = Name p x path u in
@@ -230,7 +230,7 @@ module _ (t : Turn) (plain : t.frame.waits ≡ []) (scope scope' : List ℕ)
       pub alive : (k : Place) (m : Memory) (n : ℕ) → words_of s m k ≡ machine.Cell n ∷ [] → (cell m n).freed ≡ false
           → (checks : List (List Leak)) × (f k m ≡ leaking_goes checks (goes t (stored s k (machine.Null ∷ []) (freed n m)) 0))
 
-    freed_follows : (f : Place → Memory → Outcome) → Frees f → (x : ℕ) → MayHold s depth scope' (home s depth x) x → 0 < successors t.point.instr
+    freed_follows : (f : Place → Memory → Outcome) → Frees f → (x : ℕ) → MayHold s older depth scope' (home s depth x) x → 0 < successors t.point.instr
         → (k : Place) (m : Memory) → Placed x k m → (ws : List machine.Word) → words_of s m k ≡ ws → Follows (f k m)
     freed_follows f frees x holds less k m placed [] e =
         subst Follows (sym (frees.nothing k m e)) (goes_follow m 0 less (unstored_scope m placed.1))
@@ -251,14 +251,14 @@ module _ (t : Turn) (plain : t.frame.waits ≡ []) (scope scope' : List ℕ)
           (only_then s NoVariable before m (freed n m) placed.1 (only_freed s n m)))))
     ]
 
-    released_by : (f : Place → Memory → Outcome) → Frees f → (p : Pos) (x u : ℕ) (path : TypedTree) → MayHold s depth scope' (home s depth x) x
+    released_by : (f : Place → Memory → Outcome) → Frees f → (p : Pos) (x u : ℕ) (path : TypedTree) → MayHold s older depth scope' (home s depth x) x
         → 0 < successors t.point.instr → Follows (steps.evaluated t (place_of (here t) (Name p x path u) (start t)) f)
     released_by f frees p x u path holds less =
         after_that GoesOn (Placed x) (place_of (here t) (Name p x path u) (start t)) f
         (place_found p x u path (start t) (only_same s NoVariable before))
         (λ k m placed. freed_follows f frees x holds less k m placed (words_of s m k) refl)
 
-    pub release_follows : (p : Pos) (x u : ℕ) (path : TypedTree) → MayHold s depth scope' (home s depth x) x → 0 < successors t.point.instr
+    pub release_follows : (p : Pos) (x u : ℕ) (path : TypedTree) → MayHold s older depth scope' (home s depth x) x → 0 < successors t.point.instr
         → Follows (steps.release t (Name p x path u))
     release_follows p x u path holds less =
         released_by _ (record {
@@ -283,7 +283,7 @@ module _ (t : Turn) (plain : t.frame.waits ≡ []) (scope scope' : List ℕ)
       pub outside : (k : Place) (m : Memory) (v : ℤ) (end : ℕ) → next_item t.input t.state.at ≡ item.Number v end
           → fits_type s.table k.of (machine.Int v ∷ []) ≡ false → f k m ≡ steps.raised t run.ConstraintError m
 
-    read_follows : (f : Place → Memory → Outcome) → Reads f → (x : ℕ) → MayHold s depth scope' (home s depth x) x → 0 < successors t.point.instr
+    read_follows : (f : Place → Memory → Outcome) → Reads f → (x : ℕ) → MayHold s older depth scope' (home s depth x) x → 0 < successors t.point.instr
         → (k : Place) (m : Memory) → Placed x k m → (it : Item) → next_item t.input t.state.at ≡ it → Follows (f k m)
     read_follows f reads x holds less k m placed item.Missing e = subst Follows (sym (reads.missing k m e)) tt
     read_follows f reads x holds less k m placed item.Bad e = subst Follows (sym (reads.bad k m e)) tt
@@ -298,14 +298,14 @@ module _ (t : Turn) (plain : t.frame.waits ≡ []) (scope scope' : List ℕ)
       })
     ]
 
-    read_by : (f : Place → Memory → Outcome) → Reads f → (p : Pos) (x u : ℕ) (path : TypedTree) → MayHold s depth scope' (home s depth x) x
+    read_by : (f : Place → Memory → Outcome) → Reads f → (p : Pos) (x u : ℕ) (path : TypedTree) → MayHold s older depth scope' (home s depth x) x
         → 0 < successors t.point.instr → Follows (steps.evaluated t (place_of (here t) (Name p x path u) (start t)) f)
     read_by f reads p x u path holds less =
         after_that GoesOn (Placed x) (place_of (here t) (Name p x path u) (start t)) f
         (place_found p x u path (start t) (only_same s NoVariable before))
         (λ k m placed. read_follows f reads x holds less k m placed (next_item t.input t.state.at) refl)
 
-    pub input_follows : (p : Pos) (x u : ℕ) (path : TypedTree) → MayHold s depth scope' (home s depth x) x → 0 < successors t.point.instr
+    pub input_follows : (p : Pos) (x u : ℕ) (path : TypedTree) → MayHold s older depth scope' (home s depth x) x → 0 < successors t.point.instr
         → Follows (steps.input t (Name p x path u))
     input_follows p x u path holds less =
         read_by _ (record {
@@ -440,7 +440,7 @@ module _ (t : Turn) (plain : t.frame.waits ≡ []) (scope scope' : List ℕ)
       | inr ne ↦ inl (ap (λ z. get_or z o no_slot) (sym (removed_other s g y f x (λ a. ne (ap OfRoot a)) m.variables)) ∙ e)
     ]
 
-    next_by : (x : ℕ) → MayHold s depth scope' (home s depth x) x → 1 < successors t.point.instr → (ws : List machine.Word) (v : Option ℤ)
+    next_by : (x : ℕ) → MayHold s older depth scope' (home s depth x) x → 1 < successors t.point.instr → (ws : List machine.Word) (v : Option ℤ)
         → Follows (steps.turned_to t x (variable_place (here t) x) ws v)
     next_by x holds less ws (Some v) = record {
       k = 0;
@@ -457,7 +457,7 @@ module _ (t : Turn) (plain : t.frame.waits ≡ []) (scope scope' : List ℕ)
       inside = unstored_scope (undeclared depth x before) (only_undeclared depth x before);
     }
 
-    pub next_follows : (x : ℕ) (reversed : Bool) → MayHold s depth scope' (home s depth x) x → 1 < successors t.point.instr
+    pub next_follows : (x : ℕ) (reversed : Bool) → MayHold s older depth scope' (home s depth x) x → 1 < successors t.point.instr
         → Follows (steps.next_turn t x reversed)
     next_follows x reversed holds less =
         let ws : List machine.Word = words_of s before (variable_place (here t) x) in
@@ -468,4 +468,4 @@ module _ (t : Turn) (plain : t.frame.waits ≡ []) (scope scope' : List ℕ)
   pub end_scope_follows : (x : ℕ) → is_last x scope ≡ true → scope' ≡ drop 1 scope → 0 < successors t.point.instr → Follows (steps.end_scope t x)
   end_scope_follows x last rest less =
       leaking_follow (checks_at s t.point.pos before (variable_place (here t) x)) (undeclared depth x before) 0 less
-      (subst (InScope s (undeclared depth x before) depth) (sym rest) (scope_ends s before depth x scope within last (removed_blank s before depth x [])))
+      (subst (Inside s older (undeclared depth x before) depth) (sym rest) (scope_ends s older before depth x scope within last (removed_blank s before depth x [])))

@@ -34,18 +34,19 @@ use Rattle.machine.specs.States.{Waiting, Leak, State, Outcome, Goes, Ends}
 use Rattle.machine.specs.Step.{Turn, release, counted, typing, here, start, waiting, Stored, first_value, taken_by, declare, assign, end_scope, goes, behind, begun, led, successor, main_frame, leaking_goes, target_pos}
 use Rattle.machine.specs.Step as steps
 use Rattle.machine.specs.Owners.{is_in_formal, waiting_in, WellOwned}
-use Rattle.owned_ways.specs.Ways.{Root, OfVariable, Loc, OfRoot, OfCell, Inside, Way, Object, Lost, Into, All, Word, Empty, Gone, Held, View, Reaches, Below, IsRooted, Under, Named, IsMoved, Excused, Allows, part, along, after, AllowsAll, Sound}
+use Rattle.owned_ways.specs.Ways.{Root, OfVariable, OfHand, Loc, OfRoot, OfCell, Inside, Way, Object, Lost, Into, All, Word, Empty, Gone, Held, View, Reaches, Below, IsRooted, Under, Named, IsMoved, Excused, Allows, part, along, after, AllowsAll, Sound}
 use Rattle.owned_ways.specs.Ways as ways
 use Rattle.owned_ways.proofs.Locations.{past_under, under_itself, reaches_along, named_along as rooted_along, depth as depth_of}
 use Rattle.owned_ways.proofs.Unique.{one_way}
 use Rattle.owned_ways.proofs.Assigned.{write_clean, is_false, named_rooted}
 use Rattle.part_offsets.specs.Parts.{type_in, offset_in, has_part, owns_one, is_leaf, IsSettled}
 use Rattle.part_offsets.proofs.Ranges.{leaf_end, leaf_part}
-use Rattle.soundness.specs.Seen.{Content, content, word_in, owner_at, owner_word, trunk, steps_in, seen, home}
+use Rattle.soundness.specs.Seen.{Content, content, word_in, owner_at, owner_word, trunk, steps_in, seen, home, IsNear}
 use Rattle.soundness.specs.Changes.{Alike as AlikeTypes, Checks, leaks_at}
 use Rattle.soundness.specs.Typed.{Matches, OwnsByShape, Kept, Spot}
 use Rattle.typed_laws.specs.Needed.{Stays, Writes, Leads, Source, FirstSource}
 use Rattle.soundness.specs.Sound.{view_of, IsTrap}
+use Rattle.soundness.proofs.Near.{named_near, near_under, near_along}
 use Rattle.soundness.proofs.Contents.{bool_cases, word_yes, word_no, word_part, word_root, checks_made, all_checks}
 use Rattle.soundness.proofs.Joined.{trunk_trunk, below_cell}
 use Rattle.soundness.proofs.Walks.{both_true, way_along, Walked, slot_at, one_slot, type_is, slot_is, held_there, cell_spot}
@@ -97,7 +98,7 @@ module _ (s : Typing) (all_named : (u d : ℕ) (c n : Bool) → shape_of s.table
 -- ---- outcomes
 
 module _ (t : Turn) (settled : IsSettled (typing t).table) (own_law : OwnsByShape (typing t).table) (other : Way → Type 0)
-    (alone : (w : Way) → other w → ⊥) (no_formals : (x : ℕ) → is_in_formal (typing t) x ≡ false)
+    (alone : (w : Way) → IsNear (length t.outer) w → other w → ⊥) (no_formals : (x : ℕ) → is_in_formal (typing t) x ≡ false)
     (all_named : (u d : ℕ) (c n : Bool) → shape_of (typing t).table u ≡ shape.Access d c n → n ≡ true)
     (frames : t.state.frames ≡ t.frame ∷ t.outer) where
   abbrev s : Typing
@@ -184,11 +185,15 @@ module _ (t : Turn) (settled : IsSettled (typing t).table) (own_law : OwnsByShap
     abbrev pub IsBlank : ℕ → Memory → Type 0
     IsBlank x m = (p : List ways.Step) → word_in s.table (content s m [] (OfRoot (OfVariable depth x))) p ≡ Empty
 
+    -- no fact says that a part of it was moved
+    abbrev pub IsUnmoved : ℕ → List Fact → Type 0
+    IsUnmoved x facts = (p : List ways.Step) → IsMoved (home s depth) facts (along (Object (OfVariable depth x)) p) → ⊥
+
     -- no variable of the object was made by the evaluation, since nothing is stored and nothing of
     -- the object is moved
     blank_after : (x : ℕ) (facts : List Fact) (ws : List machine.Word) (n : Now) → Given_here (object_at s x).of facts (Done ws n)
         → FadesTo (here t) {A = List machine.Word} t.state.memory (Done ws n) → IsBlank x t.state.memory
-        → ((name : PlaceName) → Has facts (Moved name) → name.root ≡ x → ⊥) → IsBlank x n.memory
+        → IsUnmoved x facts → IsBlank x n.memory
     blank_after x facts ws n (ready, long, same) faint new no_fact p = elim (bool_cases (is_leaf s.table (object_at s x).of p)) [
       | inr isnt ↦ word_no s.table (content s n.memory [] (OfRoot (OfVariable depth x))) p isnt
       | inl leaf ↦ (
@@ -203,8 +208,8 @@ module _ (t : Turn) (settled : IsSettled (typing t).table) (own_law : OwnsByShap
                 (reaches_along (seen s n.memory hands' t.state.leaks) (Object root) (OfRoot root) p refl)
                 (word_root s.table (content s n.memory hands') root p ∙ word_yes s.table (content s n.memory hands' (OfRoot root)) p own leaf
                 ∙ ap (owner_at now_there.word) gone)) [
-                  | inl moved ↦ no_fact (ways.name_of (along (Object root) p)) moved.1 (number_part (Object root) p)
-                  | inr o ↦ alone (along (Object root) p) o
+                  | inl moved ↦ no_fact p moved
+                  | inr o ↦ alone (along (Object root) p) (near_along depth (Object root) p (inr refl)) o
                 ])
             | inr whole ↦ (
                 let was : old.gone ≡ false = is_false old.gone (λ g. (let no_more : true ≡ false = sym (one.gone g) ∙ whole in cc)) in
@@ -223,12 +228,12 @@ module _ (t : Turn) (settled : IsSettled (typing t).table) (own_law : OwnsByShap
     first_fades u v gives = absurd gives
 
     then_declared : Raises_well → (x : ℕ) (facts : List Fact) (y : Evaluated (List machine.Word)) → Given_here (object_at s x).of facts y
-        → FadesTo (here t) t.state.memory y → IsBlank x t.state.memory → ((name : PlaceName) → Has facts (Moved name) → name.root ≡ x → ⊥)
+        → FadesTo (here t) t.state.memory y → IsBlank x t.state.memory → IsUnmoved x facts
         → Leads_on facts (steps.evaluated t y (λ ws m. goes t (declared depth x ws m) 0))
     then_declared well x facts (Done ws n) (ready, long, same) faint new no_fact =
         goes_plain (declared depth x ws n.memory) facts
         (declared_sound s settled (home s depth) other n.memory (record { of = (object_at s x).of; words = ws }) hands t.state.leaks facts depth x
-        ready.sound (λ z v u o. alone v o) ready.kept (blank_after x facts ws n (ready, long, same) faint new no_fact) (no_formals x) long (alike s.table settled (object_at s x).of (object_at s x).of (inl refl)))
+        ready.sound (λ z v u o. alone v (near_under depth (Object (OfHand z)) v u tt) o) ready.kept (blank_after x facts ws n (ready, long, same) faint new no_fact) (no_formals x) long (alike s.table settled (object_at s x).of (object_at s x).of (inl refl)))
         (declared_kept s settled n.memory depth x (record { of = (object_at s x).of; words = ws }) hands ready.kept long (inl refl))
     then_declared well x facts (Raises e n) given faint new no_fact = (λ trap. trap, well n.memory)
     then_declared well x facts (Traps e n) never faint new no_fact = absurd never
@@ -252,7 +257,7 @@ module _ (t : Turn) (settled : IsSettled (typing t).table) (own_law : OwnsByShap
     -- the evaluation names it.
     pub declare_leads : (x : ℕ) (v : TypedTree) → FirstSource s (object_at s x).of v → has_call v ≡ false → (facts : List Fact) → Holds facts t.state
         → AllowsAll facts (acts (declared_acts s x v))
-        → IsBlank x t.state.memory → ((name : PlaceName) → Has (after (acts (declared_acts s x v)) facts) (Moved name) → name.root ≡ x → ⊥)
+        → IsBlank x t.state.memory → IsUnmoved x (after (acts (declared_acts s x v)) facts)
         → Leads_on (after (acts (declared_acts s x v)) facts) (declare t x v)
     declare_leads x v gives calls facts holds allowed new no_fact =
         let same : declared_acts s x v ≡ acts_in s v =
@@ -263,7 +268,7 @@ module _ (t : Turn) (settled : IsSettled (typing t).table) (own_law : OwnsByShap
         (subst (λ z. Leads_on (after (acts (acts_in s v)) facts) (steps.evaluated t (first_value t (object_at s x).of v z) (λ ws m. goes t (declared depth x ws m) 0))) (sym start_is)
         (then_declared (raises facts holds) x (after (acts (acts_in s v)) facts) (first_value t (object_at s x).of v now)
         (first_given (object_at s x).of v gives calls facts holds (subst (λ z. AllowsAll facts (acts z)) same allowed))
-        (first_fades (object_at s x).of v gives) new (λ name has. no_fact name (subst (λ z. Has (after (acts z) facts) (Moved name)) (sym same) has))))
+        (first_fades (object_at s x).of v gives) new (λ q moved. no_fact q (moved.0, subst (λ z. Has (after (acts z) facts) (Moved (ways.name_of (along (Object (OfVariable depth x)) q)))) (sym same) moved.1))))
 
     -- ---- assignments
 
@@ -476,7 +481,7 @@ module _ (t : Turn) (settled : IsSettled (typing t).table) (own_law : OwnsByShap
           subst (λ (z : Now). Leads_on (effect (act.Free (name_of x path)) facts) (steps.evaluated t (walked s way (variable_place (here t) x) z) f)) (sym same)
           (subst (λ z. Leads_on (effect (act.Free z) facts) (steps.evaluated t (walked s way (variable_place (here t) x) (record { memory = m; waits = [] })) f)) called
           (released_at w named frees
-          (λ moved. elim moved [ inl mine ↦ free_way (home s depth) facts w frees w (under_itself w) mine | inr o ↦ alone w o ])
+          (λ moved. elim moved [ inl mine ↦ free_way (home s depth) facts w frees w (under_itself w) mine | inr o ↦ alone w (named_near s depth w named) o ])
           (walked s way (variable_place (here t) x) (record { memory = m; waits = [] }))
           (name_quiet (here t) settled hands t.state.leaks m [] other facts holds.1 holds.0 alone live index_law own_law all_named x path u way goes
           (λ v v_named v_called z past moved. free_way (home s depth) facts v (subst (λ z. Allows facts (act.Free z)) (sym v_called) allowed) z (past_under z v past) moved))))
@@ -682,7 +687,7 @@ module _ (t : Turn) (settled : IsSettled (typing t).table) (own_law : OwnsByShap
                 let owns = live_trunk (here t) settled t.state.leaks [] other alone (keeps s settled own_law) no_formals index_law own_law all_named m (value_in ∷ hands)
                 ready_in.sound.owned w l (named_rooted (home s depth) w named) reaches in
                 let sound = stored_sound s settled (home s depth) other m value_in hands t.state.leaks facts k l w t.point.pos ready_in.sound
-                (λ z q r o. alone q o) ready_in.kept spot named reaches owns long like in
+                (λ z q r o. alone q (near_under depth (Object (OfHand z)) q r tt) o) ready_in.kept spot named reaches owns long like in
                 let on : Leads_on (effect (act.Write (ways.name_of w)) facts) (goes t (stored s k (machine.Int v ∷ []) m) 0) =
                 goes_to (stored s k (machine.Int v ∷ []) m) 0 (effect (act.Write (ways.name_of w)) facts)
                 (subst (λ z. Sound (home s depth) other (seen s (stored s k (machine.Int v ∷ []) m) hands z) (effect (act.Write (ways.name_of w)) facts))

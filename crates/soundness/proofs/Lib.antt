@@ -11,6 +11,7 @@ pub mod Frees
 -- these changes keep states sound
 pub mod Moments
 -- names, scalar expressions, and expressions that may own
+pub mod Near
 pub mod Walks
 pub mod Scalars
 pub mod Stays
@@ -40,6 +41,12 @@ pub mod Scoped
 pub mod Following
 pub mod Points
 pub mod Successors
+-- calls: facts of the frames around, acts on package objects, the ends of calls
+pub mod Inherited
+pub mod Opened
+pub mod Used
+pub mod Around
+pub mod Returning
 -- the state before the first step; each step; the run
 pub mod Beginning
 pub mod Stepping

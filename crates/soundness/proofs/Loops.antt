@@ -18,14 +18,15 @@ use Rattle.machine.specs.States.{Waiting, Loop, Frame, Leak, State, Outcome, Goe
 use Rattle.machine.specs.Step.{Turn, counted, typing, here, start, waiting, behind, led, successor}
 use Rattle.machine.specs.Step as steps
 use Rattle.machine.specs.Owners.{is_in_formal, waiting_in, WellOwned}
-use Rattle.owned_ways.specs.Ways.{Step, OfVariable, OfHand, Loc, OfRoot, OfCell, Inside, Way, Empty, IsSame, after, AllowsAll, Sound}
+use Rattle.owned_ways.specs.Ways.{Step, OfVariable, OfHand, Loc, OfRoot, OfCell, Inside, Way, Object, Empty, IsSame, after, AllowsAll, Sound}
 use Rattle.owned_ways.specs.Ways as ways
 use Rattle.owned_ways.proofs.Locations.{same_loc}
 use Rattle.owned_ways.proofs.Assigned.{same_sound}
 use Rattle.part_offsets.specs.Parts.{offset_in, IsSettled}
-use Rattle.soundness.specs.Seen.{content, trunk, steps_in, word_in, seen, home}
+use Rattle.soundness.specs.Seen.{content, trunk, steps_in, word_in, seen, home, IsNear}
 use Rattle.soundness.specs.Typed.{OwnsByShape, Kept, Spot}
 use Rattle.typed_laws.specs.Needed.{Stays}
+use Rattle.soundness.proofs.Near.{near_under}
 use Rattle.soundness.proofs.Joined.{trunk_trunk, not_inside}
 use Rattle.soundness.proofs.Contents.{bool_cases, word_no}
 use Rattle.soundness.proofs.Memories.{put_other, removed_other}
@@ -97,7 +98,7 @@ value_plain (machine.Cell n ∷ ws) v = one_no_cell (machine.Int v) (λ k e. cc)
 -- ---- an iteration
 
 module _ (t : Turn) (settled : IsSettled (typing t).table) (own_law : OwnsByShape (typing t).table) (other : Way → Type 0)
-    (alone : (w : Way) → other w → ⊥) (no_formals : (x : ℕ) → is_in_formal (typing t) x ≡ false)
+    (alone : (w : Way) → IsNear (length t.outer) w → other w → ⊥) (no_formals : (x : ℕ) → is_in_formal (typing t) x ≡ false)
     (all_named : (u d : ℕ) (c n : Bool) → shape_of (typing t).table u ≡ shape.Access d c n → n ≡ true)
     (frames : t.state.frames ≡ t.frame ∷ t.outer) where
   abbrev s : Typing
@@ -209,7 +210,7 @@ module _ (t : Turn) (settled : IsSettled (typing t).table) (own_law : OwnsByShap
           let blank : (p : List ways.Step) → word_in s.table (content s m (value_of ∷ hands) (OfRoot (OfVariable depth x))) p ≡ Empty =
           λ p. word_no s.table (content s m (value_of ∷ hands) (OfRoot (OfVariable depth x))) p (no_leaf s.table settled u scalar p) in
           let sound = declared_sound s settled (home s depth) other m value_of hands t.state.leaks facts depth x
-          given.0.sound (λ z v u o. alone v o) given.0.kept blank (no_formals x) given.1 (alike s.table settled u u (inl refl)) in
+          given.0.sound (λ z v u o. alone v (near_under depth (Object (OfHand z)) v u tt) o) given.0.kept blank (no_formals x) given.1 (alike s.table settled u u (inl refl)) in
           let kept = declared_kept s settled m depth x value_of hands given.0.kept given.1 (inl refl) in
           let waits = loop_waits (starts.loop b) (behind t (waiting t) (declared depth x b.low m) 0) ∙ hands_on (declared depth x b.low m) 0 in (
             subst (λ z. Sound (home s depth) other (seen s (declared depth x b.low m) z t.state.leaks) facts) (sym waits) sound,

@@ -1,11 +1,12 @@
 -- The points of a subprogram by their numbers: a number finds its point, and scopes go on to
 -- successors.
-use Rattle.std.proofs.Common.{◌≡◌, refl, sym, ap, ◌∙◌, subst, ◌⊎◌, inl, inr, ℕ, suc, ◌+◌, Bool, true, false, cond, not, ◌&&◌, ◌||◌, ◌==◌, eqb-true, eq-eqb, List, [], ◌∷◌, ◌++◌, map, length, get_or, arith}
+use Rattle.std.proofs.Common.{◌≡◌, refl, sym, ap, ◌∙◌, subst, ◌⊎◌, inl, inr, ℕ, ◌<◌, suc, ◌+◌, Bool, true, false, cond, not, ◌&&◌, ◌||◌, ◌==◌, eqb-true, eq-eqb, List, [], ◌∷◌, ◌++◌, map, length, get_or, arith}
 use Rattle.std.specs.Bool.{Decides}
 use Rattle.std.specs.List.{AllByRecursion, position_or_len}
 use Rattle.std.specs.Cmp.Lexicographic.{pointwise_decides}
 use Rattle.std.proofs.lemmas.Bool.Decides.{Decides-eqb}
 use Rattle.std.proofs.lemmas.List.Folds.{list_any-append}
+use Rattle.std.proofs.lemmas.List.{length-map}
 use Rattle.spark_base.specs.Lists.{Has}
 use Rattle.spark_base.proofs.Lists.{Has-append_right, Has-map}
 use Rattle.type_definitions.specs.declared.table.Shape.TheVariants as shape
@@ -84,6 +85,26 @@ pub sub_there : (table : Table) (typed : TypedProgram) (k : ℕ) (named : NamedS
 unfolding flow_program
 sub_there table typed k named (front, rest, is, long) =
     at_map (flow_sub (typing_of table typed)) (flow_named table typed) front named rest k no_sub is long
+
+pub sub_at_number : (table : Table) (typed : TypedProgram) (k : ℕ) (named : NamedSub) → IsNamedSub (flow_named table typed) k named → (d : FlowSub)
+    → get_or (flow_program table typed).subs k d ≡ flow_sub (typing_of table typed) named
+unfolding flow_program
+sub_at_number table typed k named (front, rest, is, long) d =
+    at_map (flow_sub (typing_of table typed)) (flow_named table typed) front named rest k d is long
+
+pub sub_in_range : (table : Table) (typed : TypedProgram) (k : ℕ) (named : NamedSub) → IsNamedSub (flow_named table typed) k named
+    → k < length (flow_program table typed).subs
+unfolding flow_program
+sub_in_range table typed k named (front, rest, is, long) =
+    let all : length (map (flow_sub (typing_of table typed)) (flow_named table typed)) ≡ length (flow_named table typed) =
+    length-map (flow_named table typed) (flow_sub (typing_of table typed)) in
+    let less = before_end front named rest in
+    let whole : length (flow_named table typed) ≡ length (front ++ named ∷ rest) = ap length is in
+    omega (arith, all, less, whole, long)
+  where
+    before_end : (front : List NamedSub) (x : NamedSub) (rest : List NamedSub) → length front < length (front ++ x ∷ rest)
+    before_end [] x rest = omega arith
+    before_end (y ∷ front) x rest = (let less = before_end front x rest in omega (arith, less))
 
 pub sub_has : (table : Table) (typed : TypedProgram) (k : ℕ) (named : NamedSub) → IsNamedSub (flow_named table typed) k named
     → Has (flow_program table typed).subs (flow_sub (typing_of table typed) named)

@@ -13,7 +13,7 @@ use Rattle.owned_ways.specs.Ways as ways
 use Rattle.owned_ways.proofs.Locations.{same_loc}
 use Rattle.part_offsets.specs.Parts.{offset_in, is_leaf}
 use Rattle.soundness.specs.Seen.{Content, content, word_in, owner_word}
-use Rattle.soundness.specs.Sound.{InScope}
+use Rattle.soundness.specs.Sound.{HoldOnly}
 use Rattle.soundness.proofs.Contents.{bool_cases, owner_held, word_yes, shown}
 use Rattle.soundness.proofs.Memories.{put_other, removed_other}
 use Rattle.soundness.proofs.Fading.{Fainter, Fades}
@@ -95,15 +95,18 @@ module _ (s : Typing) where
       ]
 
   -- A variable of an older frame, or one that is in scope.
-  abbrev pub MayHold : ℕ → List ℕ → ℕ → ℕ → Type 0
-  MayHold depth scope f x = (f < depth) ⊎ ((f ≡ depth) × (is_within x scope ≡ true))
+  abbrev pub MayHold : (ℕ → ℕ → Type 0) → ℕ → List ℕ → ℕ → ℕ → Type 0
+  MayHold older depth scope f x = older f x ⊎ ((f ≡ depth) × (is_within x scope ≡ true))
 
-  pub scope_kept : (these : ℕ → ℕ → Type 0) (m n : Memory) (depth : ℕ) (scope scope' : List ℕ) → OnlyAt these m n → InScope s m depth scope
-      → ((x : ℕ) → is_within x scope ≡ true → is_within x scope' ≡ true) → ((f x : ℕ) → these f x → MayHold depth scope' f x)
-      → InScope s n depth scope'
-  scope_kept these m n depth scope scope' only within more stored f x p c held = elim (held_before these m n only f x p c held) [
+  abbrev pub Inside : (ℕ → ℕ → Type 0) → Memory → ℕ → List ℕ → Type 0
+  Inside older m depth scope = HoldOnly s m (MayHold older depth scope)
+
+  pub scope_kept : (older these : ℕ → ℕ → Type 0) (m n : Memory) (depth : ℕ) (scope scope' : List ℕ) → OnlyAt these m n → Inside older m depth scope
+      → ((x : ℕ) → is_within x scope ≡ true → is_within x scope' ≡ true) → ((f x : ℕ) → these f x → MayHold older depth scope' f x)
+      → Inside older n depth scope'
+  scope_kept older these m n depth scope scope' only within more stored f x p c held = elim (held_before these m n only f x p c held) [
     | inr one ↦ stored f x one
-    | inl before ↦ elim (within f x p c before) [ inl older ↦ inl older | inr mine ↦ inr (mine.0, more x mine.1) ]
+    | inl before ↦ elim (within f x p c before) [ inl earlier ↦ inl earlier | inr mine ↦ inr (mine.0, more x mine.1) ]
   ]
 
   -- the object whose scope ends owns nothing then
@@ -123,10 +126,10 @@ module _ (s : Typing) where
       drop_one [] w = w
       drop_one (a ∷ rest) w = w
 
-  pub scope_ends : (m : Memory) (depth x : ℕ) (scope : List ℕ) → InScope s m depth scope → is_last x scope ≡ true
+  pub scope_ends : (older : ℕ → ℕ → Type 0) (m : Memory) (depth x : ℕ) (scope : List ℕ) → Inside older m depth scope → is_last x scope ≡ true
       → ((p : List Step) → word_in s.table (content s (undeclared depth x m) [] (OfRoot (ways.OfVariable depth x))) p ≡ Empty)
-      → InScope s (undeclared depth x m) depth (drop 1 scope)
-  scope_ends m depth x scope within last blank f y p n held = elim (same_loc (OfRoot (ways.OfVariable depth x)) (OfRoot (ways.OfVariable f y))) [
+      → Inside older (undeclared depth x m) depth (drop 1 scope)
+  scope_ends older m depth x scope within last blank f y p n held = elim (same_loc (OfRoot (ways.OfVariable depth x)) (OfRoot (ways.OfVariable f y))) [
     | inl same ↦ (
         let frames : depth ≡ f = cc in let objects : x ≡ y = cc in
         absurd (ended_blank depth x m p n (blank p)
@@ -135,7 +138,7 @@ module _ (s : Typing) where
     | inr ne ↦ elim (within f y p n
         (ap (λ z. word_in s.table (record { of = (object_at s y).of; slots = z; owns = not (is_in_formal s y) }) p)
         (sym (removed_other s depth x f y (λ e. ne (ap OfRoot e)) m.variables)) ∙ held)) [
-          | inl older ↦ inl older
+          | inl earlier ↦ inl earlier
           | inr mine ↦ inr (mine.0, last_out x y scope last mine.1 (λ e. ne (let frame = mine.0 in (λ j. OfRoot (ways.OfVariable (sym frame j) (sym e j))))))
         ]
   ]

@@ -26,9 +26,10 @@ use Rattle.machine.specs.States.{Waiting, Leak}
 use Rattle.owned_ways.specs.Ways.{OfVariable, Loc, OfRoot, Way, Object, Into, All, Reaches, IsRooted, Past, Named, IsMoved, Excused, Allows, after, AllowsAll, Sound, sels_of}
 use Rattle.owned_ways.specs.Ways as ways
 use Rattle.part_offsets.specs.Parts.{IsSettled}
-use Rattle.soundness.specs.Seen.{content, trunk, seen, home}
+use Rattle.soundness.specs.Seen.{content, trunk, seen, home, IsNear}
 use Rattle.soundness.specs.Typed.{OwnsByShape, Kept, Spot}
 use Rattle.typed_laws.specs.Needed.{Stays, Leads, IndexLaw}
+use Rattle.soundness.proofs.Near.{named_near, past_near}
 use Rattle.soundness.proofs.Walks.{way_along, Lead, Walked, walk}
 use Rattle.std.proofs.lemmas.List.{length-map}
 use Rattle.soundness.proofs.Steps.{plain_shape, room, taken_slots}
@@ -96,7 +97,7 @@ module _ (h : Here) (settled : IsSettled h.typing.table) (hands : List Waiting) 
     (other : Way → Type 0) (facts : List Fact)
     (kept : Kept h.typing m hands)
     (sound : Sound (home h.typing h.frame) other (seen h.typing m hands leaks) facts)
-    (alone : (w : Way) → other w → ⊥)
+    (alone : (w : Way) → IsNear h.frame w → other w → ⊥)
     (live : (w : Way) (l : Loc) → IsRooted w → Reaches (seen h.typing m hands leaks) w l → (content h.typing m hands (trunk l)).owns ≡ true)
     (index_law : IndexLaw)
     (own_law : OwnsByShape h.typing.table)
@@ -129,7 +130,9 @@ module _ (h : Here) (settled : IsSettled h.typing.table) (hands : List Waiting) 
       (OfRoot (OfVariable (home h.typing h.frame x) x)) (Object (OfVariable (home h.typing h.frame x) x)) t
       (record { base = refl; made = tt; at = refl; there = refl; of = inl refl }) tt refl goes.lead
       (λ v p moved. elim moved [
-        | inr o ↦ alone v o
+        | inr o ↦ alone v (past_near h.frame v (way_along way (Object (OfVariable (home h.typing h.frame x) x))) p
+            (named_near h.typing h.frame (way_along way (Object (OfVariable (home h.typing h.frame x) x)))
+            (named_along (home h.typing h.frame) way (Object (OfVariable (home h.typing h.frame x) x)) refl))) o
         | inl mine ↦ clean (way_along way (Object (OfVariable (home h.typing h.frame x) x)))
             (named_along (home h.typing h.frame) way (Object (OfVariable (home h.typing h.frame x) x)) refl)
             (λ j. record {

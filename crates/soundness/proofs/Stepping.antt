@@ -1,60 +1,79 @@
 -- Each step of a sound state leads on, in a program that is ready.
-use Rattle.std.proofs.Common.{◌≡◌, refl, sym, ap, ◌∙◌, subst, ◌⊎◌, inl, inr, ℕ, zero, suc, ◌<◌, Bool, true, false, not, ◌&&◌, ◌||◌, ◌==◌, eq-eqb, List, [], ◌∷◌, ◌++◌, map, drop, length, get_or, arith, append-nil, Some, None, if◌then◌else◌}
+use Rattle.std.proofs.Common.{◌≡◌, refl, sym, ap, ◌∙◌, subst, ◌⊎◌, inl, inr, ℕ, zero, suc, ◌<◌, Bool, true, false, not, ◌&&◌, ◌||◌, ◌==◌, eq-eqb, List, [], ◌∷◌, ◌++◌, drop, length, get_or, nat_le, arith, append-nil, Some, None, if◌then◌else◌}
 use Rattle.spark_base.specs.Lists.{Has}
 use Rattle.spark_base.specs.declared.position.Pos.{Pos}
 use Rattle.spark_base.proofs.Lists.{Has-append_cases, Has-map_from}
 use Rattle.place_names.specs.declared.act.Act.{Act}
+use Rattle.place_names.specs.declared.act.Act.TheVariants as act
 use Rattle.place_names.specs.declared.act.Placed.{Placed}
 use Rattle.place_names.specs.declared.fact.Fact.{Fact}
-use Rattle.place_names.specs.declared.fact.Fact.TheVariants.{Moved}
+use Rattle.place_names.specs.declared.fact.Fact.TheVariants.{Moved, Lent}
 use Rattle.place_names.specs.Facts.{adds}
 use Rattle.place_names.specs.Names.{Name as PlaceName}
+use Rattle.place_names.specs.Rules.{forbids}
 use Rattle.type_definitions.specs.Types.{Table, is_scalar, full, shape_of}
 use Rattle.type_definitions.specs.declared.table.Shape.TheVariants as shape
 use Rattle.typed_tree.specs.Trees.{TypedTree, Name, NoMore, More}
 use Rattle.typed_tree.specs.Programs.{TypedProgram}
 use Rattle.flow_paths.specs.declared.report.Effects.{Effects}
 use Rattle.flow_paths.specs.Instructions.{Instruction, Skip, Declare, Assign, Call, Output, Input, Release, Test, Choose, Start, Next, Evaluate, LeaveLoop, Hold, EndScope, Finish, Fall}
-use Rattle.flow_paths.specs.Objects.{Typing, object_at, is_package_object, is_borrower}
+use Rattle.flow_paths.specs.Objects.{Typing, object_at, sub_at, is_package_object, is_borrower, passings}
 use Rattle.flow_paths.specs.Names.{has_call}
 use Rattle.flow_paths.specs.Acts as flow
 use Rattle.flow_paths.specs.Acts.{acts_of, acts_in}
 use Rattle.flow_paths.specs.Points.{NamedPoint, FlowPoint}
 use Rattle.flow_paths.specs.Laid.{FlowSub, FlowProgram, NamedSub, flow_sub, kept_roots, sub_facts, typing_of, flow_typing, flow_program, flow_named}
 use Rattle.flow_paths.specs.Paths.{PathPoint, path_point, ControlPath, begins, goes_on, acts_at, facts_before}
-use Rattle.flow_paths.specs.Effects.{path_points, all_acts, called_acts}
+use Rattle.flow_paths.specs.Effects.{act_writes, act_reads, flow_sub_at, path_points, globals_of, called_acts}
 use Rattle.flow_paths.specs.Scopes.{taken, brought, scope_behind, is_within, is_last, is_ready, Leads}
-use Rattle.machine.specs.Memory.{Memory}
-use Rattle.machine.specs.States.{Loop, Frame, State, Outcome, Goes, Ends, sub_of, frame_at_start}
-use Rattle.machine.specs.Step.{Turn, turn, led, main_frame}
+use Rattle.machine.specs.Memory.{Memory, without_frame}
+use Rattle.machine.specs.Evaluate.{StorageError}
+use Rattle.machine.specs.States.{Loop, Frame, State, Outcome, Goes, Ends, sub_of, frame_words, stack_words, frame_at_start}
+use Rattle.machine.specs.Step.{Turn, turn, waiting, counted, behind, led, leaking, successor, main_frame}
+use Rattle.machine.specs.Step as steps
 use Rattle.machine.specs.Typed.{successors}
 use Rattle.machine.specs.Owners.{is_in, is_in_formal, waiting_in}
 use Rattle.machine.specs.Run.{no_point, stepped, step}
-use Rattle.owned_ways.specs.Ways.{Step, OfVariable, OfRoot, Way, Held, Sound, after, AllowsAll, along}
+use Rattle.owned_ways.specs.Ways.{Step, OfVariable, OfRoot, Way, Held, Named, Sound, after, AllowsAll, along}
 use Rattle.owned_ways.specs.Ways as ways
 use Rattle.owned_ways.proofs.Locations.{reaches_along, named_along as rooted_along}
-use Rattle.soundness.specs.Seen.{content, word_in, home}
+use Rattle.soundness.specs.Seen.{content, word_in, seen, home, IsNear}
 use Rattle.soundness.specs.Typed.{Kept}
 use Rattle.typed_laws.specs.Needed.{IsFine, Source, FirstSource, FirstWrites, FirstStays}
-use Rattle.soundness.specs.Sound.{calls_nothing, Stage, facts_of, Elsewhere, AreStages, AreFirst, InScope, IsNamedSub, IsAtPoint, view_of, IsSound, LeadsOn, StepsLeadOn}
-use Rattle.soundness.specs.Ready.{stored_at, IsReady}
+use Rattle.soundness.specs.Sound.{calls_nothing, calls_procedures, Stage, facts_of, Elsewhere, AreStages, Uses, IsCaller, AreCallers, AreRunning, InScope, IsNamedSub, IsAtPoint, view_of, IsSound, LeadsOn, StepsLeadOn}
+use Rattle.soundness.specs.Ready.{stored_at, IsCalled, IsReady}
 use Rattle.soundness.proofs.Contents.{bool_cases, word_root}
 use Rattle.soundness.proofs.Moments.{number_part}
 use Rattle.soundness.proofs.Scalars.{acts}
 use Rattle.soundness.proofs.Paths.{accepted_point, facts_next}
-use Rattle.soundness.proofs.Points.{path_of, flow_at, named_has, point_has, sub_there, sub_has, typing_same, point_there, point_in, path_there, IsLaid, all_laid, next_there, scope_next}
-use Rattle.soundness.proofs.Scoped.{MayHold}
+use Rattle.soundness.proofs.Points.{path_of, flow_at, named_has, point_has, sub_there, sub_at_number, sub_in_range, sub_has, typing_same, point_there, point_in, path_there, IsLaid, all_laid, next_there, scope_next}
+use Rattle.soundness.proofs.Scoped.{MayHold, Inside}
+use Rattle.soundness.proofs.Near.{near_along}
+use Rattle.soundness.proofs.Inherited.{Splits, after_splits, allowed_beside, AreGlobal, global_after, global_allowed, is_open, apart_allows, global_apart}
+use Rattle.soundness.proofs.Opened.{instruction_open}
+use Rattle.soundness.proofs.Used.{writes_used, reads_used, called_used, used_global, called_are, globals_are, path_acts, returns_whole}
+use Rattle.soundness.proofs.Around.{same_or_not, IsFar, far_alone, is_inherited, inherited, inherited_from, IsBetween, beside, apart_again, unused_there, all_between, AreStill, callers_kept}
+use Rattle.soundness.proofs.Returning.{returned_sound, returned_kept, left_held, finish_returns, finish_ends, left_waits, ended_owned, call_is, called_ways}
 use Rattle.soundness.proofs.Following.{Each, GoesOn, Declares, declare_on, declare_follows, assign_follows, release_follows, input_follows, test_follows, choose_follows, stays_follows, output_follows, start_follows, next_follows, end_scope_follows}
 use Rattle.soundness.proofs.Waits.{drop_none, or_both}
-use Rattle.soundness.proofs.Successors.{not_true, both_not, takes_none, below_one, below_two, successor_there, successor_cases, unmoved_after}
-use Rattle.soundness.proofs.Instructions.{Holds, Leads_on, declare_leads, assign_leads, end_scope_leads, release_leads, test_leads, choose_leads, leave_loop_leads, skip_leads, fall_leads, output_leads, line_leads, input_leads}
+use Rattle.soundness.proofs.Successors.{not_true, both_not, calls_cases, procedures_take_none, finish_or, below_one, below_two, successor_there, successor_cases, unmoved_after}
+use Rattle.soundness.proofs.Instructions.{Holds, Leads_on, raises, hands_behind, declare_leads, assign_leads, end_scope_leads, release_leads, test_leads, choose_leads, leave_loop_leads, skip_leads, fall_leads, output_leads, line_leads, input_leads}
 use Rattle.soundness.proofs.Loops.{start_leads, next_leads}
-use Rattle.soundness.proofs.Endings.{finish_is, finish_leads, main_begins}
+use Rattle.soundness.proofs.Endings.{main_begins}
 use Rattle.soundness.proofs.Beginning.{stage, first_point}
 
 or_right : (a b : Bool) → b ≡ true → a || b ≡ true
 or_right true b e = refl
 or_right false b e = e
+
+moved_same : (a b : PlaceName) → Moved a ≡ Moved b → a ≡ b
+moved_same a b e = cc
+
+below_other : (a b : ℕ) → a < suc b → (a ≡ b → ⊥) → a < b
+below_other zero zero less ne = absurd (ne refl)
+below_other zero (suc b) less ne = omega arith
+below_other (suc a) zero less ne = absurd (omega (arith, less))
+below_other (suc a) (suc b) less ne = (let lower = below_other a b (omega (arith, less)) (λ e. ne (ap suc e)) in omega (arith, lower))
 
 -- ---- the program
 
@@ -72,7 +91,7 @@ module _ (table : Table) (typed : TypedProgram) (effects : Effects) (input : Lis
   same = typing_same table typed ready.scoped.objects
 
   no_in_formals : (x : ℕ) → is_in_formal s x ≡ false
-  no_in_formals x = ap (λ b. b && is_in (object_at s x).mode) (ready.first_class.no_formals x)
+  no_in_formals x = ap (λ b. b && is_in (object_at s x).mode) (ready.class.no_formals x)
 
   laid : (named : NamedSub) → Has (flow_named table typed) named → IsLaid own named
   laid named has = all_laid own typed.subs ready.scoped.bodies named has
@@ -110,11 +129,11 @@ module _ (table : Table) (typed : TypedProgram) (effects : Effects) (input : Lis
         ∙ ap (λ (q : FlowPoint). turn (record { program = program; input = input; point = q; state = state; frame = top.frame; outer = outer }) q.instr)
         (ap (λ (z : FlowSub). get_or z.points top.frame.next no_point) sub_is ∙ point_there own named top.frame.next p at_point)
 
-    pub calls_none : calls_nothing p.instr ≡ true
-    calls_none = ready.first_class.no_calls sub in_program here in_sub
+    pub calls_there : calls_procedures p.instr ≡ true
+    calls_there = ready.class.calls sub in_program here in_sub
 
     pub takes : taken here.instr ≡ 0
-    takes = takes_none p.instr calls_none
+    takes = procedures_take_none p.instr calls_there
 
     pub fine : IsFine s named.sub.result p.instr
     fine = ready.accepted.fine sub in_program here in_sub
@@ -148,11 +167,17 @@ module _ (table : Table) (typed : TypedProgram) (effects : Effects) (input : Lis
     no_callee Finish calls = refl
     no_callee Fall calls = refl
 
-    pub acts_are : acts_at points top.frame.next ≡ acts (acts_by s p.instr)
+    -- those of the instruction, and those of a call on package objects
+    abbrev pub whole_acts : Instruction → List Act
+    whole_acts i = acts (acts_by s i ++ called_acts program effects p.pos i)
+
+    acts_are : acts_at points top.frame.next ≡ whole_acts p.instr
     acts_are =
         ap (λ (z : PathPoint). acts z.acts) (path_there own named top.frame.next p at_point program effects)
-        ∙ ap (λ z. acts (acts_by own p.instr ++ z)) (no_callee p.instr calls_none)
-        ∙ ap acts (append-nil (acts_by own p.instr)) ∙ ap (λ z. acts (acts_by z p.instr)) (sym same)
+        ∙ ap (λ z. acts (acts_by z p.instr ++ called_acts program effects p.pos p.instr)) (sym same)
+
+    acts_plain : calls_nothing p.instr ≡ true → whole_acts p.instr ≡ acts (acts_by s p.instr)
+    acts_plain plain = ap (λ z. acts (acts_by s p.instr ++ z)) (no_callee p.instr plain) ∙ ap acts (append-nil (acts_by s p.instr))
 
     module _ (path : ControlPath (path_points program effects (sub_of program top.frame.sub)) top.before top.frame.next) where
       pub path_here : ControlPath points top.before top.frame.next
@@ -164,11 +189,18 @@ module _ (table : Table) (typed : TypedProgram) (effects : Effects) (input : Lis
       pub facts_are : facts_of program effects top ≡ facts
       facts_are = ap (λ (z : FlowSub). facts_before (path_points program effects z) top.before) sub_is
 
-      pub allowed : AllowsAll facts (acts (acts_by s p.instr))
-      allowed = subst (AllowsAll facts) acts_are (accepted_point program effects ready.accepted.no_reports sub in_program top.before top.frame.next path_here)
+      pub allowed_whole : AllowsAll facts (whole_acts p.instr)
+      allowed_whole = subst (AllowsAll facts) acts_are (accepted_point program effects ready.accepted.no_reports sub in_program top.before top.frame.next path_here)
 
-      pub facts_on : facts_before points (top.frame.next ∷ top.before) ≡ after (acts (acts_by s p.instr)) facts
-      facts_on = facts_next points top.before top.frame.next ∙ ap (λ z. after z facts) acts_are
+      pub facts_whole : facts_before points (top.frame.next ∷ top.before) ≡ after (whole_acts p.instr) facts
+      facts_whole = facts_next points top.before top.frame.next ∙ ap (λ z. after z facts) acts_are
+
+      -- of an instruction that calls nothing
+      pub allowed : calls_nothing p.instr ≡ true → AllowsAll facts (acts (acts_by s p.instr))
+      allowed plain = subst (AllowsAll facts) (acts_plain plain) allowed_whole
+
+      pub facts_on : calls_nothing p.instr ≡ true → facts_before points (top.frame.next ∷ top.before) ≡ after (acts (acts_by s p.instr)) facts
+      facts_on plain = facts_whole ∙ ap (λ z. after z facts) (acts_plain plain)
 
       -- ---- a successor
 
@@ -181,25 +213,25 @@ module _ (table : Table) (typed : TypedProgram) (effects : Effects) (input : Lis
         returns = top.returns;
       }
 
-      pub goes_to_next : (after_step : State) (loops : List Loop) (n : ℕ) → Has here.next n
+      pub goes_to_next : calls_nothing p.instr ≡ true → (after_step : State) (loops : List Loop) (n : ℕ) → Has here.next n
           → after_step.frames ≡ record top.frame { waits = []; loops = loops; next = n } ∷ outer
-          → top.depth ≡ length outer → AreStages older outer → AreFirst program (at_next loops n ∷ older)
+          → top.depth ≡ length outer → AreStages older outer → AreRunning table typed effects after_step.memory (at_next loops n ∷ older)
           → Sound (home s (length outer)) (Elsewhere program effects older) (view_of s after_step) (after (acts (acts_by s p.instr)) facts)
           → Kept s after_step.memory (waiting_in after_step)
           → InScope s after_step.memory (length outer) (scope_behind p) → IsSound table typed effects after_step
-      goes_to_next after_step loops n next is deep stages first sound kept scope =
+      goes_to_next plain after_step loops n next is deep stages running sound kept scope =
           let successor_point = next_there own named (laid named (named_has (flow_named table typed) top.frame.sub named of_sub)) p
           (point_has named.points top.frame.next p at_point) n next in
           let q : NamedPoint = successor_point.0 in
           let step_on : Has (path_point points top.frame.next).next n =
           subst (λ (z : PathPoint). Has z.next n) (sym (path_there own named top.frame.next p at_point program effects)) next in
           let facts_there : facts_of program effects (at_next loops n) ≡ after (acts (acts_by s p.instr)) facts =
-          ap (λ (z : FlowSub). facts_before (path_points program effects z) (top.frame.next ∷ top.before)) sub_is ∙ facts_on in
+          ap (λ (z : FlowSub). facts_before (path_points program effects z) (top.frame.next ∷ top.before)) sub_is ∙ facts_on plain in
           record {
             top = at_next loops n;
             older = older;
             stages = subst (AreStages (at_next loops n ∷ older)) (sym is) (refl, deep, stages);
-            first = first;
+            running = running;
             path = subst (λ (z : FlowSub). ControlPath (path_points program effects z) (top.frame.next ∷ top.before) n) (sym sub_is)
                 (goes_on top.before top.frame.next n path_here step_on);
             sound = subst (λ d. Sound (home s d) (Elsewhere program effects older) (view_of s after_step) (facts_of program effects (at_next loops n))) (sym deep)
@@ -214,17 +246,10 @@ module _ (table : Table) (typed : TypedProgram) (effects : Effects) (input : Lis
         where
           by_typing : (m : Memory) (q : NamedPoint) → Leads own (scope_behind p) q.scope → InScope s m (length outer) (scope_behind p) → InScope s m (length outer) q.scope
           by_typing m q leads scope =
-              scope_next s ready.owns ready.first_class.all_named m (length outer) (scope_behind p) q.scope scope
+              scope_next s ready.owns ready.class.all_named m (length outer) (scope_behind p) q.scope scope
               (subst (λ z. Leads z (scope_behind p) q.scope) (sym same) leads)
 
   -- ---- nothing is moved for the package objects
-
-  path_acts : (points : List FlowPoint) (n : ℕ) (a : Placed)
-      → Has (path_point (map (path_of program effects) points) n).acts a
-      → (q : FlowPoint) × Has points q × Has (all_acts program effects q) a
-  path_acts [] n a has = absurd has
-  path_acts (q ∷ rest) zero a has = (q, inl refl, has)
-  path_acts (q ∷ rest) (suc n) a has = (let later = path_acts rest n a has in (later.0, inr later.1, later.2))
 
   abbrev first_points : List PathPoint
   first_points = path_points program effects (sub_of program 0)
@@ -235,7 +260,7 @@ module _ (table : Table) (typed : TypedProgram) (effects : Effects) (input : Lis
   nothing_added : (n : ℕ) (a : Act) → Has (acts_at first_points n) a → (name : PlaceName) → Has (adds a) (Moved name) → ⊥
   nothing_added n a has name moved =
       let placed = Has-map_from (λ (q : Placed). q.act) (path_point first_points n).acts a has in
-      let stands = path_acts (sub_of program 0).points n placed.0 placed.1 in
+      let stands = path_acts program effects ready.accepted.effects_are (sub_of program 0).points n placed.0 placed.1 in
       let declares = ready.elaborated.declared stands.0 stands.1 in
       elim (Has-append_cases stands.0.acts (called_acts program effects stands.0.pos stands.0.instr) placed.0 stands.2) [
         | inl mine ↦ ready.elaborated.unmoved stands.0 stands.1 placed.0 mine name (subst (λ z. Has (adds z) (Moved name)) (sym placed.2) moved)
@@ -252,32 +277,20 @@ module _ (table : Table) (typed : TypedProgram) (effects : Effects) (input : Lis
   unmoved_stage e is name has =
       unmoved_along e.before name (subst (λ n. Has (facts_before (path_points program effects (sub_of program n)) e.before) (Moved name)) is has)
 
-  nothing_else : (e : Stage) → e.frame.sub ≡ 0 → e.returns ≡ [] → (w : Way) → Elsewhere program effects (e ∷ []) w → ⊥
-  nothing_else e is none w (g, inl same_stage, inl moved) =
-      unmoved_stage g (sym (ap (λ (z : Stage). z.frame.sub) same_stage) ∙ is) (ways.name_of w) moved.1
-  nothing_else e is none w (g, inl same_stage, inr taken_by_call) =
-      subst (λ z. Has z taken_by_call.0) (sym (ap (λ (z : Stage). z.returns) same_stage) ∙ none) taken_by_call.1
-  nothing_else e is none w (g, inr never, what) = absurd never
-
   -- ---- an object that is declared has nothing yet
 
   module _ (state : State) (top : Stage) (older : List Stage) (outer : List Frame) (named : NamedSub) (p : NamedPoint)
       (frames : state.frames ≡ top.frame ∷ outer) (of_sub : IsNamedSub (flow_named table typed) top.frame.sub named)
-      (at_point : IsAtPoint named.points top.frame.next p)
-      (path : ControlPath (path_points program effects (sub_of program top.frame.sub)) top.before top.frame.next)
-      (alone : (w : Way) → Elsewhere program effects older w → ⊥)
-      (sound : Sound (home s (length outer)) (Elsewhere program effects older) (view_of s state) (facts_before (path_points program effects (flow_sub own named)) top.before))
+      (at_point : IsAtPoint named.points top.frame.next p) (other : Way → Type 0) (alone : (w : Way) → IsNear (length outer) w → other w → ⊥)
+      (facts_now : List Fact) (sound : Sound (home s (length outer)) other (view_of s state) facts_now)
       (kept : Kept s state.memory (waiting_in state)) (scope : InScope s state.memory (length outer) p.scope)
       (plain : top.frame.waits ≡ []) where
     abbrev at : Turn
     at = t state top older outer named p frames of_sub at_point
 
-    abbrev before_step : List Fact
-    before_step = facts state top older outer named p frames of_sub at_point path
-
     abbrev LeadsBy : List Fact → Outcome → Type 0
     LeadsBy after_step outcome =
-        Leads_on at ready.accepted.settled ready.owns (Elsewhere program effects older) alone no_in_formals ready.first_class.all_named frames after_step outcome
+        Leads_on at ready.accepted.settled ready.owns other alone no_in_formals ready.class.all_named frames after_step outcome
 
     abbrev acts_here : Instruction → List Act
     acts_here i = acts (acts_by state top older outer named p frames of_sub at_point s i)
@@ -285,54 +298,67 @@ module _ (table : Table) (typed : TypedProgram) (effects : Effects) (input : Lis
     none_taken : taken at.point.instr ≡ 0
     none_taken = takes state top older outer named p frames of_sub at_point
 
-    declared_at : (x : ℕ) (v : TypedTree) → p.instr ≡ Declare x v → (get_or (flow_sub own named).points top.frame.next no_point).instr ≡ Declare x v
-    declared_at x v e = ap (λ (q : FlowPoint). q.instr) (point_there own named top.frame.next p at_point) ∙ e
-
     not_within : (x : ℕ) (v : TypedTree) → p.instr ≡ Declare x v → is_within x p.scope ≡ true → ⊥
     not_within x v e within =
         let out : not (is_within x p.scope) ≡ true =
         subst (λ i. is_ready p i ≡ true) e (is_ready_there state top older outer named p frames of_sub at_point) in
         let no : true ≡ false = sym within ∙ not_true (is_within x p.scope) out in cc
 
-    new_fact : (x : ℕ) (v : TypedTree) → p.instr ≡ Declare x v → (name : PlaceName) → name.root ≡ x
-        → (Has before_step (Moved name) → ⊥)
-        × (Has (facts_before (path_points program effects (flow_sub own named)) (top.frame.next ∷ top.before)) (Moved name) → ⊥)
-    new_fact x v e name root =
-        ready.new (flow_sub own named) (in_program state top older outer named p frames of_sub at_point) top.before top.frame.next
-        (path_here state top older outer named p frames of_sub at_point path) x v (declared_at x v e) name root
+    -- no fact says that a part of the object was moved
+    abbrev pub IsNew : ℕ → List Fact → Type 0
+    IsNew x facts = (q : List Step) → ways.IsMoved (home s (length outer)) facts (along (ways.Object (OfVariable (length outer) x)) q) → ⊥
 
-    blank_word_there : (x : ℕ) (v : TypedTree) → p.instr ≡ Declare x v → (q : List Step) (w : ways.Word)
+    blank_word_there : (x : ℕ) (v : TypedTree) → p.instr ≡ Declare x v → IsNew x facts_now → (q : List Step) (w : ways.Word)
         → word_in s.table (content s state.memory [] (OfRoot (OfVariable (length outer) x))) q ≡ w
         → word_in s.table (content s state.memory [] (OfRoot (OfVariable (length outer) x))) q ≡ ways.Empty
-    blank_word_there x v e q ways.Empty is = is
-    blank_word_there x v e q (ways.Held n) is = absurd (elim (scope (length outer) x q n is) [
+    blank_word_there x v e new q ways.Empty is = is
+    blank_word_there x v e new q (ways.Held n) is = absurd (elim (scope (length outer) x q n is) [
       | inl less ↦ omega (arith, less)
       | inr mine ↦ not_within x v e mine.1
     ])
-    blank_word_there x v e q ways.Gone is =
+    blank_word_there x v e new q ways.Gone is =
         let root : ways.Root = OfVariable (length outer) x in
         let w : Way = along (ways.Object root) q in
         absurd (elim (sound.known w (ways.part (OfRoot root) q) (rooted_along (ways.Object root) q tt)
         (reaches_along (view_of s state) (ways.Object root) (OfRoot root) q refl)
         (word_root s.table (content s state.memory (waiting_in state)) root q ∙ is)) [
-          | inl moved ↦ (new_fact x v e (ways.name_of w) (number_part (ways.Object root) q)).0 moved.1
-          | inr elsewhere ↦ alone w elsewhere
+          | inl moved ↦ new q moved
+          | inr elsewhere ↦ alone w (near_along (length outer) (ways.Object root) q (inr refl)) elsewhere
         ])
 
     declared_leads : (x : ℕ) (v : TypedTree) → p.instr ≡ Declare x v → FirstSource s (object_at s x).of v → has_call v ≡ false
-        → AllowsAll before_step (acts_here (Declare x v))
-        → LeadsBy (after (acts_here (Declare x v)) before_step) (turn at (Declare x v))
-    declared_leads x v e gives calls allowed_there =
-        declare_leads at ready.accepted.settled ready.owns (Elsewhere program effects older) alone no_in_formals ready.first_class.all_named frames none_taken
-        x v gives calls before_step (sound, kept) allowed_there
-        (λ q. blank_word_there x v e q (word_in s.table (content s state.memory [] (OfRoot (OfVariable (length outer) x))) q) refl)
-        (λ name has root. (new_fact x v e name root).1
-        (subst (λ z. Has z (Moved name))
-        (ap (λ i. after (acts_here i) before_step) (sym e) ∙ sym (facts_on state top older outer named p frames of_sub at_point path)) has))
+        → AllowsAll facts_now (acts_here (Declare x v)) → IsNew x facts_now → IsNew x (after (acts_here (Declare x v)) facts_now)
+        → LeadsBy (after (acts_here (Declare x v)) facts_now) (turn at (Declare x v))
+    declared_leads x v e gives calls allowed_there new still_new =
+        declare_leads at ready.accepted.settled ready.owns other alone no_in_formals ready.class.all_named frames none_taken
+        x v gives calls facts_now (sound, kept) allowed_there
+        (λ q. blank_word_there x v e new q (word_in s.table (content s state.memory [] (OfRoot (OfVariable (length outer) x))) q) refl)
+        still_new
+
+  -- where an object is declared, its facts say so of nothing that it was moved
+  module _ (state : State) (top : Stage) (older : List Stage) (outer : List Frame) (named : NamedSub) (p : NamedPoint)
+      (frames : state.frames ≡ top.frame ∷ outer) (of_sub : IsNamedSub (flow_named table typed) top.frame.sub named)
+      (at_point : IsAtPoint named.points top.frame.next p)
+      (path : ControlPath (path_points program effects (sub_of program top.frame.sub)) top.before top.frame.next)
+      (x : ℕ) (v : TypedTree) (e : p.instr ≡ Declare x v) where
+    declared_at : (get_or (flow_sub own named).points top.frame.next no_point).instr ≡ Declare x v
+    declared_at = ap (λ (q : FlowPoint). q.instr) (point_there own named top.frame.next p at_point) ∙ e
+
+    pub new_before : (name : PlaceName) → name.root ≡ x → Has (facts state top older outer named p frames of_sub at_point path) (Moved name) → ⊥
+    new_before name root =
+        (ready.new (flow_sub own named) (in_program state top older outer named p frames of_sub at_point) top.before top.frame.next
+        (path_here state top older outer named p frames of_sub at_point path) x v declared_at name root).0
+
+    pub new_after : calls_nothing p.instr ≡ true → (name : PlaceName) → name.root ≡ x
+        → Has (after (acts (acts_by state top older outer named p frames of_sub at_point s p.instr)) (facts state top older outer named p frames of_sub at_point path)) (Moved name) → ⊥
+    new_after plain name root has =
+        (ready.new (flow_sub own named) (in_program state top older outer named p frames of_sub at_point) top.before top.frame.next
+        (path_here state top older outer named p frames of_sub at_point path) x v declared_at name root).1
+        (subst (λ z. Has z (Moved name)) (sym (facts_on state top older outer named p frames of_sub at_point path plain)) has)
 
   -- the step to the next point, where there is one
   pub package_step : (state : State) (top : Stage) (named : NamedSub) (p : NamedPoint) → (frames : state.frames ≡ top.frame ∷ [])
-      → top.depth ≡ 0 → AreFirst program (top ∷ []) → (of_sub : IsNamedSub (flow_named table typed) top.frame.sub named)
+      → top.depth ≡ 0 → AreRunning table typed effects state.memory (top ∷ []) → (of_sub : IsNamedSub (flow_named table typed) top.frame.sub named)
       → (at_point : IsAtPoint named.points top.frame.next p)
       → (path : ControlPath (path_points program effects (sub_of program top.frame.sub)) top.before top.frame.next)
       → Sound (home s 0) (Elsewhere program effects []) (view_of s state) (facts_of program effects top) → Kept s state.memory (waiting_in state)
@@ -347,8 +373,15 @@ module _ (table : Table) (typed : TypedProgram) (effects : Effects) (input : Lis
       subst (LeadsOn table typed effects) (sym (step_is state top [] [] named p frames of_sub at_point))
       (by_declare declares.0 declares.1 declares.2)
     where
-      alone : (w : Way) → Elsewhere program effects [] w → ⊥
-      alone w (g, has, what) = has
+      alone : (w : Way) → IsNear 0 w → Elsewhere program effects [] w → ⊥
+      alone w near (g, has, what) = has
+
+      nowhere : (w : Way) → Elsewhere program effects [] w → ⊥
+      nowhere w (g, has, what) = has
+
+      plain_there : (x : ℕ) (v : TypedTree) → p.instr ≡ Declare x v → calls_nothing p.instr ≡ true
+      plain_there x v e =
+          ap calls_nothing e ∙ subst (λ i. calls_procedures i ≡ true) e (calls_there state top [] [] named p frames of_sub at_point)
 
       at_turn : Turn
       at_turn = t state top [] [] named p frames of_sub at_point
@@ -371,31 +404,31 @@ module _ (table : Table) (typed : TypedProgram) (effects : Effects) (input : Lis
       within_more x y w = or_right (y == x) (is_within y p.scope) w
 
       moment_leads : (x : ℕ) (v : TypedTree) → p.instr ≡ Declare x v → (outcome : Outcome)
-          → Leads_on at_turn ready.accepted.settled ready.owns (Elsewhere program effects []) alone no_in_formals ready.first_class.all_named frames
+          → Leads_on at_turn ready.accepted.settled ready.owns (Elsewhere program effects []) alone no_in_formals ready.class.all_named frames
           (after (acts_there p.instr) facts_there) outcome
-          → Each (Declares at_turn first.1.0 p.scope (x ∷ p.scope) scope) outcome → LeadsOn table typed effects outcome
+          → Each (Declares at_turn first.1.0 (λ f y. f < 0) p.scope (x ∷ p.scope) scope) outcome → LeadsOn table typed effects outcome
       moment_leads x v e (Ends how after_step) holds on = holds
       moment_leads x v e (Goes after_step) holds on = elim (successor_cases at_turn 0) [
-        | inl found ↦ goes_to_next state top [] [] named p frames of_sub at_point path after_step top.frame.loops found.0 found.2
+        | inl found ↦ goes_to_next state top [] [] named p frames of_sub at_point path (plain_there x v e) after_step top.frame.loops found.0 found.2
             (on.frames ∙ ap (led at_turn (record top.frame { waits = [] })) found.1) deep tt
             (first.0, (refl, first.1.1, first.1.2)) holds.0 holds.1 (subst (InScope s after_step.memory 0) (sym (scope_there x v e)) on.inside)
         | inr none ↦ (
             let below : Stage = record { frame = record top.frame { waits = [] }; depth = 0; before = top.frame.next ∷ top.before; returns = [] } in
             let begins_main : after_step.frames ≡ frame_at_start ready.main [] ∷ (record top.frame { waits = [] } ∷ []) =
             on.frames ∙ ap (led at_turn (record top.frame { waits = [] })) none
-            ∙ ap (λ z. main_frame (record program { main = z }) ++ (record top.frame { waits = [] } ∷ [])) ready.main_there.is in
+            ∙ ap (λ z. main_frame (record program { main = z }) ++ (record top.frame { waits = [] } ∷ [])) ready.is_main in
             let same_facts : after (acts_there p.instr) facts_there ≡ facts_of program effects below =
-            sym (facts_on state top [] [] named p frames of_sub at_point path)
+            sym (facts_on state top [] [] named p frames of_sub at_point path (plain_there x v e))
             ∙ ap (λ (z : FlowSub). facts_before (path_points program effects z) (top.frame.next ∷ top.before)) (sym (sub_is state top [] [] named p frames of_sub at_point)) in
             record {
               top = stage table typed effects ready ready.main 1;
               older = below ∷ [];
               stages = subst (AreStages (stage table typed effects ready ready.main 1 ∷ (below ∷ []))) (sym begins_main) (refl, refl, (refl, refl, tt));
-              first = (ready.main_there.is, (refl, refl, refl), first.0, (refl, first.1.1, refl));
+              running = (ready.main_there, (refl, refl, refl), (first.0, (refl, first.1.1, refl)));
               path = begins (first_point table typed effects ready ready.main ready.main_there.named ready.main_there.stands
                   ready.main_there.point ready.main_there.points ready.main_there.begins);
               sound = main_begins s (Elsewhere program effects []) (Elsewhere program effects (below ∷ [])) (view_of s after_step) (after (acts_there p.instr) facts_there)
-                  holds.0 alone (λ name has. unmoved_stage below first.0 name (subst (λ z. Has z (Moved name)) same_facts has));
+                  holds.0 nowhere (λ name has. unmoved_stage below first.0 name (subst (λ z. Has z (Moved name)) same_facts has));
               kept = holds.1;
               named = ready.main_there.named;
               of_sub = ready.main_there.stands;
@@ -411,69 +444,82 @@ module _ (table : Table) (typed : TypedProgram) (effects : Effects) (input : Lis
       by_declare : (x : ℕ) (v : TypedTree) → p.instr ≡ Declare x v → LeadsOn table typed effects (turn at_turn p.instr)
       by_declare x v e =
           let text = subst (IsFine s named.sub.result) e (fine state top [] [] named p frames of_sub at_point) in
-          let calls = subst (λ i. calls_nothing i ≡ true) e (calls_none state top [] [] named p frames of_sub at_point) in
+          let plain = plain_there x v e in
+          let calls = subst (λ i. calls_nothing i ≡ true) e plain in
           moment_leads x v e (turn at_turn p.instr)
-          (subst (λ i. Leads_on at_turn ready.accepted.settled ready.owns (Elsewhere program effects []) alone no_in_formals ready.first_class.all_named frames
+          (subst (λ i. Leads_on at_turn ready.accepted.settled ready.owns (Elsewhere program effects []) alone no_in_formals ready.class.all_named frames
           (after (acts_there i) facts_there) (turn at_turn i)) (sym e)
-          (declared_leads state top [] [] named p frames of_sub at_point path alone sound_there kept scope first.1.0 x v e text (not_true (has_call v) calls)
-          (subst (λ i. AllowsAll facts_there (acts_there i)) e (allowed state top [] [] named p frames of_sub at_point path))))
-          (subst (λ i. Each (Declares at_turn first.1.0 p.scope (x ∷ p.scope) scope) (turn at_turn i)) (sym e)
-          (declare_on at_turn first.1.0 p.scope (x ∷ p.scope) scope (within_more x) x v (ap (λ b. b || is_within x p.scope) (eq-eqb x x refl))))
+          (declared_leads state top [] [] named p frames of_sub at_point (Elsewhere program effects []) alone facts_there sound_there kept scope first.1.0
+          x v e text (not_true (has_call v) calls)
+          (subst (λ i. AllowsAll facts_there (acts_there i)) e (allowed state top [] [] named p frames of_sub at_point path plain))
+          (λ q moved. new_before state top [] [] named p frames of_sub at_point path x v e _ (number_part (ways.Object (OfVariable 0 x)) q) moved.1)
+          (λ q moved. new_after state top [] [] named p frames of_sub at_point path x v e plain _ (number_part (ways.Object (OfVariable 0 x)) q)
+          (subst (λ i. Has (after (acts_there i) facts_there) (Moved (ways.name_of (along (ways.Object (OfVariable 0 x)) q)))) (sym e) moved.1))))
+          (subst (λ i. Each (Declares at_turn first.1.0 (λ f y. f < 0) p.scope (x ∷ p.scope) scope) (turn at_turn i)) (sym e)
+          (declare_on at_turn first.1.0 (λ f y. f < 0) p.scope (x ∷ p.scope) scope (within_more x) x v (ap (λ b. b || is_within x p.scope) (eq-eqb x x refl))))
 
-  -- ---- a step of the main procedure
+  -- ---- a step of a procedure
 
   last_within : (x : ℕ) (scope : List ℕ) → is_last x scope ≡ true → is_within x scope ≡ true
   last_within x [] last = cc
   last_within x (y ∷ scope) last = ap (λ b. b || is_within x scope) last
 
-  home_frame : (x : ℕ) → is_package_object s x ≡ false → home s 1 x ≡ 1
-  home_frame x own_frame = ap (λ b. if b then 0 else 1) own_frame
-
-  may_hold : (x : ℕ) (scope : List ℕ) → (is_package_object s x ≡ true) ⊎ (is_within x scope ≡ true) → MayHold s 1 scope (home s 1 x) x
-  may_hold x scope (inl of_package) = inl (subst (λ b. (if b then 0 else 1) < 1) (sym of_package) below_one)
-  may_hold x scope (inr within) = elim (bool_cases (is_package_object s x)) [
-    | inl of_package ↦ inl (subst (λ b. (if b then 0 else 1) < 1) (sym of_package) below_one)
-    | inr own_frame ↦ inr (home_frame x own_frame, within)
-  ]
-
-  module _ (state : State) (top below : Stage) (named : NamedSub) (p : NamedPoint) (frames : state.frames ≡ top.frame ∷ (below.frame ∷ []))
-      (deep : top.depth ≡ 1) (deeper : below.depth ≡ 0) (first : AreFirst program (top ∷ (below ∷ [])))
+  module _ (state : State) (top below : Stage) (more : List Stage) (rest : List Frame) (named : NamedSub) (p : NamedPoint)
+      (frames : state.frames ≡ top.frame ∷ (below.frame ∷ rest)) (deep : top.depth ≡ suc (length rest))
+      (stages : AreStages (below ∷ more) (below.frame ∷ rest)) (running : AreRunning table typed effects state.memory (top ∷ (below ∷ more)))
       (of_sub : IsNamedSub (flow_named table typed) top.frame.sub named) (at_point : IsAtPoint named.points top.frame.next p)
       (path : ControlPath (path_points program effects (sub_of program top.frame.sub)) top.before top.frame.next)
-      (sound_before : Sound (home s 1) (Elsewhere program effects (below ∷ [])) (view_of s state) (facts_of program effects top))
-      (kept : Kept s state.memory (waiting_in state)) (scope : InScope s state.memory 1 p.scope) where
+      (sound_before : Sound (home s (suc (length rest))) (Elsewhere program effects (below ∷ more)) (view_of s state) (facts_of program effects top))
+      (kept : Kept s state.memory (waiting_in state)) (scope : InScope s state.memory (suc (length rest)) p.scope) where
     abbrev outer : List Frame
-    outer = below.frame ∷ []
+    outer = below.frame ∷ rest
+
+    abbrev older : List Stage
+    older = below ∷ more
+
+    abbrev depth : ℕ
+    depth = suc (length rest)
 
     abbrev other : Way → Type 0
-    other = Elsewhere program effects (below ∷ [])
+    other = IsFar (suc (length rest)) (Elsewhere program effects (below ∷ more))
 
-    alone : (w : Way) → other w → ⊥
-    alone w what = nothing_else below first.2 first.3.2 w what
+    alone : (w : Way) → IsNear (suc (length rest)) w → IsFar (suc (length rest)) (Elsewhere program effects (below ∷ more)) w → ⊥
+    alone w near far = far_alone (suc (length rest)) (Elsewhere program effects (below ∷ more)) w near far
 
     plain : top.frame.waits ≡ []
-    plain = first.1.0
+    plain = running.1.0
 
     abbrev main_turn : Turn
-    main_turn = t state top (below ∷ []) outer named p frames of_sub at_point
+    main_turn = t state top older outer named p frames of_sub at_point
 
+    abbrev own_facts : List Fact
+    own_facts = facts state top older outer named p frames of_sub at_point path
+
+    sound_own : Sound (home s depth) (Elsewhere program effects older) (view_of s state) own_facts
+    sound_own = subst (Sound (home s depth) (Elsewhere program effects older) (view_of s state)) (facts_are state top older outer named p frames of_sub at_point path) sound_before
+
+    -- with the facts of the frames around on package objects
     abbrev facts_now : List Fact
-    facts_now = facts state top (below ∷ []) outer named p frames of_sub at_point path
+    facts_now = own_facts ++ inherited program effects older
 
-    sound : Sound (home s 1) other (view_of s state) facts_now
-    sound = subst (Sound (home s 1) other (view_of s state)) (facts_are state top (below ∷ []) outer named p frames of_sub at_point path) sound_before
+    between : (g : Stage) → Has older g → IsBetween program effects depth g
+    between g has =
+        all_between table typed effects unmoved_stage state.memory top.frame.sub depth older outer stages (omega arith) running.2 g has
+
+    sound : Sound (home s depth) other (view_of s state) facts_now
+    sound = beside program effects older depth between (view_of s state) own_facts sound_own
+
+    from_both : Splits facts_now own_facts (inherited program effects older)
+    from_both f has = Has-append_cases own_facts (inherited program effects older) f has
 
     abbrev acts_of_main : Instruction → List Act
-    acts_of_main i = acts (acts_by state top (below ∷ []) outer named p frames of_sub at_point s i)
+    acts_of_main i = acts (acts_by state top older outer named p frames of_sub at_point s i)
 
     none_takes : taken main_turn.point.instr ≡ 0
-    none_takes = takes state top (below ∷ []) outer named p frames of_sub at_point
-
-    main_sub : top.frame.sub ≡ ready.main
-    main_sub = (let both : Some top.frame.sub ≡ Some ready.main = sym first.0 ∙ ready.main_there.is in cc)
+    none_takes = takes state top older outer named p frames of_sub at_point
 
     no_result : named.sub.result ≡ None
-    no_result = ready.main_there.procedure named (subst (λ n. IsNamedSub (flow_named table typed) n named) main_sub of_sub)
+    no_result = (running.0).procedure named of_sub
 
     point_in_named : Has named.points p
     point_in_named = point_has named.points top.frame.next p at_point
@@ -481,25 +527,133 @@ module _ (table : Table) (typed : TypedProgram) (effects : Effects) (input : Lis
     named_in : Has (flow_named table typed) named
     named_in = named_has (flow_named table typed) top.frame.sub named of_sub
 
+    in_main : Has (flow_sub own named).points main_turn.point
+    in_main = in_sub state top older outer named p frames of_sub at_point
+
     successors_there : length main_turn.point.next ≡ successors p.instr
     successors_there =
-        ready.main_there.leads main_turn.point
-        (subst (λ (z : FlowSub). Has z.points main_turn.point) (sym (sub_is state top (below ∷ []) outer named p frames of_sub at_point) ∙ ap (sub_of program) main_sub)
-        (in_sub state top (below ∷ []) outer named p frames of_sub at_point))
+        (running.0).leads main_turn.point
+        (subst (λ (z : FlowSub). Has z.points main_turn.point) (sym (sub_is state top older outer named p frames of_sub at_point)) in_main)
+
+    -- ---- which package objects it uses
+
+    sub_at_all : flow_sub_at program top.frame.sub ≡ flow_sub own named
+    sub_at_all = sub_at_number table typed top.frame.sub named of_sub _
+
+    sub_less : top.frame.sub < length program.subs
+    sub_less = sub_in_range table typed top.frame.sub named of_sub
+
+    -- none that a frame around has moved
+    unused : (f : Fact) → Has (inherited program effects older) f
+        → (name : PlaceName) × (f ≡ Moved name) × (is_package_object s name.root ≡ true) × (Uses effects top.frame.sub name.root → ⊥)
+    unused f has =
+        let found = inherited_from program effects older f has in
+        by_fact f found.0 found.1 found.2 found.3
+      where
+        by_fact : (f : Fact) (g : Stage) → Has older g → Has (facts_of program effects g) f → is_inherited s f ≡ true
+            → (name : PlaceName) × (f ≡ Moved name) × (is_package_object s name.root ≡ true) × (Uses effects top.frame.sub name.root → ⊥)
+        by_fact (Moved name) g has fact shared =
+            (name, refl, shared, λ uses. unused_there table typed effects unmoved_stage state.memory top.frame.sub older running.2 g has name fact shared uses)
+        by_fact (Lent l h n) g has fact shared = cc
+
+    -- so these facts allow the acts of an instruction that calls nothing
+    acts_apart : calls_nothing p.instr ≡ true → (p.instr ≡ Finish → ⊥) → (a : Act) → Has (acts_of_main p.instr) a
+        → (f : Fact) → Has (inherited program effects older) f → forbids a f ≡ None
+    acts_apart calls going a has f there =
+        let found = unused f there in
+        let from = Has-map_from (λ (z : Placed). z.act) (acts_by state top older outer named p frames of_sub at_point s p.instr) a has in
+        let placed : Placed = from.0 in
+        let opens : is_open placed.act ≡ true =
+        instruction_open s ready.class.all_named named.sub.result (roots state top older outer named p frames of_sub at_point) p.pos p.instr calls going placed from.1 in
+        let in_point : Has main_turn.point.acts placed =
+        subst (λ z. Has (acts_by state top older outer named p frames of_sub at_point z p.instr) placed) same from.1 in
+        let writes : act_writes (found.0).root placed.act ≡ false =
+        not_so (act_writes (found.0).root placed.act) (λ e. found.3
+        (writes_used program effects ready.accepted.effects_are top.frame.sub (flow_sub own named) sub_at_all sub_less (found.0).root found.2
+        main_turn.point in_main placed in_point e)) in
+        let reads : act_reads (found.0).root placed.act ≡ false =
+        not_so (act_reads (found.0).root placed.act) (λ e. found.3
+        (reads_used program effects ready.accepted.effects_are top.frame.sub (flow_sub own named) sub_at_all sub_less (found.0).root found.2
+        main_turn.point in_main placed in_point e)) in
+        ap (λ z. forbids z f) (sym from.2) ∙ ap (forbids placed.act) found.1
+        ∙ apart_allows found.0 (found.0).root refl placed.act opens writes reads
+      where
+        not_so : (b : Bool) → (b ≡ true → ⊥) → b ≡ false
+        not_so true e = absurd (e refl)
+        not_so false e = refl
+
+    allowed_now : calls_nothing p.instr ≡ true → (p.instr ≡ Finish → ⊥) → AllowsAll facts_now (acts_of_main p.instr)
+    allowed_now calls going =
+        allowed_beside (acts_of_main p.instr) facts_now own_facts (inherited program effects older) from_both
+        (allowed state top older outer named p frames of_sub at_point path calls) (acts_apart calls going)
+
+    -- ---- which variables own
+
+    -- Those of older frames that own something before the step, and package objects.
+    abbrev IsOld : ℕ → ℕ → Type 0
+    IsOld f x =
+        (f < suc (length rest)) × ((f ≡ 0)
+        ⊎ ((q : List Step) × (k : ℕ) × (word_in s.table (content s state.memory [] (OfRoot (OfVariable f x))) q ≡ Held k)))
+
+    inside : Inside s IsOld state.memory depth p.scope
+    inside f x q n held = elim (scope f x q n held) [
+      | inl less ↦ inl (less, inr (q, n, held))
+      | inr mine ↦ inr mine
+    ]
+
+    in_scope : (m : Memory) (after_scope : List ℕ) → Inside s IsOld m depth after_scope → InScope s m depth after_scope
+    in_scope m after_scope in_there f x q n held = elim (in_there f x q n held) [ inl old ↦ inl old.0 | inr mine ↦ inr mine ]
+
+    still : (m : Memory) (after_scope : List ℕ) → Inside s IsOld m depth after_scope → AreStill table typed effects unmoved_stage state.memory m depth
+    still m after_scope in_there f x q n some less held = elim (in_there f x q n held) [
+      | inr mine ↦ (let is = mine.0 in absurd (omega (arith, less, is)))
+      | inl (below_it, inl none) ↦ absurd (omega (arith, some, none))
+      | inl (below_it, inr before) ↦ before
+    ]
+
+    home_frame : (x : ℕ) → is_package_object s x ≡ false → home s depth x ≡ depth
+    home_frame x own_frame = ap (λ b. if b then 0 else depth) own_frame
+
+    package_old : (x : ℕ) → is_package_object s x ≡ true → IsOld (home s depth x) x
+    package_old x of_package = subst (λ z. IsOld z x) (sym (ap (λ b. if b then 0 else depth) of_package)) (omega arith, inl refl)
+
+    may_hold : (x : ℕ) (in_there : List ℕ) → (is_package_object s x ≡ true) ⊎ (is_within x in_there ≡ true) → MayHold s IsOld depth in_there (home s depth x) x
+    may_hold x in_there (inl of_package) = inl (package_old x of_package)
+    may_hold x in_there (inr within) = elim (bool_cases (is_package_object s x)) [
+      | inl of_package ↦ inl (package_old x of_package)
+      | inr own_frame ↦ inr (home_frame x own_frame, within)
+    ]
+
+    -- ---- an object that is declared
+
+    -- no part of an object of the frame is one of a package object
+    not_inherited : (x : ℕ) (q : List Step) → Named (home s depth) (along (ways.Object (OfVariable depth x)) q)
+        → Has (inherited program effects older) (Moved (ways.name_of (along (ways.Object (OfVariable depth x)) q))) → ⊥
+    not_inherited x q named_there has =
+        let found = unused (Moved (ways.name_of (along (ways.Object (OfVariable depth x)) q))) has in
+        let same_name : ways.name_of (along (ways.Object (OfVariable depth x)) q) ≡ found.0 = moved_same _ found.0 found.1 in
+        let root : x ≡ (found.0).root = sym (number_part (ways.Object (OfVariable depth x)) q) ∙ ap (λ (z : PlaceName). z.root) same_name in
+        let shared : is_package_object s x ≡ true = ap (is_package_object s) root ∙ found.2 in
+        let at_home : depth ≡ home s depth x = in_home x q named_there in
+        let none : depth ≡ 0 = at_home ∙ ap (λ b. if b then 0 else depth) shared in omega (arith, none)
+      where
+        in_home : (x : ℕ) (q : List Step) → Named (home s depth) (along (ways.Object (OfVariable depth x)) q) → depth ≡ home s depth x
+        in_home x [] named_there = named_there
+        in_home x (i ∷ q) named_there = in_home x q named_there
 
     -- what holds of an instruction: where it leads, and where it goes on
     abbrev LeadsFrom : Instruction → Outcome → Type 0
     LeadsFrom i outcome =
-        Leads_on main_turn ready.accepted.settled ready.owns other alone no_in_formals ready.first_class.all_named frames
+        Leads_on main_turn ready.accepted.settled ready.owns other alone no_in_formals ready.class.all_named frames
         (after (acts_of_main i) facts_now) outcome
 
     abbrev GoesFrom : Instruction → Outcome → Type 0
-    GoesFrom i outcome = Each (GoesOn main_turn plain p.scope (brought i p.scope) scope) outcome
+    GoesFrom i outcome = Each (GoesOn main_turn plain IsOld p.scope (brought i p.scope) inside) outcome
 
     abbrev Both : Instruction → Type 0
     Both i = LeadsFrom i (turn main_turn i) × GoesFrom i (turn main_turn i)
 
-    held_now : Holds main_turn ready.accepted.settled ready.owns other alone no_in_formals ready.first_class.all_named frames facts_now state
+    held_now : Holds main_turn ready.accepted.settled ready.owns other alone no_in_formals ready.class.all_named frames facts_now state
     held_now = (sound, kept)
 
     -- it has this many successors
@@ -515,26 +669,36 @@ module _ (table : Table) (typed : TypedProgram) (effects : Effects) (input : Lis
     new_one : (x : ℕ) → is_within x (x ∷ p.scope) ≡ true
     new_one x = ap (λ b. b || is_within x p.scope) (eq-eqb x x refl)
 
-    stored_there : (i : Instruction) → p.instr ≡ i → (x : ℕ) → Has (stored_at i) x → MayHold s 1 p.scope (home s 1 x) x
+    stored_there : (i : Instruction) → p.instr ≡ i → (x : ℕ) → Has (stored_at i) x → MayHold s IsOld depth p.scope (home s depth x) x
     stored_there i e x has =
         may_hold x p.scope (ready.scoped.stored named named_in p point_in_named x (subst (λ z. Has (stored_at z) x) (sym e) has))
 
     ready_there : (i : Instruction) → p.instr ≡ i → is_ready p i ≡ true
-    ready_there i e = subst (λ z. is_ready p z ≡ true) e (is_ready_there state top (below ∷ []) outer named p frames of_sub at_point)
+    ready_there i e = subst (λ z. is_ready p z ≡ true) e (is_ready_there state top older outer named p frames of_sub at_point)
 
     -- ---- each instruction
 
     skips : (e : p.instr ≡ Skip) → Both Skip
     skips e = (
-      skip_leads main_turn ready.accepted.settled ready.owns other alone no_in_formals ready.first_class.all_named frames none_takes facts_now held_now,
-      stays_follows main_turn plain p.scope p.scope scope same_scope (with_successors Skip 0 e below_one),
+      skip_leads main_turn ready.accepted.settled ready.owns other alone no_in_formals ready.class.all_named frames none_takes facts_now held_now,
+      stays_follows main_turn plain IsOld p.scope p.scope inside same_scope (with_successors Skip 0 e below_one),
     )
 
     declares : (x : ℕ) (v : TypedTree) (e : p.instr ≡ Declare x v) → IsFine s None (Declare x v) → calls_nothing (Declare x v) ≡ true
         → AllowsAll facts_now (acts_of_main (Declare x v)) → Both (Declare x v)
     declares x v e text calls allowed_there = (
-      declared_leads state top (below ∷ []) outer named p frames of_sub at_point path alone sound kept scope plain x v e text (not_true (has_call v) calls) allowed_there,
-      declare_follows main_turn plain p.scope (x ∷ p.scope) scope (one_more x) x v (new_one x) (with_successors (Declare x v) 0 e below_one),
+      declared_leads state top older outer named p frames of_sub at_point other alone facts_now sound kept scope plain x v e text (not_true (has_call v) calls) allowed_there
+          (λ q moved. elim (from_both _ moved.1) [
+            | inl mine ↦ new_before state top older outer named p frames of_sub at_point path x v e _ (number_part (ways.Object (OfVariable depth x)) q) mine
+            | inr around ↦ not_inherited x q moved.0 around
+          ])
+          (λ q moved. elim (after_splits (acts_of_main (Declare x v)) facts_now own_facts (inherited program effects older) from_both _ moved.1) [
+            | inl mine ↦ new_after state top older outer named p frames of_sub at_point path x v e (ap calls_nothing e ∙ calls) _
+                (number_part (ways.Object (OfVariable depth x)) q)
+                (subst (λ i. Has (after (acts_of_main i) own_facts) (Moved (ways.name_of (along (ways.Object (OfVariable depth x)) q)))) (sym e) mine)
+            | inr around ↦ not_inherited x q moved.0 around
+          ]),
+      declare_follows main_turn plain IsOld p.scope (x ∷ p.scope) inside (one_more x) x v (new_one x) (with_successors (Declare x v) 0 e below_one),
     )
 
     assigns : (target e : TypedTree) (is : p.instr ≡ Assign target e) → IsFine s None (Assign target e) → calls_nothing (Assign target e) ≡ true
@@ -542,9 +706,9 @@ module _ (table : Table) (typed : TypedProgram) (effects : Effects) (input : Lis
     unfolding has_call
     assigns (Name q x path u) e is (v, (leads, type), source) calls allowed_there =
         let both = both_not (has_call path) (has_call e) calls in (
-          assign_leads main_turn ready.accepted.settled ready.owns other alone no_in_formals ready.first_class.all_named frames none_takes
+          assign_leads main_turn ready.accepted.settled ready.owns other alone no_in_formals ready.class.all_named frames none_takes
               p.pos q x u path e (subst (λ z. Source s z e) (sym type) source) leads both.1 both.0 facts_now held_now allowed_there,
-          assign_follows main_turn plain p.scope p.scope scope same_scope q x u path e
+          assign_follows main_turn plain IsOld p.scope p.scope inside same_scope q x u path e
               (stored_there (Assign (Name q x path u) e) is x (inl refl)) (with_successors (Assign (Name q x path u) e) 0 is below_one),
         )
     assigns target e is (v, never, source) calls allowed_there = absurd never
@@ -553,19 +717,19 @@ module _ (table : Table) (typed : TypedProgram) (effects : Effects) (input : Lis
         → AllowsAll facts_now (acts_of_main (Output text line)) → LeadsFrom (Output text line) (turn main_turn (Output text line))
     unfolding has_call acts_in
     writes (More e rest) line is (last, text) calls allowed_there =
-        output_leads main_turn ready.accepted.settled ready.owns other alone no_in_formals ready.first_class.all_named frames none_takes
+        output_leads main_turn ready.accepted.settled ready.owns other alone no_in_formals ready.class.all_named frames none_takes
         e rest line last text (or_both (has_call e) (has_call rest) (not_true (has_call e || has_call rest) calls)).0 facts_now held_now allowed_there
     writes NoMore line is text calls allowed_there =
-        line_leads main_turn ready.accepted.settled ready.owns other alone no_in_formals ready.first_class.all_named frames none_takes line facts_now held_now
+        line_leads main_turn ready.accepted.settled ready.owns other alone no_in_formals ready.class.all_named frames none_takes line facts_now held_now
     writes other_text line is never calls allowed_there = absurd never
 
     reads : (target : TypedTree) (is : p.instr ≡ Input target) → IsFine s None (Input target) → calls_nothing (Input target) ≡ true
         → AllowsAll facts_now (acts_of_main (Input target)) → Both (Input target)
     unfolding has_call
     reads (Name q x path u) is (v, (leads, type), scalar) calls allowed_there = (
-      input_leads main_turn ready.accepted.settled ready.owns other alone no_in_formals ready.first_class.all_named frames none_takes
+      input_leads main_turn ready.accepted.settled ready.owns other alone no_in_formals ready.class.all_named frames none_takes
           q x u path (subst (λ z. is_scalar (full s.table z) ≡ true) (sym type) scalar) leads (not_true (has_call path) calls) facts_now held_now allowed_there,
-      input_follows main_turn plain p.scope p.scope scope same_scope q x u path
+      input_follows main_turn plain IsOld p.scope p.scope inside same_scope q x u path
           (stored_there (Input (Name q x path u)) is x (inl refl)) (with_successors (Input (Name q x path u)) 0 is below_one),
     )
     reads target is (v, never, scalar) calls allowed_there = absurd never
@@ -574,9 +738,9 @@ module _ (table : Table) (typed : TypedProgram) (effects : Effects) (input : Lis
         → AllowsAll facts_now (acts_of_main (Release target)) → Both (Release target)
     unfolding has_call
     releases (Name q x path u) is (v, d, (leads, type), access) calls allowed_there = (
-      release_leads main_turn ready.accepted.settled ready.owns other alone no_in_formals ready.first_class.all_named frames none_takes
+      release_leads main_turn ready.accepted.settled ready.owns other alone no_in_formals ready.class.all_named frames none_takes
           q x u d path (subst (λ z. shape_of s.table z ≡ shape.Access d false true) (sym type) access) leads (not_true (has_call path) calls) facts_now held_now allowed_there,
-      release_follows main_turn plain p.scope p.scope scope same_scope q x u path
+      release_follows main_turn plain IsOld p.scope p.scope inside same_scope q x u path
           (stored_there (Release (Name q x path u)) is x (inl refl)) (with_successors (Release (Name q x path u)) 0 is below_one),
     )
     releases target is (v, d, never, access) calls allowed_there = absurd never
@@ -585,88 +749,304 @@ module _ (table : Table) (typed : TypedProgram) (effects : Effects) (input : Lis
         → AllowsAll facts_now (acts_of_main (LeaveLoop e)) → Both (LeaveLoop e)
     unfolding has_call acts_in
     leaves (More e rest) is (last, stays) calls allowed_there = (
-      leave_loop_leads main_turn ready.accepted.settled ready.owns other alone no_in_formals ready.first_class.all_named frames none_takes
+      leave_loop_leads main_turn ready.accepted.settled ready.owns other alone no_in_formals ready.class.all_named frames none_takes
           e rest last stays (or_both (has_call e) (has_call rest) (not_true (has_call e || has_call rest) calls)).0 facts_now held_now allowed_there,
-      test_follows main_turn plain p.scope p.scope scope same_scope e (with_successors (LeaveLoop (More e rest)) 1 is below_two),
+      test_follows main_turn plain IsOld p.scope p.scope inside same_scope e (with_successors (LeaveLoop (More e rest)) 1 is below_two),
     )
     leaves NoMore is text calls allowed_there = (
-      skip_leads main_turn ready.accepted.settled ready.owns other alone no_in_formals ready.first_class.all_named frames none_takes facts_now held_now,
-      stays_follows main_turn plain p.scope p.scope scope same_scope (with_successors (LeaveLoop NoMore) 0 is below_one),
+      skip_leads main_turn ready.accepted.settled ready.owns other alone no_in_formals ready.class.all_named frames none_takes facts_now held_now,
+      stays_follows main_turn plain IsOld p.scope p.scope inside same_scope (with_successors (LeaveLoop NoMore) 0 is below_one),
     )
     leaves e is never calls allowed_there = absurd never
 
     holds_nothing : (v : TypedTree) (is : p.instr ≡ Hold v) → v ≡ NoMore → Both (Hold v)
     unfolding acts_in
     holds_nothing v is none = subst Both (ap Hold (sym none)) (
-      subst (λ z. Leads_on main_turn ready.accepted.settled ready.owns other alone no_in_formals ready.first_class.all_named frames z (turn main_turn (Hold NoMore)))
+      subst (λ z. Leads_on main_turn ready.accepted.settled ready.owns other alone no_in_formals ready.class.all_named frames z (turn main_turn (Hold NoMore)))
           (sym (ap (λ r. after (acts (flow.returned_acts s r NoMore)) facts_now) no_result))
-          (skip_leads main_turn ready.accepted.settled ready.owns other alone no_in_formals ready.first_class.all_named frames none_takes facts_now held_now),
-      stays_follows main_turn plain p.scope p.scope scope same_scope (with_successors (Hold NoMore) 0 (is ∙ ap Hold none) below_one),
+          (skip_leads main_turn ready.accepted.settled ready.owns other alone no_in_formals ready.class.all_named frames none_takes facts_now held_now),
+      stays_follows main_turn plain IsOld p.scope p.scope inside same_scope (with_successors (Hold NoMore) 0 (is ∙ ap Hold none) below_one),
     )
 
     ends_scope : (x : ℕ) (is : p.instr ≡ EndScope x) → Both (EndScope x)
     ends_scope x is = (
-      end_scope_leads main_turn ready.accepted.settled ready.owns other alone no_in_formals ready.first_class.all_named frames none_takes
+      end_scope_leads main_turn ready.accepted.settled ready.owns other alone no_in_formals ready.class.all_named frames none_takes
           x (is_borrower s x) (home_frame x (ready.scoped.ends named named_in p point_in_named x is)) facts_now held_now,
-      end_scope_follows main_turn plain p.scope (drop 1 p.scope) scope x (ready_there (EndScope x) is) refl (with_successors (EndScope x) 0 is below_one),
+      end_scope_follows main_turn plain IsOld p.scope (drop 1 p.scope) inside x (ready_there (EndScope x) is) refl (with_successors (EndScope x) 0 is below_one),
     )
 
+    -- ---- the end of a call
+
     nothing_left : p.instr ≡ Finish → (x : ℕ) (q : List Step) (n : ℕ)
-        → word_in s.table (content s state.memory (waiting_in state) (OfRoot (OfVariable 1 x))) q ≡ Held n → ⊥
-    nothing_left is x q n held = elim (scope 1 x q n held) [
+        → word_in s.table (content s state.memory (waiting_in state) (OfRoot (OfVariable depth x))) q ≡ Held n → ⊥
+    nothing_left is x q n held = elim (scope depth x q n held) [
       | inl less ↦ omega (arith, less)
       | inr mine ↦ (
           let empty : p.scope ≡ [] = ready.scoped.finishes named named_in p point_in_named is in
           let no : false ≡ true = ap (is_within x) (sym empty) ∙ mine.1 in cc)
     ]
 
-    finishes : p.instr ≡ Finish → Both Finish
-    finishes is = (
-      finish_leads program input main_turn.point state top.frame below.frame ready.accepted.settled ready.owns other alone no_in_formals ready.first_class.all_named
-          frames first.1.1 plain (after (acts_of_main Finish) facts_now) facts_now held_now (nothing_left is),
-      subst (GoesFrom Finish) (sym (finish_is program input main_turn.point state top.frame below.frame ready.accepted.settled ready.owns other alone no_in_formals
-          ready.first_class.all_named frames first.1.1 plain)) tt,
-    )
+    -- no part of a package object is moved then
+    whole_packages : p.instr ≡ Finish → (name : PlaceName) → Has own_facts (Moved name) → is_package_object s name.root ≡ true → ⊥
+    whole_packages is name has shared =
+        let finishing : AllowsAll own_facts (acts_of_main Finish) =
+        subst (λ i. AllowsAll own_facts (acts_of_main i)) is (allowed state top older outer named p frames of_sub at_point path (ap calls_nothing is)) in
+        returns_whole program effects ready.accepted.effects_are own named top.before finishing.0 name has
+        (sym (ap (λ z. is_package_object z name.root) same) ∙ shared)
 
-    each_instruction : (i : Instruction) → p.instr ≡ i → IsFine s None i → calls_nothing i ≡ true → AllowsAll facts_now (acts_of_main i) → Both i
-    each_instruction Skip is text calls allowed_there = skips is
-    each_instruction (Declare x v) is text calls allowed_there = declares x v is text calls allowed_there
-    each_instruction (Assign target e) is text calls allowed_there = assigns target e is text calls allowed_there
-    each_instruction (Call sub actuals result) is text calls allowed_there = cc
-    each_instruction (Output text line) is writing calls allowed_there = (
+    abbrev left_memory : Memory
+    left_memory = without_frame depth state.memory
+
+    abbrev left_state : State
+    left_state = counted (record state { frames = below.frame ∷ rest; memory = without_frame depth state.memory })
+
+    -- the frame below goes on
+    returns_to : (h : Stage) (others : List Stage) → p.instr ≡ Finish → AreStages (below ∷ (h ∷ others)) (below.frame ∷ rest)
+        → AreCallers table typed effects state.memory top.frame.sub (below ∷ (h ∷ others))
+        → Sound (home s depth) (Elsewhere program effects (below ∷ (h ∷ others))) (view_of s state) own_facts → IsSound table typed effects left_state
+    returns_to h others is stages_there callers well =
+        let caller = callers.0 in
+        let hands : waiting_in left_state ≡ waiting_in state = left_waits state top.frame outer left_memory frames plain in
+        record {
+          top = below;
+          older = h ∷ others;
+          stages = stages_there;
+          running = (
+            caller.procedure,
+            caller.plain,
+            callers_kept table typed effects unmoved_stage state.memory left_memory below.frame.sub depth (h ∷ others) rest stages_there.2 (omega arith) still_left callers.1,
+          );
+          path = caller.path;
+          sound = subst (λ z. Sound (home s below.depth) (Elsewhere program effects (h ∷ others)) (seen s left_memory z state.leaks) (facts_of program effects below)) (sym hands)
+              (returned_sound s state.memory depth (waiting_in state) state.leaks (nothing_left is) program effects below (h ∷ others) own_facts caller.plain.2
+              well (whole_packages is) refl);
+          kept = subst (Kept s left_memory) (sym hands) (returned_kept s state.memory depth (waiting_in state) state.leaks (nothing_left is) kept);
+          named = caller.named;
+          of_sub = caller.of_sub;
+          point = caller.point;
+          at_point = caller.at_point;
+          scope = λ f x q n held. scope_left caller f x q n (left_held s state.memory depth (waiting_in state) state.leaks (nothing_left is) f x q n held);
+        }
+      where
+        still_left : AreStill table typed effects unmoved_stage state.memory left_memory depth
+        still_left f x q n some less held = (q, n, (left_held s state.memory depth (waiting_in state) state.leaks (nothing_left is) f x q n held).1)
+
+        scope_left : (caller : IsCaller table typed effects state.memory top.frame.sub below) → (f x : ℕ) (q : List Step) (n : ℕ)
+            → (f ≡ depth → ⊥) × (word_in s.table (content s state.memory [] (OfRoot (OfVariable f x))) q ≡ Held n)
+            → (f < below.depth) ⊎ ((f ≡ below.depth) × (is_within x (caller.point).scope ≡ true))
+        scope_left caller f x q n (other_frame, held) = elim (same_or_not f below.depth) [
+          | inl e ↦ inr (e, caller.scope x q n (subst (λ z. word_in s.table (content s state.memory [] (OfRoot (OfVariable z x))) q ≡ Held n) e held))
+          | inr other_depth ↦ inl (elim (scope f x q n held) [
+            | inr mine ↦ absurd (other_frame mine.0)
+            | inl less ↦ smaller f (length rest) less (λ e. other_depth (e ∙ sym stages.1)) stages.1
+          ])
+        ]
+          where
+            smaller : (a b : ℕ) → a < suc b → (a ≡ b → ⊥) → below.depth ≡ b → a < below.depth
+            smaller a b less ne is = subst (λ z. a < z) (sym is) (below_other a b less ne)
+
+    ends_call : p.instr ≡ Finish → LeadsOn table typed effects (turn main_turn Finish)
+    ends_call is = by_rest rest more refl stages running.2 sound_own
+      where
+        by_rest : (r : List Frame) (m : List Stage) → rest ≡ r → AreStages (below ∷ m) (below.frame ∷ r)
+            → AreCallers table typed effects state.memory top.frame.sub (below ∷ m)
+            → Sound (home s depth) (Elsewhere program effects (below ∷ m)) (view_of s state) own_facts → LeadsOn table typed effects (turn main_turn Finish)
+        by_rest [] [] same_rest stages_there callers well =
+            subst (LeadsOn table typed effects) (sym (finish_ends main_turn below.frame (ap (λ z. below.frame ∷ z) same_rest) running.1.1))
+            ((λ trap. trap), ended_owned s ready.accepted.settled state top.frame outer depth frames plain (nothing_left is) well.owned well.covered)
+        by_rest [] (h ∷ m) same_rest stages_there callers well = absurd stages_there.2
+        by_rest (k ∷ r) [] same_rest stages_there callers well = absurd stages_there.2
+        by_rest (k ∷ r) (h ∷ m) same_rest stages_there callers well =
+            subst (LeadsOn table typed effects) (sym (finish_returns main_turn below.frame k r (ap (λ z. below.frame ∷ z) same_rest) running.1.1))
+            (returns_to h m is (subst (λ z. AreStages (below ∷ (h ∷ m)) (below.frame ∷ z)) (sym same_rest) stages_there) callers well)
+
+    -- ---- a call
+
+    module _ (n : ℕ) (actuals : TypedTree) (e : p.instr ≡ Call n actuals None) where
+      called : IsCalled table typed n
+      called = ready.called (flow_sub own named) (in_program state top older outer named p frames of_sub at_point) main_turn.point in_main n actuals None e
+
+      ways_none : passings s (sub_at s n) ≡ []
+      ways_none = called_ways program n called.formals
+
+      call_acts : whole_acts state top older outer named p frames of_sub at_point p.instr ≡ globals_of program effects n
+      call_acts =
+          ap (whole_acts state top older outer named p frames of_sub at_point) e
+          ∙ ap (λ z. acts ((flow.actual_values s z actuals ++ flow.actual_acts z actuals) ++ called_acts program effects p.pos (Call n actuals None))) ways_none
+          ∙ called_are program effects ready.accepted.effects_are p.pos n actuals None
+
+      call_allowed : AllowsAll own_facts (globals_of program effects n)
+      call_allowed = subst (AllowsAll own_facts) call_acts (allowed_whole state top older outer named p frames of_sub at_point path)
+
+      globals : AreGlobal (globals_of program effects n)
+      globals = globals_are program effects ready.accepted.effects_are n
+
+      -- the successor, at which the frame waits
+      next_point : (k : ℕ) × (successor main_turn 0 ≡ Some k) × Has main_turn.point.next k
+      next_point = successor_there main_turn 0 (subst (λ z. 0 < z) (sym (successors_there ∙ ap successors e)) below_one)
+
+      abbrev waits_there : Stage
+      waits_there = record {
+        frame = record top.frame { waits = []; next = next_point.0 };
+        depth = top.depth;
+        before = top.frame.next ∷ top.before;
+        returns = top.returns;
+      }
+
+      facts_there : facts_of program effects waits_there ≡ own_facts
+      facts_there =
+          ap (λ (z : FlowSub). facts_before (path_points program effects z) (top.frame.next ∷ top.before)) (sub_is state top older outer named p frames of_sub at_point)
+          ∙ facts_whole state top older outer named p frames of_sub at_point path
+          ∙ ap (λ z. after z own_facts) call_acts ∙ global_after (globals_of program effects n) own_facts globals
+
+      -- what the callee uses isn't moved
+      spares : (name : PlaceName) → Has own_facts (Moved name) → is_package_object s name.root ≡ true → Uses effects n name.root → ⊥
+      spares name has shared uses =
+          let there = used_global program effects ready.accepted.effects_are n name.root called.text_io shared uses in
+          global_apart name name.root refl there.0
+          (global_allowed (globals_of program effects n) own_facts globals call_allowed (act.Global name.root there.0) there.1 (Moved name) has)
+
+      callee_less : n < length program.subs
+      callee_less = sub_in_range table typed n called.procedure.named called.procedure.stands
+
+      no_waiting : waiting main_turn ≡ []
+      no_waiting = ap (λ k. drop k top.frame.waits) none_takes ∙ drop_none top.frame.waits ∙ plain
+
+      abbrev started : State
+      started = behind main_turn (waiting main_turn) state.memory 0
+
+      abbrev entered : State
+      entered = leaking [] (record started { frames = frame_at_start n [] ∷ started.frames })
+
+      frames_there : entered.frames ≡ frame_at_start n [] ∷ (waits_there.frame ∷ outer)
+      frames_there =
+          ap (λ z. frame_at_start n [] ∷ led main_turn (record top.frame { waits = waiting main_turn }) z) next_point.1
+          ∙ ap (λ z. frame_at_start n [] ∷ (record top.frame { waits = z; next = next_point.0 } ∷ outer)) no_waiting
+
+      hands_there : waiting_in entered ≡ waiting_in state
+      hands_there = hands_behind main_turn ready.accepted.settled ready.owns other alone no_in_formals ready.class.all_named frames none_takes state.memory 0
+
+      successor_point : (q : NamedPoint) × IsAtPoint named.points next_point.0 q × Leads own (scope_behind p) q.scope
+      successor_point = next_there own named (laid named named_in) p point_in_named next_point.0 next_point.2
+
+      next_scope : InScope s state.memory depth (successor_point.0).scope
+      next_scope =
+          scope_next s ready.owns ready.class.all_named state.memory depth p.scope (successor_point.0).scope scope
+          (subst (λ z. Leads z p.scope (successor_point.0).scope) (sym same)
+          (subst (λ z. Leads own z (successor_point.0).scope) call_scope successor_point.2))
+        where
+          call_scope : scope_behind p ≡ p.scope
+          call_scope = ap (λ k. brought p.instr (drop k p.scope)) none_takes ∙ ap (brought p.instr) (drop_none p.scope) ∙ ap (λ i. brought i p.scope) e
+
+      waits_as_caller : IsCaller table typed effects state.memory n waits_there
+      waits_as_caller = record {
+        procedure = running.0;
+        plain = (refl, running.1.1, running.1.2);
+        path = subst (λ (z : FlowSub). ControlPath (path_points program effects z) (top.frame.next ∷ top.before) next_point.0)
+            (sym (sub_is state top older outer named p frames of_sub at_point))
+            (goes_on top.before top.frame.next next_point.0 (path_here state top older outer named p frames of_sub at_point path)
+            (subst (λ (z : PathPoint). Has z.next next_point.0) (sym (path_there own named top.frame.next p at_point program effects)) next_point.2));
+        named = named;
+        of_sub = of_sub;
+        point = successor_point.0;
+        at_point = successor_point.1;
+        scope = λ x q k held. elim (next_scope top.depth x q k held) [
+          | inl less ↦ absurd (omega (arith, less, deep))
+          | inr mine ↦ mine.1
+        ];
+        unmoved = λ name has shared uses. spares name (subst (λ z. Has z (Moved name)) facts_there has) shared uses;
+        uses = λ x uses. called_used program effects ready.accepted.effects_are top.frame.sub (flow_sub own named) sub_at_all sub_less n callee_less
+            main_turn.point in_main actuals None e x uses;
+      }
+
+      entered_sound : IsSound table typed effects entered
+      entered_sound = record {
+        top = stage table typed effects ready n (suc depth);
+        older = waits_there ∷ older;
+        stages = subst (AreStages (stage table typed effects ready n (suc depth) ∷ (waits_there ∷ older))) (sym frames_there) (refl, refl, (refl, deep, stages));
+        running = (called.procedure, (refl, refl, refl), (waits_as_caller, running.2));
+        path = begins (first_point table typed effects ready n called.procedure.named called.procedure.stands
+            called.procedure.point called.procedure.points called.procedure.begins);
+        sound = subst (λ z. Sound (home s (suc depth)) (Elsewhere program effects (waits_there ∷ older)) (seen s state.memory z (state.leaks ++ [])) []) (sym hands_there)
+            (subst (λ z. Sound (home s (suc depth)) (Elsewhere program effects (waits_there ∷ older)) (seen s state.memory (waiting_in state) z) []) (sym (append-nil state.leaks))
+            (record {
+              owned = sound_own.owned;
+              covered = sound_own.covered;
+              known = λ w l rooted r gone. inr (elsewhere w (sound_own.known w l rooted r gone));
+            }));
+        kept = subst (Kept s state.memory) (sym hands_there) kept;
+        named = called.procedure.named;
+        of_sub = called.procedure.stands;
+        point = called.procedure.point;
+        at_point = ([], called.procedure.points, called.procedure.begins, refl);
+        scope = λ f x q k held. elim (scope f x q k held) [
+          | inl less ↦ inl (omega (arith, less))
+          | inr mine ↦ (let is = mine.0 in inl (omega (arith, is)))
+        ];
+      }
+        where
+          elsewhere : (w : Way) → ways.Excused (home s depth) (Elsewhere program effects older) own_facts w → Elsewhere program effects (waits_there ∷ older) w
+          elsewhere w (inr (g, has, what)) = (g, inr has, what)
+          elsewhere w (inl moved) = (
+            waits_there,
+            inl refl,
+            inl (
+              subst (λ d. Named (home s d) w) (sym deep) moved.0,
+              subst (λ z. Has z (Moved (ways.name_of w))) (sym facts_there) moved.1,
+            ),
+          )
+
+      pub calls_it : LeadsOn table typed effects (turn main_turn (Call n actuals None))
+      calls_it =
+          subst (LeadsOn table typed effects) (sym (call_is main_turn n actuals called.formals ways_none))
+          (by_room (nat_le (frame_words program (frame_at_start n [] ∷ started.frames)) stack_words))
+        where
+          by_room : (b : Bool) → LeadsOn table typed effects
+              (if b then steps.leaking_goes [] (Goes (record started { frames = frame_at_start n [] ∷ started.frames })) else steps.raised main_turn StorageError state.memory)
+          by_room true = entered_sound
+          by_room false = ((λ trap. trap), raises main_turn ready.accepted.settled ready.owns other alone no_in_formals ready.class.all_named frames facts_now held_now state.memory)
+
+    -- ---- an instruction that calls nothing
+
+    each_instruction : (i : Instruction) → p.instr ≡ i → (i ≡ Finish → ⊥) → IsFine s None i → calls_nothing i ≡ true → AllowsAll facts_now (acts_of_main i) → Both i
+    each_instruction Skip is going text calls allowed_there = skips is
+    each_instruction (Declare x v) is going text calls allowed_there = declares x v is text calls allowed_there
+    each_instruction (Assign target e) is going text calls allowed_there = assigns target e is text calls allowed_there
+    each_instruction (Call sub actuals result) is going text calls allowed_there = cc
+    each_instruction (Output text line) is going writing calls allowed_there = (
       writes text line is writing calls allowed_there,
-      output_follows main_turn plain p.scope p.scope scope same_scope text line (with_successors (Output text line) 0 is below_one),
+      output_follows main_turn plain IsOld p.scope p.scope inside same_scope text line (with_successors (Output text line) 0 is below_one),
     )
-    each_instruction (Input target) is text calls allowed_there = reads target is text calls allowed_there
-    each_instruction (Release e) is text calls allowed_there = releases e is text calls allowed_there
-    each_instruction (Test e) is stays calls allowed_there = (
-      test_leads main_turn ready.accepted.settled ready.owns other alone no_in_formals ready.first_class.all_named frames none_takes
+    each_instruction (Input target) is going text calls allowed_there = reads target is text calls allowed_there
+    each_instruction (Release e) is going text calls allowed_there = releases e is text calls allowed_there
+    each_instruction (Test e) is going stays calls allowed_there = (
+      test_leads main_turn ready.accepted.settled ready.owns other alone no_in_formals ready.class.all_named frames none_takes
           e stays (not_true (has_call e) calls) facts_now held_now allowed_there,
-      test_follows main_turn plain p.scope p.scope scope same_scope e (with_successors (Test e) 1 is below_two),
+      test_follows main_turn plain IsOld p.scope p.scope inside same_scope e (with_successors (Test e) 1 is below_two),
     )
-    each_instruction (Choose e choices) is stays calls allowed_there = (
-      choose_leads main_turn ready.accepted.settled ready.owns other alone no_in_formals ready.first_class.all_named frames none_takes
+    each_instruction (Choose e choices) is going stays calls allowed_there = (
+      choose_leads main_turn ready.accepted.settled ready.owns other alone no_in_formals ready.class.all_named frames none_takes
           e choices stays (not_true (has_call e) calls) facts_now held_now allowed_there,
-      choose_follows main_turn plain p.scope p.scope scope same_scope e choices (ap successors (sym is)),
+      choose_follows main_turn plain IsOld p.scope p.scope inside same_scope e choices (ap successors (sym is)),
     )
-    each_instruction (Start x reversed low high) is (scalar, stays, stays') calls allowed_there =
+    each_instruction (Start x reversed low high) is going (scalar, stays, stays') calls allowed_there =
         let both = both_not (has_call low) (has_call high) calls in (
-          start_leads main_turn ready.accepted.settled ready.owns other alone no_in_formals ready.first_class.all_named frames none_takes
+          start_leads main_turn ready.accepted.settled ready.owns other alone no_in_formals ready.class.all_named frames none_takes
               x low high scalar stays stays' both.0 both.1 facts_now held_now allowed_there,
-          start_follows main_turn plain p.scope (x ∷ p.scope) scope (one_more x) x low high (new_one x) (with_successors (Start x reversed low high) 0 is below_one),
+          start_follows main_turn plain IsOld p.scope (x ∷ p.scope) inside (one_more x) x low high (new_one x) (with_successors (Start x reversed low high) 0 is below_one),
         )
-    each_instruction (Next x reversed low high) is scalar calls allowed_there = (
-      next_leads main_turn ready.accepted.settled ready.owns other alone no_in_formals ready.first_class.all_named frames x reversed scalar facts_now held_now,
-      next_follows main_turn plain p.scope p.scope scope same_scope x reversed
+    each_instruction (Next x reversed low high) is going scalar calls allowed_there = (
+      next_leads main_turn ready.accepted.settled ready.owns other alone no_in_formals ready.class.all_named frames x reversed scalar facts_now held_now,
+      next_follows main_turn plain IsOld p.scope p.scope inside same_scope x reversed
           (may_hold x p.scope (inr (last_within x p.scope (ready_there (Next x reversed low high) is)))) (with_successors (Next x reversed low high) 1 is below_two),
     )
-    each_instruction (Evaluate temporary e left) is text calls allowed_there = cc
-    each_instruction (LeaveLoop e) is text calls allowed_there = leaves e is text calls allowed_there
-    each_instruction (Hold v) is none calls allowed_there = holds_nothing v is none
-    each_instruction (EndScope x) is text calls allowed_there = ends_scope x is
-    each_instruction Finish is text calls allowed_there = finishes is
-    each_instruction Fall is text calls allowed_there = (
-      fall_leads main_turn ready.accepted.settled ready.owns other alone no_in_formals ready.first_class.all_named frames none_takes facts_now held_now,
+    each_instruction (Evaluate temporary e left) is going text calls allowed_there = cc
+    each_instruction (LeaveLoop e) is going text calls allowed_there = leaves e is text calls allowed_there
+    each_instruction (Hold v) is going none calls allowed_there = holds_nothing v is none
+    each_instruction (EndScope x) is going text calls allowed_there = ends_scope x is
+    each_instruction Finish is going text calls allowed_there = absurd (going refl)
+    each_instruction Fall is going text calls allowed_there = (
+      fall_leads main_turn ready.accepted.settled ready.owns other alone no_in_formals ready.class.all_named frames none_takes facts_now held_now,
       tt,
     )
 
@@ -675,46 +1055,60 @@ module _ (table : Table) (typed : TypedProgram) (effects : Effects) (input : Lis
     scope_is : scope_behind p ≡ brought p.instr p.scope
     scope_is = ap (λ n. brought p.instr (drop n p.scope)) none_takes ∙ ap (brought p.instr) (drop_none p.scope)
 
-    then_on : (outcome : Outcome) → LeadsFrom p.instr outcome → GoesFrom p.instr outcome → LeadsOn table typed effects outcome
-    then_on (Ends how after_step) leads on = leads
-    then_on (Goes after_step) leads on =
+    then_on : calls_nothing p.instr ≡ true → (outcome : Outcome) → LeadsFrom p.instr outcome → GoesFrom p.instr outcome → LeadsOn table typed effects outcome
+    then_on calls (Ends how after_step) leads on = leads
+    then_on calls (Goes after_step) leads on =
         let next = successor_there main_turn on.k (subst (λ z. on.k < z) (sym successors_there) on.less) in
-        goes_to_next state top (below ∷ []) outer named p frames of_sub at_point path after_step on.loops next.0 next.2 (on.frames next.0 next.1)
-        deep (refl, deeper, tt) (first.0, (refl, first.1.1, first.1.2), first.2, first.3) leads.0 leads.1
-        (subst (InScope s after_step.memory 1) (sym scope_is) on.inside)
+        let well = apart_again program effects older depth between (view_of s after_step) (after (acts_of_main p.instr) facts_now) (after (acts_of_main p.instr) own_facts)
+        (after_splits (acts_of_main p.instr) facts_now own_facts (inherited program effects older) from_both) leads.0 in
+        goes_to_next state top older outer named p frames of_sub at_point path calls after_step on.loops next.0 next.2 (on.frames next.0 next.1)
+        deep stages (
+          running.0,
+          (refl, running.1.1, running.1.2),
+          callers_kept table typed effects unmoved_stage state.memory after_step.memory top.frame.sub depth older outer stages (omega arith)
+              (still after_step.memory (brought p.instr p.scope) on.inside) running.2,
+        )
+        well leads.1 (subst (InScope s after_step.memory depth) (sym scope_is) (in_scope after_step.memory (brought p.instr p.scope) on.inside))
+
+    goes_plainly : calls_nothing p.instr ≡ true → (p.instr ≡ Finish → ⊥) → LeadsOn table typed effects (turn main_turn p.instr)
+    goes_plainly calls going =
+        let text = subst (λ r. IsFine s r p.instr) no_result (fine state top older outer named p frames of_sub at_point) in
+        let both = each_instruction p.instr refl going text calls (allowed_now calls going) in
+        then_on calls (turn main_turn p.instr) both.0 both.1
 
     pub main_step : LeadsOn table typed effects (step program input state)
     main_step =
-        let text = subst (λ r. IsFine s r p.instr) no_result (fine state top (below ∷ []) outer named p frames of_sub at_point) in
-        let both = each_instruction p.instr refl text (calls_none state top (below ∷ []) outer named p frames of_sub at_point)
-        (allowed state top (below ∷ []) outer named p frames of_sub at_point path) in
-        subst (LeadsOn table typed effects) (sym (step_is state top (below ∷ []) outer named p frames of_sub at_point))
-        (then_on (turn main_turn p.instr) both.0 both.1)
+        subst (LeadsOn table typed effects) (sym (step_is state top older outer named p frames of_sub at_point))
+        (elim (finish_or p.instr) [
+          | inl is ↦ subst (λ i. LeadsOn table typed effects (turn main_turn i)) (sym is) (ends_call is)
+          | inr going ↦ elim (calls_cases p.instr (calls_there state top older outer named p frames of_sub at_point)) [
+            | inl calls ↦ goes_plainly calls going
+            | inr call ↦ subst (λ i. LeadsOn table typed effects (turn main_turn i)) (sym call.2) (calls_it call.0 call.1 call.2)
+          ]
+        ])
 
   -- ---- each step
 
   by_stages : (state : State) (top : Stage) (older : List Stage) (fs : List Frame) → state.frames ≡ fs → AreStages (top ∷ older) fs
-      → AreFirst program (top ∷ older)
+      → AreRunning table typed effects state.memory (top ∷ older)
       → ControlPath (path_points program effects (sub_of program top.frame.sub)) top.before top.frame.next
       → Sound (home s top.depth) (Elsewhere program effects older) (view_of s state) (facts_of program effects top) → Kept s state.memory (waiting_in state)
       → (named : NamedSub) → IsNamedSub (flow_named table typed) top.frame.sub named → (p : NamedPoint) → IsAtPoint named.points top.frame.next p
       → InScope s state.memory top.depth p.scope → LeadsOn table typed effects (step program input state)
-  by_stages state top [] (f ∷ []) is (frame, deep, none) first path well kept named of_sub p at_point scope =
-      package_step state top named p (is ∙ ap (λ z. z ∷ []) (sym frame)) deep first of_sub at_point path
+  by_stages state top [] (f ∷ []) is (frame, deep, none) running path well kept named of_sub p at_point scope =
+      package_step state top named p (is ∙ ap (λ z. z ∷ []) (sym frame)) deep running of_sub at_point path
       (subst (λ d. Sound (home s d) (Elsewhere program effects []) (view_of s state) (facts_of program effects top)) deep well) kept
       (subst (λ d. InScope s state.memory d p.scope) deep scope)
-  by_stages state top (below ∷ []) (f ∷ (g ∷ [])) is (frame, deep, (caller, deeper, none)) first path well kept named of_sub p at_point scope =
-      main_step state top below named p (is ∙ (λ j. sym frame j ∷ (sym caller j ∷ []))) deep deeper first of_sub at_point path
-      (subst (λ d. Sound (home s d) (Elsewhere program effects (below ∷ [])) (view_of s state) (facts_of program effects top)) deep well) kept
+  by_stages state top (below ∷ more) (f ∷ (g ∷ rest)) is (frame, deep, (caller, deeper, others)) running path well kept named of_sub p at_point scope =
+      main_step state top below more rest named p (is ∙ (λ j. sym frame j ∷ (sym caller j ∷ rest))) deep (refl, deeper, others) running of_sub at_point path
+      (subst (λ d. Sound (home s d) (Elsewhere program effects (below ∷ more)) (view_of s state) (facts_of program effects top)) deep well) kept
       (subst (λ d. InScope s state.memory d p.scope) deep scope)
-  by_stages state top (below ∷ (more ∷ older)) fs is stages first path well kept named of_sub p at_point scope = absurd first
-  by_stages state top [] [] is stages first path well kept named of_sub p at_point scope = absurd stages
-  by_stages state top [] (f ∷ (g ∷ others)) is stages first path well kept named of_sub p at_point scope = absurd stages.2
-  by_stages state top (below ∷ []) [] is stages first path well kept named of_sub p at_point scope = absurd stages
-  by_stages state top (below ∷ []) (f ∷ []) is stages first path well kept named of_sub p at_point scope = absurd stages.2
-  by_stages state top (below ∷ []) (f ∷ (g ∷ (k ∷ others))) is stages first path well kept named of_sub p at_point scope = absurd stages.2.2
+  by_stages state top [] [] is stages running path well kept named of_sub p at_point scope = absurd stages
+  by_stages state top [] (f ∷ (g ∷ others)) is stages running path well kept named of_sub p at_point scope = absurd stages.2
+  by_stages state top (below ∷ more) [] is stages running path well kept named of_sub p at_point scope = absurd stages
+  by_stages state top (below ∷ more) (f ∷ []) is stages running path well kept named of_sub p at_point scope = absurd stages.2
 
   pub sound_step : StepsLeadOn table typed effects input
   sound_step state sound =
-      by_stages state sound.top sound.older state.frames refl sound.stages sound.first sound.path sound.sound sound.kept sound.named sound.of_sub
+      by_stages state sound.top sound.older state.frames refl sound.stages sound.running sound.path sound.sound sound.kept sound.named sound.of_sub
       sound.point sound.at_point sound.scope

@@ -19,14 +19,15 @@ use Rattle.machine.specs.Evaluate as run
 use Rattle.machine.specs.Step.{Stored}
 use Rattle.machine.specs.States.{Waiting, Leak}
 use Rattle.machine.specs.Owners.{is_in_formal}
-use Rattle.owned_ways.specs.Ways.{OfVariable, Way, Object, Named, Allows, after, AllowsAll, Sound}
+use Rattle.owned_ways.specs.Ways.{OfVariable, OfHand, Way, Object, Named, Allows, after, AllowsAll, Sound}
 use Rattle.owned_ways.specs.Ways as ways
 use Rattle.owned_ways.proofs.Assigned.{write_clean, named_rooted}
 use Rattle.part_offsets.specs.Parts.{IsSettled}
-use Rattle.soundness.specs.Seen.{seen, home}
+use Rattle.soundness.specs.Seen.{seen, home, IsNear}
 use Rattle.soundness.specs.Changes.{leaks_at}
 use Rattle.soundness.specs.Typed.{OwnsByShape, Kept}
 use Rattle.typed_laws.specs.Needed.{Leads, Gives, IndexLaw}
+use Rattle.soundness.proofs.Near.{near_under}
 use Rattle.soundness.proofs.Moments.{stored_sound}
 use Rattle.soundness.proofs.Walks.{way_along, Walked}
 use Rattle.soundness.proofs.Scalars.{after_append, allows_both, acts, acts_append, number_along, named_along}
@@ -35,7 +36,7 @@ use Rattle.soundness.proofs.Lasting.{put_away}
 use Rattle.soundness.proofs.Evaluated.{regrouped, Keeps, Ready, Given, live_trunk, checked_given, evaluated}
 
 module _ (h : Here) (settled : IsSettled h.typing.table) (leaks : List Leak) (waits : List (List machine.Word)) (other : Way → Type 0)
-    (alone : (w : Way) → other w → ⊥) (keeps : Keeps h.typing)
+    (alone : (w : Way) → IsNear h.frame w → other w → ⊥) (keeps : Keeps h.typing)
     (no_formals : (x : ℕ) → is_in_formal h.typing x ≡ false) (index_law : IndexLaw) (own_law : OwnsByShape h.typing.table)
     (all_named : (t d : ℕ) (c n : Bool) → shape_of h.typing.table t ≡ shape.Access d c n → n ≡ true) where
   -- What it comes to: a state that is sound and typed once the value is stored after its leak
@@ -66,7 +67,7 @@ module _ (h : Here) (settled : IsSettled h.typing.table) (leaks : List Leak) (wa
         subst (λ z. Sound (home h.typing h.frame) other (seen h.typing (stored h.typing k ws z.memory) hands (leaks ++ leaks_at h.typing pos z.memory k)) (effect (act.Write (name_of x steps)) facts))
         (sym same)
         (subst (λ z. Sound (home h.typing h.frame) other (seen h.typing (stored h.typing k ws m) hands (leaks ++ leaks_at h.typing pos m k)) (effect (act.Write z) facts)) called
-        (stored_sound h.typing settled (home h.typing h.frame) other m (record { of = t; words = ws }) hands leaks facts k l w pos ready.sound (λ z v u o. alone v o)
+        (stored_sound h.typing settled (home h.typing h.frame) other m (record { of = t; words = ws }) hands leaks facts k l w pos ready.sound (λ z v u o. alone v (near_under h.frame (Object (OfHand z)) v u tt) o)
         ready.kept spot named reaches
         (live_trunk h settled leaks waits other alone keeps no_formals index_law own_law all_named m (record { of = t; words = ws } ∷ hands) ready.sound.owned w l
         (named_rooted (home h.typing h.frame) w named) reaches)

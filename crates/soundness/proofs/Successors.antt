@@ -1,5 +1,5 @@
 -- What instructions without calls take, the successors of points, and facts where nothing is moved.
-use Rattle.std.proofs.Common.{◌≡◌, refl, ◌⊎◌, inl, inr, ℕ, zero, suc, ◌+◌, ◌<◌, Bool, true, false, not, ◌&&◌, List, [], ◌∷◌, length, arith, Some, None}
+use Rattle.std.proofs.Common.{◌≡◌, refl, ap, ◌∙◌, ◌⊎◌, inl, inr, ℕ, zero, suc, ◌+◌, ◌<◌, Bool, true, false, not, ◌&&◌, List, [], ◌∷◌, length, arith, Some, None}
 use Rattle.std.specs.Prelude.{filter}
 use Rattle.spark_base.specs.Lists.{Has}
 use Rattle.spark_base.proofs.Lists.{Has-append_cases, Has-filter}
@@ -15,7 +15,8 @@ use Rattle.flow_paths.specs.Names as flow_names
 use Rattle.flow_paths.specs.Scopes.{taken}
 use Rattle.machine.specs.Step.{Turn, successor}
 use Rattle.owned_ways.specs.Ways.{after}
-use Rattle.soundness.specs.Sound.{calls_nothing}
+use Rattle.soundness.specs.Sound.{calls_nothing, calls_procedures, IsFirstClass, IsProcedureClass}
+use Rattle.flow_paths.specs.Laid.{FlowProgram}
 use Rattle.soundness.proofs.Waits.{no_waits}
 
 -- ---- texts without calls take nothing that waits
@@ -60,6 +61,35 @@ takes_none (Hold v) calls = none_waits v calls
 takes_none (EndScope x) calls = refl
 takes_none Finish calls = refl
 takes_none Fall calls = refl
+
+-- An instruction of the second class calls nothing, or it is the call of a procedure.
+pub calls_cases : (i : Instruction) → calls_procedures i ≡ true
+    → (calls_nothing i ≡ true) ⊎ ((n : ℕ) × (actuals : TypedTree) × (i ≡ Call n actuals None) × (has_call actuals ≡ false))
+calls_cases (Call n actuals None) calls = inr (n, actuals, refl, not_true (has_call actuals) calls)
+calls_cases (Call n actuals (Some t)) calls = cc
+calls_cases i calls = inl calls
+
+pub procedures_take_none : (i : Instruction) → calls_procedures i ≡ true → taken i ≡ 0
+procedures_take_none i calls = elim (calls_cases i calls) [
+  | inl plain ↦ takes_none i plain
+  | inr call ↦ ap taken call.2 ∙ no_waits call.1 call.3
+]
+
+pub nothing_procedures : (i : Instruction) → calls_nothing i ≡ true → calls_procedures i ≡ true
+nothing_procedures (Call n actuals result) calls = cc
+nothing_procedures i calls = calls
+
+-- The first class is a part of the second one.
+pub second_class : (program : FlowProgram) → IsFirstClass program → IsProcedureClass program
+second_class program class = record {
+  all_named = class.all_named;
+  calls = λ sub has p there. nothing_procedures p.instr (class.no_calls sub has p there);
+  no_formals = class.no_formals;
+}
+
+pub finish_or : (i : Instruction) → (i ≡ Finish) ⊎ (i ≡ Finish → ⊥)
+finish_or Finish = inl refl
+finish_or i = inr (λ e. cc)
 
 -- ---- successors
 

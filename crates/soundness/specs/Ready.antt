@@ -1,6 +1,6 @@
 -- What is asked of an accepted program so that its runs are sound: what typing, the layout and the
 -- rules see to. Nothing here speaks of a run.
-use Rattle.std.specs.Prelude.{◌≡◌, ◌⊎◌, ℕ, true, false, List, [], ◌∷◌, length, get_or, Some, None}
+use Rattle.std.specs.Prelude.{◌≡◌, ◌⊎◌, ℕ, true, false, List, [], ◌∷◌, get_or, Option, Some}
 use Rattle.spark_base.specs.Lists.{Has}
 use Rattle.place_names.specs.declared.act.Placed.{Placed}
 use Rattle.place_names.specs.declared.fact.Fact.TheVariants.{Moved}
@@ -10,7 +10,7 @@ use Rattle.type_definitions.specs.Types.{Table}
 use Rattle.typed_tree.specs.Trees.{TypedTree, Name}
 use Rattle.typed_tree.specs.Programs.{TypedSub, TypedProgram}
 use Rattle.flow_paths.specs.declared.report.Effects.{Effects}
-use Rattle.flow_paths.specs.Instructions.{Instruction, Declare, Assign, Input, Release, EndScope, Finish}
+use Rattle.flow_paths.specs.Instructions.{Instruction, Declare, Assign, Call, Input, Release, EndScope, Finish}
 use Rattle.flow_paths.specs.Objects.{is_package_object}
 use Rattle.flow_paths.specs.Points.{NamedPoint, FlowPoint}
 use Rattle.flow_paths.specs.Laid.{FlowSub, FlowProgram, NamedSub, typing_of, flow_typing, flow_program, flow_named}
@@ -18,10 +18,9 @@ use Rattle.flow_paths.specs.Paths.{ControlPath, facts_before}
 use Rattle.flow_paths.specs.Effects.{path_points}
 use Rattle.flow_paths.specs.Scopes.{is_ready, is_within, is_settled}
 use Rattle.machine.specs.States.{sub_of}
-use Rattle.machine.specs.Typed.{successors}
 use Rattle.machine.specs.Run.{no_point}
 use Rattle.soundness.specs.Typed.{OwnsByShape}
-use Rattle.soundness.specs.Sound.{Accepted, IsFirstClass, IsNamedSub}
+use Rattle.soundness.specs.Sound.{Accepted, IsProcedureClass, IsNamedSub, IsProcedure}
 
 -- ---- scopes
 
@@ -61,36 +60,40 @@ AreNew program effects =
     → (Has (facts_before (path_points program effects sub) before) (Moved name) → ⊥)
     × (Has (facts_before (path_points program effects sub) (last ∷ before)) (Moved name) → ⊥)
 
--- ---- the package objects and the main procedure
+-- ---- the package objects
 
 -- The package objects are declared one by one, and nothing is moved for them.
 pub record AreElaborated (program : FlowProgram) : Type 0 where
   pub declared : (p : FlowPoint) → Has (sub_of program 0).points p → (x : ℕ) × (v : TypedTree) × (p.instr ≡ Declare x v)
   pub unmoved : (p : FlowPoint) → Has (sub_of program 0).points p → (a : Placed) → Has p.acts a → (name : PlaceName) → Has (adds a.act) (Moved name) → ⊥
 
--- The main procedure is there and has a first point. Each of its points has the successors that its
--- instruction leads to.
-pub record HasMain (table : Table) (typed : TypedProgram) (main : ℕ) : Type 0 where
-  pub is : (flow_program table typed).main ≡ Some main
-  pub named : NamedSub
-  pub stands : IsNamedSub (flow_named table typed) main named
-  pub procedure : (sub : NamedSub) → IsNamedSub (flow_named table typed) main sub → sub.sub.result ≡ None
-  pub point : NamedPoint
-  pub points : List NamedPoint
-  pub begins : named.points ≡ point ∷ points
-  pub leads : (p : FlowPoint) → Has (sub_of (flow_program table typed) main).points p → length p.next ≡ successors p.instr
+-- ---- calls
+
+-- A subprogram that is called is a procedure without formals. (Where none is called, nothing is
+-- asked of object 0, which is Ada.Text_IO.)
+pub record IsCalled (table : Table) (typed : TypedProgram) (n : ℕ) : Type 0 where
+  pub procedure : IsProcedure table typed n
+  pub formals : (sub_of (flow_program table typed) n).formals ≡ []
+  pub text_io : is_package_object (flow_typing (flow_program table typed)) 0 ≡ false
+
+abbrev pub AreCalled : Table → TypedProgram → Type 0
+AreCalled table typed =
+    (sub : FlowSub) → Has (flow_program table typed).subs sub → (p : FlowPoint) → Has sub.points p
+    → (n : ℕ) (actuals : TypedTree) (result : Option ℕ) → p.instr ≡ Call n actuals result → IsCalled table typed n
 
 -- ---- all of it
 
--- An accepted program of the first class, of which this holds.
+-- An accepted program of the second class, of which this holds.
 pub record IsReady (table : Table) (typed : TypedProgram) (effects : Effects) : Type 0 where
   pub accepted : Accepted table typed effects
   pub owns : OwnsByShape (flow_program table typed).table
-  pub first_class : IsFirstClass (flow_program table typed)
+  pub class : IsProcedureClass (flow_program table typed)
   pub scoped : AreScoped table typed
   pub new : AreNew (flow_program table typed) effects
   pub elaborated : AreElaborated (flow_program table typed)
   pub packages : NamedSub
   pub stands : IsNamedSub (flow_named table typed) 0 packages
+  pub called : AreCalled table typed
   pub main : ℕ
-  pub main_there : HasMain table typed main
+  pub is_main : (flow_program table typed).main ≡ Some main
+  pub main_there : IsProcedure table typed main

@@ -3,7 +3,7 @@
 -- A value that an evaluation has got, or that waits, is in hand: it has a type and words. The
 -- latest hand stands first; hands are numbered from the last one on, so that a new one changes no
 -- number.
-use Rattle.std.specs.Prelude.{ℕ, suc, Bool, true, false, not, ◌&&◌, ◌==◌, List, [], ◌∷◌, length, get_or, if◌then◌else◌}
+use Rattle.std.specs.Prelude.{◌≡◌, ◌⊎◌, ℕ, suc, Bool, true, false, not, ◌&&◌, ◌==◌, List, [], ◌∷◌, length, get_or, if◌then◌else◌}
 use Rattle.std.specs.List.{list_any}
 use Rattle.type_definitions.specs.Types.{Table}
 use Rattle.flow_paths.specs.Objects.{Typing, object_at, is_package_object}
@@ -11,7 +11,7 @@ use Rattle.machine.specs.Words as machine
 use Rattle.machine.specs.Memory.{Slot, Memory, fresh, variable_slots, cell, no_slot}
 use Rattle.machine.specs.States.{Waiting, Leak}
 use Rattle.machine.specs.Owners.{is_in_formal, waiting_at}
-use Rattle.owned_ways.specs.Ways.{Step, OfVariable, OfHand, Loc, OfRoot, OfCell, Inside, Word, Empty, Gone, Held, View}
+use Rattle.owned_ways.specs.Ways.{Step, Root, OfVariable, OfHand, Loc, OfRoot, OfCell, Inside, Way, Object, Lost, Into, All, Word, Empty, Gone, Held, View}
 use Rattle.part_offsets.specs.Parts.{offset_in, is_leaf}
 
 -- What stands at a variable, a hand or a cell: its type, its words, and whether they own.
@@ -70,3 +70,14 @@ seen s m hands leaks = seen_of s.table (content s m hands) (length m.cells) (λ 
 -- Package objects have the frame 0.
 abbrev pub home : Typing → ℕ → ℕ → ℕ
 home s f x = if is_package_object s x then 0 else f
+
+-- A way that begins in hand, or at a variable of this frame or of the package objects.
+abbrev pub IsNearRoot : ℕ → Root → Type 0
+IsNearRoot frame (OfVariable f x) = (f ≡ 0) ⊎ (f ≡ frame)
+IsNearRoot frame (OfHand h) = Unit {0}
+
+abbrev pub IsNear : ℕ → Way → Type 0
+IsNear frame (Object r) = IsNearRoot frame r
+IsNear frame (Lost n) = ⊥
+IsNear frame (Into w i) = IsNear frame w
+IsNear frame (All w) = IsNear frame w

@@ -2,22 +2,24 @@
 use Rattle.std.specs.Prelude.{◌≡◌, ◌⊎◌, ◌<◌, ℕ, Bool, true, false, not, ◌&&◌, List, [], ◌∷◌, ◌++◌, length, Option, Some, None}
 use Rattle.spark_base.specs.Lists.{Has}
 use Rattle.place_names.specs.declared.fact.Fact.{Fact}
-use Rattle.place_names.specs.Names.{has_elem}
+use Rattle.place_names.specs.declared.fact.Fact.TheVariants.{Moved}
+use Rattle.place_names.specs.Names.{Name as PlaceName, has_elem}
 use Rattle.type_definitions.specs.declared.table.Shape.TheVariants as shape
 use Rattle.type_definitions.specs.Types.{Table, shape_of}
 use Rattle.typed_tree.specs.Programs.{TypedProgram}
 use Rattle.flow_paths.specs.declared.report.Effects.{Effects}
 use Rattle.flow_paths.specs.Instructions.{Instruction, Declare, Assign, Call, Output, Input, Release, Test, Choose, Start, Evaluate, LeaveLoop, Hold}
-use Rattle.flow_paths.specs.Objects.{Typing, is_formal}
+use Rattle.flow_paths.specs.Objects.{Typing, is_formal, is_package_object}
 use Rattle.flow_paths.specs.Names.{has_call}
 use Rattle.flow_paths.specs.Points.{NamedPoint, FlowPoint}
 use Rattle.flow_paths.specs.Laid.{FlowSub, FlowProgram, NamedSub, flow_typing, flow_program, flow_named}
 use Rattle.flow_paths.specs.Paths.{ControlPath, facts_before}
-use Rattle.flow_paths.specs.Effects.{path_points, AreEffects}
+use Rattle.flow_paths.specs.Effects.{path_points, read_by, written_by, AreEffects}
 use Rattle.flow_paths.specs.Reports.{AreReports}
 use Rattle.flow_paths.specs.Scopes.{is_within}
 use Rattle.machine.specs.Memory.{Memory}
 use Rattle.machine.specs.States.{Frame, State, Ending, Trapped, Outcome, Goes, Ends, sub_of}
+use Rattle.machine.specs.Typed.{successors}
 use Rattle.machine.specs.Owners.{WellOwned, waiting_in}
 use Rattle.machine.specs.Run.{step, main_of, run_of, moment}
 use Rattle.owned_ways.specs.Ways.{Root, Loc, OfRoot, Way, Object, Into, All, Held, View, Told, IsMoved, along, Step}
@@ -37,8 +39,8 @@ pub record Accepted (table : Table) (typed : TypedProgram) (effects : Effects) :
   pub settled : IsSettled (flow_program table typed).table
   pub fine : AreFine (flow_program table typed)
 
--- The class of programs of the first half: no anonymous access type, no formal, and no call of a
--- subprogram of the program. An operand is evaluated at a point of its own only beside a call.
+-- The first class of programs: no anonymous access type, no formal, and no call of a subprogram of
+-- the program. An operand is evaluated at a point of its own only beside a call.
 abbrev pub calls_nothing : Instruction → Bool
 calls_nothing (Call sub actuals result) = false
 calls_nothing (Evaluate temporary e left) = false
@@ -58,6 +60,34 @@ pub record IsFirstClass (program : FlowProgram) : Type 0 where
   pub all_named : (t d : ℕ) (constant named : Bool) → shape_of program.table t ≡ shape.Access d constant named → named ≡ true
   pub no_calls : (sub : FlowSub) → Has program.subs sub → (p : FlowPoint) → Has sub.points p → calls_nothing p.instr ≡ true
   pub no_formals : (x : ℕ) → is_formal (flow_typing program) x ≡ false
+
+-- The second class: procedures are called, too. They have no formals.
+abbrev pub calls_procedures : Instruction → Bool
+calls_procedures (Call sub actuals None) = not (has_call actuals)
+calls_procedures i = calls_nothing i
+
+pub record IsProcedureClass (program : FlowProgram) : Type 0 where
+  pub all_named : (t d : ℕ) (constant named : Bool) → shape_of program.table t ≡ shape.Access d constant named → named ≡ true
+  pub calls : (sub : FlowSub) → Has program.subs sub → (p : FlowPoint) → Has sub.points p → calls_procedures p.instr ≡ true
+  pub no_formals : (x : ℕ) → is_formal (flow_typing program) x ≡ false
+
+-- The subprogram of the layout with a number, and the point there with a number.
+abbrev pub IsNamedSub : List NamedSub → ℕ → NamedSub → Type 0
+IsNamedSub subs n sub = (front : List NamedSub) × (rest : List NamedSub) × (subs ≡ front ++ sub ∷ rest) × (length front ≡ n)
+
+abbrev pub IsAtPoint : List NamedPoint → ℕ → NamedPoint → Type 0
+IsAtPoint points n p = (front : List NamedPoint) × (rest : List NamedPoint) × (points ≡ front ++ p ∷ rest) × (length front ≡ n)
+
+-- A procedure has a first point. Each of its points has the successors that its instruction leads
+-- to.
+pub record IsProcedure (table : Table) (typed : TypedProgram) (n : ℕ) : Type 0 where
+  pub named : NamedSub
+  pub stands : IsNamedSub (flow_named table typed) n named
+  pub procedure : (sub : NamedSub) → IsNamedSub (flow_named table typed) n sub → sub.sub.result ≡ None
+  pub point : NamedPoint
+  pub points : List NamedPoint
+  pub begins : named.points ≡ point ∷ points
+  pub leads : (p : FlowPoint) → Has (sub_of (flow_program table typed) n).points p → length p.next ≡ successors p.instr
 
 -- ---- frames
 
@@ -85,15 +115,46 @@ AreStages [] [] = Unit {0}
 AreStages (g ∷ older) (f ∷ outer) = (g.frame ≡ f) × (g.depth ≡ length outer) × AreStages older outer
 AreStages _ _ = ⊥
 
--- The frames of a program that calls nothing: that of the package objects, at first alone, and then
--- with that of the main procedure. Nothing waits between two steps, and nothing is copied back.
+-- Nothing waits in a frame between two steps, and nothing is copied back.
 abbrev pub IsPlain : Stage → Type 0
 IsPlain g = (g.frame.waits ≡ []) × (g.frame.returns ≡ []) × (g.returns ≡ [])
 
-abbrev pub AreFirst : FlowProgram → List Stage → Type 0
-AreFirst program (g ∷ []) = (g.frame.sub ≡ 0) × IsPlain g
-AreFirst program (g ∷ (e ∷ [])) = (program.main ≡ Some g.frame.sub) × IsPlain g × (e.frame.sub ≡ 0) × IsPlain e
-AreFirst program _ = ⊥
+-- A subprogram reads or writes a package object, itself or by what it calls.
+abbrev pub Uses : Effects → ℕ → ℕ → Type 0
+Uses effects n x = Has (read_by effects n) x ⊎ Has (written_by effects n) x
+
+-- A frame that waits for a call to end. Its executed points, of which the call is the latest, form a
+-- control path to its next point. What it owns is in scope there. No package object that a fact of
+-- the frame says was moved is used by the callee, and what the callee uses, its caller uses.
+pub record IsCaller (table : Table) (typed : TypedProgram) (effects : Effects) (m : Memory) (callee : ℕ) (g : Stage) : Type 0 where
+  pub procedure : IsProcedure table typed g.frame.sub
+  pub plain : IsPlain g
+  pub path : ControlPath (path_points (flow_program table typed) effects (sub_of (flow_program table typed) g.frame.sub)) g.before g.frame.next
+  pub named : NamedSub
+  pub of_sub : IsNamedSub (flow_named table typed) g.frame.sub named
+  pub point : NamedPoint
+  pub at_point : IsAtPoint named.points g.frame.next point
+  pub scope : (x : ℕ) (p : List Step) (n : ℕ)
+      → word_in (flow_program table typed).table (content (flow_typing (flow_program table typed)) m [] (OfRoot (ways.OfVariable g.depth x))) p ≡ Held n
+      → is_within x point.scope ≡ true
+  pub unmoved : (name : PlaceName) → Has (facts_of (flow_program table typed) effects g) (Moved name)
+      → is_package_object (flow_typing (flow_program table typed)) name.root ≡ true → Uses effects callee name.root → ⊥
+  pub uses : (x : ℕ) → Uses effects callee x → Uses effects g.frame.sub x
+
+-- The frames around one that runs a procedure: callers, and the frame of the package objects.
+abbrev pub AreCallers : Table → TypedProgram → Effects → Memory → ℕ → List Stage → Type 0
+AreCallers table typed effects m callee [] = ⊥
+AreCallers table typed effects m callee (e ∷ []) = (e.frame.sub ≡ 0) × IsPlain e
+AreCallers table typed effects m callee (g ∷ (h ∷ older)) =
+    IsCaller table typed effects m callee g × AreCallers table typed effects m g.frame.sub (h ∷ older)
+
+-- The frames of a program of the second class: that of the package objects alone, or that of a
+-- procedure with those around it.
+abbrev pub AreRunning : Table → TypedProgram → Effects → Memory → List Stage → Type 0
+AreRunning table typed effects m [] = ⊥
+AreRunning table typed effects m (e ∷ []) = (e.frame.sub ≡ 0) × IsPlain e
+AreRunning table typed effects m (top ∷ (g ∷ older)) =
+    IsProcedure table typed top.frame.sub × IsPlain top × AreCallers table typed effects m top.frame.sub (g ∷ older)
 
 -- ---- views, which programs of the first class have none of
 
@@ -126,26 +187,21 @@ view_of s state = seen s state.memory (waiting_in state) state.leaks
 abbrev pub IsDefinite : (ℕ → ℕ) → List Fact → Way → Type 0
 IsDefinite at_home facts w = IsMoved at_home facts w × (has_elem (ways.sels_of w) ≡ false)
 
--- A variable that owns a cell is one of an older frame, or it is in scope in the innermost one.
+-- A variable that owns a cell is one of these.
+abbrev pub HoldOnly : Typing → Memory → (ℕ → ℕ → Type 0) → Type 0
+HoldOnly s m these =
+    (f x : ℕ) (p : List Step) (n : ℕ) → word_in s.table (content s m [] (OfRoot (ways.OfVariable f x))) p ≡ Held n → these f x
+
+-- It is one of an older frame, or it is in scope in the innermost one.
 abbrev pub InScope : Typing → Memory → ℕ → List ℕ → Type 0
-InScope s m depth scope =
-    (f x : ℕ) (p : List Step) (n : ℕ) → word_in s.table (content s m [] (OfRoot (ways.OfVariable f x))) p ≡ Held n
-    → (f < depth) ⊎ ((f ≡ depth) × (is_within x scope ≡ true))
-
--- The subprogram of the layout that a frame runs, and the point there, with its scope, that it is
--- at.
-abbrev pub IsNamedSub : List NamedSub → ℕ → NamedSub → Type 0
-IsNamedSub subs n sub = (front : List NamedSub) × (rest : List NamedSub) × (subs ≡ front ++ sub ∷ rest) × (length front ≡ n)
-
-abbrev pub IsAtPoint : List NamedPoint → ℕ → NamedPoint → Type 0
-IsAtPoint points n p = (front : List NamedPoint) × (rest : List NamedPoint) × (points ≡ front ++ p ∷ rest) × (length front ≡ n)
+InScope s m depth scope = HoldOnly s m (λ f x. (f < depth) ⊎ ((f ≡ depth) × (is_within x scope ≡ true)))
 
 -- The innermost frame, those around it, and what holds of both.
 pub record IsSound (table : Table) (typed : TypedProgram) (effects : Effects) (state : State) : Type 0 where
   pub top : Stage
   pub older : List Stage
   pub stages : AreStages (top ∷ older) state.frames
-  pub first : AreFirst (flow_program table typed) (top ∷ older)
+  pub running : AreRunning table typed effects state.memory (top ∷ older)
   -- the executed points of the innermost frame form a control path to its next point
   pub path : ControlPath (path_points (flow_program table typed) effects (sub_of (flow_program table typed) top.frame.sub)) top.before top.frame.next
   -- the state is well owned, and what ways find gone is moved by a fact of the frame, or elsewhere
@@ -160,8 +216,8 @@ pub record IsSound (table : Table) (typed : TypedProgram) (effects : Effects) (s
   pub at_point : IsAtPoint named.points top.frame.next point
   pub scope : InScope (flow_typing (flow_program table typed)) state.memory top.depth point.scope
 
--- What excused leak checks need beside: what a fact without `Elem` calls moved is gone. (That steps
--- keep this isn't shown yet, so it is no part of what is sound.)
+-- What excused leak checks need beside: what a fact without `Elem` calls moved is gone. (For the
+-- first class, `exact_facts` shows that steps keep it. It is no part of what is sound.)
 abbrev pub AreExact : (table : Table) (typed : TypedProgram) (effects : Effects) (state : State) → IsSound table typed effects state → Type 0
 AreExact table typed effects state sound =
     Told (view_of (flow_typing (flow_program table typed)) state)

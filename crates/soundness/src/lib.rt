@@ -11,8 +11,11 @@
 //! lead where their ways reach, without a trap (`Walks`, `Stays`), and so do expressions without
 //! calls (`Evaluated`). Then instructions lead from sound states to sound states (`Instructions`,
 //! `Loops`, `Operands`, `Endings`), and go on at successors with what owns in scope (`Following`).
-//! Sound states are well owned (`Owners`). Of a program that is ready (`specs/Ready.antt`), the
-//! state at the start is sound (`Beginning`), each step leads on (`Stepping`), and so does the run
-//! (`Main`). That accepted programs are ready isn't shown yet: docs/SOUNDNESS.md has what is open.
+//! Sound states are well owned (`Owners`). What frames around the innermost one have moved stands
+//! beside its facts (`Around`, `Inherited`), since it uses none of these package objects (`Used`);
+//! and where a call ends, they know what is gone (`Returning`). Of a program that is ready
+//! (`specs/Ready.antt`), the state at the start is sound (`Beginning`), each step leads on
+//! (`Stepping`), and so does the run (`Main`). Which accepted programs are ready, the crate
+//! `ready_laws` says; docs/SOUNDNESS.md has what is open.
 //! Nothing here runs.
 #![tactic(auto)]
