@@ -1,6 +1,6 @@
 -- The frames around the innermost one. What it can name they have moved only where it is a package
 -- object, and then facts say so; so their facts on package objects stand beside its own.
-use Rattle.std.proofs.Common.{◌≡◌, refl, sym, ap, ◌∙◌, subst, ◌⊎◌, inl, inr, ℕ, suc, ◌<◌, ◌≤◌, Bool, true, false, ◌==◌, eqb-true, eq-eqb, List, [], ◌∷◌, ◌++◌, length, arith, if◌then◌else◌}
+use Rattle.std.proofs.Common.{◌≡◌, refl, sym, ap, ◌∙◌, subst, ◌⊎◌, inl, inr, ℕ, ◌<◌, ◌≤◌, Bool, true, false, ◌==◌, eqb-true, eq-eqb, List, [], ◌∷◌, ◌++◌, length, arith, if◌then◌else◌}
 use Rattle.std.specs.Prelude.{filter, flat_map}
 use Rattle.spark_base.specs.Lists.{Has}
 use Rattle.spark_base.proofs.Lists.{Has-append_left, Has-append_right, Has-append_cases, Has-filter, Has-filter_passes}
@@ -16,7 +16,7 @@ use Rattle.machine.specs.Memory.{Memory}
 use Rattle.machine.specs.States.{Frame}
 use Rattle.owned_ways.specs.Ways.{Step, OfVariable, OfHand, OfRoot, Way, Object, Lost, Into, All, Held, View, Named, IsMoved, Sound, number_of, name_of, along}
 use Rattle.soundness.specs.Seen.{content, word_in, home, IsNear}
-use Rattle.soundness.specs.Sound.{Stage, facts_of, Elsewhere, AreStages, Uses, IsCaller, AreCallers}
+use Rattle.soundness.specs.Sound.{Stage, facts_of, Elsewhere, AreStages, Uses, AreCallers}
 use Rattle.soundness.proofs.Contents.{bool_cases}
 use Rattle.soundness.proofs.Inherited.{Splits}
 

@@ -1,6 +1,6 @@
 -- Facts beside those of a subprogram, as those of the frames around it: acts that none of them
 -- forbids are allowed with them, and none is added to them.
-use Rattle.std.proofs.Common.{◌≡◌, refl, sym, ap, ◌∙◌, subst, ◌⊎◌, inl, inr, ℕ, Bool, true, false, not, ◌&&◌, ◌||◌, ◌==◌, eq-eqb, eqb-true, List, [], ◌∷◌, ◌++◌, map, append-nil, Option, None, if◌then◌else◌}
+use Rattle.std.proofs.Common.{◌≡◌, refl, sym, ap, ◌∙◌, subst, ◌⊎◌, inl, inr, ℕ, Bool, true, false, not, ◌&&◌, ◌||◌, ◌==◌, eq-eqb, eqb-true, List, [], ◌∷◌, map, append-nil, None}
 use Rattle.std.specs.Prelude.{filter}
 use Rattle.std.specs.List.{list_any}
 use Rattle.spark_base.specs.Lists.{Has}
@@ -10,11 +10,11 @@ use Rattle.place_names.specs.declared.act.Mode.TheVariants as mode
 use Rattle.place_names.specs.declared.act.Act.{Act}
 use Rattle.place_names.specs.declared.act.Act.TheVariants as act
 use Rattle.place_names.specs.declared.fact.Fact.{Fact}
-use Rattle.place_names.specs.declared.fact.Fact.TheVariants.{Moved, Lent}
+use Rattle.place_names.specs.declared.fact.Fact.TheVariants.{Moved}
 use Rattle.place_names.specs.declared.rule.Rule.{Rule}
 use Rattle.place_names.specs.Names.{Name, agree_along, agrees_whole}
 use Rattle.place_names.specs.Facts.{adds, removes, effect}
-use Rattle.place_names.specs.Rules.{Forbidden, forbidden_if, forbids, breaks_O1, breaks_O2, breaks_O3, breaks_O4, breaks_O8, breaks_O11, breaks_O14}
+use Rattle.place_names.specs.Rules.{forbidden_if, forbids, breaks_O1, breaks_O2, breaks_O3, breaks_O4, breaks_O8, breaks_O11, breaks_O14}
 use Rattle.flow_paths.specs.Effects.{act_reads, act_writes}
 use Rattle.owned_ways.specs.Ways.{after, AllowsAll}
 use Rattle.soundness.proofs.Contents.{bool_cases}

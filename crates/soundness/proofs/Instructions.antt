@@ -57,7 +57,7 @@ use Rattle.soundness.proofs.Raised.{raised_owned}
 use Rattle.soundness.proofs.Keeping.{cell_has}
 use Rattle.soundness.proofs.Steps.{alike, plain_shape}
 use Rattle.soundness.proofs.Defaults.{none_default}
-use Rattle.soundness.proofs.Moments.{stored_sound, number_part, declared_sound, ended_sound}
+use Rattle.soundness.proofs.Moments.{stored_sound, declared_sound, ended_sound}
 use Rattle.soundness.proofs.Scalars.{acts, acts_append, after_append, allows_both, number_along, named_along}
 use Rattle.soundness.proofs.Stays.{Quiet, Any, One, quiet_then, quiet, Goes as GoesAlong, steps_quiet, name_quiet}
 use Rattle.soundness.proofs.Numbers.{index_law}

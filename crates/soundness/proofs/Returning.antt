@@ -1,24 +1,23 @@
 -- The end of a call: the variables of its frame are removed, and what ways find gone then is moved
 -- by facts of the frames that are left. And a call of a subprogram without formals.
-use Rattle.std.proofs.Common.{◌≡◌, refl, sym, ap, ◌∙◌, subst, ◌⊎◌, inl, inr, ℕ, suc, zero, Bool, true, false, not, List, [], ◌∷◌, ◌++◌, map, length, get_or, nat_le, Option, is_some, if◌then◌else◌}
+use Rattle.std.proofs.Common.{◌≡◌, refl, sym, ap, ◌∙◌, subst, ◌⊎◌, inl, inr, ℕ, suc, zero, Bool, true, false, not, List, [], ◌∷◌, ◌++◌, map, length, get_or, nat_le, is_some, if◌then◌else◌}
 use Rattle.std.specs.Prelude.{flat_map}
 use Rattle.std.proofs.lemmas.List.{length-map}
 use Rattle.spark_base.specs.Lists.{Has}
 use Rattle.place_names.specs.declared.fact.Fact.{Fact}
 use Rattle.place_names.specs.declared.fact.Fact.TheVariants.{Moved}
 use Rattle.place_names.specs.Names.{Name}
-use Rattle.type_definitions.specs.Types.{words}
 use Rattle.typed_tree.specs.Trees.{TypedTree}
 use Rattle.flow_paths.specs.declared.report.Effects.{Effects}
-use Rattle.flow_paths.specs.Objects.{Typing, Signature, object_at, sub_at, is_package_object, passing, passings, traverses, first_traversed, Passing}
+use Rattle.flow_paths.specs.Objects.{Typing, Signature, object_at, sub_at, is_package_object, passing, passings, traverses, first_traversed}
 use Rattle.flow_paths.specs.Laid.{FlowSub, FlowProgram, flow_typing}
 use Rattle.machine.specs.Words.{default}
-use Rattle.machine.specs.Memory.{Memory, Slot, fresh, no_slot, variable_slots, without_frame}
+use Rattle.machine.specs.Memory.{Memory, Slot, no_slot, variable_slots, without_frame}
 use Rattle.machine.specs.Evaluate.{StorageError}
-use Rattle.machine.specs.States.{Waiting, Frame, Leak, State, Normal, Outcome, Goes, Ends, no_sub, sub_of, frame_words, stack_words, frame_at_start}
+use Rattle.machine.specs.States.{Waiting, Frame, Leak, State, Normal, Goes, Ends, no_sub, sub_of, frame_words, stack_words, frame_at_start}
 use Rattle.machine.specs.Step.{Turn, typing, waiting, behind, counted, raised, leaking_goes, call, finish}
 use Rattle.machine.specs.Owners.{is_in_formal, waiting_in, WellOwned}
-use Rattle.owned_ways.specs.Ways.{Step, OfVariable, OfHand, Loc, OfRoot, OfCell, Inside, Way, Object, Lost, Into, All, Word, Empty, Gone, Held, View, Reaches, Named, Owned, Covered, Sound, base_of, number_of, name_of}
+use Rattle.owned_ways.specs.Ways.{Step, OfVariable, OfHand, Loc, OfRoot, OfCell, Inside, Way, Object, Lost, Into, All, Empty, Gone, Held, View, Reaches, Named, Owned, Covered, Sound, base_of, number_of, name_of}
 use Rattle.part_offsets.specs.Parts.{offset_in, IsSettled}
 use Rattle.soundness.specs.Seen.{content, trunk, steps_in, word_in, seen, home}
 use Rattle.soundness.specs.Typed.{Points, Kept}
@@ -30,7 +29,7 @@ use Rattle.soundness.proofs.Keeping.{cell_has}
 use Rattle.soundness.proofs.Lasting.{lengths}
 use Rattle.soundness.proofs.Owners.{well_owned}
 use Rattle.soundness.proofs.Around.{same_or_not}
-use Rattle.soundness.proofs.Endings.{frame_other, frame_same, rest_of, left_blank, frame_ends, SameNumbers, numbers_owned, numbers_covered, reaches_on}
+use Rattle.soundness.proofs.Endings.{frame_other, frame_same, left_blank, frame_ends, SameNumbers, numbers_owned, numbers_covered, reaches_on}
 
 -- ---- the variables of a frame are removed
 

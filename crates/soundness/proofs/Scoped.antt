@@ -1,6 +1,6 @@
 -- Which variables own cells after a change of memory: those that did before, and those that are
 -- stored at.
-use Rattle.std.proofs.Common.{◌≡◌, refl, sym, ap, ◌∙◌, subst, ◌⊎◌, inl, inr, ℕ, ◌+◌, ◌<◌, Bool, true, false, not, ◌||◌, ◌==◌, eqb-true, List, [], ◌∷◌, ◌++◌, take, drop, length, get_or, if◌then◌else◌}
+use Rattle.std.proofs.Common.{◌≡◌, refl, sym, ap, ◌∙◌, subst, ◌⊎◌, inl, inr, ℕ, ◌+◌, Bool, true, false, not, ◌||◌, ◌==◌, eqb-true, List, [], ◌∷◌, ◌++◌, take, drop, length, get_or, if◌then◌else◌}
 use Rattle.flow_paths.specs.Objects.{Typing, object_at, designated}
 use Rattle.flow_paths.specs.Scopes.{is_within, is_last}
 use Rattle.machine.specs.Words as machine

@@ -46,7 +46,7 @@ use Rattle.soundness.proofs.Contents.{bool_cases, word_root}
 use Rattle.soundness.proofs.Moments.{number_part}
 use Rattle.soundness.proofs.Scalars.{acts}
 use Rattle.soundness.proofs.Paths.{accepted_point, facts_next}
-use Rattle.soundness.proofs.Points.{path_of, flow_at, named_has, point_has, sub_there, sub_at_number, sub_in_range, sub_has, typing_same, point_there, point_in, path_there, IsLaid, all_laid, next_there, scope_next}
+use Rattle.soundness.proofs.Points.{flow_at, named_has, point_has, sub_there, sub_at_number, sub_in_range, sub_has, typing_same, point_there, point_in, path_there, IsLaid, all_laid, next_there, scope_next}
 use Rattle.soundness.proofs.Scoped.{MayHold, Inside}
 use Rattle.soundness.proofs.Near.{near_along}
 use Rattle.soundness.proofs.Inherited.{Splits, after_splits, allowed_beside, AreGlobal, global_after, global_allowed, is_open, apart_allows, global_apart}

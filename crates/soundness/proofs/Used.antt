@@ -1,6 +1,6 @@
 -- What subprograms use of package objects, by what their points do; and that a call which ends has
 -- moved no part of one.
-use Rattle.std.proofs.Common.{◌≡◌, refl, sym, ap, ◌∙◌, subst, ◌⊎◌, inl, inr, ℕ, zero, suc, ◌+◌, ◌<◌, ◌≤◌, Bool, true, false, not, ◌&&◌, ◌||◌, ◌==◌, eq-eqb, eqb-true, List, [], ◌∷◌, ◌++◌, map, drop, length, get_or, arith, IsTrue, Option, None, if◌then◌else◌}
+use Rattle.std.proofs.Common.{◌≡◌, refl, sym, ap, ◌∙◌, subst, ◌⊎◌, inl, inr, ℕ, zero, suc, ◌+◌, ◌<◌, ◌≤◌, Bool, true, false, not, ◌&&◌, ◌||◌, ◌==◌, eq-eqb, eqb-true, List, [], ◌∷◌, map, drop, length, arith, IsTrue, Option, None, if◌then◌else◌}
 use Rattle.std.specs.Prelude.{filter, flat_map}
 use Rattle.std.specs.List.{list_any}
 use Rattle.spark_base.specs.Lists.{Has}
@@ -18,16 +18,16 @@ use Rattle.place_names.specs.Rules.{forbidden_if, forbids, moved_in}
 use Rattle.place_names.proofs.Facts.{is_same_fact-decides}
 use Rattle.typed_tree.specs.declared.object.Object.{Object}
 use Rattle.typed_tree.specs.Trees.{TypedTree}
-use Rattle.typed_tree.specs.Programs.{TypedSub, text_io}
+use Rattle.typed_tree.specs.Programs.{TypedSub}
 use Rattle.flow_paths.specs.declared.report.Effects.{Effects}
 use Rattle.flow_paths.specs.Instructions.{Instruction, Skip, Declare, Assign, Call, Output, Input, Release, Test, Choose, Start, Next, Evaluate, LeaveLoop, Hold, EndScope, Finish, Fall}
-use Rattle.flow_paths.specs.Objects.{Typing, object_at, is_formal, is_package_object}
+use Rattle.flow_paths.specs.Objects.{Typing, is_formal, is_package_object}
 use Rattle.flow_paths.specs.Acts.{placed, acts_of}
-use Rattle.flow_paths.specs.Points.{NamedPoint, FlowPoint, flow_point}
-use Rattle.flow_paths.specs.Laid.{FlowSub, FlowProgram, NamedSub, distinct, facts_of, frame_of, kept_roots, point_acts, sub_facts, number_in, flow_sub, flow_typing}
-use Rattle.flow_paths.specs.Paths.{PathPoint, path_point, acts_at, facts_before}
-use Rattle.flow_paths.specs.Effects.{is_in, act_writes, act_reads, writes_text, reads_text, point_writes, point_reads, is_global, own_writes, own_reads, calls, sub_calls, flow_sub_at, CallChain, ends, calls_on, Reads, Writes, AreEffects, read_by, written_by, global_act, globals_from, globals_of, called_acts, all_acts, path_points}
-use Rattle.owned_ways.specs.Ways.{after, AllowsAll}
+use Rattle.flow_paths.specs.Points.{NamedPoint, FlowPoint}
+use Rattle.flow_paths.specs.Laid.{FlowSub, FlowProgram, NamedSub, distinct, frame_of, kept_roots, point_acts, sub_facts, flow_sub, flow_typing}
+use Rattle.flow_paths.specs.Paths.{path_point, acts_at, facts_before}
+use Rattle.flow_paths.specs.Effects.{is_in, act_writes, act_reads, writes_text, reads_text, point_writes, point_reads, is_global, own_writes, own_reads, calls, sub_calls, flow_sub_at, ends, calls_on, AreEffects, read_by, written_by, global_act, globals_from, globals_of, called_acts, all_acts, path_points}
+use Rattle.owned_ways.specs.Ways.{after}
 use Rattle.soundness.specs.Sound.{Uses}
 use Rattle.soundness.proofs.Contents.{bool_cases}
 use Rattle.soundness.proofs.Scalars.{acts}
