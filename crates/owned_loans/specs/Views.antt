@@ -71,7 +71,8 @@ ExcusedBy home v other facts w = IsMovedBy home v facts w ⊎ other w
 -- moved through an observer.
 pub record AreClear (observer : ℕ → Bool) (facts : List Fact) : Type 0 where
   pub moved : (l : Loan) (h : ℕ) (n m : Name) → Has facts (Moved n) → Has facts (Lent l h m) → overlaps n m ≡ true → ⊥
-  pub lent : (l : Loan) (b h : ℕ) (n m : Name) → Has facts (Lent Borrowed b n) → Has facts (Lent l h m) → (b ≡ h → ⊥) → overlaps n m ≡ true → ⊥
+  pub lent : (b h : ℕ) (n m : Name) → Has facts (Lent Borrowed b n) → Has facts (Lent Borrowed h m) → (b ≡ h → ⊥) → overlaps n m ≡ true → ⊥
+  pub seen : (b h : ℕ) (n m : Name) → Has facts (Lent Borrowed b n) → Has facts (Lent Observed h m) → overlaps n m ≡ true → ⊥
   pub owned : (n : Name) → Has facts (Moved n) → observer n.root ≡ false
 
 -- ---- what holds of a view
