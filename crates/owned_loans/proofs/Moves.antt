@@ -118,7 +118,7 @@ hand_apart home f k named inhand e = variable_hand (named_base home f named) (ha
 -- ---- a move, whatever the act
 
 module _ (home : ℕ → ℕ) (observer : ℕ → Bool) (other : Way → Type 0) (v : Views) where
-  view_on : (s t : View) (facts facts' : List Fact) (x : ℕ) (w : Way) → IsView home observer v s facts x w
+  pub view_on : (s t : View) (facts facts' : List Fact) (x : ℕ) (w : Way) → IsView home observer v s facts x w
       → ((seen : Bool) (n : Name) → HasLoan seen x facts n → HasLoan seen x facts' n) → Reaches t w (OfCell (v.cell x)) → IsView home observer v t facts' x w
   view_on s t facts facts' x w view loans reaches = record {
     named = view.named;

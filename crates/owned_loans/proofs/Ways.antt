@@ -143,7 +143,7 @@ pub record Lifted (v : Views) (x : Way) : Type 0 where
   pub is : x ≡ on (All (Object (OfVariable frame object))) rest
   pub has : v.way object ≡ Some way
 
-further : (v : Views) (g : Go) (x : Way) → Lifted v x → Lifted v (go g x)
+abbrev pub further : (v : Views) (g : Go) (x : Way) → Lifted v x → Lifted v (go g x)
 further v g x l = record {
   frame = l.frame;
   object = l.object;

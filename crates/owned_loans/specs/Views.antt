@@ -1,6 +1,6 @@
 -- Borrowers and observers of a frame, the ways of owners that their names stand for, and what holds
 -- of them between two acts.
-use Rattle.std.specs.Prelude.{◌≡◌, ◌⊎◌, ◌<◌, ℕ, Bool, true, false, List, [], ◌∷◌, Option, Some, None}
+use Rattle.std.specs.Prelude.{◌≡◌, ◌⊎◌, ◌<◌, ℕ, ◌==◌, Bool, true, false, List, [], ◌∷◌, Option, Some, None, if◌then◌else◌}
 use Rattle.spark_base.specs.Lists.{Has}
 use Rattle.place_names.specs.declared.fact.Fact.{Fact}
 use Rattle.place_names.specs.declared.fact.Fact.TheVariants.{Moved, Lent}
@@ -105,3 +105,29 @@ pub record Viewed (home : ℕ → ℕ) (observer : ℕ → Bool) (other : Way �
   pub known : Known s (ExcusedBy home v other facts)
   pub clear : AreClear observer facts
   pub views : AreViews home observer v s facts
+
+-- ---- a view gets a value
+
+-- Another way, or none, for one view.
+pub record Becomes (v t : Views) (b : ℕ) (way : Option Way) (loan up : Way) (cell : ℕ) : Type 0 where
+  pub way_is : t.way b ≡ way
+  pub loan_is : t.loan b ≡ loan
+  pub up_is : t.up b ≡ up
+  pub cell_is : t.cell b ≡ cell
+  pub ways : (y : ℕ) → (y ≡ b → ⊥) → t.way y ≡ v.way y
+  pub loans : (y : ℕ) → (y ≡ b → ⊥) → t.loan y ≡ v.loan y
+  pub ups : (y : ℕ) → (y ≡ b → ⊥) → t.up y ≡ v.up y
+  pub cells : (y : ℕ) → (y ≡ b → ⊥) → t.cell y ≡ v.cell y
+
+abbrev pub with_view : Views → ℕ → Option Way → Way → Way → ℕ → Views
+with_view v b way loan up cell = record {
+  way = λ y. if y == b then way else v.way y;
+  loan = λ y. if y == b then loan else v.loan y;
+  up = λ y. if y == b then up else v.up y;
+  cell = λ y. if y == b then cell else v.cell y;
+}
+
+-- No name of a moved place is rooted in an object, and no other view was taken from it.
+pub record Unused (v : Views) (facts : List Fact) (b : ℕ) : Type 0 where
+  pub unmoved : (n : Name) → Has facts (Moved n) → n.root ≡ b → ⊥
+  pub untaken : (x : ℕ) (w : Way) → v.way x ≡ Some w → (x ≡ b → ⊥) → number_of (v.up x) ≡ b → ⊥
