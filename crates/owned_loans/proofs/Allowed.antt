@@ -1,8 +1,7 @@
 -- What an act that the facts allow says of them: what doesn't lead to its name, and what doesn't
 -- overlap it.
-use Rattle.std.proofs.Common.{◌≡◌, refl, ap, ◌∙◌, ℕ, ◌<◌, Bool, true, false, ◌||◌, ◌==◌, List, [], ◌∷◌, length, nat_lt, lt-ltb, None}
+use Rattle.std.proofs.Common.{◌≡◌, refl, ◌∙◌, ℕ, Bool, true, false, ◌||◌, ◌==◌, List, [], ◌∷◌, length, nat_lt, lt-ltb}
 use Rattle.std.specs.List.{list_any}
-use Rattle.spark_base.specs.Lists.{Has}
 use Rattle.place_names.specs.declared.selector.Sel.{Sel}
 use Rattle.place_names.specs.declared.rule.Rule.TheVariants.{O1, O2, O3, O4, O14}
 use Rattle.place_names.specs.declared.rule.Loan.{Loan}

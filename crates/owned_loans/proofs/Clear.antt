@@ -1,9 +1,9 @@
 -- Along allowed acts nothing that was moved is lent, and what one object has borrowed is lent to no
 -- other one.
-use Rattle.std.proofs.Common.{◌≡◌, refl, sym, ap, ◌∙◌, subst, ◌⊎◌, inl, inr, ℕ, Bool, true, false, not, ◌&&◌, ◌==◌, List, [], ◌∷◌, ◌++◌, map, Some, None, if◌then◌else◌}
+use Rattle.std.proofs.Common.{◌≡◌, refl, sym, ap, ◌∙◌, subst, ◌⊎◌, inl, inr, ℕ, Bool, true, false, not, ◌==◌, List, [], ◌∷◌, ◌++◌, None}
 use Rattle.std.specs.List.{filter}
 use Rattle.spark_base.specs.Lists.{Has}
-use Rattle.spark_base.proofs.Lists.{Has-append_cases, Has-append_left, Has-append_right, Has-filter, Has-map_from}
+use Rattle.spark_base.proofs.Lists.{Has-append_cases, Has-filter, Has-map_from}
 use Rattle.place_names.specs.declared.selector.Sel.{Sel}
 use Rattle.place_names.specs.declared.rule.Rule.{Rule}
 use Rattle.place_names.specs.declared.rule.Rule.TheVariants.{O4, O5, O6}
@@ -11,7 +11,6 @@ use Rattle.place_names.specs.declared.rule.Loan.{Loan}
 use Rattle.place_names.specs.declared.rule.Loan.TheVariants.{Borrowed, Observed}
 use Rattle.place_names.specs.Names.{Name, is_equal, extend, agree_along, overlaps}
 use Rattle.place_names.proofs.Names.{both_parts, both_true, overlaps-sym}
-use Rattle.place_names.specs.declared.act.Mode.{Mode}
 use Rattle.place_names.specs.declared.act.Act.{Act}
 use Rattle.place_names.specs.declared.act.Act.TheVariants.{Read, Look, Write, Move, Borrow, Observe, Reborrow, EndScope, Return, Actual, Global, Free, Give}
 use Rattle.place_names.specs.declared.fact.Fact.{Fact}

@@ -1,22 +1,21 @@
 -- The end of a variable or of a hand keeps the ways of views that don't begin there.
-use Rattle.std.proofs.Common.{◌≡◌, refl, sym, ap, ◌∙◌, subst, ◌⊎◌, inl, inr, ℕ, Bool, true, false, not, ◌==◌, eqb-true, eq-eqb, List, [], ◌∷◌, suc, ◌<◌, arith, Option, Some, None}
+use Rattle.std.proofs.Common.{◌≡◌, refl, sym, ap, ◌∙◌, subst, inl, inr, ℕ, Bool, true, false, not, ◌==◌, eqb-true, eq-eqb, List, [], ◌∷◌, Some, None}
 use Rattle.std.specs.List.{filter}
 use Rattle.spark_base.specs.Lists.{Has}
 use Rattle.spark_base.proofs.Lists.{Has-append_cases, Has-filter, Has-filter_passes}
-use Rattle.place_names.specs.declared.rule.Loan.TheVariants.{Borrowed, Observed}
+use Rattle.place_names.specs.declared.rule.Loan.TheVariants.{Borrowed}
 use Rattle.place_names.specs.declared.act.Act.{Act}
 use Rattle.place_names.specs.declared.act.Act.TheVariants.{EndScope}
 use Rattle.place_names.specs.declared.fact.Fact.{Fact}
 use Rattle.place_names.specs.declared.fact.Fact.TheVariants.{Moved, Lent}
 use Rattle.place_names.specs.Facts.{belongs_to, effect}
-use Rattle.owned_ways.specs.Ways.{Step, Root, OfVariable, OfHand, Loc, OfRoot, OfCell, Way, Object, Lost, Into, All, View, part, along, Below, Reaches, Owned, Known, IsDrop, base_of, number_of, name_of, Named, IsMoved, Excused, Sound}
+use Rattle.owned_ways.specs.Ways.{Step, Root, OfVariable, OfHand, Loc, OfRoot, OfCell, Way, Object, Lost, Into, All, View, along, Below, Reaches, Owned, IsDrop, base_of, number_of, name_of, Named, IsMoved, Excused, Sound}
 use Rattle.owned_ways.proofs.Locations.{reaches_along}
 use Rattle.owned_ways.proofs.Unique.{one_way}
 use Rattle.owned_ways.proofs.Assigned.{kept_fact, is_false}
 use Rattle.owned_ways.proofs.Dropped.{named_base, dropped, left}
-use Rattle.owned_loans.specs.Views.{Views, way_at, expand, IsMovedBy, ExcusedBy, HasLoan, IsView, AreViews, Viewed}
-use Rattle.owned_loans.proofs.Ways.{root_on, Lifted, lifts, lifted_root, lifted_way}
-use Rattle.owned_loans.proofs.Meeting.{IsPlain}
+use Rattle.owned_loans.specs.Views.{Views, expand, IsMovedBy, ExcusedBy, HasLoan, Viewed}
+use Rattle.owned_loans.proofs.Ways.{root_on, lifts, lifted_root, lifted_way}
 use Rattle.owned_loans.proofs.Clear.{before_or_new, clear_same}
 use Rattle.owned_loans.proofs.Moves.{view_named, view_on, as_sound, all_known}
 
@@ -125,10 +124,17 @@ module _ (home : ℕ → ℕ) (observer : ℕ → Bool) (other : Way → Type 0)
           | inl moved ↦ absurd (all_end facts x borrower (Moved (name_of w)) moved.1)
           | inr both ↦ elim both.0 [
             | inr o ↦ inr o
-            | inl moved ↦ inl (moved.0, (moved.1.0, kept_fact act facts (Moved (name_of moved.0)) moved.1.1
-                (is_false (number_of moved.0 == x) (λ e. both.1 (
-                let same = eqb-true (number_of moved.0) x e in
-                ap number_of (sym moved.2 ∙ stands_itself moved.0 moved.1.0 (ap v.way same ∙ leaves.none)) ∙ same)))), moved.2)
+            | inl moved ↦ inl (
+              moved.0,
+              (
+                moved.1.0,
+                kept_fact act facts (Moved (name_of moved.0)) moved.1.1
+                    (is_false (number_of moved.0 == x) (λ e. both.1 (
+                    let same = eqb-true (number_of moved.0) x e in
+                    ap number_of (sym moved.2 ∙ stands_itself moved.0 moved.1.0 (ap v.way same ∙ leaves.none)) ∙ same))),
+              ),
+              moved.2,
+            )
           ]
         ];
         clear = clear_same observer facts viewed.clear act refl;

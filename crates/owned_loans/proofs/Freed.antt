@@ -1,6 +1,5 @@
 -- Freeing the cell that a name leads to keeps owners, what is known and the ways of views.
-use Rattle.std.proofs.Common.{◌≡◌, refl, sym, ap, ◌∙◌, subst, ◌⊎◌, inl, inr, ℕ, Bool, true, false, List, [], ◌∷◌, suc, ◌<◌, arith, Some}
-use Rattle.spark_base.specs.Lists.{Has}
+use Rattle.std.proofs.Common.{◌≡◌, refl, sym, ap, ◌∙◌, subst, inl, inr, ℕ, Bool, false, List, [], ◌∷◌, suc, arith}
 use Rattle.place_names.specs.Names.{covers}
 use Rattle.place_names.specs.declared.act.Act.{Act}
 use Rattle.place_names.specs.declared.act.Act.TheVariants.{Free}
@@ -8,12 +7,12 @@ use Rattle.place_names.specs.declared.fact.Fact.{Fact}
 use Rattle.place_names.specs.declared.fact.Fact.TheVariants.{Moved}
 use Rattle.place_names.specs.Facts.{effect}
 use Rattle.owned_ways.specs.Ways.{Step, Loc, OfCell, Inside, Way, Object, Lost, Into, All, Empty, Gone, Held, View, part, along, Below, Reaches, IsRooted, Under, Past, Owned, IsRelease, name_of, number_of, Named, Allows}
-use Rattle.owned_ways.proofs.Locations.{below, past_under, under_along, under_itself, reaches_along}
+use Rattle.owned_ways.proofs.Locations.{past_under, under_along, under_itself, reaches_along}
 use Rattle.owned_ways.proofs.Unique.{one_location, one_way}
 use Rattle.owned_ways.proofs.Named.{covered_under}
 use Rattle.owned_ways.proofs.Assigned.{kept_fact, is_false}
 use Rattle.owned_ways.proofs.Released.{released}
-use Rattle.owned_loans.specs.Views.{Views, expand, ExcusedBy, AreViews, Viewed}
+use Rattle.owned_loans.specs.Views.{Views, expand, ExcusedBy, Viewed}
 use Rattle.owned_loans.proofs.Meeting.{IsPlain}
 use Rattle.owned_loans.proofs.Clear.{clear_same}
 use Rattle.owned_loans.proofs.Safe.{off_view}
@@ -73,8 +72,7 @@ module _ (s t : View) (at : Loc) (n : ℕ) (step : IsRelease s t at n) where
       let outside : Below (OfCell n) m → ⊥ = λ x. (
       let below = reaches_along s (All k) (OfCell n) x.0 (at, n, target, held, refl) in
       let same = one_way s owned w (along (All k) x.0) m r (subst (Reaches s (along (All k) x.0)) (sym x.1) below) in
-      off (subst (Under k) (sym same) (under_along k (All k) x.0 (inr (under_itself k))))) in
-      (
+      off (subst (Under k) (sym same) (under_along k (All k) x.0 (inr (under_itself k))))) in (
         m,
         c,
         reaches_on k w m owned held target r (λ p. off (past_under k w p)),

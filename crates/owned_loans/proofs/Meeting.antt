@@ -1,11 +1,11 @@
 -- Where the names of owners that two names stand for begin one another, one of the two names begins
 -- the other one, or it meets a loan of the other, or two loans meet.
-use Rattle.std.proofs.Common.{◌≡◌, refl, sym, ap, ◌∙◌, subst, ◌⊎◌, inl, inr, ℕ, Bool, true, false, List, zero, suc, ◌<◌, ◌≤◌, ◌+◌, nat_lt, ltb-true, ltb-false, arith, Option, Some, None}
+use Rattle.std.proofs.Common.{◌≡◌, refl, sym, ap, ◌∙◌, subst, ◌⊎◌, inl, inr, ℕ, Bool, true, false, List, zero, suc, ◌<◌, ◌≤◌, ◌+◌, nat_lt, ltb-true, ltb-false, arith, Some}
 use Rattle.std.proofs.Math.Nat.{eq-or-lt_of_le}
 use Rattle.place_names.specs.declared.fact.Fact.{Fact}
 use Rattle.owned_ways.specs.Ways.{OfVariable, Way, Object, All, View, Under, Named, number_of}
 use Rattle.owned_ways.proofs.Named.{longer}
-use Rattle.owned_loans.specs.Views.{Go, on, Views, expand, IsView, AreViews}
+use Rattle.owned_loans.specs.Views.{on, Views, expand, AreViews}
 use Rattle.owned_loans.proofs.Ways.{Meet, beginnings, under_on, meets_on, root_on, on_under, named_on, on_named, expand_on, other_front, Lifted, lifts, lifted_root, lifted_way, next_of}
 
 order : (a b : ℕ) → (a ≡ b) ⊎ ((a < b) ⊎ (b < a))

@@ -1,30 +1,27 @@
 -- A move keeps owners, what is known and the ways of views, where the facts allow its act on a name
 -- that may be rooted in a borrower. So does a cell that is made.
-use Rattle.std.proofs.Common.{◌≡◌, refl, sym, ap, ◌∙◌, subst, ◌⊎◌, inl, inr, ℕ, Bool, true, false, not, List, [], ◌∷◌, ◌++◌, map, length, nat_lt, lt-ltb, zero, suc, ◌<◌, ◌≤◌, arith, Option, Some, None}
-use Rattle.std.specs.List.{list_any, filter}
+use Rattle.std.proofs.Common.{◌≡◌, refl, sym, ap, ◌∙◌, subst, inl, inr, ℕ, Bool, true, false, not, List, [], ◌∷◌, zero, suc, ◌<◌, arith, Some, None}
+use Rattle.std.specs.List.{filter}
 use Rattle.spark_base.specs.Lists.{Has}
 use Rattle.spark_base.proofs.Lists.{Has-append_right, Has-map}
 use Rattle.place_names.specs.declared.selector.Sel.{Sel}
-use Rattle.place_names.specs.declared.rule.Rule.TheVariants.{O3, O4}
-use Rattle.place_names.specs.declared.rule.Loan.{Loan}
 use Rattle.place_names.specs.declared.rule.Loan.TheVariants.{Borrowed, Observed}
-use Rattle.place_names.specs.Names.{Name, extend, overlaps, covers, leads_to, strict_prefixes}
-use Rattle.place_names.proofs.Rules.{any_breaks_O2}
+use Rattle.place_names.specs.Names.{Name, extend, covers}
 use Rattle.place_names.specs.declared.act.Act.{Act}
 use Rattle.place_names.specs.declared.act.Act.TheVariants.{Move, Write}
 use Rattle.place_names.specs.declared.fact.Fact.{Fact}
 use Rattle.place_names.specs.declared.fact.Fact.TheVariants.{Moved, Lent}
 use Rattle.place_names.specs.Facts.{adds, removes, effect}
-use Rattle.place_names.specs.Rules.{lent, breaks_O2, breaks_O3, moved_or_lent}
-use Rattle.owned_ways.specs.Ways.{Step, Root, OfVariable, OfHand, Loc, OfRoot, OfCell, Way, Object, Lost, Into, All, Gone, View, part, along, Reaches, IsRooted, Under, Past, Owned, Covered, Known, IsMove, IsFresh, IsSame, base_of, name_of, number_of, sels_of, Named, IsMoved, Excused, Spares, Allows, Sound}
-use Rattle.owned_ways.proofs.Locations.{past_under, both_true, under_along}
-use Rattle.owned_ways.proofs.Named.{covered_under, longer}
-use Rattle.owned_ways.proofs.Assigned.{kept_fact, is_false, either_left, Apart, given_apart, named_rooted, InHand, same_sound}
+use Rattle.place_names.specs.Rules.{lent}
+use Rattle.owned_ways.specs.Ways.{Step, Root, OfVariable, OfHand, Loc, OfRoot, OfCell, Way, Object, Lost, Into, All, Gone, View, part, along, Reaches, IsRooted, Under, Past, Known, IsMove, IsFresh, IsSame, base_of, name_of, number_of, Named, Excused, Spares, Allows, Sound}
+use Rattle.owned_ways.proofs.Locations.{past_under}
+use Rattle.owned_ways.proofs.Named.{covered_under}
+use Rattle.owned_ways.proofs.Assigned.{kept_fact, is_false, Apart, given_apart, named_rooted, InHand, same_sound}
 use Rattle.owned_ways.proofs.Moving.{Given, keeps, owned_after, covered_after, known_after}
 use Rattle.owned_ways.proofs.Released.{freshly, fresh_on}
 use Rattle.owned_ways.proofs.Dropped.{named_base}
-use Rattle.owned_loans.specs.Views.{Go, on, Views, way_at, expand, expand_root, IsObject, IsMovedBy, ExcusedBy, AreClear, HasLoan, IsView, AreViews, Viewed}
-use Rattle.owned_loans.proofs.Ways.{Lifted, lifts, lifted_root, next_of}
+use Rattle.owned_loans.specs.Views.{on, Views, way_at, expand, expand_root, IsMovedBy, ExcusedBy, AreClear, HasLoan, IsView, AreViews, Viewed}
+use Rattle.owned_loans.proofs.Ways.{lifts, lifted_root, next_of}
 use Rattle.owned_loans.proofs.Meeting.{IsPlain, next}
 use Rattle.owned_loans.proofs.Clear.{nothing_new, clear_move, clear_same}
 use Rattle.owned_loans.proofs.Safe.{clean_below, off_view}
@@ -40,7 +37,7 @@ named_part : (home : ℕ → ℕ) (w : Way) (p : List Step) → Named home w →
 named_part home w [] n = n
 named_part home w (i ∷ p) n = named_part home w p n
 
--- A name isn't that of a view with a value itself.
+-- A name isn't that of a view with a value alone.
 abbrev pub IsPlace : Views → Way → Type 0
 IsPlace v k = (r : Root) → k ≡ Object r → way_at v r ≡ None
 
@@ -131,7 +128,7 @@ module _ (home : ℕ → ℕ) (observer : ℕ → Bool) (other : Way → Type 0)
     reaches = reaches;
   }
 
-  -- each view with a value has a loan, and no way of a view goes past a place
+  -- No way of a view goes past a place.
   abbrev pub Off : Way → Type 0
   Off f = (x : ℕ) (w : Way) → v.way x ≡ Some w → Past f w → ⊥
 
@@ -170,7 +167,7 @@ module _ (home : ℕ → ℕ) (observer : ℕ → Bool) (other : Way → Type 0)
       let view = views x w has in
       subst (Named home) view.leads (named_way s facts views (suc (number_of (v.up x))) (v.up x) (omega arith) (view.named, view.plain))
 
-  hand_off : (s : View) (facts : List Fact) (views : AreViews home observer v s facts) (f : Way) → InHand f → Off f
+  pub hand_off : (s : View) (facts : List Fact) (views : AreViews home observer v s facts) (f : Way) → InHand f → Off f
   hand_off s facts views f inhand x w has past =
       unnamed home w (hand_under f w inhand (past_under f w past)) (view_named s facts views x w has)
 
@@ -217,16 +214,16 @@ module _ (home : ℕ → ℕ) (observer : ℕ → Bool) (other : Way → Type 0)
       (λ x w has past. off_view home observer v s facts viewed.views viewed.clear u x w name unlent has past)
       (hand_off s facts viewed.views k inhand)
 
-  -- ---- from one hand to another, or to a part of one, or into a new cell
+  -- ---- from a hand to where no view's way goes: to another hand, or to a new variable or cell
 
   pub handed : (s t : View) (f k : Way) (from to : Loc) (facts : List Fact) → Viewed home observer other v s facts → IsMove s t from to
-      → InHand f → InHand k → Spares other f → Reaches s f from → Reaches s k to → Apart f k
+      → InHand f → Off k → Spares other f → Reaches s f from → Reaches s k to → Apart f k
       → ((p : List Step) → t.word (part from p) ≡ Gone → ⊥) → Viewed home observer other v t facts
-  handed s t f k from to facts viewed move inhand also spares source target apart empty =
+  handed s t f k from to facts viewed move inhand away spares source target apart empty =
       moved_on s t f k from to facts facts (given_apart s t f k from to viewed.owned move source target apart) viewed (hand_rooted f inhand)
       (λ w under known. elim known [ inl h ↦ no_hand s facts viewed f w inhand under h | inr o ↦ spares w under o ])
       (λ w moved off. moved) (λ p gone. absurd (empty p gone)) viewed.clear (λ seen x n has. has)
-      (hand_off s facts viewed.views f inhand) (hand_off s facts viewed.views k also)
+      (hand_off s facts viewed.views f inhand) away
 
   -- ---- putting at a target
 

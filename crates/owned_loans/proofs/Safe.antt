@@ -1,6 +1,6 @@
 -- What a name through views meets, where the facts allow its act: nothing gone on its way, and for
 -- what is changed, no way of a view.
-use Rattle.std.proofs.Common.{◌≡◌, refl, sym, ap, ◌∙◌, subst, ◌⊎◌, inl, inr, ℕ, Bool, true, false, List, [], ◌∷◌, ◌++◌, length, zero, suc, ◌<◌, ◌≤◌, ◌+◌, arith, Option, Some, None}
+use Rattle.std.proofs.Common.{◌≡◌, refl, sym, ap, ◌∙◌, subst, ◌⊎◌, inl, inr, ℕ, Bool, true, false, List, [], ◌∷◌, ◌++◌, length, suc, ◌<◌, ◌≤◌, ◌+◌, arith, Some}
 use Rattle.std.proofs.lemmas.List.{length-append}
 use Rattle.spark_base.specs.Lists.{Has}
 use Rattle.place_names.specs.declared.selector.Sel.TheVariants.{Deref}
@@ -9,12 +9,12 @@ use Rattle.place_names.specs.declared.rule.Loan.TheVariants.{Borrowed, Observed}
 use Rattle.place_names.specs.declared.fact.Fact.{Fact}
 use Rattle.place_names.specs.declared.fact.Fact.TheVariants.{Moved, Lent}
 use Rattle.place_names.specs.Names.{Name, overlaps, leads_to}
-use Rattle.owned_ways.specs.Ways.{Root, OfVariable, Way, Object, Lost, Into, All, View, Under, Past, Named, IsMoved, name_of, number_of, sels_of, sel_of}
-use Rattle.owned_ways.proofs.Locations.{under_itself, past_under, not_past}
+use Rattle.owned_ways.specs.Ways.{OfVariable, Way, Object, Lost, Into, All, View, Under, Past, Named, IsMoved, name_of, number_of, sels_of, sel_of}
+use Rattle.owned_ways.proofs.Locations.{past_under, not_past}
 use Rattle.owned_ways.proofs.Named.{longer, under_leads}
-use Rattle.owned_loans.specs.Views.{Go, on, Views, expand, expand_root, IsMovedBy, AreClear, HasLoan, IsView, AreViews}
-use Rattle.owned_loans.proofs.Ways.{Meet, beginnings, under_on, meet_overlaps, Lifted, lifts, lifted_way, next_of}
-use Rattle.owned_loans.proofs.Meeting.{IsPlain, Next, next, low, Lends, Above, Beside, Both, Meeting, meeting}
+use Rattle.owned_loans.specs.Views.{Views, expand, expand_root, IsMovedBy, AreClear, HasLoan, AreViews}
+use Rattle.owned_loans.proofs.Ways.{Meet, beginnings, under_on, meet_overlaps, Lifted, next_of}
+use Rattle.owned_loans.proofs.Meeting.{IsPlain, next, low, Lends, Beside, Both, meeting}
 
 -- what begins a way and isn't the way has a shorter name
 pub under_shorter : (t w : Way) → Under t w → (t ≡ w) ⊎ (length (sels_of t) < length (sels_of w))

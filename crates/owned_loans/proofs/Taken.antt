@@ -1,11 +1,10 @@
 -- Borrow, Observe and Reborrow: a view gets the way of the cell that a name designates.
-use Rattle.std.proofs.Common.{◌≡◌, refl, sym, ap, ◌∙◌, subst, ◌⊎◌, inl, inr, ℕ, ◌==◌, eqb-true, eq-eqb, Bool, true, false, ◌&&◌, List, [], ◌∷◌, ◌<◌, arith, Option, Some, None, if◌then◌else◌}
+use Rattle.std.proofs.Common.{◌≡◌, refl, sym, ap, ◌∙◌, subst, inl, inr, ℕ, ◌==◌, eqb-true, eq-eqb, Bool, true, false, List, [], ◌∷◌, ◌<◌, arith, Option, Some, None, if◌then◌else◌}
 use Rattle.spark_base.specs.Lists.{Has}
 use Rattle.spark_base.proofs.Lists.{Has-append_right}
 use Rattle.std.specs.List.{filter}
 use Rattle.std.proofs.Common.{not}
 use Rattle.place_names.specs.declared.rule.Rule.TheVariants.{O7}
-use Rattle.place_names.specs.declared.rule.Loan.{Loan}
 use Rattle.place_names.specs.declared.rule.Loan.TheVariants.{Borrowed, Observed}
 use Rattle.place_names.specs.Names.{Name, object, agree_along, overlaps}
 use Rattle.place_names.proofs.Names.{both_true}
@@ -15,13 +14,13 @@ use Rattle.place_names.specs.declared.fact.Fact.{Fact}
 use Rattle.place_names.specs.declared.fact.Fact.TheVariants.{Moved, Lent}
 use Rattle.place_names.specs.Facts.{removes, effect}
 use Rattle.place_names.specs.Rules.{moved_or_lent}
-use Rattle.owned_ways.specs.Ways.{Root, OfVariable, OfHand, OfCell, Way, Object, Lost, Into, All, View, Reaches, Under, Named, IsMoved, number_of, name_of, Allows}
+use Rattle.owned_ways.specs.Ways.{OfVariable, OfHand, OfCell, Way, Object, Lost, Into, All, View, Reaches, Under, Named, number_of, name_of, Allows}
 use Rattle.owned_ways.proofs.Named.{longer}
 use Rattle.owned_ways.proofs.Assigned.{kept_fact}
 use Rattle.owned_ways.proofs.Locations.{under_itself}
-use Rattle.owned_loans.specs.Views.{Go, Down, on, Views, expand_root, expand, IsObject, IsMovedBy, ExcusedBy, AreClear, HasLoan, IsView, AreViews, Viewed, Becomes, with_view, Unused}
-use Rattle.owned_loans.proofs.Ways.{Lifted, root_on, on_under, under_on, named_on, on_deep, lifted_root, next_of, further}
-use Rattle.owned_loans.proofs.Meeting.{IsPlain, Next, next}
+use Rattle.owned_loans.specs.Views.{Down, on, Views, expand_root, expand, IsObject, AreClear, HasLoan, IsView, Viewed, Becomes, with_view, Unused}
+use Rattle.owned_loans.proofs.Ways.{Lifted, next_of, further}
+use Rattle.owned_loans.proofs.Meeting.{next}
 use Rattle.owned_loans.proofs.Clear.{refused, clear_borrow, clear_observe, clear_same}
 use Rattle.owned_loans.proofs.Allowed.{loan_kept}
 

@@ -1,11 +1,10 @@
 -- How ways go on, and the names of owners that names through views stand for.
-use Rattle.std.proofs.Common.{◌≡◌, refl, sym, ap, ◌∙◌, subst, ◌⊎◌, inl, inr, ℕ, Bool, true, false, List, [], ◌∷◌, length, zero, suc, ◌<◌, ◌≤◌, ◌+◌, arith, Option, Some, None}
+use Rattle.std.proofs.Common.{◌≡◌, refl, sym, ap, ◌∙◌, subst, ◌⊎◌, inl, inr, ℕ, true, List, [], ◌∷◌, length, suc, ◌+◌, arith, Option, Some, None}
 use Rattle.place_names.specs.Names.{overlaps}
-use Rattle.place_names.specs.declared.fact.Fact.{Fact}
-use Rattle.owned_ways.specs.Ways.{Step, Root, OfVariable, OfHand, Way, Object, Lost, Into, All, View, Under, IsAt, Named, object_of, number_of, name_of}
+use Rattle.owned_ways.specs.Ways.{Root, OfVariable, OfHand, Way, Object, Lost, Into, All, Under, Named, number_of, name_of}
 use Rattle.owned_ways.proofs.Locations.{depth, under_depth, under_itself}
-use Rattle.owned_ways.proofs.Named.{longer, under_overlaps, under_front}
-use Rattle.owned_loans.specs.Views.{Go, Part, Down, go, on, Views, expand_root, way_at, expand, IsObject, IsView, AreViews}
+use Rattle.owned_ways.proofs.Named.{under_overlaps, under_front}
+use Rattle.owned_loans.specs.Views.{Go, Part, Down, go, on, Views, expand_root, way_at, expand, IsObject}
 
 -- ---- beginnings of ways
 
