@@ -109,8 +109,10 @@ fn is_whole(response: &Response, whole: &Response) -> bool {
 
 /// Each row: a program, how many numbers are its input, its status, and how many calls it makes of
 /// the files, of the input, of the first output and of the second.
-const CALLS: [(&str, u32, u8, [u64; 4]); 2] =
-    [(SUMS, 1_000, 0, [3, 2, 1, 0]), (LOSES, 2_000, 5, [3, 4, 3, 2])];
+const CALLS: [(&str, u32, u8, [u64; 4]); 2] = [
+    (SUMS, 1_000, 0, [3, 2, 1, 0]),
+    (LOSES, 2_000, 5, [3, 4, 3, 2]),
+];
 
 /// Each call that is made fails once, and the one after the last makes no difference.
 #[test]
@@ -124,7 +126,10 @@ fn each_call_fails(rt: HostRuntime) -> Result<(), Fail> {
         for made in calls {
             for number in 0..made {
                 let response = failing(alloc, text, count, what, number)?;
-                assert!(rt; is_of_fault(&response, &whole, what), "{status} {what} {number}");
+                assert!(rt;
+                    is_of_fault(&response, &whole, what),
+                    "{status} {what} {number}"
+                );
             }
             let response = failing(alloc, text, count, what, made)?;
             assert!(rt; is_whole(&response, &whole), "{status} {what} {made}");
