@@ -29,8 +29,8 @@ while L /= null loop Old := L; L := Old.Next; Free (Old); end loop;
 end Main;
 ";
 
-/// It prints each number of its input, and loses a cell for each. What it prints, and the lines of
-/// the cells, are more bytes than are kept for one write.
+/// It prints each number of its input, and loses a cell for each. Both outputs get more bytes than
+/// one call writes.
 const LOSES: &str = "with Ada.Text_IO; use Ada.Text_IO;
 with Ada.Integer_Text_IO; use Ada.Integer_Text_IO;
 procedure Main is
@@ -38,7 +38,7 @@ type Int_Ptr is access Integer;
 X : Int_Ptr; V : Integer;
 begin
 while not End_Of_File loop
-Get (V); Put_Line (\"the number\" & Integer'Image (V) & \" of all numbers that are to be read, and a cell for it\");
+Get (V); Put_Line (\"number\" & Integer'Image (V) & \" of those that are to be read, and a cell for it\");
 X := new Integer'(V);
 end loop;
 X := null;
@@ -111,7 +111,7 @@ fn is_whole(response: &Response, whole: &Response) -> bool {
 /// the files, of the input, of the first output and of the second.
 const CALLS: [(&str, u32, u8, [u64; 4]); 2] = [
     (SUMS, 1_000, 0, [3, 2, 1, 0]),
-    (LOSES, 2_000, 5, [3, 4, 3, 2]),
+    (LOSES, 3_000, 5, [3, 2, 3, 2]),
 ];
 
 /// Each call that is made fails once, and the one after the last makes no difference.
