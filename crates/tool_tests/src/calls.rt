@@ -26,8 +26,7 @@ declare C : access constant Cell := L; begin
 while C /= null loop Sum := Sum + C.Value; C := C.Next; end loop; end;
 Put_Line (Integer'Image (Sum));
 while L /= null loop Old := L; L := Old.Next; Free (Old); end loop;
-end Main;
-";
+end Main;";
 
 /// It prints each number of its input, and loses a cell for each. Both outputs get more bytes than
 /// one call writes.
@@ -59,14 +58,14 @@ fn numbers(alloc: Global, count: u32) -> Result<Vec<u8>, AllocError> {
 /// the call of the input with this number.
 fn response_to(
     alloc: Global,
-    text: &str,
+    text: &[u8],
     count: u32,
     faults: Faults,
     fails: u64,
 ) -> Result<Response, AllocError> {
     let words = words_of(alloc, "run f.adb")?;
-    let bytes = Vec::from_slice(alloc, text.as_bytes())?;
-    let stored = vec![in alloc; (String::from_str(alloc, "f.adb")?, bytes)]?;
+    let text = Vec::from_slice(alloc, text)?;
+    let stored = vec![in alloc; (String::from_str(alloc, "f.adb")?, text)]?;
     let mut input = MemSource::new(numbers(alloc, count)?, Vec::from_slice(alloc, &[fails])?);
     run_on(alloc, &words, stored, &mut input, faults)
 }
@@ -75,7 +74,7 @@ fn response_to(
 /// the second one.
 fn failing(
     alloc: Global,
-    text: &str,
+    text: &[u8],
     count: u32,
     what: u8,
     number: u64,
@@ -107,34 +106,49 @@ fn is_whole(response: &Response, whole: &Response) -> bool {
         && response.err.bytes() == whole.err.bytes()
 }
 
-/// Each row: a program, how many numbers are its input, its status, and how many calls it makes of
-/// the files, of the input, of the first output and of the second.
-const CALLS: [(&str, u32, u8, [u64; 4]); 2] = [
-    (SUMS, 1_000, 0, [3, 2, 1, 0]),
-    (LOSES, 3_000, 5, [3, 2, 3, 2]),
+/// Lets each of the calls that are made fail, and then the one after them, which makes no
+/// difference. The number of the first call where the answer is another is told.
+fn first_wrong(
+    alloc: Global,
+    text: &[u8],
+    count: u32,
+    what: u8,
+    made: u64,
+) -> Result<Option<u64>, AllocError> {
+    let whole = response_to(alloc, text, count, NO_FAULTS, NONE)?;
+    for number in 0..made {
+        let response = failing(alloc, text, count, what, number)?;
+        if !is_of_fault(&response, &whole, what) {
+            return Ok(Some(number));
+        }
+    }
+    let response = failing(alloc, text, count, what, made)?;
+    Ok(if is_whole(&response, &whole) {
+        None
+    } else {
+        Some(made)
+    })
+}
+
+/// Each row: a program, how many numbers are its input, what is called, and how often: the files
+/// (0), the input (1), the first output (2) or the second one (3).
+const CALLS: [(&str, u32, u8, u64); 8] = [
+    (SUMS, 1_000, 0, 3),
+    (SUMS, 1_000, 1, 2),
+    (SUMS, 1_000, 2, 1),
+    (SUMS, 1_000, 3, 0),
+    (LOSES, 3_000, 0, 3),
+    (LOSES, 3_000, 1, 2),
+    (LOSES, 3_000, 2, 3),
+    (LOSES, 3_000, 3, 2),
 ];
 
-/// Each call that is made fails once, and the one after the last makes no difference.
 #[test]
 fn each_call_fails(rt: HostRuntime) -> Result<(), Fail> {
-    let alloc = rt.alloc();
     for row in &CALLS {
-        let (text, count, status, calls) = *row;
-        let whole = response_to(alloc, text, count, NO_FAULTS, NONE)?;
-        assert!(rt; whole.status == status, "{status}");
-        let mut what: u8 = 0;
-        for made in calls {
-            for number in 0..made {
-                let response = failing(alloc, text, count, what, number)?;
-                assert!(rt;
-                    is_of_fault(&response, &whole, what),
-                    "{status} {what} {number}"
-                );
-            }
-            let response = failing(alloc, text, count, what, made)?;
-            assert!(rt; is_whole(&response, &whole), "{status} {what} {made}");
-            what = what.saturating_add(1);
-        }
+        let (text, count, what, made) = *row;
+        let wrong = first_wrong(rt.alloc(), text.as_bytes(), count, what, made)?;
+        assert!(rt; wrong.is_none(), "{what} {made}");
     }
     Ok(())
 }
@@ -143,12 +157,9 @@ fn each_call_fails(rt: HostRuntime) -> Result<(), Fail> {
 #[test]
 fn files_that_are_cut_short(rt: HostRuntime) -> Result<(), Fail> {
     let alloc = rt.alloc();
-    let text = SUMS.trim_end();
+    let text = SUMS.as_bytes();
     for end in 0..text.len() {
-        let Some(front) = text.get(..end) else {
-            continue;
-        };
-        let response = response_to(alloc, front, 3, NO_FAULTS, NONE)?;
+        let response = response_to(alloc, &text[..end], 3, NO_FAULTS, NONE)?;
         assert!(rt; response.status == 2, "{end}");
         assert!(rt; response.out.bytes().is_empty(), "{end}");
     }
