@@ -1,4 +1,4 @@
-//! Runs at the limits of live words and of words of frames, and just past them.
+//! Runs at the limits of live words, of words of frames and of points, and just past them.
 use crate::command::{NO_FAULTS, repeated, run_line};
 use std::alloc::{AllocError, Global};
 use std::test::Fail;
@@ -72,6 +72,31 @@ fn words_of_frames(rt: HostRuntime) -> Result<(), Fail> {
         let text = repeated(alloc, FRAMES, actual, 1, ");\nend Main;\n")?;
         let response = run_line(alloc, "run f.adb", text, None, NO_FAULTS)?;
         assert!(rt; response.is("", err, status), "{actual}");
+    }
+    Ok(())
+}
+
+/// Each row: the words, what is written to the second output, and the status. The program has as
+/// many points as there may be, and each of them is one step.
+const STEPS: [(&str, &str, u8); 2] = [
+    ("run --steps=16384 f.adb", "", 0),
+    ("run --steps=16383 f.adb", "steps spent: 16383\n", 4),
+];
+
+#[test]
+fn steps_of_the_most_points(rt: HostRuntime) -> Result<(), Fail> {
+    let alloc = rt.alloc();
+    for row in &STEPS {
+        let (line, err, status) = *row;
+        let text = repeated(
+            alloc,
+            "procedure Main is begin ",
+            "null; ",
+            16_383,
+            "end Main;",
+        )?;
+        let response = run_line(alloc, line, text, None, NO_FAULTS)?;
+        assert!(rt; response.is("", err, status), "{line}");
     }
     Ok(())
 }
