@@ -18,7 +18,13 @@ from concurrent.futures import ThreadPoolExecutor
 
 RUNS = pathlib.Path(__file__).resolve().parent.parent / "crates" / "spark_examples" / "data" / "runs"
 # Programs that meet a limit of `spark` or of GNAT's stack, or an item that Get reads in another way.
-DIFFERENT = {"frames_within_the_limit", "item_with_a_letter", "too_many_live_words", "too_many_words_of_frames"}
+DIFFERENT = {
+    "frames_within_the_limit",
+    "item_with_a_letter",
+    "no_room_for_the_main_procedure",
+    "too_many_live_words",
+    "too_many_words_of_frames",
+}
 # The statuses of runs that come to an end: normally, by an exception, and normally with lost cells.
 ENDED = {0, 3, 5}
 
