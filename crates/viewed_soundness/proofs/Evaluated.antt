@@ -1,6 +1,6 @@
 -- Expressions that may own, with names through borrowers and observers: names, null, allocators,
 -- aggregates, and scalar ones.
-use Rattle.std.proofs.Common.{◌≡◌, eqb-true, refl, sym, ap, ◌∙◌, subst, inl, inr, ℕ, suc, ◌+◌, ◌<◌, Bool, true, false, not, ◌||◌, ◌==◌, List, [], ◌∷◌, ◌++◌, length, get_or, arith, append-nil, append_assoc, length-append, if◌then◌else◌}
+use Rattle.std.proofs.Common.{◌≡◌, refl, sym, ap, ◌∙◌, subst, inl, inr, ℕ, suc, ◌+◌, ◌<◌, Bool, true, false, not, ◌||◌, List, [], ◌∷◌, ◌++◌, length, get_or, arith, append-nil, append_assoc, length-append, if◌then◌else◌}
 use Rattle.std.proofs.lemmas.List.{length-map}
 use Rattle.spark_base.specs.declared.position.Pos.{Pos}
 use Rattle.std.specs.Prelude.{nat_le}
@@ -14,7 +14,7 @@ use Rattle.type_definitions.specs.declared.table.Shape.TheVariants as shape
 use Rattle.type_definitions.specs.Types.{Table, shape_of, components_of, view_of as view_shape, words, words_of as shape_words, full, is_owning, is_scalar, owns_of, parts}
 use Rattle.typed_tree.specs.Trees.{TypedTree, Number, Literal, Name, Call, EndOfFile, Parens, Unary, Binary, Short, IsNull, Aggregate, Alike, New, NoMore, More}
 use Rattle.typed_tree.specs.Trees as typed
-use Rattle.flow_paths.specs.Objects.{Typing, object_at, is_observer}
+use Rattle.flow_paths.specs.Objects.{object_at, is_observer}
 use Rattle.flow_paths.specs.Names.{has_call, name_of}
 use Rattle.flow_paths.specs.Acts.{used, acts_in}
 use Rattle.machine.specs.Words.{default, fits_type}
@@ -24,28 +24,27 @@ use Rattle.machine.specs.Evaluate.{Here, Now, AsValue, part_type, parts_of, Eval
 use Rattle.machine.specs.Evaluate as run
 use Rattle.machine.specs.Typed.{tree_count, field_count, is_record, is_array}
 use Rattle.machine.specs.States.{Waiting, Leak}
-use Rattle.machine.specs.Owners.{is_in_formal, no_value, waiting_at}
+use Rattle.machine.specs.Owners.{is_in_formal}
 use Rattle.owned_ways.specs.Ways.{Step, OfVariable, OfHand, Loc, OfRoot, OfCell, Inside, Way, Object, Lost, Into, All, Word, Empty, Reaches, IsRooted, Named, Spares, Allows, after, AllowsAll, Owned, IsSame, number_of}
 use Rattle.owned_ways.specs.Ways as ways
 use Rattle.owned_ways.proofs.Assigned.{named_rooted}
 use Rattle.part_offsets.specs.Parts.{type_in, offset_in, has_part, owns_one, is_leaf, IsSettled}
-use Rattle.soundness.specs.Seen.{in_hand, owner_word, content, trunk, steps_in, word_in, seen, home}
+use Rattle.soundness.specs.Seen.{in_hand, owner_word, content, trunk, word_in, seen, home}
 use Rattle.soundness.specs.Changes.{Alike as AlikeTypes}
 use Rattle.soundness.specs.Typed.{Matches, OwnsByShape, Kept, Spot}
 use Rattle.typed_laws.specs.Needed.{Stays, Gives, GivesParts, GivesFirst, IndexLaw}
-use Rattle.soundness.proofs.Joined.{trunk_trunk, not_inside}
 use Rattle.soundness.proofs.Contents.{bool_cases, word_yes, word_no}
-use Rattle.soundness.proofs.Steps.{hand_past, no_leaf, plain_shape, matches_words, room, taken_slots, alike}
+use Rattle.soundness.proofs.Steps.{no_leaf, plain_shape, matches_words, room, taken_slots, alike}
 use Rattle.soundness.proofs.Defaults.{NoCell, none_default, none_repeated, blank_word}
 use Rattle.soundness.proofs.Joining.{joined_sound}
 use Rattle.soundness.proofs.Keeping.{joined, repeated, repeated_long}
 use Rattle.soundness.proofs.Filling.{nth_part, words_to, words_none, words_next, words_whole, part_there, part_is, part_offset}
 use Rattle.soundness.proofs.Fresh.{made_sound}
 use Rattle.soundness.proofs.Walks.{way_along, Walked}
-use Rattle.soundness.proofs.Scalars.{after_append, allows_both, acts, acts_append, read_effect, read_way, number_along, named_along}
+use Rattle.soundness.proofs.Scalars.{after_append, allows_both, acts, acts_append, read_effect, number_along, named_along}
 use Rattle.soundness.proofs.Stays.{Quiet, One}
 use Rattle.soundness.proofs.Fading.{Fades, FadesTo, fades}
-use Rattle.soundness.proofs.Evaluated.{regrouped, ShowSame, changed_hand, blank_hand, Keeps}
+use Rattle.soundness.proofs.Evaluated.{regrouped, changed_hand, blank_hand, Keeps}
 use Rattle.owned_loans.specs.Views.{Views, expand, ExcusedBy, Viewed}
 use Rattle.owned_loans.proofs.Allowed.{read_open, move_open}
 use Rattle.owned_loans.proofs.Moves.{named_way, as_sound, same_viewed}

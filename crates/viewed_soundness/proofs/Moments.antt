@@ -1,6 +1,6 @@
 -- Steps of a memory keep the state sound with views: what names have is taken, values are stored,
 -- and variables are declared and end.
-use Rattle.std.proofs.Common.{◌≡◌, refl, sym, ap, ◌∙◌, subst, ◌⊎◌, inl, inr, ℕ, suc, ◌+◌, ◌<◌, Bool, true, false, not, List, [], ◌∷◌, ◌++◌, take, drop, length, get_or, append-nil, arith, Option, Some, None}
+use Rattle.std.proofs.Common.{◌≡◌, refl, sym, ap, ◌∙◌, subst, inl, inr, ℕ, suc, ◌+◌, ◌<◌, Bool, true, false, not, List, [], ◌∷◌, ◌++◌, take, drop, length, get_or, append-nil, arith}
 use Rattle.spark_base.specs.declared.position.Pos.{Pos}
 use Rattle.place_names.specs.declared.selector.Sel.{Sel}
 use Rattle.place_names.specs.declared.act.Act.TheVariants.{Move, Write, EndScope}
@@ -9,31 +9,29 @@ use Rattle.place_names.specs.declared.fact.Fact.{Fact}
 use Rattle.place_names.specs.Names.{extend}
 use Rattle.place_names.specs.Facts.{effect}
 use Rattle.type_definitions.specs.Types.{words, parts}
-use Rattle.flow_paths.specs.Objects.{Typing, object_at}
+use Rattle.flow_paths.specs.Objects.{Typing}
 use Rattle.machine.specs.Words.{access_offsets}
 use Rattle.machine.specs.Words as machine
-use Rattle.machine.specs.Memory.{Slot, Memory, HeapCell, Place, fresh, cell, no_slot, slots_at, slots_of, words_of, gone_at, stored, moved_out, declared, undeclared, with_new_cell}
+use Rattle.machine.specs.Memory.{Slot, Memory, HeapCell, Place, fresh, cell, no_slot, slots_at, slots_of, words_of, gone_at, stored, moved_out, undeclared, with_new_cell}
 use Rattle.machine.specs.Calls.{checked_at}
 use Rattle.machine.specs.States.{Waiting, Leak}
-use Rattle.machine.specs.Owners.{is_in_formal}
-use Rattle.owned_ways.specs.Ways.{Step, Root, OfVariable, OfHand, Loc, OfRoot, OfCell, Inside, Way, Object, Lost, Into, All, Empty, Gone, Held, View, Reaches, Owned, part, along, Named, Spares, Under, Allows, Sound, sels_of, name_of, sel_of, base_of, number_of}
+use Rattle.owned_ways.specs.Ways.{Step, OfVariable, OfHand, Loc, OfRoot, OfCell, Inside, Way, Object, Lost, Into, All, Gone, View, Reaches, Owned, part, along, Named, Spares, Allows, Sound, sels_of, name_of, sel_of, base_of, number_of}
 use Rattle.owned_ways.proofs.Assigned.{named_rooted}
 use Rattle.owned_ways.proofs.Locations.{under_along, under_itself, named_along, reaches_along}
 use Rattle.part_offsets.specs.Parts.{type_in, offset_in, is_leaf, sels_along, IsSettled}
 use Rattle.part_offsets.proofs.Leaves.{leaf_has}
 use Rattle.soundness.specs.Seen.{Content, content, trunk, steps_in, word_in, owner_at, seen_of, seen}
-use Rattle.soundness.specs.Changes.{Alike, hand, Checks, leaks_at}
+use Rattle.soundness.specs.Changes.{hand, Checks, leaks_at}
 use Rattle.soundness.specs.Typed.{Matches, Kept, Spot}
 use Rattle.soundness.proofs.Contents.{bool_cases, word_yes, word_part, stored_step, stored_whole, taken_step, taken_marks, checks_made}
 use Rattle.soundness.proofs.Steps.{content_slots, put_count, put_freed, alike, stores, takes}
-use Rattle.soundness.proofs.Ends.{declares, drops, new_other}
-use Rattle.soundness.proofs.Joined.{not_inside}
+use Rattle.soundness.proofs.Ends.{drops, new_other}
 use Rattle.soundness.proofs.Moments.{number_part}
-use Rattle.owned_loans.specs.Views.{Views, expand, IsMovedBy, ExcusedBy, HasLoan, Viewed}
+use Rattle.owned_loans.specs.Views.{Views, expand, ExcusedBy, Viewed}
 use Rattle.owned_loans.proofs.Meeting.{IsPlain}
 use Rattle.owned_loans.proofs.Safe.{clean_below}
 use Rattle.owned_loans.proofs.Allowed.{move_unlent, move_unmoved}
-use Rattle.owned_loans.proofs.Moves.{IsPlace, named_way, view_named, view_on, as_sound, all_known, no_hand, hand_off, taken, put, handed}
+use Rattle.owned_loans.proofs.Moves.{IsPlace, named_way, view_named, view_on, all_known, no_hand, taken, put}
 use Rattle.owned_loans.proofs.Ended.{Leaves, ended}
 
 -- ---- ways through words that stay

@@ -8,18 +8,18 @@ use Rattle.type_definitions.specs.Types.{Table, shape_of, components_of, fields,
 use Rattle.flow_paths.specs.Objects.{Typing, object_at, designated, designated_of, is_anonymous, is_borrowing, is_observing, is_observer, is_variable, view_of}
 use Rattle.machine.specs.Words.{component_type, element_type, element_count, count_of}
 use Rattle.machine.specs.Words as machine
-use Rattle.machine.specs.Memory.{Slot, Memory, Place, cell, no_slot, slots_of, variable_slots, words_of as place_words}
+use Rattle.machine.specs.Memory.{Slot, Memory, Place, cell, no_slot, variable_slots, words_of as place_words}
 use Rattle.machine.specs.Evaluate.{Here, Now, Evaluated, Done, Raises, Traps, followed_by, cell_place, designated_place, walked, variable_place, Touched}
 use Rattle.machine.specs.Evaluate as run
 use Rattle.machine.specs.States.{Waiting, Leak}
-use Rattle.owned_ways.specs.Ways.{Component, Element, Root, OfVariable, Loc, OfRoot, OfCell, Inside, Way, Object, Lost, Into, All, View, Held, Reaches, IsRooted, Past, Owned, Named, number_of, name_of}
+use Rattle.owned_ways.specs.Ways.{Component, Element, Root, OfVariable, Loc, OfRoot, OfCell, Way, Object, Lost, Into, All, View, Reaches, IsRooted, Past, Owned, Named, number_of}
 use Rattle.part_offsets.specs.Parts.{IsSettled}
 use Rattle.owned_ways.proofs.Assigned.{named_rooted}
 use Rattle.soundness.specs.Seen.{content, trunk, seen, home}
 use Rattle.soundness.specs.Typed.{Kept, Spot}
 use Rattle.soundness.proofs.Walks.{way_step, way_along, Lead, Walked, walk}
 use Rattle.soundness.proofs.Scalars.{number_along, named_along}
-use Rattle.owned_loans.specs.Views.{Go, Part, Down, go, Views, way_at, expand_root, expand, IsObject, IsMovedBy, ExcusedBy, Viewed}
+use Rattle.owned_loans.specs.Views.{Go, Part, Down, go, Views, way_at, expand_root, expand, IsObject, ExcusedBy, Viewed}
 use Rattle.owned_loans.proofs.Ways.{expand_go, Lifted, further, lifted_root, next_of}
 use Rattle.owned_loans.proofs.Meeting.{IsPlain, next}
 use Rattle.owned_loans.proofs.Safe.{Open, open_way, seen_way}
@@ -329,10 +329,12 @@ module _ (h : Here) (settled : IsSettled h.typing.table) (hands : List Waiting) 
           let own = holds.held x k view e in
           let u : Way = way_along rest (All (variable x)) in
           let l : Lifted v u = lifted_along v rest (All (variable x)) (record { frame = home s h.frame x; object = x; rest = []; way = own.0; is = refl; has = own.1 }) in
-          let on = next (home s h.frame) (is_observer s) v view_here facts viewed.views u l (named_along (home s h.frame) rest (All (variable x)) refl) in
-          (l, subst IsRooted on.same
-          (named_rooted (home s h.frame) (expand v (next_of v u l))
-          (named_way (home s h.frame) (is_observer s) other v view_here facts viewed.views (suc (number_of (next_of v u l))) (next_of v u l) (omega arith) on.plain)))
+          let on = next (home s h.frame) (is_observer s) v view_here facts viewed.views u l (named_along (home s h.frame) rest (All (variable x)) refl) in (
+            l,
+            subst IsRooted on.same
+                (named_rooted (home s h.frame) (expand v (next_of v u l))
+                (named_way (home s h.frame) (is_observer s) other v view_here facts viewed.views (suc (number_of (next_of v u l))) (next_of v u l) (omega arith) on.plain)),
+          )
 
       by_word : (rest : List run.Step) (d : ℕ) → is_anonymous (view_of s x) ≡ true → (z : machine.Word) → (slot_of x).word ≡ z
           → (Lifted v (way_along rest (All (variable x))) × IsRooted (expand v (way_along rest (All (variable x)))))

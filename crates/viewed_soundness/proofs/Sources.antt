@@ -1,17 +1,17 @@
 -- The source of a borrow, of an observation and of a reborrow: a name that is looked at where it
 -- stands, whose word is null or the number of the cell that it designates.
-use Rattle.std.proofs.Common.{◌≡◌, refl, sym, ap, ◌∙◌, subst, ◌⊎◌, inl, inr, ℕ, suc, Bool, true, false, not, ◌&&◌, ◌||◌, List, [], ◌∷◌, map, length, get_or, arith}
+use Rattle.std.proofs.Common.{◌≡◌, refl, sym, ap, ◌∙◌, inl, inr, ℕ, suc, Bool, true, false, not, ◌&&◌, ◌||◌, List, [], ◌∷◌, map, get_or, arith}
 use Rattle.spark_base.specs.declared.position.Pos.{Pos}
 use Rattle.place_names.specs.declared.fact.Fact.{Fact}
 use Rattle.place_names.specs.Names.{Name as PlaceName}
 use Rattle.type_definitions.specs.declared.table.Shape.TheVariants as shape
-use Rattle.type_definitions.specs.Types.{Table, shape_of, full, view_of as view_of_shape}
+use Rattle.type_definitions.specs.Types.{shape_of, view_of as view_of_shape}
 use Rattle.typed_tree.specs.Trees.{TypedTree, Name}
 use Rattle.flow_paths.specs.Objects.{Typing, object_at, is_anonymous, is_observer, view_of}
 use Rattle.flow_paths.specs.Names.{has_call, name_of}
 use Rattle.flow_paths.specs.Acts.{acts_in}
 use Rattle.machine.specs.Words as machine
-use Rattle.machine.specs.Memory.{Slot, Memory, Place, no_slot, slots_at, slots_of, variable_slots, words_of}
+use Rattle.machine.specs.Memory.{Slot, Memory, Place, no_slot, slots_at, variable_slots, words_of}
 use Rattle.machine.specs.Evaluate.{Here, Now, AsView, Evaluated, Done, Raises, Traps, followed_by, evaluate, steps_of, walked, variable_place, held_or_taken}
 use Rattle.machine.specs.Evaluate as run
 use Rattle.machine.specs.States.{Waiting, Leak}
@@ -21,7 +21,7 @@ use Rattle.owned_ways.proofs.Assigned.{named_rooted}
 use Rattle.owned_ways.proofs.Locations.{under_itself}
 use Rattle.part_offsets.specs.Parts.{IsSettled}
 use Rattle.soundness.specs.Seen.{content, trunk, seen, home}
-use Rattle.soundness.specs.Typed.{OwnsByShape, IsCell, Kept, Spot}
+use Rattle.soundness.specs.Typed.{OwnsByShape, IsCell, Kept}
 use Rattle.typed_laws.specs.Needed.{Leads, IndexLaw}
 use Rattle.soundness.proofs.Walks.{way_along, Walked, one_slot, cell_spot}
 use Rattle.soundness.proofs.Scalars.{acts, number_along, named_along}
@@ -34,7 +34,7 @@ use Rattle.owned_loans.proofs.Moves.{named_way}
 use Rattle.viewed_soundness.specs.Holds.{IsNamed, PartsAreNamed, Holds}
 use Rattle.viewed_soundness.proofs.Names.{Starts, starts_named, is_place, IsRaised, name_lifted}
 use Rattle.viewed_soundness.proofs.Names as names
-use Rattle.viewed_soundness.proofs.Stays.{Goes, steps_quiet, name_quiet}
+use Rattle.viewed_soundness.proofs.Stays.{Goes, steps_quiet}
 use Rattle.viewed_soundness.proofs.Viewing.{IsDesignated, owner_designates, view_designates}
 
 -- the type of a view
@@ -100,15 +100,17 @@ module _ (h : Here) (settled : IsSettled h.typing.table) (hands : List Waiting) 
       let access : shape_of s.table k.of ≡ shape.Access d c true = ap (shape_of s.table) of ∙ is in
       let named : IsNamed s.table t = (λ e b q shape_is. named_is d e c b q (sym is ∙ shape_is)) in
       let moved : Way → Type 0 = ExcusedBy (home s h.frame) v other facts in
-      let slots = one_slot s settled hands leaks m waits moved kept viewed.owned viewed.known live k l d c spot access in
-      (same, record {
-        word = (get_or (slots_at s m k.base) k.at no_slot).word;
-        is = ap (λ (z : Now). words_of s z.memory k) same ∙ ap (map (λ (z : Slot). z.word)) slots;
-        designated = owner_designates h settled hands leaks m waits other facts v kept viewed holds live (way_along way (variable y)) k l d c spot rooted reaches
-            (is_place s v (home s h.frame y) y t way starts named holds.only) access clean;
-        typed = λ q e. (let cell = cell_spot s settled hands leaks m waits moved kept viewed.owned viewed.known live k l d c q spot access e in
-            (cell.made.0, cell.made.1, cell.of));
-      })
+      let slots = one_slot s settled hands leaks m waits moved kept viewed.owned viewed.known live k l d c spot access in (
+        same,
+        record {
+          word = (get_or (slots_at s m k.base) k.at no_slot).word;
+          is = ap (λ (z : Now). words_of s z.memory k) same ∙ ap (map (λ (z : Slot). z.word)) slots;
+          designated = owner_designates h settled hands leaks m waits other facts v kept viewed holds live (way_along way (variable y)) k l d c spot rooted reaches
+              (is_place s v (home s h.frame y) y t way starts named holds.only) access clean;
+          typed = λ q e. (let cell = cell_spot s settled hands leaks m waits moved kept viewed.owned viewed.known live k l d c q spot access e in
+              (cell.made.0, cell.made.1, cell.of));
+        },
+      )
     where
       named_is : (d e : ℕ) (c b q : Bool) → shape.Access d c true ≡ shape.Access e b q → q ≡ true
       named_is d e c b q z = cc
@@ -119,13 +121,15 @@ module _ (h : Here) (settled : IsSettled h.typing.table) (hands : List Waiting) 
   view_shows : (y d : ℕ) (c : Bool) → shape_of s.table (object_at s y).of ≡ shape.Access d c false
       → Quiet at (Shows d (variable y)) (followed_by (walked s [] (variable_place h y) at) (held_or_taken h AsView))
   view_shows y d c is =
-      let view : is_anonymous (view_of s y) ≡ true = ap (λ z. is_anonymous (view_of_shape z)) is ∙ anonymous_access c in
-      (refl, record {
-        word = (get_or (variable_slots s (home s h.frame y) y m.variables) 0 no_slot).word;
-        is = names.one_slot h settled hands leaks m waits other facts v kept viewed holds alone live y d c false is;
-        designated = view_designates h settled hands leaks m waits other facts v kept viewed holds live y view;
-        typed = λ k e. kept.points (OfRoot (OfVariable (home s h.frame y) y)) [] d c false k refl is e;
-      })
+      let view : is_anonymous (view_of s y) ≡ true = ap (λ z. is_anonymous (view_of_shape z)) is ∙ anonymous_access c in (
+        refl,
+        record {
+          word = (get_or (variable_slots s (home s h.frame y) y m.variables) 0 no_slot).word;
+          is = names.one_slot h settled hands leaks m waits other facts v kept viewed holds alone live y d c false is;
+          designated = view_designates h settled hands leaks m waits other facts v kept viewed holds live y view;
+          typed = λ k e. kept.points (OfRoot (OfVariable (home s h.frame y) y)) [] d c false k refl is e;
+        },
+      )
 
   -- through an observer without a value nothing is found
   by_way : (y t d : ℕ) (c n : Bool) (way : List run.Step) → Starts s.table (object_at s y).of way t → shape_of s.table t ≡ shape.Access d c n

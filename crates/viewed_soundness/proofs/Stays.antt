@@ -1,6 +1,6 @@
 -- A scalar expression without calls, with names through borrowers and observers, changes nothing
 -- and touches no freed cell.
-use Rattle.std.proofs.Common.{◌≡◌, refl, sym, ap, ◌∙◌, subst, inl, inr, ℕ, ◌<◌, Bool, true, false, not, ◌&&◌, ◌||◌, List, [], ◌∷◌, ◌++◌, length, append_assoc, append-nil, Option, Some, None, ℤ, ◌-ℤ◌, int_le, unsigned_abs, if◌then◌else◌}
+use Rattle.std.proofs.Common.{◌≡◌, refl, sym, ap, ◌∙◌, subst, ℕ, ◌<◌, Bool, true, false, not, ◌&&◌, ◌||◌, List, [], ◌∷◌, ◌++◌, length, append_assoc, append-nil, Option, Some, None, ℤ, ◌-ℤ◌, int_le, unsigned_abs, if◌then◌else◌}
 use Rattle.place_names.specs.declared.selector.Sel.TheVariants as sel
 use Rattle.place_names.specs.declared.act.Act.TheVariants as act
 use Rattle.place_names.specs.declared.fact.Fact.{Fact}
@@ -30,7 +30,7 @@ use Rattle.part_offsets.specs.Parts.{IsSettled}
 use Rattle.soundness.specs.Seen.{content, trunk, seen, home}
 use Rattle.soundness.specs.Typed.{OwnsByShape, Kept, Spot}
 use Rattle.typed_laws.specs.Needed.{Stays, Leads, IndexLaw}
-use Rattle.soundness.proofs.Walks.{way_along, Lead, Walked}
+use Rattle.soundness.proofs.Walks.{way_along, Walked}
 use Rattle.soundness.proofs.Stays.{Quiet, quiet_then, Any, One}
 use Rattle.owned_loans.specs.Views.{Views, expand, Viewed}
 use Rattle.owned_loans.proofs.Safe.{Open}
@@ -271,8 +271,7 @@ module _ (h : Here) (settled : IsSettled h.typing.table) (hands : List Waiting) 
           inner.1,
         )
     steps_quiet t u (Designated rest) (d, c, n, is, lead) none allowed =
-        let inner = steps_quiet d u rest lead none allowed in
-        (
+        let inner = steps_quiet d u rest lead none allowed in (
           quiet_then at (λ way. Goes h.typing.table d u rest way)
               (λ way. Goes h.typing.table t u (Designated rest) way) (steps_of h rest at) (λ way now. Done (run.ToDesignated ∷ way) now) inner.0
               (λ way goes. (

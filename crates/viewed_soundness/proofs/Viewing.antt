@@ -1,26 +1,24 @@
 -- What a name has that is borrowed or observed, and that its value is stored in the variable of a
 -- view.
-use Rattle.std.proofs.Common.{◌≡◌, refl, sym, ap, ◌∙◌, subst, ◌⊎◌, inl, inr, ℕ, suc, ◌+◌, ◌<◌, ◌==◌, eqb-true, eq-eqb, Bool, true, false, not, ◌&&◌, List, [], ◌∷◌, ◌++◌, map, length, get_or, arith, Option, Some, None, if◌then◌else◌}
+use Rattle.std.proofs.Common.{◌≡◌, refl, sym, ap, ◌∙◌, subst, inl, inr, ℕ, ◌<◌, ◌==◌, eqb-true, eq-eqb, Bool, true, false, ◌&&◌, List, [], ◌∷◌, length, get_or, Option, Some, None}
 use Rattle.place_names.specs.declared.act.Act.TheVariants.{Borrow, Observe, Reborrow}
 use Rattle.place_names.specs.declared.fact.Fact.{Fact}
 use Rattle.place_names.specs.Facts.{effect}
 use Rattle.type_definitions.specs.declared.table.Shape.{Shape}
 use Rattle.type_definitions.specs.declared.table.Shape.TheVariants as shape
-use Rattle.type_definitions.specs.Types.{Table, shape_of, words, full, is_scalar, view_of as view_of_shape}
+use Rattle.type_definitions.specs.Types.{Table, shape_of, words, full, view_of as view_of_shape}
 use Rattle.flow_paths.specs.Objects.{Typing, object_at, is_anonymous, is_observer, view_of}
 use Rattle.machine.specs.Words.{component_type, element_type}
 use Rattle.machine.specs.Words as machine
-use Rattle.machine.specs.Memory.{Slot, Memory, Place, fresh, cell, no_slot, slots_at, variable_slots, words_of, declared}
-use Rattle.machine.specs.Evaluate.{Here, Now, Evaluated, Done, Raises, Traps}
-use Rattle.machine.specs.Evaluate as run
+use Rattle.machine.specs.Memory.{Slot, Memory, Place, fresh, no_slot, slots_at, variable_slots, declared}
+use Rattle.machine.specs.Evaluate.{Here}
 use Rattle.machine.specs.States.{Waiting, Leak}
-use Rattle.owned_ways.specs.Ways.{Step, Root, OfVariable, OfHand, Loc, OfRoot, OfCell, Inside, Way, Object, Lost, Into, All, View, Word, Empty, Held, Reaches, IsRooted, Owned, Named, IsSame, Allows, name_of, number_of}
-use Rattle.owned_ways.proofs.Assigned.{named_rooted}
+use Rattle.owned_ways.specs.Ways.{Step, OfVariable, OfHand, Loc, OfRoot, OfCell, Inside, Way, Object, Lost, Into, All, View, Reaches, IsRooted, Named, IsSame, Allows, name_of, number_of}
 use Rattle.part_offsets.specs.Parts.{has_part, is_leaf, owns_one, type_in, offset_in, IsSettled}
-use Rattle.soundness.specs.Seen.{Content, content, word_in, trunk, steps_in, seen, home}
-use Rattle.soundness.specs.Typed.{Matches, IsCell, Points, Kept, Spot}
-use Rattle.soundness.proofs.Walks.{way_along, way_step, Lead, Walked, slot_at, one_slot, held_there}
-use Rattle.soundness.proofs.Contents.{bool_cases, word_no}
+use Rattle.soundness.specs.Seen.{content, word_in, trunk, steps_in, seen, home}
+use Rattle.soundness.specs.Typed.{IsCell, Points, Kept, Spot}
+use Rattle.soundness.proofs.Walks.{held_there}
+use Rattle.soundness.proofs.Contents.{word_no}
 use Rattle.soundness.proofs.Joined.{trunk_trunk, not_inside}
 use Rattle.soundness.proofs.Memories.{put_same, put_other}
 use Rattle.soundness.proofs.Steps.{plain_end}
@@ -28,9 +26,9 @@ use Rattle.owned_loans.specs.Views.{Down, on, Views, expand_root, expand, Excuse
 use Rattle.owned_loans.proofs.Ways.{Lifted}
 use Rattle.owned_loans.proofs.Taken.{borrowed, observed, observed_again, reborrowed}
 use Rattle.owned_ways.proofs.Locations.{same_loc}
-use Rattle.owned_loans.proofs.Moves.{IsPlace, named_way, same_viewed}
-use Rattle.viewed_soundness.specs.Holds.{IsNamed, PartsAreNamed, Holds}
-use Rattle.viewed_soundness.proofs.Names.{Starts, view_access}
+use Rattle.owned_loans.proofs.Moves.{IsPlace, same_viewed}
+use Rattle.viewed_soundness.specs.Holds.{Holds}
+use Rattle.viewed_soundness.proofs.Names.{view_access}
 
 -- ---- the way of what a name designates
 
@@ -79,8 +77,7 @@ module _ (h : Here) (settled : IsSettled h.typing.table) (hands : List Waiting) 
       → (ExcusedBy (home h.typing h.frame) v other facts (expand v u) → ⊥)
       → IsDesignated v view_here u (get_or (slots_at h.typing m k.base) k.at no_slot).word
   owner_designates u k l d c spot rooted reaches place is clean n e =
-      subst (λ z. Reaches view_here z (OfCell n)) (sym (expand_down v u place))
-      (
+      subst (λ z. Reaches view_here z (OfCell n)) (sym (expand_down v u place)) (
         l,
         n,
         reaches,
