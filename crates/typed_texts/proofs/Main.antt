@@ -1,0 +1,89 @@
+-- The law: a text without anonymous access types that has no fault of typing and is meant is typed.
+use Rattle.std.proofs.Common.{◌≡◌, ◌≤◌, refl, sym, subst, inl, ℕ, true, false, None}
+use Rattle.resolved_tree.specs.Trees.{Program}
+use Rattle.type_definitions.specs.declared.table.Shape.{Shape}
+use Rattle.type_definitions.specs.declared.table.Shape.TheVariants as shape
+use Rattle.type_definitions.specs.Types.{Table, shape_of, is_untyped, words}
+use Rattle.type_definitions.specs.Entries.{integer, boolean}
+use Rattle.type_definitions.specs.Whole.{known_of, type_fault}
+use Rattle.type_sizes.proofs.Limits.{within_limits}
+use Rattle.settled_types.proofs.Main.{finite}
+use Rattle.gathered_laws.specs.Made.{IsMade}
+use Rattle.gathered_laws.proofs.Laws.{program_laws}
+use Rattle.gathered_laws.proofs.Main.{are_types, certain}
+use Rattle.typed_tree.specs.Programs.{typed_program}
+use Rattle.flow_paths.specs.Laid.{flow_program}
+use Rattle.machine.specs.Typed.{sorts, sorts_of, is_typed}
+use Rattle.typed_laws.specs.Fine.{Laws, counts, lists}
+use Rattle.typed_laws.proofs.Agreeing.{Owns}
+use Rattle.run_codes.specs.Related.{IsTable}
+use Rattle.table_laws.proofs.Tables.{is_table}
+use Rattle.typed_steps.specs.Steps.{AreTyped, AreCounted}
+use Rattle.typed_runs.specs.Meant.{laid_in, IsMeantText}
+use Rattle.typed_runs.proofs.Words.{SortsLaw}
+use Rattle.typed_runs.proofs.Main.{are_typed}
+use Rattle.typed_runs.proofs.Programs.{FirstNone, is_typed_program}
+use Rattle.typed_texts.specs.Meant.{IsMeant}
+use Rattle.typed_texts.proofs.Bounds.{have_bounds}
+use Rattle.typed_texts.proofs.Counts.{counted}
+
+-- The sorts of a type go by its definition.
+sorts_law : (table : Table) → IsTable table → ((t of : ℕ) → shape_of table t ≡ shape.Same of → ⊥) → SortsLaw table
+sorts_law table laws plain t = by (shape_of table t) refl
+  where
+    by : (z : Shape) → shape_of table t ≡ z → sorts table t ≡ sorts_of (sorts table) z
+    by (shape.Whole low high) is = laws.whole t low high is
+    by (shape.Listed literals low high) is = laws.listed t low high literals is
+    by (shape.Access d constant named) is = laws.access t d constant named is
+    by (shape.Fields components) is = laws.fields t components is
+    by (shape.Elements low high element) is = laws.elements t element low high is
+    by (shape.Same of) is = absurd (plain t of is)
+
+module _ (p : Program) (none : type_fault p ≡ None) (text : IsMeant p) where
+  abbrev table : Table
+  table = (known_of p).table
+
+  laws : Laws (known_of p) (IsMade p.units)
+  laws = program_laws p text.formed text.orderly none text.named text.apart
+
+  each_certain : (t : ℕ) → is_untyped table t ≡ false
+  each_certain t = certain (IsMade p.units) (λ u less. inl less) (known_of p) (are_types p text.orderly) t
+
+  small : (t : ℕ) → words table t ≤ 65536
+  small t = (within_limits p text.formed none t).few_words
+
+  -- The sorts of the program's types go by their definitions.
+  pub types_sorted : SortsLaw table
+  types_sorted = sorts_law table (is_table table (finite p text.formed text.orderly none) small) laws.plain
+
+  is_meant : IsMeantText p (IsMade p.units)
+  is_meant = record {
+    bounds = have_bounds p each_certain;
+    profiled = text.profiled;
+    bodies = text.bodies;
+    objects = text.objects;
+    loops = text.loops;
+  }
+
+  -- Each step has expressions of the types of their places.
+  pub text_typed : AreTyped (laid_in p)
+  text_typed = are_typed p (IsMade p.units) none laws is_meant
+
+  -- Each point has the successors that its instruction leads to.
+  pub text_counted : AreCounted (laid_in p).subs
+  text_counted = counted table (known_of p) p.units text.written
+
+  first_none : FirstNone (laid_in p).subs
+  unfolding flow_program typed_program
+  first_none = refl
+
+  same_table : (laid_in p).table ≡ table
+  unfolding flow_program
+  same_table = refl
+
+  -- The law: the program is typed as the machine says it.
+  pub text_is_typed : is_typed (laid_in p) ≡ true
+  text_is_typed =
+      is_typed_program (laid_in p) (subst SortsLaw (sym same_table) types_sorted) (subst Owns (sym same_table) laws.owns)
+      (subst (λ z. counts (shape_of z integer) ≡ true) (sym same_table) laws.whole) (subst (λ z. lists (shape_of z boolean) ≡ true) (sym same_table) laws.listed)
+      text_typed first_none text_counted

@@ -1,0 +1,2 @@
+-- what is asked of a text
+pub mod Meant
