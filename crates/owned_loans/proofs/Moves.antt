@@ -172,7 +172,7 @@ module _ (home : ℕ → ℕ) (observer : ℕ → Bool) (other : Way → Type 0)
       unnamed home w (hand_under f w inhand (past_under f w past)) (view_named s facts views x w has)
 
   -- what is moved by a fact is no hand
-  no_hand : (s : View) (facts : List Fact) → Viewed home observer other v s facts → (f w : Way) → InHand f → Under f w → IsMovedBy home v facts w → ⊥
+  pub no_hand : (s : View) (facts : List Fact) → Viewed home observer other v s facts → (f w : Way) → InHand f → Under f w → IsMovedBy home v facts w → ⊥
   no_hand s facts viewed f w inhand under (u, moved, same) =
       unnamed home w (hand_under f w inhand under)
       (subst (Named home) same
@@ -196,7 +196,7 @@ module _ (home : ℕ → ℕ) (observer : ℕ → Bool) (other : Way → Type 0)
       (given_apart s t (expand v u) k from to viewed.owned move source target (hand_apart home (expand v u) k whole inhand)) viewed
       (named_rooted home (expand v u) whole)
       (λ w under known. elim known [
-        | inl h ↦ clean_below home observer v s facts viewed.views viewed.clear u w name unlent unmoved under h
+        | inl h ↦ clean_below home observer v s facts viewed.views viewed.clear u w name (λ h n. unlent Borrowed h n) unmoved under h
         | inr o ↦ spares w under o
       ])
       (λ w moved off. (moved.0, (moved.1.0, kept_fact act facts (Moved (name_of moved.0)) moved.1.1 refl), moved.2))

@@ -13,7 +13,7 @@ use Rattle.owned_ways.specs.Ways.{OfVariable, Way, Object, Lost, Into, All, View
 use Rattle.owned_ways.proofs.Locations.{past_under, not_past}
 use Rattle.owned_ways.proofs.Named.{longer, under_leads}
 use Rattle.owned_loans.specs.Views.{Views, expand, expand_root, IsMovedBy, AreClear, HasLoan, AreViews}
-use Rattle.owned_loans.proofs.Ways.{Meet, beginnings, under_on, meet_overlaps, Lifted, next_of}
+use Rattle.owned_loans.proofs.Ways.{Meet, meets_on, beginnings, under_on, meet_overlaps, Lifted, next_of}
 use Rattle.owned_loans.proofs.Meeting.{IsPlain, next, low, Lends, Beside, Both, meeting}
 
 -- what begins a way and isn't the way has a shorter name
@@ -48,6 +48,11 @@ pub record Open (facts : List Fact) (u : Way) : Type 0 where
 abbrev pub Unlent : List Fact → Way → Type 0
 Unlent facts u = (l : Loan) (h : ℕ) (n : Name) → Has facts (Lent l h n) → overlaps n (name_of u) ≡ true → ⊥
 
+-- No place that is lent to a borrower does.
+abbrev pub Unborrowed : List Fact → Way → Type 0
+Unborrowed facts u = (h : ℕ) (n : Name) → Has facts (Lent Borrowed h n) → overlaps n (name_of u) ≡ true → ⊥
+
+-- No name that was moved does.
 abbrev pub Unmoved : List Fact → Way → Type 0
 Unmoved facts u = (n : Name) → Has facts (Moved n) → overlaps n (name_of u) ≡ true → ⊥
 
@@ -119,16 +124,16 @@ module _ (home : ℕ → ℕ) (observer : ℕ → Bool) (v : Views) (s : View) (
         ]
       ]
 
-  -- nothing that was moved is, or lies in, a name that overlaps nothing moved or lent
-  pub clean_below : (u w : Way) → IsName u → Unlent facts u → Unmoved facts u → Under (expand v u) w → IsMovedBy home v facts w → ⊥
-  clean_below u w plain unlent unmoved under (m, moved, same) =
+  -- nothing that was moved is, or lies in, a name that overlaps nothing moved or borrowed
+  pub clean_below : (u w : Way) → IsName u → Unborrowed facts u → Unmoved facts u → Under (expand v u) w → IsMovedBy home v facts w → ⊥
+  clean_below u w plain unborrowed unmoved under (m, moved, same) =
       elim (meeting home observer v s facts views u m plain (moved_plain m moved) (subst (Under (expand v u)) (sym same) under)) [
         | inl below ↦ unmoved (name_of m) moved.1 (meet_overlaps m u (inr below))
         | inr more ↦ elim more [
           | inl a ↦ unmoved_loan m Borrowed a.object (v.loan a.object) moved (loan_of a.object a.lends)
               (inr (under_on (v.loan a.object) a.name m a.loan a.begins))
           | inr more ↦ elim more [
-            | inl b ↦ unlent Borrowed b.object (name_of (v.loan b.object)) (loan_of b.object b.lends) (meet_overlaps (v.loan b.object) u (flipped u (v.loan b.object) b.meets))
+            | inl b ↦ unborrowed b.object (name_of (v.loan b.object)) (loan_of b.object b.lends) (meet_overlaps (v.loan b.object) u (flipped u (v.loan b.object) b.meets))
             | inr c ↦ no_both c
           ]
         ]
@@ -136,6 +141,30 @@ module _ (home : ℕ → ℕ) (observer : ℕ → Bool) (v : Views) (s : View) (
     where
       flipped : (a b : Way) → Meet a b → Meet b a
       flipped a b m = elim m [ inl u ↦ inr u | inr u ↦ inl u ]
+
+  -- nothing that was moved is, or lies in, what a name through an observer stands for
+  pub seen_below : (u w : Way) (l : Lifted v u) → Named home u → observer l.object ≡ true → Under (expand v u) w → IsMovedBy home v facts w → ⊥
+  seen_below u w l named is under (m, moved, same) =
+      let on = next home observer v s facts views u l named in
+      let y : Way = next_of v u l in
+      let loan = subst (λ z. HasLoan z l.object facts (name_of (v.loan l.object))) is (views l.object l.way l.has).lent in
+      let lower : Under (expand v y) (expand v m) = subst (λ z. Under z (expand v m)) (sym on.same) (subst (Under (expand v u)) (sym same) under) in
+      elim (meeting home observer v s facts views y m on.plain (moved_plain m moved) lower) [
+        | inl below ↦ unmoved_loan m Observed loan.0 (v.loan l.object) moved loan.1 (inr (under_on (v.loan l.object) y m on.loan below))
+        | inr more ↦ elim more [
+          | inl a ↦ unmoved_loan m Borrowed a.object (v.loan a.object) moved (loan_of a.object a.lends)
+              (inr (under_on (v.loan a.object) a.name m a.loan a.begins))
+          | inr more ↦ elim more [
+            | inl b ↦ clear.seen b.object loan.0 (name_of (v.loan b.object)) (name_of (v.loan l.object)) (loan_of b.object b.lends) loan.1
+                (meet_overlaps (v.loan b.object) (v.loan l.object)
+                (turned (v.loan l.object) (v.loan b.object) (meets_on (v.loan l.object) y (v.loan b.object) on.loan b.meets)))
+            | inr c ↦ no_both c
+          ]
+        ]
+      ]
+    where
+      turned : (a b : Way) → Meet a b → Meet b a
+      turned a b m = elim m [ inl u ↦ inr u | inr u ↦ inl u ]
 
   abbrev own_name : ℕ → Way
   own_name x = All (Object (OfVariable (home x) x))
