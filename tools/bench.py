@@ -9,7 +9,6 @@ facts are asked about. Valgrind counts these in a second run, which takes some f
 With --runs it times `spark run` in place of that, and beside it the same work in Lua (lua5.4) and, as GNAT builds it
 (gnatmake), in Ada, where these are there.
 """
-import os
 import pathlib
 import re
 import shutil
@@ -523,14 +522,14 @@ def runs():
 
 def processor_seconds(command, folder, status, written):
     """Processor seconds and MiB of one run of a command that reads the file `input`, which has to end as it should."""
+    timed = ["/usr/bin/time", "-q", "-o", "times", "-f", "%U %S %M"] + command
     with open(folder / "input", "rb") as reads, open(folder / "output", "wb") as writes:
-        child = subprocess.Popen(command, cwd=folder, stdin=reads, stdout=writes)
-        _, ended, usage = os.wait4(child.pid, 0)
-        child.returncode = os.waitstatus_to_exitcode(ended)
+        run = subprocess.run(timed, cwd=folder, stdin=reads, stdout=writes, check=False)
     size = (folder / "output").stat().st_size
-    if child.returncode != status or written not in (size, None):
-        sys.exit("%s: status %d and %d bytes in place of %d and %d" % (command, child.returncode, size, status, written))
-    return usage.ru_utime + usage.ru_stime, usage.ru_maxrss / 1024
+    if run.returncode != status or written not in (size, None):
+        sys.exit("%s: status %d and %d bytes in place of %d and %d" % (command, run.returncode, size, status, written or size))
+    user, system, most = (folder / "times").read_text().split()
+    return float(user) + float(system), int(most) / 1024
 
 
 def beside(folder, lua):

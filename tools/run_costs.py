@@ -5,10 +5,9 @@
 
 Without --program it runs the executable of the script `spark`, which has to be built. Each way runs five times in turn,
 and a row of docs/COSTS.md has the least processor seconds, user and system together, and the most MiB. Every run has to
-print the same. gnatmake, gnatchop and valgrind are needed, and some minutes.
+print the same. gnatmake, gnatchop, valgrind and /usr/bin/time of GNU are needed, and some minutes.
 """
 import argparse
-import os
 import pathlib
 import subprocess
 import sys
@@ -117,22 +116,21 @@ def ways(program, folder, name, source):
     }
 
 
-def timed(words):
+def timed(words, folder):
     """The processor seconds and MiB of a run, and what it prints."""
-    with tempfile.TemporaryFile() as output:
-        running = subprocess.Popen(words, stdin=subprocess.DEVNULL, stdout=output, stderr=subprocess.DEVNULL)
-        _, status, usage = os.wait4(running.pid, 0)
-        running.returncode = os.waitstatus_to_exitcode(status)
-        output.seek(0)
-        return usage.ru_utime + usage.ru_stime, usage.ru_maxrss / 1024, (running.returncode, output.read())
+    found = folder / "time"
+    command = ["/usr/bin/time", "-q", "-o", str(found), "-f", "%U %S %M", *words]
+    made = subprocess.run(command, stdin=subprocess.DEVNULL, stdout=subprocess.PIPE, stderr=subprocess.DEVNULL)
+    user, system, kib = found.read_text().split()
+    return float(user) + float(system), int(kib) / 1024, (made.returncode, made.stdout)
 
 
-def row(name, kinds):
+def row(name, kinds, folder):
     """A row of the table: the least seconds of each way, and the most MiB."""
     found = {kind: [] for kind in kinds}
     for _ in range(RUNS):
         for kind, words in kinds.items():
-            found[kind].append(timed(words))
+            found[kind].append(timed(words, folder))
     printed = {answer for runs in found.values() for _, _, answer in runs}
     if len(printed) != 1:
         sys.exit("%s: the runs differ: %s" % (name, printed))
@@ -152,7 +150,7 @@ def main():
             kinds = ways(program, folder, name, source)
             if at == 0:
                 print("| program | %s |\n|---|%s" % (" | ".join(kinds), "---|" * len(kinds)))
-            print(row(name, kinds), flush=True)
+            print(row(name, kinds, folder), flush=True)
     return 0
 
 
