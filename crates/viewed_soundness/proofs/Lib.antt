@@ -5,3 +5,4 @@ pub mod Evaluated
 pub mod Stored
 pub mod Viewing
 pub mod Sources
+pub mod Outcomes
