@@ -18,7 +18,6 @@ LINES = TOP / "crates.txt"
 # Libraries that a crate needs and no text of it names: (crate, library) with the reason.
 UNNAMED = {
     ("run_ready", "run_codes"): "only clauses in its code name it",
-    ("run_command", "laid_program"): "only clauses in its code name it",
 }
 
 

@@ -1,6 +1,6 @@
 -- Runs of programs in rows.
-use Rattle.std.proofs.Common.{◌≡◌, ℕ, Bool, true, false, List, [], length, refl, sym, ap, subst, ◌∙◌, Option, Some, None, append-nil, Result, Ok, Err}
-use Rattle.std.specs.Prelude.{IfOk}
+use Rattle.std.proofs.Common.{◌≡◌, ℕ, Bool, true, false, List, [], ◌++◌, length, refl, sym, ap, subst, ◌∙◌, Option, Some, None, append-nil, Result, Ok, Err}
+use Rattle.std.specs.Prelude.{IfOk, OnErr}
 use Rattle.std.specs.Io.KnownBytes.{Appends}
 use Rattle.flow_paths.specs.Laid.{FlowProgram, flow_typing}
 use Rattle.machine.specs.Evaluate.{StorageError}
@@ -17,10 +17,12 @@ use Rattle.run_results.specs.declared.ran.Ran.{Ran as RanRow}
 use Rattle.run_results.specs.Results.{ending_of, IsRun}
 use Rattle.run_results.specs.Lines.{leak_lines}
 use Rattle.whole_runs.specs.Turns.{Setting, IsRunning, some_steps, is_failing}
-use Rattle.whole_runs.specs.Tellings.{Sinks}
-use Rattle.whole_runs.specs.Answers.{IsWritten}
+use Rattle.whole_runs.specs.Tellings.{Sinks, HaveFronts}
+use Rattle.whole_runs.specs.Answers.{IsWritten, IsCut}
+use Rattle.whole_runs.proofs.Owed.{had_more}
 use Rattle.run_laws.specs.Settings.{setting_of, start_of, fits}
 use Rattle.run_laws.proofs.Whole.{whole_there, whole_is, unfit_is}
+use Rattle.longer_runs.proofs.Runs.{run_begins}
 use Rattle.executor.specs.Executes.{IsExecuted, IsReady}
 
 -- ---- the state at the start
@@ -95,6 +97,20 @@ module _ (laid : Laid) (codes : Codes) (ready : IsReady laid codes) (input : Lis
           lines = subst (λ (r : Ran). Appends old.lines new.lines (leak_lines files r.leaks)) same is.lines;
         }
 
+    -- A run that is cut off has fronts of what the machine's has.
+    pub run_cut : (files : List (List ℕ)) (old new : Sinks) → IsCut files (λ k. some_steps k (setting_of program (program_of codes) input) begun) n old new
+        → HaveFronts files old new (run program input n).output (run program input n).leaks
+    run_cut files old new is =
+        let same : is.run ≡ ran_of (run program input is.steps) =
+        whole_is program (program_of codes) input ready.types ready.frames ready.lowered ready.main is.steps ready.has fit is.run is.given in
+        let begins = run_begins program input is.steps n is.few in
+        let shorter : Run = run program input is.steps in
+        let longer : Run = run program input n in
+        subst (λ bytes. HaveFronts files old new bytes longer.leaks) (sym begins.0.1)
+        (subst (λ leaks. HaveFronts files old new (shorter.output ++ begins.0.0) leaks) (sym begins.1.1)
+        (had_more files old new shorter.output begins.0.0 shorter.leaks begins.1.0
+        (subst (λ (r : Ran). HaveFronts files old new r.output r.leaks) same is.fronts)))
+
     -- So it is where the setting and the state are these.
     pub steps_from : (c : Setting) (s : State) → c ≡ setting_of program (program_of codes) input → s ≡ begun → is_failing (some_steps n c s) ≡ false
     steps_from c s setting state =
@@ -108,6 +124,14 @@ module _ (laid : Laid) (codes : Codes) (ready : IsReady laid codes) (input : Lis
         (subst (λ x. IsWritten files (some_steps n (setting_of program (program_of codes) input) x) ran old new) state
         (subst (λ x. IsWritten files (some_steps n x s) ran old new) setting is))
     all_executed files c s (Err e) old new setting state is = is
+
+    pub all_cut : {E : Type 0} (files : List (List ℕ)) (c : Setting) (s : State) (r : Result RanRow E) (old new : Sinks) → c ≡ setting_of program (program_of codes) input → s ≡ begun
+        → OnErr r (IsCut files (λ k. some_steps k c s) n old new) → OnErr r (HaveFronts files old new (run program input n).output (run program input n).leaks)
+    all_cut files c s (Ok ran) old new setting state is = is
+    all_cut files c s (Err e) old new setting state is =
+        run_cut files old new
+        (subst (λ x. IsCut files (λ k. some_steps k (setting_of program (program_of codes) input) x) n old new) state
+        (subst (λ x. IsCut files (λ k. some_steps k x s) n old new) setting is))
 
   -- The state at the start has a frame that runs.
   pub runs_from : (s : State) → s ≡ begun → IsRunning s

@@ -1,5 +1,5 @@
 //! Whole runs of programs.
-ghost use Rattle.std.specs.Prelude.{◌≡◌, ◌≤◌, ◌⊎◌, [], true, false, length, map, string_bytes, IsSome, Some, Err, IfOk, OnOk, ◌≢◌};
+ghost use Rattle.std.specs.Prelude.{◌≡◌, ◌≤◌, ◌⊎◌, [], true, false, length, map, string_bytes, IsSome, Some, Err, IfOk, OnErr, ◌≢◌};
 ghost use Rattle.spark_base.specs.Outside.{Rose};
 ghost use Rattle.machine.specs.Run.{run, main_of};
 ghost use Rattle.laid_program.specs.Programs.{program_of};
@@ -7,6 +7,7 @@ ghost use Rattle.code_rows.specs.Points.{program_of as rows_program};
 ghost use Rattle.run_codes.specs.Points.{ran_of};
 ghost use Rattle.run_results.specs.Results.{IsRun};
 ghost use Rattle.run_laws.specs.Settings as settings;
+ghost use Rattle.whole_runs.specs.Tellings.{HaveFronts};
 ghost use Rattle.executor.specs.Executes.{IsExecuted, IsReady};
 
 use crate::starts::{fits, is_declaring, position};
@@ -62,11 +63,15 @@ fn run_fitting<K: Sink>(
     requires store { store.old ≡ [] }
     ensures executed { IfOk result (λ ran. IsExecuted (map string_bytes laid.now.names.items) (run (program_of laid.now) input.now steps) ran
         (record { output = K.written out.old; lines = K.written err.old }) (record { output = K.written out.new; lines = K.written err.new })) }
+    ensures fronts { OnErr result (HaveFronts (map string_bytes laid.now.names.items)
+        (record { output = K.written out.old; lines = K.written err.old }) (record { output = K.written out.new; lines = K.written err.new })
+        (run (program_of laid.now) input.now steps).output (run (program_of laid.now) input.now steps).leaks) }
     ensures later_out { K.faults out.old ≤ K.faults out.new }
     ensures later_err { K.faults err.old ≤ K.faults err.new }
     ensures cause { result ≡ Err ExecFault.WriteFault → Rose (K.faults out.old) (K.faults out.new) ⊎ Rose (K.faults err.old) (K.faults err.new) }
-    ensures no_fault_out { OnOk result (K.faults out.new ≡ K.faults out.old) }
-    ensures no_fault_err { OnOk result (K.faults err.new ≡ K.faults err.old) }
+    ensures one_fault { result ≡ Err ExecFault.WriteFault → (K.faults out.new ≡ K.faults out.old) ⊎ (K.faults err.new ≡ K.faults err.old) }
+    ensures no_fault_out { result ≢ Err ExecFault.WriteFault → K.faults out.new ≡ K.faults out.old }
+    ensures no_fault_err { result ≢ Err ExecFault.WriteFault → K.faults err.new ≡ K.faults err.old }
 {
     let declares = is_declaring(laid);
     let Ok(mut run) = Run::new(alloc, codes, &laid.table, store, input, declares) else {
@@ -92,11 +97,15 @@ fn run_codes<K: Sink>(
     requires store { store.old ≡ [] }
     ensures executed { IfOk result (λ ran. IsExecuted (map string_bytes laid.now.names.items) (run (program_of laid.now) input.now steps) ran
         (record { output = K.written out.old; lines = K.written err.old }) (record { output = K.written out.new; lines = K.written err.new })) }
+    ensures fronts { OnErr result (HaveFronts (map string_bytes laid.now.names.items)
+        (record { output = K.written out.old; lines = K.written err.old }) (record { output = K.written out.new; lines = K.written err.new })
+        (run (program_of laid.now) input.now steps).output (run (program_of laid.now) input.now steps).leaks) }
     ensures later_out { K.faults out.old ≤ K.faults out.new }
     ensures later_err { K.faults err.old ≤ K.faults err.new }
     ensures cause { result ≡ Err ExecFault.WriteFault → Rose (K.faults out.old) (K.faults out.new) ⊎ Rose (K.faults err.old) (K.faults err.new) }
-    ensures no_fault_out { OnOk result (K.faults out.new ≡ K.faults out.old) }
-    ensures no_fault_err { OnOk result (K.faults err.new ≡ K.faults err.old) }
+    ensures one_fault { result ≡ Err ExecFault.WriteFault → (K.faults out.new ≡ K.faults out.old) ⊎ (K.faults err.new ≡ K.faults err.old) }
+    ensures no_fault_out { result ≢ Err ExecFault.WriteFault → K.faults out.new ≡ K.faults out.old }
+    ensures no_fault_err { result ≢ Err ExecFault.WriteFault → K.faults err.new ≡ K.faults err.old }
 {
     if !fits(&codes, main) {
         return unfit(laid, &codes, input, steps, main);
@@ -105,7 +114,8 @@ fn run_codes<K: Sink>(
 }
 
 /// Runs an accepted program with a main procedure on an input, in so many steps at most. Its output
-/// goes to `out`, and its leak lines go to `err`. The store has handed out no handle.
+/// goes to `out`, and its leak lines go to `err`. Where a write fails, nothing more is written; then,
+/// and out of memory, each sink has a front of its bytes. The store has handed out no handle.
 pub fn execute<K: Sink>(
     alloc: Global,
     program: &AcceptedProgram,
@@ -121,11 +131,15 @@ pub fn execute<K: Sink>(
     requires input { length input.now ≤ 16777216 }
     ensures executed { IfOk result (λ ran. IsExecuted (map string_bytes program.now.laid.names.items) (run (program_of program.now.laid) input.now steps) ran
         (record { output = K.written out.old; lines = K.written err.old }) (record { output = K.written out.new; lines = K.written err.new })) }
+    ensures fronts { OnErr result (HaveFronts (map string_bytes program.now.laid.names.items)
+        (record { output = K.written out.old; lines = K.written err.old }) (record { output = K.written out.new; lines = K.written err.new })
+        (run (program_of program.now.laid) input.now steps).output (run (program_of program.now.laid) input.now steps).leaks) }
     ensures later_out { K.faults out.old ≤ K.faults out.new }
     ensures later_err { K.faults err.old ≤ K.faults err.new }
     ensures cause { result ≡ Err ExecFault.WriteFault → Rose (K.faults out.old) (K.faults out.new) ⊎ Rose (K.faults err.old) (K.faults err.new) }
-    ensures no_fault_out { OnOk result (K.faults out.new ≡ K.faults out.old) }
-    ensures no_fault_err { OnOk result (K.faults err.new ≡ K.faults err.old) }
+    ensures one_fault { result ≡ Err ExecFault.WriteFault → (K.faults out.new ≡ K.faults out.old) ⊎ (K.faults err.new ≡ K.faults err.old) }
+    ensures no_fault_out { result ≢ Err ExecFault.WriteFault → K.faults out.new ≡ K.faults out.old }
+    ensures no_fault_err { result ≢ Err ExecFault.WriteFault → K.faults err.new ≡ K.faults err.old }
 {
     let laid = program.laid();
     let Some(main) = laid.main else {

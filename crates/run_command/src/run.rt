@@ -1,10 +1,10 @@
 //! Runs a program.
-ghost use Rattle.std.specs.Prelude.{◌≡◌, ◌≢◌, ◌≤◌, ◌⊎◌, ℕ, List, Some, Err, IfOk, IfSome, OnOk, IsSome, length, map, string_bytes};
+ghost use Rattle.std.specs.Prelude.{◌≡◌, ◌≢◌, ◌≤◌, ◌⊎◌, ℕ, List, Some, Err, IfOk, IfSome, OnErr, IsSome, length, map, string_bytes};
 ghost use Rattle.std.specs.Io.KnownBytes.{Appends, IsAtEnd, Keeps};
-ghost use Rattle.spark_base.specs.Outside.{Rose};
+ghost use Rattle.spark_base.specs.Outside.{Rose, AppendsPrefix};
 ghost use Rattle.laid_program.specs.Programs.{program_of};
 ghost use Rattle.machine.specs.Run.{run};
-ghost use Rattle.run_command.specs.Answers.{Grows, Tells};
+ghost use Rattle.run_command.specs.Answers.{Grows, Tells, TellsFront};
 ghost use Rattle.run_command.specs.Runs.{IsEnded, run_answer, told, too_large_line};
 
 use crate::ending::{ending_line, ending_status};
@@ -32,10 +32,13 @@ fn run_on<K: Sink>(
     ensures told { IfOk result (λ status.
         Tells (told (map string_bytes program.now.laid.names.items) steps (run (program_of program.now.laid) input.now steps))
         (K.written out.old) (K.written out.new) (K.written err.old) (K.written err.new) status) }
+    ensures front { OnErr result
+        (TellsFront (told (map string_bytes program.now.laid.names.items) steps (run (program_of program.now.laid) input.now steps))
+        (K.written out.old) (K.written out.new) (K.written err.old) (K.written err.new)) }
     ensures ended { IfOk result IsEnded }
     ensures write { result ≡ Err RunFault.Write → Rose (K.faults out.old) (K.faults out.new) ⊎ Rose (K.faults err.old) (K.faults err.new) }
     ensures no_read { result ≢ Err RunFault.Read }
-    ensures no_fault { OnOk result ((K.faults out.new ≡ K.faults out.old) × (K.faults err.new ≡ K.faults err.old)) }
+    ensures no_fault { result ≢ Err RunFault.Write → (K.faults out.new ≡ K.faults out.old) × (K.faults err.new ≡ K.faults err.old) }
 {
     let mut store = TrapStore::new(alloc);
     let ran = execute(alloc, program, &mut store, input, steps, out, err)?;
@@ -47,9 +50,10 @@ fn run_on<K: Sink>(
 /// Writes that the input is too large.
 fn refuse_input<K: Sink>(err: &mut K) -> Result<u8, RunFault>
     ensures told { IfOk result (λ status. (status ≡ 10) × Appends (K.written err.old) (K.written err.new) too_large_line) }
+    ensures front { OnErr result (AppendsPrefix (K.written err.old) (K.written err.new) too_large_line) }
     ensures write { result ≡ Err RunFault.Write → Rose (K.faults err.old) (K.faults err.new) }
     ensures no_read { result ≢ Err RunFault.Read }
-    ensures no_fault { OnOk result (K.faults err.new ≡ K.faults err.old) }
+    ensures no_fault { result ≢ Err RunFault.Write → K.faults err.new ≡ K.faults err.old }
 {
     write_all("input too large\n".as_bytes(), err)?;
     Ok(10)
@@ -74,7 +78,12 @@ pub fn run_program<S: Source, K: Sink>(
     ensures answer { IfOk result (λ status. (bytes : List ℕ) → S.left input.old ≡ Some bytes
         → Tells (run_answer (map string_bytes program.now.laid.names.items) (program_of program.now.laid) bytes steps)
         (K.written out.old) (K.written out.new) (K.written err.old) (K.written err.new) status) }
-    ensures grows { IfOk result (λ _. Grows (K.written out.old) (K.written out.new) × Grows (K.written err.old) (K.written err.new)) }
+
+    // Where none is given, each output has a front of its bytes.
+    ensures front { OnErr result ((bytes : List ℕ) → S.left input.old ≡ Some bytes
+        → TellsFront (run_answer (map string_bytes program.now.laid.names.items) (program_of program.now.laid) bytes steps)
+        (K.written out.old) (K.written out.new) (K.written err.old) (K.written err.new)) }
+    ensures grows { Grows (K.written out.old) (K.written out.new) × Grows (K.written err.old) (K.written err.new) }
 
     // What ran has read the input to its end; and what is refused has written nothing to `out`.
     ensures ended { IfOk result (λ status. (status ≡ 10) ⊎ (IsEnded status × IfSome (S.left input.old) (λ bytes. IsAtEnd (S.left input.new)))) }
@@ -88,7 +97,7 @@ pub fn run_program<S: Source, K: Sink>(
 
     // A count that isn't the cause stays.
     ensures no_read_fault { result ≢ Err RunFault.Read → S.faults input.new ≡ S.faults input.old }
-    ensures no_write_fault { OnOk result ((K.faults out.new ≡ K.faults out.old) × (K.faults err.new ≡ K.faults err.old)) }
+    ensures no_write_fault { result ≢ Err RunFault.Write → (K.faults out.new ≡ K.faults out.old) × (K.faults err.new ≡ K.faults err.old) }
 {
     match read_input(alloc, input)? {
         Some(text) => Ok(run_on(alloc, program, &text, steps, out, err)?),

@@ -4,9 +4,9 @@ use Rattle.std.proofs.Common.{◌≡◌, ◌≢◌, ◌⊎◌, inl, inr, ℕ, Bo
 use Rattle.std.specs.Io.KnownBytes.{Appends, Keeps}
 use Rattle.std.proofs.KnownBytes.{Appends-nil, Appends-kept}
 use Rattle.spark_base.specs.Outside.{AppendsPrefix}
-use Rattle.run_command.specs.Answers.{Answer, Tells}
+use Rattle.run_command.specs.Answers.{Answer, Tells, TellsFront}
 use Rattle.spark_tool.specs.Product.{Product, unread}
-use Rattle.spark_tool.specs.Promises.{Delivers, DeliversFront, HasInput, TellsFront}
+use Rattle.spark_tool.specs.Promises.{Delivers, DeliversFront, DeliversNoMore, HasInput}
 use Rattle.spark_tool.specs.Stops.{stop_status}
 use Rattle.spark_tool.specs.declared.stop.Stop.{Stop}
 use Rattle.spark_tool.specs.declared.stop.Stop.TheVariants.{Read, Write, Memory}
@@ -40,20 +40,55 @@ run_delivers (Some files) true left words answer out new_out err new_err status 
     λ input has. delivers files input words (answer input) out new_out err new_err status (is input) (told input has)
 run_delivers (Some files) false left words answer out new_out err new_err status runs_is is told = absurd (cc)
 
--- a front of it was written
-pub answer_delivers_front : (stored : Option (List (List ℕ × List ℕ))) (words : List (List ℕ)) (answer : Answer) (out new_out err new_err : Option (List ℕ))
-    → IfSome stored (λ files. (input : List ℕ) → Product files input words answer) → TellsFront answer out new_out err new_err
-    → IfSome stored (λ files. (input : List ℕ) → DeliversFront files input words out new_out err new_err)
-answer_delivers_front None words answer out new_out err new_err is told = tt
-answer_delivers_front (Some files) words answer out new_out err new_err is told = λ input. record {
+delivers_front : (files : List (List ℕ × List ℕ)) (input : List ℕ) (words : List (List ℕ)) (answer : Answer) (out new_out err new_err : Option (List ℕ))
+    → Product files input words answer → TellsFront answer out new_out err new_err → DeliversFront files input words out new_out err new_err
+delivers_front files input words answer out new_out err new_err is told = record {
   answer = answer;
-  defined = is input;
-  only = λ other other_is. one_answer files input words other answer other_is (is input);
+  defined = is;
+  only = λ other other_is. one_answer files input words other answer other_is is;
   told = told;
 }
 
+-- a front of it was written
+pub answer_delivers_front : (stored : Option (List (List ℕ × List ℕ))) (runs : Bool) (left : Option (List ℕ)) (words : List (List ℕ)) (answer : Answer)
+    (out new_out err new_err : Option (List ℕ)) → IfSome stored (λ files. (input : List ℕ) → Product files input words answer) → TellsFront answer out new_out err new_err
+    → IfSome stored (λ files. (input : List ℕ) → HasInput runs left input → DeliversFront files input words out new_out err new_err)
+answer_delivers_front None runs left words answer out new_out err new_err is told = tt
+answer_delivers_front (Some files) runs left words answer out new_out err new_err is told =
+    λ input has. delivers_front files input words answer out new_out err new_err (is input) told
+
+-- of a run
+pub run_delivers_front : (stored : Option (List (List ℕ × List ℕ))) (runs : Bool) (left : Option (List ℕ)) (words : List (List ℕ)) (answer : List ℕ → Answer)
+    (out new_out err new_err : Option (List ℕ)) → runs ≡ true → IfSome stored (λ files. (input : List ℕ) → Product files input words (answer input))
+    → ((input : List ℕ) → left ≡ Some input → TellsFront (answer input) out new_out err new_err)
+    → IfSome stored (λ files. (input : List ℕ) → HasInput runs left input → DeliversFront files input words out new_out err new_err)
+run_delivers_front None runs left words answer out new_out err new_err runs_is is told = tt
+run_delivers_front (Some files) true left words answer out new_out err new_err runs_is is told =
+    λ input has. delivers_front files input words (answer input) out new_out err new_err (is input) (told input has)
+run_delivers_front (Some files) false left words answer out new_out err new_err runs_is is told = absurd (cc)
+
+-- that is a front of each answer that is defined
+pub no_more : (stored : Option (List (List ℕ × List ℕ))) (runs : Bool) (left : Option (List ℕ)) (words : List (List ℕ)) (out new_out err new_err : Option (List ℕ))
+    → IfSome stored (λ files. (input : List ℕ) → HasInput runs left input → DeliversFront files input words out new_out err new_err)
+    → IfSome stored (λ files. (input : List ℕ) → HasInput runs left input → DeliversNoMore files input words out new_out err new_err)
+no_more None runs left words out new_out err new_err delivers = tt
+no_more (Some files) runs left words out new_out err new_err delivers = λ input has answer is.
+    let one = delivers input has in
+    subst (λ (a : Answer). TellsFront a out new_out err new_err) (sym (one.only answer is)) one.told
+
 kept : (old new : Option (List ℕ)) → Keeps old new → Appends old new []
 kept old new same = Appends-kept old old new [] (Appends-nil old) same
+
+front_kept : (old new : Option (List ℕ)) (piece : List ℕ) → Keeps old new → AppendsPrefix old new piece
+front_kept old new piece same = ([], piece, refl, kept old new same)
+
+-- nothing was written
+pub nothing_more : (stored : Option (List (List ℕ × List ℕ))) (runs : Bool) (left : Option (List ℕ)) (words : List (List ℕ)) (out new_out err new_err : Option (List ℕ))
+    → Keeps out new_out → Keeps err new_err
+    → IfSome stored (λ files. (input : List ℕ) → HasInput runs left input → DeliversNoMore files input words out new_out err new_err)
+nothing_more None runs left words out new_out err new_err same_out same_err = tt
+nothing_more (Some files) runs left words out new_out err new_err same_out same_err =
+    λ input has answer is. (front_kept out new_out answer.out same_out, front_kept err new_err answer.err same_err)
 
 -- a named file isn't there, and nothing was written
 pub unread_delivers : (stored : Option (List (List ℕ × List ℕ))) (runs : Bool) (left : Option (List ℕ)) (words : List (List ℕ))

@@ -2,14 +2,14 @@
 use Rattle.std.proofs.Common.{◌≡◌, ◌≢◌, ◌⊎◌, ◌<◌, inl, inr, ℕ, Bool, true, false, refl, sym, subst, List, [], ◌∷◌, Option, None, Some, Result, Ok, Err, IfSome, IfOk, OnErr, arith}
 use Rattle.spark_base.specs.Lists.{Has}
 use Rattle.command_words.specs.Words.{Command, Check, Run, Leaks, Make, Selftest}
-use Rattle.run_command.specs.Answers.{Answer, Tells}
+use Rattle.run_command.specs.Answers.{Answer, Tells, TellsFront}
 use Rattle.spark_tool.specs.declared.finding.Outcome.{Outcome}
 use Rattle.spark_tool.specs.declared.stop.Stop.{Stop}
 use Rattle.spark_tool.specs.declared.stop.Stop.TheVariants.{Read, Write, Memory}
 use Rattle.spark_tool.specs.Answers.{answer_for}
 use Rattle.spark_tool.specs.Commands.{command_of, reads_files, runs}
 use Rattle.spark_tool.specs.Product.{Answers, Product}
-use Rattle.spark_tool.specs.Promises.{IsUnrun, HasInput, Delivers, DeliversFront, TellsFront}
+use Rattle.spark_tool.specs.Promises.{IsUnrun, HasInput, Delivers}
 use Rattle.spark_tool.specs.Refusals.{Gives}
 use Rattle.spark_tool.specs.Stops.{stop_status}
 use Rattle.spark_tool.proofs.Complete.{answer_delivers, run_delivers, fixed_tells}
@@ -51,10 +51,9 @@ pub ok_unrun : (result : Result ℕ Stop) (status : ℕ) (P : Type 0) → IfOk r
 ok_unrun (Ok answered) status P is has other = inl (subst IsUnrun (sym is) (unrun status has other))
 ok_unrun (Err stop) status P is has other = tt
 
--- a front of it, where a write failed
-pub front_of : (result : Result ℕ Stop) (answer : Answer) (out new_out err new_err : Option (List ℕ)) → result ≡ Err Write
-    → OnErr result (TellsFront answer out new_out err new_err) → TellsFront answer out new_out err new_err
-front_of result answer out new_out err new_err is told = subst (λ (r : Result ℕ Stop). OnErr r (TellsFront answer out new_out err new_err)) is told
+-- what is so where it stops, where it stops for this
+pub at_stop : (result : Result ℕ Stop) (stop : Stop) (P : Type 0) → result ≡ Err stop → OnErr result P → P
+at_stop result stop P is stopped = subst (λ (r : Result ℕ Stop). OnErr r P) is stopped
 
 -- ---- where a program is run
 

@@ -1,8 +1,7 @@
 -- What the call of the program promises (docs/TOOL.md, "Statuses").
 use Rattle.std.specs.Prelude.{◌≡◌, ℕ, List, Bool, true, false, Option, Some, [], ◌∷◌}
 use Rattle.spark_base.specs.Lists.{Has}
-use Rattle.spark_base.specs.Outside.{AppendsPrefix}
-use Rattle.run_command.specs.Answers.{Answer, Tells}
+use Rattle.run_command.specs.Answers.{Answer, Tells, TellsFront}
 use Rattle.spark_tool.specs.Product.{Product}
 
 -- The statuses of an answer: done; rejected; refused; the ends of a run by an exception, by its
@@ -23,10 +22,6 @@ abbrev pub HasInput : Bool → Option (List ℕ) → List ℕ → Type 0
 HasInput true left input = left ≡ Some input
 HasInput false left input = Unit {0}
 
--- Both streams got some front of the bytes of an answer.
-abbrev pub TellsFront : Answer → Option (List ℕ) → Option (List ℕ) → Option (List ℕ) → Option (List ℕ) → Type 0
-TellsFront answer out new_out err new_err = AppendsPrefix out new_out answer.out × AppendsPrefix err new_err answer.err
-
 -- Both streams got the bytes of the one answer that is defined, and its status was answered.
 pub record Delivers (stored : List (List ℕ × List ℕ)) (input : List ℕ) (words : List (List ℕ)) (out new_out err new_err : Option (List ℕ)) (status : ℕ) : Type 0 where
   pub answer : Answer
@@ -40,3 +35,7 @@ pub record DeliversFront (stored : List (List ℕ × List ℕ)) (input : List �
   pub defined : Product stored input words answer
   pub only : (other : Answer) → Product stored input words other → other ≡ answer
   pub told : TellsFront answer out new_out err new_err
+
+-- Both streams got some front of the bytes of each answer that is defined.
+abbrev pub DeliversNoMore : (stored : List (List ℕ × List ℕ)) (input : List ℕ) (words : List (List ℕ)) (out new_out err new_err : Option (List ℕ)) → Type 0
+DeliversNoMore stored input words out new_out err new_err = (answer : Answer) → Product stored input words answer → TellsFront answer out new_out err new_err

@@ -1,9 +1,9 @@
 //! Runs the program of a command.
-ghost use Rattle.std.specs.Prelude.{◌≡◌, ◌≢◌, ◌≤◌, ◌⊎◌, ℕ, List, Some, Err, IfOk, IfSome, OnOk, IsSome};
+ghost use Rattle.std.specs.Prelude.{◌≡◌, ◌≢◌, ◌≤◌, ◌⊎◌, ℕ, List, Some, Err, IfOk, IfSome, OnErr, IsSome};
 ghost use Rattle.std.specs.Io.KnownBytes.{IsAtEnd, Keeps};
 ghost use Rattle.spark_base.specs.Outside.{Rose};
 ghost use Rattle.laid_program.specs.Programs.{program_of};
-ghost use Rattle.run_command.specs.Answers.{Grows, Tells};
+ghost use Rattle.run_command.specs.Answers.{Grows, Tells, TellsFront};
 ghost use Rattle.run_command.specs.Runs.{IsEnded, run_answer};
 ghost use Rattle.spark_tool.specs.Answers.{names_of};
 
@@ -27,7 +27,10 @@ pub(crate) fn start<S: Source, K: Sink>(
     ensures answer { IfOk result (λ status. (bytes : List ℕ) → S.left input.old ≡ Some bytes
         → Tells (run_answer (names_of program.now) (program_of program.now.laid) bytes steps)
         (K.written out.old) (K.written out.new) (K.written err.old) (K.written err.new) status) }
-    ensures grows { IfOk result (λ _. Grows (K.written out.old) (K.written out.new) × Grows (K.written err.old) (K.written err.new)) }
+    ensures front { OnErr result ((bytes : List ℕ) → S.left input.old ≡ Some bytes
+        → TellsFront (run_answer (names_of program.now) (program_of program.now.laid) bytes steps)
+        (K.written out.old) (K.written out.new) (K.written err.old) (K.written err.new)) }
+    ensures grows { Grows (K.written out.old) (K.written out.new) × Grows (K.written err.old) (K.written err.new) }
     ensures ended { IfOk result (λ status. (status ≡ 10) ⊎ (IsEnded status × IfSome (S.left input.old) (λ bytes. IsAtEnd (S.left input.new)))) }
     ensures refused { IfOk result (λ status. status ≡ 10 → Keeps (K.written out.old) (K.written out.new)) }
     ensures read { result ≡ Err Stop.Read → Rose (S.faults input.old) (S.faults input.new) }
@@ -35,7 +38,7 @@ pub(crate) fn start<S: Source, K: Sink>(
     ensures no_fault_unrun { result ≡ Err Stop.Read → (K.faults out.new ≡ K.faults out.old) × (K.faults err.new ≡ K.faults err.old) }
     ensures write { result ≡ Err Stop.Write → Rose (K.faults out.old) (K.faults out.new) ⊎ Rose (K.faults err.old) (K.faults err.new) }
     ensures no_read_fault { result ≢ Err Stop.Read → S.faults input.new ≡ S.faults input.old }
-    ensures no_write_fault { OnOk result ((K.faults out.new ≡ K.faults out.old) × (K.faults err.new ≡ K.faults err.old)) }
+    ensures no_write_fault { result ≢ Err Stop.Write → (K.faults out.new ≡ K.faults out.old) × (K.faults err.new ≡ K.faults err.old) }
 {
     Ok(run_program(alloc, program, steps, input, out, err)?)
 }

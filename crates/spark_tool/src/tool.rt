@@ -3,11 +3,11 @@ ghost use Rattle.std.specs.Prelude.{◌≡◌, ◌≢◌, ◌<◌, ◌⊎◌, �
 ghost use Rattle.std.specs.Io.KnownBytes.{IsAtEnd, Keeps};
 ghost use Rattle.spark_base.specs.Lists.{Has};
 ghost use Rattle.spark_base.specs.Outside.{Rose};
-ghost use Rattle.run_command.specs.Answers.{Grows, Tells};
+ghost use Rattle.run_command.specs.Answers.{Grows, Tells, TellsFront};
 ghost use Rattle.spark_tool.specs.Answers.{answer_of};
 ghost use Rattle.spark_tool.specs.Commands.{command_of, reads_files, runs};
 ghost use Rattle.spark_tool.specs.Product.{Product, fixed_answer, unread};
-ghost use Rattle.spark_tool.specs.Promises.{IsStatus, IsRegular, IsUnrun, HasInput, Delivers, DeliversFront, TellsFront};
+ghost use Rattle.spark_tool.specs.Promises.{IsStatus, IsRegular, IsUnrun, HasInput, Delivers, DeliversFront, DeliversNoMore};
 ghost use Rattle.spark_tool.specs.Refusals.{Gives, IsFor, IsMade, IsReady};
 
 use crate::answer::{Answer, usage_answer};
@@ -80,9 +80,7 @@ fn carry_out<F: FileStore, S: Source, K: Sink>(
     ensures unrun { IfOk result (λ status. IsUnrun status → Keeps (K.written out.old) (K.written out.new)) }
     ensures silent { runs (command_of (map string_bytes words.now)) ≡ false
         → IfOk result (λ status. status ≢ 0 → Keeps (K.written out.old) (K.written out.new)) }
-    ensures grows { IfOk result (λ _. Grows (K.written out.old) (K.written out.new) × Grows (K.written err.old) (K.written err.new)) }
-    ensures grows_unrun { runs (command_of (map string_bytes words.now)) ≡ false
-        → Grows (K.written out.old) (K.written out.new) × Grows (K.written err.old) (K.written err.new) }
+    ensures grows { Grows (K.written out.old) (K.written out.new) × Grows (K.written err.old) (K.written err.new) }
     ensures all_read { runs (command_of (map string_bytes words.now)) ≡ true
         → IfOk result (λ status. IsUnrun status ⊎ IfSome (S.left input.old) (λ bytes. IsAtEnd (S.left input.new))) }
     ensures input { runs (command_of (map string_bytes words.now)) ≡ false → input.new ≡ input.old }
@@ -92,8 +90,13 @@ fn carry_out<F: FileStore, S: Source, K: Sink>(
         ⊎ IsSomeAnd (F.stored files.old) (λ stored. (bytes : List ℕ) → Product stored bytes (map string_bytes words.now) unread) }
     ensures reads { result ≡ Err Stop.Read → IsTrue (reads_files (command_of (map string_bytes words.now))) }
     ensures write { result ≡ Err Stop.Write → Rose (K.faults out.old) (K.faults out.new) ⊎ Rose (K.faults err.old) (K.faults err.new) }
-    ensures front { result ≡ Err Stop.Write → runs (command_of (map string_bytes words.now)) ≡ false → IfSome (F.stored files.old)
-        (λ stored. (bytes : List ℕ) → DeliversFront stored bytes (map string_bytes words.now)
+    ensures front { result ≡ Err Stop.Write → IfSome (F.stored files.old)
+        (λ stored. (bytes : List ℕ) → HasInput (runs (command_of (map string_bytes words.now))) (S.left input.old) bytes
+        → DeliversFront stored bytes (map string_bytes words.now)
+        (K.written out.old) (K.written out.new) (K.written err.old) (K.written err.new)) }
+    ensures memory { result ≡ Err Stop.Memory → IfSome (F.stored files.old)
+        (λ stored. (bytes : List ℕ) → HasInput (runs (command_of (map string_bytes words.now))) (S.left input.old) bytes
+        → DeliversNoMore stored bytes (map string_bytes words.now)
         (K.written out.old) (K.written out.new) (K.written err.old) (K.written err.new)) }
     ensures fixed_front { result ≡ Err Stop.Write → IfSome (fixed_answer (command_of (map string_bytes words.now)))
         (λ told. TellsFront told (K.written out.old) (K.written out.new) (K.written err.old) (K.written err.new)) }
@@ -101,8 +104,7 @@ fn carry_out<F: FileStore, S: Source, K: Sink>(
     ensures nothing_unrun { result ≡ Err Stop.Memory → runs (command_of (map string_bytes words.now)) ≡ false
         → Keeps (K.written out.old) (K.written out.new) × Keeps (K.written err.old) (K.written err.new) }
     ensures no_read_fault { result ≢ Err Stop.Read → (F.faults files.new ≡ F.faults files.old) × (S.faults input.new ≡ S.faults input.old) }
-    ensures no_write_fault { result ≢ Err Stop.Write → (result ≡ Err Stop.Memory → runs (command_of (map string_bytes words.now)) ≡ false)
-        → (K.faults out.new ≡ K.faults out.old) × (K.faults err.new ≡ K.faults err.old) }
+    ensures no_write_fault { result ≢ Err Stop.Write → (K.faults out.new ≡ K.faults out.old) × (K.faults err.new ≡ K.faults err.old) }
 {
     match words_outcome(alloc, words, files)? {
         Outcome::Answers(answer) => write_answer(&answer, out, err),
@@ -159,27 +161,30 @@ pub fn run_tool<F: FileStore, S: Source, K: Sink>(
     ensures reads { result ≡ 7 → IsTrue (reads_files (command_of (map string_bytes words.now))) }
     ensures nothing { result ≡ 7 → Keeps (K.written out.old) (K.written out.new) × Keeps (K.written err.old) (K.written err.new) }
 
-    // 8: only where the count of an output rose. Where nothing is run, a front of the defined bytes
-    // was written, and where no file is read whatever the store tells.
+    // 8: only where the count of an output rose. Both streams hold a front of the defined bytes, of a
+    // run where the input tells its bytes; and where no file is read, whatever the store tells.
     ensures write_fault { result ≡ 8 → Rose (K.faults out.old) (K.faults out.new) ⊎ Rose (K.faults err.old) (K.faults err.new) }
-    ensures front { result ≡ 8 → runs (command_of (map string_bytes words.now)) ≡ false → IfSome (F.stored files.old)
-        (λ stored. (bytes : List ℕ) → DeliversFront stored bytes (map string_bytes words.now)
+    ensures front { result ≡ 8 → IfSome (F.stored files.old)
+        (λ stored. (bytes : List ℕ) → HasInput (runs (command_of (map string_bytes words.now))) (S.left input.old) bytes
+        → DeliversFront stored bytes (map string_bytes words.now)
         (K.written out.old) (K.written out.new) (K.written err.old) (K.written err.new)) }
     ensures fixed_front { result ≡ 8 → IfSome (fixed_answer (command_of (map string_bytes words.now)))
         (λ told. TellsFront told (K.written out.old) (K.written out.new) (K.written err.old) (K.written err.new)) }
 
-    // 9: where nothing is run, nothing is written.
+    // 9: both streams hold a front of the bytes of whatever answer is defined. Where nothing is run,
+    // nothing is written.
+    ensures memory { result ≡ 9 → IfSome (F.stored files.old)
+        (λ stored. (bytes : List ℕ) → HasInput (runs (command_of (map string_bytes words.now))) (S.left input.old) bytes
+        → DeliversNoMore stored bytes (map string_bytes words.now)
+        (K.written out.old) (K.written out.new) (K.written err.old) (K.written err.new)) }
     ensures nothing_unrun { result ≡ 9 → runs (command_of (map string_bytes words.now)) ≡ false
         → Keeps (K.written out.old) (K.written out.new) × Keeps (K.written err.old) (K.written err.new) }
 
-    // Nothing goes to `out` with 1, 2, 6, 7 and 10, and but for `run` with 9. Bytes are only added,
-    // with `run` where it answers another status than 8 and 9.
+    // Nothing goes to `out` with 1, 2, 6, 7 and 10, and but for `run` with 9. Bytes are only added.
     ensures unrun { IsUnrun result → Keeps (K.written out.old) (K.written out.new) }
     ensures silent { runs (command_of (map string_bytes words.now)) ≡ false → result ≢ 0 → result ≢ 8
         → Keeps (K.written out.old) (K.written out.new) }
-    ensures grows { result ≢ 8 → result ≢ 9 → Grows (K.written out.old) (K.written out.new) × Grows (K.written err.old) (K.written err.new) }
-    ensures grows_unrun { runs (command_of (map string_bytes words.now)) ≡ false
-        → Grows (K.written out.old) (K.written out.new) × Grows (K.written err.old) (K.written err.new) }
+    ensures grows { Grows (K.written out.old) (K.written out.new) × Grows (K.written err.old) (K.written err.new) }
 
     // A run has read the input to its end. Every other command leaves it as it was, and so does
     // `run` with 1, 2 and 6.
@@ -188,10 +193,9 @@ pub fn run_tool<F: FileStore, S: Source, K: Sink>(
     ensures input { runs (command_of (map string_bytes words.now)) ≡ false → input.new ≡ input.old }
     ensures early { Has (1 ∷ 2 ∷ 6 ∷ []) result → input.new ≡ input.old }
 
-    // A count that isn't the cause of the answer stays; those of the outputs with `run` but at 9.
+    // A count that isn't the cause of the answer stays.
     ensures no_read_fault { result ≢ 7 → (F.faults files.new ≡ F.faults files.old) × (S.faults input.new ≡ S.faults input.old) }
-    ensures no_write_fault { result ≢ 8 → (result ≡ 9 → runs (command_of (map string_bytes words.now)) ≡ false)
-        → (K.faults out.new ≡ K.faults out.old) × (K.faults err.new ≡ K.faults err.old) }
+    ensures no_write_fault { result ≢ 8 → (K.faults out.new ≡ K.faults out.old) × (K.faults err.new ≡ K.faults err.old) }
 {
     match carry_out(alloc, words, files, input, out, err) {
         Ok(status) => status,

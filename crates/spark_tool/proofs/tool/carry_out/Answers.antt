@@ -1,7 +1,8 @@
 use Rattle.std.proofs.Common.{◌≡◌, ap, subst, sym, map, string_bytes, true, List, ℕ, Option, IfSome}
+use Rattle.std.proofs.KnownBytes.{Keeps-refl}
 use Rattle.laid_program.specs.Programs.{program_of}
-use Rattle.run_command.specs.Answers.{Answer, Tells}
-use Rattle.spark_tool.specs.Promises.{TellsFront}
+use Rattle.run_command.specs.Answers.{Answer, Tells, TellsFront}
+use Rattle.spark_tool.specs.declared.stop.Stop.TheVariants.{Write, Memory}
 use Rattle.run_command.specs.Runs.{run_answer}
 use Rattle.spark_tool.specs.declared.finding.Outcome.{Outcome}
 use Rattle.spark_tool.specs.declared.finding.Outcome.TheVariants as outcome
@@ -9,9 +10,16 @@ use Rattle.spark_tool.specs.Answers.{answer_of, names_of}
 use Rattle.spark_tool.specs.Commands.{command_of, runs}
 use Rattle.spark_tool.specs.Product.{fixed_answer}
 use Rattle.spark_tool.specs.Refusals.{IsFor, IsMade, IsReady}
-use Rattle.spark_tool.proofs.Complete.{answer_delivers_front, fixed_tells_front}
-use Rattle.spark_tool.proofs.Outcomes.{gives_this, ok_delivers, ok_fixed, ok_unrun, front_of, run_ok_delivers, no_fixed, ok_no_fixed, run_reads}
+use Rattle.spark_tool.proofs.Complete.{answer_delivers_front, run_delivers_front, no_more, nothing_more, fixed_tells_front}
+use Rattle.spark_tool.proofs.Outcomes.{gives_this, ok_delivers, ok_fixed, ok_unrun, at_stop, run_ok_delivers, no_fixed, ok_no_fixed, run_reads}
 use Rattle.spark_tool.proofs.tool.carry_out.Goals as goal
+
+pub returns-in_err-answer-clause-memory : goal.returns-in_err-answer-clause-memory
+returns-in_err-answer-clause-memory g c stopped =
+    let words : List (List ℕ) = map string_bytes c.args.words.now in
+    nothing_more (g.F.FileStore.stored c.args.files.now) (runs (command_of words)) (g.S.Source.left c.args.input.now) words
+    (g.K.Sink.written c.args.out.now) (g.K.Sink.written c.args.out.now) (g.K.Sink.written c.args.err.now) (g.K.Sink.written c.args.err.now)
+    (Keeps-refl (g.K.Sink.written c.args.out.now)) (Keeps-refl (g.K.Sink.written c.args.err.now))
 
 pub returns-in-Answers-clause-answered : goal.returns-in-Answers-clause-answered
 returns-in-Answers-clause-answered g c =
@@ -37,15 +45,27 @@ returns-in-Answers-clause-all_read g c run =
     ok_unrun c.write_answer.result c.in-Answers.answer.status _ c.write_answer.ensures.status ready.0 (only.1 run)
 
 pub returns-in-Answers-clause-front : goal.returns-in-Answers-clause-front
-returns-in-Answers-clause-front g c stopped unrun =
+returns-in-Answers-clause-front g c stopped =
     let words : List (List ℕ) = map string_bytes c.args.words.now in
-    answer_delivers_front (g.F.FileStore.stored c.args.files.now) words
+    answer_delivers_front (g.F.FileStore.stored c.args.files.now) (runs (command_of words)) (g.S.Source.left c.args.input.now) words
     (answer_of c.in-Answers.answer) (g.K.Sink.written c.args.out.now) (g.K.Sink.written c.write_answer.new.out)
     (g.K.Sink.written c.args.err.now) (g.K.Sink.written c.write_answer.new.err)
     (gives_this (g.F.FileStore.stored c.args.files.now) (command_of words) c.in_ok-answer.field-0 (outcome.Answers c.in-Answers.answer) c.in-Answers.is
     c.in_ok-answer.ensures.gives)
-    (front_of c.write_answer.result (answer_of c.in-Answers.answer) (g.K.Sink.written c.args.out.now) (g.K.Sink.written c.write_answer.new.out)
-    (g.K.Sink.written c.args.err.now) (g.K.Sink.written c.write_answer.new.err) stopped c.write_answer.ensures.front)
+    (at_stop c.write_answer.result Write _ stopped c.write_answer.ensures.front)
+
+pub returns-in-Answers-clause-memory : goal.returns-in-Answers-clause-memory
+returns-in-Answers-clause-memory g c stopped =
+    let words : List (List ℕ) = map string_bytes c.args.words.now in
+    no_more (g.F.FileStore.stored c.args.files.now) (runs (command_of words)) (g.S.Source.left c.args.input.now) words
+    (g.K.Sink.written c.args.out.now) (g.K.Sink.written c.write_answer.new.out)
+    (g.K.Sink.written c.args.err.now) (g.K.Sink.written c.write_answer.new.err)
+    (answer_delivers_front (g.F.FileStore.stored c.args.files.now) (runs (command_of words)) (g.S.Source.left c.args.input.now) words
+    (answer_of c.in-Answers.answer) (g.K.Sink.written c.args.out.now) (g.K.Sink.written c.write_answer.new.out)
+    (g.K.Sink.written c.args.err.now) (g.K.Sink.written c.write_answer.new.err)
+    (gives_this (g.F.FileStore.stored c.args.files.now) (command_of words) c.in_ok-answer.field-0 (outcome.Answers c.in-Answers.answer) c.in-Answers.is
+    c.in_ok-answer.ensures.gives)
+    (at_stop c.write_answer.result Memory _ stopped c.write_answer.ensures.front))
 
 pub returns-in-Answers-clause-fixed_front : goal.returns-in-Answers-clause-fixed_front
 returns-in-Answers-clause-fixed_front g c stopped =
@@ -53,8 +73,31 @@ returns-in-Answers-clause-fixed_front g c stopped =
     fixed_tells_front fixed (answer_of c.in-Answers.answer) (g.K.Sink.written c.args.out.now) (g.K.Sink.written c.write_answer.new.out)
     (g.K.Sink.written c.args.err.now) (g.K.Sink.written c.write_answer.new.err)
     (subst (λ (o : Outcome). IfSome fixed (λ told. IsMade told o)) c.in-Answers.is c.in_ok-answer.ensures.fixed)
-    (front_of c.write_answer.result (answer_of c.in-Answers.answer) (g.K.Sink.written c.args.out.now) (g.K.Sink.written c.write_answer.new.out)
-    (g.K.Sink.written c.args.err.now) (g.K.Sink.written c.write_answer.new.err) stopped c.write_answer.ensures.front)
+    (at_stop c.write_answer.result Write _ stopped c.write_answer.ensures.front)
+
+pub returns-in-Runs-clause-front : goal.returns-in-Runs-clause-front
+returns-in-Runs-clause-front g c stopped =
+    let words : List (List ℕ) = map string_bytes c.args.words.now in
+    run_delivers_front (g.F.FileStore.stored c.args.files.now) (runs (command_of words)) (g.S.Source.left c.args.input.now) words
+    (λ input. run_answer (names_of c.in-Runs.program) (program_of c.in-Runs.program.laid) input c.in-Runs.steps)
+    (g.K.Sink.written c.args.out.now) (g.K.Sink.written c.start.new.out) (g.K.Sink.written c.args.err.now) (g.K.Sink.written c.start.new.err)
+    (subst (IsFor (command_of words)) c.in-Runs.is c.in_ok-answer.ensures.only)
+    (gives_this (g.F.FileStore.stored c.args.files.now) (command_of words) c.in_ok-answer.field-0 (outcome.Runs c.in-Runs.program c.in-Runs.steps) c.in-Runs.is
+    c.in_ok-answer.ensures.gives)
+    (at_stop c.start.result Write _ stopped c.start.ensures.front)
+
+pub returns-in-Runs-clause-memory : goal.returns-in-Runs-clause-memory
+returns-in-Runs-clause-memory g c stopped =
+    let words : List (List ℕ) = map string_bytes c.args.words.now in
+    no_more (g.F.FileStore.stored c.args.files.now) (runs (command_of words)) (g.S.Source.left c.args.input.now) words
+    (g.K.Sink.written c.args.out.now) (g.K.Sink.written c.start.new.out) (g.K.Sink.written c.args.err.now) (g.K.Sink.written c.start.new.err)
+    (run_delivers_front (g.F.FileStore.stored c.args.files.now) (runs (command_of words)) (g.S.Source.left c.args.input.now) words
+    (λ input. run_answer (names_of c.in-Runs.program) (program_of c.in-Runs.program.laid) input c.in-Runs.steps)
+    (g.K.Sink.written c.args.out.now) (g.K.Sink.written c.start.new.out) (g.K.Sink.written c.args.err.now) (g.K.Sink.written c.start.new.err)
+    (subst (IsFor (command_of words)) c.in-Runs.is c.in_ok-answer.ensures.only)
+    (gives_this (g.F.FileStore.stored c.args.files.now) (command_of words) c.in_ok-answer.field-0 (outcome.Runs c.in-Runs.program c.in-Runs.steps) c.in-Runs.is
+    c.in_ok-answer.ensures.gives)
+    (at_stop c.start.result Memory _ stopped c.start.ensures.front))
 
 pub returns-in-Runs-clause-answered : goal.returns-in-Runs-clause-answered
 returns-in-Runs-clause-answered g c =

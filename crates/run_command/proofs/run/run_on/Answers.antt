@@ -1,0 +1,34 @@
+use Rattle.std.proofs.Common.{map, string_bytes, refl, sym, ap, ◌∙◌}
+use Rattle.machine.specs.Run.{Run, run}
+use Rattle.laid_program.specs.Programs.{program_of}
+use Rattle.run_results.proofs.Fronts.{none_front}
+use Rattle.whole_runs.specs.Tellings.{Sinks}
+use Rattle.run_command.specs.Endings.{ending_line}
+use Rattle.run_command.proofs.Fronts.{at_err, cut_told, ended_told}
+use Rattle.run_command.proofs.run.run_on.Goals as goal
+
+pub returns-in_err-ran-clause-front : goal.returns-in_err-ran-clause-front
+returns-in_err-ran-clause-front g c =
+    let r : Run = run (program_of c.args.program.now.laid) c.args.input.now c.args.steps in
+    let old : Sinks = record { output = g.K.Sink.written c.args.out.now; lines = g.K.Sink.written c.args.err.now } in
+    let new : Sinks = record { output = g.K.Sink.written c.execute.new.out; lines = g.K.Sink.written c.execute.new.err } in
+    at_err _ (cut_told (map string_bytes c.args.program.now.laid.names.items) c.args.steps r old new c.in_err-ran.ensures.fronts)
+
+pub returns-in_err-line-clause-front : goal.returns-in_err-line-clause-front
+returns-in_err-line-clause-front g c =
+    let files = map string_bytes c.args.program.now.laid.names.items in
+    let r : Run = run (program_of c.args.program.now.laid) c.args.input.now c.args.steps in
+    let old : Sinks = record { output = g.K.Sink.written c.args.out.now; lines = g.K.Sink.written c.args.err.now } in
+    let now : Sinks = record { output = g.K.Sink.written c.execute.new.out; lines = g.K.Sink.written c.execute.new.err } in
+    at_err _ (ended_told files c.args.steps r c.in_ok-ran.field-0 old now now.lines (ending_line files c.args.steps r.ending) c.in_ok-ran.ensures.executed refl (none_front now.lines _))
+
+pub returns-in_err-write_all-clause-front : goal.returns-in_err-write_all-clause-front
+returns-in_err-write_all-clause-front g c =
+    let files = map string_bytes c.args.program.now.laid.names.items in
+    let r : Run = run (program_of c.args.program.now.laid) c.args.input.now c.args.steps in
+    let old : Sinks = record { output = g.K.Sink.written c.args.out.now; lines = g.K.Sink.written c.args.err.now } in
+    let now : Sinks = record { output = g.K.Sink.written c.execute.new.out; lines = g.K.Sink.written c.execute.new.err } in
+    at_err _
+    (ended_told files c.args.steps r c.in_ok-ran.field-0 old now (g.K.Sink.written c.write_all.new.sink) c.deref.result.now c.in_ok-ran.ensures.executed
+    (c.deref.ensures.value ∙ c.in_ok-line.ensures ∙ ap (ending_line files c.args.steps) (sym c.in_ok-ran.ensures.executed.is.ending))
+    c.in_err-write_all.ensures.front)
