@@ -42,6 +42,7 @@ use Rattle.soundness.proofs.Stays.{Quiet, One}
 use Rattle.soundness.proofs.Waits.{or_both, take_none, drop_none, waits_of, led_waits}
 use Rattle.owned_loans.specs.Views.{Views, expand, Viewed, Unused, with_view}
 use Rattle.owned_loans.proofs.Allowed.{Cleared, borrow_clears, observe_clears}
+use Rattle.owned_loans.proofs.Ways.{Lifted, next_of}
 use Rattle.owned_loans.proofs.Taken.{becomes_with}
 use Rattle.viewed_soundness.specs.Holds.{IsNamed, PartsAreNamed, Holds, AllKeep}
 use Rattle.viewed_soundness.proofs.Names.{not_view}
@@ -272,10 +273,11 @@ module _ (t : Turn) (settled : IsSettled (typing t).table) (own_law : OwnsByShap
       × Kept s (declared depth x (z ∷ []) m) hands × Holds s depth views (declared depth x (z ∷ []) m)
 
   -- What the source gives is stored in the variable of the view.
-  abbrev Gets : ℕ → ℕ → PlaceName → List Fact → Type 0
-  Gets x d name facts =
+  abbrev Gets : ℕ → ℕ → ℕ → PlaceName → List Fact → Type 0
+  Gets x y d name facts =
       (u : Way) (z : machine.Word) → Named (home s depth) u → ways.name_of u ≡ name → IsDesignated v (seen s m hands t.state.leaks) u z
-      → ((k : ℕ) → z ≡ machine.Cell k → IsCell s m d k) → (views : Views) × Got views x z facts
+      → ((k : ℕ) → z ≡ machine.Cell k → IsCell s m d k)
+      → (is_anonymous (view_of s y) ≡ true → (k : ℕ) → z ≡ machine.Cell k → (l : Lifted v (All u)) × (l.object ≡ y)) → (views : Views) × Got views x z facts
 
   -- An object of an anonymous access type whose source designates what it does.
   pub record Observes (x y u d : ℕ) (path : TypedTree) : Type 0 where
@@ -305,8 +307,8 @@ module _ (t : Turn) (settled : IsSettled (typing t).table) (own_law : OwnsByShap
 
   borrow_gets : (x y u d : ℕ) (path : TypedTree) (facts : List Fact) → Observes x y u d path → IsGood v facts t.state → Unused v facts x
       → is_observer s x ≡ false → is_observer s y ≡ false → y < x → Allows facts (act.Borrow x (name_of y path))
-      → Gets x d (name_of y path) (effect (act.Borrow x (name_of y path)) facts)
-  borrow_gets x y u d path facts observes good unused borrows plain older allowed w z named called is typed =
+      → Gets x y d (name_of y path) (effect (act.Borrow x (name_of y path)) facts)
+  borrow_gets x y u d path facts observes good unused borrows plain older allowed w z named called is typed lifted =
       let views : Views = with_view v x (way_from z (expand v (All w))) w (All w) (number_in z) in
       let root : number_of w ≡ y = ap (λ (n : PlaceName). n.root) called in
       let got = borrower_declared s settled depth other v views m hands t.state.leaks facts good.viewed good.kept good.holds x z observes.mine observes.anonymous
@@ -317,8 +319,8 @@ module _ (t : Turn) (settled : IsSettled (typing t).table) (own_law : OwnsByShap
 
   observe_gets : (x y u d : ℕ) (path : TypedTree) (facts : List Fact) → Observes x y u d path → IsGood v facts t.state
       → is_observer s x ≡ true → is_observer s y ≡ false → Allows facts (act.Observe x (name_of y path) false)
-      → Gets x d (name_of y path) (effect (act.Observe x (name_of y path) false) facts)
-  observe_gets x y u d path facts observes good sees plain allowed w z named called is typed =
+      → Gets x y d (name_of y path) (effect (act.Observe x (name_of y path) false) facts)
+  observe_gets x y u d path facts observes good sees plain allowed w z named called is typed lifted =
       let views : Views = with_view v x (way_from z (expand v (All w))) w (All w) (number_in z) in
       let root : number_of w ≡ y = ap (λ (n : PlaceName). n.root) called in
       let got = observer_stored s settled depth other v views m hands t.state.leaks facts good.viewed good.kept good.holds x z observes.mine observes.anonymous
@@ -327,20 +329,20 @@ module _ (t : Turn) (settled : IsSettled (typing t).table) (own_law : OwnsByShap
       is (subst (λ n. Allows facts (act.Observe x n false)) (sym called) allowed) in
       (views, subst (λ n. Got views x z (effect (act.Observe x n false) facts)) called (got.sound, got.words_kept, got.views_held))
 
-  abbrev Shown : (facts : List Fact) → IsGood v facts t.state → ℕ → PlaceName → List machine.Word → Type 0
-  Shown facts good d name ws =
+  abbrev Shown : (facts : List Fact) → IsGood v facts t.state → ℕ → ℕ → PlaceName → List machine.Word → Type 0
+  Shown facts good y d name ws =
       (u : Way) × Named (home s depth) u × (ways.name_of u ≡ name)
-      × Shows (here t) settled hands t.state.leaks m [] other facts v good.kept good.viewed good.holds alone (live facts good) index_law own_law parts_named d u ws
+      × Shows (here t) settled hands t.state.leaks m [] other facts v good.kept good.viewed good.holds alone (live facts good) index_law own_law parts_named y d u ws
 
-  then_got : (x d : ℕ) (name : PlaceName) (facts behind : List Fact) (good : IsGood v facts t.state) → Gets x d name behind → (y : Evaluated (List machine.Word))
-      → Quiet now (Shown facts good d name) y → Leads_on behind (steps.evaluated t y (λ ws m. goes t (declared depth x ws m) 0))
-  then_got x d name facts behind good gets (Done ws n) (same, (u, named, called, shows)) =
-      let got = gets u shows.word named called shows.designated shows.typed in
+  then_got : (x y d : ℕ) (name : PlaceName) (facts behind : List Fact) (good : IsGood v facts t.state) → Gets x y d name behind → (e : Evaluated (List machine.Word))
+      → Quiet now (Shown facts good y d name) e → Leads_on behind (steps.evaluated t e (λ ws m. goes t (declared depth x ws m) 0))
+  then_got x y d name facts behind good gets (Done ws n) (same, (u, named, called, shows)) =
+      let got = gets u shows.word named called shows.designated shows.typed shows.lifted in
       subst (λ (z : Now). Leads_on behind (goes t (declared depth x ws z.memory) 0)) (sym same)
       (subst (λ z. Leads_on behind (goes t (declared depth x z m) 0)) (sym shows.is)
       (goes_to (declared depth x (shows.word ∷ []) m) 0 got.0 behind got.1.0 got.1.1 got.1.2))
-  then_got x d name facts behind good gets (Raises e n) is = (λ trap. trap, raises facts good n.memory)
-  then_got x d name facts behind good gets (Traps e n) never = absurd never
+  then_got x y d name facts behind good gets (Raises e n) is = (λ trap. trap, raises facts good n.memory)
+  then_got x y d name facts behind good gets (Traps e n) never = absurd never
 
   -- the act of the source is allowed after those of its indexes, which change nothing
   last_allowed : (x y u d : ℕ) (p : Pos) (path : TypedTree) (a : PlaceName → Act) → Observes x y u d path → has_call path ≡ false
@@ -358,7 +360,7 @@ module _ (t : Turn) (settled : IsSettled (typing t).table) (own_law : OwnsByShap
   view_leads : (x y u d : ℕ) (p : Pos) (path rest : TypedTree) (a : PlaceName → Act) → Observes x y u d path → has_call path ≡ false
       → (facts : List Fact) (good : IsGood v facts t.state) → AllowsAll facts (acts (source_acts s (Name p y path u) a))
       → ((w : Way) → ways.name_of w ≡ name_of y path → is_observer s y ≡ false → Cleared facts w)
-      → (Allows facts (a (name_of y path)) → Gets x d (name_of y path) (effect (a (name_of y path)) facts))
+      → (Allows facts (a (name_of y path)) → Gets x y d (name_of y path) (effect (a (name_of y path)) facts))
       → Leads_on (after (acts (source_acts s (Name p y path u) a)) facts) (declare t x (More (Name p y path u) rest))
   view_leads x y u d p path rest a observes calls facts good allowed clears gets =
       let b : List Act = acts (acts_in s path) in
@@ -378,7 +380,7 @@ module _ (t : Turn) (settled : IsSettled (typing t).table) (own_law : OwnsByShap
       (subst (λ c. Leads_on (effect (a (name_of y path)) facts)
       (steps.evaluated t (if c then viewed (here t) (Name p y path u) now else followed_by (value (here t) (Name p y path u) now) (checked (here t) (object_at s x).of))
       (λ ws m. goes t (declared depth x ws m) 0))) (sym observes.anonymous)
-      (then_got x d (name_of y path) facts (effect (a (name_of y path)) facts) good (gets mine) (evaluate (here t) AsView (Name p y path u) now) shown)))
+      (then_got x y d (name_of y path) facts (effect (a (name_of y path)) facts) good (gets mine) (evaluate (here t) AsView (Name p y path u) now) shown)))
 
   -- A borrower is declared. Its source is an older object, or is rooted in one.
   pub borrower_leads : (x y u d : ℕ) (p : Pos) (path rest : TypedTree) → Observes x y u d path → is_borrower s x ≡ true → is_observer s x ≡ false
