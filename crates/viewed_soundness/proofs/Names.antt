@@ -87,7 +87,7 @@ way_live s (All w) n owned rooted (m, k, r, held, e) =
 
 -- ---- types of views
 
-true_false : (b : Bool) → b ≡ true → b ≡ false → ⊥
+pub true_false : (b : Bool) → b ≡ true → b ≡ false → ⊥
 true_false b e f = cc
 
 named_of : (c n : Bool) → (not n && not c) || (not n && c) ≡ false → n ≡ true
