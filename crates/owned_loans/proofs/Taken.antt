@@ -19,7 +19,7 @@ use Rattle.owned_ways.proofs.Named.{longer}
 use Rattle.owned_ways.proofs.Assigned.{kept_fact}
 use Rattle.owned_ways.proofs.Locations.{under_itself}
 use Rattle.owned_loans.specs.Views.{Down, on, Views, expand_root, expand, IsObject, AreClear, HasLoan, IsView, Viewed, Becomes, with_view, Unused}
-use Rattle.owned_loans.proofs.Ways.{Lifted, next_of, further}
+use Rattle.owned_loans.proofs.Ways.{on_deep, Lifted, next_of, further}
 use Rattle.owned_loans.proofs.Meeting.{next}
 use Rattle.owned_loans.proofs.Clear.{refused, clear_borrow, clear_observe, clear_same}
 use Rattle.owned_loans.proofs.Allowed.{loan_kept}
@@ -173,22 +173,22 @@ module _ (home : ℕ → ℕ) (observer : ℕ → Bool) (other : Way → Type 0)
       })
 
   -- what another observer sees: its loan serves
-  pub observed_again : (b : ℕ) (o : Option Way) (u : Way) (n : ℕ) (l : Lifted v u) → observer l.object ≡ true
-      → Becomes v t b o (v.loan l.object) (on (v.up l.object) (Down ∷ l.rest)) n → observer b ≡ true → Named home u → Designates o u n
+  pub observed_again : (b : ℕ) (o : Option Way) (u : Way) (n : ℕ) (l : Lifted v (All u)) → observer l.object ≡ true
+      → Becomes v t b o (v.loan l.object) (next_of v (All u) l) n → observer b ≡ true → Named home u → Designates o u n
       → Viewed home observer other t s (effect (Observe b (name_of u) true) facts)
   observed_again b o u n l sees becomes observes named designates =
       let act : Act = Observe b (name_of u) true in
       let view = viewed.views l.object l.way l.has in
-      let on = next home observer v s facts viewed.views (All u) (further v Down u l) named in
+      let on = next home observer v s facts viewed.views (All u) l named in
       let loan = subst (λ z. HasLoan z l.object facts (name_of (v.loan l.object))) sees view.lent in
-      rebound home observer other v t b o (v.loan l.object) (All (next_of v u l)) n becomes s facts (effect act facts) viewed (observer_unused b observes)
+      rebound home observer other v t b o (v.loan l.object) (next_of v (All u) l) n becomes s facts (effect act facts) viewed (observer_unused b observes)
       (stays act (λ m. refl)) (λ seen x m. loan_kept act facts (λ k h z. refl) seen x m)
       (clear_same observer facts viewed.clear act refl)
       (λ w e. record {
         named = on.plain.0;
         leads = on.same ∙ sym (designates w e).0;
         begins = on.loan;
-        deep = λ d. d;
+        deep = on_deep (v.up l.object) l.rest view.deep;
         plain = on.plain.1;
         older = λ is. absurd (true_false (observer b) observes is);
         lent = subst (λ z. HasLoan z b (effect act facts) (name_of (v.loan l.object))) (sym observes)
@@ -220,16 +220,16 @@ module _ (home : ℕ → ℕ) (observer : ℕ → Bool) (other : Way → Type 0)
           (allowed (Lent Borrowed x (name_of loan)) has)
 
   -- a borrower goes on from where it is
-  pub reborrowed : (b : ℕ) (o : Option Way) (u : Way) (n : ℕ) (l : Lifted v u) → l.object ≡ b
-      → Becomes v t b o (v.loan l.object) (on (v.up l.object) (Down ∷ l.rest)) n → observer b ≡ false → Named home u → Designates o u n
+  pub reborrowed : (b : ℕ) (o : Option Way) (u : Way) (n : ℕ) (l : Lifted v (All u)) → l.object ≡ b
+      → Becomes v t b o (v.loan l.object) (next_of v (All u) l) n → observer b ≡ false → Named home u → Designates o u n
       → Allows facts (Reborrow b (name_of u)) → Viewed home observer other t s (effect (Reborrow b (name_of u)) facts)
   reborrowed b o u n l same becomes borrows named designates allowed =
       let act : Act = Reborrow b (name_of u) in
       let view = viewed.views l.object l.way l.has in
-      let on = next home observer v s facts viewed.views (All u) (further v Down u l) named in
+      let on = next home observer v s facts viewed.views (All u) l named in
       let is : observer l.object ≡ false = ap observer same ∙ borrows in
       let loan = subst (λ z. HasLoan z l.object facts (name_of (v.loan l.object))) is view.lent in
-      rebound home observer other v t b o (v.loan l.object) (All (next_of v u l)) n becomes s facts (effect act facts) viewed
+      rebound home observer other v t b o (v.loan l.object) (next_of v (All u) l) n becomes s facts (effect act facts) viewed
       (reborrow_unused b (name_of u) allowed)
       (stays act (λ m. refl)) (λ seen x m. loan_kept act facts (λ k h z. refl) seen x m)
       (clear_same observer facts viewed.clear act refl)
@@ -237,9 +237,9 @@ module _ (home : ℕ → ℕ) (observer : ℕ → Bool) (other : Way → Type 0)
         named = on.plain.0;
         leads = on.same ∙ sym (designates w e).0;
         begins = on.loan;
-        deep = λ d. d;
+        deep = on_deep (v.up l.object) l.rest view.deep;
         plain = on.plain.1;
-        older = λ z. subst (λ y. number_of (All (next_of v u l)) < y) same (on.less is);
+        older = λ z. subst (λ y. number_of (next_of v (All u) l) < y) same (on.less is);
         lent = subst (λ z. HasLoan z b (effect act facts) (name_of (v.loan l.object))) (sym borrows)
             (subst (λ z. Has (effect act facts) (Lent Borrowed z (name_of (v.loan l.object)))) same
             (kept_fact act facts (Lent Borrowed l.object (name_of (v.loan l.object))) loan refl));

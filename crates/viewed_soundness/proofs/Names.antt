@@ -5,7 +5,7 @@ use Rattle.place_names.specs.declared.fact.Fact.{Fact}
 use Rattle.type_definitions.specs.declared.table.Shape.{Shape}
 use Rattle.type_definitions.specs.declared.table.Shape.TheVariants as shape
 use Rattle.type_definitions.specs.Types.{Table, shape_of, components_of, fields, words, words_of, full, view_of as view_of_shape}
-use Rattle.flow_paths.specs.Objects.{Typing, object_at, designated, designated_of, is_anonymous, is_borrowing, is_observing, is_observer, is_variable, view_of}
+use Rattle.flow_paths.specs.Objects.{Typing, object_at, designated, designated_of, is_anonymous, is_observing, is_observer, is_variable, view_of}
 use Rattle.machine.specs.Words.{component_type, element_type, element_count, count_of}
 use Rattle.machine.specs.Words as machine
 use Rattle.machine.specs.Memory.{Slot, Memory, Place, cell, no_slot, variable_slots, words_of as place_words}
@@ -87,7 +87,7 @@ way_live s (All w) n owned rooted (m, k, r, held, e) =
 
 -- ---- types of views
 
-true_false : (b : Bool) → b ≡ true → b ≡ false → ⊥
+pub true_false : (b : Bool) → b ≡ true → b ≡ false → ⊥
 true_false b e f = cc
 
 named_of : (c n : Bool) → (not n && not c) || (not n && c) ≡ false → n ≡ true
@@ -311,33 +311,32 @@ module _ (h : Here) (settled : IsSettled h.typing.table) (hands : List Waiting) 
   IsRaised m (Raises e n) = n.memory ≡ m
   IsRaised m _ = ⊥
 
-  -- a name of a named type isn't rooted in an observer, or it is rooted in a view with a value, or it
-  -- raises
-  pub name_lifted : (x t : ℕ) (way : List run.Step) → IsNamed s.table t → Starts s.table (object_at s x).of way t
-      → (is_observer s x ≡ false) ⊎ ((Lifted v (way_along way (variable x)) × IsRooted (expand v (way_along way (variable x))))
-      ⊎ IsRaised m (walked s way (variable_place h x) here_now))
-  name_lifted x t way named starts = by_kind (is_observer s x) refl
-    where
-      seen_view : (a b c : Bool) → a && c ≡ true → b || c ≡ true
-      seen_view true true c e = refl
-      seen_view true false c e = e
-      seen_view false b c e = cc
+  -- A name that is rooted in a view with a value.
+  abbrev pub IsLifted : ℕ → Way → Type 0
+  IsLifted x u = (l : Lifted v u) × (l.object ≡ x) × IsRooted (expand v u)
 
+  -- a name of a named type isn't rooted in a view, or it is rooted in one with a value, or it raises
+  pub name_lifted : (x t : ℕ) (way : List run.Step) → IsNamed s.table t → Starts s.table (object_at s x).of way t
+      → (is_anonymous (view_of s x) ≡ false) ⊎ ((IsLifted x (way_along way (variable x)))
+      ⊎ IsRaised m (walked s way (variable_place h x) here_now))
+  name_lifted x t way named starts = by_kind (is_anonymous (view_of s x)) refl
+    where
       lift : (rest : List run.Step) (k : ℕ) → is_anonymous (view_of s x) ≡ true → (slot_of x).word ≡ machine.Cell k
-          → Lifted v (way_along rest (All (variable x))) × IsRooted (expand v (way_along rest (All (variable x))))
+          → IsLifted x (way_along rest (All (variable x)))
       lift rest k view e =
           let own = holds.held x k view e in
           let u : Way = way_along rest (All (variable x)) in
           let l : Lifted v u = lifted_along v rest (All (variable x)) (record { frame = home s h.frame x; object = x; rest = []; way = own.0; is = refl; has = own.1 }) in
           let on = next (home s h.frame) (is_observer s) v view_here facts viewed.views u l (named_along (home s h.frame) rest (All (variable x)) refl) in (
             l,
+            sym (lifted_root v u l) ∙ number_along rest (All (variable x)),
             subst IsRooted on.same
                 (named_rooted (home s h.frame) (expand v (next_of v u l))
                 (named_way (home s h.frame) (is_observer s) other v view_here facts viewed.views (suc (number_of (next_of v u l))) (next_of v u l) (omega arith) on.plain)),
           )
 
       by_word : (rest : List run.Step) (d : ℕ) → is_anonymous (view_of s x) ≡ true → (z : machine.Word) → (slot_of x).word ≡ z
-          → (Lifted v (way_along rest (All (variable x))) × IsRooted (expand v (way_along rest (All (variable x)))))
+          → (IsLifted x (way_along rest (All (variable x))))
           ⊎ IsRaised m (followed_by (designated_place d (z ∷ []) here_now) (walked s rest))
       by_word rest d view (machine.Int k) e = inr refl
       by_word rest d view (machine.Enumerated k) e = inr refl
@@ -345,7 +344,7 @@ module _ (h : Here) (settled : IsSettled h.typing.table) (hands : List Waiting) 
       by_word rest d view (machine.Cell k) e = inl (lift rest k view e)
 
       by_steps : (way : List run.Step) → is_anonymous (view_of s x) ≡ true → Starts s.table (object_at s x).of way t
-          → (Lifted v (way_along way (variable x)) × IsRooted (expand v (way_along way (variable x))))
+          → (IsLifted x (way_along way (variable x)))
           ⊎ IsRaised m (walked s way (variable_place h x) here_now)
       by_steps [] view starts = absurd (not_view s.table (object_at s x).of view (subst (IsNamed s.table) (sym starts) named))
       by_steps (run.ToComponent i ∷ rest) view (less, lead) =
@@ -354,14 +353,14 @@ module _ (h : Here) (settled : IsSettled h.typing.table) (hands : List Waiting) 
           let none = (view_access (shape_of s.table (object_at s x).of) view).1 in absurd (omega (arith, none, less))
       by_steps (run.ToDesignated ∷ rest) view (d, c, n, is, lead) =
           let type : designated s.table (object_at s x).of ≡ d = ap (λ z. designated_of (object_at s x).of (view_of_shape z)) is in
-          subst (λ z. (Lifted v (way_along rest (All (variable x))) × IsRooted (expand v (way_along rest (All (variable x)))))
+          subst (λ z. (IsLifted x (way_along rest (All (variable x))))
           ⊎ IsRaised m (followed_by (designated_place (designated s.table (object_at s x).of) z here_now) (walked s rest))) (sym (one_slot x d c n is))
-          (subst (λ z. (Lifted v (way_along rest (All (variable x))) × IsRooted (expand v (way_along rest (All (variable x)))))
+          (subst (λ z. (IsLifted x (way_along rest (All (variable x))))
           ⊎ IsRaised m (followed_by (designated_place z ((slot_of x).word ∷ []) here_now) (walked s rest))) (sym type)
           (by_word rest d view (slot_of x).word refl))
 
-      by_kind : (b : Bool) → is_observer s x ≡ b
-          → (is_observer s x ≡ false) ⊎ ((Lifted v (way_along way (variable x)) × IsRooted (expand v (way_along way (variable x))))
+      by_kind : (b : Bool) → is_anonymous (view_of s x) ≡ b
+          → (is_anonymous (view_of s x) ≡ false) ⊎ ((IsLifted x (way_along way (variable x)))
           ⊎ IsRaised m (walked s way (variable_place h x) here_now))
       by_kind false e = inl e
-      by_kind true e = inr (by_steps way (seen_view (is_variable (object_at s x).kind) (is_borrowing (view_of s x)) (is_observing (view_of s x)) e) starts)
+      by_kind true e = inr (by_steps way e starts)

@@ -1,6 +1,6 @@
 -- What instructions lead to in programs with borrowers and observers: conditions, assignments to
 -- targets that aren't views, and declarations of borrowers and observers.
-use Rattle.std.proofs.Common.{◌≡◌, refl, sym, ap, ◌∙◌, subst, ◌⊎◌, inl, inr, ℕ, suc, ◌<◌, Bool, true, false, not, ◌&&◌, ◌||◌, List, [], ◌∷◌, ◌++◌, map, flat_map, reverse, take, drop, length, nat_lt, arith, Option, Some, None, if◌then◌else◌}
+use Rattle.std.proofs.Common.{◌≡◌, refl, sym, ap, ◌∙◌, subst, ◌⊎◌, inl, inr, ℕ, suc, ◌<◌, Bool, true, false, not, ◌&&◌, ◌||◌, List, [], ◌∷◌, ◌++◌, map, flat_map, reverse, take, drop, length, nat_lt, arith, Option, Some, None, if◌then◌else◌, ◌==◌, eqb-true, eq-eqb, get_or}
 use Rattle.spark_base.specs.declared.position.Pos.{Pos}
 use Rattle.place_names.specs.declared.act.Act.{Act}
 use Rattle.place_names.specs.declared.act.Act.TheVariants as act
@@ -16,7 +16,7 @@ use Rattle.flow_paths.specs.Names.{has_call, name_of, whole, whole_object, first
 use Rattle.flow_paths.specs.Scopes.{taken}
 use Rattle.flow_paths.specs.Acts.{acts_in, stored_acts, declared_acts, assigned_to, source_acts, index_acts, reborrow, observe, target_pos as acts_target_pos}
 use Rattle.machine.specs.Words as machine
-use Rattle.machine.specs.Memory.{Memory, cell, stored, declared, given_up}
+use Rattle.machine.specs.Memory.{Memory, cell, stored, declared, given_up, Slot, fresh, no_slot, variable_slots, undeclared}
 use Rattle.machine.specs.Evaluate.{Here, Now, AsValue, AsView, Evaluated, Done, Raises, Traps, followed_by, evaluate, checked, value, viewed, place_of}
 use Rattle.machine.specs.Evaluate as run
 use Rattle.machine.specs.Calls.{checks_at}
@@ -24,31 +24,44 @@ use Rattle.machine.specs.States.{Waiting, Leak, State, Outcome, Goes, Ends}
 use Rattle.machine.specs.Step.{Turn, counted, typing, here, start, waiting, Stored, first_value, taken_by, declare, assign, goes, behind, led, successor, leaking_goes, target_pos}
 use Rattle.machine.specs.Step as steps
 use Rattle.machine.specs.Owners.{is_in_formal, waiting_in, WellOwned}
-use Rattle.owned_ways.specs.Ways.{Loc, Way, All, Reaches, IsRooted, Named, Allows, after, AllowsAll, number_of}
+use Rattle.owned_ways.specs.Ways.{Loc, Way, All, Reaches, IsRooted, Named, Allows, after, AllowsAll, number_of, OfRoot}
 use Rattle.owned_ways.specs.Ways as ways
 use Rattle.part_offsets.specs.Parts.{IsSettled}
 use Rattle.soundness.specs.Seen.{content, trunk, seen, home}
-use Rattle.soundness.specs.Changes.{leaks_at}
+use Rattle.soundness.specs.Changes.{leaks_at, Checks}
 use Rattle.soundness.specs.Typed.{Matches, IsCell, OwnsByShape, Kept}
 use Rattle.soundness.specs.Sound.{IsTrap}
 use Rattle.soundness.specs.Sound as sound
 use Rattle.typed_laws.specs.Needed.{Stays, Leads, Gives}
-use Rattle.soundness.proofs.Contents.{bool_cases, all_checks}
+use Rattle.soundness.proofs.Contents.{bool_cases, all_checks, checks_made}
+use Rattle.soundness.proofs.Memories.{removed_same, removed_other}
+use Rattle.soundness.proofs.Defaults.{none_default}
+use Rattle.soundness.proofs.Keeping.{cell_has}
+use Rattle.soundness.proofs.Steps.{alike}
+use Rattle.owned_loans.proofs.Clear.{refused, clear_same}
+use Rattle.viewed_soundness.proofs.Moments.{ended_viewed}
+use Rattle.spark_base.specs.Lists.{Has}
+use Rattle.place_names.specs.declared.fact.Fact.TheVariants.{Moved}
+use Rattle.place_names.specs.declared.rule.Rule.TheVariants.{O8}
+use Rattle.place_names.specs.Rules.{breaks_O8}
+use Rattle.owned_ways.proofs.Assigned.{kept_fact}
 use Rattle.soundness.proofs.Numbers.{index_law}
-use Rattle.soundness.proofs.Lasting.{keeps}
+use Rattle.soundness.proofs.Lasting.{keeps, removed_kept}
 use Rattle.soundness.proofs.Raised.{raised_owned}
 use Rattle.soundness.proofs.Scalars.{acts, acts_append, after_append, allows_both}
 use Rattle.soundness.proofs.Stays.{Quiet, One}
 use Rattle.soundness.proofs.Waits.{or_both, take_none, drop_none, waits_of, led_waits}
-use Rattle.owned_loans.specs.Views.{Views, expand, Viewed, Unused, with_view}
-use Rattle.owned_loans.proofs.Allowed.{Cleared, borrow_clears, observe_clears}
+use Rattle.owned_loans.specs.Views.{Views, expand, Viewed, Unused, with_view, HasLoan}
+use Rattle.owned_loans.proofs.Allowed.{Cleared, borrow_clears, observe_clears, loan_kept}
+use Rattle.owned_loans.proofs.Ways.{Lifted, next_of}
 use Rattle.owned_loans.proofs.Taken.{becomes_with}
+use Rattle.owned_loans.proofs.Taken as lent
 use Rattle.viewed_soundness.specs.Holds.{IsNamed, PartsAreNamed, Holds, AllKeep}
-use Rattle.viewed_soundness.proofs.Names.{not_view}
+use Rattle.viewed_soundness.proofs.Names.{not_view, true_false}
 use Rattle.viewed_soundness.proofs.Stays.{quiet, steps_quiet}
 use Rattle.viewed_soundness.proofs.Evaluated.{Ready, live_trunk}
 use Rattle.viewed_soundness.proofs.Stored.{Assigns, assigned}
-use Rattle.viewed_soundness.proofs.Viewing.{IsDesignated, IsOfType, Became, way_from, number_in, borrower_declared, observer_stored}
+use Rattle.viewed_soundness.proofs.Viewing.{IsDesignated, IsOfType, Became, way_from, number_in, borrower_declared, observer_stored, observer_again, view_emptied}
 use Rattle.viewed_soundness.proofs.Sources.{Shows, source_quiet}
 
 -- ---- types of views, and acts
@@ -272,10 +285,11 @@ module _ (t : Turn) (settled : IsSettled (typing t).table) (own_law : OwnsByShap
       × Kept s (declared depth x (z ∷ []) m) hands × Holds s depth views (declared depth x (z ∷ []) m)
 
   -- What the source gives is stored in the variable of the view.
-  abbrev Gets : ℕ → ℕ → PlaceName → List Fact → Type 0
-  Gets x d name facts =
+  abbrev Gets : ℕ → ℕ → ℕ → PlaceName → List Fact → Type 0
+  Gets x y d name facts =
       (u : Way) (z : machine.Word) → Named (home s depth) u → ways.name_of u ≡ name → IsDesignated v (seen s m hands t.state.leaks) u z
-      → ((k : ℕ) → z ≡ machine.Cell k → IsCell s m d k) → (views : Views) × Got views x z facts
+      → ((k : ℕ) → z ≡ machine.Cell k → IsCell s m d k)
+      → (is_anonymous (view_of s y) ≡ true → (k : ℕ) → z ≡ machine.Cell k → (l : Lifted v (All u)) × (l.object ≡ y)) → (views : Views) × Got views x z facts
 
   -- An object of an anonymous access type whose source designates what it does.
   pub record Observes (x y u d : ℕ) (path : TypedTree) : Type 0 where
@@ -305,8 +319,8 @@ module _ (t : Turn) (settled : IsSettled (typing t).table) (own_law : OwnsByShap
 
   borrow_gets : (x y u d : ℕ) (path : TypedTree) (facts : List Fact) → Observes x y u d path → IsGood v facts t.state → Unused v facts x
       → is_observer s x ≡ false → is_observer s y ≡ false → y < x → Allows facts (act.Borrow x (name_of y path))
-      → Gets x d (name_of y path) (effect (act.Borrow x (name_of y path)) facts)
-  borrow_gets x y u d path facts observes good unused borrows plain older allowed w z named called is typed =
+      → Gets x y d (name_of y path) (effect (act.Borrow x (name_of y path)) facts)
+  borrow_gets x y u d path facts observes good unused borrows plain older allowed w z named called is typed lifted =
       let views : Views = with_view v x (way_from z (expand v (All w))) w (All w) (number_in z) in
       let root : number_of w ≡ y = ap (λ (n : PlaceName). n.root) called in
       let got = borrower_declared s settled depth other v views m hands t.state.leaks facts good.viewed good.kept good.holds x z observes.mine observes.anonymous
@@ -317,8 +331,8 @@ module _ (t : Turn) (settled : IsSettled (typing t).table) (own_law : OwnsByShap
 
   observe_gets : (x y u d : ℕ) (path : TypedTree) (facts : List Fact) → Observes x y u d path → IsGood v facts t.state
       → is_observer s x ≡ true → is_observer s y ≡ false → Allows facts (act.Observe x (name_of y path) false)
-      → Gets x d (name_of y path) (effect (act.Observe x (name_of y path) false) facts)
-  observe_gets x y u d path facts observes good sees plain allowed w z named called is typed =
+      → Gets x y d (name_of y path) (effect (act.Observe x (name_of y path) false) facts)
+  observe_gets x y u d path facts observes good sees plain allowed w z named called is typed lifted =
       let views : Views = with_view v x (way_from z (expand v (All w))) w (All w) (number_in z) in
       let root : number_of w ≡ y = ap (λ (n : PlaceName). n.root) called in
       let got = observer_stored s settled depth other v views m hands t.state.leaks facts good.viewed good.kept good.holds x z observes.mine observes.anonymous
@@ -327,20 +341,20 @@ module _ (t : Turn) (settled : IsSettled (typing t).table) (own_law : OwnsByShap
       is (subst (λ n. Allows facts (act.Observe x n false)) (sym called) allowed) in
       (views, subst (λ n. Got views x z (effect (act.Observe x n false) facts)) called (got.sound, got.words_kept, got.views_held))
 
-  abbrev Shown : (facts : List Fact) → IsGood v facts t.state → ℕ → PlaceName → List machine.Word → Type 0
-  Shown facts good d name ws =
+  abbrev Shown : (facts : List Fact) → IsGood v facts t.state → ℕ → ℕ → PlaceName → List machine.Word → Type 0
+  Shown facts good y d name ws =
       (u : Way) × Named (home s depth) u × (ways.name_of u ≡ name)
-      × Shows (here t) settled hands t.state.leaks m [] other facts v good.kept good.viewed good.holds alone (live facts good) index_law own_law parts_named d u ws
+      × Shows (here t) settled hands t.state.leaks m [] other facts v good.kept good.viewed good.holds alone (live facts good) index_law own_law parts_named y d u ws
 
-  then_got : (x d : ℕ) (name : PlaceName) (facts behind : List Fact) (good : IsGood v facts t.state) → Gets x d name behind → (y : Evaluated (List machine.Word))
-      → Quiet now (Shown facts good d name) y → Leads_on behind (steps.evaluated t y (λ ws m. goes t (declared depth x ws m) 0))
-  then_got x d name facts behind good gets (Done ws n) (same, (u, named, called, shows)) =
-      let got = gets u shows.word named called shows.designated shows.typed in
+  then_got : (x y d : ℕ) (name : PlaceName) (facts behind : List Fact) (good : IsGood v facts t.state) → Gets x y d name behind → (e : Evaluated (List machine.Word))
+      → Quiet now (Shown facts good y d name) e → Leads_on behind (steps.evaluated t e (λ ws m. goes t (declared depth x ws m) 0))
+  then_got x y d name facts behind good gets (Done ws n) (same, (u, named, called, shows)) =
+      let got = gets u shows.word named called shows.designated shows.typed shows.lifted in
       subst (λ (z : Now). Leads_on behind (goes t (declared depth x ws z.memory) 0)) (sym same)
       (subst (λ z. Leads_on behind (goes t (declared depth x z m) 0)) (sym shows.is)
       (goes_to (declared depth x (shows.word ∷ []) m) 0 got.0 behind got.1.0 got.1.1 got.1.2))
-  then_got x d name facts behind good gets (Raises e n) is = (λ trap. trap, raises facts good n.memory)
-  then_got x d name facts behind good gets (Traps e n) never = absurd never
+  then_got x y d name facts behind good gets (Raises e n) is = (λ trap. trap, raises facts good n.memory)
+  then_got x y d name facts behind good gets (Traps e n) never = absurd never
 
   -- the act of the source is allowed after those of its indexes, which change nothing
   last_allowed : (x y u d : ℕ) (p : Pos) (path : TypedTree) (a : PlaceName → Act) → Observes x y u d path → has_call path ≡ false
@@ -358,7 +372,7 @@ module _ (t : Turn) (settled : IsSettled (typing t).table) (own_law : OwnsByShap
   view_leads : (x y u d : ℕ) (p : Pos) (path rest : TypedTree) (a : PlaceName → Act) → Observes x y u d path → has_call path ≡ false
       → (facts : List Fact) (good : IsGood v facts t.state) → AllowsAll facts (acts (source_acts s (Name p y path u) a))
       → ((w : Way) → ways.name_of w ≡ name_of y path → is_observer s y ≡ false → Cleared facts w)
-      → (Allows facts (a (name_of y path)) → Gets x d (name_of y path) (effect (a (name_of y path)) facts))
+      → (Allows facts (a (name_of y path)) → Gets x y d (name_of y path) (effect (a (name_of y path)) facts))
       → Leads_on (after (acts (source_acts s (Name p y path u) a)) facts) (declare t x (More (Name p y path u) rest))
   view_leads x y u d p path rest a observes calls facts good allowed clears gets =
       let b : List Act = acts (acts_in s path) in
@@ -378,7 +392,7 @@ module _ (t : Turn) (settled : IsSettled (typing t).table) (own_law : OwnsByShap
       (subst (λ c. Leads_on (effect (a (name_of y path)) facts)
       (steps.evaluated t (if c then viewed (here t) (Name p y path u) now else followed_by (value (here t) (Name p y path u) now) (checked (here t) (object_at s x).of))
       (λ ws m. goes t (declared depth x ws m) 0))) (sym observes.anonymous)
-      (then_got x d (name_of y path) facts (effect (a (name_of y path)) facts) good (gets mine) (evaluate (here t) AsView (Name p y path u) now) shown)))
+      (then_got x y d (name_of y path) facts (effect (a (name_of y path)) facts) good (gets mine) (evaluate (here t) AsView (Name p y path u) now) shown)))
 
   -- A borrower is declared. Its source is an older object, or is rooted in one.
   pub borrower_leads : (x y u d : ℕ) (p : Pos) (path rest : TypedTree) → Observes x y u d path → is_borrower s x ≡ true → is_observer s x ≡ false
@@ -412,3 +426,154 @@ module _ (t : Turn) (settled : IsSettled (typing t).table) (own_law : OwnsByShap
       (view_leads x y u d p path rest a observes calls facts good goes_by
       (λ w called plain. observe_clears facts x false w (subst (λ n. Allows facts (act.Observe x n false)) (sym called) (last_allowed x y u d p path a observes calls facts good goes_by)))
       (λ mine. observe_gets x y u d path facts observes good sees plain mine))
+
+  -- ---- an observer of what another observer sees
+
+  again_gets : (x y u d : ℕ) (path : TypedTree) (facts : List Fact) → Observes x y u d path → IsGood v facts t.state
+      → is_observer s x ≡ true → is_observer s y ≡ true
+      → Gets x y d (name_of y path) (effect (act.Observe x (name_of y path) true) facts)
+  again_gets x y u d path facts observes good sees from w z named called is typed lifted = by_word z is typed lifted
+    where
+      anonymous : (a b c : Bool) → a && c ≡ true → b || c ≡ true
+      anonymous true true c e = refl
+      anonymous true false c e = e
+      anonymous false b c e = cc
+
+      view_y : is_anonymous (view_of s y) ≡ true
+      view_y = anonymous (is_variable (object_at s y).kind) (is_borrowing (view_of s y)) (is_observing (view_of s y)) from
+
+      nothing : (z : machine.Word) → ((k : ℕ) → z ≡ machine.Cell k → ⊥) → IsDesignated v (seen s m hands t.state.leaks) w z
+          → ((k : ℕ) → z ≡ machine.Cell k → IsCell s m d k) → (views : Views) × Got views x z (effect (act.Observe x (name_of y path) true) facts)
+      nothing z null is typed =
+          let views : Views = with_view v x (way_from z w) w w (number_in z) in
+          let a : Act = act.Observe x (name_of y path) true in
+          let got = view_emptied s settled depth other v views m hands t.state.leaks facts good.viewed good.kept good.holds x z observes.mine observes.anonymous
+          (one_word x y u d path observes) (of_type x y u d path observes z typed) (effect a facts) w w w (becomes_with v x (way_from z w) w w (number_in z)) null
+          (lent.observer_unused (home s depth) (is_observer s) other v views (seen s m hands t.state.leaks) facts good.viewed x sees)
+          (λ n has. kept_fact a facts (Moved n) has refl) (λ seen q n. loan_kept a facts (λ l h k. refl) seen q n)
+          (clear_same (is_observer s) facts good.viewed.clear a refl) in
+          (views, (got.sound, got.words_kept, got.views_held))
+
+      by_word : (z : machine.Word) → IsDesignated v (seen s m hands t.state.leaks) w z → ((k : ℕ) → z ≡ machine.Cell k → IsCell s m d k)
+          → (is_anonymous (view_of s y) ≡ true → (k : ℕ) → z ≡ machine.Cell k → (l : Lifted v (All w)) × (l.object ≡ y))
+          → (views : Views) × Got views x z (effect (act.Observe x (name_of y path) true) facts)
+      by_word (machine.Cell k) is typed lifted =
+          let z : machine.Word = machine.Cell k in
+          let l = lifted view_y k refl in
+          let views : Views = with_view v x (way_from z (expand v (All w))) (v.loan l.0.object) (next_of v (All w) l.0) (number_in z) in
+          let got = observer_again s settled depth other v views m hands t.state.leaks facts good.viewed good.kept good.holds x z observes.mine observes.anonymous
+          (one_word x y u d path observes) (of_type x y u d path observes z typed) w l.0 (ap (is_observer s) l.1 ∙ from)
+          (becomes_with v x (way_from z (expand v (All w))) (v.loan l.0.object) (next_of v (All w) l.0) (number_in z)) sees named is in
+          (views, subst (λ n. Got views x z (effect (act.Observe x n true) facts)) called (got.sound, got.words_kept, got.views_held))
+      by_word (machine.Int k) is typed lifted = nothing (machine.Int k) (λ q e. cc) is typed
+      by_word (machine.Enumerated k) is typed lifted = nothing (machine.Enumerated k) (λ q e. cc) is typed
+      by_word machine.Null is typed lifted = nothing machine.Null (λ q e. cc) is typed
+
+  -- An observer is declared that sees what another one does.
+  pub observer_again_leads : (x y u d : ℕ) (p : Pos) (path rest : TypedTree) → Observes x y u d path → is_borrower s x ≡ false → is_observer s x ≡ true
+      → is_observer s y ≡ true → has_call path ≡ false → (facts : List Fact) (good : IsGood v facts t.state)
+      → AllowsAll facts (acts (declared_acts s x (More (Name p y path u) rest)))
+      → Leads_on (after (acts (declared_acts s x (More (Name p y path u) rest))) facts) (declare t x (More (Name p y path u) rest))
+  observer_again_leads x y u d p path rest observes is_not sees from calls facts good allowed =
+      let e : TypedTree = Name p y path u in
+      let a : PlaceName → Act = (λ n. act.Observe x n true) in
+      let same : declared_acts s x (More e rest) ≡ source_acts s e a =
+      ap (λ b. if b then source_acts s e (act.Borrow x) else (if is_observer s x then source_acts s e (observe s x) else acts_in s (More e rest))) is_not
+      ∙ ap (λ b. if b then source_acts s e (observe s x) else acts_in s (More e rest)) sees
+      ∙ ap (λ b. index_acts s e ++ (record { pos = p; act = act.Observe x (name_of y path) b } ∷ [])) from in
+      let goes_by : AllowsAll facts (acts (source_acts s e a)) = subst (λ z. AllowsAll facts (acts z)) same allowed in
+      subst (λ z. Leads_on (after (acts z) facts) (declare t x (More e rest))) (sym same)
+      (view_leads x y u d p path rest a observes calls facts good goes_by
+      (λ w called plain. absurd (true_false (is_observer s y) from plain))
+      (λ mine. again_gets x y u d path facts observes good sees from))
+
+  -- ---- the end of a scope
+
+  -- What is left when an object's scope ends: the ways of other views don't begin there, and other
+  -- observers go by loans that stay.
+  pub record LeavesOthers (views : Views) (x : ℕ) (facts : List Fact) : Type 0 where
+    pub no_value : views.way x ≡ None
+    pub roots : (y : ℕ) (w : Way) → views.way y ≡ Some w → number_of w ≡ x → ⊥
+    pub loans : (y : ℕ) (w : Way) → views.way y ≡ Some w → is_observer s y ≡ true → HasLoan true y facts (ways.name_of (views.loan y))
+
+  -- the variables of the other views
+  abbrev Others_hold : Views → ℕ → Type 0
+  Others_hold views x =
+      ((y n : ℕ) → (y ≡ x → ⊥) → is_anonymous (view_of s y) ≡ true
+      → (get_or (variable_slots s (home s depth y) y m.variables) 0 no_slot).word ≡ machine.Cell n → (w : Way) × (views.way y ≡ Some w) × (views.cell y ≡ n))
+      × ((y : ℕ) (w : Way) → views.way y ≡ Some w → is_anonymous (view_of s y) ≡ true)
+
+  holds_ended : (views : Views) (x : ℕ) → home s depth x ≡ depth → Others_hold views x → Holds s depth views (undeclared depth x m)
+  holds_ended views x mine (others, only) = record {
+    held = λ y n view e. by_object y n view e (y == x) refl;
+    only = only;
+  }
+    where
+      same_variable : (f x g y : ℕ) → ways.OfVariable f x ≡ ways.OfVariable g y → y ≡ x
+      same_variable f x g y e = cc
+
+      by_object : (y n : ℕ) → is_anonymous (view_of s y) ≡ true
+          → (get_or (variable_slots s (home s depth y) y (undeclared depth x m).variables) 0 no_slot).word ≡ machine.Cell n
+          → (b : Bool) → (y == x) ≡ b → (w : Way) × (views.way y ≡ Some w) × (views.cell y ≡ n)
+      by_object y n view e true b =
+          let same = eqb-true y x b in
+          let was : get_or (fresh (machine.default s.table (object_at s x).of)) 0 no_slot ≡ get_or (variable_slots s (home s depth y) y (undeclared depth x m).variables) 0 no_slot =
+          sym (ap (λ q. get_or q 0 no_slot) (removed_same s depth x m.variables))
+          ∙ ap (λ f. get_or (variable_slots s f x (undeclared depth x m).variables) 0 no_slot) (sym mine)
+          ∙ ap (λ q. get_or (variable_slots s (home s depth q) q (undeclared depth x m).variables) 0 no_slot) (sym same) in
+          absurd (none_default s.table (object_at s x).of n
+          (cell_has (machine.default s.table (object_at s x).of) 0 n (ap (λ (q : Slot). q.word) was ∙ e)))
+      by_object y n view e false b =
+          let off : y ≡ x → ⊥ = λ same. (let no = eq-eqb y x same in cc) in
+          others y n off view
+          (sym (ap (λ q. (get_or q 0 no_slot).word) (removed_other s depth x (home s depth y) y (λ same. off (same_variable depth x (home s depth y) y same)) m.variables)) ∙ e)
+
+  ends_with : (views : Views) (x : ℕ) (borrower : Bool) → home s depth x ≡ depth → (facts : List Fact)
+      → Viewed (home s depth) (is_observer s) other views (seen s m hands t.state.leaks) facts → Kept s m hands → Others_hold views x
+      → LeavesOthers views x (effect (act.EndScope x borrower) facts) → Leads_on (effect (act.EndScope x borrower) facts) (steps.end_scope t x)
+  ends_with views x borrower mine facts viewed kept others leaves =
+      let leaks : List Leak = leaks_at s t.point.pos m (run.variable_place (here t) x) in
+      let checks : Checks s.table (content s m hands (OfRoot (ways.OfVariable (home s depth x) x))) [] t.state.leaks (t.state.leaks ++ leaks) =
+      checks_made s.table settled (content s m hands (OfRoot (ways.OfVariable (home s depth x) x))) [] (object_at s x).of t.point.pos t.state.leaks refl
+      (ap not (no_formals x)) (alike s.table settled (object_at s x).of (object_at s x).of (inl refl)) in
+      goes_on (undeclared depth x m) (checks_at s t.point.pos m (run.variable_place (here t) x)) leaks
+      (all_checks s t.point.pos m (run.variable_place (here t) x)) views (effect (act.EndScope x borrower) facts)
+      (subst (λ f. Viewed (home s depth) (is_observer s) other views (seen s (undeclared f x m) hands (t.state.leaks ++ leaks)) (effect (act.EndScope x borrower) facts)) mine
+      (ended_viewed s settled (home s depth) (is_observer s) other views m hands t.state.leaks (t.state.leaks ++ leaks) facts x borrower viewed checks
+      (record { none = leaves.no_value; roots = leaves.roots; loans = leaves.loans }) (λ w o. absurd (alone w o))))
+      (removed_kept s settled m depth x hands kept) (holds_ended views x mine others)
+
+  -- the scope of an object ends that isn't a view with a value
+  pub end_scope_leads : (x : ℕ) (borrower : Bool) → home s depth x ≡ depth → (facts : List Fact) → IsGood v facts t.state
+      → LeavesOthers v x (effect (act.EndScope x borrower) facts) → Leads_on (effect (act.EndScope x borrower) facts) (steps.end_scope t x)
+  end_scope_leads x borrower mine facts good leaves =
+      ends_with v x borrower mine facts good.viewed good.kept ((λ y n off view e. good.holds.held y n view e), good.holds.only) leaves
+
+  -- The scope of a view ends. No name that was moved is rooted in it, and no other view was taken
+  -- from it.
+  pub end_view_leads : (x : ℕ) (borrower : Bool) → home s depth x ≡ depth → (facts : List Fact) → IsGood v facts t.state → Unused v facts x
+      → LeavesOthers (with_view v x None (v.loan x) (v.up x) 0) x (effect (act.EndScope x borrower) facts)
+      → Leads_on (effect (act.EndScope x borrower) facts) (steps.end_scope t x)
+  end_view_leads x borrower mine facts good unused leaves =
+      let views : Views = with_view v x None (v.loan x) (v.up x) 0 in
+      let becomes = becomes_with v x None (v.loan x) (v.up x) 0 in
+      ends_with views x borrower mine facts
+      (lent.given_up (home s depth) (is_observer s) other v views (seen s m hands t.state.leaks) facts good.viewed x (v.loan x) (v.up x) 0 becomes unused)
+      good.kept
+      (
+        λ y n off view e. (let old = good.holds.held y n view e in (old.0, becomes.ways y off ∙ old.1, becomes.cells y off ∙ old.2)),
+        λ y w e. by_object y w e (y == x) refl,
+      )
+      leaves
+    where
+      none_some : (w : Way) → None ≡ Some w → ⊥
+      none_some w e = cc
+
+      by_object : (y : ℕ) (w : Way) → (with_view v x None (v.loan x) (v.up x) 0).way y ≡ Some w → (b : Bool) → (y == x) ≡ b → is_anonymous (view_of s y) ≡ true
+      by_object y w e true b = absurd (none_some w (sym (ap (λ c. if c then None else v.way y) b) ∙ e))
+      by_object y w e false b = good.holds.only y w (sym (ap (λ c. if c then None else v.way y) b) ∙ e)
+
+-- what a borrower's end asks of facts
+pub borrower_unmoved : (facts : List Fact) (x : ℕ) → Allows facts (act.EndScope x true) → (n : PlaceName) → Has facts (Moved n) → n.root ≡ x → ⊥
+borrower_unmoved facts x allowed n has e =
+    refused (breaks_O8 x true (Moved n)) O8 n (Moved n) (ap (λ b. b || false) (eq-eqb x n.root (sym e))) (allowed (Moved n) has)

@@ -2,7 +2,10 @@
 -- view.
 use Rattle.std.proofs.Common.{◌≡◌, refl, sym, ap, ◌∙◌, subst, inl, inr, ℕ, ◌<◌, ◌==◌, eqb-true, eq-eqb, Bool, true, false, ◌&&◌, List, [], ◌∷◌, length, get_or, Option, Some, None}
 use Rattle.place_names.specs.declared.act.Act.TheVariants.{Borrow, Observe, Reborrow}
+use Rattle.spark_base.specs.Lists.{Has}
+use Rattle.place_names.specs.Names.{Name as PlaceName}
 use Rattle.place_names.specs.declared.fact.Fact.{Fact}
+use Rattle.place_names.specs.declared.fact.Fact.TheVariants.{Moved}
 use Rattle.place_names.specs.Facts.{effect}
 use Rattle.type_definitions.specs.declared.table.Shape.{Shape}
 use Rattle.type_definitions.specs.declared.table.Shape.TheVariants as shape
@@ -22,9 +25,9 @@ use Rattle.soundness.proofs.Contents.{word_no}
 use Rattle.soundness.proofs.Joined.{trunk_trunk, not_inside}
 use Rattle.soundness.proofs.Memories.{put_same, put_other}
 use Rattle.soundness.proofs.Steps.{plain_end}
-use Rattle.owned_loans.specs.Views.{Down, on, Views, expand_root, expand, ExcusedBy, Viewed, Becomes, Unused}
-use Rattle.owned_loans.proofs.Ways.{Lifted}
-use Rattle.owned_loans.proofs.Taken.{borrowed, observed, observed_again, reborrowed}
+use Rattle.owned_loans.specs.Views.{Views, expand_root, expand, ExcusedBy, Viewed, Becomes, Unused, AreClear, HasLoan}
+use Rattle.owned_loans.proofs.Ways.{Lifted, next_of}
+use Rattle.owned_loans.proofs.Taken.{rebound, borrowed, observed, observed_again, reborrowed}
 use Rattle.owned_ways.proofs.Locations.{same_loc}
 use Rattle.owned_loans.proofs.Moves.{IsPlace, same_viewed}
 use Rattle.viewed_soundness.specs.Holds.{Holds}
@@ -274,18 +277,33 @@ module _ (s : Typing) (settled : IsSettled s.table) (frame : ℕ) (other : Way �
       (observed (home s frame) (is_observer s) other v t (seen s m hands leaks) facts viewed x (way_from z (expand v (All u))) u (number_in z) becomes observes
       named plain (designates v (seen s m hands leaks) u z is) allowed)
 
-  pub observer_again : (u : Way) (l : Lifted v u) → is_observer s l.object ≡ true
-      → Becomes v t x (way_from z (expand v (All u))) (v.loan l.object) (on (v.up l.object) (Down ∷ l.rest)) (number_in z) → is_observer s x ≡ true
+  pub observer_again : (u : Way) (l : Lifted v (All u)) → is_observer s l.object ≡ true
+      → Becomes v t x (way_from z (expand v (All u))) (v.loan l.object) (next_of v (All u) l) (number_in z) → is_observer s x ≡ true
       → Named (home s frame) u → IsDesignated v (seen s m hands leaks) u z → Became (effect (Observe x (name_of u) true) facts)
   observer_again u l sees becomes observes named is =
-      became (effect (Observe x (name_of u) true) facts) (expand v (All u)) (v.loan l.object) (on (v.up l.object) (Down ∷ l.rest)) becomes
+      became (effect (Observe x (name_of u) true) facts) (expand v (All u)) (v.loan l.object) (next_of v (All u) l) becomes
       (observed_again (home s frame) (is_observer s) other v t (seen s m hands leaks) facts viewed x (way_from z (expand v (All u))) u (number_in z) l sees becomes observes
       named (designates v (seen s m hands leaks) u z is))
 
-  pub borrower_stored : (u : Way) (l : Lifted v u) → l.object ≡ x
-      → Becomes v t x (way_from z (expand v (All u))) (v.loan l.object) (on (v.up l.object) (Down ∷ l.rest)) (number_in z) → is_observer s x ≡ false
+  pub borrower_stored : (u : Way) (l : Lifted v (All u)) → l.object ≡ x
+      → Becomes v t x (way_from z (expand v (All u))) (v.loan l.object) (next_of v (All u) l) (number_in z) → is_observer s x ≡ false
       → Named (home s frame) u → IsDesignated v (seen s m hands leaks) u z → Allows facts (Reborrow x (name_of u)) → Became (effect (Reborrow x (name_of u)) facts)
   borrower_stored u l same becomes borrows named is allowed =
-      became (effect (Reborrow x (name_of u)) facts) (expand v (All u)) (v.loan l.object) (on (v.up l.object) (Down ∷ l.rest)) becomes
+      became (effect (Reborrow x (name_of u)) facts) (expand v (All u)) (v.loan l.object) (next_of v (All u) l) becomes
       (reborrowed (home s frame) (is_observer s) other v t (seen s m hands leaks) facts viewed x (way_from z (expand v (All u))) u (number_in z) l same becomes borrows
       named (designates v (seen s m hands leaks) u z is) allowed)
+
+  -- a view that becomes null
+  pub view_emptied : (facts' : List Fact) (w loan up : Way) → Becomes v t x (way_from z w) loan up (number_in z) → ((k : ℕ) → z ≡ machine.Cell k → ⊥)
+      → Unused v facts x → ((n : PlaceName) → Has facts (Moved n) → Has facts' (Moved n))
+      → ((seen : Bool) (y : ℕ) (n : PlaceName) → HasLoan seen y facts n → HasLoan seen y facts' n) → AreClear (is_observer s) facts' → Became facts'
+  view_emptied facts' w loan up becomes null unused stays loans clear =
+      became facts' w loan up becomes
+      (rebound (home s frame) (is_observer s) other v t x (way_from z w) loan up (number_in z) becomes (seen s m hands leaks) facts facts' viewed unused stays loans clear
+      (λ y e. absurd (no_way z y e null)))
+    where
+      no_way : (z : machine.Word) (y : Way) → way_from z w ≡ Some y → ((k : ℕ) → z ≡ machine.Cell k → ⊥) → ⊥
+      no_way (machine.Cell k) y e null = null k refl
+      no_way (machine.Int k) y e null = cc
+      no_way (machine.Enumerated k) y e null = cc
+      no_way machine.Null y e null = cc
