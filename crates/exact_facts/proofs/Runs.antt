@@ -91,7 +91,7 @@ module _ (table : Table) (typed : TypedProgram) (effects : Effects) (ready : IsR
     on = step (flow_program table typed) input
 
     -- the outcome after so many steps from one
-    going : Outcome → ℕ → Outcome
+    abbrev going : Outcome → ℕ → Outcome
     going o zero = o
     going o (suc n) = then_on (going o n) on
 
@@ -118,7 +118,7 @@ module _ (table : Table) (typed : TypedProgram) (effects : Effects) (ready : IsR
 
     -- ---- a run with a budget takes these steps
 
-    spent : Outcome → Outcome
+    abbrev spent : Outcome → Outcome
     spent (Goes state) = Ends Spent state
     spent (Ends e state) = Ends e state
 
@@ -154,18 +154,18 @@ module _ (table : Table) (typed : TypedProgram) (effects : Effects) (ready : IsR
         subst (λ now. Holds now (within (suc n) (flow_program table typed) input (state_at_start (flow_program table typed)))) (sym (within_going n begun))
         (subst (Holds (spent (going begun n))) (sym (within_going (suc n) begun)) (by_outcome (going begun n) (reached n)))
 
+    abbrev main : ℕ
+    main = main_of (flow_program table typed).main
+
+    abbrev run_if : Bool → ℕ → Outcome
+    run_if b m =
+        if b then within m (flow_program table typed) input (state_at_start (flow_program table typed))
+        else Ends (Raised StorageError (sub_of (flow_program table typed) main).pos) (state_at_start (flow_program table typed))
+
+    if_holds : (n : ℕ) (b : Bool) → Holds (run_if b n) (run_if b (suc n))
+    if_holds n true = within_holds n
+    if_holds n false = inl refl
+
     pub run_holds : RunHolds (flow_program table typed) effects input
     unfolding moment
-    run_holds n = by (nat_le (frame_words (flow_program table typed) (frame_at_start main [] ∷ frame_at_start 0 [] ∷ [])) stack_words)
-      where
-        abbrev main : ℕ
-        main = main_of (flow_program table typed).main
-
-        abbrev run_if : Bool → ℕ → Outcome
-        run_if b m =
-            if b then within m (flow_program table typed) input (state_at_start (flow_program table typed))
-            else Ends (Raised StorageError (sub_of (flow_program table typed) main).pos) (state_at_start (flow_program table typed))
-
-        by : (b : Bool) → Holds (run_if b n) (run_if b (suc n))
-        by true = within_holds n
-        by false = inl refl
+    run_holds n = if_holds n (nat_le (frame_words (flow_program table typed) (frame_at_start main [] ∷ frame_at_start 0 [] ∷ [])) stack_words)

@@ -38,7 +38,7 @@ AreFirst table = (t : ℕ) → t < 5 → slice_get table t ≡ slice_get (predef
 
 -- ---- views without their bounds
 
-unbounded : View → View
+abbrev unbounded : View → View
 unbounded (view.Whole low high) = view.Whole (pos 0) (pos 0)
 unbounded (view.Listed low high) = view.Whole (pos 0) (pos 0)
 unbounded (view.Elements low high of) = view.Elements (pos 0) (pos 0) of
@@ -54,7 +54,7 @@ outline_view (shape.Access designated constant named) = refl
 outline_view (shape.Fields components) = refl
 outline_view (shape.Same of) = refl
 
-seen_outline : Option ℕ → Option Outline → View
+abbrev seen_outline : Option ℕ → Option Outline → View
 seen_outline here None = view.Hidden
 seen_outline here (Some x) = if is_within x.2 here then unbounded (view_of x.0) else view.Hidden
 
@@ -66,7 +66,7 @@ found_view here (Some i) = by (is_within i.seen_in here)
     by true = outline_view i.shape
     by false = refl
 
-base_of : Option Outline → ℕ
+abbrev base_of : Option Outline → ℕ
 base_of None = 0
 base_of (Some x) = x.1
 
@@ -74,7 +74,7 @@ found_base : (o : Option Info) → base_found o ≡ base_of (outlined o)
 found_base None = refl
 found_base (Some i) = refl
 
-meant_of : ℕ → Option Outline → ℕ
+abbrev meant_of : ℕ → Option Outline → ℕ
 meant_of t None = t
 meant_of t (Some x) = same_as t x.0
 
@@ -90,7 +90,7 @@ found_meant : (t : ℕ) (o : Option Info) → meant_type_found t o ≡ meant_of 
 found_meant t None = refl
 found_meant t (Some i) = meant_outline t i.shape
 
-components_in : Option Outline → List Component
+abbrev components_in : Option Outline → List Component
 components_in None = components_of (shape.Fields [])
 components_in (Some x) = components_of x.0
 
@@ -108,7 +108,7 @@ found_components (Some i) = components_outline i.shape
 
 -- ---- steps without values
 
-valueless : Next → Next
+abbrev valueless : Next → Next
 valueless (Goes t) = Goes t
 valueless (Gives v) = Gives (pos 0)
 valueless Stops = Stops
@@ -162,7 +162,7 @@ attribute_view a (view.Access designated constant named) = refl
 attribute_view a view.Fields = refl
 attribute_view a view.Hidden = refl
 
-reached_if : Bool → Next → Next
+abbrev reached_if : Bool → Next → Next
 reached_if b next = if b then Goes untyped else next
 
 valueless_reached : (b : Bool) (next : Next) → valueless (reached_if b next) ≡ reached_if b (valueless next)
@@ -215,13 +215,14 @@ type_own known other t a (view.Access designated constant named) rest = refl
 type_own known other t a view.Fields rest = refl
 type_own known other t a view.Hidden rest = refl
 
+abbrev goes_to : Next → ℕ
+goes_to (Goes n) = n
+goes_to (Gives v) = 0
+goes_to Stops = 0
+
 led_own : (known other : Known) (f g : ℕ → Reading) (rest : Tree) (x y : Next) → valueless x ≡ valueless y → ((u : ℕ) → own_of known (f u) ≡ own_of other (g u))
     → own_of known (led_on f rest x) ≡ own_of other (led_on g rest y)
 led_own known other f g rest (Goes t) (Goes u) same on = on t ∙ ap (λ n. own_of other (g n)) (ap goes_to same)
-  where
-    goes_to : Next → ℕ
-    goes_to (Goes n) = n
-    goes_to _ = 0
 led_own known other f g rest (Goes t) (Gives w) same on = cc
 led_own known other f g rest (Goes t) Stops same on = cc
 led_own known other f g rest (Gives v) (Goes u) same on = cc

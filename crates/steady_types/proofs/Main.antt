@@ -1,5 +1,5 @@
 -- At each loop of a program the table of the second turn is like that of the first one, and so it is at last.
-use Rattle.std.proofs.Common.{◌≡◌, inl, inr, ℕ, ◌<◌, ◌≤◌, true, List, [], ◌∷◌, refl, sym, ◌∙◌, Option, Some, None, true≢false}
+use Rattle.std.proofs.Common.{◌≡◌, inl, inr, ℕ, ◌<◌, ◌≤◌, true, false, List, [], ◌∷◌, refl, sym, ◌∙◌, Option, Some, None, true≢false}
 use Rattle.std.specs.Prelude.{slice_get}
 use Rattle.spark_base.specs.Lists.{Has}
 use Rattle.resolved_tree.specs.Trees.{Code, Package, PackageBody, Program}
@@ -60,10 +60,11 @@ module _ (final : Known) (count : ℕ) (all : List ℕ) (start : Table)
         like = record { home = refl; entries = y.like.entries };
         within = sym at;
         alike = λ until alike.
-            let last = record { fixed = until.fixed; own = until.own; seen = until.seen; unlike = until.unlike } in
+            let last : Until final count all start unlike T low (past_after hidden (within true q)) (gather hidden c).known.table
+            = record { fixed = until.fixed; own = until.own; seen = until.seen; no_name = until.no_name } in
             let middle = before final count all start unlike T low (within true q) c e (past_after hidden (within true q)) (gather hidden c) (gather hidden e)
                 (IsSteady T (Some n) hidden e) y last in
-            let f = x.alike (record { fixed = middle.fixed; own = middle.own; seen = middle.seen; unlike = middle.unlike }) alike in
+            let f = x.alike (record { fixed = middle.fixed; own = middle.own; seen = middle.seen; no_name = middle.no_name }) alike in
             let g = y.alike last f.0 in
             (g.0, (f.1, g.1));
       }
@@ -81,7 +82,7 @@ module _ (final : Known) (count : ℕ) (all : List ℕ) (start : Table)
         seen = x.seen;
         like = record { home = refl; entries = x.like.entries };
         within = sym at;
-        alike = λ until alike. x.alike (record { fixed = until.fixed; own = until.own; seen = until.seen; unlike = until.unlike }) alike;
+        alike = λ until alike. x.alike (record { fixed = until.fixed; own = until.own; seen = until.seen; no_name = until.no_name }) alike;
       }
   unit u p one two node named flat own like at = walk final count all start unlike T low u p one two None node named flat own like at
 
@@ -138,7 +139,7 @@ module _ (p : Program) (are : IsOrderly p) (opens : AllOpen (known_of p) p.units
         fixed = λ t is. refl;
         own = s.own;
         seen = λ t is. refl;
-        unlike = λ t of is. (rows_first p are opens).awaited t of is;
+        no_name = λ t of is. (rows_first p are opens).awaited t of is;
       }) (λ t. refl)
 
   -- At last the table is like that after the first turn.

@@ -150,7 +150,7 @@ formals_move : (front : Code) (one two : Context) → Moves one two (with_formal
 formals_move (Front d formals result) one two = moves_each with_formal_group with_formal_group group_moves formals one two
 formals_move front one two = stay one two
 
-as_subprogram : ℕ → Bool
+abbrev as_subprogram : ℕ → Bool
 as_subprogram zero = false
 as_subprogram (suc zero) = true
 as_subprogram (suc (suc n)) = false
@@ -174,7 +174,7 @@ body_moves front one two like =
 
 -- ---- marks
 
-as_type : ℕ → ℕ → ℕ
+abbrev as_type : ℕ → ℕ → ℕ
 as_type d zero = d
 as_type d (suc n) = untyped
 

@@ -17,19 +17,19 @@ set_row (y ∷ xs) (suc d) (suc t) x Q new old = set_row xs d t x Q (λ same. ne
 
 -- ---- what an outline says
 
-base_of : Option Outline → ℕ
+abbrev base_of : Option Outline → ℕ
 base_of None = 0
 base_of (Some x) = x.1
 
-shape_in : Option Outline → Shape
+abbrev shape_in : Option Outline → Shape
 shape_in None = shape.Fields []
 shape_in (Some x) = x.0
 
-seen_in : Option Outline → Option ℕ
-seen_in None = None
-seen_in (Some x) = x.2
+abbrev seen_of : Option Outline → Option ℕ
+seen_of None = None
+seen_of (Some x) = x.2
 
-meant_in : ℕ → Option Outline → ℕ
+abbrev meant_in : ℕ → Option Outline → ℕ
 meant_in t None = t
 meant_in t (Some x) = same_as t x.0
 
@@ -41,7 +41,7 @@ found_base : (o : Option Info) → base_found o ≡ base_of (outlined o)
 found_base None = refl
 found_base (Some i) = refl
 
-found_seen : (o : Option Info) → seen_found o ≡ seen_in (outlined o)
+found_seen : (o : Option Info) → seen_found o ≡ seen_of (outlined o)
 found_seen None = refl
 found_seen (Some i) = refl
 
@@ -94,17 +94,19 @@ module _ (table other : Table) (alike : AreAlike table other) (t : ℕ) where
   meant_alike = found_meant t (slice_get table t) ∙ (ap (meant_in t) (alike t) ∙ sym (found_meant t (slice_get other t)))
 
   pub seen_alike : seen_found (slice_get table t) ≡ seen_found (slice_get other t)
-  seen_alike = found_seen (slice_get table t) ∙ (ap seen_in (alike t) ∙ sym (found_seen (slice_get other t)))
+  seen_alike = found_seen (slice_get table t) ∙ (ap seen_of (alike t) ∙ sym (found_seen (slice_get other t)))
 
 -- ---- a row by its parts
 
-pub by_parts : (s u : Shape) (b d : ℕ) (p q : Option ℕ) → s ≡ u → b ≡ d → p ≡ q → Some (s, b, p) ≡ Some (u, d, q)
-by_parts s u b d p q shapes bases seen =
-    ap (λ x. Some (x, b, p)) shapes ∙ (ap (λ x. Some (u, x, p)) bases ∙ ap (λ x. Some (u, d, x)) seen)
+abbrev pub row_of : Shape → ℕ → Option ℕ → Option Outline
+row_of s b p = Some (s, b, p)
+
+pub by_parts : (s u : Shape) (b d : ℕ) (p q : Option ℕ) → s ≡ u → b ≡ d → p ≡ q → row_of s b p ≡ row_of u d q
+by_parts s u b d p q shapes bases seen = ap (λ x. row_of x b p) shapes ∙ (ap (λ x. row_of u x p) bases ∙ ap (λ x. row_of u d x) seen)
 
 -- a row with the definition of one that it is like, where it is based on itself
 pub rebuilt : (o other : Option Info) (n : ℕ) (s : Option ℕ) → outlined o ≡ outlined other → base_found o ≡ n → seen_found o ≡ s → 1 ≤ n
-    → outlined o ≡ Some (outline (info_found other).shape, n, s)
+    → outlined o ≡ row_of (outline (info_found other).shape) n s
 rebuilt None other n s like based seen high = absurd (omega (arith, based, high))
 rebuilt (Some i) None n s like based seen high = cc
 rebuilt (Some i) (Some j) n s like based seen high =

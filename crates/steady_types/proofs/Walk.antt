@@ -63,7 +63,7 @@ module _ (final : Known) (count : ℕ) (all : List ℕ) (start : Table)
     pub fixed : (t : ℕ) → IsFixed p t → slice_get T t ≡ slice_get table t
     pub own : (t : ℕ) → Has p.awaited t → base T t ≡ t
     pub seen : (t : ℕ) → Has p.awaited t → seen_found (slice_get T t) ≡ seen_found (slice_get table t)
-    pub unlike : (t of : ℕ) → Has p.awaited t → written T t ≡ shape.Same of → ⊥
+    pub no_name : (t of : ℕ) → Has p.awaited t → written T t ≡ shape.Same of → ⊥
 
   -- A part of the text in both turns, and what is said of it.
   pub record Step (p : Past) (one two : Context) (q : Past) (more_one more_two : Context) (Said : Type 0) : Type 0 where
@@ -83,7 +83,7 @@ module _ (final : Known) (count : ℕ) (all : List ℕ) (start : Table)
     fixed = λ t is. until.fixed t (fixes t is) ∙ stays t is;
     own = λ t is. until.own t (awaits t is);
     seen = λ t is. until.seen t (awaits t is) ∙ seen t is;
-    unlike = λ t of is. until.unlike t of (awaits t is);
+    no_name = λ t of is. until.no_name t of (awaits t is);
   }
 
   pub before : (p : Past) (one two : Context) (q : Past) (more_one more_two : Context) (S : Type 0) → Step p one two q more_one more_two S
@@ -131,7 +131,7 @@ module _ (final : Known) (count : ℕ) (all : List ℕ) (start : Table)
       → (Until (past_after code p) (set one.known.table n i) → Until p one.known.table → AreAlike T two.known.table → outlined (slice_get T n) ≡ outlined (Some j))
       → Step p one two (past_after code p) (gather code one) (gather code two) (Unit {0})
   one_row code p one two n i j node own like moves less same_one same_two awaits was based seen_same fits = record {
-    own = subst (Own q) (sym same_one) own_after;
+    own = subst (Own (past_after code p)) (sym same_one) own_after;
     awaits = awaits;
     fixes = fixes;
     stays = stays;
@@ -142,21 +142,18 @@ module _ (final : Known) (count : ℕ) (all : List ℕ) (start : Table)
       subst (AreAlike T) (sym same_two)
           (λ t. set_row two.known.table n t j (λ o. outlined (slice_get T t) ≡ outlined o)
           (λ same. ap (λ u. outlined (slice_get T u)) same
-          ∙ fits (subst (Until q) same_one until) (earlier p q one.known.table (gather code one).known.table awaits fixes stays seen until) alike) (alike t)),
+          ∙ fits (subst (Until (past_after code p)) same_one until) (earlier p (past_after code p) one.known.table (gather code one).known.table awaits fixes stays seen until) alike) (alike t)),
       tt,
     );
   }
     where
-      abbrev q : Past
-      q = past_after code p
-
-      own_after : Own q (set one.known.table n i)
+      own_after : Own (past_after code p) (set one.known.table n i)
       own_after t has = elim (cases_eq t n) [
-        | inl same ↦ ap (base (set one.known.table n i)) same ∙ (base_at one.known.table n i less ∙ (based (subst (Has q.awaited) same has) ∙ sym same))
+        | inl same ↦ ap (base (set one.known.table n i)) same ∙ (base_at one.known.table n i less ∙ (based (subst (Has (past_after code p).awaited) same has) ∙ sym same))
         | inr other ↦ base_off one.known.table n i t other ∙ own t (elim (was t has) [ inl same ↦ absurd (other same) | inr old ↦ old ])
       ]
 
-      fixes : (t : ℕ) → IsFixed p t → IsFixed q t
+      fixes : (t : ℕ) → IsFixed p t → IsFixed (past_after code p) t
       fixes t is = nodes.fixes final count all start unlike code p one node t is
 
       stays : (t : ℕ) → IsFixed p t → slice_get (gather code one).known.table t ≡ slice_get one.known.table t
@@ -191,7 +188,7 @@ module _ (final : Known) (count : ℕ) (all : List ℕ) (start : Table)
   settled p known t rows own until (inr is) = elim (find p.awaited t) [
     | inl waits ↦ (
       until.own t waits ∙ sym (own t waits),
-      meant_own t (slice_get T t) (λ of. until.unlike t of waits) ∙ sym (meant_own t (slice_get known.table t) (λ of. rows.awaited t of waits)),
+      meant_own t (slice_get T t) (λ of. until.no_name t of waits) ∙ sym (meant_own t (slice_get known.table t) (λ of. rows.awaited t of waits)),
     )
     | inr none ↦ elim is [
       | inl waits ↦ absurd (none waits)
