@@ -213,8 +213,8 @@ module _ (kind_at : ℕ → DeclKind) (limit : ℕ) where
       let is : is_type_kind (kind_at n) ≡ false = no_type_kind form.Object n refl f.2 in
       let now : Given kind_at limit inner.known.entries k = indication_given kind_at limit n i c k given in
       let stay = objects_stay n x constant i v rest (with_object constant i v d c)
-          (calm (suc k) L j n x f.1 (omega (arith, at)) is (class_right kind_at limit form.Object n x refl f.2) refl)
-          (there_still form.Object n k j L x inner.known.entries goes refl now) in (
+      (calm (suc k) L j n x f.1 (omega (arith, at)) is (class_right kind_at limit form.Object n x refl f.2) refl)
+      (there_still form.Object n k j L x inner.known.entries goes refl now) in (
         (
           object_info c constant (indicated c.known n i) v,
           agrees n (omega (arith, at, high)) (omega (arith, at, grows)) is ∙ stay,
@@ -237,8 +237,8 @@ module _ (kind_at : ℕ → DeclKind) (limit : ℕ) where
       let high = goes.2 in
       let is : is_type_kind (kind_at n) ≡ false = no_type_kind form.Object n refl f.2 in
       let stay = numbers_stay n x v rest (with_number v d c)
-          (calm (suc k) L j n x f.1 (omega (arith, at)) is (class_right kind_at limit form.Object n x refl f.2) refl)
-          (there_still form.Object n k j L x c.known.entries goes refl given) in (
+      (calm (suc k) L j n x f.1 (omega (arith, at)) is (class_right kind_at limit form.Object n x refl f.2) refl)
+      (there_still form.Object n k j L x c.known.entries goes refl given) in (
         (number_info c v, agrees n (omega (arith, at, high)) (omega (arith, at, grows)) is ∙ stay, refl),
         numbers_typed v rest (with_number v d c) known (suc k) j f.1 (more_given form.Object n k j L x c.known.entries goes refl refl refl given) agrees,
       )

@@ -51,16 +51,18 @@ mutual
   statement_flat looped (Call name) is = tt
   statement_flat looped (Exit p when) is = tt
   statement_flat looped (Return p v) is = tt
-  statement_flat looped (If p branches otherwise) is =
-      (branches_flat looped branches (first (are_branches looped branches) (are_statements looped otherwise) is),
-      statements_flat looped otherwise (second (are_branches looped branches) (are_statements looped otherwise) is))
+  statement_flat looped (If p branches otherwise) is = (
+    branches_flat looped branches (first (are_branches looped branches) (are_statements looped otherwise) is),
+    statements_flat looped otherwise (second (are_branches looped branches) (are_statements looped otherwise) is),
+  )
   statement_flat looped (Case p e whens) is = alternatives_flat looped whens is
   statement_flat looped (Loop p stmts) is = statements_flat true stmts is
   statement_flat looped (While p e stmts) is = statements_flat true stmts is
   statement_flat looped (For p d reversed range stmts) is = statements_flat true stmts is
-  statement_flat looped (Block p items stmts end) is =
-      (declarations_flat items (first (are_declarations items) (are_statements looped stmts) is),
-      statements_flat looped stmts (second (are_declarations items) (are_statements looped stmts) is))
+  statement_flat looped (Block p items stmts end) is = (
+    declarations_flat items (first (are_declarations items) (are_statements looped stmts) is),
+    statements_flat looped stmts (second (are_declarations items) (are_statements looped stmts) is),
+  )
   statement_flat looped NoMore is = tt
   statement_flat looped _ is = never is
 
@@ -76,9 +78,10 @@ mutual
   branch_flat looped _ is = never is
 
   alternatives_flat : (looped : Bool) (code : Code) → are_alternatives looped code ≡ true → IsFlat code
-  alternatives_flat looped (More a rest) are =
-      (alternative_flat looped a (first (is_alternative looped a) (are_alternatives looped rest) are),
-      alternatives_flat looped rest (second (is_alternative looped a) (are_alternatives looped rest) are))
+  alternatives_flat looped (More a rest) are = (
+    alternative_flat looped a (first (is_alternative looped a) (are_alternatives looped rest) are),
+    alternatives_flat looped rest (second (is_alternative looped a) (are_alternatives looped rest) are),
+  )
   alternatives_flat looped NoMore are = tt
   alternatives_flat looped _ are = never are
 

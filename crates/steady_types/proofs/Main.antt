@@ -46,11 +46,11 @@ module _ (final : Known) (count : ℕ) (all : List ℕ) (start : Table)
       let moves = put n entry.Package entry.Package one two refl in
       let q : Past = past_after visible (within true p) in
       let x = walk final count all start unlike T low visible (within true p) a b None pieces.first named.0 flat.0 own
-          (record { home = refl; entries = (moves.like like).entries }) at in
+      (record { home = refl; entries = (moves.like like).entries }) at in
       let c : Context = in_hidden n (gather visible a) in
       let e : Context = in_hidden n (gather visible b) in
       let y = walk final count all start unlike T low hidden (within true q) c e (Some n) pieces.second named.1 flat.1 x.own
-          (record { home = refl; entries = x.like.entries }) refl in
+      (record { home = refl; entries = x.like.entries }) refl in
       record {
         own = y.own;
         awaits = λ t is. y.awaits t (x.awaits t is);
@@ -63,7 +63,7 @@ module _ (final : Known) (count : ℕ) (all : List ℕ) (start : Table)
             let last : Until final count all start unlike T low (past_after hidden (within true q)) (gather hidden c).known.table
             = record { fixed = until.fixed; own = until.own; seen = until.seen; no_name = until.no_name } in
             let middle = before final count all start unlike T low (within true q) c e (past_after hidden (within true q)) (gather hidden c) (gather hidden e)
-                (IsSteady T (Some n) hidden e) y last in
+            (IsSteady T (Some n) hidden e) y last in
             let f = x.alike (record { fixed = middle.fixed; own = middle.own; seen = middle.seen; no_name = middle.no_name }) alike in
             let g = y.alike last f.0 in
             (g.0, (f.1, g.1));
@@ -73,7 +73,7 @@ module _ (final : Known) (count : ℕ) (all : List ℕ) (start : Table)
       let a : Context = in_hidden n one in
       let b : Context = in_hidden n two in
       let x = walk final count all start unlike T low parts (within true p) a b (Some n) (nodes.package_body_node final count all start unlike d parts p one node) named flat own
-          (record { home = refl; entries = like.entries }) refl in
+      (record { home = refl; entries = like.entries }) refl in
       record {
         own = x.own;
         awaits = x.awaits;
@@ -133,8 +133,8 @@ module _ (p : Program) (are : IsOrderly p) (opens : AllOpen (known_of p) p.units
   all : All
   all =
       let s = units (known_of p) p.count (end p are opens).awaited (first p are opens) (unlike_first p are opens) after_first (begins_second p are opens).predefined
-          p.units at_start start_first start_second are opens (λ is. absurd (true≢false (sym is))) (λ d is. is) (begin_rows p.count (first p are opens) (begins_first p are opens))
-          named flat (λ t is. absurd is) (record { home = refl; entries = classes_same (begin p.count after_first).entries }) refl in
+      p.units at_start start_first start_second are opens (λ is. absurd (true≢false (sym is))) (λ d is. is) (begin_rows p.count (first p are opens) (begins_first p are opens))
+      named flat (λ t is. absurd is) (record { home = refl; entries = classes_same (begin p.count after_first).entries }) refl in
       s.alike (record {
         fixed = λ t is. refl;
         own = s.own;

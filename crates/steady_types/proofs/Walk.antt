@@ -359,7 +359,7 @@ module _ (final : Known) (count : ℕ) (all : List ℕ) (start : Table)
       let x = walk items p a b home nodes_two.first named.1 flat.0 s.own inner (s.within ∙ at) in
       let y = walk stmts q (gather items a) (gather items b) home nodes_two.second named.2 flat.1 x.own x.like (x.within ∙ (s.within ∙ at)) in
       let z = both p a b q (gather items a) (gather items b) (past_after stmts q) (gather stmts (gather items a)) (gather stmts (gather items b))
-          (IsSteady T home items b) (IsSteady T home stmts (gather items b)) x y in
+      (IsSteady T home items b) (IsSteady T home stmts (gather items b)) x y in
       record {
         own = z.own;
         awaits = z.awaits;
