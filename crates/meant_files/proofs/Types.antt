@@ -419,10 +419,10 @@ module _ (kind_at : ℕ → DeclKind) (limit : ℕ) where
   units_before : (known : Known) (units : List Code) (c : Context) (m j : ℕ) → All IsFormless units → Goes kind_at limit m (flat_map declarations units) j
       → Given kind_at limit c.known.entries m → Agrees known j (gather_units units c).known → Agrees known m c.known
   units_before known [] c m j none goes given agrees n high less never = agrees n high (let a = goes.0 in omega (arith, a, less)) never
-  units_before known (u ∷ rest) c m j none goes given agrees =
+  units_before known (u ∷ rest) c m j none goes given agrees n high less never =
       let s = goes_both kind_at limit m (declarations u) (flat_map declarations rest) j goes in
       agrees_before known u c m s.0 (none u (inl refl)) s.1 given
-      (units_before known rest (gather u c) s.0 j (λ v has. none v (inr has)) s.2 (all_given kind_at limit u c m s.0 (none u (inl refl)) s.1 given) agrees)
+      (units_before known rest (gather u c) s.0 j (λ v has. none v (inr has)) s.2 (all_given kind_at limit u c m s.0 (none u (inl refl)) s.1 given) agrees) n high less never
 
   pub units_first : (units : List Code) (c : Context) (k j : ℕ) → All IsFormless units → All IsNamed units → Goes kind_at limit k (flat_map declarations units) j
       → AreFirst c.known.table → AreFirst (gather_units units c).known.table

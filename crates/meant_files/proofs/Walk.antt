@@ -1,6 +1,6 @@
 -- The events of files declare what their code declares, in one order; each body stands where bodies are looked
 -- for; and marks of objects and of parameters of loops denote nothing that is declared after these.
-use Rattle.std.proofs.Common.{◌≡◌, inl, inr, ℕ, suc, ◌<◌, ◌≤◌, false, List, [], ◌∷◌, ◌++◌, map, flat_map, length, refl, sym, ap, ◌∙◌, arith, Option, Some, None, subst, append_assoc, length-append, unwrap_or, true≢false}
+use Rattle.std.proofs.Common.{◌≡◌, inl, inr, ℕ, suc, ◌<◌, ◌≤◌, false, List, [], ◌∷◌, ◌++◌, map, flat_map, length, refl, sym, ap, ◌∙◌, arith, Option, Some, None, subst, append_assoc, length-append, unwrap_or, true≢false, true}
 use Rattle.spark_base.specs.Lists.{Has}
 use Rattle.spark_base.proofs.Lists.{Has-append_cases, Has-append_left, Has-append_right}
 use Rattle.spark_base.specs.declared.position.Pos.{Pos}
