@@ -1,5 +1,5 @@
 -- Items, statements and units of files are meant, where their objects have the types that are indicated.
-use Rattle.std.proofs.Common.{◌≡◌, ◌∙◌, inl, inr, ℕ, true, List, [], ◌∷◌, map, flat_map, Option, Some, None, sym, subst}
+use Rattle.std.proofs.Common.{◌≡◌, ◌∙◌, inl, inr, ℕ, List, [], ◌∷◌, map, flat_map, Option, Some, None, sym, subst}
 use Rattle.spark_base.specs.Lists.{Has}
 use Rattle.spark_base.proofs.Lists.{Has-append_cases, Has-map_from}
 use Rattle.ada_tree.specs.declared.declaration.Item.{Item}

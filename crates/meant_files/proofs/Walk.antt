@@ -58,7 +58,7 @@ use Rattle.name_events.specs.Completions.{completed_by}
 use Rattle.name_events.specs.KnownBehind.{known_behind, known_behind_all, behind_declaration, new_entry}
 use Rattle.name_events.specs.Identified.{number_at, completed_or_next}
 use Rattle.name_events.specs.ExpressionOutline.{declares, declares_all, next_name, next_dotted_name, part_name, folded, folded_identifier, mention, mentions, each_of, name_events, arg_events, next_arg_events, expr_events, range_events, choice_events, next_choice_events}
-use Rattle.name_events.specs.Outline.{indication_events, component_events, use_events, clause_of, subtype_events, type_events, item_events, simple_events, parameter_events, block_events, stmts_events, stmt_box_events, stmt_list_events, stmt_events, stmts_box_events, elsifs_events, elsif_events, when_box_events, whens_events, when_events, formal_events, next_formal_events, formals_events, subspec_events, subspec_name, closing_events, subprogram_events, decl_events, body_part_events, private_events, package_events, package_body_events, has_with, with_events, context_events, unit_front, unit_events, source_events}
+use Rattle.name_events.specs.Outline.{indication_events, component_events, use_events, clause_of, subtype_events, type_events, item_events, simple_events, parameter_events, stmts_events, stmt_box_events, stmt_list_events, stmt_events, stmts_box_events, elsifs_events, elsif_events, when_box_events, whens_events, when_events, formal_events, next_formal_events, formals_events, subspec_events, subspec_name, closing_events, subprogram_events, decl_events, body_part_events, private_events, package_events, package_body_events, has_with, with_events, context_events, unit_front, unit_events, source_events}
 use Rattle.name_events.specs.Outline as outline
 use Rattle.resolved_tree.specs.Trees.{Code, code_list}
 use Rattle.expression_lowering.specs.LoweredExpressions.{Numbers, number_of, last_part, mark_of, before_others, last_of, lowered_range}
