@@ -1,5 +1,5 @@
 -- At each loop of a program the table of the second turn is like that of the first one, and so it is at last.
-use Rattle.std.proofs.Common.{◌≡◌, inl, inr, ℕ, ◌<◌, ◌≤◌, true, false, List, [], ◌∷◌, refl, sym, ◌∙◌, Option, Some, None, true≢false}
+use Rattle.std.proofs.Common.{◌≡◌, inl, inr, ℕ, ◌<◌, ◌≤◌, true, false, List, [], ◌∷◌, refl, sym, ◌∙◌, Some, None, true≢false}
 use Rattle.std.specs.Prelude.{slice_get}
 use Rattle.spark_base.specs.Lists.{Has}
 use Rattle.resolved_tree.specs.Trees.{Code, Package, PackageBody, Program}
@@ -19,7 +19,7 @@ use Rattle.settled_types.proofs.Main.{begin, begin_rows, units_turn, end, first,
 use Rattle.gathered_laws.specs.Named.{IsNamed}
 use Rattle.gathered_laws.proofs.Nodes as nodes
 use Rattle.steady_types.specs.Alike.{AreAlike}
-use Rattle.steady_types.specs.Flat.{IsFlat, IsFlatUnit}
+use Rattle.steady_types.specs.Flat.{IsFlatUnit}
 use Rattle.steady_types.specs.Steady.{in_package, IsSteady, AreSteady}
 use Rattle.steady_types.proofs.Moves.{Like, put, classes_same}
 use Rattle.steady_types.proofs.Walk.{Own, At, Until, Step, before, both, walk}

@@ -1,10 +1,10 @@
 -- What alike tables say of a type, and one row more.
-use Rattle.std.proofs.Common.{◌≡◌, ◌⊎◌, inl, inr, ℕ, zero, suc, ◌<◌, ◌≤◌, List, [], ◌∷◌, set, length, refl, sym, ap, ◌∙◌, arith, subst, Option, Some, None, pos}
+use Rattle.std.proofs.Common.{◌≡◌, ℕ, zero, suc, ◌≤◌, List, [], ◌∷◌, set, refl, sym, ap, ◌∙◌, arith, Option, Some, None}
 use Rattle.std.specs.Prelude.{slice_get}
 use Rattle.type_definitions.specs.declared.table.Info.{Info}
 use Rattle.type_definitions.specs.declared.table.Shape.{Shape}
 use Rattle.type_definitions.specs.declared.table.Shape.TheVariants as shape
-use Rattle.type_definitions.specs.Types.{Table, info, info_found, base, base_found, meant_type, meant_type_found, same_as, shape_found}
+use Rattle.type_definitions.specs.Types.{Table, info_found, base, base_found, meant_type, meant_type_found, same_as, shape_found}
 use Rattle.type_definitions.specs.Gathered.{meant_by}
 use Rattle.steady_types.specs.Alike.{outline, Outline, outlined, AreAlike}
 

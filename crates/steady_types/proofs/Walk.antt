@@ -1,6 +1,6 @@
 -- Both turns over the code of a unit, side by side: the table of the second one stays like the table that is known
 -- after the first one.
-use Rattle.std.proofs.Common.{◌≡◌, ◌⊎◌, inl, inr, ℕ, suc, ◌<◌, ◌≤◌, Bool, true, false, not, ◌&&◌, ◌||◌, List, [], ◌∷◌, set, length, refl, sym, ap, ◌∙◌, arith, subst, Option, Some, None, ℤ}
+use Rattle.std.proofs.Common.{◌≡◌, ◌⊎◌, inl, inr, ℕ, ◌<◌, ◌≤◌, true, false, not, ◌||◌, List, ◌∷◌, set, length, refl, sym, ap, ◌∙◌, arith, subst, Option, Some, None, ℤ}
 use Rattle.std.specs.Prelude.{slice_get}
 use Rattle.std.proofs.lemmas.Bool.{cases_eq}
 use Rattle.spark_base.specs.declared.position.Pos.{Pos}
@@ -19,12 +19,12 @@ use Rattle.type_definitions.specs.declared.judgement.View.TheVariants as view
 use Rattle.type_definitions.specs.Types.{Table, info, base, base_found, meant_type, meant_type_found, full}
 use Rattle.type_definitions.specs.Entries.{entry_of, is_type, marked, type_of_mark, type_of_entry}
 use Rattle.type_definitions.specs.Names.{Context}
-use Rattle.type_definitions.specs.Gathered.{gather, awaited_info, full_info, subtype_info, meant_by, constrained_shape, bound_pair, is_asked, are_static_bounds, constant_value, initial_value, instance_type, with_entry, with_type, with_front, with_body_front, with_definition, plain_object, parameter_type, in_subprogram, in_visible, in_hidden, declared_number, declared_pos, defined}
+use Rattle.type_definitions.specs.Gathered.{gather, awaited_info, full_info, subtype_info, meant_by, constrained_shape, bound_pair, is_asked, are_static_bounds, constant_value, initial_value, instance_type, with_entry, with_type, with_front, with_body_front, plain_object, parameter_type, declared_number, declared_pos, defined}
 use Rattle.type_definitions.specs.Whole.{predefined_types}
 use Rattle.settled_types.specs.Wholes.{written}
-use Rattle.settled_types.specs.Orderly.{Past, with_incomplete, with_private, with_defined, definition_marks, within, past_after, IsNew, Orderly}
+use Rattle.settled_types.specs.Orderly.{Past, with_defined, definition_marks, within, past_after, Orderly}
 use Rattle.settled_types.specs.Stamped.{IsType, IsFixed, AreRows}
-use Rattle.settled_types.proofs.Rows.{slice_in, not_type}
+use Rattle.settled_types.proofs.Rows.{slice_in}
 use Rattle.settled_types.proofs.Gathered.{without_it}
 use Rattle.settled_types.proofs.Main.{find}
 use Rattle.gathered_laws.specs.Named.{IsNamed}

@@ -1,5 +1,5 @@
 -- Tables that say the same of types, but for the bounds in their definitions.
-use Rattle.std.specs.Prelude.{◌≡◌, ℕ, ℤ, pos, Option, Some, None, slice_get}
+use Rattle.std.specs.Prelude.{◌≡◌, ℕ, pos, Option, Some, None, slice_get}
 use Rattle.type_definitions.specs.declared.table.Info.{Info}
 use Rattle.type_definitions.specs.declared.table.Shape.{Shape}
 use Rattle.type_definitions.specs.declared.table.Shape.TheVariants as shape
