@@ -1,10 +1,9 @@
 -- What instructions lead to in programs with borrowers and observers: conditions, assignments to
 -- targets that aren't views, and declarations of borrowers and observers.
-use Rattle.std.proofs.Common.{◌≡◌, refl, sym, ap, ◌∙◌, subst, ◌⊎◌, inl, inr, ℕ, suc, ◌<◌, Bool, true, false, not, ◌&&◌, ◌||◌, List, [], ◌∷◌, ◌++◌, map, flat_map, reverse, take, drop, length, nat_lt, arith, Option, Some, None, if◌then◌else◌, ◌==◌, eqb-true, eq-eqb, get_or}
+use Rattle.std.proofs.Common.{◌≡◌, refl, sym, ap, ◌∙◌, subst, inl, inr, ℕ, ◌<◌, Bool, true, false, not, ◌&&◌, ◌||◌, List, [], ◌∷◌, ◌++◌, map, flat_map, reverse, take, drop, length, nat_lt, Some, None, if◌then◌else◌, ◌==◌, eqb-true, eq-eqb, get_or}
 use Rattle.spark_base.specs.declared.position.Pos.{Pos}
 use Rattle.place_names.specs.declared.act.Act.{Act}
 use Rattle.place_names.specs.declared.act.Act.TheVariants as act
-use Rattle.place_names.specs.declared.act.Placed.{Placed}
 use Rattle.place_names.specs.declared.fact.Fact.{Fact}
 use Rattle.place_names.specs.Names.{Name as PlaceName}
 use Rattle.place_names.specs.Facts.{effect}
@@ -12,7 +11,7 @@ use Rattle.type_definitions.specs.declared.table.Shape.TheVariants as shape
 use Rattle.type_definitions.specs.Types.{Table, shape_of, words, words_of as shape_words, full, is_scalar, view_of as view_of_shape}
 use Rattle.typed_tree.specs.Trees.{TypedTree, TypedCode, Name, NoMore, More}
 use Rattle.flow_paths.specs.Objects.{Typing, object_at, is_anonymous, is_borrowing, is_observing, is_borrower, is_observer, is_variable, view_of}
-use Rattle.flow_paths.specs.Names.{has_call, name_of, whole, whole_object, first, written, source}
+use Rattle.flow_paths.specs.Names.{has_call, name_of, whole, whole_object, written, source}
 use Rattle.flow_paths.specs.Scopes.{taken}
 use Rattle.flow_paths.specs.Acts.{acts_in, stored_acts, declared_acts, assigned_to, source_acts, index_acts, reborrow, observe, target_pos as acts_target_pos}
 use Rattle.machine.specs.Words as machine
@@ -50,7 +49,7 @@ use Rattle.soundness.proofs.Lasting.{keeps, removed_kept}
 use Rattle.soundness.proofs.Raised.{raised_owned}
 use Rattle.soundness.proofs.Scalars.{acts, acts_append, after_append, allows_both}
 use Rattle.soundness.proofs.Stays.{Quiet, One}
-use Rattle.soundness.proofs.Waits.{or_both, take_none, drop_none, waits_of, led_waits}
+use Rattle.soundness.proofs.Waits.{take_none, drop_none, waits_of, led_waits}
 use Rattle.owned_loans.specs.Views.{Views, expand, Viewed, Unused, with_view, HasLoan}
 use Rattle.owned_loans.proofs.Allowed.{Cleared, borrow_clears, observe_clears, loan_kept}
 use Rattle.owned_loans.proofs.Ways.{Lifted, next_of}
@@ -59,9 +58,9 @@ use Rattle.owned_loans.proofs.Taken as lent
 use Rattle.viewed_soundness.specs.Holds.{IsNamed, PartsAreNamed, Holds, AllKeep}
 use Rattle.viewed_soundness.proofs.Names.{not_view, true_false}
 use Rattle.viewed_soundness.proofs.Stays.{quiet, steps_quiet}
-use Rattle.viewed_soundness.proofs.Evaluated.{Ready, live_trunk}
+use Rattle.viewed_soundness.proofs.Evaluated.{live_trunk}
 use Rattle.viewed_soundness.proofs.Stored.{Assigns, assigned}
-use Rattle.viewed_soundness.proofs.Viewing.{IsDesignated, IsOfType, Became, way_from, number_in, borrower_declared, observer_stored, observer_again, view_emptied}
+use Rattle.viewed_soundness.proofs.Viewing.{IsDesignated, IsOfType, way_from, number_in, borrower_declared, observer_stored, observer_again, view_emptied}
 use Rattle.viewed_soundness.proofs.Sources.{Shows, source_quiet}
 
 -- ---- types of views, and acts
@@ -559,8 +558,7 @@ module _ (t : Turn) (settled : IsSettled (typing t).table) (own_law : OwnsByShap
       let becomes = becomes_with v x None (v.loan x) (v.up x) 0 in
       ends_with views x borrower mine facts
       (lent.given_up (home s depth) (is_observer s) other v views (seen s m hands t.state.leaks) facts good.viewed x (v.loan x) (v.up x) 0 becomes unused)
-      good.kept
-      (
+      good.kept (
         λ y n off view e. (let old = good.holds.held y n view e in (old.0, becomes.ways y off ∙ old.1, becomes.cells y off ∙ old.2)),
         λ y w e. by_object y w e (y == x) refl,
       )
