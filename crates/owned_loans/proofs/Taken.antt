@@ -197,7 +197,7 @@ module _ (home : ℕ → ℕ) (observer : ℕ → Bool) (other : Way → Type 0)
       })
 
   -- no name that is rooted in an object that is reborrowed was moved, or is lent
-  reborrow_unused : (b : ℕ) (m : Name) → Allows facts (Reborrow b m) → Unused v facts b
+  pub reborrow_unused : (b : ℕ) (m : Name) → Allows facts (Reborrow b m) → Unused v facts b
   reborrow_unused b m allowed = record {
     unmoved = λ n has e. refused (moved_or_lent (object b) (Moved n)) O7 (object b) (Moved n) (whole n b e) (allowed (Moved n) has);
     untaken = λ x w has off e. (let view = viewed.views x w has in
