@@ -1,4 +1,4 @@
--- A text that meets the premises of the law on runs.
+-- A text of the class of the law on runs.
 use Rattle.std.proofs.Common.{◌≡◌, inl, inr, Bool, true, false, ◌&&◌, List, [], ◌∷◌, refl, sym, subst, None, true≢false}
 use Rattle.spark_base.specs.Lists.{Has}
 use Rattle.ada_tree.specs.declared.subprogram.Subspec.TheVariants as subspec
@@ -6,8 +6,7 @@ use Rattle.ada_tree.specs.declared.unit.SourceUnit.{SourceUnit}
 use Rattle.ada_tree.specs.declared.unit.SourceUnit.TheVariants as unit
 use Rattle.ada_grammar.proofs.SmallSources.{IsTextOf, computes, source_of, at, id, null_at, subprogram_of}
 use Rattle.name_events.specs.Faults.{name_fault}
-use Rattle.type_definitions.specs.Whole.{outside, known_of, type_fault}
-use Rattle.type_definitions.specs.declared.table.Known.{Known}
+use Rattle.type_definitions.specs.Whole.{type_fault}
 use Rattle.typing_steps.specs.Programs.{program_of}
 use Rattle.flow_paths.specs.Points.{FlowPoint}
 use Rattle.flow_paths.specs.Laid.{FlowSub}
@@ -15,8 +14,7 @@ use Rattle.soundness.specs.Sound.{calls_nothing}
 use Rattle.gathered_laws.specs.Named.{IsNamed}
 use Rattle.program_check.specs.Sources.{flow_of}
 use Rattle.meant_files.specs.Formless.{IsFormless}
-use Rattle.meant_files.specs.Bounded.{AreBounded}
-use Rattle.accepted_runs.proofs.Main.{AreLeft}
+use Rattle.accepted_runs.proofs.Main.{AreInClass}
 use Rattle.accepted_examples.proofs.Naming.{naming}
 use Rattle.accepted_examples.proofs.Typing.{typing}
 
@@ -59,13 +57,10 @@ one : {A : Type 0} (P : A → Type 0) (y x : A) → P y → Has (y ∷ []) x →
 one P y x h (inl is) = subst P is h
 one P y x h (inr none) = absurd none
 
-abbrev known : Known
-known = known_of (program_of files)
-
--- The text is of the class, and meets what is left.
-pub left : AreLeft files
-unfolding computes naming typing IsNamed IsFormless AreBounded
-left = record {
+-- The text is of the class.
+pub class : AreInClass files
+unfolding computes naming typing IsNamed IsFormless
+class = record {
   text = record {
     named = λ u has. one IsNamed _ u ((tt, tt), tt, (tt, tt)) has;
     formless = λ u has. one IsFormless _ u (refl, tt, (tt, tt)) has;
@@ -75,7 +70,4 @@ left = record {
   calls = λ sub has p there.
       each (λ (p : FlowPoint). calls_nothing p.instr) sub.points
       (each (λ (s : FlowSub). all_pass (λ (p : FlowPoint). calls_nothing p.instr) s.points) (flow_of files).subs refl sub has) p there;
-  orderly = record {
-    bounded = λ u has. one (AreBounded (outside known)) _ u (tt, (tt, tt)) has;
-  };
 }

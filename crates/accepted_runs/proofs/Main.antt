@@ -1,4 +1,4 @@
--- The runs of the programs of the first class that `check` accepts are sound.
+-- The runs of the programs of the first class that `check` accepts are sound, and no excused leak check fails in them.
 use Rattle.std.proofs.Common.{◌≡◌, ℕ, List, Some}
 use Rattle.spark_base.specs.declared.limits.TheConstants.{TOKENS, SOURCE_BYTES}
 use Rattle.ada_tree.specs.declared.unit.SourceUnit.{SourceUnit}
@@ -9,8 +9,9 @@ use Rattle.soundness.specs.Sound.{RunIsSound}
 use Rattle.program_check.specs.Sources.{flow_of}
 use Rattle.order_laws.specs.Orderly.{typed_of}
 use Rattle.sound_files.specs.Class.{IsPlainText, CallsNothing}
-use Rattle.sound_files.specs.Left.{AreOrderly}
 use Rattle.sound_files.proofs.Main.{parsed_sound}
+use Rattle.exact_facts.specs.Exact.{RunHolds}
+use Rattle.excused_runs.proofs.Files.{parsed_hold}
 use Rattle.command_words.specs.Words.{Check}
 use Rattle.run_command.specs.Answers.{Answer}
 use Rattle.spark_tool.specs.Commands.{command_of}
@@ -24,22 +25,30 @@ use Rattle.accepted_runs.proofs.Parsed.{are_parsed}
 abbrev pub RunsAreSound : List (List SourceUnit) → Type 0
 RunsAreSound trees = (input : List ℕ) → RunIsSound (known_of (program_of trees)).table (typed_of (program_of trees)) input
 
--- What is left to be asked of them.
-pub record AreLeft (trees : List (List SourceUnit)) : Type 0 where
+-- At no step of any run a leak check fails that the leak plan excuses.
+abbrev pub RunsHold : List (List SourceUnit) → Effects → Type 0
+RunsHold trees effects = (input : List ℕ) → RunHolds (flow_of trees) effects input
+
+-- The class of programs.
+pub record AreInClass (trees : List (List SourceUnit)) : Type 0 where
   pub text : IsPlainText (program_of trees)
   pub calls : CallsNothing (flow_of trees)
-  pub orderly : AreOrderly trees
 
-pub passed_sound : (texts : List (List ℕ)) (trees : List (List SourceUnit)) (effects : Effects) → Passes texts trees effects → AreLeft trees → RunsAreSound trees
-passed_sound texts trees effects passes left input =
-    parsed_sound trees passes.cuts (are_parsed texts 0 TOKENS passes.cuts trees passes.cut passes.parsed) passes.named passes.typed left.text left.orderly
-    effects passes.effects_are passes.none left.calls input
+pub passed_sound : (texts : List (List ℕ)) (trees : List (List SourceUnit)) (effects : Effects) → Passes texts trees effects → AreInClass trees → RunsAreSound trees
+passed_sound texts trees effects passes class input =
+    parsed_sound trees passes.cuts (are_parsed texts 0 TOKENS passes.cuts trees passes.cut passes.parsed) passes.named passes.typed class.text
+    effects passes.effects_are passes.none class.calls input
+
+pub passed_hold : (texts : List (List ℕ)) (trees : List (List SourceUnit)) (effects : Effects) → Passes texts trees effects → AreInClass trees → RunsHold trees effects
+passed_hold texts trees effects passes class input =
+    parsed_hold trees passes.cuts (are_parsed texts 0 TOKENS passes.cuts trees passes.cut passes.parsed) passes.named passes.typed class.text
+    effects passes.effects_are passes.none class.calls input
 
 -- If the tool answers a check with status 0, the named files are there and their texts pass; where
--- their program is in the class and the premises that are left hold, its runs are sound.
+-- their program is in the class, its runs are sound, and no excused leak check fails in them.
 pub accepted_sound : (stored : List (List ℕ × List ℕ)) (input : List ℕ) (words names : List (List ℕ)) (answer : Answer)
     → command_of words ≡ Some (Check names) → Product stored input words answer → answer.status ≡ 0
-    → (is : Passed (sources stored 0 SOURCE_BYTES names)) × (AreLeft is.trees → RunsAreSound is.trees)
+    → (is : Passed (sources stored 0 SOURCE_BYTES names)) × (AreInClass is.trees → RunsAreSound is.trees × RunsHold is.trees is.effects)
 accepted_sound stored input words names answer command product zero =
     let is : Passed (sources stored 0 SOURCE_BYTES names) = product_passed stored input words names answer command product zero in
-    (is, passed_sound is.texts is.trees is.effects is.passes)
+    (is, λ class. (passed_sound is.texts is.trees is.effects is.passes class, passed_hold is.texts is.trees is.effects is.passes class))

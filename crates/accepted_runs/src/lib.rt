@@ -1,9 +1,10 @@
-//! The runs of what `check` accepts are sound, under the premises that are left: definitions and
-//! laws, for readers.
+//! The runs of what `check` accepts are sound, and no leak check fails in them that the leak plan
+//! excuses: definitions and laws, for readers.
 //!
 //! `spark_tool` says what the tool answers (`Product`). Status 0 of a check means that each named
 //! file is there, that its tokens spell a source, that the program breaks no rule of names and of
 //! types and no limit, and that there are no reports (`specs/Passed.antt`, `proofs/Passing.antt`).
-//! The files are parsed then, as `file_positions` has it (`proofs/Parsed.antt`). So the law of
-//! `sound_files` speaks of what `check` accepts (`proofs/Main.antt`). Nothing here runs.
+//! The files are parsed then, as `file_positions` has it (`proofs/Parsed.antt`). So the laws of
+//! `sound_files` and of `excused_runs` speak of what `check` accepts (`proofs/Main.antt`). Nothing
+//! here runs.
 #![tactic(auto)]

@@ -1,5 +1,5 @@
 -- What excused leak checks rest on: what a fact without an element calls moved is gone.
-use Rattle.std.specs.Prelude.{◌≡◌, ℕ, zero, suc, false, List, [], ◌∷◌, ◌++◌, get_or, Some}
+use Rattle.std.specs.Prelude.{◌≡◌, ◌⊎◌, ℕ, suc, false, List, [], ◌∷◌, ◌++◌, get_or, Some}
 use Rattle.spark_base.specs.Lists.{Has}
 use Rattle.spark_base.specs.declared.position.Pos.{Pos}
 use Rattle.place_names.specs.declared.selector.Sel.{Sel}
@@ -17,7 +17,7 @@ use Rattle.flow_paths.specs.Effects.{path_points}
 use Rattle.flow_paths.specs.LeakPlan.{IsExcused}
 use Rattle.machine.specs.Memory.{Memory}
 use Rattle.machine.specs.States.{Frame, Leak, State, Outcome, Goes, Ends, sub_of}
-use Rattle.machine.specs.Run.{no_point, step, then_on, state_at_start}
+use Rattle.machine.specs.Run.{no_point, step, main_of, run_of, moment}
 use Rattle.owned_ways.specs.Ways.{Told}
 use Rattle.soundness.specs.Seen.{seen, home}
 use Rattle.soundness.specs.Sound.{Stage, IsPlain, IsDefinite, IsSound, AreExact}
@@ -80,19 +80,16 @@ StepsLeadExactly table typed effects input =
 
 -- ---- runs
 
--- The state after so many steps, or how the run ended before.
-abbrev pub goes_for : FlowProgram → List ℕ → ℕ → Outcome
-goes_for program input zero = Goes (state_at_start program)
-goes_for program input (suc n) = then_on (goes_for program input n) (step program input)
+-- Of the leak checks of a step, none fails that the leak plan excuses. These are the frames before the step.
+abbrev pub StepHolds : FlowProgram → Effects → List Frame → List (List Leak) → Type 0
+StepHolds program effects [] checks = Unit {0}
+StepHolds program effects (f ∷ outer) checks =
+    NoneFails (IsExcused (path_points program effects (sub_of program f.sub)) f.next) (get_or (sub_of program f.sub).points f.next no_point).leaks checks
 
--- Of the leak checks of the step from a state, none fails that the leak plan excuses.
-abbrev pub StepHolds : FlowProgram → Effects → List ℕ → State → List Frame → Type 0
-StepHolds program effects input state [] = Unit {0}
-StepHolds program effects input state (f ∷ outer) =
-    NoneFails (IsExcused (path_points program effects (sub_of program f.sub)) f.next)
-    (get_or (sub_of program f.sub).points f.next no_point).leaks (checks_of (step program input state))
-
--- So it is at each step of the run.
+-- So it is at each step of the run: with each budget the run has ended, so that one step more changes
+-- nothing, or it takes one step more, and that step's checks are such.
 abbrev pub RunHolds : FlowProgram → Effects → List ℕ → Type 0
 RunHolds program effects input =
-    (n : ℕ) (state : State) → goes_for program input n ≡ Goes state → StepHolds program effects input state state.frames
+    (n : ℕ)
+    → (run_of program (main_of program.main) input (suc n) ≡ run_of program (main_of program.main) input n)
+    ⊎ StepHolds program effects (moment program input n).frames (moment program input (suc n)).checks

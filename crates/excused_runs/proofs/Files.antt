@@ -1,5 +1,4 @@
--- So it is of files that are parsed from texts and break no rule of names and of types, under the
--- premises of `sound_files`.
+-- So it is of files that are parsed from texts and break no rule of names and of types.
 use Rattle.std.proofs.Common.{◌≡◌, subst, ℕ, List, [], None}
 use Rattle.ada_lexer.specs.Tokens.{Cut}
 use Rattle.ada_tree.specs.declared.unit.SourceUnit.{SourceUnit}
@@ -27,7 +26,6 @@ use Rattle.exact_facts.specs.Exact.{RunHolds}
 use Rattle.soundness.proofs.Points.{flow_table}
 use Rattle.order_laws.specs.Orderly.{typed_of}
 use Rattle.sound_files.specs.Class.{IsPlainText, CallsNothing}
-use Rattle.sound_files.specs.Left.{AreOrderly}
 use Rattle.sound_files.proofs.Fine.{files_fine}
 use Rattle.sound_files.proofs.First.{first_class}
 use Rattle.sound_files.proofs.Main.{files_orderly}
@@ -45,23 +43,23 @@ module _ (files : List (List SourceUnit)) where
 
   -- Where there are no reports, no leak check fails that is excused, at any step of any run.
   pub files_hold : (apart : AreApart (identified files)) (ended : AllEnded at_start p.units) (up : Ascends (event_positions (source_events files))) (named : name_fault files ≡ None)
-      → (no_fault : type_fault p ≡ None) → IsPlainText p → AreOrderly files
+      → (no_fault : type_fault p ≡ None) → IsPlainText p
       → (effects : Effects) → AreEffects flow effects → AreReports flow effects [] → CallsNothing flow
       → (input : List ℕ) → RunHolds flow effects input
-  files_hold apart ended up named no_fault text left effects are none calls input =
+  files_hold apart ended up named no_fault text effects are none calls input =
       accepted_holds p effects no_fault
       (record {
         no_reports = none;
         effects_are = are;
         settled = files_settled files apart ended no_fault (typed_of p);
-        fine = files_fine files apart ended up named no_fault text left calls;
+        fine = files_fine files apart ended up named no_fault text calls;
       })
       (subst OwnsByShape (flow_table table (typed_of p)) (files_own files apart ended no_fault (typed_of p))) (first_class p text calls)
-      (files_orderly files apart ended up named no_fault text left) input
+      (files_orderly files apart ended up named no_fault text) input
 
   -- So it is if the files are parsed from texts: then their positions are as in a text.
-  pub parsed_hold : (texts : List (List Cut)) → AreParsed 0 texts files → name_fault files ≡ None → type_fault p ≡ None → IsPlainText p → AreOrderly files
+  pub parsed_hold : (texts : List (List Cut)) → AreParsed 0 texts files → name_fault files ≡ None → type_fault p ≡ None → IsPlainText p
       → (effects : Effects) → AreEffects flow effects → AreReports flow effects [] → CallsNothing flow
       → (input : List ℕ) → RunHolds flow effects input
-  parsed_hold texts parsed named no_fault text left =
-      files_hold (files_apart texts files parsed) (files_ended (identified files) texts files parsed) (events_ascend texts files parsed) named no_fault text left
+  parsed_hold texts parsed named no_fault text =
+      files_hold (files_apart texts files parsed) (files_ended (identified files) texts files parsed) (events_ascend texts files parsed) named no_fault text

@@ -27,7 +27,6 @@ use Rattle.ada_tree.specs.declared.range.Range.TheVariants as range
 use Rattle.resolved_tree.specs.Trees.{Code, More, code_list}
 use Rattle.resolved_tree.specs.Trees as t
 use Rattle.type_definitions.specs.Gathered.{declared_number, in_subprogram, in_visible, in_hidden}
-use Rattle.type_definitions.specs.Types.{full, is_scalar}
 use Rattle.typed_tree.specs.Expressions.{Site}
 use Rattle.typed_tree.specs.Programs.{placed}
 use Rattle.flow_paths.specs.Objects.{Typing}
@@ -83,12 +82,7 @@ module _ (numbers : Numbers) (y : Typing) (made : ℕ → Type 0) where
     range_meant (range.RangeOf pos prefix apostrophe of_range) = tt
 
     parameter_meant : (d : Code) (r : Range) → IsParameterOf s.context d (lowered_range numbers r) → IsParameter s y d (lowered_range numbers r)
-    unfolding lowered_range
-    parameter_meant d (range.Bounds pos low dots high) o =
-        subst (λ t. is_scalar (full s.context.known.table t) ≡ true) (sym ((all (declared_number d)).0 o.0 o.1)) o.2
-    parameter_meant d (range.Marked pos mark) o = (all (declared_number d)).0 o.0 o.1 ∙ o.2
-    parameter_meant d (range.Constrained pos mark of_range low dots high) o = (all (declared_number d)).0 o.0 o.1 ∙ o.2
-    parameter_meant d (range.RangeOf pos prefix apostrophe of_range) o = (all (declared_number d)).0 o.0 o.1 ∙ o.2
+    parameter_meant d r o = (all (declared_number d)).0 o.0 o.1 ∙ o.2
 
     subtype_meant : (i : Item) → Meant (lowered_subtype numbers i)
     unfolding lowered_subtype IsMeantCode

@@ -56,24 +56,26 @@ is_object_kind kinds.Object = true
 is_object_kind kinds.Parameter = true
 is_object_kind _ = false
 
--- Types are 0, objects 1, others 2.
+-- Types are 0, objects 1, subprograms 2, others 3.
 abbrev pub kind_class : DeclKind → ℕ
 kind_class kinds.TypeName = 0
 kind_class kinds.Object = 1
 kind_class kinds.Parameter = 1
-kind_class _ = 2
+kind_class kinds.Subprogram = 2
+kind_class _ = 3
 
 abbrev pub entry_class : Entry → ℕ
 entry_class entry.Type = 0
 entry_class (entry.Object o) = 1
-entry_class _ = 2
+entry_class (entry.Subprogram p) = 2
+entry_class _ = 3
 
 abbrev pub is_put : Entry → Bool
 is_put entry.Nothing = false
 is_put _ = true
 
 module _ (kind_at : ℕ → DeclKind) where
-  -- An entry is one of a type where its number is that of a type, and so it is with objects.
+  -- An entry is one of a type where its number is that of a type, and so it is with objects and subprograms.
   abbrev pub IsRight : ℕ → Entry → Type 0
   IsRight n entry.Nothing = Unit {0}
   IsRight n x = kind_class (kind_at n) ≡ entry_class x
@@ -85,6 +87,7 @@ module _ (kind_at : ℕ → DeclKind) where
     pub low : (n : ℕ) → n < 15 → get_or xs n entry.Nothing ≡ get_or predefined_entries n entry.Nothing
     pub right : (n : ℕ) → 15 ≤ n → IsRight n (get_or xs n entry.Nothing)
     pub covered : (n : ℕ) → 15 ≤ n → n < k → is_put (get_or xs n entry.Nothing) ≡ true
+    pub fresh : (n : ℕ) → 15 ≤ n → k ≤ n → get_or xs n entry.Nothing ≡ entry.Nothing
     pub long : limit ≤ length xs
 
   -- What is declared here has the next number, or an earlier one.
@@ -103,6 +106,15 @@ module _ (kind_at : ℕ → DeclKind) where
           ])
           | inr old ↦ (let b = old.2 in inr (omega (arith, b, less)))
         ]);
+        fresh = λ n more over.
+            entry_other xs d n x entry.Nothing (λ same. elim at [
+              | inl next ↦ (let a = next.0 in let b = next.1 in omega (arith, a, b, over, same))
+              | inr old ↦ (let a = old.1 in let b = old.2 in omega (arith, a, b, over, same))
+            ])
+            ∙ given.fresh n more (elim at [
+              | inl next ↦ (let b = next.1 in omega (arith, b, over))
+              | inr old ↦ (let b = old.2 in omega (arith, b, over))
+            ]);
         long = let a = set_long xs d x in let b = given.long in omega (arith, a, b);
       }
     where
@@ -238,6 +250,7 @@ module _ (kind_at : ℕ → DeclKind) where
       low = given.low;
       right = given.right;
       covered = λ n more less. by n more (at_most n k (let a = next.1 in omega (arith, a, less)));
+      fresh = λ n more over. given.fresh n more (let a = next.1 in omega (arith, a, over));
       long = given.long;
     }
       where

@@ -8,7 +8,7 @@ pub mod Walk
 pub mod Events
 pub mod Given
 pub mod Stays
-pub mod Bare
+pub mod Ranges
 pub mod Rows
 pub mod Types
 pub mod Bodies

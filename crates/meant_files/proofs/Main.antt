@@ -1,5 +1,4 @@
--- Files of the first class without a fault of names are meant, where parameters of loops have the types of their
--- bounds.
+-- Files of the first class without a fault of names are meant, where the tables at loops are like the last one.
 use Rattle.std.proofs.Common.{◌≡◌, ℕ, zero, suc, ◌-◌, ◌<◌, ◌≤◌, false, List, [], ◌∷◌, ◌++◌, flat_map, length, get_or, replicate, refl, sym, arith, subst, None, length-append}
 use Rattle.std.specs.Prelude.{slice_get}
 use Rattle.std.proofs.lemmas.List.{length-map, length-replicate}
@@ -30,7 +29,8 @@ use Rattle.meant_files.specs.Formless.{IsFormless}
 use Rattle.meant_files.specs.Declarations.{declarations}
 use Rattle.meant_files.specs.Followed.{AreFollowed}
 use Rattle.meant_files.specs.Typed.{AreTyped}
-use Rattle.meant_files.specs.Bounded.{AllBounded}
+use Rattle.steady_types.specs.Alike.{AreAlike}
+use Rattle.steady_types.specs.Steady.{AreSteady}
 use Rattle.meant_files.proofs.Objects.{units_same}
 use Rattle.meant_files.proofs.Puts.{object_declared, function_declared}
 use Rattle.meant_files.proofs.Codes as codes
@@ -62,6 +62,7 @@ first_given kind_at count = record {
   low = λ n less. append_low predefined_entries (replicate (count - 15) entry.Nothing) n entry.Nothing less;
   right = λ n more. subst (IsRight kind_at n) (sym (append_high predefined_entries (count - 15) n more)) tt;
   covered = λ n more less. absurd (omega (arith, more, less));
+  fresh = λ n more over. append_high predefined_entries (count - 15) n more;
   long =
       let a = length-append predefined_entries (replicate (count - 15) entry.Nothing) in
       let b = length-replicate (count - 15) entry.Nothing in
@@ -91,10 +92,11 @@ module _ (files : List (List SourceUnit)) where
   abbrev kinds : ℕ → DeclKind
   kinds = kind_in files numbers
 
-  abbrev first_table : Table
+  -- the table after the first turn, and where the second one begins
+  abbrev pub first_table : Table
   first_table = (known_from p (at_first false p.count).table).table
 
-  abbrev start : Context
+  abbrev pub start : Context
   start = outside (record (at_first false p.count) { table = first_table })
 
   all_counted : length (names.known_of files).declared ≡ p.count
@@ -130,11 +132,11 @@ module _ (files : List (List SourceUnit)) where
     lasts = units_first kinds p.count p.units start 15 (length (names.known_of files).declared) formless plain goes firsts
 
     -- Objects have the types that are indicated for them.
-    pub files_typed : AllBounded p → (u : Code) → Has p.units u → AreTyped (outside (known_of p)) u
+    pub files_typed : AreSteady first_table p.units start → AreAlike first_table (known_of p).table → (u : Code) → Has p.units u → AreTyped (outside (known_of p)) u
     unfolding known_of
-    files_typed bounded =
-        units_typed kinds p.count p.units (outside (known_of p)) start 15 (length (names.known_of files).declared) formless plain
-        (files_low numbers files known_at_first followed) bounded goes (first_given kinds p.count) ends firsts lasts (λ n less is. refl)
+    files_typed steady alike =
+        units_typed kinds p.count first_table p.units (outside (known_of p)) start 15 (length (names.known_of files).declared) refl formless plain
+        (files_low numbers files known_at_first followed) steady alike goes (first_given kinds p.count) ends lasts (λ n high less never. refl)
 
     -- Each identifier denotes what is declared, or a function with a body.
     pub files_denote : (d : ℕ) → Denotes (site_of (known_of p) p.units) (typing_meant (known_of p) p.units) d
@@ -145,6 +147,6 @@ module _ (files : List (List SourceUnit)) where
         (λ t is. files_have_bodies files numbers followed named d (function_declared p formless d t is))
 
     -- The files are meant.
-    pub files_meant : (made : ℕ → Type 0) → AllBounded p → AreMeantUnits (known_of p) made p.units
-    files_meant made bounded =
-        codes.files_meant numbers (typing_meant (known_of p) p.units) made (site_of (known_of p) p.units) files_denote files plain (files_typed bounded)
+    pub files_meant : (made : ℕ → Type 0) → AreSteady first_table p.units start → AreAlike first_table (known_of p).table → AreMeantUnits (known_of p) made p.units
+    files_meant made steady alike =
+        codes.files_meant numbers (typing_meant (known_of p) p.units) made (site_of (known_of p) p.units) files_denote files plain (files_typed steady alike)

@@ -1,10 +1,12 @@
--- What is known of a number stays, where code doesn't declare it.
-use Rattle.std.proofs.Common.{◌≡◌, inl, inr, ℕ, ◌+◌, Bool, true, false, [], ◌∷◌, ◌++◌, refl, sym, ap, ◌∙◌, subst, if◌then◌else◌}
+-- What is known of a number stays, where code doesn't declare it, or where it is that of a subprogram whose body
+-- this is.
+use Rattle.std.proofs.Common.{◌≡◌, inl, inr, ℕ, ◌+◌, Bool, true, false, [], ◌∷◌, ◌++◌, refl, sym, ap, ◌∙◌, subst, true≢false, if◌then◌else◌}
 use Rattle.spark_base.specs.Lists.{Has}
 use Rattle.spark_base.proofs.Lists.{Has-append_left, Has-append_right}
 use Rattle.resolved_tree.specs.Trees.{NoMore, More, Code, Anonymous, Enumeration, Incomplete, Private, TypeDecl, Subtype, ConstrainedSubtype, Objects, Numbers, Instance, Front, SubDecl, SubBody, Package, PackageBody, If, Branch, Case, When, Loop, While, For, Block}
 use Rattle.name_events.specs.declared.declaration.DeclarationForm.{DeclarationForm}
 use Rattle.name_events.specs.declared.declaration.DeclarationForm.TheVariants as form
+use Rattle.name_events.specs.Declarations.{is_body_form}
 use Rattle.type_definitions.specs.declared.table.InitialValue.{InitialValue}
 use Rattle.type_definitions.specs.declared.table.Kind.TheVariants as kind
 use Rattle.type_definitions.specs.declared.table.Entry.{Entry}
@@ -20,117 +22,129 @@ module _ (n : ℕ) where
   abbrev pub Without : Declarations → Type 0
   Without all = (new : DeclarationForm) → Has all (new, n) → ⊥
 
-  abbrev Same : Context → Context → Type 0
-  Same after c = entry_of after.known n ≡ entry_of c.known n
+  -- `e` is what is known of it
+  module _ (e : Entry) where
+    -- Bodies alone declare it, of a subprogram that is known.
+    abbrev pub Quiet : Declarations → Type 0
+    Quiet all = (new : DeclarationForm) → Has all (new, n) → (is_body_form new ≡ true) × (is_subprogram e ≡ true)
 
-  left : (L K : Declarations) → Without (L ++ K) → Without L
-  left L K never new has = never new (Has-append_left L K (new, n) has)
+    abbrev Is : Context → Type 0
+    Is c = entry_of c.known n ≡ e
 
-  right : (L K : Declarations) → Without (L ++ K) → Without K
-  right L K never new has = never new (Has-append_right L K (new, n) has)
+    left : (L K : Declarations) → Quiet (L ++ K) → Quiet L
+    left L K quiet new has = quiet new (Has-append_left L K (new, n) has)
 
-  rest : (x : DeclarationForm × ℕ) (L : Declarations) → Without (x ∷ L) → Without L
-  rest x L never new has = never new (inr has)
+    right : (L K : Declarations) → Quiet (L ++ K) → Quiet K
+    right L K quiet new has = quiet new (Has-append_right L K (new, n) has)
 
-  put : (new : DeclarationForm) (d : ℕ) (L : Declarations) (x : Entry) (c : Context) → Without ((new, d) ∷ L) → Same (with_entry d x c) c
-  put new d L x c never = entry_other c.known.entries d n x entry.Nothing (λ same. never new (inl (ap (λ m. (new, m)) (sym same))))
+    rest : (x : DeclarationForm × ℕ) (L : Declarations) → Quiet (x ∷ L) → Quiet L
+    rest x L quiet new has = quiet new (inr has)
 
-  literals_stay : (t i : ℕ) (ids : Code) (c : Context) → Without (each_as form.Literal ids) → Same (with_literals t i ids c) c
-  literals_stay t i (More d more) c never =
-      literals_stay t (i + 1) more (with_entry (declared_number d) (entry.Literal t i) c) (rest (form.Literal, declared_number d) (each_as form.Literal more) never)
-      ∙ put form.Literal (declared_number d) (each_as form.Literal more) (entry.Literal t i) c never
-  literals_stay t i ids c never = refl
+    other : (new : DeclarationForm) (d : ℕ) (L : Declarations) → is_body_form new ≡ false → Quiet ((new, d) ∷ L) → n ≡ d → ⊥
+    other new d L none quiet same = true≢false (sym (quiet new (inl (ap (λ m. (new, m)) (sym same)))).0 ∙ none)
 
-  definition_stays : (t : ℕ) (def : Code) (c : Context) → Without (literals_of def) → Same (with_definition t def c) c
-  definition_stays t (Enumeration literals) c never = literals_stay t 0 literals c never
-  definition_stays t def c never = refl
+    put : (new : DeclarationForm) (d : ℕ) (L : Declarations) (x : Entry) (c : Context) → is_body_form new ≡ false → Quiet ((new, d) ∷ L) → Is c → Is (with_entry d x c)
+    put new d L x c none quiet is = entry_other c.known.entries d n x entry.Nothing (other new d L none quiet) ∙ is
 
-  indication_stays : (d : ℕ) (i : Code) (c : Context) → Same (with_indication d i c) c
-  indication_stays d (Anonymous p constant m) c = refl
-  indication_stays d i c = refl
+    literals_stay : (t i : ℕ) (ids : Code) (c : Context) → Quiet (each_as form.Literal ids) → Is c → Is (with_literals t i ids c)
+    literals_stay t i (More d more) c quiet is =
+        literals_stay t (i + 1) more (with_entry (declared_number d) (entry.Literal t i) c) (rest (form.Literal, declared_number d) (each_as form.Literal more) quiet)
+        (put form.Literal (declared_number d) (each_as form.Literal more) (entry.Literal t i) c refl quiet is)
+    literals_stay t i ids c quiet is = is
 
-  pub objects_stay : (constant : Bool) (i : Code) (v : InitialValue) (ids : Code) (c : Context) → Without (each_as form.Object ids) → Same (each (with_object constant i v) ids c) c
-  objects_stay constant i v (More d more) c never =
-      let m : ℕ = declared_number d in
-      objects_stay constant i v more (with_object constant i v d c) (rest (form.Object, m) (each_as form.Object more) never)
-      ∙ (put form.Object m (each_as form.Object more) (entry.Object (object_info c constant (indicated c.known m i) v)) (with_indication m i c) never
-      ∙ indication_stays m i c)
-  objects_stay constant i v ids c never = refl
+    definition_stays : (t : ℕ) (def : Code) (c : Context) → Quiet (literals_of def) → Is c → Is (with_definition t def c)
+    definition_stays t (Enumeration literals) c quiet is = literals_stay t 0 literals c quiet is
+    definition_stays t def c quiet is = is
 
-  pub numbers_stay : (v : InitialValue) (ids : Code) (c : Context) → Without (each_as form.Object ids) → Same (each (with_number v) ids c) c
-  numbers_stay v (More d more) c never =
-      let m : ℕ = declared_number d in
-      numbers_stay v more (with_number v d c) (rest (form.Object, m) (each_as form.Object more) never)
-      ∙ put form.Object m (each_as form.Object more) (entry.Object (number_info c v)) c never
-  numbers_stay v ids c never = refl
+    indication_stays : (d : ℕ) (i : Code) (c : Context) → Is c → Is (with_indication d i c)
+    indication_stays d (Anonymous p constant m) c is = is
+    indication_stays d i c is = is
 
-  result_stays : (d : ℕ) (result : Code) (c : Context) → Same (with_result d result c) c
-  result_stays d (More i more) c = indication_stays d i c
-  result_stays d result c = refl
+    pub objects_stay : (constant : Bool) (i : Code) (v : InitialValue) (ids : Code) (c : Context) → Quiet (each_as form.Object ids) → Is c → Is (each (with_object constant i v) ids c)
+    objects_stay constant i v (More d more) c quiet is =
+        let m : ℕ = declared_number d in
+        objects_stay constant i v more (with_object constant i v d c) (rest (form.Object, m) (each_as form.Object more) quiet)
+        (put form.Object m (each_as form.Object more) (entry.Object (object_info c constant (indicated c.known m i) v)) (with_indication m i c) refl quiet
+        (indication_stays m i c is))
+    objects_stay constant i v ids c quiet is = is
 
-  groups_stay : (formals : Code) (c : Context) → formals ≡ NoMore → Same (each with_formal_group formals c) c
-  groups_stay formals c none = subst (λ list. Same (each with_formal_group list c) c) (sym none) refl
+    pub numbers_stay : (v : InitialValue) (ids : Code) (c : Context) → Quiet (each_as form.Object ids) → Is c → Is (each (with_number v) ids c)
+    numbers_stay v (More d more) c quiet is =
+        let m : ℕ = declared_number d in
+        numbers_stay v more (with_number v d c) (rest (form.Object, m) (each_as form.Object more) quiet)
+        (put form.Object m (each_as form.Object more) (entry.Object (number_info c v)) c refl quiet is)
+    numbers_stay v ids c quiet is = is
 
-  front_stays : (new : DeclarationForm) (front : Code) (L : Declarations) (c : Context) → IsFormlessFront front → Without ((new, front_number front) ∷ L) → Same (with_front front c) c
-  front_stays new (Front d formals result) L c none never =
-      let m : ℕ = declared_number d in
-      let inner : Context = each with_formal_group formals (with_result m result c) in
-      put new m L (entry.Subprogram (profile inner.known (Front d formals result))) inner never
-      ∙ (groups_stay formals (with_result m result c) none ∙ result_stays m result c)
-  front_stays new front L c none never = refl
+    result_stays : (d : ℕ) (result : Code) (c : Context) → Is c → Is (with_result d result c)
+    result_stays d (More i more) c is = indication_stays d i c is
+    result_stays d result c is = is
 
-  formals_stay : (front : Code) (c : Context) → IsFormlessFront front → Same (with_formals front c) c
-  formals_stay (Front d formals result) c none = groups_stay formals c none
-  formals_stay front c none = refl
+    groups_stay : (formals : Code) (c : Context) → formals ≡ NoMore → Is c → Is (each with_formal_group formals c)
+    groups_stay formals c none is = subst (λ list. Is (each with_formal_group list c)) (sym none) is
 
-  body_stays : (front : Code) (L : Declarations) (c : Context) → IsFormlessFront front → Without ((body_form front, front_number front) ∷ L) → Same (with_body_front front c) c
-  body_stays front L c none never = by (is_subprogram (entry_of c.known (front_number front)))
-    where
-      by : (b : Bool) → Same (if b then with_formals front c else with_front front c) c
-      by true = formals_stay front c none
-      by false = front_stays (body_form front) front L c none never
+    front_stays : (front : Code) (c : Context) → IsFormlessFront front → (n ≡ front_number front → ⊥) → Is c → Is (with_front front c)
+    front_stays (Front d formals result) c none never is =
+        let m : ℕ = declared_number d in
+        let inner : Context = each with_formal_group formals (with_result m result c) in
+        entry_other inner.known.entries m n (entry.Subprogram (profile inner.known (Front d formals result))) entry.Nothing never
+        ∙ groups_stay formals (with_result m result c) none (result_stays m result c is)
+    front_stays front c none never is = is
 
-  pub stays : (code : Code) (c : Context) → IsFormless code → Without (declarations code) → Same (gather code c) c
-  unfolding gather IsFormless
-  stays (Incomplete d) c none never = put form.IncompleteType (declared_number d) [] entry.Type c never
-  stays (Private d) c none never = put form.PrivateType (declared_number d) [] entry.Type c never
-  stays (TypeDecl d def end) c none never =
-      let m : ℕ = declared_number d in
-      definition_stays m def (with_type m (full_info c m def end) c) (rest (form.FullType, m) (literals_of def) never)
-      ∙ put form.FullType m (literals_of def) entry.Type c never
-  stays (Subtype d m) c none never = put form.Subtype (declared_number d) [] entry.Type c never
-  stays (ConstrainedSubtype d m low high) c none never = put form.Subtype (declared_number d) [] entry.Type c never
-  stays (Objects ids constant i v) c none never = objects_stay constant i (constant_value c constant v) ids c never
-  stays (Numbers ids e) c none never = numbers_stay (initial_value c e) ids c never
-  stays (Instance d m args) c none never = put form.Instance (declared_number d) [] (entry.Instance (instance_type args)) c never
-  stays (SubDecl front) c none never = front_stays form.SubprogramDeclaration front (front_declarations front) c none never
-  stays (SubBody front items stmts end) c none never =
-      let inner : Context = in_subprogram front (with_body_front front c) in
-      let L : Declarations = declarations items ++ declarations stmts in
-      let more : Without L = right (front_declarations front) L (rest (body_form front, front_number front) (front_declarations front ++ L) never) in
-      stays stmts (gather items inner) none.2 (right (declarations items) (declarations stmts) more)
-      ∙ (stays items inner none.1 (left (declarations items) (declarations stmts) more) ∙ body_stays front (front_declarations front ++ L) c none.0 never)
-  stays (Package d visible hidden) c none never =
-      let m : ℕ = declared_number d in
-      let start : Context = in_visible m (with_entry m entry.Package c) in
-      let L : Declarations = declarations visible ++ declarations hidden in
-      let more : Without L = rest (form.Package, m) L never in
-      stays hidden (in_hidden m (gather visible start)) none.1 (right (declarations visible) (declarations hidden) more)
-      ∙ (stays visible start none.0 (left (declarations visible) (declarations hidden) more) ∙ put form.Package m L entry.Package c never)
-  stays (PackageBody d parts) c none never = stays parts (in_hidden (declared_number d) c) none never
-  stays (If at x y) c none never =
-      stays y (gather x c) none.1 (right (declarations x) (declarations y) never) ∙ stays x c none.0 (left (declarations x) (declarations y) never)
-  stays (Branch at e x) c none never = stays x c none never
-  stays (Case at e x) c none never = stays x c none never
-  stays (When choices x) c none never = stays x c none never
-  stays (Loop at x) c none never = stays x c none never
-  stays (While at e x) c none never = stays x c none never
-  stays (For at d reversed range x) c none never =
-      let o : Entry = entry.Object (plain_object (parameter_type c range) kind.Parameter) in
-      stays x (with_entry (declared_number d) o c) none (rest (form.LoopParameter, declared_number d) (declarations x) never)
-      ∙ put form.LoopParameter (declared_number d) (declarations x) o c never
-  stays (Block at x y end) c none never =
-      stays y (gather x c) none.1 (right (declarations x) (declarations y) never) ∙ stays x c none.0 (left (declarations x) (declarations y) never)
-  stays (More x y) c none never =
-      stays y (gather x c) none.1 (right (declarations x) (declarations y) never) ∙ stays x c none.0 (left (declarations x) (declarations y) never)
-  stays code c none never = refl
+    formals_stay : (front : Code) (c : Context) → IsFormlessFront front → Is c → Is (with_formals front c)
+    formals_stay (Front d formals result) c none is = groups_stay formals c none is
+    formals_stay front c none is = is
+
+    body_stays : (front : Code) (L : Declarations) (c : Context) → IsFormlessFront front → Quiet ((body_form front, front_number front) ∷ L) → Is c → Is (with_body_front front c)
+    body_stays front L c none quiet is = by (is_subprogram (entry_of c.known (front_number front))) refl
+      where
+        by : (b : Bool) → is_subprogram (entry_of c.known (front_number front)) ≡ b → Is (if b then with_formals front c else with_front front c)
+        by true known = formals_stay front c none is
+        by false known =
+            front_stays front c none
+            (λ same. true≢false (sym (quiet (body_form front) (inl (ap (λ m. (body_form front, m)) (sym same)))).1
+            ∙ (ap is_subprogram (sym is) ∙ (ap (λ m. is_subprogram (entry_of c.known m)) same ∙ known)))) is
+
+    pub stays : (code : Code) (c : Context) → IsFormless code → Quiet (declarations code) → Is c → Is (gather code c)
+    unfolding gather IsFormless
+    stays (Incomplete d) c none quiet is = put form.IncompleteType (declared_number d) [] entry.Type c refl quiet is
+    stays (Private d) c none quiet is = put form.PrivateType (declared_number d) [] entry.Type c refl quiet is
+    stays (TypeDecl d def end) c none quiet is =
+        let m : ℕ = declared_number d in
+        definition_stays m def (with_type m (full_info c m def end) c) (rest (form.FullType, m) (literals_of def) quiet)
+        (put form.FullType m (literals_of def) entry.Type c refl quiet is)
+    stays (Subtype d m) c none quiet is = put form.Subtype (declared_number d) [] entry.Type c refl quiet is
+    stays (ConstrainedSubtype d m low high) c none quiet is = put form.Subtype (declared_number d) [] entry.Type c refl quiet is
+    stays (Objects ids constant i v) c none quiet is = objects_stay constant i (constant_value c constant v) ids c quiet is
+    stays (Numbers ids v) c none quiet is = numbers_stay (initial_value c v) ids c quiet is
+    stays (Instance d m args) c none quiet is = put form.Instance (declared_number d) [] (entry.Instance (instance_type args)) c refl quiet is
+    stays (SubDecl front) c none quiet is = front_stays front c none (other form.SubprogramDeclaration (front_number front) (front_declarations front) refl quiet) is
+    stays (SubBody front items stmts end) c none quiet is =
+        let inner : Context = in_subprogram front (with_body_front front c) in
+        let L : Declarations = declarations items ++ declarations stmts in
+        let more : Quiet L = right (front_declarations front) L (rest (body_form front, front_number front) (front_declarations front ++ L) quiet) in
+        stays stmts (gather items inner) none.2 (right (declarations items) (declarations stmts) more)
+        (stays items inner none.1 (left (declarations items) (declarations stmts) more) (body_stays front (front_declarations front ++ L) c none.0 quiet is))
+    stays (Package d visible hidden) c none quiet is =
+        let m : ℕ = declared_number d in
+        let start : Context = in_visible m (with_entry m entry.Package c) in
+        let L : Declarations = declarations visible ++ declarations hidden in
+        let more : Quiet L = rest (form.Package, m) L quiet in
+        stays hidden (in_hidden m (gather visible start)) none.1 (right (declarations visible) (declarations hidden) more)
+        (stays visible start none.0 (left (declarations visible) (declarations hidden) more) (put form.Package m L entry.Package c refl quiet is))
+    stays (PackageBody d parts) c none quiet is = stays parts (in_hidden (declared_number d) c) none quiet is
+    stays (If at x y) c none quiet is =
+        stays y (gather x c) none.1 (right (declarations x) (declarations y) quiet) (stays x c none.0 (left (declarations x) (declarations y) quiet) is)
+    stays (Branch at v x) c none quiet is = stays x c none quiet is
+    stays (Case at v x) c none quiet is = stays x c none quiet is
+    stays (When choices x) c none quiet is = stays x c none quiet is
+    stays (Loop at x) c none quiet is = stays x c none quiet is
+    stays (While at v x) c none quiet is = stays x c none quiet is
+    stays (For at d reversed range x) c none quiet is =
+        let o : Entry = entry.Object (plain_object (parameter_type c range) kind.Parameter) in
+        stays x (with_entry (declared_number d) o c) none (rest (form.LoopParameter, declared_number d) (declarations x) quiet)
+        (put form.LoopParameter (declared_number d) (declarations x) o c refl quiet is)
+    stays (Block at x y end) c none quiet is =
+        stays y (gather x c) none.1 (right (declarations x) (declarations y) quiet) (stays x c none.0 (left (declarations x) (declarations y) quiet) is)
+    stays (More x y) c none quiet is =
+        stays y (gather x c) none.1 (right (declarations x) (declarations y) quiet) (stays x c none.0 (left (declarations x) (declarations y) quiet) is)
+    stays code c none quiet is = is

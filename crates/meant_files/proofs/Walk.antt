@@ -62,7 +62,9 @@ use Rattle.name_events.specs.Outline.{indication_events, component_events, use_e
 use Rattle.name_events.specs.Outline as outline
 use Rattle.resolved_tree.specs.Trees.{Code, code_list}
 use Rattle.expression_lowering.specs.LoweredExpressions.{Numbers, number_of, last_part, mark_of, before_others, last_of, lowered_range}
-use Rattle.seen_files.specs.Uses.{numbers_along}
+use Rattle.seen_files.specs.Uses.{numbers_along, name_number, AreAllowed}
+use Rattle.seen_files.proofs.Expressions.{both_so, all_mention, expr_speaks}
+use Rattle.name_events.specs.Laws.{is_mention}
 use Rattle.tree_lowering.specs.Lowered.{declared_next, declared_all, lowered_indication, lowered_subtype, lowered_type, lowered_declaration, item_before, before_all, lowered_items, lowered_simple, lowered_stmts, lowered_stmt_box, stmts_row, lowered_stmt, lowered_stmts_box, elsifs_row, lowered_elsif, lowered_when_box, whens_row, lowered_when, lowered_formal, lowered_next_formal, lowered_formals, lowered_subspec, lowered_subprogram, decl_before, part_before, lowered_decls, lowered_private, lowered_package, lowered_package_body, lowered_unit, lowered_files}
 use Rattle.type_definitions.specs.Gathered.{front_number}
 use Rattle.typed_tree.specs.Programs.{bodies_in}
@@ -131,6 +133,15 @@ module _ (numbers : Numbers) where
       → IsLow last (mark_of numbers mark)
   mark_low c mark last now long is n at =
       below (length now.declared) last n long (subst (λ m. m < length now.declared) (part_same (number_of numbers mark.first) mark.rest n at) is)
+
+  -- names in an expression
+  mentions_low : (last : ℕ) (xs : List Event) (now : Known) → length now.declared ≡ suc last → all_mention xs ≡ true → AreFollowed numbers now xs
+      → AreAllowed numbers (λ n. n ≤ last) xs
+  unfolding known_behind AreAllowed
+  mentions_low last [] now long all are = tt
+  mentions_low last (e.Mentions c name ∷ rest) now long all are =
+      (below (length now.declared) last (name_number numbers name) long are.0, mentions_low last rest (known_behind now (e.Mentions c name)) long all are.1)
+  mentions_low last (event ∷ rest) now long all are = absurd (true≢false (sym (both_so (is_mention event) (all_mention rest) all).0))
 
   -- ---- one after the other
 
@@ -325,7 +336,15 @@ module _ (numbers : Numbers) where
   parameter_low : (parameter : Identifier) (steps : Range) (now : Known) → AreFollowed numbers now (parameter_events parameter steps)
       → IsLowRange (number_of numbers parameter) (lowered_range numbers steps)
   unfolding range_events lowered_range
-  parameter_low parameter (range.Bounds pos low dots high) now are = tt
+  parameter_low parameter (range.Bounds pos low dots high) now are =
+      let last : ℕ = number_of numbers parameter in
+      let inner : Known = known_behind (known_behind now e.RegionOpens) (declares form.LoopParameter parameter) in
+      let speaks = expr_speaks numbers (λ n. n ≤ last) low in
+      let first = followed_both (expr_events low ++ expr_events high) (e.DeclarationsEnd ∷ []) inner are.1.1 in
+      speaks.1 (mentions_low last (expr_events low) inner
+      (one_long form.LoopParameter parameter (known_behind now e.RegionOpens)
+      (completes_nothing (known_behind now e.RegionOpens) form.LoopParameter (folded_identifier parameter).name refl) are.1.0)
+      speaks.0 (followed_both (expr_events low) (expr_events high) inner first.0).0)
   parameter_low parameter (range.Marked pos mark) now are =
       mark_low clause.Elsewhere mark (number_of numbers parameter) (known_behind (known_behind now e.RegionOpens) (declares form.LoopParameter parameter))
       (one_long form.LoopParameter parameter (known_behind now e.RegionOpens)

@@ -2,7 +2,7 @@
 use Rattle.std.specs.Prelude.{◌≡◌, ◌≤◌, ℕ, true, List, [], ◌∷◌, ◌++◌, Some}
 use Rattle.spark_base.specs.Lists.{Has}
 use Rattle.resolved_tree.specs.declared.node.Mark.{Mark}
-use Rattle.resolved_tree.specs.Trees.{Code, Plain, Marked, Constrained, Enumeration, Incomplete, Private, TypeDecl, Subtype, ConstrainedSubtype, Objects, Numbers, Instance, Formals, Front, SubDecl, SubBody, Package, PackageBody, If, Branch, Case, When, Loop, While, For, Block, More}
+use Rattle.resolved_tree.specs.Trees.{Code, Plain, Bounds, Marked, Constrained, Enumeration, Incomplete, Private, TypeDecl, Subtype, ConstrainedSubtype, Objects, Numbers, Instance, Formals, Front, SubDecl, SubBody, Package, PackageBody, If, Branch, Case, When, Loop, While, For, Block, More}
 use Rattle.name_events.specs.declared.event.Event.{Event}
 use Rattle.name_events.specs.declared.event.Event.TheVariants as e
 use Rattle.name_events.specs.declared.declaration.Identified.{Identified}
@@ -11,6 +11,7 @@ use Rattle.name_events.specs.declared.declaration.DeclarationForm.TheVariants as
 use Rattle.name_events.specs.Declarations.{is_body_form}
 use Rattle.type_definitions.specs.Gathered.{declared_number, front_number}
 use Rattle.orderly_files.specs.Numbered.{number_of_pos}
+use Rattle.seen_files.specs.Uses.{Uses}
 
 abbrev pub Declarations : Type 0
 Declarations = List (DeclarationForm × ℕ)
@@ -101,7 +102,9 @@ abbrev pub IsLowIndication : ℕ → Code → Type 0
 IsLowIndication last (Plain m) = IsLow last m
 IsLowIndication last i = Unit {0}
 
+-- Names in the lower bound of a range don't either.
 abbrev pub IsLowRange : ℕ → Code → Type 0
+IsLowRange last (Bounds low high) = Uses (λ n. n ≤ last) low
 IsLowRange last (Marked m) = IsLow last m
 IsLowRange last (Constrained m low high) = IsLow last m
 IsLowRange last range = Unit {0}

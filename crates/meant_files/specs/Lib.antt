@@ -4,6 +4,5 @@ pub mod Formless
 pub mod Declarations
 pub mod Counted
 pub mod Followed
--- objects of the types that are indicated, and what is left to be proved
+-- objects of the types that are indicated
 pub mod Typed
-pub mod Bounded

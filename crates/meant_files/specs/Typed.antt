@@ -1,10 +1,9 @@
 -- What is known of declared objects: they are objects of the types that are indicated for them.
-use Rattle.std.specs.Prelude.{◌≡◌, ℕ, true}
-use Rattle.resolved_tree.specs.Trees.{Code, Bounds, Objects, Numbers, SubBody, Package, PackageBody, If, Branch, Case, When, Loop, While, For, Block, More}
+use Rattle.std.specs.Prelude.{◌≡◌, ℕ}
+use Rattle.resolved_tree.specs.Trees.{Code, Objects, Numbers, SubBody, Package, PackageBody, If, Branch, Case, When, Loop, While, For, Block, More}
 use Rattle.type_definitions.specs.declared.table.ObjectInfo.{ObjectInfo}
 use Rattle.type_definitions.specs.declared.table.Entry.TheVariants as entry
 use Rattle.type_definitions.specs.declared.table.Known.{Known}
-use Rattle.type_definitions.specs.Types.{full, is_scalar}
 use Rattle.type_definitions.specs.Entries.{entry_of, integer}
 use Rattle.type_definitions.specs.Names.{Context}
 use Rattle.type_definitions.specs.Gathered.{indicated, parameter_type, declared_number, in_subprogram, in_visible, in_hidden}
@@ -22,10 +21,9 @@ abbrev pub AreIntegers : Known → Code → Type 0
 AreIntegers known (More d rest) = IsOf known (declared_number d) integer × AreIntegers known rest
 AreIntegers known ids = Unit {0}
 
--- The parameter of a loop has the type of its range, or some scalar one, where the range is given by its bounds.
+-- The parameter of a loop has the type of its range: where that is given by its bounds, the type that the lower one
+-- is based on.
 abbrev pub IsParameterOf : Context → Code → Code → Type 0
-IsParameterOf c d (Bounds low high) =
-    (o : ObjectInfo) × (entry_of c.known (declared_number d) ≡ entry.Object o) × (is_scalar (full c.known.table o.of) ≡ true)
 IsParameterOf c d range = IsOf c.known (declared_number d) (parameter_type c range)
 
 -- So it is in all of the code.

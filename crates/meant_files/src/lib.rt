@@ -7,8 +7,8 @@
 //! `specs/Declarations.antt`), with numbers that count up or complete others (`Events`, with
 //! `specs/Counted.antt`); so subprograms have bodies (`Bodies`), and what is known of objects and
 //! functions is declared (`Objects`, `Puts`). While declarations are gathered, each that stands before
-//! has its kind and stays as it is (`Given`, `Stays`), and so do the rows of predefined types
-//! (`Rows`, `Bare`). So marks mean there what they mean at last, and objects have the types that are
-//! indicated (`Types`, for `specs/Typed.antt`). `Main` joins this.
-//! What is left stands in `specs/Bounded.antt`. Nothing here runs.
+//! has its kind and stays as it is (`Given`, `Stays`), and so do the rows of predefined types (`Rows`).
+//! So marks mean there what they mean at last, and so do the lower bounds of loops, where the table is
+//! like the last one (`Ranges`, over `steady_types`); and objects have the types that are indicated
+//! (`Types`, for `specs/Typed.antt`). `Main` joins this. Nothing here runs.
 #![tactic(auto)]

@@ -4,9 +4,9 @@ use Rattle.ada_tree.specs.declared.unit.SourceUnit.{SourceUnit}
 use Rattle.name_events.specs.Outline.{source_events}
 use Rattle.name_events.specs.Identified.{identified}
 use Rattle.name_events.specs.Faults.{name_fault}
-use Rattle.resolved_tree.specs.Trees.{Program}
+use Rattle.resolved_tree.specs.Trees.{Code, Program}
 use Rattle.type_definitions.specs.Types.{Table}
-use Rattle.type_definitions.specs.Whole.{known_of, type_fault}
+use Rattle.type_definitions.specs.Whole.{outside, known_of, type_fault}
 use Rattle.typing_steps.specs.Programs.{program_of}
 use Rattle.flow_paths.specs.Instructions.{Instruction, Evaluate}
 use Rattle.flow_paths.specs.Laid.{FlowProgram, flow_program}
@@ -30,7 +30,15 @@ use Rattle.soundness.specs.Sound.{calls_nothing}
 use Rattle.ready_laws.proofs.Temporaries.{no_temporaries}
 use Rattle.order_laws.specs.Orderly.{typed_of}
 use Rattle.sound_files.specs.Class.{IsPlainText, CallsNothing}
-use Rattle.sound_files.specs.Left.{AreOrderly}
+use Rattle.order_laws.proofs.Faults.{units_faultless}
+use Rattle.settled_types.specs.Stamped.{AllOpen}
+use Rattle.settled_types.proofs.Faultless.{program_open}
+use Rattle.named_files.proofs.Library.{procedures}
+use Rattle.steady_types.specs.Flat.{IsFlatUnit}
+use Rattle.steady_types.proofs.Main.{alike, steady}
+use Rattle.sound_files.proofs.Flat.{unit_flat}
+use Rattle.sound_files.proofs.Written.{files_written}
+use Rattle.spark_base.specs.Lists.{Has}
 
 -- No operand of a short circuit stands by itself where nothing is called.
 whole_of : (i : Instruction) → calls_nothing i ≡ true → is_whole i ≡ true
@@ -50,10 +58,14 @@ module _ (files : List (List SourceUnit)) where
   undivided : CallsNothing flow → AreUndivided flow
   undivided calls sub has point is = whole_of point.instr (calls sub has point is)
 
-  pub files_fine : AreApart (identified files) → AllEnded at_start p.units → Ascends (event_positions (source_events files)) → name_fault files ≡ None → type_fault p ≡ None → IsPlainText p → AreOrderly files
+  pub files_fine : AreApart (identified files) → AllEnded at_start p.units → Ascends (event_positions (source_events files)) → name_fault files ≡ None → type_fault p ≡ None → IsPlainText p
       → CallsNothing flow → AreFine flow
-  files_fine apart ended up named none text left calls =
+  files_fine apart ended up named none text calls =
       let formed : IsTrue (all_formed p.units) = files_formed (identified files) files in
       let orderly : IsInOrder p = files_in_order files apart ended in
       let laws : Laws (known_of p) (IsMade p.units) = program_laws p formed orderly none text.named (components_left p (records_apart (identified files) files named)) in
-      are_fine p (IsMade p.units) none laws (files_meant files up named text.formless text.named (IsMade p.units) left.bounded) (no_temporaries table (typed_of p) calls) (undivided calls)
+      let opens : AllOpen (known_of p) p.units = program_open p formed none in
+      let flat : (u : Code) → Has p.units u → IsFlatUnit u
+      = λ u has. unit_flat u (files_written (identified files) (outside (known_of p)) files (procedures files named) u has (units_faultless p none u has)) in
+      are_fine p (IsMade p.units) none laws
+      (files_meant files up named text.formless text.named (IsMade p.units) (steady p orderly opens text.named flat) (alike p orderly opens text.named flat)) (no_temporaries table (typed_of p) calls) (undivided calls)

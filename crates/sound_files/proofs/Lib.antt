@@ -5,6 +5,7 @@ pub mod Formless
 pub mod Access
 pub mod Formals
 pub mod First
+pub mod Flat
 pub mod Fine
 pub mod Main
 pub mod Examples

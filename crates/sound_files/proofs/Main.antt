@@ -1,5 +1,5 @@
 -- The runs of accepted files of the first class are sound: those that break no rule of names and of types and have
--- no reports, whose positions are as in a text, under the premises that are left.
+-- no reports, whose positions are as in a text.
 use Rattle.std.proofs.Common.{◌≡◌, subst, ℕ, true, List, [], None}
 use Rattle.spark_base.specs.Lists.{Has}
 use Rattle.ada_lexer.specs.Tokens.{Cut}
@@ -33,7 +33,6 @@ use Rattle.order_laws.specs.Orderly.{typed_of, typing_in, bodies_of, IsOrderly}
 use Rattle.order_laws.proofs.Faults.{units_faultless}
 use Rattle.order_laws.proofs.Accepted.{accepted_sound}
 use Rattle.sound_files.specs.Class.{IsPlainText, CallsNothing}
-use Rattle.sound_files.specs.Left.{AreOrderly}
 use Rattle.seen_files.proofs.Main.{files_seen}
 use Rattle.sound_files.proofs.Whole.{whole}
 use Rattle.sound_files.proofs.Once.{files_once}
@@ -53,7 +52,7 @@ module _ (files : List (List SourceUnit)) where
   abbrev flow : FlowProgram
   flow = flow_program table (typed_of p)
 
-  module _ (apart : AreApart (identified files)) (ended : AllEnded at_start p.units) (up : Ascends (event_positions (source_events files))) (named : name_fault files ≡ None) (no_fault : type_fault p ≡ None) (text : IsPlainText p) (left : AreOrderly files) where
+  module _ (apart : AreApart (identified files)) (ended : AllEnded at_start p.units) (up : Ascends (event_positions (source_events files))) (named : name_fault files ≡ None) (no_fault : type_fault p ≡ None) (text : IsPlainText p) where
     -- no subprogram has formals
     formals_known : (sub : TypedSub) → Has (bodies_of p) sub → (x : ℕ) → Has sub.formals x → is_formal (typing_in p) x ≡ true
     formals_known sub has x is = absurd (subst (λ xs. Has xs x) (subs_none (site_of (known_of p) p.units) 1 p.units sub text.formless has) is)
@@ -79,13 +78,13 @@ module _ (files : List (List SourceUnit)) where
           no_reports = none;
           effects_are = are;
           settled = files_settled files apart ended no_fault (typed_of p);
-          fine = files_fine files apart ended up named no_fault text left calls;
+          fine = files_fine files apart ended up named no_fault text calls;
         })
         (subst OwnsByShape (flow_table table (typed_of p)) (files_own files apart ended no_fault (typed_of p))) (first_class p text calls) files_orderly input
 
   -- So it is if the files are parsed from texts: then their positions are as in a text.
-  pub parsed_sound : (texts : List (List Cut)) → AreParsed 0 texts files → name_fault files ≡ None → type_fault p ≡ None → IsPlainText p → AreOrderly files
+  pub parsed_sound : (texts : List (List Cut)) → AreParsed 0 texts files → name_fault files ≡ None → type_fault p ≡ None → IsPlainText p
       → (effects : Effects) → AreEffects flow effects → AreReports flow effects [] → CallsNothing flow
       → (input : List ℕ) → RunIsSound table (typed_of p) input
-  parsed_sound texts parsed named no_fault text left =
-      files_sound (files_apart texts files parsed) (files_ended (identified files) texts files parsed) (events_ascend texts files parsed) named no_fault text left
+  parsed_sound texts parsed named no_fault text =
+      files_sound (files_apart texts files parsed) (files_ended (identified files) texts files parsed) (events_ascend texts files parsed) named no_fault text

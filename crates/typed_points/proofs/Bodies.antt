@@ -1,7 +1,7 @@
 -- Code that breaks no sentence: its instructions are as soundness needs them.
 use Rattle.std.proofs.Common.{◌≡◌, sym, subst, ℕ, ◌+◌, Bool, true, ◌&&◌, List, [], ◌∷◌, ◌++◌, Option}
 use Rattle.std.specs.List.{AllByRecursion}
-use Rattle.resolved_tree.specs.Trees.{NoMore, More, Code, Bounds, Objects, Numbers, Skip, Assign, Call, Exit, Return, If, Branch, Case, When, Loop, While, For, Block, code_items}
+use Rattle.resolved_tree.specs.Trees.{NoMore, More, Code, Objects, Numbers, Skip, Assign, Call, Exit, Return, If, Branch, Case, When, Loop, While, For, Block, code_items}
 use Rattle.type_definitions.specs.Types.{full, is_scalar}
 use Rattle.type_definitions.specs.Entries.{boolean}
 use Rattle.type_definitions.specs.Faults.{demand}
@@ -47,7 +47,6 @@ module _ (s : Site) (objects : List Object) (subs : List Signature) (made : ℕ 
   -- the parameter of a loop is scalar
   parameter_is : (looped : Bool) (d range : Code) → IsMeantRange s y range → IsParameter s y d range → range_faults (flagged looped s.context.starts s.context) range ≡ []
       → is_scalar (full s.context.known.table (object_at y (object_number s (declared_number d))).of) ≡ true
-  parameter_is looped d (Bounds low high) meant is none = is
   parameter_is looped d range meant is none =
       subst (λ x. is_scalar (full s.context.known.table x) ≡ true) (sym is) (parameter_scalar s objects subs made laws looped s.context.starts range meant none)
 

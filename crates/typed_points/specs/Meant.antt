@@ -1,11 +1,11 @@
 -- What is asked of code beside that it breaks no sentence: it is code of the grammar, and its
 -- identifiers denote what the program declares.
-use Rattle.std.specs.Prelude.{◌≡◌, ℕ, true, false, List}
+use Rattle.std.specs.Prelude.{◌≡◌, ℕ, false, List}
 use Rattle.spark_base.specs.Lists.{Has}
 use Rattle.resolved_tree.specs.Trees.{Tree, NoMore, More, Code, Anonymous, Bounds, Constrained, Objects, Numbers, Assign, Call, Exit, Return, If, Branch, Case, When, Loop, While, For, Block, SubBody, Package, PackageBody}
 use Rattle.type_definitions.specs.declared.table.Known.{Known}
 use Rattle.type_definitions.specs.declared.table.Shape.TheVariants as shape
-use Rattle.type_definitions.specs.Types.{shape_of, full, is_scalar}
+use Rattle.type_definitions.specs.Types.{shape_of}
 use Rattle.type_definitions.specs.Entries.{integer}
 use Rattle.type_definitions.specs.Gathered.{indicated, parameter_type, declared_number, in_subprogram, in_visible, in_hidden}
 use Rattle.typed_tree.specs.Expressions.{Site, object_number}
@@ -36,9 +36,9 @@ abbrev pub AreNumbers : Site → Typing → Code → Type 0
 AreNumbers s y (More d rest) = ((object_at y (object_number s (declared_number d))).of ≡ integer) × AreNumbers s y rest
 AreNumbers s y ids = Unit {0}
 
--- The parameter of a loop has the type of its range, or some scalar one, where the range is given by its bounds.
+-- The parameter of a loop has the type of its range: where that is given by its bounds, the type that the lower one
+-- is based on.
 abbrev pub IsParameter : Site → Typing → Code → Code → Type 0
-IsParameter s y d (Bounds low high) = is_scalar (full s.context.known.table (object_at y (object_number s (declared_number d))).of) ≡ true
 IsParameter s y d range = (object_at y (object_number s (declared_number d))).of ≡ parameter_type s.context range
 
 abbrev pub IsMeantRange : Site → Typing → Code → Type 0

@@ -1,0 +1,4 @@
+pub mod Moves
+pub mod Rows
+pub mod Walk
+pub mod Main

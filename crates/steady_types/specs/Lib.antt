@@ -1,0 +1,6 @@
+-- tables that are alike
+pub mod Alike
+-- code without packages in it
+pub mod Flat
+-- the tables at loops
+pub mod Steady
