@@ -1,14 +1,18 @@
 #!/usr/bin/env python3
 """Times `./spark check` on sources of at most 4 MiB, and prints a row for each; docs/COSTS.md has the rows.
 
-    python3 tools/bench.py [--steps] [FOLDER]
+    python3 tools/bench.py [--steps | --runs] [FOLDER]
 
 The sources are written to FOLDER, or to a temporary folder that is removed at the end. /usr/bin/time of GNU is needed.
 With --steps a last column says how many states were carried along successors of points, for the sources that the rules on
 facts are asked about. Valgrind counts these in a second run, which takes some fifty times as long.
+With --runs it times `spark run` in place of that, and beside it the same work in Lua (lua5.4) and, as GNAT builds it
+(gnatmake), in Ada, where these are there.
 """
+import os
 import pathlib
 import re
+import shutil
 import subprocess
 import sys
 import tempfile
@@ -447,6 +451,133 @@ def steps_carried(paths):
     return calls
 
 
+# ---- runs
+
+
+def cells_again_and_again():
+    """A hundred times a list of 1,000 cells is made and freed."""
+    lines = ["with Ada.Unchecked_Deallocation;", "procedure Main is", "type Cell;", "type List is access Cell;"]
+    lines += ["type Cell is record Value : Integer; Next : List; end record;"]
+    lines += ["procedure Free is new Ada.Unchecked_Deallocation (Cell, List);", "L, Old : List;", "begin"]
+    lines += ["for Round in 1 .. 100 loop", "for I in 1 .. 1000 loop L := new Cell'(I, L); end loop;"]
+    lines += ["while L /= null loop Old := L; L := Old.Next; Free (Old); end loop;", "end loop;", "end Main;"]
+    return "\n".join(lines) + "\n"
+
+
+def with_output(declarations, statements):
+    """A main procedure that reads and writes."""
+    lines = ["with Ada.Text_IO; use Ada.Text_IO; with Ada.Integer_Text_IO; use Ada.Integer_Text_IO;", "procedure Main is"]
+    return "\n".join(lines + declarations + ["begin"] + statements + ["end Main;"]) + "\n"
+
+
+def deep_recursion():
+    """A function that calls itself 1,000,000 deep."""
+    lines = ["package Sums is", "function Sum (N : Integer) return Integer;", "end Sums;", "package body Sums is"]
+    lines += ["function Sum (N : Integer) return Integer is begin if N = 0 then return 0; end if;"]
+    lines += ["return (N + Sum (N - 1)) mod 1000; end Sum;", "end Sums;", "with Sums; use Sums;"]
+    return "\n".join(lines) + "\n" + with_output([], ["Put_Line (Integer'Image (Sum (1_000_000)));"])
+
+
+def much_input():
+    """All numbers of the input are read."""
+    read = "while not End_Of_File loop Get (N); S := (S + N) mod 1000; end loop;"
+    return with_output(["N : Integer; S : Integer := 0;"], [read, "Put_Line (Integer'Image (S));"])
+
+
+def numbers_of(size):
+    """Numbers in lines, so many bytes of them."""
+    lines = "".join("%d\n" % (10_000 + i % 90_000) for i in range(size // 6))
+    return lines + "9" * (size - len(lines) - 1) + "\n"
+
+
+def much_output():
+    """1,048,576 lines of 64 bytes are written."""
+    return with_output([], ["for I in 1 .. 1_048_576 loop Put_Line (\"%s\"); end loop;" % ("0123456" * 9)])
+
+
+def lists_in_lua(count):
+    """The work of `lists_of_cells` in Lua."""
+    lines = []
+    for i in range(1, count + 1):
+        if i % 3 == 1:
+            lines.append("function P%d(l) return {value = %d, next = l} end" % (i, i))
+        elif i % 3 == 2:
+            lines.append("function P%d(l) local b = l; b.value = b.value + %d; return l end" % (i, i))
+        else:
+            observed = "do local c = l; while c ~= nil do s = (s + c.value) % 1000; c = c.next end end"
+            lines.append("function P%d(l) local s = 0; %s; l.value = s; return l end" % (i, observed))
+    lines += ["local l"] + ["l = P%d(l)" % i for i in range(1, count + 1)] + ["print(' ' .. l.value)"]
+    lines += ["do local old; while l ~= nil do old = l; l = old.next; old.next = nil end end"]
+    return "\n".join(lines) + "\n"
+
+
+def runs():
+    """Each program that is run, with its name, its input, the steps of its run, the bytes that it writes, and the same work
+    in Lua, where that is compared."""
+    yield "lists_of_cells_10000", lists_of_cells(10_000), "", 16_731_674, 7, lists_in_lua(10_000)
+    yield "cells_again_and_again", cells_again_and_again(), "", 600_407, 0, None
+    yield "deep_recursion", deep_recursion(), "", 4_000_006, 3, None
+    yield "much_input", much_input(), numbers_of(16 * 1_048_576), 8_388_614, 5, None
+    yield "much_output", much_output(), "", 2_097_155, 64 * 1_048_576, None
+
+
+def processor_seconds(command, folder, status, written):
+    """Processor seconds and MiB of one run of a command that reads the file `input`, which has to end as it should."""
+    with open(folder / "input", "rb") as reads, open(folder / "output", "wb") as writes:
+        child = subprocess.Popen(command, cwd=folder, stdin=reads, stdout=writes)
+        _, ended, usage = os.wait4(child.pid, 0)
+        child.returncode = os.waitstatus_to_exitcode(ended)
+    size = (folder / "output").stat().st_size
+    if child.returncode != status or written not in (size, None):
+        sys.exit("%s: status %d and %d bytes in place of %d and %d" % (command, child.returncode, size, status, written))
+    return usage.ru_utime + usage.ru_stime, usage.ru_maxrss / 1024
+
+
+def beside(folder, lua):
+    """The same work by others: who, the command, and the one that only reads the text, where it is read before it runs."""
+    if lua and shutil.which("lua5.4"):
+        (folder / "main.lua").write_text(lua)
+        yield "Lua 5.4", ["lua5.4", "main.lua"], ["lua5.4", "-e", "assert(loadfile('main.lua'))"]
+    if lua and shutil.which("gnatmake"):
+        subprocess.run(["gnatchop", "-w", "-q", "main_all.ada"], cwd=folder, check=True)
+        for level in ("-O0", "-O2"):
+            command = ["gnatmake", "-q", "-f", level, "main.adb", "-o", "main%s" % level]
+            subprocess.run(command, cwd=folder, check=True, capture_output=True)
+            yield "GNAT %s" % level, ["./main%s" % level], None
+
+
+def run_row(folder, by, steps, written, command, before):
+    """The least of five runs, each after one that only reads the text. The rate is that of the rest."""
+    reading, whole, most = 0.0 if before is None else float("inf"), float("inf"), 0.0
+    for _ in range(5):
+        if before is not None:
+            reading = min(reading, processor_seconds(before, folder, 0, None)[0])
+        seconds, mib = processor_seconds(command, folder, 0, written)
+        whole, most = min(whole, seconds), max(most, mib)
+    rate = steps / 1_000_000 / max(whole - reading, 0.001)
+    print("| %s | %s | %d | %.2f | %.2f | %.1f | %.0f |" % (folder.name, by, steps, whole, reading, rate, most), flush=True)
+
+
+def bench_runs(folder):
+    """A row for each run, by `spark` and by what is beside it."""
+    subprocess.run([str(TOP / "spark")], stdin=subprocess.DEVNULL, capture_output=True)
+    print("| program | by | steps | seconds | of them reading | million steps a second | MiB |")
+    print("|---|---|---|---|---|---|---|")
+    for name, text, given, steps, written, lua in runs():
+        here = folder / name
+        here.mkdir(exist_ok=True)
+        (here / "main_all.ada").write_text(text)
+        (here / "input").write_text(given)
+        checked = [str(program()), "check", "main_all.ada"]
+        executed = [str(program()), "run", "--steps=%d" % steps, "main_all.ada"]
+        run_row(here, "spark run", steps, written, executed, checked)
+        for by, command, before in beside(here, lua):
+            run_row(here, by, steps, written, command, before)
+
+
+# ---- checks
+
+
 def bench(folder, counts_steps):
     # builds what there is to build, outside the times
     subprocess.run([str(TOP / "spark")], stdin=subprocess.DEVNULL, capture_output=True)
@@ -467,15 +598,16 @@ def bench(folder, counts_steps):
 
 def main():
     words = sys.argv[1:]
-    counts_steps = words[:1] == ["--steps"]
-    words = words[counts_steps:]
+    counts_steps, are_runs = words[:1] == ["--steps"], words[:1] == ["--runs"]
+    words = words[counts_steps or are_runs :]
+    work = bench_runs if are_runs else lambda folder: bench(folder, counts_steps)
     if words:
         folder = pathlib.Path(words[0])
         folder.mkdir(parents=True, exist_ok=True)
-        bench(folder, counts_steps)
+        work(folder.resolve())
     else:
         with tempfile.TemporaryDirectory() as folder:
-            bench(pathlib.Path(folder), counts_steps)
+            work(pathlib.Path(folder))
 
 
 if __name__ == "__main__":

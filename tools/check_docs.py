@@ -36,6 +36,7 @@ QUOTED = [
     ("README.md", DATA / "queue" / "queues.ads"),
     ("README.md", DATA / "queue" / "main.adb"),
     ("docs/ARCHITECTURE.md", TOP / "crates" / "spark" / "data" / "f.adb"),
+    ("docs/RUN.md", DATA / "runs" / "leak_before_an_exception.adb"),
 ]
 
 # Words that another word stands for here, as a pattern, and that word.

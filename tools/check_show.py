@@ -13,6 +13,8 @@ Without --program it runs the script `spark`. Status 1 where something is wrong;
 - Each example and program is as its head says, those in `natural`, as they are written in SPARK, and in `reduced`,
   changed for `spark`, among them.
 - `--leaks` lets each leak check through, with the line of the source, a caret and what its word means.
+- `--run` runs each example of `spark run` on its input, with the same output, lines and status. Below each lost cell
+  and exception stand the line of the source, a caret and what it means; at the end stands what the status says.
 - `--left-out` finds each row of the table in its refused source, and the first refusal of each program in `natural`;
   it finds nothing in an accepted program or row.
 - `--order`, `--explain`, `--sarif` and a missing file do what is said of them.
@@ -121,8 +123,8 @@ def loaded():
 SPARK_SHOW = loaded()
 
 
-def run(folder, *words):
-    return subprocess.run([str(word) for word in words], cwd=folder, stdin=subprocess.DEVNULL, capture_output=True)
+def run(folder, *words, data=b""):
+    return subprocess.run([str(word) for word in words], cwd=folder, input=data, capture_output=True)
 
 
 def head(path):
@@ -242,6 +244,60 @@ def try_leaks(program):
         files, status, out, _ = head(path)
         for text in faults_of_leaks(path, status, out, run(path.parent, SHOW, "--program", program, "--leaks", *files)):
             fault("%s: %s" % (path.relative_to(DATA), text))
+    return len(paths)
+
+
+def input_of(path):
+    """The standard input that the head of an example tells."""
+    entries = re.findall(rb"^--> in ?(.*)$", path.read_bytes(), re.M)
+    return b"".join(line + b"\n" for line in entries)
+
+
+def faults_of_run(path, status, out, err, made):
+    """What is wrong with what spark-show adds to the lines of a run."""
+    lines = made.stderr.decode().splitlines()
+    if (made.returncode, made.stdout) != (status, "".join(line + "\n" for line in out).encode()):
+        yield "another status or another standard output"
+    if [text for text in lines if not re.match(r" *\d* \| |      = ", text)] != err:
+        yield "the lines of spark don't come through"
+    source = path.read_bytes().decode().split("\n")
+    for at, text in enumerate(lines):
+        it = SPARK_SHOW.event(text, [path.name])
+        if it and lines[at + 1 : at + 3] != ["%5d | %s" % (it.line, source[it.line - 1]), "      | %s^" % (" " * (it.column - 1))]:
+            yield "another line of the source or another caret below " + text
+        if it and lines[at + 3 : at + 4] != ["      = " + it.meant]:
+            yield "it isn't said what it means: " + text
+    if status in SPARK_SHOW.ENDINGS and lines[-1] != "      = " + SPARK_SHOW.ENDINGS[status]:
+        yield "it isn't said what status %d means" % status
+
+
+def try_runs(program):
+    """Runs the examples of runs through spark-show, and answers that no example has."""
+    paths = sorted(DATA.glob("runs/*.adb"))
+    met = set()
+
+    def one(path):
+        words, status, out, err = head(path)
+        met.add(status)
+        made = run(path.parent, SHOW, "--program", program, "--run", *words, data=input_of(path))
+        return ["%s: %s" % (path.relative_to(DATA), text) for text in faults_of_run(path, status, out, err, made)]
+
+    with ThreadPoolExecutor() as pool:
+        for found in pool.map(one, paths):
+            for text in found:
+                fault(text)
+    for status, lines in ((10, ["input too large"]), (20, ["f.adb:1:1: trapped Touched"]), (20, ["f.adb:1:1: trapped Twice"])):
+        met.add(status)
+        with tempfile.TemporaryDirectory() as name:
+            source, other = pathlib.Path(name, "f.adb"), pathlib.Path(name, "other")
+            source.write_text("procedure F is\n")
+            other.write_text("#!/bin/sh\necho '%s' >&2\nexit %d\n" % (lines[0], status))
+            other.chmod(0o755)
+            made = run(name, SHOW, "--program", other, "--run", "f.adb")
+            for text in faults_of_run(source, status, [], lines, made):
+                fault("--run, %s: %s" % (lines[0], text))
+    for status in set(SPARK_SHOW.ENDINGS) - met:
+        fault("no run has the status %d" % status)
     return len(paths)
 
 
@@ -404,6 +460,10 @@ def try_words(program):
         (["--left-out", "absent.adb"], 7, "absent.adb: No such file"),
         (["--left-out"], 6, "spark-show [--program PATH]"),
         (["--left-out", "--order", EXAMPLE], 6, "--order: usage: 1 to 64 files"),
+        (["--leaks", "--run", EXAMPLE], 6, "spark-show [--program PATH]"),
+        (["--steps=1", EXAMPLE], 6, "spark-show [--program PATH]"),
+        (["--run", "--steps=4294967297", EXAMPLE], 6, "spark-show [--program PATH]"),
+        (["--program", program, "--run", "absent.adb"], 7, "there is no file absent.adb"),
         (["--program", program, "absent.adb"], 7, "there is no file absent.adb"),
         (["--program", program, "tools"], 7, "tools is no file"),
         (["--program", program, "-x"], 6, "-x: usage: 1 to 64 files"),
@@ -529,7 +589,7 @@ def main():
     words = argparse.ArgumentParser()
     words.add_argument("--program", default=str(TOP / "spark"))
     program = executable(pathlib.Path(words.parse_args().program).resolve())
-    count = try_examples(program) + try_leaks(program)
+    count = try_examples(program) + try_leaks(program) + try_runs(program)
     try_constructs(program)
     try_rows()
     try_left_out(program)

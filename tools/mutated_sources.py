@@ -13,11 +13,12 @@ named at the end, and the status is 1. With one seed and one number of jobs the 
 import argparse
 import collections
 import multiprocessing
+import os
 import pathlib
 import random
 import re
 import shutil
-import subprocess
+import signal
 import sys
 import tempfile
 
@@ -167,28 +168,64 @@ def told(command, status, out, err):
     return None
 
 
+class Late(Exception):
+    """The program had its time."""
+
+
+def late(number, frame):
+    raise Late
+
+
+def asked(words, streams, seconds):
+    """The status of the program, and what it wrote to both outputs. (Spawned over files, not by
+    `subprocess`: that takes as long as the program itself.)"""
+    for stream in streams[1:]:
+        os.ftruncate(stream, 0)
+    for stream in streams:
+        os.lseek(stream, 0, os.SEEK_SET)
+    actions = [(os.POSIX_SPAWN_DUP2, stream, number) for number, stream in enumerate(streams)]
+    child = os.posix_spawn(words[0], words, os.environ, file_actions=actions)
+    try:
+        signal.setitimer(signal.ITIMER_REAL, seconds)
+        _, status = os.waitpid(child, 0)
+        signal.setitimer(signal.ITIMER_REAL, 0)
+    except Late:
+        os.kill(child, signal.SIGKILL)
+        os.waitpid(child, 0)
+        raise
+    out, err = (os.pread(stream, os.fstat(stream).st_size, 0) for stream in streams[1:])
+    return os.waitstatus_to_exitcode(status), out, err
+
+
 def ask(job):
     """Asks of `count` sources; gives the answers by name, and what isn't well."""
     seeds, count, seed, program, command, seconds, folder = job
     rng, counts, wrong = random.Random(seed), collections.Counter(), []
+    texts = [pathlib.Path(name).read_bytes() for name in seeds]
     place = pathlib.Path(folder) / str(seed)
     place.mkdir()
+    os.chdir(place)
+    signal.signal(signal.SIGALRM, late)
+    pathlib.Path("input").write_bytes(INPUT)
+    streams = [os.open("input", os.O_RDONLY)] + [os.open(name, os.O_RDWR | os.O_CREAT) for name in ("out", "err")]
     words = [program, command] + (["--steps=" + STEPS] if command == "run" else []) + ["t.adb"]
-    texts = [pathlib.Path(name).read_bytes() for name in seeds]
     for number in range(count):
         text = changed(rng, rng.choice(texts))
-        (place / "t.adb").write_bytes(text)
+        pathlib.Path("t.adb").write_bytes(text)
         try:
-            run = subprocess.run(words, cwd=place, input=INPUT, capture_output=True, timeout=seconds)
-            name = told(command, run.returncode, run.stdout, run.stderr)
-            said = "status %d, %r, %r" % (run.returncode, run.stdout[:200], run.stderr[:200])
-        except subprocess.TimeoutExpired:
+            status, out, err = asked(words, streams, seconds)
+            name = told(command, status, out, err)
+            said = "status %d, %r, %r" % (status, out[:200], err[:200])
+        except Late:
             name, said = None, "no answer within %d seconds" % seconds
         if name is None:
             kept = "%d_%d.adb" % (seed, number)
             (pathlib.Path(folder) / kept).write_bytes(text)
             wrong.append("%s: %s" % (kept, said))
         counts[name or "not well"] += 1
+    for stream in streams:
+        os.close(stream)
+    os.chdir(folder)
     shutil.rmtree(place)
     return counts, wrong
 

@@ -1,15 +1,18 @@
 #!/usr/bin/env python3
-"""Makes docs/WHAT_IT_FINDS.md: mistakes, the lines of `spark` for each, and what GNAT says and does.
+"""Makes docs/WHAT_IT_FINDS.md: mistakes, what `spark` says of each and what its run shows, and what GNAT says and does.
 
     python3 tools/what_it_finds.py                     writes the page
     python3 tools/what_it_finds.py --check             ends with 1 where the page isn't what would be written
     python3 tools/what_it_finds.py --run-gnat          compiles and runs each program with GNAT, keeps what is
                                                        found in tools/what_it_finds.json, and writes the page
-    python3 tools/what_it_finds.py --program ./spark   ends with 1 where `spark check` answers otherwise
+    python3 tools/what_it_finds.py --run-spark ./spark runs what is accepted with `spark run`, keeps what is found in
+                                                       tools/what_it_finds.json, and writes the page
+    python3 tools/what_it_finds.py --program ./spark   ends with 1 where `spark check` or `spark run` answers otherwise
 
-The programs and the lines of `spark` are those of crates/spark_examples/data; what GNAT says and does is read
-from tools/what_it_finds.json, so that only --run-gnat needs GNAT. A new mistake is a new row of ROWS, a program that is
-right and breaks a rule one of RIGHT, one that `spark` accepts one of NOT_FOUND; after that comes --run-gnat.
+The programs and the lines of `spark check` are those of crates/spark_examples/data; what `spark run` shows, and what GNAT
+says and does, is read from tools/what_it_finds.json, so that only --run-gnat needs GNAT. A new mistake is a new row of
+ROWS, a program that is right and breaks a rule one of RIGHT, one that `spark` accepts one of NOT_FOUND; after that come
+--run-gnat and --run-spark.
 """
 import json
 import pathlib
@@ -50,7 +53,8 @@ HEAD = """
 # What `spark` finds, and what happens without it
 
 Each section has a program with a mistake, the lines that `spark check` prints for it, and what GNAT 12 says and does.
-Two further parts have [what it reports though nothing goes wrong](#what-it-reports-though-nothing-goes-wrong) and
+The column `spark run` says what a [run](RUN.md) shows. A program that has reports doesn't run at all; a mistake that the
+rules don't know shows only if a run comes to it. Two further parts have [what it reports though nothing goes wrong](#what-it-reports-though-nothing-goes-wrong) and
 [what it doesn't find](#what-it-doesnt-find).
 
 All of these programs are Ada that GNAT accepts. Each was compiled with all warnings but the advice to write
@@ -75,7 +79,9 @@ breaks a rule. Below it is a program that does the same and is accepted.
 TAIL = """
 ## What it doesn't find
 
-`spark check` looks at ownership alone. Programs like the following break none of its rules, and are accepted.
+`spark check` looks at ownership alone. Programs like the following break none of its rules, and are accepted. `spark run`
+makes Ada's checks and names each lost cell, so it shows such a mistake if the run comes to it. It doesn't show that an
+object has no value: in a run each object has one from the beginning.
 """
 
 ROWS = [
@@ -161,6 +167,8 @@ ROWS = [
         [queues.adb](../crates/spark_examples/data/queue/queues.adb), have no mistake.""",
         "queue/main.adb",
         QUEUE,
+        mended="queue/mended.adb",
+        mend="It prints before it drops, and sets Todo to null after the move. A run of it shows what the rules don't know.",
     ),
 ]
 
@@ -301,8 +309,12 @@ def gnat_answers(row):
 
 def run_gnat():
     version = ran(TOP, "gcc", "--version").stdout.splitlines()[0]
-    answers = {row.path: gnat_answers(row) for row in ALL}
-    ANSWERS.write_text(json.dumps({"compiler": version, "programs": answers}, indent=1, sort_keys=True) + "\n")
+    keep(compiler=version, programs={row.path: gnat_answers(row) for row in ALL})
+
+
+def keep(**found):
+    """Keeps what was found in place of what was there under these names."""
+    ANSWERS.write_text(json.dumps({**json.loads(ANSWERS.read_text()), **found}, indent=1, sort_keys=True) + "\n")
 
 
 # ---- the page
@@ -328,13 +340,35 @@ def lines_of(row, example):
     return "```\n%s\n```" % "\n".join(example.expected) if example.status == 0 else errors_page.shown(example)
 
 
-def section(row, answers, level):
+def run_text(row, found):
+    """What `spark run` shows of an accepted program, as a paragraph, with its lines."""
+    lines = errors_page.Example(row.path, found["status"], found["err"].splitlines(), *errors_page.read_example(row.path)[3:])
+    ends = "`spark run` %s" % output_text(found["output"])
+    if not lines.expected:
+        return errors_page.filled(ends + " and ends normally.")
+    return errors_page.filled("%s and ends with status %d:" % (ends, found["status"])) + "\n\n" + errors_page.shown(lines)
+
+
+def run_short(row, runs_of):
+    """What `spark run` shows, in a few words; where there are reports, what it shows of the program in its place."""
+    if errors_page.read_example(row.path).status:
+        return "doesn't run it" + (", in its place: " + run_short(Row("", "", row.mended), runs_of) if row.mended else "")
+    found = runs_of[row.path]
+    said = [re.sub(r"^\S+: ", "", line) for line in found["err"].splitlines()]
+    said = [line.replace("raised ", "raises ") for line in said]
+    goes_on = ["goes on, " + output_text(found["output"])] if found["status"] in (0, 5) else []
+    return ", ".join(goes_on + said)
+
+
+def section(row, answers, runs_of, level):
     example = errors_page.read_example(row.path)
     answers = answers[row.path]
     said = answers["warnings"]
     parts = ["%s %s" % (level, row.title), errors_page.wrapped(row.text)]
     parts += [errors_page.filled(errors_page.link(row.path)), errors_page.program_of(example)]
     parts += ["`spark check` prints:", lines_of(row, example)]
+    if example.status == 0:
+        parts.append(run_text(row, runs_of[row.path]))
     parts.append("GNAT compiles it and says%s" % (":\n\n```\n%s\n```" % "\n".join(said) if said else " nothing."))
     checked, unchecked = (does(answers[build]) for build in BUILDS)
     if checked == unchecked:
@@ -344,16 +378,27 @@ def section(row, answers, level):
     return "\n\n".join(parts)
 
 
-def right_section(row, answers):
+def wrong_section(row, answers, runs_of):
+    """A program with a mistake, and one in its place where the row has one."""
+    parts = [section(row, answers, runs_of, "##")]
+    if row.mended:
+        assert errors_page.read_example(row.mended).expected == ["accepted"], row
+        parts.append(errors_page.filled("**Accepted:** " + errors_page.link(row.mended)))
+        parts += [errors_page.wrapped(row.mend), run_text(Row("", "", row.mended), runs_of[row.mended])]
+    return "\n\n".join(parts)
+
+
+def right_section(row, answers, runs_of):
     """A program that is right and breaks a rule, and the one in its place, which has to do the same."""
-    mended = errors_page.read_example(row.mended)
+    mended, ran_as = errors_page.read_example(row.mended), runs_of[row.mended]
     assert (mended.status, mended.expected) == (0, ["accepted"]), row
     assert not answers[row.mended]["warnings"], row
     for build in BUILDS:
         assert answers[row.mended][build] == answers[row.path][build], row
+        assert answers[row.mended][build]["output"] == ran_as["output"], row
     accepted = errors_page.filled("**Accepted:** " + errors_page.link(row.mended))
-    parts = [section(row, answers, "###"), accepted]
-    return "\n\n".join([*parts, errors_page.wrapped(row.mend), errors_page.program_of(mended), "It does the same."])
+    parts = [section(row, answers, runs_of, "###"), accepted, errors_page.wrapped(row.mend), errors_page.program_of(mended)]
+    return "\n\n".join([*parts, "It does the same. " + run_text(Row("", "", row.mended), ran_as)])
 
 
 def codes(example):
@@ -361,11 +406,12 @@ def codes(example):
     return ", ".join(found) or "accepted"
 
 
-def table(rows_of, answers, what):
-    rows = ["| %s | `spark` | GNAT compiles | with checks it | without it |" % what, "|---|---|---|---|---|"]
+def table(rows_of, answers, runs_of, what):
+    rows = ["| %s | `spark check` | `spark run` | GNAT compiles | with checks it | without it |" % what, "|---|---|---|---|---|---|"]
     for row in rows_of:
         found = answers[row.path]
         cells = ["[%s](#%s)" % (row.title, errors_page.slug(row.title)), codes(errors_page.read_example(row.path))]
+        cells.append(run_short(row, runs_of))
         cells.append("with a warning" if found["warnings"] else "without a word")
         cells += [short(found[build]) for build in BUILDS]
         rows.append("| %s |" % " | ".join(cells))
@@ -381,30 +427,52 @@ def short(found):
 
 
 def made():
-    answers = json.loads(ANSWERS.read_text())["programs"]
-    parts = [errors_page.wrapped(HEAD), table(ROWS + NOT_FOUND, answers, "mistake")]
-    parts += [section(row, answers, "##") for row in ROWS]
-    parts += [errors_page.wrapped(THOUGH_RIGHT), table(RIGHT, answers, "program")]
-    parts += [right_section(row, answers) for row in RIGHT]
+    kept = json.loads(ANSWERS.read_text())
+    answers, runs_of = kept["programs"], kept["runs"]
+    parts = [errors_page.wrapped(HEAD), table(ROWS + NOT_FOUND, answers, runs_of, "mistake")]
+    parts += [wrong_section(row, answers, runs_of) for row in ROWS]
+    parts += [errors_page.wrapped(THOUGH_RIGHT), table(RIGHT, answers, runs_of, "program")]
+    parts += [right_section(row, answers, runs_of) for row in RIGHT]
     parts += [errors_page.wrapped(TAIL)]
-    parts += [section(row, answers, "###") for row in NOT_FOUND]
+    parts += [section(row, answers, runs_of, "###") for row in NOT_FOUND]
     return "\n\n".join(parts) + "\n"
 
 
 # ---- spark
 
 
-def differs(program, row):
-    """What `spark check` answers where that isn't what the example says."""
-    example = errors_page.read_example(row.path)
+def response(program, command, row):
+    """What a command of `spark` answers for a program: its status and both outputs."""
     with tempfile.TemporaryDirectory() as name:
         folder = pathlib.Path(name)
         paths = [*row.others, row.path]
         for path in paths:
             shutil.copy(errors_page.DATA / path, folder)
-        got = ran(folder, program, "check", *[path.rpartition("/")[2] for path in paths])
-    said = (got.returncode, (got.stdout + got.stderr).splitlines())
-    return None if said == (example.status, example.expected) else "%s: status %d\n%s" % (row.path, said[0], "\n".join(said[1]))
+        got = ran(folder, program, command, *[path.rpartition("/")[2] for path in paths])
+    return got.returncode, got.stdout, got.stderr
+
+
+def differs(program, row):
+    """What `spark check` answers where that isn't what the example says, or else what `spark run` answers.
+
+    Without reports a run is as it was kept; with them `run` answers as `check` does.
+    """
+    example = errors_page.read_example(row.path)
+    status, out, err = response(program, "check", row)
+    if (status, (out + err).splitlines()) != (example.status, example.expected):
+        return "%s: check: status %d\n%s" % (row.path, status, out + err)
+    kept = json.loads(ANSWERS.read_text())["runs"].get(row.path)
+    wanted = (kept["status"], kept["output"], kept["err"]) if kept else (status, out, err)
+    got = response(program, "run", row)
+    return None if got == wanted else "%s: run: status %d\n%s" % (row.path, got[0], got[1] + got[2])
+
+
+def run_spark(program):
+    found = {}
+    for row in ALL + MENDED:
+        if errors_page.read_example(row.path).status == 0:
+            found[row.path] = dict(zip(("status", "output", "err"), response(program, "run", row)))
+    keep(runs=found)
 
 
 def main():
@@ -419,9 +487,11 @@ def main():
         found = [text for text in (differs(program, row) for row in rows) if text]
         print("\n".join(found + ["%d programs, %d differ" % (len(rows), len(found))]))
         return 1 if found else 0
-    elif words in ([], ["--run-gnat"]):
-        if words:
+    elif words in ([], ["--run-gnat"]) or len(words) == 2 and words[0] == "--run-spark":
+        if words == ["--run-gnat"]:
             run_gnat()
+        elif words:
+            run_spark(str(pathlib.Path(words[1]).resolve()))
         PAGE.write_text(made())
     else:
         print(__doc__)

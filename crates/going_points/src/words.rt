@@ -141,13 +141,13 @@ fn turn_loop(
 }
 
 /// A point that stores one word at most: where it leads.
-pub fn change_words(rows: &Rows, memory: &mut Memory, does: Does) -> Result<u32, Stop>
-    requires there { IsTrue (is_does_there rows.now does) }
-    requires whole { is_failed (words_changed rows.now does (flat memory.old)) ≡ false }
-    ensures changed { Changes (words_changed rows.now does (flat memory.old)) (flat memory.old) result (flat memory.new) }
+pub fn change_words(rows: &Rows, memory: &mut Memory, does: &Does) -> Result<u32, Stop>
+    requires there { IsTrue (is_does_there rows.now does.now) }
+    requires whole { is_failed (words_changed rows.now does.now (flat memory.old)) ≡ false }
+    ensures changed { Changes (words_changed rows.now does.now (flat memory.old)) (flat memory.old) result (flat memory.new) }
     ensures elsewhere { elsewhere memory.new ≡ elsewhere memory.old }
 {
-    match does {
+    match *does {
         Does::Go { next } => Ok(next),
         Does::Put {
             at,

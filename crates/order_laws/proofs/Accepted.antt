@@ -1,6 +1,7 @@
 -- An accepted program of the second class whose resolved code is orderly is ready, and its runs are sound.
-use Rattle.std.proofs.Common.{◌≡◌, sym, ap, ◌∙◌, subst, ℕ, true, false, List, None}
+use Rattle.std.proofs.Common.{◌≡◌, sym, ap, ◌∙◌, subst, ℕ, true, false, List, ◌∷◌, None}
 use Rattle.resolved_tree.specs.Trees.{Program}
+use Rattle.typed_tree.specs.Programs.{TypedSub, typed_program}
 use Rattle.type_definitions.specs.Types.{Table}
 use Rattle.type_definitions.specs.Whole.{known_of, type_fault}
 use Rattle.flow_paths.specs.declared.report.Effects.{Effects}
@@ -19,6 +20,9 @@ use Rattle.order_laws.proofs.Faults.{units_faultless}
 use Rattle.order_laws.proofs.Unmoved.{package_values}
 use Rattle.order_laws.proofs.Whole.{in_order}
 
+tails : (x y : TypedSub) (xs ys : List TypedSub) → x ∷ xs ≡ y ∷ ys → xs ≡ ys
+tails x y xs ys e = cc
+
 module _ (p : Program) (effects : Effects) (no_fault : type_fault p ≡ None) (accepted : Accepted (known_of p).table (typed_of p) effects)
     (owns : OwnsByShape (known_of p).table) (class : IsProcedureClass (flow_program (known_of p).table (typed_of p))) (orderly : IsOrderly p) where
   abbrev table : Table
@@ -30,13 +34,19 @@ module _ (p : Program) (effects : Effects) (no_fault : type_fault p ≡ None) (a
       orderly.formals orderly.seen (package_values (known_of p) p.units orderly.whole orderly.written (units_faultless p no_fault))
       (units_faultless p no_fault) orderly.main orderly.is_main
 
+  -- its subprograms are those with a body
+  rest_is : is_in_order.rest ≡ bodies_of p
+  unfolding typed_program
+  rest_is = tails _ _ _ _ (sym is_in_order.subs)
+
   -- What is called is a procedure with a body.
   abbrev pub CallProcedures : Type 0
   CallProcedures = AreCallees (known_of p).table (typed_of p) (bodies_of p)
 
   pub procedures_ready : CallProcedures → IsReady table (typed_of p) effects
   procedures_ready callees =
-      is_ready_program table (typed_of p) effects accepted (subst OwnsByShape (sym (flow_table table (typed_of p))) owns) class is_in_order callees
+      is_ready_program table (typed_of p) effects accepted (subst OwnsByShape (sym (flow_table table (typed_of p))) owns) class is_in_order
+      (subst (AreCallees table (typed_of p)) (sym rest_is) callees)
 
   -- Each moment of its run is well owned, and none is a trap.
   pub procedures_sound : CallProcedures → (input : List ℕ) → RunIsSound table (typed_of p) input

@@ -1,5 +1,5 @@
 -- An accepted program of the first class whose subprograms are in order is ready.
-use Rattle.std.proofs.Common.{◌≡◌, refl, sym, ap, ◌∙◌, subst, ◌⊎◌, inl, inr, ℕ, suc, ◌≤◌, ◌<◌, Bool, true, false, ◌||◌, List, [], ◌∷◌, length, get_or, arith}
+use Rattle.std.proofs.Common.{◌≡◌, refl, sym, ap, ◌∙◌, subst, ◌⊎◌, inl, inr, ℕ, suc, ◌≤◌, ◌<◌, Bool, true, false, ◌||◌, List, [], ◌∷◌, length, get_or, arith, None, Some}
 use Rattle.std.specs.Prelude.{reverse}
 use Rattle.std.proofs.lemmas.List.{length-map}
 use Rattle.spark_base.specs.Lists.{Has}
@@ -340,6 +340,10 @@ module _ (table : Table) (typed : TypedProgram) (effects : Effects) (accepted : 
           (subst (λ (z : FlowPoint). Has z.acts a) (sym q.2) acts)) name moved in
           names_none packages packages_in refl q.0 q.1 name.root found.0 found.1
 
+  main_is : program.main ≡ Some (suc order.number)
+  unfolding flow_program
+  main_is = order.is_main
+
   pub is_ready_program : IsReady table typed effects
   is_ready_program = record {
     accepted = accepted;
@@ -352,6 +356,6 @@ module _ (table : Table) (typed : TypedProgram) (effects : Effects) (accepted : 
     stands = packages_stand;
     called = are_called;
     main = suc order.number;
-    is_main = order.is_main;
+    is_main = main_is;
     main_there = has_main;
   }

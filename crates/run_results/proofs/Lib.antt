@@ -1,0 +1,2 @@
+-- sinks that got a front of some bytes
+pub mod Fronts

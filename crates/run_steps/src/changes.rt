@@ -16,21 +16,22 @@ pub(crate) fn step_words(
     codes: &Codes,
     table: &TypeTable,
     parts: &mut Parts,
-    point: Point,
+    point: &Point,
     k: usize,
 ) -> Result<(), Halt>
-    requires at { IsAt codes.now table.now point k parts.old }
-    requires group { group_of point.does ≡ Group.Words }
-    ensures { Leads (turn_at codes.now table.now point parts.old) (outcome_at codes.now table.now point parts.old) result parts.old parts.new }
+    requires at { IsAt codes.now table.now point.now k parts.old }
+    requires group { group_of point.now.does ≡ Group.Words }
+    ensures { Leads (turn_at codes.now table.now point.now parts.old) (outcome_at codes.now table.now point.now parts.old) result parts.old parts.new }
 {
     let made = parts.memory.made();
-    match change_words(&codes.rows, &mut parts.memory, point.does) {
+    match change_words(&codes.rows, &mut parts.memory, &point.does) {
         Ok(next) => go_on(codes, table, parts, k, next),
         Err(stop) => Err(Halt { stop, made }),
     }
 }
 
 /// A point that may have leak checks.
+#[inline(never)]
 pub(crate) fn step_values(
     codes: &Codes,
     table: &TypeTable,

@@ -39,6 +39,7 @@ fn step_fall(codes: &Codes, table: &TypeTable, parts: &Parts, point: Point, k: u
 }
 
 /// A point that changes more than the memory.
+#[inline(never)]
 fn step_other(
     alloc: Global,
     codes: &Codes,
@@ -89,15 +90,15 @@ pub(crate) fn step_point(
     codes: &Codes,
     table: &TypeTable,
     parts: &mut Parts,
-    point: Point,
+    point: &Point,
     k: usize,
 ) -> Result<bool, Halt>
-    requires { IsAt codes.now table.now point k parts.old }
-    ensures { Steps (turn_at codes.now table.now point parts.old) (outcome_at codes.now table.now point parts.old) result parts.old parts.new }
+    requires { IsAt codes.now table.now point.now k parts.old }
+    ensures { Steps (turn_at codes.now table.now point.now parts.old) (outcome_at codes.now table.now point.now parts.old) result parts.old parts.new }
 {
     match grouped(point.does) {
         Group::Words => goes(step_words(codes, table, parts, point, k)),
-        Group::Values => goes(step_values(codes, table, parts, point, k)),
-        Group::Others => step_other(alloc, codes, table, parts, point, k),
+        Group::Values => goes(step_values(codes, table, parts, *point, k)),
+        Group::Others => step_other(alloc, codes, table, parts, *point, k),
     }
 }

@@ -1,6 +1,6 @@
 //! Runs.
-ghost use Rattle.std.specs.Prelude.{◌≡◌, [], false, length, IfOk};
-ghost use Rattle.code_rows.specs.Points.{program_of, IsWhole};
+ghost use Rattle.std.specs.Prelude.{◌≡◌, ◌<◌, [], false, length, slice_get, Some, IfOk, IsTrue};
+ghost use Rattle.code_rows.specs.Points.{program_of, point_of, is_point_there, IsWhole};
 ghost use Rattle.run_results.specs.Results.{leaks_of};
 ghost use Rattle.run_codes.specs.Points.{state_at_start};
 ghost use Rattle.whole_runs.specs.Turns.{one_step, is_failing, IsRunning, IsTurned};
@@ -77,11 +77,11 @@ fn turn_point(
     codes: &Codes,
     table: &TypeTable,
     parts: &mut Parts,
-    point: Point,
+    point: &Point,
     k: usize,
 ) -> Result<Option<Over>, AllocError>
-    requires { IsAt codes.now table.now point k parts.old }
-    ensures { Turns (outcome_at codes.now table.now point parts.old) result parts.old parts.new }
+    requires { IsAt codes.now table.now point.now k parts.old }
+    ensures { Turns (outcome_at codes.now table.now point.now parts.old) result parts.old parts.new }
 {
     let made = parts.memory.made();
     let freed = parts.memory.freed_with(made);
@@ -90,6 +90,16 @@ fn turn_point(
         Ok(false) => Ok(Some(ended(parts))),
         Err(halt) => Ok(Some(stopped(halt, point.pos, made, freed)?)),
     }
+}
+
+/// The point with a number.
+fn point_at(codes: &Codes, n: u32) -> &Point
+    requires whole { IsWhole codes.now }
+    requires there { n < length codes.now.points.items }
+    ensures point { slice_get (program_of codes.now).points n ≡ Some (point_of codes.now result.now) }
+    ensures there { IsTrue (is_point_there codes.now result.now) }
+{
+    &codes.points[n as usize]
 }
 
 /// The next step.
@@ -104,7 +114,7 @@ fn turn(
     requires there { is_failing (one_step (setting_of codes.now table.now parts.old.memory.input) (state_of (stage_of parts.old))) ≡ false }
     ensures { Turns (one_step (setting_of codes.now table.now parts.old.memory.input) (state_of (stage_of parts.old))) result parts.old parts.new }
 {
-    let point = codes.point(parts.frames.frame().next);
+    let point = point_at(codes, parts.frames.frame().next);
     match take(codes, &mut parts.memory, &parts.frames, point.takes) {
         Some(k) => turn_point(alloc, codes, table, parts, point, k),
         None => Err(AllocError),

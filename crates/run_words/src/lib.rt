@@ -4,8 +4,10 @@
 //! `word` evaluates an expression of `code_rows` that only reads: to its word, to an exception, or
 //! to a trap, exactly as `run_codes` defines it (`specs/Flat.antt`, "expressions"; `docs/RUN.md`,
 //! "Expressions"). It asks that the expression is whole: each word that it reads stands where it is
-//! read. `spot` finds a place in the same way ("places" there): the indexes of its name come first.
-//! No call takes memory, and each node is visited once.
+//! read. `operand` gives the same, without a call for the most frequent expressions: a number, a word
+//! of the frame, and a word of the cell that one designates. `spot` finds a place in the same way
+//! ("places" there): the indexes of its name come first. No call takes memory, and each node is
+//! visited once.
 #![tactic(auto)]
 
 mod operators;
@@ -14,4 +16,4 @@ mod words;
 
 pub use operators::within;
 pub use places::spot;
-pub use words::word;
+pub use words::{operand, word};

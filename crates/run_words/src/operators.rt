@@ -34,6 +34,7 @@ pub(crate) fn truth(b: bool) -> i64
 }
 
 /// The value of an operator on two numbers or positions, or Constraint_Error.
+#[inline(always)]
 fn applied(operator: Operator, a: i32, b: i32) -> Result<i64, Stop>
     requires { is_broken (flat.applied operator a b) ≡ false }
     ensures { flat.applied operator a b ≡ shown result }
@@ -58,6 +59,7 @@ fn applied(operator: Operator, a: i32, b: i32) -> Result<i64, Stop>
 }
 
 /// The value of an operator on two words that are numbers.
+#[inline(always)]
 pub(crate) fn operated(operator: Operator, left: i64, right: i64) -> Result<i64, Stop>
     requires { is_broken (flat.operated operator left right) ≡ false }
     ensures { flat.operated operator left right ≡ shown result }

@@ -87,8 +87,8 @@ fn binary(
     requires whole { is_broken (word (flat memory.now) (Binary operator (code_at nodes.now left) (code_at nodes.now right))) ≡ false }
     ensures { word (flat memory.now) (Binary operator (code_at nodes.now left) (code_at nodes.now right)) ≡ shown result }
 {
-    let left = word(nodes, memory, left)?;
-    let right = word(nodes, memory, right)?;
+    let left = operand(nodes, memory, left)?;
+    let right = operand(nodes, memory, right)?;
     operated(operator, left, right)
 }
 
@@ -106,7 +106,7 @@ fn with_number(
     requires whole { is_broken (word (flat memory.now) (Binary operator (code_at nodes.now left) (Number right))) ≡ false }
     ensures { word (flat memory.now) (Binary operator (code_at nodes.now left) (Number right)) ≡ shown result }
 {
-    let left = word(nodes, memory, left)?;
+    let left = operand(nodes, memory, left)?;
     operated(operator, left, right as i64)
 }
 
@@ -163,7 +163,7 @@ fn is_null(nodes: &Nodes, memory: &Memory, equal: bool, pointer: u32) -> Result<
     requires whole { is_broken (word (flat memory.now) (IsNull equal (code_at nodes.now pointer))) ≡ false }
     ensures { word (flat memory.now) (IsNull equal (code_at nodes.now pointer)) ≡ shown result }
 {
-    let pointer = word(nodes, memory, pointer)?;
+    let pointer = operand(nodes, memory, pointer)?;
     Ok(truth((pointer == 0) == equal))
 }
 
@@ -182,7 +182,7 @@ fn element(
     requires whole { is_broken (word (flat memory.now) (Scaled (code_at nodes.now index) low high size)) ≡ false }
     ensures { word (flat memory.now) (Scaled (code_at nodes.now index) low high size) ≡ shown result }
 {
-    let index = word(nodes, memory, index)?;
+    let index = operand(nodes, memory, index)?;
     scaled(index, low, high, size)
 }
 
@@ -250,6 +250,25 @@ pub fn word(nodes: &Nodes, memory: &Memory, n: u32) -> Result<i64, Stop>
         Node::IsNull { equal, pointer } => is_null(nodes, memory, equal, pointer),
         Node::Waiting { at } => Ok(memory.waiting(at)),
         Node::EndOfFile => Ok(truth(memory.at_end())),
+    }
+}
+
+/// The same, without a call for the most frequent expressions.
+#[cycle(word)]
+#[inline(always)]
+#[tactic(auto, unfolding(run_codes::specs::Flat::word))]
+pub fn operand(nodes: &Nodes, memory: &Memory, n: u32) -> Result<i64, Stop>
+    requires there { n < length nodes.now }
+    requires whole { is_broken (word (flat memory.now) (code_at nodes.now n)) ≡ false }
+    ensures { word (flat memory.now) (code_at nodes.now n) ≡ shown result }
+{
+    match nodes.node(n) {
+        Node::Number { value } => Ok(value as i64),
+        Node::Local { at } => Ok(memory.local(at)),
+        Node::ViaLocal { local, at, kind } => {
+            memory.behind(memory.local(local), at as u64, kind)
+        }
+        _ => word(nodes, memory, n),
     }
 }
 

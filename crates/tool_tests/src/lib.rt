@@ -7,6 +7,8 @@
 #![tactic(auto)]
 
 #[cfg(test)]
+mod calls;
+#[cfg(test)]
 mod command;
 #[cfg(test)]
 mod faults;
@@ -16,6 +18,8 @@ mod limits;
 mod prefixes;
 #[cfg(test)]
 mod refusals;
+#[cfg(test)]
+mod run_limits;
 #[cfg(test)]
 mod runs;
 #[cfg(test)]

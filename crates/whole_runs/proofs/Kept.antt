@@ -1,5 +1,5 @@
 -- What steps and tellings keep of a run.
-use Rattle.std.proofs.Common.{◌≡◌, ℕ, suc, ◌+◌, ◌-◌, ◌<◌, false, List, [], ◌++◌, length, refl, sym, ◌∙◌, ap, subst, Some, Result, Ok, Err, OnOk, IfOk, arith}
+use Rattle.std.proofs.Common.{◌≡◌, ℕ, suc, ◌+◌, ◌-◌, ◌<◌, ◌≤◌, false, List, [], ◌++◌, length, refl, sym, ◌∙◌, ap, subst, Some, Result, Ok, Err, OnOk, OnErr, IfOk, arith}
 use Rattle.std.specs.Io.KnownBytes.{Appends}
 use Rattle.std.proofs.lemmas.List.{length-append}
 use Rattle.machine.specs.States.{Ending, Spent}
@@ -10,9 +10,9 @@ use Rattle.run_results.specs.Lines.{leak_lines}
 use Rattle.whole_runs.specs.declared.stepping.Turn.TheVariants as turn
 use Rattle.whole_runs.specs.Pasts.{Past, plain, since, stepped, mapped}
 use Rattle.whole_runs.specs.Turns.{Setting, one_step, some_steps, IsRunning, is_failing, bare, IsSeen, IsTurned}
-use Rattle.whole_runs.specs.Tellings.{Owes, Sinks, TellsOn}
+use Rattle.whole_runs.specs.Tellings.{Owes, Sinks, TellsOn, TellsFronts}
 use Rattle.whole_runs.specs.Underway.{IsUnderway}
-use Rattle.whole_runs.specs.Answers.{IsOver, IsWritten}
+use Rattle.whole_runs.specs.Answers.{IsOver, IsWritten, IsCut}
 use Rattle.whole_runs.proofs.Since.{step_since}
 use Rattle.whole_runs.proofs.Owed.{owed_written, owed_more, owed_none, owed_all, lines_more}
 
@@ -74,19 +74,22 @@ unfolding within
 unrolled c n s = refl
 
 -- The step at hand doesn't fail.
-pub not_failing : (files : List (List ℕ)) (c : Setting) (start now : Sinks) (lines : List ℕ) (leaked : ℕ) (whole : Outcome) (n steps : ℕ) (g : State)
-    → IsUnderway files c start now lines leaked whole (suc n) steps g → is_failing whole ≡ false → is_failing (one_step c g) ≡ false
-not_failing files c start now lines leaked whole n steps g is not =
+pub not_failing : (files : List (List ℕ)) (c : Setting) (start now : Sinks) (lines : List ℕ) (leaked : ℕ) (moments : ℕ → Outcome) (n steps : ℕ) (g : State)
+    → IsUnderway files c start now lines leaked moments steps g → is_failing (moments (steps + suc n)) ≡ false → is_failing (one_step c g) ≡ false
+not_failing files c start now lines leaked moments n steps g is not =
     let first : is_failing (one_step c is.state) ≡ false =
-    failing_first (one_step c is.state) (some_steps n c) (ap is_failing (sym (unrolled c n is.state)) ∙ ap is_failing (sym is.rest) ∙ not) in
+    failing_first (one_step c is.state) (some_steps n c) (ap is_failing (sym (unrolled c n is.state)) ∙ ap is_failing (sym (is.rest (suc n))) ∙ not) in
     sym (failing_same (since (stepped is.past)) (one_step c g))
     ∙ ap is_failing (sym (steps_alike c is.past is.state g is.running is.same))
     ∙ failing_same plain (one_step c is.state) ∙ first
 
-pub goes_on : (files : List (List ℕ)) (c : Setting) (start now : Sinks) (lines : List ℕ) (leaked : ℕ) (whole : Outcome) (n steps : ℕ) (g h : State)
-    → IsUnderway files c start now lines leaked whole (suc n) steps g → IsTurned (one_step c g) turn.On h
-    → IsUnderway files c start now lines leaked whole n (suc steps) h
-goes_on files c start now lines leaked whole n steps g h is on =
+moved : (steps more : ℕ) → suc steps + more ≡ steps + suc more
+moved steps more = omega arith
+
+pub goes_on : (files : List (List ℕ)) (c : Setting) (start now : Sinks) (lines : List ℕ) (leaked : ℕ) (moments : ℕ → Outcome) (steps : ℕ) (g h : State)
+    → IsUnderway files c start now lines leaked moments steps g → IsTurned (one_step c g) turn.On h
+    → IsUnderway files c start now lines leaked moments (suc steps) h
+goes_on files c start now lines leaked moments steps g h is on =
     let q : Past = stepped is.past in
     let e : mapped plain (one_step c is.state) ≡ Goes (since q h) =
     steps_alike c is.past is.state g is.running is.same ∙ sym (bare_since q (one_step c g)) ∙ ap (mapped (since q)) on.0 in
@@ -98,7 +101,7 @@ goes_on files c start now lines leaked whole n steps g h is on =
       counted = ap suc is.counted;
       same = w.2;
       running = on.1;
-      rest = is.rest ∙ unrolled c n is.state ∙ ap (λ o. then_on o (some_steps n c)) w.1;
+      rest = λ more. ap moments (moved steps more) ∙ is.rest (suc more) ∙ unrolled c more is.state ∙ ap (λ o. then_on o (some_steps more c)) w.1;
     }
 
 -- What is seen of states that end a run.
@@ -109,10 +112,10 @@ seen_same e p s h is =
     ∙ ap (λ n. record (run_with e (since p h)) { made = n; freed = s.memory.freed }) is.made
     ∙ ap (λ n. record (run_with e (since p h)) { freed = n }) is.freed
 
-pub ends : (files : List (List ℕ)) (c : Setting) (start now : Sinks) (lines : List ℕ) (leaked : ℕ) (whole : Outcome) (n steps : ℕ) (g h : State) (e : EndingRow)
-    → IsUnderway files c start now lines leaked whole (suc n) steps g → IsTurned (one_step c g) (turn.Ends e) h
-    → IsOver files start now lines leaked whole (ending_of e) (suc steps) h
-ends files c start now lines leaked whole n steps g h e is end =
+pub ends : (files : List (List ℕ)) (c : Setting) (start now : Sinks) (lines : List ℕ) (leaked : ℕ) (moments : ℕ → Outcome) (n steps : ℕ) (g h : State) (e : EndingRow)
+    → IsUnderway files c start now lines leaked moments steps g → IsTurned (one_step c g) (turn.Ends e) h
+    → IsOver files start now lines leaked (moments (steps + suc n)) (ending_of e) (suc steps) h
+ends files c start now lines leaked moments n steps g h e is end =
     let q : Past = stepped is.past in
     let a : mapped plain (one_step c is.state) ≡ Ends (ending_of e) (since q end.0) =
     steps_alike c is.past is.state g is.running is.same ∙ ap (mapped (since q)) end.1 in
@@ -122,28 +125,33 @@ ends files c start now lines leaked whole n steps g h e is end =
       told = record { output = is.told.output; lines = is.told.lines; leaked = is.told.leaked };
       counted = ap suc is.counted;
       given =
-          ap run_given (is.rest ∙ unrolled c n is.state ∙ ap (λ o. then_on o (some_steps n c)) w.1)
+          ap run_given (is.rest (suc n) ∙ unrolled c n is.state ∙ ap (λ o. then_on o (some_steps n c)) w.1)
           ∙ ap (λ s. Some (run_with (ending_of e) s)) w.2
           ∙ ap Some (seen_same (ending_of e) q end.0 h end.2);
     }
 
--- No step is left.
-pub spent : (files : List (List ℕ)) (c : Setting) (start now : Sinks) (lines : List ℕ) (leaked : ℕ) (whole : Outcome) (steps : ℕ) (g : State)
-    → IsUnderway files c start now lines leaked whole 0 steps g → IsOver files start now lines leaked whole Spent steps g
+-- What the run is within the steps that were made.
+so_far : (files : List (List ℕ)) (c : Setting) (start now : Sinks) (lines : List ℕ) (leaked : ℕ) (moments : ℕ → Outcome) (steps : ℕ) (g : State)
+    → (is : IsUnderway files c start now lines leaked moments steps g) → run_given (moments (steps + 0)) ≡ Some (run_with Spent (since is.past g))
 unfolding within
-spent files c start now lines leaked whole steps g is = record {
+so_far files c start now lines leaked moments steps g is = ap run_given (is.rest 0) ∙ ap (λ s. Some (run_with Spent s)) is.same
+
+-- No step is left.
+pub spent : (files : List (List ℕ)) (c : Setting) (start now : Sinks) (lines : List ℕ) (leaked : ℕ) (moments : ℕ → Outcome) (steps : ℕ) (g : State)
+    → IsUnderway files c start now lines leaked moments steps g → IsOver files start now lines leaked (moments (steps + 0)) Spent steps g
+spent files c start now lines leaked moments steps g is = record {
   past = is.past;
   told = is.told;
   counted = is.counted;
-  given = ap run_given is.rest ∙ ap (λ s. Some (run_with Spent s)) is.same;
+  given = so_far files c start now lines leaked moments steps g is;
 }
 
 -- ---- tellings
 
-pub told_on : (files : List (List ℕ)) (c : Setting) (start old new : Sinks) (before after : List ℕ) (was is : ℕ) (whole : Outcome) (n steps : ℕ) (g h : State)
-    → IsUnderway files c start old before was whole n steps g → TellsOn files old new before after was is g h
-    → IsUnderway files c start new after is whole n steps h
-told_on files c start old new before after was is whole n steps g h at tells =
+pub told_on : (files : List (List ℕ)) (c : Setting) (start old new : Sinks) (before after : List ℕ) (was is : ℕ) (moments : ℕ → Outcome) (steps : ℕ) (g h : State)
+    → IsUnderway files c start old before was moments steps g → TellsOn files old new before after was is g h
+    → IsUnderway files c start new after is moments steps h
+told_on files c start old new before after was is moments steps g h at tells =
     let t = tells start at.past at.told in
     record {
       past = t.0;
@@ -155,17 +163,20 @@ told_on files c start old new before after was is whole n steps g h at tells =
       rest = at.rest;
     }
 
+from_none : (more : ℕ) → 0 + more ≡ more
+from_none more = omega arith
+
 -- A run begins.
-pub begun : (files : List (List ℕ)) (c : Setting) (start : Sinks) (n : ℕ) (g : State) → IsRunning g → g.steps ≡ 0 → g.output ≡ [] → g.leaks ≡ []
-    → IsUnderway files c start start [] 0 (some_steps n c g) n 0 g
-begun files c start n g running steps output leaks = record {
+pub begun : (files : List (List ℕ)) (c : Setting) (start : Sinks) (g : State) → IsRunning g → g.steps ≡ 0 → g.output ≡ [] → g.leaks ≡ []
+    → IsUnderway files c start start [] 0 (λ n. some_steps n c g) 0 g
+begun files c start g running steps output leaks = record {
   past = record { output = []; leaks = []; steps = 0 };
   state = g;
   told = record { output = owed_none start.output; lines = owed_none start.lines; leaked = refl };
   counted = refl;
   same = ap (λ k. record (plain g) { steps = k }) steps;
   running = running;
-  rest = refl;
+  rest = λ more. ap (λ n. some_steps n c g) (from_none more);
 }
 
 -- ---- the answer
@@ -198,37 +209,63 @@ answered files start old new lines all leaked count whole e steps made freed g h
 
 -- ---- numbers of steps
 
-one_left : (limit steps : ℕ) → steps < limit → limit - steps ≡ suc (limit - (steps + 1))
+one_left : (limit steps : ℕ) → steps < limit → steps + suc (limit - (steps + 1)) ≡ limit
 one_left limit steps below = omega (arith, below)
 
--- A step is left.
-pub ahead : (files : List (List ℕ)) (c : Setting) (start now : Sinks) (lines : List ℕ) (leaked : ℕ) (whole : Outcome) (limit steps : ℕ) (g : State) → steps < limit
-    → IsUnderway files c start now lines leaked whole (limit - steps) steps g → IsUnderway files c start now lines leaked whole (suc (limit - (steps + 1))) steps g
-ahead files c start now lines leaked whole limit steps g below is =
-    subst (λ n. IsUnderway files c start now lines leaked whole n steps g) (one_left limit steps below) is
+none_left : (steps : ℕ) → steps + 0 ≡ steps
+none_left steps = omega arith
 
 next : (steps : ℕ) → suc steps ≡ steps + 1
 next steps = omega arith
 
 -- The same over counts of code.
-pub step_there : (files : List (List ℕ)) (c : Setting) (start now : Sinks) (lines : List ℕ) (leaked : ℕ) (whole : Outcome) (limit steps : ℕ) (g : State) → steps < limit
-    → IsUnderway files c start now lines leaked whole (limit - steps) steps g → is_failing whole ≡ false → is_failing (one_step c g) ≡ false
-step_there files c start now lines leaked whole limit steps g below is not =
-    not_failing files c start now lines leaked whole (limit - (steps + 1)) steps g (ahead files c start now lines leaked whole limit steps g below is) not
+pub step_there : (files : List (List ℕ)) (c : Setting) (start now : Sinks) (lines : List ℕ) (leaked : ℕ) (moments : ℕ → Outcome) (limit steps : ℕ) (g : State) → steps < limit
+    → IsUnderway files c start now lines leaked moments steps g → is_failing (moments limit) ≡ false → is_failing (one_step c g) ≡ false
+step_there files c start now lines leaked moments limit steps g below is not =
+    not_failing files c start now lines leaked moments (limit - (steps + 1)) steps g is (ap (λ n. is_failing (moments n)) (one_left limit steps below) ∙ not)
 
-pub step_on : (files : List (List ℕ)) (c : Setting) (start now : Sinks) (lines : List ℕ) (leaked : ℕ) (whole : Outcome) (limit steps : ℕ) (g h : State) → steps < limit
-    → IsUnderway files c start now lines leaked whole (limit - steps) steps g → IsTurned (one_step c g) turn.On h
-    → IsUnderway files c start now lines leaked whole (limit - (steps + 1)) (steps + 1) h
-step_on files c start now lines leaked whole limit steps g h below is on =
-    subst (λ n. IsUnderway files c start now lines leaked whole (limit - (steps + 1)) n h) (next steps)
-    (goes_on files c start now lines leaked whole (limit - (steps + 1)) steps g h (ahead files c start now lines leaked whole limit steps g below is) on)
+pub step_on : (files : List (List ℕ)) (c : Setting) (start now : Sinks) (lines : List ℕ) (leaked : ℕ) (moments : ℕ → Outcome) (steps : ℕ) (g h : State)
+    → IsUnderway files c start now lines leaked moments steps g → IsTurned (one_step c g) turn.On h
+    → IsUnderway files c start now lines leaked moments (steps + 1) h
+step_on files c start now lines leaked moments steps g h is on =
+    subst (λ n. IsUnderway files c start now lines leaked moments n h) (next steps) (goes_on files c start now lines leaked moments steps g h is on)
 
-pub step_ends : (files : List (List ℕ)) (c : Setting) (start now : Sinks) (lines : List ℕ) (leaked : ℕ) (whole : Outcome) (limit steps : ℕ) (g h : State) (e : EndingRow) → steps < limit
-    → IsUnderway files c start now lines leaked whole (limit - steps) steps g → IsTurned (one_step c g) (turn.Ends e) h
-    → IsOver files start now lines leaked whole (ending_of e) (steps + 1) h
-step_ends files c start now lines leaked whole limit steps g h e below is end =
-    subst (λ n. IsOver files start now lines leaked whole (ending_of e) n h) (next steps)
-    (ends files c start now lines leaked whole (limit - (steps + 1)) steps g h e (ahead files c start now lines leaked whole limit steps g below is) end)
+pub step_ends : (files : List (List ℕ)) (c : Setting) (start now : Sinks) (lines : List ℕ) (leaked : ℕ) (moments : ℕ → Outcome) (limit steps : ℕ) (g h : State) (e : EndingRow) → steps < limit
+    → IsUnderway files c start now lines leaked moments steps g → IsTurned (one_step c g) (turn.Ends e) h
+    → IsOver files start now lines leaked (moments limit) (ending_of e) (steps + 1) h
+step_ends files c start now lines leaked moments limit steps g h e below is end =
+    subst (λ n. IsOver files start now lines leaked (moments limit) (ending_of e) n h) (next steps)
+    (subst (λ n. IsOver files start now lines leaked (moments n) (ending_of e) (suc steps) h) (one_left limit steps below)
+    (ends files c start now lines leaked moments (limit - (steps + 1)) steps g h e is end))
+
+pub all_spent : (files : List (List ℕ)) (c : Setting) (start now : Sinks) (lines : List ℕ) (leaked : ℕ) (moments : ℕ → Outcome) (limit steps : ℕ) (g : State) → steps ≡ limit
+    → IsUnderway files c start now lines leaked moments steps g → IsOver files start now lines leaked (moments limit) Spent steps g
+all_spent files c start now lines leaked moments limit steps g same is =
+    subst (λ n. IsOver files start now lines leaked (moments n) Spent steps g) (none_left steps ∙ same) (spent files c start now lines leaked moments steps g is)
+
+-- ---- runs that are cut off
+
+-- At a step, or at what is written after it.
+pub underway_cut : (files : List (List ℕ)) (c : Setting) (start old new : Sinks) (lines : List ℕ) (leaked : ℕ) (moments : ℕ → Outcome) (limit steps : ℕ) (g : State) → steps ≤ limit
+    → IsUnderway files c start old lines leaked moments steps g → TellsFronts files old new lines leaked g → IsCut files moments limit start new
+underway_cut files c start old new lines leaked moments limit steps g few is tells = record {
+  steps = steps;
+  few = few;
+  run = run_with Spent (since is.past g);
+  given = ap (λ n. run_given (moments n)) (sym (none_left steps)) ∙ so_far files c start old lines leaked moments steps g is;
+  fronts = tells start is.past is.told;
+}
+
+-- At what is written at the end.
+pub over_cut : (files : List (List ℕ)) (start old new : Sinks) (lines : List ℕ) (leaked : ℕ) (moments : ℕ → Outcome) (limit : ℕ) (e : Ending) (steps : ℕ) (g : State)
+    → IsOver files start old lines leaked (moments limit) e steps g → TellsFronts files old new lines leaked g → IsCut files moments limit start new
+over_cut files start old new lines leaked moments limit e steps g is tells = record {
+  steps = limit;
+  few = omega arith;
+  run = run_with e (since is.past g);
+  given = is.given;
+  fronts = tells start is.past is.told;
+}
 
 -- ---- answers that are there
 
@@ -239,3 +276,14 @@ on_ok (Err e) f p = tt
 pub if_ok : {A E : Type 0} {P Q : A → Type 0} (r : Result A E) → ((a : A) → P a → Q a) → IfOk r P → IfOk r Q
 if_ok (Ok a) f p = f a p
 if_ok (Err e) f p = tt
+
+pub on_err : {A E P Q : Type 0} (r : Result A E) → (P → Q) → OnErr r P → OnErr r Q
+on_err (Ok a) f p = tt
+on_err (Err e) f p = f p
+
+pub for_err : {A E P : Type 0} (r : Result A E) → P → OnErr r P
+for_err (Ok a) p = tt
+for_err (Err e) p = p
+
+pub ok_apart : {A E : Type 0} (a : A) (e : E) → Ok a ≡ Err e → ⊥
+ok_apart a e same = cc

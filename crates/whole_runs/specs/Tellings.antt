@@ -1,16 +1,15 @@
 -- What was written of a run, and what still has to be.
-use Rattle.std.specs.Prelude.{◌≡◌, ◌⊎◌, ℕ, List, [], ◌++◌, length, Option, Some, None}
+use Rattle.std.specs.Prelude.{◌≡◌, ◌⊎◌, ℕ, List, [], ◌++◌, length, Option}
 use Rattle.std.specs.Io.KnownBytes.{Appends}
+use Rattle.spark_base.specs.Outside.{AppendsPrefix}
+use Rattle.machine.specs.States.{Leak}
 use Rattle.run_codes.specs.Points.{State}
 use Rattle.run_results.specs.Lines.{leak_lines}
 use Rattle.whole_runs.specs.Pasts.{Past, since}
 
--- A sink had the bytes `start` once and has `now`, where it tells its bytes: all bytes of a list were
--- written to it since but the last ones, `rest`.
-abbrev pub Owes : Option (List ℕ) → Option (List ℕ) → List ℕ → List ℕ → Type 0
-Owes None now rest all = Unit {0}
-Owes (Some xs) None rest all = ⊥
-Owes (Some xs) (Some ys) rest all = ys ++ rest ≡ xs ++ all
+-- A sink had some bytes at the start: all bytes of a list were written to it since but the last ones, `rest`.
+abbrev pub Owes : (start now : Option (List ℕ)) (rest all : List ℕ) → Type 0
+Owes start now rest all = (front : List ℕ) × Appends start now front × (all ≡ front ++ rest)
 
 -- What the sinks for output and for leak lines have.
 pub record Sinks : Type 0 where
@@ -31,3 +30,13 @@ Flushes old new before after = (Appends old new before × (after ≡ [])) ⊎ ((
 abbrev pub TellsOn : (files : List (List ℕ)) (old new : Sinks) (before after : List ℕ) (was is : ℕ) (s g : State) → Type 0
 TellsOn files old new before after was is s g =
     (start : Sinks) (p : Past) → IsTold files start old before was p → (q : Past) × IsTold files start new after is q × (since q g ≡ since p s)
+
+-- The sinks have what they had, then a front of an output, and a front of the lines of leaks.
+pub record HaveFronts (files : List (List ℕ)) (start now : Sinks) (bytes : List ℕ) (leaks : List Leak) : Type 0 where
+  pub output : AppendsPrefix start.output now.output bytes
+  pub lines : AppendsPrefix start.lines now.lines (leak_lines files leaks)
+
+-- Whatever was told, the sinks have no more than fronts of what there is by this state.
+abbrev pub TellsFronts : (files : List (List ℕ)) (old new : Sinks) (before : List ℕ) (was : ℕ) (s : State) → Type 0
+TellsFronts files old new before was s =
+    (start : Sinks) (p : Past) → IsTold files start old before was p → HaveFronts files start new (p.output ++ s.output) (p.leaks ++ s.leaks)

@@ -1,8 +1,8 @@
 //! What was told of a run.
-ghost use Rattle.std.specs.Prelude.{◌≡◌, ◌≢◌, ◌≤◌, ◌+◌, ◌++◌, ◌⊎◌, [], Err, OnOk, length, map, string_bytes};
-ghost use Rattle.spark_base.specs.Outside.{Rose};
+ghost use Rattle.std.specs.Prelude.{◌≡◌, ◌≢◌, ◌≤◌, ◌+◌, ◌++◌, ◌⊎◌, [], Err, OnOk, OnErr, length, map, string_bytes};
+ghost use Rattle.spark_base.specs.Outside.{Rose, AppendsPrefix};
 ghost use Rattle.run_results.specs.Lines.{leak_lines};
-ghost use Rattle.whole_runs.specs.Tellings.{Flushes, TellsOn};
+ghost use Rattle.whole_runs.specs.Tellings.{Flushes, TellsOn, TellsFronts};
 
 use crate::stepping::Stepping;
 use run_results::{ExecFault, push_lines, write_long};
@@ -24,14 +24,15 @@ impl Drop for Told {
     }
 }
 
-/// The output is written, if it is long.
+/// The output is written, if it is long. Where that fails, some front of it may be written.
 fn tell_output<S: Stepping, K: Sink>(run: &mut S, out: &mut K) -> Result<(), ExecFault>
     ensures setting { S.setting run.new ≡ S.setting run.old }
     ensures state { S.state run.new ≡ record (S.state run.old) { output = (S.state run.new).output } }
     ensures flushed { OnOk result (Flushes (K.written out.old) (K.written out.new) (S.state run.old).output (S.state run.new).output) }
+    ensures front { OnErr result (AppendsPrefix (K.written out.old) (K.written out.new) (S.state run.old).output) }
     ensures later { K.faults out.old ≤ K.faults out.new }
     ensures cause { result ≡ Err ExecFault.WriteFault → Rose (K.faults out.old) (K.faults out.new) }
-    ensures no_fault { OnOk result (K.faults out.new ≡ K.faults out.old) }
+    ensures no_fault { result ≢ Err ExecFault.WriteFault → K.faults out.new ≡ K.faults out.old }
 {
     if write_long(run.output(), out)? {
         run.clear_output();
@@ -40,6 +41,7 @@ fn tell_output<S: Stepping, K: Sink>(run: &mut S, out: &mut K) -> Result<(), Exe
 }
 
 /// The leaks are told, in lines that are to be written.
+#[inline(always)]
 pub(crate) fn tell_leaks<S: Stepping>(
     alloc: Global,
     files: &[String],
@@ -65,13 +67,14 @@ pub(crate) fn tell_leaks<S: Stepping>(
     Ok(())
 }
 
-/// The leak lines are written, if they are long.
+/// The leak lines are written, if they are long. Where that fails, some front of them may be.
 fn tell_lines<K: Sink>(told: &mut Told, err: &mut K) -> Result<(), ExecFault>
     ensures leaked { told.new.leaked ≡ told.old.leaked }
     ensures flushed { OnOk result (Flushes (K.written err.old) (K.written err.new) told.old.lines.items told.new.lines.items) }
+    ensures front { OnErr result (AppendsPrefix (K.written err.old) (K.written err.new) told.old.lines.items) }
     ensures later { K.faults err.old ≤ K.faults err.new }
     ensures cause { result ≡ Err ExecFault.WriteFault → Rose (K.faults err.old) (K.faults err.new) }
-    ensures no_fault { OnOk result (K.faults err.new ≡ K.faults err.old) }
+    ensures no_fault { result ≢ Err ExecFault.WriteFault → K.faults err.new ≡ K.faults err.old }
 {
     if write_long(&told.lines, err)? {
         told.lines.clear();
@@ -92,11 +95,15 @@ pub(crate) fn tell<S: Stepping, K: Sink>(
     ensures told { OnOk result (TellsOn (map string_bytes files.now)
         (record { output = K.written out.old; lines = K.written err.old }) (record { output = K.written out.new; lines = K.written err.new })
         told.old.lines.items told.new.lines.items told.old.leaked told.new.leaked (S.state run.old) (S.state run.new)) }
+    ensures front { OnErr result (TellsFronts (map string_bytes files.now)
+        (record { output = K.written out.old; lines = K.written err.old }) (record { output = K.written out.new; lines = K.written err.new })
+        told.old.lines.items told.old.leaked (S.state run.old)) }
     ensures later_out { K.faults out.old ≤ K.faults out.new }
     ensures later_err { K.faults err.old ≤ K.faults err.new }
     ensures cause { result ≡ Err ExecFault.WriteFault → Rose (K.faults out.old) (K.faults out.new) ⊎ Rose (K.faults err.old) (K.faults err.new) }
-    ensures no_fault_out { OnOk result (K.faults out.new ≡ K.faults out.old) }
-    ensures no_fault_err { OnOk result (K.faults err.new ≡ K.faults err.old) }
+    ensures one_fault { result ≡ Err ExecFault.WriteFault → (K.faults out.new ≡ K.faults out.old) ⊎ (K.faults err.new ≡ K.faults err.old) }
+    ensures no_fault_out { result ≢ Err ExecFault.WriteFault → K.faults out.new ≡ K.faults out.old }
+    ensures no_fault_err { result ≢ Err ExecFault.WriteFault → K.faults err.new ≡ K.faults err.old }
 {
     tell_output(run, out)?;
     tell_leaks(alloc, files, run, told)?;

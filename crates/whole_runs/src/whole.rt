@@ -1,11 +1,11 @@
 //! Whole runs.
-ghost use Rattle.std.specs.Prelude.{◌≡◌, ◌≤◌, ◌⊎◌, [], false, Err, OnOk, IfOk, map, string_bytes};
+ghost use Rattle.std.specs.Prelude.{◌≡◌, ◌≢◌, ◌≤◌, ◌⊎◌, [], false, Err, OnErr, IfOk, map, string_bytes};
 ghost use Rattle.spark_base.specs.Outside.{Rose};
 ghost use Rattle.run_codes.specs.Points.{Outcome};
 ghost use Rattle.run_results.specs.Results.{ending_of};
 ghost use Rattle.whole_runs.specs.Turns.{IsRunning, is_failing, some_steps};
-ghost use Rattle.whole_runs.specs.Tellings.{Sinks};
-ghost use Rattle.whole_runs.specs.Answers.{IsOver, IsWritten};
+ghost use Rattle.whole_runs.specs.Tellings.{Sinks, TellsFronts};
+ghost use Rattle.whole_runs.specs.Answers.{IsOver, IsWritten, IsCut};
 
 use crate::stepping::{Stepping, Turn};
 use crate::told::{Told, tell, tell_leaks};
@@ -27,11 +27,15 @@ fn answer<S: Stepping, K: Sink>(
     ensures written { IfOk result (λ ran. (whole : Outcome) (start : Sinks)
         → IsOver (map string_bytes files.now) start (record { output = K.written out.old; lines = K.written err.old }) told.old.lines.items told.old.leaked whole (ending_of ending) steps (S.state run.old)
         → IsWritten (map string_bytes files.now) whole ran start (record { output = K.written out.new; lines = K.written err.new })) }
+    ensures front { OnErr result (TellsFronts (map string_bytes files.now)
+        (record { output = K.written out.old; lines = K.written err.old }) (record { output = K.written out.new; lines = K.written err.new })
+        told.old.lines.items told.old.leaked (S.state run.old)) }
     ensures later_out { K.faults out.old ≤ K.faults out.new }
     ensures later_err { K.faults err.old ≤ K.faults err.new }
     ensures cause { result ≡ Err ExecFault.WriteFault → Rose (K.faults out.old) (K.faults out.new) ⊎ Rose (K.faults err.old) (K.faults err.new) }
-    ensures no_fault_out { OnOk result (K.faults out.new ≡ K.faults out.old) }
-    ensures no_fault_err { OnOk result (K.faults err.new ≡ K.faults err.old) }
+    ensures one_fault { result ≡ Err ExecFault.WriteFault → (K.faults out.new ≡ K.faults out.old) ⊎ (K.faults err.new ≡ K.faults err.old) }
+    ensures no_fault_out { result ≢ Err ExecFault.WriteFault → K.faults out.new ≡ K.faults out.old }
+    ensures no_fault_err { result ≢ Err ExecFault.WriteFault → K.faults err.new ≡ K.faults err.old }
 {
     tell_leaks(alloc, files, run, told)?;
     write_all(run.output(), out)?;
@@ -46,7 +50,8 @@ fn answer<S: Stepping, K: Sink>(
 }
 
 /// Makes at most so many steps. The output goes to `out` and the leak lines to `err`, in pieces and
-/// at the end; the files are the names that the lines tell, by number.
+/// at the end; the files are the names that the lines tell, by number. Where a write fails, nothing
+/// more is written.
 pub fn run_whole<S: Stepping, K: Sink>(
     alloc: Global,
     files: &[String],
@@ -62,11 +67,14 @@ pub fn run_whole<S: Stepping, K: Sink>(
     requires there { is_failing (some_steps limit (S.setting run.old) (S.state run.old)) ≡ false }
     ensures written { IfOk result (λ ran. IsWritten (map string_bytes files.now) (some_steps limit (S.setting run.old) (S.state run.old)) ran
         (record { output = K.written out.old; lines = K.written err.old }) (record { output = K.written out.new; lines = K.written err.new })) }
+    ensures cut { OnErr result (IsCut (map string_bytes files.now) (λ n. some_steps n (S.setting run.old) (S.state run.old)) limit
+        (record { output = K.written out.old; lines = K.written err.old }) (record { output = K.written out.new; lines = K.written err.new })) }
     ensures later_out { K.faults out.old ≤ K.faults out.new }
     ensures later_err { K.faults err.old ≤ K.faults err.new }
     ensures cause { result ≡ Err ExecFault.WriteFault → Rose (K.faults out.old) (K.faults out.new) ⊎ Rose (K.faults err.old) (K.faults err.new) }
-    ensures no_fault_out { OnOk result (K.faults out.new ≡ K.faults out.old) }
-    ensures no_fault_err { OnOk result (K.faults err.new ≡ K.faults err.old) }
+    ensures one_fault { result ≡ Err ExecFault.WriteFault → (K.faults out.new ≡ K.faults out.old) ⊎ (K.faults err.new ≡ K.faults err.old) }
+    ensures no_fault_out { result ≢ Err ExecFault.WriteFault → K.faults out.new ≡ K.faults out.old }
+    ensures no_fault_err { result ≢ Err ExecFault.WriteFault → K.faults err.new ≡ K.faults err.old }
 {
     let mut told = Told {
         lines: Vec::new(alloc),

@@ -1,22 +1,27 @@
---  A function that reaches its end raises Program_Error.
+--  A function that reaches its end without a return raises Program_Error.
 --> spark run end_of_a_function.adb
 --> status 3
---> err end_of_a_function.adb:14:4: raised Program_Error
-package P is
-   function F (N : Integer) return Integer;
-end P;
-package body P is
-   function F (N : Integer) return Integer is
+--> out  1
+--> err end_of_a_function.adb:18:4: raised Program_Error
+package Signs is
+   function Sign (N : Integer) return Integer;
+end Signs;
+
+package body Signs is
+   function Sign (N : Integer) return Integer is
    begin
       if N > 0 then
-         return N;
+         return 1;
+      elsif N < 0 then
+         return -1;
       end if;
-   end F;
-end P;
-with P;
+   end Sign;
+end Signs;
+
+with Ada.Text_IO; use Ada.Text_IO;
+with Signs; use Signs;
 procedure Main is
-   N : Integer;
 begin
-   N := P.F (1);
-   N := P.F (0);
+   Put_Line (Integer'Image (Sign (5)));
+   Put_Line (Integer'Image (Sign (0)));
 end Main;

@@ -1,21 +1,22 @@
---  The first cell of a list is overwritten by its rest: nobody has it any more.
+--  A list gets its own rest as its value. Nobody has the first cell any more.
 --> spark run leak_at_an_assignment.adb
 --> status 5
---> err leak_at_an_assignment.adb:20:4: leak of cell 1
+--> out  2
+--> err leak_at_an_assignment.adb:19:4: leak of cell 1
 with Ada.Text_IO; use Ada.Text_IO;
-with Ada.Integer_Text_IO; use Ada.Integer_Text_IO;
 with Ada.Unchecked_Deallocation;
 procedure Main is
    type Cell;
    type List is access Cell;
    type Cell is record
       Value : Integer;
-      Next : List;
+      Next  : List;
    end record;
-   type Int_Ptr is access Integer;
    procedure Free is new Ada.Unchecked_Deallocation (Cell, List);
-   procedure Drop is new Ada.Unchecked_Deallocation (Integer, Int_Ptr);
-   X : List := new Cell'(1, null);
+   L : List := new Cell'(1, null);
 begin
-   X := X.Next;
+   L.Next := new Cell'(2, null);
+   L := L.Next;
+   Put_Line (Integer'Image (L.Value));
+   Free (L);
 end Main;

@@ -1,29 +1,23 @@
---  An exit leaves the block of a list that nobody took over.
+--  An exit leaves the block of an object that still owns its cell.
 --> spark run leak_at_an_exit.adb
 --> status 5
---> err leak_at_an_exit.adb:25:10: leak of cell 1
+--> out  3
+--> err leak_at_an_exit.adb:18:10: leak of cell 3
 with Ada.Text_IO; use Ada.Text_IO;
-with Ada.Integer_Text_IO; use Ada.Integer_Text_IO;
 with Ada.Unchecked_Deallocation;
 procedure Main is
-   type Cell;
-   type List is access Cell;
-   type Cell is record
-      Value : Integer;
-      Next : List;
-   end record;
    type Int_Ptr is access Integer;
-   procedure Free is new Ada.Unchecked_Deallocation (Cell, List);
-   procedure Drop is new Ada.Unchecked_Deallocation (Integer, Int_Ptr);
-   X : List;
+   procedure Free is new Ada.Unchecked_Deallocation (Integer, Int_Ptr);
+   Count : Integer := 0;
 begin
    loop
+      Count := Count + 1;
       declare
-         B : access Cell := X;
-         Y : List := new Cell'(1, null);
+         P : Int_Ptr := new Integer'(Count);
       begin
-         exit;
+         exit when P.all = 3;
+         Free (P);
       end;
    end loop;
-   X := null;
+   Put_Line (Integer'Image (Count));
 end Main;

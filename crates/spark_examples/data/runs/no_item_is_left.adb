@@ -1,23 +1,20 @@
---  Get raises End_Error at the end of the input.
+--  Get raises End_Error where no item is left: the program wants pairs, and the input has three
+--  numbers.
 --> spark run no_item_is_left.adb
 --> status 3
---> in 12
---> err no_item_is_left.adb:22:4: raised End_Error
-with Ada.Text_IO; use Ada.Text_IO;
+--> in 1 2
+--> in 3
+--> out  3
+--> err no_item_is_left.adb:17:7: raised End_Error
 with Ada.Integer_Text_IO; use Ada.Integer_Text_IO;
-with Ada.Unchecked_Deallocation;
+with Ada.Text_IO; use Ada.Text_IO;
 procedure Main is
-   type Cell;
-   type List is access Cell;
-   type Cell is record
-      Value : Integer;
-      Next : List;
-   end record;
-   type Int_Ptr is access Integer;
-   procedure Free is new Ada.Unchecked_Deallocation (Cell, List);
-   procedure Drop is new Ada.Unchecked_Deallocation (Integer, Int_Ptr);
-   V : Integer;
+   First  : Integer;
+   Second : Integer;
 begin
-   Get (V);
-   Get (V);
+   while not End_Of_File loop
+      Get (First);
+      Get (Second);
+      Put_Line (Integer'Image (First + Second));
+   end loop;
 end Main;

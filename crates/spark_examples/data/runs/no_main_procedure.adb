@@ -3,5 +3,5 @@
 --> status 2
 --> err no_main_procedure.adb:1:1: N5 body missing
 package P is
-   type Ptr is access Integer;
+   type Int_Ptr is access Integer;
 end P;

@@ -1,29 +1,29 @@
---  A list is made of all numbers of the input, added up, and freed.
+--  The numbers of the input become a list, which is added up and freed.
 --> spark run reads_to_the_end.adb
 --> status 0
 --> in 1 2
 --> in 3
 --> in   4
 --> out  10
-with Ada.Text_IO; use Ada.Text_IO;
 with Ada.Integer_Text_IO; use Ada.Integer_Text_IO;
+with Ada.Text_IO; use Ada.Text_IO;
 with Ada.Unchecked_Deallocation;
 procedure Main is
    type Cell;
    type List is access Cell;
    type Cell is record
       Value : Integer;
-      Next : List;
+      Next  : List;
    end record;
-   type Int_Ptr is access Integer;
    procedure Free is new Ada.Unchecked_Deallocation (Cell, List);
-   procedure Drop is new Ada.Unchecked_Deallocation (Integer, Int_Ptr);
-   L, Old : List;
-   V, Sum : Integer;
+   L   : List;
+   Old : List;
+   N   : Integer;
+   Sum : Integer := 0;
 begin
    while not End_Of_File loop
-      Get (V);
-      L := new Cell'(V, L);
+      Get (N);
+      L := new Cell'(N, L);
    end loop;
    declare
       C : access constant Cell := L;

@@ -1,19 +1,20 @@
---  A borrower that a function gives changes the last cell. Both cells are lost at the end.
---  The leak check at the end of the scope names the first cell alone, which still has the other one.
+--  A function gives a borrower of the last cell, and the caller changes that cell. At the end the
+--  list is lost: the line names its first cell, which still owns the other one.
 --> spark run traversal_call.adb
 --> status 5
 --> out  9
---> err traversal_call.adb:36:1: leak of cell 2
-package P is
+--> err traversal_call.adb:39:1: leak of cell 2
+package Lists is
    type Cell;
    type List is access Cell;
    type Cell is record
       Value : Integer;
-      Next : List;
+      Next  : List;
    end record;
    function Last (L : access Cell) return access Cell;
-end P;
-package body P is
+end Lists;
+
+package body Lists is
    function Last (L : access Cell) return access Cell is
       B : access Cell := L;
    begin
@@ -22,15 +23,17 @@ package body P is
       end loop;
       return B;
    end Last;
-end P;
-with P, Ada.Text_IO; use P, Ada.Text_IO;
+end Lists;
+
+with Ada.Text_IO; use Ada.Text_IO;
+with Lists; use Lists;
 procedure Main is
-   X : List := new Cell'(1, new Cell'(2, null));
+   L : List := new Cell'(1, new Cell'(2, null));
 begin
    declare
-      B : access Cell := Last (X);
+      B : access Cell := Last (L);
    begin
       B.Value := 9;
    end;
-   Put_Line (Integer'Image (X.Next.Value));
+   Put_Line (Integer'Image (L.Next.Value));
 end Main;

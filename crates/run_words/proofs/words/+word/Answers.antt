@@ -5,22 +5,22 @@ use Rattle.run_codes.specs.Flat.{word, indexes, is_broken, Given}
 use Rattle.run_words.proofs.Wholes.{local_whole, global_whole, scaled_whole, unary_whole, null_whole, left_whole, right_whole, short_whole, plus_left_whole, plus_right_whole, names_whole, index_whole, names_names_whole}
 use Rattle.run_words.proofs.words.+word.Goals as goal
 
-pub binary-word-requires : goal.binary-word-requires
-binary-word-requires t c = (search rules, (c.requires.left, left_whole _ _ _ _ c.requires.whole))
+pub binary-operand-requires : goal.binary-operand-requires
+binary-operand-requires t c = (search rules, (c.requires.left, left_whole _ _ _ _ c.requires.whole))
 
-pub binary-word-requires-2 : goal.binary-word-requires-2
-binary-word-requires-2 t c =
+pub binary-operand-requires-2 : goal.binary-operand-requires-2
+binary-operand-requires-2 t c =
     let left : word (flat c.args.memory.now) (code_at c.args.nodes.now c.args.left) ≡ Given c.in_ok-left.left = search rules in
     (search rules, (c.requires.right, right_whole _ _ _ _ _ left c.requires.whole))
 
-pub element-word-requires : goal.element-word-requires
-element-word-requires t c = (search rules, (c.requires.there, scaled_whole _ _ _ _ _ c.requires.whole))
+pub element-operand-requires : goal.element-operand-requires
+element-operand-requires t c = (search rules, (c.requires.there, scaled_whole _ _ _ _ _ c.requires.whole))
 
 pub global_at-word-requires : goal.global_at-word-requires
 global_at-word-requires t c = (search rules, (c.requires.there, global_whole _ _ _ c.requires.whole))
 
-pub is_null-word-requires : goal.is_null-word-requires
-is_null-word-requires t c = (search rules, (c.requires.there, null_whole _ _ _ c.requires.whole))
+pub is_null-operand-requires : goal.is_null-operand-requires
+is_null-operand-requires t c = (search rules, (c.requires.there, null_whole _ _ _ c.requires.whole))
 
 pub local_at-word-requires : goal.local_at-word-requires
 local_at-word-requires t c = (search rules, (c.requires.there, local_whole _ _ _ c.requires.whole))
@@ -62,8 +62,8 @@ unary-word-requires t c = (search rules, (c.requires.there, unary_whole _ _ _ c.
 pub via_at-names-requires : goal.via_at-names-requires
 via_at-names-requires t c = (search rules, (c.requires.there, names_whole _ _ _ _ _ c.requires.whole))
 
-pub with_number-word-requires : goal.with_number-word-requires
-with_number-word-requires t c = (search rules, (c.requires.there, left_whole _ _ _ _ c.requires.whole))
+pub with_number-operand-requires : goal.with_number-operand-requires
+with_number-operand-requires t c = (search rules, (c.requires.there, left_whole _ _ _ _ c.requires.whole))
 
 pub via_at-word-requires : goal.via_at-word-requires
 via_at-word-requires t c =

@@ -1,9 +1,10 @@
-use Rattle.std.proofs.Common.{map, string_bytes, ◌∙◌}
-use Rattle.whole_runs.proofs.Kept.{on_ok}
-use Rattle.whole_runs.proofs.Owed.{tells_on}
+use Rattle.std.proofs.Common.{map, string_bytes, refl, ap, ◌∙◌}
+use Rattle.run_codes.specs.Points.{State}
+use Rattle.whole_runs.specs.Tellings.{Sinks}
+use Rattle.whole_runs.proofs.Kept.{on_ok, on_err, for_err}
+use Rattle.whole_runs.proofs.Owed.{tells_on, output_cut, flushed_cut, lines_cut}
 use Rattle.whole_runs.proofs.told.tell.Goals as goal
 
--- src/told.rt:83:1
 pub returns-clause-told : goal.returns-clause-told
 returns-clause-told g c =
     on_ok c.tell_lines.result
@@ -14,3 +15,32 @@ returns-clause-told g c =
     c.tell_output.ensures.state c.in_ok-tell_output.ensures.flushed
     c.in_ok-tell_leaks.ensures.state c.in_ok-tell_leaks.ensures.lines (c.tell_lines.ensures.leaked ∙ c.in_ok-tell_leaks.ensures.leaked) flushed)
     c.tell_lines.ensures.flushed
+
+pub returns-in_err-tell_output-clause-front : goal.returns-in_err-tell_output-clause-front
+returns-in_err-tell_output-clause-front g c =
+    let old : Sinks = record { output = g.K.Sink.written c.args.out.now; lines = g.K.Sink.written c.args.err.now } in
+    let new : Sinks = record { output = g.K.Sink.written c.tell_output.new.out; lines = g.K.Sink.written c.args.err.now } in
+    let s : State = g.S.Stepping.state c.args.run.now in
+    for_err _ (output_cut (map string_bytes c.args.files.now) old new c.args.told.now.lines.items c.args.told.now.leaked s s.output refl c.in_err-tell_output.ensures.front refl)
+
+pub returns-in_err-tell_leaks-clause-front : goal.returns-in_err-tell_leaks-clause-front
+returns-in_err-tell_leaks-clause-front g c =
+    let old : Sinks = record { output = g.K.Sink.written c.args.out.now; lines = g.K.Sink.written c.args.err.now } in
+    let new : Sinks = record { output = g.K.Sink.written c.tell_output.new.out; lines = g.K.Sink.written c.args.err.now } in
+    for_err _
+    (flushed_cut (map string_bytes c.args.files.now) old new c.args.told.now.lines.items c.args.told.now.leaked (g.S.Stepping.state c.args.run.now)
+    (g.S.Stepping.state c.tell_output.new.run).output c.in_ok-tell_output.ensures.flushed refl)
+
+pub returns-clause-front : goal.returns-clause-front
+returns-clause-front g c =
+    let files = map string_bytes c.args.files.now in
+    let old : Sinks = record { output = g.K.Sink.written c.args.out.now; lines = g.K.Sink.written c.args.err.now } in
+    let now : Sinks = record { output = g.K.Sink.written c.tell_output.new.out; lines = g.K.Sink.written c.args.err.now } in
+    let new : Sinks = record { output = g.K.Sink.written c.tell_output.new.out; lines = g.K.Sink.written c.tell_lines.new.err } in
+    let s : State = g.S.Stepping.state c.args.run.now in
+    let t : State = g.S.Stepping.state c.tell_output.new.run in
+    on_err c.tell_lines.result
+    (λ cut. lines_cut files old new c.args.told.now.lines.items c.tell_leaks.new.told.lines.items c.args.told.now.leaked s t.leaks
+    (flushed_cut files old now c.args.told.now.lines.items c.args.told.now.leaked s t.output c.in_ok-tell_output.ensures.flushed refl)
+    (ap (λ (x : State). x.leaks) c.tell_output.ensures.state) c.in_ok-tell_leaks.ensures.lines cut)
+    c.tell_lines.ensures.front

@@ -8,7 +8,7 @@ invariant-steps g l =
     IsUnderway (map string_bytes l.files) (g.S.Stepping.setting l.run)
     (record { output = g.K.Sink.written l.initial.out; lines = g.K.Sink.written l.initial.err }) (record { output = g.K.Sink.written l.out; lines = g.K.Sink.written l.err })
     l.told.lines.items l.told.leaked
-    (some_steps l.limit (g.S.Stepping.setting l.initial.run) (g.S.Stepping.state l.initial.run)) (l.limit - l.steps) l.steps (g.S.Stepping.state l.run)
+    (λ n. some_steps n (g.S.Stepping.setting l.initial.run) (g.S.Stepping.state l.initial.run)) l.steps (g.S.Stepping.state l.run)
     × (g.S.Stepping.setting l.run ≡ g.S.Stepping.setting l.initial.run)
     × (l.steps ≤ l.limit)
     × (g.K.Sink.faults l.out ≡ g.K.Sink.faults l.initial.out)

@@ -1,0 +1,2 @@
+-- states that have what earlier ones had
+pub mod Later

@@ -1,0 +1,2 @@
+-- what a program needs, beside its types, to be lowered
+pub mod Lowers

@@ -1,0 +1,164 @@
+-- The end of a variable or of a hand keeps the ways of views that don't begin there.
+use Rattle.std.proofs.Common.{◌≡◌, refl, sym, ap, ◌∙◌, subst, inl, inr, ℕ, Bool, true, false, not, ◌==◌, eqb-true, eq-eqb, List, [], ◌∷◌, Some, None}
+use Rattle.std.specs.List.{filter}
+use Rattle.spark_base.specs.Lists.{Has}
+use Rattle.spark_base.proofs.Lists.{Has-append_cases, Has-filter, Has-filter_passes}
+use Rattle.place_names.specs.declared.rule.Loan.TheVariants.{Borrowed}
+use Rattle.place_names.specs.declared.act.Act.{Act}
+use Rattle.place_names.specs.declared.act.Act.TheVariants.{EndScope}
+use Rattle.place_names.specs.declared.fact.Fact.{Fact}
+use Rattle.place_names.specs.declared.fact.Fact.TheVariants.{Moved, Lent}
+use Rattle.place_names.specs.Facts.{belongs_to, effect}
+use Rattle.owned_ways.specs.Ways.{Step, Root, OfVariable, OfHand, Loc, OfRoot, OfCell, Way, Object, Lost, Into, All, View, along, Below, Reaches, Owned, IsDrop, base_of, number_of, name_of, Named, IsMoved, Excused, Sound}
+use Rattle.owned_ways.proofs.Locations.{reaches_along}
+use Rattle.owned_ways.proofs.Unique.{one_way}
+use Rattle.owned_ways.proofs.Assigned.{kept_fact, is_false}
+use Rattle.owned_ways.proofs.Dropped.{named_base, dropped, left}
+use Rattle.owned_loans.specs.Views.{Views, expand, IsMovedBy, ExcusedBy, HasLoan, Viewed}
+use Rattle.owned_loans.proofs.Ways.{root_on, lifts, lifted_root, lifted_way}
+use Rattle.owned_loans.proofs.Clear.{before_or_new, clear_same}
+use Rattle.owned_loans.proofs.Moves.{view_named, view_on, as_sound, all_known}
+
+along_base : (w : Way) (p : List Step) → base_of (along w p) ≡ base_of w
+along_base w [] = refl
+along_base w (i ∷ p) = along_base w p
+
+-- a way that doesn't begin at a root that ends reaches what it reached
+drop_reaches : (s t : View) (r : Root) → Owned s → IsDrop s t r → (w : Way) (l : Loc) → Reaches s w l → (base_of w ≡ OfRoot r → ⊥) → Reaches t w l
+drop_reaches s t r owned d (Object x) l reach off = reach
+drop_reaches s t r owned d (Lost n) l reach off = (d.keeps n reach.0, reach.1)
+drop_reaches s t r owned d (Into w i) l (m, reach, e) off = (m, drop_reaches s t r owned d w m reach off, e)
+drop_reaches s t r owned d (All w) l (m, n, reach, h, e) off =
+    let outside : Below (OfRoot r) m → ⊥ = λ b. (
+    let same = one_way s owned w (along (Object r) b.0) m reach
+    (subst (Reaches s (along (Object r) b.0)) (sym b.1) (reaches_along s (Object r) (OfRoot r) b.0 refl)) in
+    off (ap base_of same ∙ along_base (Object r) b.0)) in
+    (m, n, drop_reaches s t r owned d w m reach off, d.off m outside ∙ h, e)
+
+module _ (home : ℕ → ℕ) (observer : ℕ → Bool) (other : Way → Type 0) (v : Views) where
+  variable_hand : (f x h : ℕ) → OfRoot (OfVariable f x) ≡ OfRoot (OfHand h) → ⊥
+  variable_hand f x h e = cc
+
+  -- a hand ends
+  pub hand_left : (s t : View) (h : ℕ) (facts : List Fact) → Viewed home observer other v s facts → IsDrop s t (OfHand h)
+      → Viewed home observer other v t facts
+  hand_left s t h facts viewed d =
+      let sound = left home (ExcusedBy home v other facts) s t (OfHand h) [] (as_sound home observer other v s facts viewed) d in record {
+        owned = sound.owned;
+        covered = sound.covered;
+        known = all_known home observer other v t facts sound.known;
+        clear = viewed.clear;
+        views = λ x w has. (let view = viewed.views x w has in
+            let base = named_base home w (view_named home observer other v s facts viewed.views x w has) in
+            view_on home observer other v s t facts facts x w view (λ seen n loan. loan)
+            (drop_reaches s t (OfHand h) viewed.owned d w (OfCell (v.cell x)) view.reaches
+            (λ e. variable_hand (home (number_of w)) (number_of w) h (sym base ∙ e))));
+      }
+
+  same_variable : (f g x y : ℕ) → OfRoot (OfVariable f x) ≡ OfRoot (OfVariable g y) → x ≡ y
+  same_variable f g x y e = cc
+
+  -- a name that is rooted in no view with a value stands for itself
+  pub stands_itself : (u : Way) → Named home u → v.way (number_of u) ≡ None → expand v u ≡ u
+  stands_itself u named none = elim (lifts v u) [
+    | inl e ↦ e
+    | inr l ↦ (let is : Some l.way ≡ None = sym l.has ∙ ap v.way (sym (lifted_root v u l)) ∙ none in cc)
+  ]
+
+  -- A variable without a value as a view ends. No view begins there, and the observers that are left
+  -- have loans of others.
+  pub record Leaves (x : ℕ) (facts : List Fact) : Type 0 where
+    pub none : v.way x ≡ None
+    pub roots : (y : ℕ) (w : Way) → v.way y ≡ Some w → number_of w ≡ x → ⊥
+    pub loans : (y : ℕ) (w : Way) → v.way y ≡ Some w → observer y ≡ true → HasLoan true y facts (name_of (v.loan y))
+
+  -- what is known of ways that the variable doesn't begin
+  abbrev Aside : ℕ → List Fact → Way → Type 0
+  Aside x facts w = ExcusedBy home v other facts w × (number_of w ≡ x → ⊥)
+
+  split : (s : View) (facts : List Fact) (x : ℕ) → Viewed home observer other v s facts → v.way x ≡ None
+      → ((y : ℕ) (w : Way) → v.way y ≡ Some w → number_of w ≡ x → ⊥) → ((w : Way) → other w → number_of w ≡ x → ⊥)
+      → Sound home (Aside x facts) s (filter (belongs_to x) facts)
+  split s facts x viewed none roots apart = record {
+    owned = viewed.owned;
+    covered = viewed.covered;
+    known = λ w l n r h. by_root w (viewed.known w l n r h) (number_of w == x) refl;
+  }
+    where
+      direct : (w : Way) → IsMovedBy home v facts w → number_of w ≡ x → IsMoved home facts w
+      direct w (u, moved, same) is = elim (lifts v u) [
+        | inl e ↦ subst (IsMoved home facts) (sym e ∙ same) moved
+        | inr l ↦ absurd (roots l.object l.way l.has
+            (sym (root_on l.way l.rest) ∙ ap number_of (sym (lifted_way v u l)) ∙ ap number_of same ∙ is))
+      ]
+
+      by_root : (w : Way) → ExcusedBy home v other facts w → (b : Bool) → (number_of w == x) ≡ b → Excused home (Aside x facts) (filter (belongs_to x) facts) w
+      by_root w known false e = inr (known, λ same. (let is = eq-eqb (number_of w) x same in cc))
+      by_root w known true e = elim known [
+        | inl moved ↦ (let own = direct w moved (eqb-true (number_of w) x e) in
+            inl (own.0, Has-filter_passes (belongs_to x) facts (Moved (name_of w)) own.1 e))
+        | inr o ↦ absurd (apart w o (eqb-true (number_of w) x e))
+      ]
+
+  -- what belongs to the variable ends with it
+  all_end : (facts : List Fact) (x : ℕ) (borrower : Bool) (f : Fact) → Has (effect (EndScope x borrower) (filter (belongs_to x) facts)) f → ⊥
+  all_end facts x borrower f h = elim (before_or_new (EndScope x borrower) (filter (belongs_to x) facts) f h) [
+    | inr none ↦ none
+    | inl own ↦ (
+        let own = (Has-filter (belongs_to x) facts f own).1 in
+        elim (Has-append_cases (filter (λ g. not (belongs_to x g)) (filter (belongs_to x) facts)) [] f h) [
+          | inl kept ↦ (let rest = (Has-filter (λ g. not (belongs_to x g)) (filter (belongs_to x) facts) f kept).1 in cc)
+          | inr none ↦ none
+        ])
+  ]
+
+  pub ended : (s t : View) (x : ℕ) (borrower : Bool) (facts : List Fact) → Viewed home observer other v s facts
+      → IsDrop s t (OfVariable (home x) x) → Leaves x (effect (EndScope x borrower) facts) → ((w : Way) → other w → number_of w ≡ x → ⊥)
+      → Viewed home observer other v t (effect (EndScope x borrower) facts)
+  ended s t x borrower facts viewed d leaves apart =
+      let act : Act = EndScope x borrower in
+      let sound = dropped home (Aside x facts) s t x borrower (filter (belongs_to x) facts) (split s facts x viewed leaves.none leaves.roots apart) d in record {
+        owned = sound.owned;
+        covered = sound.covered;
+        known = λ w l n r h. elim (sound.known w l n r h) [
+          | inl moved ↦ absurd (all_end facts x borrower (Moved (name_of w)) moved.1)
+          | inr both ↦ elim both.0 [
+            | inr o ↦ inr o
+            | inl moved ↦ inl (
+              moved.0,
+              (
+                moved.1.0,
+                kept_fact act facts (Moved (name_of moved.0)) moved.1.1
+                    (is_false (number_of moved.0 == x) (λ e. both.1 (
+                    let same = eqb-true (number_of moved.0) x e in
+                    ap number_of (sym moved.2 ∙ stands_itself moved.0 moved.1.0 (ap v.way same ∙ leaves.none)) ∙ same))),
+              ),
+              moved.2,
+            )
+          ]
+        ];
+        clear = clear_same observer facts viewed.clear act refl;
+        views = λ y w has. (let view = viewed.views y w has in
+            let base = named_base home w (view_named home observer other v s facts viewed.views y w has) in
+            record {
+              named = view.named;
+              leads = view.leads;
+              begins = view.begins;
+              deep = view.deep;
+              plain = view.plain;
+              older = view.older;
+              lent = own_loan y w has (observer y) refl view.lent;
+              reaches = drop_reaches s t (OfVariable (home x) x) viewed.owned d w (OfCell (v.cell y)) view.reaches
+                  (λ e. leaves.roots y w has (same_variable (home (number_of w)) (home x) (number_of w) x (sym base ∙ e)));
+            });
+      }
+    where
+      own_loan : (y : ℕ) (w : Way) → v.way y ≡ Some w → (b : Bool) → observer y ≡ b → HasLoan (observer y) y facts (name_of (v.loan y))
+          → HasLoan (observer y) y (effect (EndScope x borrower) facts) (name_of (v.loan y))
+      own_loan y w has true e loan = subst (λ z. HasLoan z y (effect (EndScope x borrower) facts) (name_of (v.loan y))) (sym e) (leaves.loans y w has e)
+      own_loan y w has false e loan =
+          let act : Act = EndScope x borrower in
+          let old = subst (λ z. HasLoan z y facts (name_of (v.loan y))) e loan in
+          subst (λ z. HasLoan z y (effect act facts) (name_of (v.loan y))) (sym e)
+          (kept_fact act facts (Lent Borrowed y (name_of (v.loan y))) old
+          (is_false (y == x) (λ same. (let is : Some w ≡ None = sym has ∙ ap v.way (eqb-true y x same) ∙ leaves.none in cc))))

@@ -1,0 +1,123 @@
+-- Freeing the cell that a name leads to keeps owners, what is known and the ways of views.
+use Rattle.std.proofs.Common.{◌≡◌, refl, sym, ap, ◌∙◌, subst, inl, inr, ℕ, Bool, false, List, [], ◌∷◌, suc, arith}
+use Rattle.place_names.specs.Names.{covers}
+use Rattle.place_names.specs.declared.act.Act.{Act}
+use Rattle.place_names.specs.declared.act.Act.TheVariants.{Free}
+use Rattle.place_names.specs.declared.fact.Fact.{Fact}
+use Rattle.place_names.specs.declared.fact.Fact.TheVariants.{Moved}
+use Rattle.place_names.specs.Facts.{effect}
+use Rattle.owned_ways.specs.Ways.{Step, Loc, OfCell, Inside, Way, Object, Lost, Into, All, Empty, Gone, Held, View, part, along, Below, Reaches, IsRooted, Under, Past, Owned, IsRelease, name_of, number_of, Named, Allows}
+use Rattle.owned_ways.proofs.Locations.{past_under, under_along, under_itself, reaches_along}
+use Rattle.owned_ways.proofs.Unique.{one_location, one_way}
+use Rattle.owned_ways.proofs.Named.{covered_under}
+use Rattle.owned_ways.proofs.Assigned.{kept_fact, is_false}
+use Rattle.owned_ways.proofs.Released.{released}
+use Rattle.owned_loans.specs.Views.{Views, expand, ExcusedBy, Viewed}
+use Rattle.owned_loans.proofs.Meeting.{IsPlain}
+use Rattle.owned_loans.proofs.Clear.{clear_same}
+use Rattle.owned_loans.proofs.Safe.{off_view}
+use Rattle.owned_loans.proofs.Allowed.{loan_kept, free_unlent}
+use Rattle.owned_loans.proofs.Moves.{IsPlace, expand_under, named_way, as_sound, view_on}
+
+-- ---- what a release leaves
+
+module _ (s t : View) (at : Loc) (n : ℕ) (step : IsRelease s t at n) where
+  held_before : (l : Loc) (c : ℕ) → t.word l ≡ Held c → s.word l ≡ Held c
+  held_before l c h =
+      let other : l ≡ at → ⊥ = λ e. (let is : Held c ≡ Empty = sym h ∙ ap t.word e ∙ step.null in cc) in
+      let outside : Below (OfCell n) l → ⊥ = λ b. (let is : Held c ≡ Empty = sym h ∙ ap t.word b.1 ∙ step.empty b.0 in cc) in
+      sym (step.off l other outside) ∙ h
+
+  gone_before : (l : Loc) → t.word l ≡ Gone → s.word l ≡ Gone
+  gone_before l h =
+      sym (step.off l (λ e. (let is : Gone ≡ Empty = sym h ∙ ap t.word e ∙ step.null in cc))
+      (λ b. (let is : Gone ≡ Empty = sym h ∙ ap t.word b.1 ∙ step.empty b.0 in cc))) ∙ h
+
+  not_gone : (p : List Step) → t.word (part at p) ≡ Gone → ⊥
+  not_gone [] e = let is : Empty ≡ Gone = sym step.null ∙ e in cc
+  not_gone (i ∷ p) e = let is : Empty ≡ Gone = sym (step.leaf p i) ∙ e in cc
+
+  no_number : (p : List Step) (c : ℕ) → t.word (part at p) ≡ Held c → ⊥
+  no_number [] c e = let is : Empty ≡ Held c = sym step.null ∙ e in cc
+  no_number (i ∷ p) c e = let is : Empty ≡ Held c = sym (step.leaf p i) ∙ e in cc
+
+  reached_before : (w : Way) (l : Loc) → IsRooted w → Reaches t w l → Reaches s w l
+  reached_before (Object x) l rooted r = r
+  reached_before (Lost x) l rooted r = absurd rooted
+  reached_before (Into w i) l rooted (m, r, e) = (m, reached_before w m rooted r, e)
+  reached_before (All w) l rooted (m, c, r, h, e) = (m, c, reached_before w m rooted r, held_before m c h, e)
+
+  -- a way that the argument's way begins ends below the argument
+  stuck : (k w : Way) (l : Loc) → Reaches s k at → IsRooted w → Reaches t w l → Under k w → Below at l
+  stuck k (Object x) l target rooted r u = ([], one_location s (Object x) l at r (subst (λ z. Reaches s z at) u target))
+  stuck k (Lost x) l target rooted r u = absurd rooted
+  stuck k (Into w i) l target rooted (m, r, e) u = elim u [
+    | inl same ↦ ([], one_location s (Into w i) l at (reached_before (Into w i) l rooted (m, r, e)) (subst (λ z. Reaches s z at) same target))
+    | inr u ↦ (let b = stuck k w m target rooted r u in (i ∷ b.0, e ∙ ap (λ y. Inside y i) b.1))
+  ]
+  stuck k (All w) l target rooted (m, c, r, h, e) u = elim u [
+    | inl same ↦ ([], one_location s (All w) l at (reached_before (All w) l rooted (m, c, r, h, e)) (subst (λ z. Reaches s z at) same target))
+    | inr u ↦ (let b = stuck k w m target rooted r u in absurd (no_number b.0 c (sym (ap t.word b.1) ∙ h)))
+  ]
+
+  -- a way that doesn't go past the argument reaches what it reached
+  reaches_on : (k w : Way) (l : Loc) → Owned s → s.word at ≡ Held n → Reaches s k at → Reaches s w l → (Past k w → ⊥) → Reaches t w l
+  reaches_on k (Object x) l owned held target r off = r
+  reaches_on k (Lost x) l owned held target r off = (step.keeps x r.0, r.1)
+  reaches_on k (Into w i) l owned held target (m, r, e) off = (m, reaches_on k w m owned held target r off, e)
+  reaches_on k (All w) l owned held target (m, c, r, h, e) off =
+      let other : m ≡ at → ⊥ = λ x. (
+      let same = one_way s owned w k m r (subst (Reaches s k) (sym x) target) in
+      off (subst (Under k) (sym same) (under_itself k))) in
+      let outside : Below (OfCell n) m → ⊥ = λ x. (
+      let below = reaches_along s (All k) (OfCell n) x.0 (at, n, target, held, refl) in
+      let same = one_way s owned w (along (All k) x.0) m r (subst (Reaches s (along (All k) x.0)) (sym x.1) below) in
+      off (subst (Under k) (sym same) (under_along k (All k) x.0 (inr (under_itself k))))) in (
+        m,
+        c,
+        reaches_on k w m owned held target r (λ p. off (past_under k w p)),
+        step.off m other outside ∙ h,
+        e,
+      )
+
+-- ---- under its act
+
+module _ (home : ℕ → ℕ) (observer : ℕ → Bool) (other : Way → Type 0) (v : Views) where
+  rooted : (w : Way) → Named home w → IsRooted w
+  rooted (Object r) m = tt
+  rooted (Lost x) m = absurd m
+  rooted (Into w i) m = rooted w m
+  rooted (All w) m = rooted w m
+
+  pub freed : (s t : View) (k : Way) (at : Loc) (n : ℕ) (facts : List Fact) → Viewed home observer other v s facts → IsRelease s t at n
+      → Named home k → observer (number_of k) ≡ false → IsPlace v k → Reaches s (expand v k) at → s.word at ≡ Held n
+      → Allows facts (Free (name_of k)) → Viewed home observer other v t (effect (Free (name_of k)) facts)
+  freed s t k at n facts viewed step named plain place target held allowed =
+      let act : Act = Free (name_of k) in
+      let name : IsPlain home observer v s facts viewed.views k = (named, plain) in
+      let whole = named_way home observer other v s facts viewed.views (suc (number_of k)) k (omega arith) name in
+      let sound = released home (ExcusedBy home v other facts) s t (expand v k) at n [] (as_sound home observer other v s facts viewed) step whole target held in
+      record {
+        owned = sound.owned;
+        covered = sound.covered;
+        known = λ w l n' r h. elim (viewed.known w l n' (reached_before s t at n step w l n' r) (gone_before s t at n step l h)) [
+          | inr else ↦ inr else
+          | inl moved ↦ inl (
+            moved.0,
+            (
+              moved.1.0,
+              kept_fact act facts (Moved (name_of moved.0)) moved.1.1
+                  (is_false (covers (name_of k) (name_of moved.0)) (λ e. (
+                  let under = expand_under v k moved.0 place (covered_under home k moved.0 named moved.1.0 e) in
+                  let b = stuck s t at n step (expand v k) w l target n' r (subst (Under (expand v k)) moved.2 under) in
+                  not_gone s t at n step b.0 (sym (ap t.word b.1) ∙ h)))),
+            ),
+            moved.2,
+          )
+        ];
+        clear = clear_same observer facts viewed.clear act refl;
+        views = λ x w has. (let view = viewed.views x w has in
+            view_on home observer other v s t facts (effect act facts) x w view (λ seen m. loan_kept act facts (λ l h z. refl) seen x m)
+            (reaches_on s t at n step (expand v k) w (OfCell (v.cell x)) viewed.owned held target view.reaches
+            (λ past. off_view home observer v s facts viewed.views viewed.clear k x w name (free_unlent facts k allowed) has past)));
+      }

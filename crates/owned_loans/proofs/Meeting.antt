@@ -1,0 +1,232 @@
+-- Where the names of owners that two names stand for begin one another, one of the two names begins
+-- the other one, or it meets a loan of the other, or two loans meet.
+use Rattle.std.proofs.Common.{◌≡◌, refl, sym, ap, ◌∙◌, subst, ◌⊎◌, inl, inr, ℕ, Bool, true, false, List, zero, suc, ◌<◌, ◌≤◌, ◌+◌, nat_lt, ltb-true, ltb-false, arith, Some}
+use Rattle.std.proofs.Math.Nat.{eq-or-lt_of_le}
+use Rattle.place_names.specs.declared.fact.Fact.{Fact}
+use Rattle.owned_ways.specs.Ways.{OfVariable, Way, Object, All, View, Under, Named, number_of}
+use Rattle.owned_ways.proofs.Named.{longer}
+use Rattle.owned_loans.specs.Views.{on, Views, expand, AreViews}
+use Rattle.owned_loans.proofs.Ways.{Meet, beginnings, under_on, meets_on, root_on, on_under, named_on, on_named, expand_on, other_front, Lifted, lifts, lifted_root, lifted_way, next_of}
+
+order : (a b : ℕ) → (a ≡ b) ⊎ ((a < b) ⊎ (b < a))
+order a b = by_less (nat_lt a b) refl
+  where
+    by_less : (r : Bool) → nat_lt a b ≡ r → (a ≡ b) ⊎ ((a < b) ⊎ (b < a))
+    by_less true e = inr (inl (ltb-true a b e))
+    by_less false e = let most : b ≤ a = ltb-false a b e in elim (eq-or-lt_of_le most) [ inl same ↦ inl (sym same) | inr less ↦ inr (inr less) ]
+
+module _ (home : ℕ → ℕ) (observer : ℕ → Bool) (v : Views) (s : View) (facts : List Fact) (views : AreViews home observer v s facts) where
+  -- A name of the frame that isn't rooted in an observer.
+  abbrev pub IsPlain : Way → Type 0
+  IsPlain x = Named home x × (observer (number_of x) ≡ false)
+
+  pub record Next (x y : Way) (b : ℕ) : Type 0 where
+    pub plain : IsPlain y
+    pub same : expand v y ≡ expand v x
+    pub less : observer b ≡ false → number_of y < b
+    pub loan : Under (v.loan b) y
+
+  -- one step from a view to what it was taken from
+  pub next : (x : Way) (l : Lifted v x) → Named home x → Next x (next_of v x l) l.object
+  next x l named =
+      let view = views l.object l.way l.has in record {
+        plain = (
+          named_on home (v.up l.object) l.rest view.named,
+          ap observer (root_on (v.up l.object) l.rest) ∙ view.plain,
+        );
+        same = expand_on v (v.up l.object) l.rest view.deep ∙ ap (λ z. on z l.rest) view.leads ∙ sym (lifted_way v x l);
+        less = λ e. subst (λ z. z < l.object) (sym (root_on (v.up l.object) l.rest)) (view.older e);
+        loan = under_on (v.loan l.object) (v.up l.object) (on (v.up l.object) l.rest) view.begins (on_under (v.up l.object) l.rest);
+      }
+
+  borrowed : (x : Way) (l : Lifted v x) → IsPlain x → observer l.object ≡ false
+  borrowed x l plain = ap observer (sym (lifted_root v x l)) ∙ plain.1
+
+  -- what a name stands for is rooted in an owner, which isn't younger
+  pub low : (n : ℕ) (x : Way) → number_of x < n → IsPlain x → number_of (expand v x) ≤ number_of x
+  low zero x less plain = absurd (omega arith)
+  low (suc n) x less plain = elim (lifts v x) [
+    | inl e ↦ (let same = ap number_of e in (omega arith))
+    | inr l ↦ (let on = next x l plain.0 in
+        let root = lifted_root v x l in
+        let down = on.less (borrowed x l plain) in
+        let rest = low n (next_of v x l) (omega arith) on.plain in
+        let same = ap number_of on.same in (omega arith))
+  ]
+
+  pub lower : (x : Way) (l : Lifted v x) → IsPlain x → number_of (expand v x) < number_of x
+  lower x l plain =
+      let on = next x l plain.0 in
+      let root = lifted_root v x l in
+      let down = on.less (borrowed x l plain) in
+      let rest = low (suc (number_of (next_of v x l))) (next_of v x l) (omega arith) on.plain in
+      let same = ap number_of on.same in (omega arith)
+
+  -- A borrower with a value.
+  abbrev pub Lends : ℕ → Type 0
+  Lends b = (w : Way) × (v.way b ≡ Some w) × (observer b ≡ false)
+
+  -- The place of a borrower's loan begins the lower name, and the upper name stands for something
+  -- in between.
+  pub record Above (x y : Way) : Type 0 where
+    pub object : ℕ
+    pub lends : Lends object
+    pub within : object ≤ number_of x
+    pub name : Way
+    pub loan : Under (v.loan object) name
+    pub begins : Under name y
+    pub same : expand v name ≡ expand v x
+
+  -- The upper name meets the place of a loan that the lower one goes through.
+  pub record Beside (x y : Way) : Type 0 where
+    pub object : ℕ
+    pub lends : Lends object
+    pub within : object ≤ number_of y
+    pub meets : Meet x (v.loan object)
+
+  -- The places of loans of two borrowers meet.
+  pub record Both : Type 0 where
+    pub one : ℕ
+    pub two : ℕ
+    pub lends : Lends one
+    pub lent : Lends two
+    pub differ : one ≡ two → ⊥
+    pub meets : Meet (v.loan one) (v.loan two)
+
+  abbrev pub Meeting : Way → Way → Type 0
+  Meeting x y = Under x y ⊎ (Above x y ⊎ (Beside x y ⊎ Both))
+
+  one_object : (f g a b : ℕ) → f ≡ home a → g ≡ home b → a ≡ b → OfVariable f a ≡ OfVariable g b
+  one_object f g a b e h same = (let z = ap home same in cc)
+
+  same_way : (o : ℕ) (w u : Way) → v.way o ≡ Some w → v.way o ≡ Some u → w ≡ u
+  same_way o w u e f = (let is : Some w ≡ Some u = sym e ∙ f in cc)
+
+  -- names with one root
+  both_lifted : (x y : Way) (a : Lifted v x) (b : Lifted v y) → Named home x → Named home y → a.object ≡ b.object
+      → Under (expand v x) (expand v y) → Under x y
+  both_lifted x y a b nx ny same u =
+      let here = on_named home (All (Object (OfVariable a.frame a.object))) a.rest (subst (Named home) a.is nx) in
+      let there = on_named home (All (Object (OfVariable b.frame b.object))) b.rest (subst (Named home) b.is ny) in
+      let root = one_object a.frame b.frame a.object b.object here there same in
+      let way = same_way b.object a.way b.way (ap v.way (sym same) ∙ a.has) b.has in
+      let ways : Under (on b.way a.rest) (on b.way b.rest) = subst (λ z. Under (on z a.rest) (on b.way b.rest)) way
+      (subst (λ z. Under z (on b.way b.rest)) (lifted_way v x a) (subst (Under (expand v x)) (lifted_way v y b) u)) in
+      let front = other_front b.way (All (Object (OfVariable b.frame b.object))) a.rest b.rest ways in
+      subst (λ z. Under z y) (ap (λ z. on (All (Object z)) a.rest) (sym root) ∙ sym a.is)
+      (subst (Under (on (All (Object (OfVariable b.frame b.object))) a.rest)) (sym b.is) front)
+
+  pub one_root : (x y : Way) → IsPlain x → IsPlain y → number_of x ≡ number_of y → Under (expand v x) (expand v y) → Under x y
+  one_root x y px py same u =
+      let root = (longer (expand v x) (expand v y) u).root in
+      elim (lifts v x) [
+        | inl e ↦ elim (lifts v y) [
+          | inl f ↦ subst (λ z. Under z y) e (subst (Under (expand v x)) f u)
+          | inr b ↦ (let less = lower y b py in let is = ap number_of e in absurd (omega arith))
+        ]
+        | inr a ↦ elim (lifts v y) [
+          | inl f ↦ (let less = lower x a px in let is = ap number_of f in absurd (omega arith))
+          | inr b ↦ both_lifted x y a b px.0 py.0 (sym (lifted_root v x a) ∙ same ∙ lifted_root v y b) u
+        ]
+      ]
+
+  lift_upper : (x y : Way) (l : Lifted v x) → IsPlain x → number_of y < number_of x → Meeting (next_of v x l) y → Meeting x y
+  lift_upper x y l px less m =
+      let on = next x l px.0 in
+      let root = lifted_root v x l in
+      let is = borrowed x l px in
+      let down = on.less is in
+      elim m [
+        | inl u ↦ inr (inl (record {
+          object = l.object;
+          lends = (l.way, l.has, is);
+          within = (omega arith);
+          name = next_of v x l;
+          loan = on.loan;
+          begins = u;
+          same = on.same;
+        }))
+        | inr m ↦ elim m [
+          | inl a ↦ (let within = a.within in inr (inl (record {
+            object = a.object;
+            lends = a.lends;
+            within = (omega arith);
+            name = a.name;
+            loan = a.loan;
+            begins = a.begins;
+            same = a.same ∙ on.same;
+          })))
+          | inr m ↦ elim m [
+            | inl b ↦ (let within = b.within in inr (inr (inr (record {
+              one = l.object;
+              two = b.object;
+              lends = (l.way, l.has, is);
+              lent = b.lends;
+              differ = λ e. absurd (omega arith);
+              meets = meets_on (v.loan l.object) (next_of v x l) (v.loan b.object) on.loan b.meets;
+            }))))
+            | inr c ↦ inr (inr (inr c))
+          ]
+        ]
+      ]
+
+  lift_lower : (x y : Way) (l : Lifted v y) → IsPlain y → number_of x < number_of y → Meeting x (next_of v y l) → Meeting x y
+  lift_lower x y l py less m =
+      let on = next y l py.0 in
+      let root = lifted_root v y l in
+      let is = borrowed y l py in
+      let down = on.less is in
+      elim m [
+        | inl u ↦ inr (inr (inl (record {
+          object = l.object;
+          lends = (l.way, l.has, is);
+          within = (omega arith);
+          meets = beginnings x (v.loan l.object) (next_of v y l) u on.loan;
+        })))
+        | inr m ↦ elim m [
+          | inl a ↦ (let within = a.within in inr (inr (inr (record {
+            one = a.object;
+            two = l.object;
+            lends = a.lends;
+            lent = (l.way, l.has, is);
+            differ = λ e. absurd (omega arith);
+            meets = beginnings (v.loan a.object) (v.loan l.object) (next_of v y l) (under_on (v.loan a.object) a.name (next_of v y l) a.loan a.begins) on.loan;
+          }))))
+          | inr m ↦ elim m [
+            | inl b ↦ (let within = b.within in inr (inr (inl (record {
+              object = b.object;
+              lends = b.lends;
+              within = (omega arith);
+              meets = b.meets;
+            }))))
+            | inr c ↦ inr (inr (inr c))
+          ]
+        ]
+      ]
+
+  meeting_from : (n : ℕ) (x y : Way) → number_of x + number_of y < n → IsPlain x → IsPlain y → Under (expand v x) (expand v y) → Meeting x y
+  meeting_from zero x y less px py u = absurd (omega arith)
+  meeting_from (suc n) x y less px py u =
+      let root = (longer (expand v x) (expand v y) u).root in
+      elim (order (number_of x) (number_of y)) [
+        | inl same ↦ inl (one_root x y px py same u)
+        | inr z ↦ elim z [
+          | inl more ↦ elim (lifts v y) [
+            | inl e ↦ (let is = ap number_of e in let most = low (suc (number_of x)) x (omega arith) px in absurd (omega arith))
+            | inr l ↦ (let on = next y l py.0 in
+                let down = on.less (borrowed y l py) in
+                let at = lifted_root v y l in
+                lift_lower x y l py more (meeting_from n x (next_of v y l) (omega arith) px on.plain (subst (Under (expand v x)) (sym on.same) u)))
+          ]
+          | inr more ↦ elim (lifts v x) [
+            | inl e ↦ (let is = ap number_of e in let most = low (suc (number_of y)) y (omega arith) py in absurd (omega arith))
+            | inr l ↦ (let on = next x l px.0 in
+                let down = on.less (borrowed x l px) in
+                let at = lifted_root v x l in
+                lift_upper x y l px more (meeting_from n (next_of v x l) y (omega arith) on.plain py (subst (λ z. Under z (expand v y)) (sym on.same) u)))
+          ]
+        ]
+      ]
+
+  pub meeting : (x y : Way) → IsPlain x → IsPlain y → Under (expand v x) (expand v y) → Meeting x y
+  meeting x y px py u = meeting_from (suc (number_of x + number_of y)) x y (omega arith) px py u

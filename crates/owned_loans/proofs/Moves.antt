@@ -1,0 +1,306 @@
+-- A move keeps owners, what is known and the ways of views, where the facts allow its act on a name
+-- that may be rooted in a borrower. So does a cell that is made.
+use Rattle.std.proofs.Common.{◌≡◌, refl, sym, ap, ◌∙◌, subst, inl, inr, ℕ, Bool, true, false, not, List, [], ◌∷◌, zero, suc, ◌<◌, arith, Some, None}
+use Rattle.std.specs.List.{filter}
+use Rattle.spark_base.specs.Lists.{Has}
+use Rattle.spark_base.proofs.Lists.{Has-append_right, Has-map}
+use Rattle.place_names.specs.declared.selector.Sel.{Sel}
+use Rattle.place_names.specs.declared.rule.Loan.TheVariants.{Borrowed, Observed}
+use Rattle.place_names.specs.Names.{Name, extend, covers}
+use Rattle.place_names.specs.declared.act.Act.{Act}
+use Rattle.place_names.specs.declared.act.Act.TheVariants.{Move, Write}
+use Rattle.place_names.specs.declared.fact.Fact.{Fact}
+use Rattle.place_names.specs.declared.fact.Fact.TheVariants.{Moved, Lent}
+use Rattle.place_names.specs.Facts.{adds, removes, effect}
+use Rattle.place_names.specs.Rules.{lent}
+use Rattle.owned_ways.specs.Ways.{Step, Root, OfVariable, OfHand, Loc, OfRoot, OfCell, Way, Object, Lost, Into, All, Gone, View, part, along, Reaches, IsRooted, Under, Past, Known, IsMove, IsFresh, IsSame, base_of, name_of, number_of, Named, Excused, Spares, Allows, Sound}
+use Rattle.owned_ways.proofs.Locations.{past_under}
+use Rattle.owned_ways.proofs.Named.{covered_under}
+use Rattle.owned_ways.proofs.Assigned.{kept_fact, is_false, Apart, given_apart, named_rooted, InHand, same_sound}
+use Rattle.owned_ways.proofs.Moving.{Given, keeps, owned_after, covered_after, known_after}
+use Rattle.owned_ways.proofs.Released.{freshly, fresh_on}
+use Rattle.owned_ways.proofs.Dropped.{named_base}
+use Rattle.owned_loans.specs.Views.{on, Views, way_at, expand, expand_root, IsMovedBy, ExcusedBy, AreClear, HasLoan, IsView, AreViews, Viewed}
+use Rattle.owned_loans.proofs.Ways.{lifts, lifted_root, next_of}
+use Rattle.owned_loans.proofs.Meeting.{IsPlain, next}
+use Rattle.owned_loans.proofs.Clear.{nothing_new, clear_move, clear_same}
+use Rattle.owned_loans.proofs.Safe.{clean_below, off_view}
+use Rattle.owned_loans.proofs.Allowed.{loan_kept, move_unlent, move_unmoved, write_unlent}
+
+-- ---- names and what they stand for
+
+pub expand_along : (v : Views) (u : Way) (p : List Step) → expand v (along u p) ≡ along (expand v u) p
+expand_along v u [] = refl
+expand_along v u (i ∷ p) = ap (λ z. Into z i) (expand_along v u p)
+
+named_part : (home : ℕ → ℕ) (w : Way) (p : List Step) → Named home w → Named home (along w p)
+named_part home w [] n = n
+named_part home w (i ∷ p) n = named_part home w p n
+
+-- A name isn't that of a view with a value alone.
+abbrev pub IsPlace : Views → Way → Type 0
+IsPlace v k = (r : Root) → k ≡ Object r → way_at v r ≡ None
+
+pub expand_under : (v : Views) (k w : Way) → IsPlace v k → Under k w → Under (expand v k) (expand v w)
+expand_under v k (Object r) place u = ap (expand v) u
+expand_under v k (Lost n) place u = ap (expand v) u
+expand_under v k (Into w i) place u = elim u [ inl e ↦ inl (ap (expand v) e) | inr u ↦ inr (expand_under v k w place u) ]
+expand_under v k (All (Object r)) place u = elim u [
+  | inl e ↦ subst (λ z. Under z (expand v (All (Object r)))) (sym (ap (expand v) e)) (self (expand v (All (Object r))))
+  | inr e ↦ (let none = place r e in
+      subst (λ z. Under (expand v k) (expand_root z r)) (sym none) (inr (ap (expand v) e)))
+]
+  where
+    self : (w : Way) → Under w w
+    self (Object r) = refl
+    self (Lost n) = refl
+    self (Into w i) = inl refl
+    self (All w) = inl refl
+expand_under v k (All (Lost n)) place u = elim u [ inl e ↦ inl (ap (expand v) e) | inr u ↦ inr (ap (expand v) u) ]
+expand_under v k (All (Into w i)) place u = elim u [
+  | inl e ↦ inl (ap (expand v) e)
+  | inr u ↦ inr (expand_under v k (Into w i) place u)
+]
+expand_under v k (All (All w)) place u = elim u [
+  | inl e ↦ inl (ap (expand v) e)
+  | inr u ↦ inr (expand_under v k (All w) place u)
+]
+
+abbrev hand_of : Way → ℕ
+hand_of (Object (OfVariable f x)) = 0
+hand_of (Object (OfHand h)) = h
+hand_of (Lost n) = 0
+hand_of (Into w i) = hand_of w
+hand_of (All w) = hand_of w
+
+-- a hand begins no way of a name
+hand_under : (f v : Way) → InHand f → Under f v → InHand v
+hand_under f (Object r) n u = subst InHand u n
+hand_under f (Lost x) n u = subst InHand u n
+hand_under f (Into w i) n u = elim u [ inl e ↦ subst InHand e n | inr u ↦ hand_under f w n u ]
+hand_under f (All w) n u = elim u [ inl e ↦ subst InHand e n | inr u ↦ hand_under f w n u ]
+
+unnamed : (home : ℕ → ℕ) (w : Way) → InHand w → Named home w → ⊥
+unnamed home (Object (OfVariable f x)) n m = n
+unnamed home (Object (OfHand h)) n m = m
+unnamed home (Lost x) n m = n
+unnamed home (Into w i) n m = unnamed home w n m
+unnamed home (All w) n m = unnamed home w n m
+
+same_reaches : (s t : View) → IsSame s t → (w : Way) (l : Loc) → Reaches s w l → Reaches t w l
+same_reaches s t e (Object r) l h = h
+same_reaches s t e (Lost n) l h = (e.leaked n ∙ h.0, h.1)
+same_reaches s t e (Into w i) l (m, h, is) = (m, same_reaches s t e w m h, is)
+same_reaches s t e (All w) l (m, n, h, held, is) = (m, n, same_reaches s t e w m h, e.word m ∙ held, is)
+
+hand_rooted : (w : Way) → InHand w → IsRooted w
+hand_rooted (Object r) n = tt
+hand_rooted (Lost x) n = absurd n
+hand_rooted (Into w i) n = hand_rooted w n
+hand_rooted (All w) n = hand_rooted w n
+
+pub hand_apart : (home : ℕ → ℕ) (f k : Way) → Named home f → InHand k → base_of f ≡ base_of k → ⊥
+hand_apart home f k named inhand e = variable_hand (named_base home f named) (hand_base k inhand) e
+  where
+    variable_hand : {a b : Loc} {g x h : ℕ} → a ≡ OfRoot (OfVariable g x) → b ≡ OfRoot (OfHand h) → a ≡ b → ⊥
+    variable_hand p q e = cc
+
+    hand_base : (k : Way) (n : InHand k) → base_of k ≡ OfRoot (OfHand (hand_of k))
+    hand_base (Object (OfVariable f x)) n = absurd n
+    hand_base (Object (OfHand h)) n = refl
+    hand_base (Lost n) i = absurd i
+    hand_base (Into w i) n = hand_base w n
+    hand_base (All w) n = hand_base w n
+
+-- ---- a move, whatever the act
+
+module _ (home : ℕ → ℕ) (observer : ℕ → Bool) (other : Way → Type 0) (v : Views) where
+  pub view_on : (s t : View) (facts facts' : List Fact) (x : ℕ) (w : Way) → IsView home observer v s facts x w
+      → ((seen : Bool) (n : Name) → HasLoan seen x facts n → HasLoan seen x facts' n) → Reaches t w (OfCell (v.cell x)) → IsView home observer v t facts' x w
+  view_on s t facts facts' x w view loans reaches = record {
+    named = view.named;
+    leads = view.leads;
+    begins = view.begins;
+    deep = view.deep;
+    plain = view.plain;
+    older = view.older;
+    lent = loans (observer x) (name_of (v.loan x)) view.lent;
+    reaches = reaches;
+  }
+
+  -- No way of a view goes past a place.
+  abbrev pub Off : Way → Type 0
+  Off f = (x : ℕ) (w : Way) → v.way x ≡ Some w → Past f w → ⊥
+
+  pub moved_on : (s t : View) (f k : Way) (from to : Loc) (facts facts' : List Fact) → Given s t f k from to
+      → Viewed home observer other v s facts → IsRooted f
+      → ((w : Way) → Under f w → ExcusedBy home v other facts w → ⊥)
+      → ((w : Way) → IsMovedBy home v facts w → (Under k w → ⊥) → IsMovedBy home v facts' w)
+      → ((p : List Step) → t.word (part from p) ≡ Gone → ExcusedBy home v other facts' (along f p))
+      → AreClear observer facts' → ((seen : Bool) (x : ℕ) (n : Name) → HasLoan seen x facts n → HasLoan seen x facts' n)
+      → Off f → Off k → Viewed home observer other v t facts'
+  moved_on s t f k from to facts facts' given viewed rooted clean stays adds clear loans off away = record {
+    owned = owned_after s t f k from to given;
+    covered = covered_after s t f k from to given viewed.covered;
+    known = known_after s t f k from to (ExcusedBy home v other facts) (ExcusedBy home v other facts') given viewed.known rooted clean
+        (λ w moved apart. elim moved [ inl m ↦ inl (stays w m apart) | inr o ↦ inr o ]) adds;
+    clear = clear;
+    views = λ x w has. (let view = viewed.views x w has in
+        view_on s t facts facts' x w view (λ seen n. loans seen x n)
+        (keeps s t f k from to given w (OfCell (v.cell x)) view.reaches (λ p. off x w has p) (λ p. away x w has p)));
+  }
+
+  -- what a name stands for is named
+  pub named_way : (s : View) (facts : List Fact) (views : AreViews home observer v s facts) (n : ℕ) (u : Way) → number_of u < n
+      → IsPlain home observer v s facts views u → Named home (expand v u)
+  named_way s facts views zero u less plain = absurd (omega arith)
+  named_way s facts views (suc n) u less plain = elim (lifts v u) [
+    | inl e ↦ subst (Named home) (sym e) plain.0
+    | inr l ↦ (let on = next home observer v s facts views u l plain.0 in
+        let root = lifted_root v u l in
+        let down = on.less (ap observer (sym root) ∙ plain.1) in
+        subst (Named home) on.same (named_way s facts views n (next_of v u l) (omega arith) on.plain))
+  ]
+
+  pub view_named : (s : View) (facts : List Fact) (views : AreViews home observer v s facts) (x : ℕ) (w : Way) → v.way x ≡ Some w → Named home w
+  view_named s facts views x w has =
+      let view = views x w has in
+      subst (Named home) view.leads (named_way s facts views (suc (number_of (v.up x))) (v.up x) (omega arith) (view.named, view.plain))
+
+  pub hand_off : (s : View) (facts : List Fact) (views : AreViews home observer v s facts) (f : Way) → InHand f → Off f
+  hand_off s facts views f inhand x w has past =
+      unnamed home w (hand_under f w inhand (past_under f w past)) (view_named s facts views x w has)
+
+  -- what is moved by a fact is no hand
+  pub no_hand : (s : View) (facts : List Fact) → Viewed home observer other v s facts → (f w : Way) → InHand f → Under f w → IsMovedBy home v facts w → ⊥
+  no_hand s facts viewed f w inhand under (u, moved, same) =
+      unnamed home w (hand_under f w inhand under)
+      (subst (Named home) same
+      (named_way s facts viewed.views (suc (number_of u)) u (omega arith) (moved.0, viewed.clear.owned (name_of u) moved.1)))
+
+  -- ---- taking into a hand, or a part of one
+
+  pub taken : (s t : View) (u k : Way) (from to : Loc) (parts : List (List Sel)) (facts : List Fact)
+      → Viewed home observer other v s facts → IsMove s t from to → Named home u → observer (number_of u) ≡ false
+      → Spares other (expand v u) → Reaches s (expand v u) from → InHand k → Reaches s k to
+      → Allows facts (Move (name_of u) parts)
+      → ((p : List Step) → t.word (part from p) ≡ Gone → (q : List Sel) × Has parts q × (name_of (along u p) ≡ extend (name_of u) q))
+      → Viewed home observer other v t (effect (Move (name_of u) parts) facts)
+  taken s t u k from to parts facts viewed move named plain spares source inhand target allowed marks =
+      let act : Act = Move (name_of u) parts in
+      let name : IsPlain home observer v s facts viewed.views u = (named, plain) in
+      let whole = named_way s facts viewed.views (suc (number_of u)) u (omega arith) name in
+      let unlent = move_unlent facts u parts allowed in
+      let unmoved = move_unmoved facts u parts allowed in
+      moved_on s t (expand v u) k from to facts (effect act facts)
+      (given_apart s t (expand v u) k from to viewed.owned move source target (hand_apart home (expand v u) k whole inhand)) viewed
+      (named_rooted home (expand v u) whole)
+      (λ w under known. elim known [
+        | inl h ↦ clean_below home observer v s facts viewed.views viewed.clear u w name (λ h n. unlent Borrowed h n) unmoved under h
+        | inr o ↦ spares w under o
+      ])
+      (λ w moved off. (moved.0, (moved.1.0, kept_fact act facts (Moved (name_of moved.0)) moved.1.1 refl), moved.2))
+      (λ p gone. (let found = marks p gone in inl (
+        along u p,
+        (
+          named_part home u p named,
+          Has-append_right (filter (λ g. not (removes act g)) facts) (adds act) (Moved (name_of (along u p)))
+              (subst (λ n. Has (adds act) (Moved n)) (sym found.2) (Has-map (λ q. Moved (extend (name_of u) q)) parts found.0 found.1)),
+        ),
+        expand_along v u p,
+      )))
+      (clear_move observer facts viewed.clear (name_of u) parts plain allowed)
+      (λ seen x n. loan_kept act facts (λ l h m. refl) seen x n)
+      (λ x w has past. off_view home observer v s facts viewed.views viewed.clear u x w name unlent has past)
+      (hand_off s facts viewed.views k inhand)
+
+  -- ---- from a hand to where no view's way goes: to another hand, or to a new variable or cell
+
+  pub handed : (s t : View) (f k : Way) (from to : Loc) (facts : List Fact) → Viewed home observer other v s facts → IsMove s t from to
+      → InHand f → Off k → Spares other f → Reaches s f from → Reaches s k to → Apart f k
+      → ((p : List Step) → t.word (part from p) ≡ Gone → ⊥) → Viewed home observer other v t facts
+  handed s t f k from to facts viewed move inhand away spares source target apart empty =
+      moved_on s t f k from to facts facts (given_apart s t f k from to viewed.owned move source target apart) viewed (hand_rooted f inhand)
+      (λ w under known. elim known [ inl h ↦ no_hand s facts viewed f w inhand under h | inr o ↦ spares w under o ])
+      (λ w moved off. moved) (λ p gone. absurd (empty p gone)) viewed.clear (λ seen x n has. has)
+      (hand_off s facts viewed.views f inhand) away
+
+  -- ---- putting at a target
+
+  pub put : (s t : View) (f k : Way) (from to : Loc) (facts : List Fact) → Viewed home observer other v s facts → IsMove s t from to
+      → InHand f → Spares other f → Reaches s f from → Named home k → observer (number_of k) ≡ false → IsPlace v k
+      → Reaches s (expand v k) to → Allows facts (Write (name_of k))
+      → ((p : List Step) → t.word (part from p) ≡ Gone → ⊥) → Viewed home observer other v t (effect (Write (name_of k)) facts)
+  put s t f k from to facts viewed move inhand spares source named plain place target allowed empty =
+      let act : Act = Write (name_of k) in
+      let name : IsPlain home observer v s facts viewed.views k = (named, plain) in
+      let whole = named_way s facts viewed.views (suc (number_of k)) k (omega arith) name in
+      moved_on s t f (expand v k) from to facts (effect act facts)
+      (given_apart s t f (expand v k) from to viewed.owned move source target (λ e. hand_apart home (expand v k) f whole inhand (sym e))) viewed
+      (hand_rooted f inhand)
+      (λ w under known. elim known [ inl h ↦ no_hand s facts viewed f w inhand under h | inr o ↦ spares w under o ])
+      (λ w moved off. (
+        moved.0,
+        (
+          moved.1.0,
+          kept_fact act facts (Moved (name_of moved.0)) moved.1.1
+              (is_false (covers (name_of k) (name_of moved.0)) (λ e.
+              off (subst (Under (expand v k)) moved.2 (expand_under v k moved.0 place (covered_under home k moved.0 named moved.1.0 e))))),
+        ),
+        moved.2,
+      ))
+      (λ p gone. absurd (empty p gone))
+      (clear_same observer facts viewed.clear act refl)
+      (λ seen x n. loan_kept act facts (λ l h m. refl) seen x n)
+      (hand_off s facts viewed.views f inhand)
+      (λ x w has past. off_view home observer v s facts viewed.views viewed.clear k x w name (write_unlent facts k allowed) has past)
+
+  -- ---- a new cell, and nothing
+
+  -- what is known stands in the place of another frame's facts
+  pub as_sound : (s : View) (facts : List Fact) → Viewed home observer other v s facts → Sound home (ExcusedBy home v other facts) s []
+  as_sound s facts viewed = record { owned = viewed.owned; covered = viewed.covered; known = λ w l n r h. inr (viewed.known w l n r h) }
+
+  pub all_known : (s : View) (facts : List Fact) → Known s (Excused home (ExcusedBy home v other facts) []) → Known s (ExcusedBy home v other facts)
+  all_known s facts known w l n r h = elim (known w l n r h) [ inl m ↦ absurd m.1 | inr o ↦ o ]
+
+  pub freshly_viewed : (s t : View) (k : Way) (at : Loc) (facts : List Fact) → Viewed home observer other v s facts → Reaches s k at
+      → IsFresh s t at → Viewed home observer other v t facts
+  freshly_viewed s t k at facts viewed there fresh =
+      let sound = freshly home (ExcusedBy home v other facts) s t k at [] (as_sound s facts viewed) there fresh in record {
+        owned = sound.owned;
+        covered = sound.covered;
+        known = all_known t facts sound.known;
+        clear = viewed.clear;
+        views = λ x w has. (let view = viewed.views x w has in
+            view_on s t facts facts x w view (λ seen n has. has) (fresh_on s t at fresh w (OfCell (v.cell x)) view.reaches));
+      }
+
+  pub same_viewed : (s t : View) (facts : List Fact) → IsSame s t → Viewed home observer other v s facts → Viewed home observer other v t facts
+  same_viewed s t facts same viewed =
+      let sound = same_sound home (ExcusedBy home v other facts) s t [] same (as_sound s facts viewed) in record {
+        owned = sound.owned;
+        covered = sound.covered;
+        known = all_known t facts sound.known;
+        clear = viewed.clear;
+        views = λ x w has. (let view = viewed.views x w has in
+            view_on s t facts facts x w view (λ seen n has. has) (same_reaches s t same w (OfCell (v.cell x)) view.reaches));
+      }
+
+  -- an act that ends no fact and adds none
+  pub quiet_act : (s : View) (facts facts' : List Fact) → ((f : Fact) → Has facts f → Has facts' f) → ((f : Fact) → Has facts' f → Has facts f)
+      → Viewed home observer other v s facts → Viewed home observer other v s facts'
+  quiet_act s facts facts' on back viewed = record {
+    owned = viewed.owned;
+    covered = viewed.covered;
+    known = λ w l n r h. elim (viewed.known w l n r h) [
+      | inl m ↦ inl (m.0, (m.1.0, on (Moved (name_of m.0)) m.1.1), m.2)
+      | inr o ↦ inr o
+    ];
+    clear = nothing_new observer facts facts' back viewed.clear;
+    views = λ x w has. (let view = viewed.views x w has in view_on s s facts facts' x w view (λ seen n loan. same_loan seen x n loan) view.reaches);
+  }
+    where
+      same_loan : (seen : Bool) (x : ℕ) (n : Name) → HasLoan seen x facts n → HasLoan seen x facts' n
+      same_loan true x n (h, lent) = (h, on (Lent Observed h n) lent)
+      same_loan false x n lent = on (Lent Borrowed x n) lent

@@ -1,0 +1,275 @@
+-- Borrow, Observe and Reborrow: a view gets the way of the cell that a name designates.
+use Rattle.std.proofs.Common.{◌≡◌, refl, sym, ap, ◌∙◌, subst, inl, inr, ℕ, ◌==◌, eqb-true, eq-eqb, Bool, true, false, List, [], ◌∷◌, ◌<◌, arith, Option, Some, None, if◌then◌else◌}
+use Rattle.spark_base.specs.Lists.{Has}
+use Rattle.spark_base.proofs.Lists.{Has-append_right}
+use Rattle.std.specs.List.{filter}
+use Rattle.std.proofs.Common.{not}
+use Rattle.place_names.specs.declared.rule.Rule.TheVariants.{O7}
+use Rattle.place_names.specs.declared.rule.Loan.TheVariants.{Borrowed, Observed}
+use Rattle.place_names.specs.Names.{Name, object, agree_along, overlaps}
+use Rattle.place_names.proofs.Names.{both_true}
+use Rattle.place_names.specs.declared.act.Act.{Act}
+use Rattle.place_names.specs.declared.act.Act.TheVariants.{Borrow, Observe, Reborrow}
+use Rattle.place_names.specs.declared.fact.Fact.{Fact}
+use Rattle.place_names.specs.declared.fact.Fact.TheVariants.{Moved, Lent}
+use Rattle.place_names.specs.Facts.{removes, effect}
+use Rattle.place_names.specs.Rules.{moved_or_lent}
+use Rattle.owned_ways.specs.Ways.{OfVariable, OfHand, OfCell, Way, Object, Lost, Into, All, View, Reaches, Under, Named, number_of, name_of, Allows}
+use Rattle.owned_ways.proofs.Named.{longer}
+use Rattle.owned_ways.proofs.Assigned.{kept_fact}
+use Rattle.owned_ways.proofs.Locations.{under_itself}
+use Rattle.owned_loans.specs.Views.{Down, on, Views, expand_root, expand, IsObject, AreClear, HasLoan, IsView, Viewed, Becomes, with_view, Unused}
+use Rattle.owned_loans.proofs.Ways.{Lifted, next_of, further}
+use Rattle.owned_loans.proofs.Meeting.{next}
+use Rattle.owned_loans.proofs.Clear.{refused, clear_borrow, clear_observe, clear_same}
+use Rattle.owned_loans.proofs.Allowed.{loan_kept}
+
+-- names that aren't rooted in the view stand for what they stood for
+expand_other : (v t : Views) (b : ℕ) (o : Option Way) (loan up : Way) (n : ℕ) → Becomes v t b o loan up n → (u : Way) → (number_of u ≡ b → ⊥) → expand t u ≡ expand v u
+expand_other v t b o loan up n c (Object r) off = refl
+expand_other v t b o loan up n c (Lost x) off = refl
+expand_other v t b o loan up n c (Into w i) off = ap (λ z. Into z i) (expand_other v t b o loan up n c w off)
+expand_other v t b o loan up n c (All (Object (OfVariable f x))) off = ap (λ z. expand_root z (OfVariable f x)) (c.ways x off)
+expand_other v t b o loan up n c (All (Object (OfHand h))) off = refl
+expand_other v t b o loan up n c (All (Lost x)) off = refl
+expand_other v t b o loan up n c (All (Into w i)) off = ap All (expand_other v t b o loan up n c (Into w i) off)
+expand_other v t b o loan up n c (All (All w)) off = ap All (expand_other v t b o loan up n c (All w) off)
+
+-- What is asked of the way that a view gets.
+pub record Fits (home : ℕ → ℕ) (observer : ℕ → Bool) (v : Views) (s : View) (facts : List Fact) (b : ℕ) (loan up : Way) (n : ℕ) (w : Way) : Type 0 where
+  pub named : Named home up
+  pub leads : expand v up ≡ w
+  pub begins : Under loan up
+  pub deep : IsObject up → ⊥
+  pub plain : observer (number_of up) ≡ false
+  pub older : observer b ≡ false → number_of up < b
+  pub lent : HasLoan (observer b) b facts (name_of loan)
+  pub reaches : Reaches s w (OfCell n)
+
+module _ (home : ℕ → ℕ) (observer : ℕ → Bool) (other : Way → Type 0) (v t : Views) (b : ℕ) (o : Option Way) (loan up : Way) (n : ℕ)
+    (becomes : Becomes v t b o loan up n) where
+  -- a view isn't taken from itself
+  not_itself : (observer b ≡ false → number_of up < b) → observer (number_of up) ≡ false → number_of up ≡ b → ⊥
+  not_itself older plain e =
+      let less = older (ap observer (sym e) ∙ plain) in absurd (omega arith)
+
+  new_view : (s : View) (facts : List Fact) (w : Way) → Fits home observer v s facts b loan up n w → IsView home observer t s facts b w
+  new_view s facts w fits = record {
+    named = subst (Named home) (sym becomes.up_is) fits.named;
+    leads = ap (expand t) becomes.up_is
+        ∙ expand_other v t b o loan up n becomes up (not_itself fits.older fits.plain) ∙ fits.leads;
+    begins = subst (λ z. Under z (t.up b)) (sym becomes.loan_is) (subst (Under loan) (sym becomes.up_is) fits.begins);
+    deep = subst (λ z. IsObject z → ⊥) (sym becomes.up_is) fits.deep;
+    plain = ap (λ z. observer (number_of z)) becomes.up_is ∙ fits.plain;
+    older = λ e. subst (λ z. number_of z < b) (sym becomes.up_is) (fits.older e);
+    lent = subst (λ z. HasLoan (observer b) b facts (name_of z)) (sym becomes.loan_is) fits.lent;
+    reaches = subst (λ z. Reaches s w (OfCell z)) (sym becomes.cell_is) fits.reaches;
+  }
+
+  old_view : (s : View) (facts facts' : List Fact) (x : ℕ) (w : Way) → (x ≡ b → ⊥) → (number_of (v.up x) ≡ b → ⊥) → IsView home observer v s facts x w
+      → ((seen : Bool) (m : Name) → HasLoan seen x facts m → HasLoan seen x facts' m) → IsView home observer t s facts' x w
+  old_view s facts facts' x w off unused view loans = record {
+    named = subst (Named home) (sym (becomes.ups x off)) view.named;
+    leads = ap (expand t) (becomes.ups x off) ∙ expand_other v t b o loan up n becomes (v.up x) unused ∙ view.leads;
+    begins = subst (λ z. Under z (t.up x)) (sym (becomes.loans x off)) (subst (Under (v.loan x)) (sym (becomes.ups x off)) view.begins);
+    deep = subst (λ z. IsObject z → ⊥) (sym (becomes.ups x off)) view.deep;
+    plain = ap (λ z. observer (number_of z)) (becomes.ups x off) ∙ view.plain;
+    older = λ e. subst (λ z. number_of z < x) (sym (becomes.ups x off)) (view.older e);
+    lent = subst (λ z. HasLoan (observer x) x facts' (name_of z)) (sym (becomes.loans x off)) (loans (observer x) (name_of (v.loan x)) view.lent);
+    reaches = subst (λ z. Reaches s w (OfCell z)) (sym (becomes.cells x off)) view.reaches;
+  }
+
+  pub rebound : (s : View) (facts facts' : List Fact) → Viewed home observer other v s facts → Unused v facts b
+      → ((m : Name) → Has facts (Moved m) → Has facts' (Moved m))
+      → ((seen : Bool) (x : ℕ) (m : Name) → HasLoan seen x facts m → HasLoan seen x facts' m) → AreClear observer facts'
+      → ((w : Way) → o ≡ Some w → Fits home observer v s facts' b loan up n w) → Viewed home observer other t s facts'
+  rebound s facts facts' viewed unused stays loans clear fits = record {
+    owned = viewed.owned;
+    covered = viewed.covered;
+    known = λ w l m r h. elim (viewed.known w l m r h) [
+      | inr taken ↦ inr taken
+      | inl moved ↦ inl (
+        moved.0,
+        (moved.1.0, stays (name_of moved.0) moved.1.1),
+        expand_other v t b o loan up n becomes moved.0 (unused.unmoved (name_of moved.0) moved.1.1) ∙ moved.2,
+      )
+    ];
+    clear = clear;
+    views = λ x w has. by_object x w has (x == b) refl;
+  }
+    where
+      by_object : (x : ℕ) (w : Way) → t.way x ≡ Some w → (c : Bool) → (x == b) ≡ c → IsView home observer t s facts' x w
+      by_object x w has true e =
+          let same = eqb-true x b e in
+          subst (λ z. IsView home observer t s facts' z w) (sym same)
+          (new_view s facts' w (fits w (sym becomes.way_is ∙ ap t.way (sym same) ∙ has)))
+      by_object x w has false e =
+          let off : x ≡ b → ⊥ = λ same. (let is = eq-eqb x b same in cc) in
+          let old = sym (becomes.ways x off) ∙ has in
+          old_view s facts facts' x w off (unused.untaken x w old off) (viewed.views x w old) (λ seen m. loans seen x m)
+
+-- ---- the acts
+
+same_way : (a b : Way) → Some a ≡ Some b → a ≡ b
+same_way a b e = cc
+
+module _ (home : ℕ → ℕ) (observer : ℕ → Bool) (other : Way → Type 0) (v t : Views) (s : View) (facts : List Fact)
+    (viewed : Viewed home observer other v s facts) where
+  stays : (a : Act) → ((m : Name) → removes a (Moved m) ≡ false) → (m : Name) → Has facts (Moved m) → Has (effect a facts) (Moved m)
+  stays a keeps m has = kept_fact a facts (Moved m) has (keeps m)
+
+  true_false : (c : Bool) → c ≡ true → c ≡ false → ⊥
+  true_false c e f = cc
+
+  -- nothing is rooted in an observer but names that are looked at
+  pub observer_unused : (b : ℕ) → observer b ≡ true → Unused v facts b
+  observer_unused b is = record {
+    unmoved = λ n has e. true_false (observer b) is (ap observer (sym e) ∙ viewed.clear.owned n has);
+    untaken = λ x w has off e. true_false (observer b) is (ap observer (sym e) ∙ (viewed.views x w has).plain);
+  }
+
+  -- The way to what a name designates, if it designates a cell.
+  abbrev pub Designates : Option Way → Way → ℕ → Type 0
+  Designates o u n = (w : Way) → o ≡ Some w → (w ≡ expand v (All u)) × Reaches s w (OfCell n)
+
+  pub borrowed : (b : ℕ) (o : Option Way) (u : Way) (n : ℕ) → Becomes v t b o u (All u) n → Unused v facts b → observer b ≡ false
+      → Named home u → observer (number_of u) ≡ false → number_of u < b → Designates o u n → Allows facts (Borrow b (name_of u))
+      → Viewed home observer other t s (effect (Borrow b (name_of u)) facts)
+  borrowed b o u n becomes unused borrows named plain less designates allowed =
+      let act : Act = Borrow b (name_of u) in
+      rebound home observer other v t b o u (All u) n becomes s facts (effect act facts) viewed unused
+      (stays act (λ m. refl)) (λ seen x m. loan_kept act facts (λ l h k. refl) seen x m)
+      (clear_borrow observer facts viewed.clear b (name_of u) allowed)
+      (λ w e. record {
+        named = named;
+        leads = sym (designates w e).0;
+        begins = inr (under_itself u);
+        deep = λ d. d;
+        plain = plain;
+        older = λ is. less;
+        lent = subst (λ z. HasLoan z b (effect act facts) (name_of u)) (sym borrows)
+            (Has-append_right (filter (λ g. not (removes act g)) facts) (Lent Borrowed b (name_of u) ∷ []) (Lent Borrowed b (name_of u)) (inl refl));
+        reaches = (designates w e).1;
+      })
+
+  pub observed : (b : ℕ) (o : Option Way) (u : Way) (n : ℕ) → Becomes v t b o u (All u) n → observer b ≡ true
+      → Named home u → observer (number_of u) ≡ false → Designates o u n → Allows facts (Observe b (name_of u) false)
+      → Viewed home observer other t s (effect (Observe b (name_of u) false) facts)
+  observed b o u n becomes observes named plain designates allowed =
+      let act : Act = Observe b (name_of u) false in
+      rebound home observer other v t b o u (All u) n becomes s facts (effect act facts) viewed (observer_unused b observes)
+      (stays act (λ m. refl)) (λ seen x m. loan_kept act facts (λ l h k. refl) seen x m)
+      (clear_observe observer facts viewed.clear b (name_of u) false allowed)
+      (λ w e. record {
+        named = named;
+        leads = sym (designates w e).0;
+        begins = inr (under_itself u);
+        deep = λ d. d;
+        plain = plain;
+        older = λ is. absurd (true_false (observer b) observes is);
+        lent = subst (λ z. HasLoan z b (effect act facts) (name_of u)) (sym observes)
+            (b, Has-append_right (filter (λ g. not (removes act g)) facts) (Lent Observed b (name_of u) ∷ []) (Lent Observed b (name_of u)) (inl refl));
+        reaches = (designates w e).1;
+      })
+
+  -- what another observer sees: its loan serves
+  pub observed_again : (b : ℕ) (o : Option Way) (u : Way) (n : ℕ) (l : Lifted v u) → observer l.object ≡ true
+      → Becomes v t b o (v.loan l.object) (on (v.up l.object) (Down ∷ l.rest)) n → observer b ≡ true → Named home u → Designates o u n
+      → Viewed home observer other t s (effect (Observe b (name_of u) true) facts)
+  observed_again b o u n l sees becomes observes named designates =
+      let act : Act = Observe b (name_of u) true in
+      let view = viewed.views l.object l.way l.has in
+      let on = next home observer v s facts viewed.views (All u) (further v Down u l) named in
+      let loan = subst (λ z. HasLoan z l.object facts (name_of (v.loan l.object))) sees view.lent in
+      rebound home observer other v t b o (v.loan l.object) (All (next_of v u l)) n becomes s facts (effect act facts) viewed (observer_unused b observes)
+      (stays act (λ m. refl)) (λ seen x m. loan_kept act facts (λ k h z. refl) seen x m)
+      (clear_same observer facts viewed.clear act refl)
+      (λ w e. record {
+        named = on.plain.0;
+        leads = on.same ∙ sym (designates w e).0;
+        begins = on.loan;
+        deep = λ d. d;
+        plain = on.plain.1;
+        older = λ is. absurd (true_false (observer b) observes is);
+        lent = subst (λ z. HasLoan z b (effect act facts) (name_of (v.loan l.object))) (sym observes)
+            (loan.0, kept_fact act facts (Lent Observed loan.0 (name_of (v.loan l.object))) loan.1 refl);
+        reaches = (designates w e).1;
+      })
+
+  -- no name that is rooted in an object that is reborrowed was moved, or is lent
+  reborrow_unused : (b : ℕ) (m : Name) → Allows facts (Reborrow b m) → Unused v facts b
+  reborrow_unused b m allowed = record {
+    unmoved = λ n has e. refused (moved_or_lent (object b) (Moved n)) O7 (object b) (Moved n) (whole n b e) (allowed (Moved n) has);
+    untaken = λ x w has off e. (let view = viewed.views x w has in
+        not_lent (observer x) x (v.loan x) (sym (longer (v.loan x) (v.up x) view.begins).root ∙ e) view.lent);
+  }
+    where
+      whole : (n : Name) (b : ℕ) → n.root ≡ b → overlaps n (object b) ≡ true
+      whole n b e = both_true (n.root == b) (agree_along n.sels []) (eq-eqb n.root b e) (nothing n.sels)
+        where
+          nothing : (k : List _) → agree_along k [] ≡ true
+          nothing [] = refl
+          nothing (s ∷ k) = refl
+
+      not_lent : (seen : Bool) (x : ℕ) (loan : Way) → number_of loan ≡ b → HasLoan seen x facts (name_of loan) → ⊥
+      not_lent true x loan e (h, has) =
+          refused (moved_or_lent (object b) (Lent Observed h (name_of loan))) O7 (object b) (Lent Observed h (name_of loan)) (whole (name_of loan) b e)
+          (allowed (Lent Observed h (name_of loan)) has)
+      not_lent false x loan e has =
+          refused (moved_or_lent (object b) (Lent Borrowed x (name_of loan))) O7 (object b) (Lent Borrowed x (name_of loan)) (whole (name_of loan) b e)
+          (allowed (Lent Borrowed x (name_of loan)) has)
+
+  -- a borrower goes on from where it is
+  pub reborrowed : (b : ℕ) (o : Option Way) (u : Way) (n : ℕ) (l : Lifted v u) → l.object ≡ b
+      → Becomes v t b o (v.loan l.object) (on (v.up l.object) (Down ∷ l.rest)) n → observer b ≡ false → Named home u → Designates o u n
+      → Allows facts (Reborrow b (name_of u)) → Viewed home observer other t s (effect (Reborrow b (name_of u)) facts)
+  reborrowed b o u n l same becomes borrows named designates allowed =
+      let act : Act = Reborrow b (name_of u) in
+      let view = viewed.views l.object l.way l.has in
+      let on = next home observer v s facts viewed.views (All u) (further v Down u l) named in
+      let is : observer l.object ≡ false = ap observer same ∙ borrows in
+      let loan = subst (λ z. HasLoan z l.object facts (name_of (v.loan l.object))) is view.lent in
+      rebound home observer other v t b o (v.loan l.object) (All (next_of v u l)) n becomes s facts (effect act facts) viewed
+      (reborrow_unused b (name_of u) allowed)
+      (stays act (λ m. refl)) (λ seen x m. loan_kept act facts (λ k h z. refl) seen x m)
+      (clear_same observer facts viewed.clear act refl)
+      (λ w e. record {
+        named = on.plain.0;
+        leads = on.same ∙ sym (designates w e).0;
+        begins = on.loan;
+        deep = λ d. d;
+        plain = on.plain.1;
+        older = λ z. subst (λ y. number_of (All (next_of v u l)) < y) same (on.less is);
+        lent = subst (λ z. HasLoan z b (effect act facts) (name_of (v.loan l.object))) (sym borrows)
+            (subst (λ z. Has (effect act facts) (Lent Borrowed z (name_of (v.loan l.object)))) same
+            (kept_fact act facts (Lent Borrowed l.object (name_of (v.loan l.object))) loan refl));
+        reaches = (designates w e).1;
+      })
+
+  -- a view that no name is rooted in any more gives its way up
+  pub given_up : (b : ℕ) (loan up : Way) (n : ℕ) → Becomes v t b None loan up n → Unused v facts b → Viewed home observer other t s facts
+  given_up b loan up n becomes unused =
+      rebound home observer other v t b None loan up n becomes s facts facts viewed unused (λ m has. has) (λ seen x m has. has) viewed.clear
+      (λ w e. absurd (none_some w e))
+    where
+      none_some : (w : Way) → None ≡ Some w → ⊥
+      none_some w e = cc
+
+pub becomes_with : (v : Views) (b : ℕ) (o : Option Way) (loan up : Way) (n : ℕ) → Becomes v (with_view v b o loan up n) b o loan up n
+becomes_with v b o loan up n = record {
+  way_is = ap (λ c. if c then o else v.way b) (eq-eqb b b refl);
+  loan_is = ap (λ c. if c then loan else v.loan b) (eq-eqb b b refl);
+  up_is = ap (λ c. if c then up else v.up b) (eq-eqb b b refl);
+  cell_is = ap (λ c. if c then n else v.cell b) (eq-eqb b b refl);
+  ways = λ y off. ap (λ c. if c then o else v.way y) (differs y b off);
+  loans = λ y off. ap (λ c. if c then loan else v.loan y) (differs y b off);
+  ups = λ y off. ap (λ c. if c then up else v.up y) (differs y b off);
+  cells = λ y off. ap (λ c. if c then n else v.cell y) (differs y b off);
+}
+  where
+    differs : (y b : ℕ) → (y ≡ b → ⊥) → (y == b) ≡ false
+    differs y b off = by (y == b) refl
+      where
+        by : (c : Bool) → (y == b) ≡ c → (y == b) ≡ false
+        by true e = absurd (off (eqb-true y b e))
+        by false e = e

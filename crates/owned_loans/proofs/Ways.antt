@@ -1,0 +1,181 @@
+-- How ways go on, and the names of owners that names through views stand for.
+use Rattle.std.proofs.Common.{◌≡◌, refl, sym, ap, ◌∙◌, subst, ◌⊎◌, inl, inr, ℕ, true, List, [], ◌∷◌, length, suc, ◌+◌, arith, Option, Some, None}
+use Rattle.place_names.specs.Names.{overlaps}
+use Rattle.owned_ways.specs.Ways.{Root, OfVariable, OfHand, Way, Object, Lost, Into, All, Under, Named, number_of, name_of}
+use Rattle.owned_ways.proofs.Locations.{depth, under_depth, under_itself}
+use Rattle.owned_ways.proofs.Named.{under_overlaps, under_front}
+use Rattle.owned_loans.specs.Views.{Go, Part, Down, go, on, Views, expand_root, way_at, expand, IsObject}
+
+-- ---- beginnings of ways
+
+-- two beginnings of one way: one begins the other
+pub beginnings : (a b w : Way) → Under a w → Under b w → Under a b ⊎ Under b a
+beginnings a b (Object x) u v = inl (subst (λ z. Under a z) (sym v) u)
+beginnings a b (Lost n) u v = inl (subst (λ z. Under a z) (sym v) u)
+beginnings a b (Into w i) u v = elim v [
+  | inl e ↦ inl (subst (λ z. Under a z) (sym e) u)
+  | inr v ↦ elim u [ inl e ↦ inr (subst (λ z. Under b z) (sym e) (inr v)) | inr u ↦ beginnings a b w u v ]
+]
+beginnings a b (All w) u v = elim v [
+  | inl e ↦ inl (subst (λ z. Under a z) (sym e) u)
+  | inr v ↦ elim u [ inl e ↦ inr (subst (λ z. Under b z) (sym e) (inr v)) | inr u ↦ beginnings a b w u v ]
+]
+
+-- One of two ways begins the other.
+abbrev pub Meet : Way → Way → Type 0
+Meet a b = Under a b ⊎ Under b a
+
+pub flip : (a b : Way) → Meet a b → Meet b a
+flip a b m = elim m [ inl u ↦ inr u | inr u ↦ inl u ]
+
+pub under_on : (a b c : Way) → Under a b → Under b c → Under a c
+under_on a b (Object x) u w = subst (Under a) w u
+under_on a b (Lost n) u w = subst (Under a) w u
+under_on a b (Into c i) u w = elim w [ inl e ↦ subst (Under a) e u | inr w ↦ inr (under_on a b c u w) ]
+under_on a b (All c) u w = elim w [ inl e ↦ subst (Under a) e u | inr w ↦ inr (under_on a b c u w) ]
+
+-- what begins one way meets what the way meets
+pub meets_on : (a x b : Way) → Under a x → Meet x b → Meet a b
+meets_on a x b u m = elim m [ inl w ↦ inl (under_on a x b u w) | inr w ↦ beginnings a b x u w ]
+
+-- ways that meet have names that overlap
+pub meet_overlaps : (a b : Way) → Meet a b → overlaps (name_of a) (name_of b) ≡ true
+meet_overlaps a b m = elim m [ inl u ↦ under_front a b u | inr u ↦ under_overlaps b a u ]
+
+-- ---- a way and how it goes on
+
+root_go : (g : Go) (w : Way) → number_of (go g w) ≡ number_of w
+root_go (Part i) w = refl
+root_go Down w = refl
+
+pub root_on : (w : Way) (r : List Go) → number_of (on w r) ≡ number_of w
+root_on w [] = refl
+root_on w (g ∷ r) = root_go g (on w r) ∙ root_on w r
+
+depth_go : (g : Go) (w : Way) → depth (go g w) ≡ suc (depth w)
+depth_go (Part i) w = refl
+depth_go Down w = refl
+
+depth_on : (w : Way) (r : List Go) → depth (on w r) ≡ length r + depth w
+depth_on w [] = (omega arith)
+depth_on w (g ∷ r) = let one = depth_go g (on w r) in let rest = depth_on w r in (omega arith)
+
+under_go : (t w : Way) (g : Go) → Under t (go g w) → (t ≡ go g w) ⊎ Under t w
+under_go t w (Part i) u = u
+under_go t w Down u = u
+
+go_under : (t w : Way) (g : Go) → Under t w → Under t (go g w)
+go_under t w (Part i) u = inr u
+go_under t w Down u = inr u
+
+same_go : (g h : Go) (w v : Way) → go g w ≡ go h v → (g ≡ h) × (w ≡ v)
+same_go (Part i) (Part j) w v e = (let s : i ≡ j = cc in ap Part s, cc)
+same_go (Part i) Down w v e = cc
+same_go Down (Part j) w v e = cc
+same_go Down Down w v e = (refl, cc)
+
+same_on : (u : Way) (r q : List Go) → on u r ≡ on u q → r ≡ q
+same_on u [] [] e = refl
+same_on u [] (g ∷ q) e = let n = ap depth e ∙ depth_on u (g ∷ q) in absurd (omega arith)
+same_on u (g ∷ r) [] e = let n = sym (ap depth e) ∙ depth_on u (g ∷ r) in absurd (omega arith)
+same_on u (g ∷ r) (h ∷ q) e =
+    let both = same_go g h (on u r) (on u q) e in
+    ap (λ x. x ∷ r) both.0 ∙ ap (λ z. h ∷ z) (same_on u r q both.1)
+
+-- what begins what doesn't depend on the front
+pub other_front : (u a : Way) (r q : List Go) → Under (on u r) (on u q) → Under (on a r) (on a q)
+other_front u a [] [] x = under_itself a
+other_front u a (g ∷ r) [] x =
+    let n = under_depth (on u (g ∷ r)) u x in let m = depth_on u (g ∷ r) in absurd (omega arith)
+other_front u a r (h ∷ q) x = elim (under_go (on u r) (on u q) h x) [
+  | inl e ↦ subst (λ z. Under (on a z) (on a (h ∷ q))) (sym (same_on u r (h ∷ q) e)) (under_itself (on a (h ∷ q)))
+  | inr x ↦ go_under (on a r) (on a q) h (other_front u a r q x)
+]
+
+pub on_under : (w : Way) (r : List Go) → Under w (on w r)
+on_under w [] = under_itself w
+on_under w (g ∷ r) = go_under w (on w r) g (on_under w r)
+
+named_go : (home : ℕ → ℕ) (g : Go) (w : Way) → Named home w → Named home (go g w)
+named_go home (Part i) w n = n
+named_go home Down w n = n
+
+pub named_on : (home : ℕ → ℕ) (w : Way) (r : List Go) → Named home w → Named home (on w r)
+named_on home w [] n = n
+named_on home w (g ∷ r) n = named_go home g (on w r) (named_on home w r n)
+
+go_named : (home : ℕ → ℕ) (g : Go) (w : Way) → Named home (go g w) → Named home w
+go_named home (Part i) w n = n
+go_named home Down w n = n
+
+pub on_named : (home : ℕ → ℕ) (w : Way) (r : List Go) → Named home (on w r) → Named home w
+on_named home w [] n = n
+on_named home w (g ∷ r) n = on_named home w r (go_named home g (on w r) n)
+
+go_deep : (g : Go) (w : Way) → IsObject (go g w) → ⊥
+go_deep (Part i) w d = d
+go_deep Down w d = d
+
+pub on_deep : (w : Way) (r : List Go) → (IsObject w → ⊥) → IsObject (on w r) → ⊥
+on_deep w [] d = d
+on_deep w (g ∷ r) d = go_deep g (on w r)
+
+-- ---- what names stand for
+
+pub expand_go : (v : Views) (g : Go) (w : Way) → (IsObject w → ⊥) → expand v (go g w) ≡ go g (expand v w)
+expand_go v (Part i) w d = refl
+expand_go v Down (Object r) d = absurd (d tt)
+expand_go v Down (Lost n) d = refl
+expand_go v Down (Into w i) d = refl
+expand_go v Down (All w) d = refl
+
+pub expand_on : (v : Views) (w : Way) (r : List Go) → (IsObject w → ⊥) → expand v (on w r) ≡ on (expand v w) r
+expand_on v w [] d = refl
+expand_on v w (g ∷ r) d = expand_go v g (on w r) (on_deep w r d) ∙ ap (go g) (expand_on v w r d)
+
+-- a name rooted in a view with a value
+pub record Lifted (v : Views) (x : Way) : Type 0 where
+  pub frame : ℕ
+  pub object : ℕ
+  pub rest : List Go
+  pub way : Way
+  pub is : x ≡ on (All (Object (OfVariable frame object))) rest
+  pub has : v.way object ≡ Some way
+
+abbrev pub further : (v : Views) (g : Go) (x : Way) → Lifted v x → Lifted v (go g x)
+further v g x l = record {
+  frame = l.frame;
+  object = l.object;
+  rest = g ∷ l.rest;
+  way = l.way;
+  is = ap (go g) l.is;
+  has = l.has;
+}
+
+at_root : (v : Views) (r : Root) (o : Option Way) → way_at v r ≡ o → (expand v (All (Object r)) ≡ All (Object r)) ⊎ Lifted v (All (Object r))
+at_root v r None e = inl (ap (λ z. expand_root z r) e)
+at_root v (OfVariable f x) (Some w) e = inr (record { frame = f; object = x; rest = []; way = w; is = refl; has = e })
+at_root v (OfHand h) (Some w) e = cc
+
+-- each name stands for itself, or is rooted in a view with a value
+pub lifts : (v : Views) (x : Way) → (expand v x ≡ x) ⊎ Lifted v x
+lifts v (Object r) = inl refl
+lifts v (Lost n) = inl refl
+lifts v (Into w i) = elim (lifts v w) [ inl e ↦ inl (ap (λ z. Into z i) e) | inr l ↦ inr (further v (Part i) w l) ]
+lifts v (All (Object r)) = at_root v r (way_at v r) refl
+lifts v (All (Lost n)) = inl refl
+lifts v (All (Into w i)) = elim (lifts v (Into w i)) [ inl e ↦ inl (ap All e) | inr l ↦ inr (further v Down (Into w i) l) ]
+lifts v (All (All w)) = elim (lifts v (All w)) [ inl e ↦ inl (ap All e) | inr l ↦ inr (further v Down (All w) l) ]
+
+pub lifted_root : (v : Views) (x : Way) (l : Lifted v x) → number_of x ≡ l.object
+lifted_root v x l = ap number_of l.is ∙ root_on (All (Object (OfVariable l.frame l.object))) l.rest
+
+pub lifted_way : (v : Views) (x : Way) (l : Lifted v x) → expand v x ≡ on l.way l.rest
+lifted_way v x l =
+    ap (expand v) l.is
+    ∙ expand_on v (All (Object (OfVariable l.frame l.object))) l.rest (λ d. d)
+    ∙ ap (λ z. on z l.rest) (ap (λ z. expand_root z (OfVariable l.frame l.object)) l.has)
+
+-- its name in terms of what the view was taken from
+abbrev pub next_of : (v : Views) (x : Way) → Lifted v x → Way
+next_of v x l = on (v.up l.object) l.rest

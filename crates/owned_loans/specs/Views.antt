@@ -1,0 +1,133 @@
+-- Borrowers and observers of a frame, the ways of owners that their names stand for, and what holds
+-- of them between two acts.
+use Rattle.std.specs.Prelude.{◌≡◌, ◌⊎◌, ◌<◌, ℕ, ◌==◌, Bool, true, false, List, [], ◌∷◌, Option, Some, None, if◌then◌else◌}
+use Rattle.spark_base.specs.Lists.{Has}
+use Rattle.place_names.specs.declared.fact.Fact.{Fact}
+use Rattle.place_names.specs.declared.fact.Fact.TheVariants.{Moved, Lent}
+use Rattle.place_names.specs.declared.rule.Loan.{Loan}
+use Rattle.place_names.specs.declared.rule.Loan.TheVariants.{Borrowed, Observed}
+use Rattle.place_names.specs.Names.{Name, overlaps}
+use Rattle.owned_ways.specs.Ways.{Step, Root, OfVariable, OfHand, OfCell, Way, Object, Lost, Into, All, View, Reaches, Under, Owned, Covered, Known, Named, IsMoved, name_of, number_of}
+
+-- ---- how a way goes on
+
+pub data Go : Type 0 where
+  Part : Step → Go
+  Down : Go
+
+abbrev pub go : Go → Way → Way
+go (Part i) w = Into w i
+go Down w = All w
+
+-- The last step first.
+abbrev pub on : Way → List Go → Way
+on w [] = w
+on w (g ∷ r) = go g (on w r)
+
+-- ---- views
+
+-- The borrowers and observers of a frame, by their objects. One with a value has a way: a name of
+-- the cell that it holds, rooted in an owner. `up` names that cell by an owner or an older
+-- borrower, and goes through the place of the loan.
+pub record Views : Type 0 where
+  pub way : ℕ → Option Way
+  pub loan : ℕ → Way
+  pub up : ℕ → Way
+  pub cell : ℕ → ℕ
+
+-- What a view designates is named by its way; what another object designates, by the object.
+abbrev pub expand_root : Option Way → Root → Way
+expand_root None r = All (Object r)
+expand_root (Some w) r = w
+
+abbrev pub way_at : Views → Root → Option Way
+way_at v (OfVariable f x) = v.way x
+way_at v (OfHand h) = None
+
+-- The name of an owner for a name that may be rooted in a view.
+abbrev pub expand : Views → Way → Way
+expand v (Object r) = Object r
+expand v (Lost n) = Lost n
+expand v (Into w i) = Into (expand v w) i
+expand v (All (Object r)) = expand_root (way_at v r) r
+expand v (All (Lost n)) = All (Lost n)
+expand v (All (Into w i)) = All (expand v (Into w i))
+expand v (All (All w)) = All (expand v (All w))
+
+abbrev pub IsObject : Way → Type 0
+IsObject (Object r) = Unit {0}
+IsObject _ = ⊥
+
+-- ---- facts
+
+-- A fact says that a name was moved that stands for a way.
+abbrev pub IsMovedBy : (ℕ → ℕ) → Views → List Fact → Way → Type 0
+IsMovedBy home v facts w = (u : Way) × IsMoved home facts u × (expand v u ≡ w)
+
+abbrev pub ExcusedBy : (ℕ → ℕ) → Views → (Way → Type 0) → List Fact → Way → Type 0
+ExcusedBy home v other facts w = IsMovedBy home v facts w ⊎ other w
+
+-- What was moved isn't lent, what one object has borrowed is lent to no other one, and nothing is
+-- moved through an observer.
+pub record AreClear (observer : ℕ → Bool) (facts : List Fact) : Type 0 where
+  pub moved : (l : Loan) (h : ℕ) (n m : Name) → Has facts (Moved n) → Has facts (Lent l h m) → overlaps n m ≡ true → ⊥
+  pub lent : (b h : ℕ) (n m : Name) → Has facts (Lent Borrowed b n) → Has facts (Lent Borrowed h m) → (b ≡ h → ⊥) → overlaps n m ≡ true → ⊥
+  pub seen : (b h : ℕ) (n m : Name) → Has facts (Lent Borrowed b n) → Has facts (Lent Observed h m) → overlaps n m ≡ true → ⊥
+  pub owned : (n : Name) → Has facts (Moved n) → observer n.root ≡ false
+
+-- ---- what holds of a view
+
+-- A borrower holds a loan of its own. An observer that observes what another one sees goes by a
+-- loan of that one.
+abbrev pub HasLoan : Bool → ℕ → List Fact → Name → Type 0
+HasLoan true x facts n = (h : ℕ) × Has facts (Lent Observed h n)
+HasLoan false x facts n = Has facts (Lent Borrowed x n)
+
+-- A view with a value and its way.
+pub record IsView (home : ℕ → ℕ) (observer : ℕ → Bool) (v : Views) (s : View) (facts : List Fact) (x : ℕ) (w : Way) : Type 0 where
+  pub named : Named home (v.up x)
+  pub leads : expand v (v.up x) ≡ w
+  pub begins : Under (v.loan x) (v.up x)
+  pub deep : IsObject (v.up x) → ⊥
+  pub plain : observer (number_of (v.up x)) ≡ false
+  pub older : observer x ≡ false → number_of (v.up x) < x
+  pub lent : HasLoan (observer x) x facts (name_of (v.loan x))
+  pub reaches : Reaches s w (OfCell (v.cell x))
+
+abbrev pub AreViews : (ℕ → ℕ) → (ℕ → Bool) → Views → View → List Fact → Type 0
+AreViews home observer v s facts = (x : ℕ) (w : Way) → v.way x ≡ Some w → IsView home observer v s facts x w
+
+-- The state is well owned, what ways find gone is known as moved, and each view with a value has
+-- one way of owners to the cell that it holds.
+pub record Viewed (home : ℕ → ℕ) (observer : ℕ → Bool) (other : Way → Type 0) (v : Views) (s : View) (facts : List Fact) : Type 0 where
+  pub owned : Owned s
+  pub covered : Covered s
+  pub known : Known s (ExcusedBy home v other facts)
+  pub clear : AreClear observer facts
+  pub views : AreViews home observer v s facts
+
+-- ---- a view gets a value
+
+-- Another way, or none, for one view.
+pub record Becomes (v t : Views) (b : ℕ) (way : Option Way) (loan up : Way) (cell : ℕ) : Type 0 where
+  pub way_is : t.way b ≡ way
+  pub loan_is : t.loan b ≡ loan
+  pub up_is : t.up b ≡ up
+  pub cell_is : t.cell b ≡ cell
+  pub ways : (y : ℕ) → (y ≡ b → ⊥) → t.way y ≡ v.way y
+  pub loans : (y : ℕ) → (y ≡ b → ⊥) → t.loan y ≡ v.loan y
+  pub ups : (y : ℕ) → (y ≡ b → ⊥) → t.up y ≡ v.up y
+  pub cells : (y : ℕ) → (y ≡ b → ⊥) → t.cell y ≡ v.cell y
+
+abbrev pub with_view : Views → ℕ → Option Way → Way → Way → ℕ → Views
+with_view v b way loan up cell = record {
+  way = λ y. if y == b then way else v.way y;
+  loan = λ y. if y == b then loan else v.loan y;
+  up = λ y. if y == b then up else v.up y;
+  cell = λ y. if y == b then cell else v.cell y;
+}
+
+-- No name of a moved place is rooted in an object, and no other view was taken from it.
+pub record Unused (v : Views) (facts : List Fact) (b : ℕ) : Type 0 where
+  pub unmoved : (n : Name) → Has facts (Moved n) → n.root ≡ b → ⊥
+  pub untaken : (x : ℕ) (w : Way) → v.way x ≡ Some w → (x ≡ b → ⊥) → number_of (v.up x) ≡ b → ⊥

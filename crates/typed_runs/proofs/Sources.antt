@@ -1,0 +1,98 @@
+-- Expressions and sources at their places, and what stands within them.
+use Rattle.std.proofs.Common.{◌≡◌, refl, subst, inl, ℕ, Bool, true, false, List, [], ◌++◌, if◌then◌else◌}
+use Rattle.resolved_tree.specs.Trees.{Tree, Null, Named, position}
+use Rattle.type_definitions.specs.declared.judgement.Fault.{Fault}
+use Rattle.type_definitions.specs.declared.judgement.Where.{Where}
+use Rattle.type_definitions.specs.declared.judgement.Where.TheVariants as stands
+use Rattle.type_definitions.specs.Types.{Table, full, is_scalar}
+use Rattle.type_definitions.specs.Entries.{integer}
+use Rattle.type_definitions.specs.Faults.{demand, K6}
+use Rattle.type_definitions.specs.Names.{Context, reading_of}
+use Rattle.type_definitions.specs.Expressions.{around, faults, inside, is_anonymous}
+use Rattle.type_definitions.specs.Statements.{source_name, source_fits, is_name, return_source, formal_source, source_faults}
+use Rattle.typed_tree.specs.declared.object.Object.{Object}
+use Rattle.typed_tree.specs.Expressions.{Site, typed_expression}
+use Rattle.flow_paths.specs.Objects.{Typing, Signature}
+use Rattle.typed_laws.specs.Fine.{Has, Laws, IsMeant}
+use Rattle.typed_laws.proofs.Agreeing.{nil_left, nil_right}
+use Rattle.typed_points.proofs.Flags.{flagged, at_flags, typed_same, meant_same}
+use Rattle.typed_points.proofs.Values.{has_at, unwanted, scalar_own_type}
+use Rattle.typed_steps.specs.Steps.{Taken}
+use Rattle.typed_runs.specs.Code.{Within}
+use Rattle.typed_runs.specs.Formals.{AreProfiled}
+use Rattle.typed_runs.proofs.Views.{source_taken, return_taken, formal_taken}
+use Rattle.typed_runs.proofs.Within.{within}
+
+-- A source whose sentences are those of a borrower or an observer.
+source_inside : (c : Context) (want : ℕ) (e : Tree) → source_faults c want e ≡ [] → inside c true want e ≡ []
+unfolding inside
+source_inside c want (Named p d rest) none = nil_right (source_name c want p (reading_of c d rest)) (inside c true integer (Named p d rest)) none
+source_inside c want e none = absurd (let f = nil_left (K6 (position e)) _ (nil_right (demand 1 (position e) (source_fits c want e)) _ none) in cc)
+
+return_inside : (c : Context) (want : ℕ) (e : Tree) → return_source c want e ≡ [] → inside c true want e ≡ []
+unfolding inside
+return_inside c want (Null p) none = refl
+return_inside c want e none = source_inside c want e none
+
+pub target_inside : (b : Bool) (a n k : List Fault) → (if b then a ++ n else k) ≡ [] → (b ≡ false → k ≡ [] → ⊥) → n ≡ []
+target_inside true a n k e never = nil_right a n e
+target_inside false a n k e never = absurd (never refl e)
+
+module _ (s : Site) (objects : List Object) (subs : List Signature) (made : ℕ → Type 0) (laws : Laws s.context.known made)
+    (profiled : AreProfiled s.context.known s.bodies (record { table = s.context.known.table; objects = objects; subs = subs }) made) where
+  abbrev y : Typing
+  y = record { table = s.context.known.table; objects = objects; subs = subs }
+
+  abbrev table : Table
+  table = s.context.known.table
+
+  module _ (looped starts : Bool) where
+    abbrev c : Context
+    c = flagged looped starts s.context
+
+    abbrev z : Site
+    z = at_flags looped starts s
+
+    abbrev same : (want : ℕ) (e : Tree) → typed_expression z want e ≡ typed_expression s want e
+    same want e = typed_same looped starts s want e
+
+    pub inner : (e : Tree) (loose : Bool) (want : ℕ) → IsMeant s y e → made want → inside c loose want e ≡ [] → Within y (typed_expression s want e)
+    inner e loose want meant m none =
+        subst (Within y) (same want e) (within z objects subs made laws profiled e loose want (meant_same looped starts s y e meant) m none)
+
+    pub had : (e : Tree) (at : Where) (want : ℕ) → IsMeant s y e → made want → faults c at want e ≡ [] → Has y want (typed_expression s want e) × Within y (typed_expression s want e)
+    had e at want meant m none = (has_at s objects subs made laws looped starts e at want meant m none, inner e false want meant m (nil_right (around c at want e) _ none))
+
+    -- Where a scalar type is demanded, and the text is typed for Integer.
+    pub bound_had : (e : Tree) (t : ℕ) → IsMeant s y e → made t → is_scalar (full table t) ≡ true → faults c stands.Elsewhere t e ≡ []
+        → Has y t (typed_expression s integer e) × Within y (typed_expression s integer e)
+    bound_had e t meant m scalar none =
+        let found = had e stands.Elsewhere t meant m none in
+        let one = unwanted s e t integer (λ is. scalar_own_type s y e t meant found.0 scalar is) in
+        (subst (Has y t) one found.0, subst (Within y) one found.1)
+
+    -- ---- sources
+
+    pub plain_source : (e : Tree) (want : ℕ) → IsMeant s y e → made want → faults c stands.Stored want e ≡ [] → Taken y want (typed_expression s want e) × Within y (typed_expression s want e)
+    plain_source e want meant m none = let found = had e stands.Stored want meant m none in (inl found.0, found.1)
+
+    pub viewed_source : (e : Tree) (want : ℕ) → IsMeant s y e → made want → is_anonymous (full table want) ≡ true → source_faults c want e ≡ []
+        → Taken y want (typed_expression s want e) × Within y (typed_expression s want e)
+    viewed_source e want meant m anonymous none = (
+      subst (Taken y want) (same want e) (source_taken z objects subs made laws want m anonymous e (meant_same looped starts s y e meant) none),
+      inner e true want meant m (source_inside c want e none),
+    )
+
+    pub returned_source : (e : Tree) (want : ℕ) → IsMeant s y e → made want → is_anonymous (full table want) ≡ true → return_source c want e ≡ []
+        → Taken y want (typed_expression s want e) × Within y (typed_expression s want e)
+    returned_source e want meant m anonymous none = (
+      subst (Taken y want) (same want e) (return_taken z objects subs made laws want m anonymous e (meant_same looped starts s y e meant) none),
+      inner e true want meant m (return_inside c want e none),
+    )
+
+    pub formal_given : (e : Tree) (want : ℕ) → IsMeant s y e → made want → is_anonymous (full table want) ≡ true → formal_source c want e ≡ []
+        → Taken y want (typed_expression s want e) × Within y (typed_expression s want e)
+    formal_given e want meant m anonymous none = (
+      subst (Taken y want) (same want e) (formal_taken z objects subs made laws want m anonymous e (meant_same looped starts s y e meant) none),
+      inner e (is_name e) want meant m (nil_right (demand 1 (position e) (source_fits c want e)) _ none),
+    )

@@ -1,0 +1,71 @@
+-- Typed code whose steps have expressions of the types of their places, and what stands at points of
+-- its own before a step: calls, and the operands of short circuits.
+use Rattle.std.specs.Prelude.{ℕ, Option, None}
+use Rattle.type_definitions.specs.Entries.{boolean}
+use Rattle.typed_tree.specs.Trees.{TypedTree, Name, Component, Designated, Element, Image, Parens, Unary, Binary, Short, IsNull, Aggregate, Alike, New, TypedCode, Declare, Assign, Output, Input, Release, If, Branch, Case, When, Loop, While, For, Exit, Return, Block, More}
+use Rattle.typed_tree.specs.Trees as typed
+use Rattle.flow_paths.specs.Instructions.{Instruction}
+use Rattle.flow_paths.specs.Instructions as instruction
+use Rattle.flow_paths.specs.Objects.{Typing}
+use Rattle.flow_paths.specs.Layout.{choices_of}
+use Rattle.typed_laws.specs.Fine.{Has}
+use Rattle.typed_steps.specs.Steps.{IsCall, IsTypedStep}
+
+-- The calls and the operands of short circuits within an expression.
+unfoldable pub Within : Typing → TypedTree → Type 0
+Within s (typed.Call p sub actuals) = IsCall s sub actuals × Within s actuals
+Within s (Short op p a q b) = Has s boolean a × Has s boolean b × Within s a × Within s b
+Within s (Name p x steps t) = Within s steps
+Within s (Component i rest) = Within s rest
+Within s (Designated rest) = Within s rest
+Within s (Element index low high rest) = Within s index × Within s rest
+Within s (Image t e) = Within s e
+Within s (Parens e) = Within s e
+Within s (Unary op e) = Within s e
+Within s (Binary op a b) = Within s a × Within s b
+Within s (IsNull equal e) = Within s e
+Within s (Aggregate t parts) = Within s parts
+Within s (Alike t e) = Within s e
+Within s (New t v) = Within s v
+Within s (More e rest) = Within s e × Within s rest
+Within s e = Unit {0}
+
+-- Those within the expressions of a step.
+abbrev pub WithinStep : Typing → Instruction → Type 0
+WithinStep s (instruction.Declare x v) = Within s v
+WithinStep s (instruction.Assign target e) = Within s e × Within s target
+WithinStep s (instruction.Call sub actuals r) = Within s actuals
+WithinStep s (instruction.Output text line) = Within s text
+WithinStep s (instruction.Input target) = Within s target
+WithinStep s (instruction.Release e) = Within s e
+WithinStep s (instruction.Test e) = Within s e
+WithinStep s (instruction.Choose e choices) = Within s e
+WithinStep s (instruction.Start x reversed low high) = Within s low × Within s high
+WithinStep s (instruction.LeaveLoop e) = Within s e
+WithinStep s (instruction.Hold v) = Within s v
+WithinStep s _ = Unit {0}
+
+abbrev pub IsTypedUse : Typing → Option ℕ → Instruction → Type 0
+IsTypedUse s result i = IsTypedStep s result i × WithinStep s i
+
+-- The statements of a subprogram with this result.
+unfoldable pub IsTypedCode : Typing → Option ℕ → TypedCode → Type 0
+IsTypedCode s result (Declare p x v) = IsTypedUse s result (instruction.Declare x v)
+IsTypedCode s result (Assign p target e) = IsTypedUse s result (instruction.Assign target e)
+IsTypedCode s result (typed.Call p sub actuals) = IsTypedUse s result (instruction.Call sub actuals None)
+IsTypedCode s result (Output p text line) = IsTypedUse s result (instruction.Output text line)
+IsTypedCode s result (Input p target) = IsTypedUse s result (instruction.Input target)
+IsTypedCode s result (Release p e) = IsTypedUse s result (instruction.Release e)
+IsTypedCode s result (If branches otherwise) = IsTypedCode s result branches × IsTypedCode s result otherwise
+IsTypedCode s result (Branch p e stmts) = IsTypedUse s result (instruction.Test e) × IsTypedCode s result stmts
+IsTypedCode s result (Case p e whens) = IsTypedUse s result (instruction.Choose e (choices_of whens)) × IsTypedCode s result whens
+IsTypedCode s result (When choices stmts) = IsTypedCode s result stmts
+IsTypedCode s result (Loop stmts) = IsTypedCode s result stmts
+IsTypedCode s result (While p e stmts) = IsTypedUse s result (instruction.Test e) × IsTypedCode s result stmts
+IsTypedCode s result (For p x reversed low high stmts) =
+    IsTypedUse s result (instruction.Start x reversed low high) × IsTypedStep s result (instruction.Next x reversed low high) × IsTypedCode s result stmts
+IsTypedCode s result (Exit p e) = IsTypedUse s result (instruction.LeaveLoop e)
+IsTypedCode s result (Return p v) = IsTypedUse s result (instruction.Hold v)
+IsTypedCode s result (Block n stmts end) = IsTypedCode s result stmts
+IsTypedCode s result (More a rest) = IsTypedCode s result a × IsTypedCode s result rest
+IsTypedCode s result code = Unit {0}

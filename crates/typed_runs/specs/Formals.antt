@@ -1,0 +1,33 @@
+-- The formals of subprograms, by their numbers and by their profiles.
+use Rattle.std.specs.Prelude.{◌≡◌, ◌<◌, ◌+◌, ℕ, true, List, [], ◌∷◌, length, get_or, nat_eq}
+use Rattle.std.specs.List.{position_or_len}
+use Rattle.type_definitions.specs.declared.table.Entry.TheVariants as entry
+use Rattle.type_definitions.specs.declared.table.FormalInfo.{FormalInfo}
+use Rattle.type_definitions.specs.declared.table.Known.{Known}
+use Rattle.type_definitions.specs.declared.table.Profile.{Profile}
+use Rattle.type_definitions.specs.Entries.{entry_of, same_word}
+use Rattle.type_definitions.specs.Expressions.{by_name, no_formal, profile_of}
+use Rattle.flow_paths.specs.Objects.{Typing, object_at, sub_at}
+use Rattle.typed_steps.specs.Steps.{GoesThrough}
+
+-- Objects have the types and the modes of these formals.
+abbrev pub AreFormals : Typing → List ℕ → List FormalInfo → Type 0
+AreFormals y [] [] = Unit {0}
+AreFormals y (x ∷ xs) (f ∷ fs) = ((object_at y x).of ≡ f.of) × ((object_at y x).mode ≡ f.mode) × AreFormals y xs fs
+AreFormals y xs fs = ⊥
+
+abbrev pub formals_of : Known → ℕ → List FormalInfo
+formals_of known d = (profile_of (entry_of known d)).formals
+
+-- What is asked of a subprogram that is called. `made` says of which numbers stand for types.
+pub record IsProfiled (known : Known) (bodies : List ℕ) (y : Typing) (made : ℕ → Type 0) (d : ℕ) : Type 0 where
+  pub formals : AreFormals y (sub_at y (position_or_len (nat_eq d) bodies + 1)).formals (formals_of known d)
+  pub types : (i : ℕ) → made (get_or (formals_of known d) i no_formal).of
+  -- no two formals have one name, in any case of letters
+  pub names : (k : ℕ) (v : List ℕ) → k < length (formals_of known d) → same_word (get_or (formals_of known d) k no_formal).name v ≡ true
+      → by_name (λ (f : FormalInfo). f.name) no_formal v (formals_of known d) ≡ get_or (formals_of known d) k no_formal
+  pub through : GoesThrough y (sub_at y (position_or_len (nat_eq d) bodies + 1))
+
+-- So it is of all subprograms.
+abbrev pub AreProfiled : Known → List ℕ → Typing → (ℕ → Type 0) → Type 0
+AreProfiled known bodies y made = (d : ℕ) (p : Profile) → entry_of known d ≡ entry.Subprogram p → IsProfiled known bodies y made d

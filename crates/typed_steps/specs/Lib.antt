@@ -1,0 +1,2 @@
+-- what typing says of a step
+pub mod Steps

@@ -1,0 +1,7 @@
+pub mod Names
+pub mod Stays
+pub mod Moments
+pub mod Evaluated
+pub mod Stored
+pub mod Viewing
+pub mod Sources

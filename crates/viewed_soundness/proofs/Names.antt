@@ -1,0 +1,367 @@
+-- Where a name leads that may be rooted in a borrower or observer, and that it touches no freed
+-- cell.
+use Rattle.std.proofs.Common.{◌≡◌, refl, sym, ap, ◌∙◌, subst, ◌⊎◌, inl, inr, ℕ, ◌<◌, suc, Bool, true, false, not, ◌&&◌, ◌||◌, List, [], ◌∷◌, map, take, drop, length, get_or, arith, Option, Some, None, if◌then◌else◌}
+use Rattle.place_names.specs.declared.fact.Fact.{Fact}
+use Rattle.type_definitions.specs.declared.table.Shape.{Shape}
+use Rattle.type_definitions.specs.declared.table.Shape.TheVariants as shape
+use Rattle.type_definitions.specs.Types.{Table, shape_of, components_of, fields, words, words_of, full, view_of as view_of_shape}
+use Rattle.flow_paths.specs.Objects.{Typing, object_at, designated, designated_of, is_anonymous, is_borrowing, is_observing, is_observer, is_variable, view_of}
+use Rattle.machine.specs.Words.{component_type, element_type, element_count, count_of}
+use Rattle.machine.specs.Words as machine
+use Rattle.machine.specs.Memory.{Slot, Memory, Place, cell, no_slot, variable_slots, words_of as place_words}
+use Rattle.machine.specs.Evaluate.{Here, Now, Evaluated, Done, Raises, Traps, followed_by, cell_place, designated_place, walked, variable_place, Touched}
+use Rattle.machine.specs.Evaluate as run
+use Rattle.machine.specs.States.{Waiting, Leak}
+use Rattle.owned_ways.specs.Ways.{Component, Element, Root, OfVariable, Loc, OfRoot, OfCell, Way, Object, Lost, Into, All, View, Reaches, IsRooted, Past, Owned, Named, number_of}
+use Rattle.part_offsets.specs.Parts.{IsSettled}
+use Rattle.owned_ways.proofs.Assigned.{named_rooted}
+use Rattle.soundness.specs.Seen.{content, trunk, seen, home}
+use Rattle.soundness.specs.Typed.{Kept, Spot}
+use Rattle.soundness.proofs.Walks.{way_step, way_along, Lead, Walked, walk}
+use Rattle.soundness.proofs.Scalars.{number_along, named_along}
+use Rattle.owned_loans.specs.Views.{Go, Part, Down, go, Views, way_at, expand_root, expand, IsObject, ExcusedBy, Viewed}
+use Rattle.owned_loans.proofs.Ways.{expand_go, Lifted, further, lifted_root, next_of}
+use Rattle.owned_loans.proofs.Meeting.{IsPlain, next}
+use Rattle.owned_loans.proofs.Safe.{Open, open_way, seen_way}
+use Rattle.owned_loans.proofs.Moves.{IsPlace, named_way, view_named}
+use Rattle.owned_loans.proofs.Ended.{stands_itself}
+use Rattle.viewed_soundness.specs.Holds.{IsNamed, PartsAreNamed, Holds}
+
+-- ---- steps from the variable of a view
+
+-- As `Lead`, but the first access value may be that of a view.
+abbrev pub Starts : Table → ℕ → List run.Step → ℕ → Type 0
+Starts table t [] u = t ≡ u
+Starts table t (run.ToComponent i ∷ rest) u = (i < length (fields table t)) × Lead table (component_type table t i) rest u
+Starts table t (run.ToElement n ∷ rest) u = (n < element_count table t) × Lead table (element_type table t) rest u
+Starts table t (run.ToDesignated ∷ rest) u = (d : ℕ) × (c : Bool) × (n : Bool) × (shape_of table t ≡ shape.Access d c n) × Lead table d rest u
+
+pub starts_leads : (table : Table) (t u : ℕ) (way : List run.Step) → IsNamed table t → Starts table t way u → Lead table t way u
+starts_leads table t u [] named s = s
+starts_leads table t u (run.ToComponent i ∷ rest) named s = s
+starts_leads table t u (run.ToElement n ∷ rest) named s = s
+starts_leads table t u (run.ToDesignated ∷ rest) named (d, c, n, is, lead) = (d, c, is ∙ ap (λ z. shape.Access d c z) (named d c n is), lead)
+
+-- ---- names along steps
+
+abbrev go_of : run.Step → Go
+go_of (run.ToComponent i) = Part (Component i)
+go_of (run.ToElement n) = Part (Element n)
+go_of run.ToDesignated = Down
+
+step_go : (step : run.Step) (w : Way) → way_step step w ≡ go (go_of step) w
+step_go (run.ToComponent i) w = refl
+step_go (run.ToElement n) w = refl
+step_go run.ToDesignated w = refl
+
+not_object : (step : run.Step) (w : Way) → IsObject (way_step step w) → ⊥
+not_object (run.ToComponent i) w d = d
+not_object (run.ToElement n) w d = d
+not_object run.ToDesignated w d = d
+
+pub expand_steps : (v : Views) (way : List run.Step) (w : Way) → (IsObject w → ⊥) → expand v (way_along way w) ≡ way_along way (expand v w)
+expand_steps v [] w d = refl
+expand_steps v (step ∷ rest) w d =
+    expand_steps v rest (way_step step w) (not_object step w)
+    ∙ ap (way_along rest) (ap (expand v) (step_go step w) ∙ expand_go v (go_of step) w d ∙ sym (step_go step (expand v w)))
+
+lifted_step : (v : Views) (step : run.Step) (w : Way) → Lifted v w → Lifted v (way_step step w)
+lifted_step v (run.ToComponent i) w l = further v (Part (Component i)) w l
+lifted_step v (run.ToElement n) w l = further v (Part (Element n)) w l
+lifted_step v run.ToDesignated w l = further v Down w l
+
+lifted_along : (v : Views) (way : List run.Step) (w : Way) → Lifted v w → Lifted v (way_along way w)
+lifted_along v [] w l = l
+lifted_along v (step ∷ rest) w l = lifted_along v rest (way_step step w) (lifted_step v step w l)
+
+-- the cell that a way reaches is there
+pub way_live : (s : View) (w : Way) (n : ℕ) → Owned s → IsRooted w → Reaches s w (OfCell n) → s.freed n ≡ false
+way_live s (Object r) n owned rooted e = cc
+way_live s (Lost k) n owned rooted r = absurd rooted
+way_live s (Into w i) n owned rooted (m, r, e) = cc
+way_live s (All w) n owned rooted (m, k, r, held, e) =
+    let same : n ≡ k = cell_is n k e in ap s.freed same ∙ owned.live m k held
+  where
+    cell_is : (n k : ℕ) → OfCell n ≡ OfCell k → n ≡ k
+    cell_is n k e = cc
+
+-- ---- types of views
+
+true_false : (b : Bool) → b ≡ true → b ≡ false → ⊥
+true_false b e f = cc
+
+named_of : (c n : Bool) → (not n && not c) || (not n && c) ≡ false → n ≡ true
+named_of c true e = refl
+named_of true false e = cc
+named_of false false e = cc
+
+pub plain_named : (table : Table) (t : ℕ) → is_anonymous (full table t) ≡ false → IsNamed table t
+plain_named table t plain d c n is = named_of c n (sym (ap (λ z. is_anonymous (view_of_shape z)) is) ∙ plain)
+
+pub view_access : (sh : Shape) → is_anonymous (view_of_shape sh) ≡ true → (components_of sh ≡ []) × (count_of sh ≡ 0)
+view_access (shape.Whole a b) e = (refl, refl)
+view_access (shape.Listed l a b) e = (refl, refl)
+view_access (shape.Access d c n) e = (refl, refl)
+view_access (shape.Fields cs) e = cc
+view_access (shape.Elements a b el) e = cc
+view_access (shape.Same of) e = cc
+
+view_unnamed : (sh : Shape) → is_anonymous (view_of_shape sh) ≡ true → ((d : ℕ) (c n : Bool) → sh ≡ shape.Access d c n → n ≡ true) → ⊥
+view_unnamed (shape.Access d c n) e named = let is = named d c n refl in clash c n e is
+  where
+    clash : (c n : Bool) → (not n && not c) || (not n && c) ≡ true → n ≡ true → ⊥
+    clash c true e is = cc
+    clash c false e is = cc
+view_unnamed (shape.Whole a b) e named = cc
+view_unnamed (shape.Listed l a b) e named = cc
+view_unnamed (shape.Fields cs) e named = cc
+view_unnamed (shape.Elements a b el) e named = cc
+view_unnamed (shape.Same of) e named = cc
+
+-- the type of a view is anonymous
+pub not_view : (table : Table) (t : ℕ) → is_anonymous (full table t) ≡ true → IsNamed table t → ⊥
+not_view table t view named = view_unnamed (shape_of table t) view named
+
+pub not_object_along : (rest : List run.Step) (step : run.Step) (w : Way) → IsObject (way_along (step ∷ rest) w) → ⊥
+not_object_along [] step w d = not_object step w d
+not_object_along (next ∷ rest) step w d = not_object_along rest next (way_step step w) d
+
+-- a name of a named type isn't that of a view
+pub is_place : (s : Typing) (v : Views) (f x t : ℕ) (way : List run.Step) → Starts s.table (object_at s x).of way t → IsNamed s.table t
+    → ((y : ℕ) (w : Way) → v.way y ≡ Some w → is_anonymous (view_of s y) ≡ true) → IsPlace v (way_along way (Object (OfVariable f x)))
+is_place s v f x t [] starts named only r e = ap (way_at v) (sym (root_is (OfVariable f x) r e)) ∙ no_way (v.way x) refl
+  where
+    root_is : (a b : Root) → Object a ≡ Object b → a ≡ b
+    root_is a b e = cc
+
+    no_way : (o : Option Way) → v.way x ≡ o → v.way x ≡ None
+    no_way None e = e
+    no_way (Some w) e = absurd (not_view s.table (object_at s x).of (only x w e) (subst (IsNamed s.table) (sym starts) named))
+is_place s v f x t (step ∷ rest) starts named only r e =
+    absurd (not_object_along rest step (Object (OfVariable f x)) (subst IsObject (sym e) tt))
+
+-- only a view itself has the type of a view
+pub lead_named : (table : Table) → PartsAreNamed table → (t u : ℕ) (way : List run.Step) → IsNamed table t → Lead table t way u → IsNamed table u
+lead_named table parts t u [] named e = subst (IsNamed table) e named
+lead_named table parts t u (run.ToComponent i ∷ rest) named (less, lead) = lead_named table parts (component_type table t i) u rest (parts.component t i) lead
+lead_named table parts t u (run.ToElement n ∷ rest) named (less, lead) = lead_named table parts (element_type table t) u rest (parts.element t) lead
+lead_named table parts t u (run.ToDesignated ∷ rest) named (d, c, is, lead) = lead_named table parts d u rest (parts.designated t d c true is) lead
+
+pub starts_named : (table : Table) → PartsAreNamed table → (t u : ℕ) (step : run.Step) (rest : List run.Step) → Starts table t (step ∷ rest) u → IsNamed table u
+starts_named table parts t u (run.ToComponent i) rest (less, lead) = lead_named table parts (component_type table t i) u rest (parts.component t i) lead
+starts_named table parts t u (run.ToElement n) rest (less, lead) = lead_named table parts (element_type table t) u rest (parts.element t) lead
+starts_named table parts t u run.ToDesignated rest (d, c, n, is, lead) = lead_named table parts d u rest (parts.designated t d c n is) lead
+
+no_and : (b c : Bool) → c ≡ false → b && c ≡ false
+no_and true c e = e
+no_and false c e = refl
+
+neither : (a b : Bool) → a || b ≡ false → b ≡ false
+neither true b e = cc
+neither false b e = e
+
+pub plain_observer : (s : Typing) (x : ℕ) → is_anonymous (view_of s x) ≡ false → is_observer s x ≡ false
+plain_observer s x plain = no_and (is_variable (object_at s x).kind) (is_observing (view_of s x)) (neither _ (is_observing (view_of s x)) plain)
+
+only_one : (xs : List Slot) → length xs ≡ 1 → take 1 (drop 0 xs) ≡ get_or xs 0 no_slot ∷ []
+only_one [] e = absurd (omega (arith, e))
+only_one (a ∷ []) e = refl
+only_one (a ∷ b ∷ xs) e = absurd (omega (arith, e))
+
+-- ---- names
+
+module _ (h : Here) (settled : IsSettled h.typing.table) (hands : List Waiting) (leaks : List Leak) (m : Memory) (waits : List (List machine.Word))
+    (other : Way → Type 0) (facts : List Fact) (v : Views) (kept : Kept h.typing m hands)
+    (viewed : Viewed (home h.typing h.frame) (is_observer h.typing) other v (seen h.typing m hands leaks) facts) (holds : Holds h.typing h.frame v m)
+    (alone : (w : Way) → other w → ⊥)
+    (live : (w : Way) (l : Loc) → IsRooted w → Reaches (seen h.typing m hands leaks) w l → (content h.typing m hands (trunk l)).owns ≡ true) where
+  abbrev s : Typing
+  s = h.typing
+
+  abbrev view_here : View
+  view_here = seen h.typing m hands leaks
+
+  abbrev pub variable : ℕ → Way
+  variable x = Object (OfVariable (home h.typing h.frame x) x)
+
+  abbrev here_now : Now
+  here_now = record { memory = m; waits = waits }
+
+  abbrev excused : Way → Type 0
+  excused = ExcusedBy (home h.typing h.frame) v other facts
+
+  -- The name is open, unless it is looked at through an observer.
+  abbrev pub Opens : ℕ → Way → Type 0
+  Opens x u = is_observer h.typing x ≡ false → Open facts u
+
+  -- a name that isn't rooted in a view
+  owner_walked : (x t : ℕ) (way : List run.Step) → is_anonymous (view_of s x) ≡ false → Starts s.table (object_at s x).of way t
+      → Opens x (way_along way (variable x))
+      → Walked s settled hands leaks m waits (expand v (way_along way (variable x))) t (walked s way (variable_place h x) here_now)
+  owner_walked x t way plain starts opens =
+      let u : Way = way_along way (variable x) in
+      let named : Named (home s h.frame) u = named_along (home s h.frame) way (variable x) refl in
+      let root : number_of u ≡ x = number_along way (variable x) in
+      let itself = stands_itself (home s h.frame) (is_observer s) other v u named (ap v.way root ∙ no_way (v.way x) refl) in
+      let seen_not = plain_observer s x plain in
+      let name : IsPlain (home s h.frame) (is_observer s) v view_here facts viewed.views u = (named, ap (is_observer s) root ∙ seen_not) in
+      subst (λ z. Walked s settled hands leaks m waits z t (walked s way (variable_place h x) here_now)) (sym itself)
+      (walk s settled hands leaks m waits excused kept viewed.owned viewed.known live way (variable_place h x)
+      (OfRoot (OfVariable (home s h.frame x) x)) (variable x) t
+      (record { base = refl; made = tt; at = refl; there = refl; of = inl refl }) tt refl
+      (starts_leads s.table (object_at s x).of t way (plain_named s.table (object_at s x).of plain) starts)
+      (λ w past moved. elim moved [
+        | inr o ↦ alone w o
+        | inl by ↦ open_way (home s h.frame) (is_observer s) v view_here facts viewed.views viewed.clear u w name (opens seen_not)
+            (subst (Past w) (sym itself) past) by
+      ]))
+    where
+      no_way : (o : Option Way) → v.way x ≡ o → v.way x ≡ None
+      no_way None e = e
+      no_way (Some w) e = absurd (true_false (is_anonymous (view_of s x)) (holds.only x w e) plain)
+
+  -- nothing was moved on the way through a view
+  view_clean : (x : ℕ) (rest : List run.Step) (w : Way) → v.way x ≡ Some w → Opens x (way_along rest (All (variable x)))
+      → (z : Way) → Past z (way_along rest w) → excused z → ⊥
+  view_clean x rest w has opens z past (inr o) = alone z o
+  view_clean x rest w has opens z past (inl moved) =
+      let u : Way = way_along rest (All (variable x)) in
+      let named : Named (home s h.frame) u = named_along (home s h.frame) rest (All (variable x)) refl in
+      let root : number_of u ≡ x = number_along rest (All (variable x)) in
+      let same : expand v u ≡ way_along rest w =
+      expand_steps v rest (All (variable x)) (λ d. d) ∙ ap (way_along rest) (ap (λ o. expand_root o (OfVariable (home s h.frame x) x)) has) in
+      let goes : Past z (expand v u) = subst (Past z) (sym same) past in
+      by_kind (is_observer s x) refl named root goes
+    where
+      by_kind : (b : Bool) → is_observer s x ≡ b → Named (home s h.frame) (way_along rest (All (variable x)))
+          → number_of (way_along rest (All (variable x))) ≡ x → Past z (expand v (way_along rest (All (variable x)))) → ⊥
+      by_kind false e named root goes =
+          open_way (home s h.frame) (is_observer s) v view_here facts viewed.views viewed.clear (way_along rest (All (variable x))) z
+          (named, ap (is_observer s) root ∙ e) (opens e) goes moved
+      by_kind true e named root goes =
+          let l : Lifted v (way_along rest (All (variable x))) = lifted_along v rest (All (variable x))
+          (record { frame = home s h.frame x; object = x; rest = []; way = w; is = refl; has = has }) in
+          seen_way (home s h.frame) (is_observer s) v view_here facts viewed.views viewed.clear (way_along rest (All (variable x))) z l named
+          (ap (is_observer s) (sym (lifted_root v (way_along rest (All (variable x))) l) ∙ root) ∙ e) goes moved
+
+  abbrev slot_of : ℕ → Slot
+  slot_of x = get_or (variable_slots s (home s h.frame x) x m.variables) 0 no_slot
+
+  -- the variable of a view has one word
+  pub one_slot : (x d : ℕ) (c n : Bool) → shape_of s.table (object_at s x).of ≡ shape.Access d c n → place_words s m (variable_place h x) ≡ (slot_of x).word ∷ []
+  one_slot x d c n is =
+      let one : words s.table (object_at s x).of ≡ 1 = settled.word_law (object_at s x).of ∙ ap (words_of (words s.table)) is in
+      let slots : List Slot = variable_slots s (home s h.frame x) x m.variables in
+      ap (λ k. map (λ (z : Slot). z.word) (take k (drop 0 slots))) one
+      ∙ ap (map (λ (z : Slot). z.word)) (only_one slots (kept.variables (home s h.frame x) x ∙ one))
+
+  -- the first step goes to the cell that the view designates
+  met : (x t : ℕ) (rest : List run.Step) (d : ℕ) (c n : Bool) → is_anonymous (view_of s x) ≡ true → shape_of s.table (object_at s x).of ≡ shape.Access d c n
+      → Lead s.table d rest t → Opens x (way_along rest (All (variable x))) → (z : machine.Word) → (slot_of x).word ≡ z
+      → Walked s settled hands leaks m waits (expand v (way_along rest (All (variable x)))) t (followed_by (designated_place d (z ∷ []) here_now) (walked s rest))
+  met x t rest d c n view is lead opens (machine.Int k) e = refl
+  met x t rest d c n view is lead opens (machine.Enumerated k) e = refl
+  met x t rest d c n view is lead opens machine.Null e = refl
+  met x t rest d c n view is lead opens (machine.Cell k) e =
+      let own = holds.held x k view e in
+      let w : Way = own.0 in
+      let known_view = viewed.views x w own.1 in
+      let rooted : IsRooted w = named_rooted (home s h.frame) w (view_named (home s h.frame) (is_observer s) other v view_here facts viewed.views x w own.1) in
+      let reaches : Reaches view_here w (OfCell k) = subst (λ z. Reaches view_here w (OfCell z)) own.2 known_view.reaches in
+      let alive : (cell m k).freed ≡ false = way_live view_here w k viewed.owned rooted reaches in
+      let points = kept.points (OfRoot (OfVariable (home s h.frame x) x)) [] d c n k refl is e in
+      let spot : Spot s m hands (cell_place d k) (OfCell k) = record { base = refl; made = (points.0, points.1); at = refl; there = refl; of = points.2 } in
+      let same : expand v (way_along rest (All (variable x))) ≡ way_along rest w =
+      expand_steps v rest (All (variable x)) (λ z. z) ∙ ap (way_along rest) (ap (λ o. expand_root o (OfVariable (home s h.frame x) x)) own.1) in
+      subst (λ z. Walked s settled hands leaks m waits z t (followed_by (designated_place d (machine.Cell k ∷ []) here_now) (walked s rest))) (sym same)
+      (subst (λ b. Walked s settled hands leaks m waits (way_along rest w) t (followed_by (if b then Traps Touched here_now else Done (cell_place d k) here_now) (walked s rest)))
+      (sym alive)
+      (walk s settled hands leaks m waits excused kept viewed.owned viewed.known live rest (cell_place d k) (OfCell k) w t spot rooted reaches lead
+      (view_clean x rest w own.1 opens)))
+
+  view_walked : (x t : ℕ) (rest : List run.Step) (d : ℕ) (c n : Bool) → is_anonymous (view_of s x) ≡ true → shape_of s.table (object_at s x).of ≡ shape.Access d c n
+      → Lead s.table d rest t → Opens x (way_along rest (All (variable x)))
+      → Walked s settled hands leaks m waits (expand v (way_along rest (All (variable x)))) t (walked s (run.ToDesignated ∷ rest) (variable_place h x) here_now)
+  view_walked x t rest d c n view is lead opens =
+      let type : designated s.table (object_at s x).of ≡ d = ap (λ z. designated_of (object_at s x).of (view_of_shape z)) is in
+      subst (λ z. Walked s settled hands leaks m waits (expand v (way_along rest (All (variable x)))) t
+      (followed_by (designated_place (designated s.table (object_at s x).of) z here_now) (walked s rest))) (sym (one_slot x d c n is))
+      (subst (λ z. Walked s settled hands leaks m waits (expand v (way_along rest (All (variable x)))) t
+      (followed_by (designated_place z ((slot_of x).word ∷ []) here_now) (walked s rest))) (sym type)
+      (met x t rest d c n view is lead opens (slot_of x).word refl))
+
+  pub name_walked : (x t : ℕ) (way : List run.Step) → Starts s.table (object_at s x).of way t → Opens x (way_along way (variable x))
+      → Walked s settled hands leaks m waits (expand v (way_along way (variable x))) t (walked s way (variable_place h x) here_now)
+  name_walked x t way starts opens = by_type (is_anonymous (view_of s x)) refl way starts opens
+    where
+      by_type : (b : Bool) → is_anonymous (view_of s x) ≡ b → (way : List run.Step) → Starts s.table (object_at s x).of way t
+          → Opens x (way_along way (variable x))
+          → Walked s settled hands leaks m waits (expand v (way_along way (variable x))) t (walked s way (variable_place h x) here_now)
+      by_type false plain way starts opens = owner_walked x t way plain starts opens
+      by_type true view [] starts opens =
+          (OfRoot (OfVariable (home s h.frame x) x), refl, record { base = refl; made = tt; at = refl; there = refl; of = inl refl }, refl, starts)
+      by_type true view (run.ToComponent i ∷ rest) (less, lead) opens =
+          let none = ap length (view_access (shape_of s.table (object_at s x).of) view).0 in absurd (omega (arith, none, less))
+      by_type true view (run.ToElement n ∷ rest) (less, lead) opens =
+          let none = (view_access (shape_of s.table (object_at s x).of) view).1 in absurd (omega (arith, none, less))
+      by_type true view (run.ToDesignated ∷ rest) (d, c, n, is, lead) opens = view_walked x t rest d c n view is lead opens
+
+  -- An exception, with the memory as it was.
+  abbrev pub IsRaised : Memory → Evaluated Place → Type 0
+  IsRaised m (Raises e n) = n.memory ≡ m
+  IsRaised m _ = ⊥
+
+  -- a name of a named type isn't rooted in an observer, or it is rooted in a view with a value, or it
+  -- raises
+  pub name_lifted : (x t : ℕ) (way : List run.Step) → IsNamed s.table t → Starts s.table (object_at s x).of way t
+      → (is_observer s x ≡ false) ⊎ ((Lifted v (way_along way (variable x)) × IsRooted (expand v (way_along way (variable x))))
+      ⊎ IsRaised m (walked s way (variable_place h x) here_now))
+  name_lifted x t way named starts = by_kind (is_observer s x) refl
+    where
+      seen_view : (a b c : Bool) → a && c ≡ true → b || c ≡ true
+      seen_view true true c e = refl
+      seen_view true false c e = e
+      seen_view false b c e = cc
+
+      lift : (rest : List run.Step) (k : ℕ) → is_anonymous (view_of s x) ≡ true → (slot_of x).word ≡ machine.Cell k
+          → Lifted v (way_along rest (All (variable x))) × IsRooted (expand v (way_along rest (All (variable x))))
+      lift rest k view e =
+          let own = holds.held x k view e in
+          let u : Way = way_along rest (All (variable x)) in
+          let l : Lifted v u = lifted_along v rest (All (variable x)) (record { frame = home s h.frame x; object = x; rest = []; way = own.0; is = refl; has = own.1 }) in
+          let on = next (home s h.frame) (is_observer s) v view_here facts viewed.views u l (named_along (home s h.frame) rest (All (variable x)) refl) in (
+            l,
+            subst IsRooted on.same
+                (named_rooted (home s h.frame) (expand v (next_of v u l))
+                (named_way (home s h.frame) (is_observer s) other v view_here facts viewed.views (suc (number_of (next_of v u l))) (next_of v u l) (omega arith) on.plain)),
+          )
+
+      by_word : (rest : List run.Step) (d : ℕ) → is_anonymous (view_of s x) ≡ true → (z : machine.Word) → (slot_of x).word ≡ z
+          → (Lifted v (way_along rest (All (variable x))) × IsRooted (expand v (way_along rest (All (variable x)))))
+          ⊎ IsRaised m (followed_by (designated_place d (z ∷ []) here_now) (walked s rest))
+      by_word rest d view (machine.Int k) e = inr refl
+      by_word rest d view (machine.Enumerated k) e = inr refl
+      by_word rest d view machine.Null e = inr refl
+      by_word rest d view (machine.Cell k) e = inl (lift rest k view e)
+
+      by_steps : (way : List run.Step) → is_anonymous (view_of s x) ≡ true → Starts s.table (object_at s x).of way t
+          → (Lifted v (way_along way (variable x)) × IsRooted (expand v (way_along way (variable x))))
+          ⊎ IsRaised m (walked s way (variable_place h x) here_now)
+      by_steps [] view starts = absurd (not_view s.table (object_at s x).of view (subst (IsNamed s.table) (sym starts) named))
+      by_steps (run.ToComponent i ∷ rest) view (less, lead) =
+          let none = ap length (view_access (shape_of s.table (object_at s x).of) view).0 in absurd (omega (arith, none, less))
+      by_steps (run.ToElement n ∷ rest) view (less, lead) =
+          let none = (view_access (shape_of s.table (object_at s x).of) view).1 in absurd (omega (arith, none, less))
+      by_steps (run.ToDesignated ∷ rest) view (d, c, n, is, lead) =
+          let type : designated s.table (object_at s x).of ≡ d = ap (λ z. designated_of (object_at s x).of (view_of_shape z)) is in
+          subst (λ z. (Lifted v (way_along rest (All (variable x))) × IsRooted (expand v (way_along rest (All (variable x)))))
+          ⊎ IsRaised m (followed_by (designated_place (designated s.table (object_at s x).of) z here_now) (walked s rest))) (sym (one_slot x d c n is))
+          (subst (λ z. (Lifted v (way_along rest (All (variable x))) × IsRooted (expand v (way_along rest (All (variable x)))))
+          ⊎ IsRaised m (followed_by (designated_place z ((slot_of x).word ∷ []) here_now) (walked s rest))) (sym type)
+          (by_word rest d view (slot_of x).word refl))
+
+      by_kind : (b : Bool) → is_observer s x ≡ b
+          → (is_observer s x ≡ false) ⊎ ((Lifted v (way_along way (variable x)) × IsRooted (expand v (way_along way (variable x))))
+          ⊎ IsRaised m (walked s way (variable_place h x) here_now))
+      by_kind false e = inl e
+      by_kind true e = inr (by_steps way (seen_view (is_variable (object_at s x).kind) (is_borrowing (view_of s x)) (is_observing (view_of s x)) e) starts)

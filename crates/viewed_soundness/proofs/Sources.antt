@@ -1,0 +1,194 @@
+-- The source of a borrow, of an observation and of a reborrow: a name that is looked at where it
+-- stands, whose word is null or the number of the cell that it designates.
+use Rattle.std.proofs.Common.{◌≡◌, refl, sym, ap, ◌∙◌, inl, inr, ℕ, suc, Bool, true, false, not, ◌&&◌, ◌||◌, List, [], ◌∷◌, map, get_or, arith}
+use Rattle.spark_base.specs.declared.position.Pos.{Pos}
+use Rattle.place_names.specs.declared.fact.Fact.{Fact}
+use Rattle.place_names.specs.Names.{Name as PlaceName}
+use Rattle.type_definitions.specs.declared.table.Shape.TheVariants as shape
+use Rattle.type_definitions.specs.Types.{shape_of, view_of as view_of_shape}
+use Rattle.typed_tree.specs.Trees.{TypedTree, Name}
+use Rattle.flow_paths.specs.Objects.{Typing, object_at, is_anonymous, is_observer, view_of}
+use Rattle.flow_paths.specs.Names.{has_call, name_of}
+use Rattle.flow_paths.specs.Acts.{acts_in}
+use Rattle.machine.specs.Words as machine
+use Rattle.machine.specs.Memory.{Slot, Memory, Place, no_slot, slots_at, variable_slots, words_of}
+use Rattle.machine.specs.Evaluate.{Here, Now, AsView, Evaluated, Done, Raises, Traps, followed_by, evaluate, steps_of, walked, variable_place, held_or_taken}
+use Rattle.machine.specs.Evaluate as run
+use Rattle.machine.specs.States.{Waiting, Leak}
+use Rattle.owned_ways.specs.Ways.{OfVariable, Loc, OfRoot, OfCell, Way, Object, Lost, Into, All, View, Reaches, IsRooted, Under, Named, Allows, AllowsAll, number_of}
+use Rattle.owned_ways.specs.Ways as ways
+use Rattle.owned_ways.proofs.Assigned.{named_rooted}
+use Rattle.owned_ways.proofs.Locations.{under_itself}
+use Rattle.part_offsets.specs.Parts.{IsSettled}
+use Rattle.soundness.specs.Seen.{content, trunk, seen, home}
+use Rattle.soundness.specs.Typed.{OwnsByShape, IsCell, Kept}
+use Rattle.typed_laws.specs.Needed.{Leads, IndexLaw}
+use Rattle.soundness.proofs.Walks.{way_along, Walked, one_slot, cell_spot}
+use Rattle.soundness.proofs.Scalars.{acts, number_along, named_along}
+use Rattle.soundness.proofs.Stays.{Quiet, quiet_then}
+use Rattle.owned_loans.specs.Views.{Views, expand, ExcusedBy, Viewed}
+use Rattle.owned_loans.proofs.Ways.{Lifted, lifted_root}
+use Rattle.owned_loans.proofs.Safe.{clean_below, seen_below}
+use Rattle.owned_loans.proofs.Allowed.{Cleared, cleared_open}
+use Rattle.owned_loans.proofs.Moves.{named_way}
+use Rattle.viewed_soundness.specs.Holds.{IsNamed, PartsAreNamed, Holds}
+use Rattle.viewed_soundness.proofs.Names.{Starts, starts_named, is_place, IsRaised, name_lifted}
+use Rattle.viewed_soundness.proofs.Names as names
+use Rattle.viewed_soundness.proofs.Stays.{Goes, steps_quiet}
+use Rattle.viewed_soundness.proofs.Viewing.{IsDesignated, owner_designates, view_designates}
+
+-- the type of a view
+anonymous_access : (c : Bool) → (not false && not c) || (not false && c) ≡ true
+anonymous_access true = refl
+anonymous_access false = refl
+
+module _ (h : Here) (settled : IsSettled h.typing.table) (hands : List Waiting) (leaks : List Leak) (m : Memory) (waits : List (List machine.Word))
+    (other : Way → Type 0) (facts : List Fact) (v : Views)
+    (kept : Kept h.typing m hands)
+    (viewed : Viewed (home h.typing h.frame) (is_observer h.typing) other v (seen h.typing m hands leaks) facts)
+    (holds : Holds h.typing h.frame v m)
+    (alone : (w : Way) → other w → ⊥)
+    (live : (w : Way) (l : Loc) → IsRooted w → Reaches (seen h.typing m hands leaks) w l → (content h.typing m hands (trunk l)).owns ≡ true)
+    (index_law : IndexLaw)
+    (own_law : OwnsByShape h.typing.table)
+    (parts_named : PartsAreNamed h.typing.table) where
+  abbrev s : Typing
+  s = h.typing
+
+  abbrev view_here : View
+  view_here = seen h.typing m hands leaks
+
+  abbrev at : Now
+  at = record { memory = m; waits = waits }
+
+  abbrev variable : ℕ → Way
+  variable x = Object (OfVariable (home h.typing h.frame x) x)
+
+  -- What the source has: null, or the number of the cell that its name designates.
+  pub record Shows (d : ℕ) (u : Way) (ws : List machine.Word) : Type 0 where
+    pub word : machine.Word
+    pub is : ws ≡ word ∷ []
+    pub designated : IsDesignated v view_here u word
+    pub typed : (k : ℕ) → word ≡ machine.Cell k → IsCell s m d k
+
+  -- Nothing of a name was moved, unless it is looked at through an observer.
+  abbrev pub Clears : ℕ → Way → Type 0
+  Clears x u = is_observer h.typing x ≡ false → Cleared facts u
+
+  -- what a name stands for wasn't moved
+  unmoved : (x : ℕ) (u : Way) → Named (home s h.frame) u → number_of u ≡ x → (is_observer s x ≡ true → Lifted v u) → Clears x u
+      → ExcusedBy (home s h.frame) v other facts (expand v u) → ⊥
+  unmoved x u named root lifted clears (inr o) = alone (expand v u) o
+  unmoved x u named root lifted clears (inl moved) = by_kind (is_observer s x) refl
+    where
+      by_kind : (b : Bool) → is_observer s x ≡ b → ⊥
+      by_kind false e =
+          clean_below (home s h.frame) (is_observer s) v view_here facts viewed.views viewed.clear u (expand v u) (named, ap (is_observer s) root ∙ e)
+          (clears e).0 (clears e).1 (under_itself (expand v u)) moved
+      by_kind true e =
+          let l = lifted e in
+          seen_below (home s h.frame) (is_observer s) v view_here facts viewed.views viewed.clear u (expand v u) l named
+          (ap (is_observer s) (sym (lifted_root v u l) ∙ root) ∙ e) (under_itself (expand v u)) moved
+
+  -- a name of a named access type
+  owner_shows : (y t d : ℕ) (c : Bool) (way : List run.Step) → Starts s.table (object_at s y).of way t → shape_of s.table t ≡ shape.Access d c true
+      → (ExcusedBy (home s h.frame) v other facts (expand v (way_along way (variable y))) → ⊥)
+      → IsRooted (expand v (way_along way (variable y)))
+      → (x : Evaluated Place) → Walked s settled hands leaks m waits (expand v (way_along way (variable y))) t x
+      → Quiet at (Shows d (way_along way (variable y))) (followed_by x (held_or_taken h AsView))
+  owner_shows y t d c way starts is clean rooted (Done k n) (l, same, spot, reaches, of) =
+      let access : shape_of s.table k.of ≡ shape.Access d c true = ap (shape_of s.table) of ∙ is in
+      let named : IsNamed s.table t = (λ e b q shape_is. named_is d e c b q (sym is ∙ shape_is)) in
+      let moved : Way → Type 0 = ExcusedBy (home s h.frame) v other facts in
+      let slots = one_slot s settled hands leaks m waits moved kept viewed.owned viewed.known live k l d c spot access in (
+        same,
+        record {
+          word = (get_or (slots_at s m k.base) k.at no_slot).word;
+          is = ap (λ (z : Now). words_of s z.memory k) same ∙ ap (map (λ (z : Slot). z.word)) slots;
+          designated = owner_designates h settled hands leaks m waits other facts v kept viewed holds live (way_along way (variable y)) k l d c spot rooted reaches
+              (is_place s v (home s h.frame y) y t way starts named holds.only) access clean;
+          typed = λ q e. (let cell = cell_spot s settled hands leaks m waits moved kept viewed.owned viewed.known live k l d c q spot access e in
+              (cell.made.0, cell.made.1, cell.of));
+        },
+      )
+    where
+      named_is : (d e : ℕ) (c b q : Bool) → shape.Access d c true ≡ shape.Access e b q → q ≡ true
+      named_is d e c b q z = cc
+  owner_shows y t d c way starts is clean rooted (Raises e n) same = same
+  owner_shows y t d c way starts is clean rooted (Traps e n) none = none
+
+  -- a view itself
+  view_shows : (y d : ℕ) (c : Bool) → shape_of s.table (object_at s y).of ≡ shape.Access d c false
+      → Quiet at (Shows d (variable y)) (followed_by (walked s [] (variable_place h y) at) (held_or_taken h AsView))
+  view_shows y d c is =
+      let view : is_anonymous (view_of s y) ≡ true = ap (λ z. is_anonymous (view_of_shape z)) is ∙ anonymous_access c in (
+        refl,
+        record {
+          word = (get_or (variable_slots s (home s h.frame y) y m.variables) 0 no_slot).word;
+          is = names.one_slot h settled hands leaks m waits other facts v kept viewed holds alone live y d c false is;
+          designated = view_designates h settled hands leaks m waits other facts v kept viewed holds live y view;
+          typed = λ k e. kept.points (OfRoot (OfVariable (home s h.frame y) y)) [] d c false k refl is e;
+        },
+      )
+
+  -- through an observer without a value nothing is found
+  by_way : (y t d : ℕ) (c n : Bool) (way : List run.Step) → Starts s.table (object_at s y).of way t → shape_of s.table t ≡ shape.Access d c n
+      → Clears y (way_along way (variable y))
+      → Walked s settled hands leaks m waits (expand v (way_along way (variable y))) t (walked s way (variable_place h y) at)
+      → Quiet at (Shows d (way_along way (variable y))) (followed_by (walked s way (variable_place h y) at) (held_or_taken h AsView))
+  by_way y t d c true way starts is clears there =
+      let u : Way = way_along way (variable y) in
+      let named : Named (home s h.frame) u = named_along (home s h.frame) way (variable y) refl in
+      let root : number_of u ≡ y = number_along way (variable y) in
+      elim (name_lifted h settled hands leaks m waits other facts v kept viewed holds alone live y t way (λ e b q shape_is. named_is d e c b q (sym is ∙ shape_is)) starts) [
+        | inl plain ↦ owner_shows y t d c way starts is
+            (λ moved. unmoved y u named root (λ e. absurd (true_false (is_observer s y) e plain)) clears moved)
+            (named_rooted (home s h.frame) (expand v u)
+            (named_way (home s h.frame) (is_observer s) other v view_here facts viewed.views (suc (number_of u)) u (omega arith) (named, ap (is_observer s) root ∙ plain)))
+            (walked s way (variable_place h y) at) there
+        | inr more ↦ elim more [
+          | inl lifted ↦ owner_shows y t d c way starts is (λ moved. unmoved y u named root (λ e. lifted.0) clears moved) lifted.1 (walked s way (variable_place h y) at) there
+          | inr raises ↦ raised (walked s way (variable_place h y) at) raises
+        ]
+      ]
+    where
+      true_false : (b : Bool) → b ≡ true → b ≡ false → ⊥
+      true_false b e f = cc
+
+      named_is : (d e : ℕ) (c b q : Bool) → shape.Access d c true ≡ shape.Access e b q → q ≡ true
+      named_is d e c b q z = cc
+
+      raised : (x : Evaluated Place) → IsRaised h settled hands leaks m waits other facts v kept viewed holds alone live m x → Quiet at (Shows d (way_along way (variable y))) (followed_by x (held_or_taken h AsView))
+      raised (Raises e n) same = same
+      raised (Done k n) none = absurd none
+      raised (Traps e n) none = absurd none
+  by_way y t d c false [] starts is clears there = view_shows y d c (ap (shape_of s.table) starts ∙ is)
+  by_way y t d c false (step ∷ rest) starts is clears there =
+      (let no : false ≡ true = starts_named s.table parts_named (object_at s y).of t step rest starts d c false is in cc)
+
+  -- the source of a view: nothing changes, and it has null, or the number of the cell that its name
+  -- designates
+  pub source_quiet : (p : Pos) (y t d : ℕ) (c n : Bool) (steps : TypedTree) → Leads s (object_at s y).of steps t → shape_of s.table t ≡ shape.Access d c n
+      → has_call steps ≡ false → AllowsAll facts (acts (acts_in s steps))
+      → ((u : Way) → ways.name_of u ≡ name_of y steps → Clears y u)
+      → Quiet at (λ ws. (u : Way) × Named (home s h.frame) u × (ways.name_of u ≡ name_of y steps) × Shows d u ws) (evaluate h AsView (Name p y steps t) at)
+  unfolding evaluate
+  source_quiet p y t d c n steps lead is calls allowed clears =
+      quiet_then at (λ way. Goes s.table (object_at s y).of t steps way)
+      (λ ws. (u : Way) × Named (home s h.frame) u × (ways.name_of u ≡ name_of y steps) × Shows d u ws) (steps_of h steps at)
+      (λ way now. followed_by (walked s way (variable_place h y) now) (held_or_taken h AsView))
+      (steps_quiet h settled hands leaks m waits other facts v kept viewed holds alone live index_law own_law parts_named (object_at s y).of t steps lead calls allowed).0
+      (λ way goes. (
+      let u : Way = way_along way (variable y) in
+      let called : ways.name_of u ≡ name_of y steps = (λ j. record { root = number_along way (variable y) j; sels = goes.sels (variable y) j }) in
+      let named : Named (home s h.frame) u = named_along (home s h.frame) way (variable y) refl in
+      with_name d u (name_of y steps) named called (followed_by (walked s way (variable_place h y) at) (held_or_taken h AsView))
+      (by_way y t d c n way goes.lead is (clears u called)
+      (names.name_walked h settled hands leaks m waits other facts v kept viewed holds alone live y t way goes.lead
+      (λ e. cleared_open facts u (clears u called e))))))
+    where
+      with_name : (d : ℕ) (u : Way) (name : PlaceName) → Named (home s h.frame) u → ways.name_of u ≡ name → (x : Evaluated (List machine.Word)) → Quiet at (Shows d u) x
+          → Quiet at (λ ws. (u : Way) × Named (home s h.frame) u × (ways.name_of u ≡ name) × Shows d u ws) x
+      with_name d u name named called (Done ws n) (same, shows) = (same, (u, named, called, shows))
+      with_name d u name named called (Raises e n) same = same
+      with_name d u name named called (Traps e n) none = none

@@ -1,0 +1,291 @@
+-- What a name has that is borrowed or observed, and that its value is stored in the variable of a
+-- view.
+use Rattle.std.proofs.Common.{◌≡◌, refl, sym, ap, ◌∙◌, subst, inl, inr, ℕ, ◌<◌, ◌==◌, eqb-true, eq-eqb, Bool, true, false, ◌&&◌, List, [], ◌∷◌, length, get_or, Option, Some, None}
+use Rattle.place_names.specs.declared.act.Act.TheVariants.{Borrow, Observe, Reborrow}
+use Rattle.place_names.specs.declared.fact.Fact.{Fact}
+use Rattle.place_names.specs.Facts.{effect}
+use Rattle.type_definitions.specs.declared.table.Shape.{Shape}
+use Rattle.type_definitions.specs.declared.table.Shape.TheVariants as shape
+use Rattle.type_definitions.specs.Types.{Table, shape_of, words, full, view_of as view_of_shape}
+use Rattle.flow_paths.specs.Objects.{Typing, object_at, is_anonymous, is_observer, view_of}
+use Rattle.machine.specs.Words.{component_type, element_type}
+use Rattle.machine.specs.Words as machine
+use Rattle.machine.specs.Memory.{Slot, Memory, Place, fresh, no_slot, slots_at, variable_slots, declared}
+use Rattle.machine.specs.Evaluate.{Here}
+use Rattle.machine.specs.States.{Waiting, Leak}
+use Rattle.owned_ways.specs.Ways.{Step, OfVariable, OfHand, Loc, OfRoot, OfCell, Inside, Way, Object, Lost, Into, All, View, Reaches, IsRooted, Named, IsSame, Allows, name_of, number_of}
+use Rattle.part_offsets.specs.Parts.{has_part, is_leaf, owns_one, type_in, offset_in, IsSettled}
+use Rattle.soundness.specs.Seen.{content, word_in, trunk, steps_in, seen, home}
+use Rattle.soundness.specs.Typed.{IsCell, Points, Kept, Spot}
+use Rattle.soundness.proofs.Walks.{held_there}
+use Rattle.soundness.proofs.Contents.{word_no}
+use Rattle.soundness.proofs.Joined.{trunk_trunk, not_inside}
+use Rattle.soundness.proofs.Memories.{put_same, put_other}
+use Rattle.soundness.proofs.Steps.{plain_end}
+use Rattle.owned_loans.specs.Views.{Down, on, Views, expand_root, expand, ExcusedBy, Viewed, Becomes, Unused}
+use Rattle.owned_loans.proofs.Ways.{Lifted}
+use Rattle.owned_loans.proofs.Taken.{borrowed, observed, observed_again, reborrowed}
+use Rattle.owned_ways.proofs.Locations.{same_loc}
+use Rattle.owned_loans.proofs.Moves.{IsPlace, same_viewed}
+use Rattle.viewed_soundness.specs.Holds.{Holds}
+use Rattle.viewed_soundness.proofs.Names.{view_access}
+
+-- ---- the way of what a name designates
+
+pub expand_down : (v : Views) (u : Way) → IsPlace v u → expand v (All u) ≡ All (expand v u)
+expand_down v (Object r) place = ap (λ o. expand_root o r) (place r refl)
+expand_down v (Lost n) place = refl
+expand_down v (Into w i) place = refl
+expand_down v (All w) place = refl
+
+-- The way that a view gets from a word, and the number of its cell.
+abbrev pub way_from : machine.Word → Way → Option Way
+way_from (machine.Cell n) w = Some w
+way_from z w = None
+
+abbrev pub number_in : machine.Word → ℕ
+number_in (machine.Cell n) = n
+number_in z = 0
+
+-- What a name with this word designates is reached.
+abbrev pub IsDesignated : Views → View → Way → machine.Word → Type 0
+IsDesignated v s u z = (n : ℕ) → z ≡ machine.Cell n → Reaches s (expand v (All u)) (OfCell n)
+
+pub designates : (v : Views) (s : View) (u : Way) (z : machine.Word) → IsDesignated v s u z
+    → (w : Way) → way_from z (expand v (All u)) ≡ Some w → (w ≡ expand v (All u)) × Reaches s w (OfCell (number_in z))
+designates v s u (machine.Cell n) is w e =
+    let same = same_some (expand v (All u)) w e in (sym same, subst (λ k. Reaches s k (OfCell n)) same (is n refl))
+  where
+    same_some : (a b : Way) → Some a ≡ Some b → a ≡ b
+    same_some a b e = cc
+designates v s u (machine.Int k) is w e = cc
+designates v s u (machine.Enumerated k) is w e = cc
+designates v s u machine.Null is w e = cc
+
+-- ---- names that have the number of a cell
+
+module _ (h : Here) (settled : IsSettled h.typing.table) (hands : List Waiting) (leaks : List Leak) (m : Memory) (waits : List (List machine.Word))
+    (other : Way → Type 0) (facts : List Fact) (v : Views) (kept : Kept h.typing m hands)
+    (viewed : Viewed (home h.typing h.frame) (is_observer h.typing) other v (seen h.typing m hands leaks) facts) (holds : Holds h.typing h.frame v m)
+    (live : (w : Way) (l : Loc) → IsRooted w → Reaches (seen h.typing m hands leaks) w l → (content h.typing m hands (trunk l)).owns ≡ true) where
+  abbrev view_here : View
+  view_here = seen h.typing m hands leaks
+
+  -- a name of a named access type that wasn't moved
+  pub owner_designates : (u : Way) (k : Place) (l : Loc) (d : ℕ) (c : Bool) → Spot h.typing m hands k l → IsRooted (expand v u)
+      → Reaches view_here (expand v u) l → IsPlace v u → shape_of h.typing.table k.of ≡ shape.Access d c true
+      → (ExcusedBy (home h.typing h.frame) v other facts (expand v u) → ⊥)
+      → IsDesignated v view_here u (get_or (slots_at h.typing m k.base) k.at no_slot).word
+  owner_designates u k l d c spot rooted reaches place is clean n e =
+      subst (λ z. Reaches view_here z (OfCell n)) (sym (expand_down v u place)) (
+        l,
+        n,
+        reaches,
+        held_there h.typing settled hands leaks m waits (ExcusedBy (home h.typing h.frame) v other facts) kept viewed.owned viewed.known live k l (expand v u) d c n
+            spot rooted reaches is e clean,
+        refl,
+      )
+
+  -- a view itself
+  pub view_designates : (x : ℕ) → is_anonymous (view_of h.typing x) ≡ true
+      → IsDesignated v view_here (Object (OfVariable (home h.typing h.frame x) x)) (get_or (variable_slots h.typing (home h.typing h.frame x) x m.variables) 0 no_slot).word
+  view_designates x view n e =
+      let own = holds.held x n view e in
+      let is : expand v (All (Object (OfVariable (home h.typing h.frame x) x))) ≡ own.0 = ap (λ o. expand_root o (OfVariable (home h.typing h.frame x) x)) own.1 in
+      subst (λ z. Reaches view_here z (OfCell n)) (sym is)
+      (subst (λ z. Reaches view_here own.0 (OfCell z)) own.2 (viewed.views x own.0 own.1).reaches)
+
+-- ---- the variable of a view
+
+-- nothing in a view owns
+view_leaf : (table : Table) (settled : IsSettled table) (t : ℕ) → is_anonymous (full table t) ≡ true → (p : List Step) → is_leaf table t p ≡ false
+view_leaf table settled t view p = by_part (has_part table t p) refl
+  where
+    unowned : (sh : Shape) → is_anonymous (view_of_shape sh) ≡ true → owns_one sh ≡ false
+    unowned (shape.Access d c true) e = cc
+    unowned (shape.Access d c false) e = refl
+    unowned (shape.Whole a b) e = refl
+    unowned (shape.Listed l a b) e = refl
+    unowned (shape.Fields cs) e = refl
+    unowned (shape.Elements a b el) e = refl
+    unowned (shape.Same of) e = refl
+
+    by_part : (b : Bool) → has_part table t p ≡ b → has_part table t p && owns_one (shape_of table (type_in table t p)) ≡ false
+    by_part false e = ap (λ z. z && owns_one (shape_of table (type_in table t p))) e
+    by_part true e =
+        let plain = view_access (shape_of table t) view in
+        let none = plain_end table settled t plain.0 plain.1 p e in
+        ap (λ z. z && owns_one (shape_of table (type_in table t p))) e
+        ∙ ap (λ z. owns_one (shape_of table (type_in table t z))) none ∙ unowned (shape_of table t) view
+
+module _ (s : Typing) (settled : IsSettled s.table) where
+  -- owners don't see a view
+  pub view_unseen : (m : Memory) (hands : List Waiting) (leaks : List Leak) (f x : ℕ) (ws : List machine.Word) → is_anonymous (view_of s x) ≡ true
+      → IsSame (seen s m hands leaks) (seen s (declared f x ws m) hands leaks)
+  view_unseen m hands leaks f x ws view = record {
+    word = λ l. by_trunk (trunk l) (steps_in l) (trunk_trunk l);
+    made = refl;
+    freed = λ n. refl;
+    leaked = λ n. refl;
+  }
+    where
+      by_trunk : (l : Loc) (p : List Step) → trunk l ≡ l → word_in s.table (content s (declared f x ws m) hands l) p ≡ word_in s.table (content s m hands l) p
+      by_trunk (OfRoot (OfVariable g y)) p t = by_object (y == x) refl
+        where
+          other_object : (f x g y : ℕ) → OfVariable f x ≡ OfVariable g y → y ≡ x
+          other_object f x g y e = cc
+
+          by_object : (b : Bool) → (y == x) ≡ b
+              → word_in s.table (content s (declared f x ws m) hands (OfRoot (OfVariable g y))) p ≡ word_in s.table (content s m hands (OfRoot (OfVariable g y))) p
+          by_object true e =
+              let leaf = view_leaf s.table settled (object_at s y).of (ap (λ z. is_anonymous (view_of s z)) (eqb-true y x e) ∙ view) p in
+              word_no s.table (content s (declared f x ws m) hands (OfRoot (OfVariable g y))) p leaf
+              ∙ sym (word_no s.table (content s m hands (OfRoot (OfVariable g y))) p leaf)
+          by_object false e =
+              ap (λ z. word_in s.table (record { of = (object_at s y).of; slots = z; owns = (content s m hands (OfRoot (OfVariable g y))).owns }) p)
+              (put_other s f x g y (λ same. (let is : y ≡ x = other_object f x g y same in let no = eq-eqb y x is in cc)) (fresh ws) m.variables)
+      by_trunk (OfRoot (OfHand h)) p t = refl
+      by_trunk (OfCell c) p t = refl
+      by_trunk (Inside l i) p t = absurd (not_inside l l i t)
+
+  -- the variables of views, where one of them gets a word
+  pub holds_declared : (frame : ℕ) (v t : Views) (m : Memory) (x : ℕ) (z : machine.Word) (w loan up : Way) → home s frame x ≡ frame
+      → is_anonymous (view_of s x) ≡ true → Becomes v t x (way_from z w) loan up (number_in z) → Holds s frame v m
+      → Holds s frame t (declared frame x (z ∷ []) m)
+  holds_declared frame v t m x z w loan up mine view becomes holds = record {
+    held = λ y n is e. by_object y n is e (y == x) refl;
+    only = λ y way e. only y way e (y == x) refl;
+  }
+    where
+      got : (z : machine.Word) (n : ℕ) → z ≡ machine.Cell n → (way_from z w ≡ Some w) × (number_in z ≡ n)
+      got (machine.Cell k) n e = (refl, cc)
+      got (machine.Int k) n e = cc
+      got (machine.Enumerated k) n e = cc
+      got machine.Null n e = cc
+
+      here : (y n : ℕ) → y ≡ x → (get_or (variable_slots s (home s frame y) y (declared frame x (z ∷ []) m).variables) 0 no_slot).word ≡ machine.Cell n → z ≡ machine.Cell n
+      here y n same e =
+          sym (ap (λ q. (get_or q 0 no_slot).word) (put_same s frame x (fresh (z ∷ [])) m.variables))
+          ∙ ap (λ f. (get_or (variable_slots s f x (declared frame x (z ∷ []) m).variables) 0 no_slot).word) (sym mine)
+          ∙ ap (λ q. (get_or (variable_slots s (home s frame q) q (declared frame x (z ∷ []) m).variables) 0 no_slot).word) (sym same)
+          ∙ e
+
+      other_object : (f x g y : ℕ) → OfVariable f x ≡ OfVariable g y → y ≡ x
+      other_object f x g y e = cc
+
+      off : (y : ℕ) → (y == x) ≡ false → y ≡ x → ⊥
+      off y e same = (let no = eq-eqb y x same in cc)
+
+      by_object : (y n : ℕ) → is_anonymous (view_of s y) ≡ true
+          → (get_or (variable_slots s (home s frame y) y (declared frame x (z ∷ []) m).variables) 0 no_slot).word ≡ machine.Cell n
+          → (b : Bool) → (y == x) ≡ b → (k : Way) × (t.way y ≡ Some k) × (t.cell y ≡ n)
+      by_object y n is e true b =
+          let same = eqb-true y x b in
+          let own = got z n (here y n same e) in
+          (w, ap t.way same ∙ becomes.way_is ∙ own.0, ap t.cell same ∙ becomes.cell_is ∙ own.1)
+      by_object y n is e false b =
+          let old = holds.held y n is
+          (sym (ap (λ q. (get_or q 0 no_slot).word)
+          (put_other s frame x (home s frame y) y (λ same. off y b (other_object frame x (home s frame y) y same)) (fresh (z ∷ [])) m.variables)) ∙ e) in
+          (old.0, becomes.ways y (off y b) ∙ old.1, becomes.cells y (off y b) ∙ old.2)
+
+      only : (y : ℕ) (way : Way) → t.way y ≡ Some way → (b : Bool) → (y == x) ≡ b → is_anonymous (view_of s y) ≡ true
+      only y way e true b = ap (λ q. is_anonymous (view_of s q)) (eqb-true y x b) ∙ view
+      only y way e false b = holds.only y way (sym (becomes.ways y (off y b)) ∙ e)
+
+  -- ---- words stay typed
+
+  -- What a view gets designates a cell of its type.
+  abbrev pub IsOfType : Memory → ℕ → machine.Word → Type 0
+  IsOfType m x z = (d : ℕ) (c n : Bool) (k : ℕ) → shape_of s.table (object_at s x).of ≡ shape.Access d c n → z ≡ machine.Cell k → IsCell s m d k
+
+  pub view_kept : (m : Memory) (hands : List Waiting) (f x : ℕ) (z : machine.Word) → is_anonymous (view_of s x) ≡ true
+      → words s.table (object_at s x).of ≡ 1 → IsOfType m x z → Kept s m hands → Kept s (declared f x (z ∷ []) m) hands
+  view_kept m hands f x z view one typed kept = record {
+    variables = λ g y. elim (same_loc (OfRoot (OfVariable g y)) (OfRoot (OfVariable f x))) [
+      | inl e ↦ (
+          let a : g ≡ f = cc in let b : y ≡ x = cc in
+          ap (λ q. length (variable_slots s q y (declared f x (z ∷ []) m).variables)) a
+          ∙ ap (λ q. length (variable_slots s f q (declared f x (z ∷ []) m).variables)) b
+          ∙ ap (λ (q : List Slot). length q) (put_same s f x (fresh (z ∷ [])) m.variables)
+          ∙ sym one ∙ ap (λ q. words s.table (object_at s q).of) (sym b))
+      | inr ne ↦ ap (λ (q : List Slot). length q) (put_other s f x g y (λ e. ne (ap OfRoot (sym e))) (fresh (z ∷ [])) m.variables) ∙ kept.variables g y
+    ];
+    cells = kept.cells;
+    points = λ l. points l;
+  }
+    where
+      points : (l : Loc) → Points s (declared f x (z ∷ []) m) (content s (declared f x (z ∷ []) m) hands l)
+      points (OfRoot (OfVariable g y)) = elim (same_loc (OfRoot (OfVariable g y)) (OfRoot (OfVariable f x))) [
+        | inr ne ↦ subst (λ q. Points s m (record { of = (object_at s y).of; slots = q; owns = (content s m hands (OfRoot (OfVariable g y))).owns }))
+            (sym (put_other s f x g y (λ e. ne (ap OfRoot (sym e))) (fresh (z ∷ [])) m.variables)) (kept.points (OfRoot (OfVariable g y)))
+        | inl e ↦ (
+            let a : g ≡ f = cc in let b : y ≡ x = cc in
+            subst (λ q. Points s m (content s (declared f x (z ∷ []) m) hands (OfRoot (OfVariable q y)))) (sym a)
+            (subst (λ q. Points s m (content s (declared f x (z ∷ []) m) hands (OfRoot (OfVariable f q)))) (sym b)
+            (subst (λ q. Points s m (record { of = (object_at s x).of; slots = q; owns = (content s m hands (OfRoot (OfVariable f x))).owns }))
+            (sym (put_same s f x (fresh (z ∷ [])) m.variables)) own)))
+      ]
+        where
+          own : Points s m (record { of = (object_at s x).of; slots = fresh (z ∷ []); owns = (content s m hands (OfRoot (OfVariable f x))).owns })
+          own p d c n k there is e =
+              let plain = view_access (shape_of s.table (object_at s x).of) view in
+              let none = plain_end s.table settled (object_at s x).of plain.0 plain.1 p there in
+              typed d c n k (ap (λ q. shape_of s.table (type_in s.table (object_at s x).of q)) (sym none) ∙ is)
+              (ap (λ q. (get_or (fresh (z ∷ [])) (offset_in s.table (object_at s x).of q) no_slot).word) (sym none) ∙ e)
+      points (OfRoot (OfHand h)) = kept.points (OfRoot (OfHand h))
+      points (OfCell c) = kept.points (OfCell c)
+      points (Inside l i) = points l
+
+-- ---- a borrower or observer is declared, or an observer gets another value
+
+module _ (s : Typing) (settled : IsSettled s.table) (frame : ℕ) (other : Way → Type 0) (v t : Views) (m : Memory) (hands : List Waiting) (leaks : List Leak)
+    (facts : List Fact) (viewed : Viewed (home s frame) (is_observer s) other v (seen s m hands leaks) facts) (kept : Kept s m hands)
+    (holds : Holds s frame v m) (x : ℕ) (z : machine.Word) (mine : home s frame x ≡ frame) (view : is_anonymous (view_of s x) ≡ true)
+    (one : words s.table (object_at s x).of ≡ 1) (typed : IsOfType s settled m x z) where
+  -- The state afterwards, with the variable of the view.
+  pub record Became (facts' : List Fact) : Type 0 where
+    pub sound : Viewed (home s frame) (is_observer s) other t (seen s (declared frame x (z ∷ []) m) hands leaks) facts'
+    pub words_kept : Kept s (declared frame x (z ∷ []) m) hands
+    pub views_held : Holds s frame t (declared frame x (z ∷ []) m)
+
+  became : (facts' : List Fact) (w loan up : Way) → Becomes v t x (way_from z w) loan up (number_in z)
+      → Viewed (home s frame) (is_observer s) other t (seen s m hands leaks) facts' → Became facts'
+  became facts' w loan up becomes sound = record {
+    sound = same_viewed (home s frame) (is_observer s) other t (seen s m hands leaks) (seen s (declared frame x (z ∷ []) m) hands leaks) facts'
+        (view_unseen s settled m hands leaks frame x (z ∷ []) view) sound;
+    words_kept = view_kept s settled m hands frame x z view one typed kept;
+    views_held = holds_declared s settled frame v t m x z w loan up mine view becomes holds;
+  }
+
+  pub borrower_declared : (u : Way) → Becomes v t x (way_from z (expand v (All u))) u (All u) (number_in z) → Unused v facts x → is_observer s x ≡ false
+      → Named (home s frame) u → is_observer s (number_of u) ≡ false → number_of u < x → IsDesignated v (seen s m hands leaks) u z
+      → Allows facts (Borrow x (name_of u)) → Became (effect (Borrow x (name_of u)) facts)
+  borrower_declared u becomes unused borrows named plain older is allowed =
+      became (effect (Borrow x (name_of u)) facts) (expand v (All u)) u (All u) becomes
+      (borrowed (home s frame) (is_observer s) other v t (seen s m hands leaks) facts viewed x (way_from z (expand v (All u))) u (number_in z) becomes unused borrows
+      named plain older (designates v (seen s m hands leaks) u z is) allowed)
+
+  pub observer_stored : (u : Way) → Becomes v t x (way_from z (expand v (All u))) u (All u) (number_in z) → is_observer s x ≡ true
+      → Named (home s frame) u → is_observer s (number_of u) ≡ false → IsDesignated v (seen s m hands leaks) u z
+      → Allows facts (Observe x (name_of u) false) → Became (effect (Observe x (name_of u) false) facts)
+  observer_stored u becomes observes named plain is allowed =
+      became (effect (Observe x (name_of u) false) facts) (expand v (All u)) u (All u) becomes
+      (observed (home s frame) (is_observer s) other v t (seen s m hands leaks) facts viewed x (way_from z (expand v (All u))) u (number_in z) becomes observes
+      named plain (designates v (seen s m hands leaks) u z is) allowed)
+
+  pub observer_again : (u : Way) (l : Lifted v u) → is_observer s l.object ≡ true
+      → Becomes v t x (way_from z (expand v (All u))) (v.loan l.object) (on (v.up l.object) (Down ∷ l.rest)) (number_in z) → is_observer s x ≡ true
+      → Named (home s frame) u → IsDesignated v (seen s m hands leaks) u z → Became (effect (Observe x (name_of u) true) facts)
+  observer_again u l sees becomes observes named is =
+      became (effect (Observe x (name_of u) true) facts) (expand v (All u)) (v.loan l.object) (on (v.up l.object) (Down ∷ l.rest)) becomes
+      (observed_again (home s frame) (is_observer s) other v t (seen s m hands leaks) facts viewed x (way_from z (expand v (All u))) u (number_in z) l sees becomes observes
+      named (designates v (seen s m hands leaks) u z is))
+
+  pub borrower_stored : (u : Way) (l : Lifted v u) → l.object ≡ x
+      → Becomes v t x (way_from z (expand v (All u))) (v.loan l.object) (on (v.up l.object) (Down ∷ l.rest)) (number_in z) → is_observer s x ≡ false
+      → Named (home s frame) u → IsDesignated v (seen s m hands leaks) u z → Allows facts (Reborrow x (name_of u)) → Became (effect (Reborrow x (name_of u)) facts)
+  borrower_stored u l same becomes borrows named is allowed =
+      became (effect (Reborrow x (name_of u)) facts) (expand v (All u)) (v.loan l.object) (on (v.up l.object) (Down ∷ l.rest)) becomes
+      (reborrowed (home s frame) (is_observer s) other v t (seen s m hands leaks) facts viewed x (way_from z (expand v (All u))) u (number_in z) l same becomes borrows
+      named (designates v (seen s m hands leaks) u z is) allowed)

@@ -1,0 +1,42 @@
+-- What the variables of borrowers and observers have, and which types may be those of views.
+use Rattle.std.specs.Prelude.{◌≡◌, ℕ, Bool, true, false, List, [], ◌∷◌, Some, get_or}
+use Rattle.place_names.specs.declared.act.Act.{Act}
+use Rattle.place_names.specs.declared.act.Act.TheVariants.{Move, Write, Free}
+use Rattle.type_definitions.specs.declared.table.Shape.TheVariants as shape
+use Rattle.type_definitions.specs.Types.{Table, shape_of}
+use Rattle.flow_paths.specs.Objects.{Typing, is_anonymous, view_of}
+use Rattle.machine.specs.Words.{Cell, component_type, element_type}
+use Rattle.machine.specs.Memory.{Memory, variable_slots, no_slot}
+use Rattle.owned_ways.specs.Ways.{Way}
+use Rattle.owned_loans.specs.Views.{Views}
+use Rattle.soundness.specs.Seen.{home}
+
+-- No anonymous access type.
+abbrev pub IsNamed : Table → ℕ → Type 0
+IsNamed table t = (d : ℕ) (c n : Bool) → shape_of table t ≡ shape.Access d c n → n ≡ true
+
+-- Anonymous access types are those of objects alone: no component, no element and nothing
+-- designated is of one.
+pub record PartsAreNamed (table : Table) : Type 0 where
+  pub component : (t i : ℕ) → IsNamed table (component_type table t i)
+  pub element : (t : ℕ) → IsNamed table (element_type table t)
+  pub designated : (t d : ℕ) (c n : Bool) → shape_of table t ≡ shape.Access d c n → IsNamed table d
+
+-- An object of an anonymous access type whose word is the number of a cell is a view with a value,
+-- and its way is that to the cell; no other objects are views.
+pub record Holds (s : Typing) (frame : ℕ) (v : Views) (m : Memory) : Type 0 where
+  pub held : (x n : ℕ) → is_anonymous (view_of s x) ≡ true
+      → (get_or (variable_slots s (home s frame x) x m.variables) 0 no_slot).word ≡ Cell n
+      → (w : Way) × (v.way x ≡ Some w) × (v.cell x ≡ n)
+  pub only : (x : ℕ) (w : Way) → v.way x ≡ Some w → is_anonymous (view_of s x) ≡ true
+
+-- What is moved, written or freed isn't named through an observer.
+abbrev pub KeepsObserved : (ℕ → Bool) → Act → Type 0
+KeepsObserved observer (Move m parts) = observer m.root ≡ false
+KeepsObserved observer (Write m) = observer m.root ≡ false
+KeepsObserved observer (Free m) = observer m.root ≡ false
+KeepsObserved observer _ = Unit {0}
+
+abbrev pub AllKeep : (ℕ → Bool) → List Act → Type 0
+AllKeep observer [] = Unit {0}
+AllKeep observer (a ∷ acts) = KeepsObserved observer a × AllKeep observer acts

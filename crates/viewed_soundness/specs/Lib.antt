@@ -1,0 +1,2 @@
+-- the variables of views
+pub mod Holds
