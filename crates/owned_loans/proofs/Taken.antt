@@ -18,8 +18,8 @@ use Rattle.owned_ways.specs.Ways.{OfVariable, OfHand, OfCell, Way, Object, Lost,
 use Rattle.owned_ways.proofs.Named.{longer}
 use Rattle.owned_ways.proofs.Assigned.{kept_fact}
 use Rattle.owned_ways.proofs.Locations.{under_itself}
-use Rattle.owned_loans.specs.Views.{Down, on, Views, expand_root, expand, IsObject, AreClear, HasLoan, IsView, Viewed, Becomes, with_view, Unused}
-use Rattle.owned_loans.proofs.Ways.{on_deep, Lifted, next_of, further}
+use Rattle.owned_loans.specs.Views.{Views, expand_root, expand, IsObject, AreClear, HasLoan, IsView, Viewed, Becomes, with_view, Unused}
+use Rattle.owned_loans.proofs.Ways.{on_deep, Lifted, next_of}
 use Rattle.owned_loans.proofs.Meeting.{next}
 use Rattle.owned_loans.proofs.Clear.{refused, clear_borrow, clear_observe, clear_same}
 use Rattle.owned_loans.proofs.Allowed.{loan_kept}
@@ -197,7 +197,7 @@ module _ (home : ℕ → ℕ) (observer : ℕ → Bool) (other : Way → Type 0)
       })
 
   -- no name that is rooted in an object that is reborrowed was moved, or is lent
-  reborrow_unused : (b : ℕ) (m : Name) → Allows facts (Reborrow b m) → Unused v facts b
+  pub reborrow_unused : (b : ℕ) (m : Name) → Allows facts (Reborrow b m) → Unused v facts b
   reborrow_unused b m allowed = record {
     unmoved = λ n has e. refused (moved_or_lent (object b) (Moved n)) O7 (object b) (Moved n) (whole n b e) (allowed (Moved n) has);
     untaken = λ x w has off e. (let view = viewed.views x w has in

@@ -1,25 +1,25 @@
 -- What instructions lead to in programs with borrowers and observers: conditions, assignments to
 -- targets that aren't views, and declarations of borrowers and observers.
-use Rattle.std.proofs.Common.{◌≡◌, refl, sym, ap, ◌∙◌, subst, ◌⊎◌, inl, inr, ℕ, suc, ◌<◌, Bool, true, false, not, ◌&&◌, ◌||◌, List, [], ◌∷◌, ◌++◌, map, flat_map, reverse, take, drop, length, nat_lt, arith, Option, Some, None, if◌then◌else◌, ◌==◌, eqb-true, eq-eqb, get_or}
+use Rattle.std.proofs.Common.{◌≡◌, refl, sym, ap, ◌∙◌, subst, inl, inr, ℕ, ◌<◌, Bool, true, false, not, ◌&&◌, ◌||◌, List, [], ◌∷◌, ◌++◌, map, flat_map, reverse, take, drop, length, nat_lt, Some, None, if◌then◌else◌, ◌==◌, eqb-true, eq-eqb, get_or, ◌+◌, append-nil, arith}
 use Rattle.spark_base.specs.declared.position.Pos.{Pos}
 use Rattle.place_names.specs.declared.act.Act.{Act}
 use Rattle.place_names.specs.declared.act.Act.TheVariants as act
-use Rattle.place_names.specs.declared.act.Placed.{Placed}
 use Rattle.place_names.specs.declared.fact.Fact.{Fact}
 use Rattle.place_names.specs.Names.{Name as PlaceName}
 use Rattle.place_names.specs.Facts.{effect}
 use Rattle.type_definitions.specs.declared.table.Shape.TheVariants as shape
-use Rattle.type_definitions.specs.Types.{Table, shape_of, words, words_of as shape_words, full, is_scalar, view_of as view_of_shape}
+use Rattle.type_definitions.specs.Types.{Table, shape_of, words, words_of as shape_words, full, is_scalar, view_of as view_of_shape, parts, parts_of}
 use Rattle.typed_tree.specs.Trees.{TypedTree, TypedCode, Name, NoMore, More}
 use Rattle.flow_paths.specs.Objects.{Typing, object_at, is_anonymous, is_borrowing, is_observing, is_borrower, is_observer, is_variable, view_of}
-use Rattle.flow_paths.specs.Names.{has_call, name_of, whole, whole_object, first, written, source}
+use Rattle.flow_paths.specs.Names.{has_call, name_of, whole, whole_object, written, source}
 use Rattle.flow_paths.specs.Scopes.{taken}
 use Rattle.flow_paths.specs.Acts.{acts_in, stored_acts, declared_acts, assigned_to, source_acts, index_acts, reborrow, observe, target_pos as acts_target_pos}
 use Rattle.machine.specs.Words as machine
-use Rattle.machine.specs.Memory.{Memory, cell, stored, declared, given_up, Slot, fresh, no_slot, variable_slots, undeclared}
-use Rattle.machine.specs.Evaluate.{Here, Now, AsValue, AsView, Evaluated, Done, Raises, Traps, followed_by, evaluate, checked, value, viewed, place_of}
+use Rattle.machine.specs.Memory.{Memory, cell, stored, declared, given_up, Slot, fresh, no_slot, variable_slots, undeclared, Place, slots_at}
+use Rattle.machine.specs.Evaluate.{Here, Now, AsValue, AsView, Evaluated, Done, Raises, Traps, followed_by, evaluate, checked, value, viewed, place_of, steps_of}
 use Rattle.machine.specs.Evaluate as run
-use Rattle.machine.specs.Calls.{checks_at}
+use Rattle.machine.specs.Memory as memory
+use Rattle.machine.specs.Calls.{checks_at, checked_at}
 use Rattle.machine.specs.States.{Waiting, Leak, State, Outcome, Goes, Ends}
 use Rattle.machine.specs.Step.{Turn, counted, typing, here, start, waiting, Stored, first_value, taken_by, declare, assign, goes, behind, led, successor, leaking_goes, target_pos}
 use Rattle.machine.specs.Step as steps
@@ -45,23 +45,24 @@ use Rattle.place_names.specs.declared.fact.Fact.TheVariants.{Moved}
 use Rattle.place_names.specs.declared.rule.Rule.TheVariants.{O8}
 use Rattle.place_names.specs.Rules.{breaks_O8}
 use Rattle.owned_ways.proofs.Assigned.{kept_fact}
+use Rattle.place_names.specs.declared.selector.Sel.{Sel}
 use Rattle.soundness.proofs.Numbers.{index_law}
 use Rattle.soundness.proofs.Lasting.{keeps, removed_kept}
 use Rattle.soundness.proofs.Raised.{raised_owned}
 use Rattle.soundness.proofs.Scalars.{acts, acts_append, after_append, allows_both}
 use Rattle.soundness.proofs.Stays.{Quiet, One}
-use Rattle.soundness.proofs.Waits.{or_both, take_none, drop_none, waits_of, led_waits}
+use Rattle.soundness.proofs.Waits.{take_none, drop_none, waits_of, led_waits}
 use Rattle.owned_loans.specs.Views.{Views, expand, Viewed, Unused, with_view, HasLoan}
-use Rattle.owned_loans.proofs.Allowed.{Cleared, borrow_clears, observe_clears, loan_kept}
+use Rattle.owned_loans.proofs.Allowed.{Cleared, borrow_clears, observe_clears, loan_kept, reborrow_clears}
 use Rattle.owned_loans.proofs.Ways.{Lifted, next_of}
 use Rattle.owned_loans.proofs.Taken.{becomes_with}
 use Rattle.owned_loans.proofs.Taken as lent
 use Rattle.viewed_soundness.specs.Holds.{IsNamed, PartsAreNamed, Holds, AllKeep}
 use Rattle.viewed_soundness.proofs.Names.{not_view, true_false}
 use Rattle.viewed_soundness.proofs.Stays.{quiet, steps_quiet}
-use Rattle.viewed_soundness.proofs.Evaluated.{Ready, live_trunk}
+use Rattle.viewed_soundness.proofs.Evaluated.{live_trunk}
 use Rattle.viewed_soundness.proofs.Stored.{Assigns, assigned}
-use Rattle.viewed_soundness.proofs.Viewing.{IsDesignated, IsOfType, Became, way_from, number_in, borrower_declared, observer_stored, observer_again, view_emptied}
+use Rattle.viewed_soundness.proofs.Viewing.{IsDesignated, IsOfType, way_from, number_in, borrower_declared, observer_stored, observer_again, view_emptied, borrower_stored}
 use Rattle.viewed_soundness.proofs.Sources.{Shows, source_quiet}
 
 -- ---- types of views, and acts
@@ -487,6 +488,166 @@ module _ (t : Turn) (settled : IsSettled (typing t).table) (own_law : OwnsByShap
       (λ w called plain. absurd (true_false (is_observer s y) from plain))
       (λ mine. again_gets x y u d path facts observes good sees from))
 
+  -- ---- assignments to borrowers and observers
+
+  replaced : (all : List Slot) (z : machine.Word) → length all ≡ 1 → take 0 all ++ fresh (z ∷ []) ++ drop (0 + length (fresh (z ∷ []))) all ≡ fresh (z ∷ [])
+  replaced [] z one = absurd (omega (arith, one))
+  replaced (a ∷ []) z one = refl
+  replaced (a ∷ b ∷ all) z one = absurd (omega (arith, one))
+
+  no_parts : (k : ℕ) (e o : Bool) → is_anonymous (view_of_shape (shape.Access k e o)) ≡ true → (f : ℕ → List (List Sel)) → parts_of f (shape.Access k e o) ≡ []
+  no_parts k true true any f = cc
+  no_parts k false true any f = cc
+  no_parts k e false any f = refl
+
+  -- the variable of a view has no leak checks, and its word is the whole of it
+  unchecked : (x y u d : ℕ) (path : TypedTree) → Observes x y u d path → (pos : Pos) → leaks_at s pos m (run.variable_place (here t) x) ≡ []
+  unchecked x y u d path observes pos =
+      let empty : parts s.table (object_at s x).of ≡ [] =
+      settled.part_law (object_at s x).of ∙ ap (parts_of (parts s.table)) observes.view
+      ∙ no_parts observes.k observes.e observes.o (sym (ap (λ z. is_anonymous (view_of_shape z)) observes.view) ∙ observes.anonymous) (parts s.table) in
+      ap (λ z. checked_at pos 0 (slots_at s m (run.variable_place (here t) x).base) (flat_map (machine.offsets s.table (object_at s x).of) z)) empty
+
+  stored_is : (x y u d : ℕ) (path : TypedTree) (facts : List Fact) → Observes x y u d path → IsGood v facts t.state → (z : machine.Word)
+      → stored s (run.variable_place (here t) x) (z ∷ []) m ≡ declared depth x (z ∷ []) m
+  stored_is x y u d path facts observes good z =
+      ap (λ q. memory.put (memory.OfVariable (home s depth x) x) q m)
+      (replaced (variable_slots s (home s depth x) x m.variables) z (good.kept.variables (home s depth x) x ∙ one_word x y u d path observes))
+      ∙ ap (λ f. declared f x (z ∷ []) m) observes.mine
+
+  abbrev Puts : Pos → Pos → ℕ → ℕ → Evaluated (List machine.Word) → Outcome
+  Puts pos q x u e =
+      steps.evaluated t (followed_by e (λ ws now. followed_by (place_of (here t) (Name q x NoMore u) now) (λ k now. Done (record { words = ws; place = k }) now)))
+      (λ (st : Stored) m. leaking_goes (checks_at s pos m st.place) (goes t (stored s st.place st.words m) 0))
+
+  put_at : (pos q : Pos) (x u : ℕ) (ws : List machine.Word) (n : Now)
+      → Puts pos q x u (Done ws n) ≡ leaking_goes (checks_at s pos n.memory (run.variable_place (here t) x)) (goes t (stored s (run.variable_place (here t) x) ws n.memory) 0)
+  unfolding steps_of
+  put_at pos q x u ws n = refl
+
+  then_put : (pos q : Pos) (x y u w d : ℕ) (path : TypedTree) (name : PlaceName) (facts behind : List Fact) (good : IsGood v facts t.state) → Observes x y u d path
+      → Gets x y d name behind → (e : Evaluated (List machine.Word)) → Quiet now (Shown facts good y d name) e → Leads_on behind (Puts pos q x w e)
+  then_put pos q x y u w d path name facts behind good observes gets (Done ws n) (same, (r, named, called, shows)) =
+      let got = gets r shows.word named called shows.designated shows.typed shows.lifted in
+      let k : Place = run.variable_place (here t) x in
+      let is = stored_is x y u d path facts observes good shows.word in
+      subst (Leads_on behind) (sym (put_at pos q x w ws n))
+      (subst (λ (z : Now). Leads_on behind (leaking_goes (checks_at s pos z.memory k) (goes t (stored s k ws z.memory) 0))) (sym same)
+      (subst (λ z. Leads_on behind (leaking_goes (checks_at s pos m k) (goes t (stored s k z m) 0))) (sym shows.is)
+      (subst (λ z. Leads_on behind (leaking_goes (checks_at s pos m k) (goes t z 0))) (sym is)
+      (goes_on (declared depth x (shows.word ∷ []) m) (checks_at s pos m k) [] (all_checks s pos m k ∙ unchecked x y u d path observes pos) got.0 behind
+      (subst (λ z. Viewed (home s depth) (is_observer s) other got.0 (seen s (declared depth x (shows.word ∷ []) m) hands z) behind) (sym (append-nil t.state.leaks)) got.1.0)
+      got.1.1 got.1.2))))
+  then_put pos q x y u w d path name facts behind good observes gets (Raises e n) is = (λ trap. trap, raises facts good n.memory)
+  then_put pos q x y u w d path name facts behind good observes gets (Traps e n) never = absurd never
+
+  -- the view gets what its source has
+  put_leads : (pos q p r : Pos) (x y u d : ℕ) (path : TypedTree) (a : PlaceName → Act) → Observes x y u d path → has_call path ≡ false
+      → (facts : List Fact) (good : IsGood v facts t.state)
+      → AllowsAll facts (acts (acts_in s path ++ record { pos = r; act = a (name_of y path) } ∷ []))
+      → ((w : Way) → ways.name_of w ≡ name_of y path → is_observer s y ≡ false → Allows facts (a (name_of y path)) → Cleared facts w)
+      → (Allows facts (a (name_of y path)) → Gets x y d (name_of y path) (effect (a (name_of y path)) facts))
+      → Leads_on (after (acts (acts_in s path ++ record { pos = r; act = a (name_of y path) } ∷ [])) facts)
+      (Puts pos q x (object_at s x).of (taken_by t (object_at s x).of (Name p y path u) (start t)))
+  put_leads pos q p r x y u d path a observes calls facts good allowed clears gets =
+      let b : List Act = acts (acts_in s path) in
+      let whole_acts : acts (acts_in s path ++ record { pos = r; act = a (name_of y path) } ∷ []) ≡ b ++ (a (name_of y path) ∷ []) =
+      acts_append (acts_in s path) (record { pos = r; act = a (name_of y path) } ∷ []) in
+      let each = allows_both facts b (a (name_of y path) ∷ []) (subst (AllowsAll facts) whole_acts allowed) in
+      let inner = steps_quiet (here t) settled hands t.state.leaks m [] other facts v good.kept good.viewed good.holds alone (live facts good)
+      index_law own_law parts_named (object_at s y).of u path observes.lead calls each.0 in
+      let mine : Allows facts (a (name_of y path)) = subst (λ z. Allows z (a (name_of y path))) inner.1 each.1.0 in
+      let behind_acts : after (acts (acts_in s path ++ record { pos = r; act = a (name_of y path) } ∷ [])) facts ≡ effect (a (name_of y path)) facts =
+      ap (λ z. after z facts) whole_acts ∙ after_append b (a (name_of y path) ∷ []) facts ∙ ap (effect (a (name_of y path))) inner.1 in
+      let shown = source_quiet (here t) settled hands t.state.leaks m [] other facts v good.kept good.viewed good.holds alone (live facts good)
+      index_law own_law parts_named p y u d observes.c observes.n path observes.lead observes.source calls each.0 (λ w called plain. clears w called plain mine) in
+      let of : ℕ = (object_at s x).of in
+      subst (λ z. Leads_on z (Puts pos q x of (taken_by t of (Name p y path u) (start t)))) (sym behind_acts)
+      (subst (λ z. Leads_on (effect (a (name_of y path)) facts) (Puts pos q x of (taken_by t of (Name p y path u) z))) (sym start_is)
+      (subst (λ c. Leads_on (effect (a (name_of y path)) facts)
+      (Puts pos q x of (if c then viewed (here t) (Name p y path u) now else followed_by (value (here t) (Name p y path u) now) (checked (here t) of)))) (sym observes.anonymous)
+      (then_put pos q x y u of d path (name_of y path) facts (effect (a (name_of y path)) facts) good observes (gets mine) (evaluate (here t) AsView (Name p y path u) now) shown)))
+
+  -- A borrower goes on from where it is.
+  reborrow_gets : (x u d : ℕ) (path : TypedTree) (facts : List Fact) → Observes x x u d path → IsGood v facts t.state
+      → is_observer s x ≡ false → Allows facts (act.Reborrow x (name_of x path))
+      → Gets x x d (name_of x path) (effect (act.Reborrow x (name_of x path)) facts)
+  reborrow_gets x u d path facts observes good borrows allowed w z named called is typed lifted = by_word z is typed lifted
+    where
+      nothing : (z : machine.Word) → ((k : ℕ) → z ≡ machine.Cell k → ⊥) → ((k : ℕ) → z ≡ machine.Cell k → IsCell s m d k)
+          → (views : Views) × Got views x z (effect (act.Reborrow x (name_of x path)) facts)
+      nothing z null typed =
+          let views : Views = with_view v x (way_from z w) w w (number_in z) in
+          let a : Act = act.Reborrow x (name_of x path) in
+          let got = view_emptied s settled depth other v views m hands t.state.leaks facts good.viewed good.kept good.holds x z observes.mine observes.anonymous
+          (one_word x x u d path observes) (of_type x x u d path observes z typed) (effect a facts) w w w (becomes_with v x (way_from z w) w w (number_in z)) null
+          (lent.reborrow_unused (home s depth) (is_observer s) other v views (seen s m hands t.state.leaks) facts good.viewed x (name_of x path) allowed)
+          (λ n has. kept_fact a facts (Moved n) has refl) (λ seen q n. loan_kept a facts (λ l h k. refl) seen q n)
+          (clear_same (is_observer s) facts good.viewed.clear a refl) in
+          (views, (got.sound, got.words_kept, got.views_held))
+
+      by_word : (z : machine.Word) → IsDesignated v (seen s m hands t.state.leaks) w z → ((k : ℕ) → z ≡ machine.Cell k → IsCell s m d k)
+          → (is_anonymous (view_of s x) ≡ true → (k : ℕ) → z ≡ machine.Cell k → (l : Lifted v (All w)) × (l.object ≡ x))
+          → (views : Views) × Got views x z (effect (act.Reborrow x (name_of x path)) facts)
+      by_word (machine.Cell k) is typed lifted =
+          let z : machine.Word = machine.Cell k in
+          let l = lifted observes.anonymous k refl in
+          let views : Views = with_view v x (way_from z (expand v (All w))) (v.loan l.0.object) (next_of v (All w) l.0) (number_in z) in
+          let got = borrower_stored s settled depth other v views m hands t.state.leaks facts good.viewed good.kept good.holds x z observes.mine observes.anonymous
+          (one_word x x u d path observes) (of_type x x u d path observes z typed) w l.0 l.1
+          (becomes_with v x (way_from z (expand v (All w))) (v.loan l.0.object) (next_of v (All w) l.0) (number_in z)) borrows named is
+          (subst (λ n. Allows facts (act.Reborrow x n)) (sym called) allowed) in
+          (views, subst (λ n. Got views x z (effect (act.Reborrow x n) facts)) called (got.sound, got.words_kept, got.views_held))
+      by_word (machine.Int k) is typed lifted = nothing (machine.Int k) (λ q e. cc) typed
+      by_word (machine.Enumerated k) is typed lifted = nothing (machine.Enumerated k) (λ q e. cc) typed
+      by_word machine.Null is typed lifted = nothing machine.Null (λ q e. cc) typed
+
+  pub assign_borrower_leads : (pos q p : Pos) (x u d : ℕ) (path : TypedTree) → Observes x x u d path → is_borrower s x ≡ true → is_observer s x ≡ false
+      → has_call path ≡ false → (facts : List Fact) (good : IsGood v facts t.state)
+      → AllowsAll facts (acts (assigned_to s pos (Some x) (Name q x NoMore (object_at s x).of) (Name p x path u)))
+      → Leads_on (after (acts (assigned_to s pos (Some x) (Name q x NoMore (object_at s x).of) (Name p x path u))) facts)
+      (assign t (Name q x NoMore (object_at s x).of) (Name p x path u))
+  assign_borrower_leads pos q p x u d path observes is borrows calls facts good allowed =
+      let e : TypedTree = Name p x path u in
+      let target : TypedTree = Name q x NoMore (object_at s x).of in
+      let same : assigned_to s pos (Some x) target e ≡ acts_in s path ++ record { pos = q; act = act.Reborrow x (name_of x path) } ∷ [] =
+      ap (λ b. if b then index_acts s e ++ reborrow (acts_target_pos pos (written target)) x (source e)
+      else (if is_observer s x then source_acts s e (observe s x) else stored_acts s target e)) is in
+      subst (λ z. Leads_on (after (acts z) facts) (assign t target e)) (sym same)
+      (put_leads (target_pos t target) q p q x x u d path (act.Reborrow x) observes calls facts good (subst (λ z. AllowsAll facts (acts z)) same allowed)
+      (λ w called plain mine. reborrow_clears facts x w (ap (λ (n : PlaceName). n.root) called) (subst (λ n. Allows facts (act.Reborrow x n)) (sym called) mine))
+      (λ mine. reborrow_gets x u d path facts observes good borrows mine))
+
+  -- An observer gets another value, of what an owner has, or what a borrower or an observer leads to.
+  pub assign_observer_leads : (pos q p : Pos) (x y u d : ℕ) (path : TypedTree) → Observes x y u d path → is_borrower s x ≡ false → is_observer s x ≡ true
+      → has_call path ≡ false → (facts : List Fact) (good : IsGood v facts t.state)
+      → AllowsAll facts (acts (assigned_to s pos (Some x) (Name q x NoMore (object_at s x).of) (Name p y path u)))
+      → Leads_on (after (acts (assigned_to s pos (Some x) (Name q x NoMore (object_at s x).of) (Name p y path u))) facts)
+      (assign t (Name q x NoMore (object_at s x).of) (Name p y path u))
+  assign_observer_leads pos q p x y u d path observes is_not sees calls facts good allowed =
+      let e : TypedTree = Name p y path u in
+      let target : TypedTree = Name q x NoMore (object_at s x).of in
+      let same : assigned_to s pos (Some x) target e ≡ acts_in s path ++ record { pos = p; act = act.Observe x (name_of y path) (is_observer s y) } ∷ [] =
+      ap (λ b. if b then index_acts s e ++ reborrow (acts_target_pos pos (written target)) x (source e)
+      else (if is_observer s x then source_acts s e (observe s x) else stored_acts s target e)) is_not
+      ∙ ap (λ b. if b then source_acts s e (observe s x) else stored_acts s target e) sees in
+      subst (λ z. Leads_on (after (acts z) facts) (assign t target e)) (sym same)
+      (by_kind (is_observer s y) refl (subst (λ z. AllowsAll facts (acts z)) same allowed))
+    where
+      by_kind : (b : Bool) → is_observer s y ≡ b
+          → AllowsAll facts (acts (acts_in s path ++ record { pos = p; act = act.Observe x (name_of y path) b } ∷ []))
+          → Leads_on (after (acts (acts_in s path ++ record { pos = p; act = act.Observe x (name_of y path) b } ∷ [])) facts)
+          (assign t (Name q x NoMore (object_at s x).of) (Name p y path u))
+      by_kind b from goes_by =
+          put_leads (target_pos t (Name q x NoMore (object_at s x).of)) q p p x y u d path (λ n. act.Observe x n b) observes calls facts good goes_by
+          (λ w called plain mine. observe_clears facts x b w (subst (λ n. Allows facts (act.Observe x n b)) (sym called) mine))
+          (λ mine. gets b from mine)
+        where
+          gets : (b : Bool) → is_observer s y ≡ b → Allows facts (act.Observe x (name_of y path) b)
+              → Gets x y d (name_of y path) (effect (act.Observe x (name_of y path) b) facts)
+          gets true from mine = again_gets x y u d path facts observes good sees from
+          gets false from mine = observe_gets x y u d path facts observes good sees from mine
+
   -- ---- the end of a scope
 
   -- What is left when an object's scope ends: the ways of other views don't begin there, and other
@@ -559,8 +720,7 @@ module _ (t : Turn) (settled : IsSettled (typing t).table) (own_law : OwnsByShap
       let becomes = becomes_with v x None (v.loan x) (v.up x) 0 in
       ends_with views x borrower mine facts
       (lent.given_up (home s depth) (is_observer s) other v views (seen s m hands t.state.leaks) facts good.viewed x (v.loan x) (v.up x) 0 becomes unused)
-      good.kept
-      (
+      good.kept (
         λ y n off view e. (let old = good.holds.held y n view e in (old.0, becomes.ways y off ∙ old.1, becomes.cells y off ∙ old.2)),
         λ y w e. by_object y w e (y == x) refl,
       )

@@ -111,7 +111,7 @@ module _ (h : Here) (settled : IsSettled h.typing.table) (hands : List Waiting) 
               (is_place s v (home s h.frame y) y t way starts named holds.only) access clean;
           typed = λ q e. (let cell = cell_spot s settled hands leaks m waits moved kept viewed.owned viewed.known live k l d c q spot access e in
               (cell.made.0, cell.made.1, cell.of));
-        lifted = λ view q e. (let l = lifts view in (further v Down (way_along way (variable y)) l.0, l.1));
+          lifted = λ view q e. (let l = lifts view in (further v Down (way_along way (variable y)) l.0, l.1));
         },
       )
     where
@@ -131,8 +131,8 @@ module _ (h : Here) (settled : IsSettled h.typing.table) (hands : List Waiting) 
           is = names.one_slot h settled hands leaks m waits other facts v kept viewed holds alone live y d c false is;
           designated = view_designates h settled hands leaks m waits other facts v kept viewed holds live y view;
           typed = λ k e. kept.points (OfRoot (OfVariable (home s h.frame y) y)) [] d c false k refl is e;
-        lifted = λ any k e. (let own = holds.held y k view e in
-            (record { frame = home s h.frame y; object = y; rest = []; way = own.0; is = refl; has = own.1 }, refl));
+          lifted = λ any k e. (let own = holds.held y k view e in
+              (record { frame = home s h.frame y; object = y; rest = []; way = own.0; is = refl; has = own.1 }, refl));
         },
       )
 

@@ -1,10 +1,11 @@
-use Rattle.std.proofs.Common.{map, string_bytes, refl, sym, ap, ◌∙◌}
+use Rattle.std.proofs.Common.{rules, ◌≡◌, map, string_bytes, refl, sym, ap, ◌∙◌}
 use Rattle.machine.specs.Run.{Run, run}
 use Rattle.laid_program.specs.Programs.{program_of}
+use Rattle.run_results.specs.Results.{ending_of}
 use Rattle.run_results.proofs.Fronts.{none_front}
 use Rattle.whole_runs.specs.Tellings.{Sinks}
 use Rattle.run_command.specs.Endings.{ending_line}
-use Rattle.run_command.proofs.Fronts.{at_err, cut_told, ended_told}
+use Rattle.run_command.proofs.Fronts.{at_err, cut_told, ended_told, ended_tells}
 use Rattle.run_command.proofs.run.run_on.Goals as goal
 
 pub returns-in_err-ran-clause-front : goal.returns-in_err-ran-clause-front
@@ -20,7 +21,7 @@ returns-in_err-line-clause-front g c =
     let r : Run = run (program_of c.args.program.now.laid) c.args.input.now c.args.steps in
     let old : Sinks = record { output = g.K.Sink.written c.args.out.now; lines = g.K.Sink.written c.args.err.now } in
     let now : Sinks = record { output = g.K.Sink.written c.execute.new.out; lines = g.K.Sink.written c.execute.new.err } in
-    at_err _ (ended_told files c.args.steps r c.in_ok-ran.field-0 old now now.lines (ending_line files c.args.steps r.ending) c.in_ok-ran.ensures.executed refl (none_front now.lines _))
+    at_err _ (ended_told files c.args.steps r c.in_ok-ran.ran old now now.lines (ending_line files c.args.steps r.ending) c.in_ok-ran.ensures.executed refl (none_front now.lines _))
 
 pub returns-in_err-write_all-clause-front : goal.returns-in_err-write_all-clause-front
 returns-in_err-write_all-clause-front g c =
@@ -28,7 +29,18 @@ returns-in_err-write_all-clause-front g c =
     let r : Run = run (program_of c.args.program.now.laid) c.args.input.now c.args.steps in
     let old : Sinks = record { output = g.K.Sink.written c.args.out.now; lines = g.K.Sink.written c.args.err.now } in
     let now : Sinks = record { output = g.K.Sink.written c.execute.new.out; lines = g.K.Sink.written c.execute.new.err } in
+    let line : c.deref.result.now ≡ ending_line files c.args.steps (ending_of c.in_ok-ran.ran.ending) = search rules in
     at_err _
-    (ended_told files c.args.steps r c.in_ok-ran.field-0 old now (g.K.Sink.written c.write_all.new.sink) c.deref.result.now c.in_ok-ran.ensures.executed
-    (c.deref.ensures.value ∙ c.in_ok-line.ensures ∙ ap (ending_line files c.args.steps) (sym c.in_ok-ran.ensures.executed.is.ending))
+    (ended_told files c.args.steps r c.in_ok-ran.ran old now (g.K.Sink.written c.write_all.new.sink) c.deref.result.now c.in_ok-ran.ensures.executed
+    (line ∙ ap (ending_line files c.args.steps) (sym c.in_ok-ran.ensures.executed.is.ending))
     c.in_err-write_all.ensures.front)
+
+pub returns-clause-told : goal.returns-clause-told
+returns-clause-told g c =
+    let files = map string_bytes c.args.program.now.laid.names.items in
+    let r : Run = run (program_of c.args.program.now.laid) c.args.input.now c.args.steps in
+    let old : Sinks = record { output = g.K.Sink.written c.args.out.now; lines = g.K.Sink.written c.args.err.now } in
+    let now : Sinks = record { output = g.K.Sink.written c.execute.new.out; lines = g.K.Sink.written c.execute.new.err } in
+    let line : c.deref.result.now ≡ ending_line files c.args.steps (ending_of c.in_ok-ran.ran.ending) = search rules in
+    ended_tells files c.args.steps r c.in_ok-ran.ran old now (g.K.Sink.written c.write_all.new.sink) c.deref.result.now c.ending_status.result
+    c.in_ok-ran.ensures.executed line c.in_ok-write_all.ensures.written c.ending_status.ensures
