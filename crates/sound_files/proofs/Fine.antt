@@ -1,4 +1,4 @@
--- The instructions of files of the first class are typed, where no fault of typing is found.
+-- The instructions of files of both classes are typed, where no fault of typing is found.
 use Rattle.std.proofs.Common.{◌≡◌, true, List, IsTrue, None, refl, sym, true≢false}
 use Rattle.ada_tree.specs.declared.unit.SourceUnit.{SourceUnit}
 use Rattle.name_events.specs.Outline.{source_events}
@@ -26,10 +26,11 @@ use Rattle.gathered_laws.proofs.Components.{components_left}
 use Rattle.gathered_laws.proofs.Laws.{program_laws}
 use Rattle.named_files.proofs.Records.{records_apart}
 use Rattle.meant_files.proofs.Main.{files_meant}
-use Rattle.soundness.specs.Sound.{calls_nothing}
-use Rattle.ready_laws.proofs.Temporaries.{no_temporaries}
+use Rattle.soundness.specs.Sound.{calls_procedures}
+use Rattle.soundness.proofs.Successors.{nothing_procedures}
+use Rattle.ready_laws.proofs.Temporaries.{few_temporaries}
 use Rattle.order_laws.specs.Orderly.{typed_of}
-use Rattle.sound_files.specs.Class.{IsPlainText, CallsNothing}
+use Rattle.sound_files.specs.Class.{IsPlainText, CallsNothing, CallsProcedures}
 use Rattle.order_laws.proofs.Faults.{units_faultless}
 use Rattle.settled_types.specs.Stamped.{AllOpen}
 use Rattle.settled_types.proofs.Faultless.{program_open}
@@ -40,8 +41,8 @@ use Rattle.sound_files.proofs.Flat.{unit_flat}
 use Rattle.sound_files.proofs.Written.{files_written}
 use Rattle.spark_base.specs.Lists.{Has}
 
--- No operand of a short circuit stands by itself where nothing is called.
-whole_of : (i : Instruction) → calls_nothing i ≡ true → is_whole i ≡ true
+-- No operand of a short circuit stands by itself where no function is called.
+whole_of : (i : Instruction) → calls_procedures i ≡ true → is_whole i ≡ true
 whole_of (Evaluate t e left) calm = absurd (true≢false (sym calm))
 whole_of i calm = refl
 
@@ -55,12 +56,12 @@ module _ (files : List (List SourceUnit)) where
   abbrev flow : FlowProgram
   flow = flow_program table (typed_of p)
 
-  undivided : CallsNothing flow → AreUndivided flow
+  undivided : CallsProcedures flow → AreUndivided flow
   undivided calls sub has point is = whole_of point.instr (calls sub has point is)
 
-  pub files_fine : AreApart (identified files) → AllEnded at_start p.units → Ascends (event_positions (source_events files)) → name_fault files ≡ None → type_fault p ≡ None → IsPlainText p
-      → CallsNothing flow → AreFine flow
-  files_fine apart ended up named none text calls =
+  pub procedures_fine : AreApart (identified files) → AllEnded at_start p.units → Ascends (event_positions (source_events files)) → name_fault files ≡ None → type_fault p ≡ None → IsPlainText p
+      → CallsProcedures flow → AreFine flow
+  procedures_fine apart ended up named none text calls =
       let formed : IsTrue (all_formed p.units) = files_formed (identified files) files in
       let orderly : IsInOrder p = files_in_order files apart ended in
       let laws : Laws (known_of p) (IsMade p.units) = program_laws p formed orderly none text.named (components_left p (records_apart (identified files) files named)) in
@@ -68,4 +69,10 @@ module _ (files : List (List SourceUnit)) where
       let flat : (u : Code) → Has p.units u → IsFlatUnit u
       = λ u has. unit_flat u (files_written (identified files) (outside (known_of p)) files (procedures files named) u has (units_faultless p none u has)) in
       are_fine p (IsMade p.units) none laws
-      (files_meant files up named text.formless text.named (IsMade p.units) (steady p orderly opens text.named flat) (alike p orderly opens text.named flat)) (no_temporaries table (typed_of p) calls) (undivided calls)
+      (files_meant files up named text.formless text.named (IsMade p.units) (steady p orderly opens text.named flat) (alike p orderly opens text.named flat)) (few_temporaries table (typed_of p) calls) (undivided calls)
+
+  -- So it is where nothing is called.
+  pub files_fine : AreApart (identified files) → AllEnded at_start p.units → Ascends (event_positions (source_events files)) → name_fault files ≡ None → type_fault p ≡ None → IsPlainText p
+      → CallsNothing flow → AreFine flow
+  files_fine apart ended up named none text calls =
+      procedures_fine apart ended up named none text (λ sub has point is. nothing_procedures point.instr (calls sub has point is))

@@ -8,11 +8,11 @@ use Rattle.typed_tree.specs.declared.object.Object.{Object}
 use Rattle.typed_tree.specs.Programs.{text_io}
 use Rattle.flow_paths.specs.Objects.{is_formal_kind}
 use Rattle.flow_paths.specs.Laid.{FlowProgram, flow_program}
-use Rattle.soundness.specs.Sound.{IsFirstClass}
+use Rattle.soundness.specs.Sound.{IsFirstClass, IsProcedureClass}
 use Rattle.soundness.proofs.Points.{flow_table}
-use Rattle.ready_laws.proofs.Temporaries.{no_temporaries}
+use Rattle.ready_laws.proofs.Temporaries.{few_temporaries, no_temporaries}
 use Rattle.order_laws.specs.Orderly.{typed_of}
-use Rattle.sound_files.specs.Class.{IsPlainText, CallsNothing}
+use Rattle.sound_files.specs.Class.{IsPlainText, CallsNothing, CallsProcedures}
 use Rattle.sound_files.proofs.Access.{access_named}
 use Rattle.sound_files.proofs.Formals.{no_formals}
 
@@ -30,4 +30,14 @@ module _ (p : Program) where
     no_calls = calls;
     no_formals = λ x.
         subst (λ (objects : List Object). is_formal_kind (get_or objects x text_io).kind ≡ false) (sym (no_temporaries table (typed_of p) calls)) (no_formals p text.formless x);
+  }
+
+  -- With calls of procedures it is one of the second class.
+  pub procedure_class : IsPlainText p → CallsProcedures flow → IsProcedureClass flow
+  procedure_class text calls = record {
+    all_named = λ t d constant named is.
+        access_named p text.named t d constant named (subst (λ (rows : Table). shape_of rows t ≡ shape.Access d constant named) (flow_table table (typed_of p)) is);
+    calls = calls;
+    no_formals = λ x.
+        subst (λ (objects : List Object). is_formal_kind (get_or objects x text_io).kind ≡ false) (sym (few_temporaries table (typed_of p) calls)) (no_formals p text.formless x);
   }

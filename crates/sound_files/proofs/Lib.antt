@@ -8,4 +8,6 @@ pub mod First
 pub mod Flat
 pub mod Fine
 pub mod Main
+-- with calls of procedures
+pub mod Procedures
 pub mod Examples
