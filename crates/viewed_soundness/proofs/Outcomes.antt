@@ -1,6 +1,6 @@
 -- What instructions lead to in programs with borrowers and observers: conditions, assignments to
 -- targets that aren't views, and declarations of borrowers and observers.
-use Rattle.std.proofs.Common.{◌≡◌, refl, sym, ap, ◌∙◌, subst, ◌⊎◌, inl, inr, ℕ, ◌<◌, Bool, true, false, not, ◌&&◌, ◌||◌, List, [], ◌∷◌, ◌++◌, map, flat_map, reverse, take, drop, length, nat_lt, Option, Some, None, if◌then◌else◌, ◌==◌, eqb-true, eq-eqb, get_or, ◌+◌, append-nil, arith}
+use Rattle.std.proofs.Common.{◌≡◌, refl, sym, ap, ◌∙◌, subst, ◌⊎◌, inl, inr, ℕ, ◌<◌, Bool, true, false, not, ◌&&◌, ◌||◌, List, [], ◌∷◌, ◌++◌, map, flat_map, reverse, take, drop, length, nat_lt, Option, Some, None, if◌then◌else◌, ◌==◌, eqb-true, eq-eqb, ◌+◌, append-nil, arith}
 use Rattle.spark_base.specs.declared.position.Pos.{Pos}
 use Rattle.place_names.specs.declared.act.Act.{Act}
 use Rattle.place_names.specs.declared.act.Act.TheVariants as act
@@ -34,9 +34,6 @@ use Rattle.soundness.specs.Sound.{IsTrap}
 use Rattle.soundness.specs.Sound as sound
 use Rattle.typed_laws.specs.Needed.{Stays, Leads, Gives}
 use Rattle.soundness.proofs.Contents.{bool_cases, all_checks, checks_made}
-use Rattle.soundness.proofs.Memories.{removed_same, removed_other}
-use Rattle.soundness.proofs.Defaults.{none_default}
-use Rattle.soundness.proofs.Keeping.{cell_has}
 use Rattle.soundness.proofs.Steps.{alike}
 use Rattle.owned_loans.proofs.Clear.{refused, clear_same}
 use Rattle.viewed_soundness.proofs.Moments.{ended_viewed}
@@ -85,7 +82,7 @@ neither : (a b : Bool) → a || b ≡ false → (a ≡ false) × (b ≡ false)
 neither true b e = cc
 neither false b e = (refl, e)
 
-not_views : (s : Typing) (x : ℕ) → IsNamed s.table (object_at s x).of → (is_borrower s x ≡ false) × (is_observer s x ≡ false)
+pub not_views : (s : Typing) (x : ℕ) → IsNamed s.table (object_at s x).of → (is_borrower s x ≡ false) × (is_observer s x ≡ false)
 not_views s x named =
     let none = neither (is_borrowing (full s.table (object_at s x).of)) (is_observing (full s.table (object_at s x).of)) (named_plain s.table (object_at s x).of named) in (
       no_and (is_variable (object_at s x).kind) (is_borrowing (full s.table (object_at s x).of)) none.0,
@@ -146,7 +143,7 @@ module _ (t : Turn) (settled : IsSettled (typing t).table) (own_law : OwnsByShap
   -- A view got its way from an object, or from the way of one that is a view itself.
   pub record Comes (views : Views) (facts : List Fact) (x y : ℕ) (w : Way) : Type 0 where
     pub up : (number_of (views.up x) ≡ y) ⊎ ((k : Way) × (v.way y ≡ Some k) × (number_of (views.up x) ≡ number_of (v.up y)))
-    pub root : (number_of w ≡ y) ⊎ ((k : Way) × (v.way y ≡ Some k) × (number_of w ≡ number_of k))
+    pub root : ((number_of w ≡ y) × (y ≡ x → ⊥)) ⊎ ((k : Way) × (v.way y ≡ Some k) × (number_of w ≡ number_of k))
     pub loan : is_observer s x ≡ true → (Has facts (Lent Observed x (ways.name_of (views.loan x))))
         ⊎ ((k : Way) × (v.way y ≡ Some k) × (is_observer s y ≡ true) × (views.loan x ≡ v.loan y))
 
@@ -161,22 +158,22 @@ module _ (t : Turn) (settled : IsSettled (typing t).table) (own_law : OwnsByShap
   Leads_on facts (Ends e state) = (IsTrap e → ⊥) × WellOwned s state
 
   -- where the step raises
-  raises : (facts : List Fact) → IsGood v facts t.state → (m : Memory) → WellOwned s (counted (record t.state { memory = given_up t.state.memory m }))
+  pub raises : (facts : List Fact) → IsGood v facts t.state → (m : Memory) → WellOwned s (counted (record t.state { memory = given_up t.state.memory m }))
   raises facts good m = raised_owned s settled t.state good.viewed.owned good.viewed.covered m
 
   abbrev Raises_well : Type 0
   Raises_well = (m : Memory) → WellOwned s (counted (record t.state { memory = given_up t.state.memory m }))
 
-  abbrev now : Now
+  abbrev pub now : Now
   now = record { memory = t.state.memory; waits = [] }
 
-  start_is : start t ≡ record { memory = t.state.memory; waits = [] }
+  pub start_is : start t ≡ record { memory = t.state.memory; waits = [] }
   start_is =
       (λ j. record { memory = t.state.memory; waits = map (λ (v : Waiting). v.words) (reverse (take (none j) t.frame.waits)) })
       ∙ ap (λ z. record { memory = t.state.memory; waits = map (λ (v : Waiting). v.words) (reverse z) }) (take_none t.frame.waits)
 
   -- what waits, waits on
-  hands_behind : (m : Memory) (k : ℕ) → waiting_in (behind t (waiting t) m k) ≡ hands
+  pub hands_behind : (m : Memory) (k : ℕ) → waiting_in (behind t (waiting t) m k) ≡ hands
   hands_behind m k =
       led_waits t (record t.frame { waits = waiting t }) (successor t k)
       ∙ ap (λ n. drop n t.frame.waits ++ flat_map waits_of t.outer) none
@@ -215,7 +212,7 @@ module _ (t : Turn) (settled : IsSettled (typing t).table) (own_law : OwnsByShap
 
   -- ---- conditions
 
-  live : (facts : List Fact) (good : IsGood v facts t.state) → (w : Way) (l : Loc) → IsRooted w → Reaches (seen s t.state.memory hands t.state.leaks) w l
+  pub live : (facts : List Fact) (good : IsGood v facts t.state) → (w : Way) (l : Loc) → IsRooted w → Reaches (seen s t.state.memory hands t.state.leaks) w l
       → (content s t.state.memory hands (trunk l)).owns ≡ true
   live facts good = live_trunk (here t) settled t.state.leaks [] other alone (keeps s settled own_law) no_formals index_law own_law v parts_named t.state.memory hands good.viewed.owned
 
@@ -310,16 +307,21 @@ module _ (t : Turn) (settled : IsSettled (typing t).table) (own_law : OwnsByShap
       Viewed (home s depth) (is_observer s) other views (seen s (declared depth x (z ∷ []) m) hands t.state.leaks) facts
       × Kept s (declared depth x (z ∷ []) m) hands × Holds s depth views (declared depth x (z ∷ []) m) × Turned views facts
 
-  -- the number of an owner that a name rooted in an object stands for
-  root_from : (y : ℕ) (u : Way) → number_of u ≡ y
-      → (number_of (expand v u) ≡ y) ⊎ ((k : Way) × (v.way y ≡ Some k) × (number_of (expand v u) ≡ number_of k))
-  root_from y u root = elim (lifts v u) [
-    | inl e ↦ inl (ap number_of e ∙ root)
-    | inr l ↦ inr (
-        l.way,
-        subst (λ z. v.way z ≡ Some l.way) (sym (lifted_root v u l) ∙ root) l.has,
-        ap number_of (lifted_way v u l) ∙ root_on l.way l.rest,
-      )
+  -- the root of what a name stands for that is rooted in an object
+  abbrev Has_root : ℕ → ℕ → Way → Type 0
+  Has_root x y w = ((number_of w ≡ y) × (y ≡ x → ⊥)) ⊎ ((k : Way) × (v.way y ≡ Some k) × (number_of w ≡ number_of k))
+
+  lifted_from : (x y : ℕ) (u : Way) → number_of u ≡ y → Lifted v u → Has_root x y (expand v u)
+  lifted_from x y u root l = inr (
+    l.way,
+    subst (λ z. v.way z ≡ Some l.way) (sym (lifted_root v u l) ∙ root) l.has,
+    ap number_of (lifted_way v u l) ∙ root_on l.way l.rest,
+  )
+
+  root_from : (x y : ℕ) (u : Way) → number_of u ≡ y → (y ≡ x → ⊥) → Has_root x y (expand v u)
+  root_from x y u root apart = elim (lifts v u) [
+    | inl e ↦ inl (ap number_of e ∙ root, apart)
+    | inr l ↦ lifted_from x y u root l
   ]
 
   same_some : (a b : Way) → Some a ≡ Some b → a ≡ b
@@ -347,13 +349,12 @@ module _ (t : Turn) (settled : IsSettled (typing t).table) (own_law : OwnsByShap
 
   -- it is taken from an object, or from what another view designates
   taken_from : (views : Views) (x y : ℕ) (z : machine.Word) (u loan : Way) (facts : List Fact)
-      → Becomes v views x (way_from z (expand v (All u))) loan (All u) (number_in z) → may x y → number_of u ≡ y
+      → Becomes v views x (way_from z (expand v (All u))) loan (All u) (number_in z) → may x y → number_of u ≡ y → (y ≡ x → ⊥)
       → (is_observer s x ≡ true → Has facts (Lent Observed x (ways.name_of loan))) → Turned views facts
-  taken_from views x y z u loan facts becomes mine root lent =
+  taken_from views x y z u loan facts becomes mine root apart lent =
       turned_by views x y (way_from z (expand v (All u))) loan (All u) (number_in z) facts becomes mine (λ w e. record {
         up = inl (ap number_of becomes.up_is ∙ root);
-        root = subst (λ q. (number_of q ≡ y) ⊎ ((k : Way) × (v.way y ≡ Some k) × (number_of q ≡ number_of k))) (sym (way_of z (expand v (All u)) w e))
-            (root_from y (All u) root);
+        root = subst (Has_root x y) (sym (way_of z (expand v (All u)) w e)) (root_from x y (All u) root apart);
         loan = λ sees. inl (subst (λ q. Has facts (Lent Observed x (ways.name_of q))) (sym becomes.loan_is) (lent sees));
       })
 
@@ -365,8 +366,7 @@ module _ (t : Turn) (settled : IsSettled (typing t).table) (own_law : OwnsByShap
       let has : v.way y ≡ Some l.way = subst (λ q. v.way q ≡ Some l.way) object l.has in
       turned_by views x y (way_from z (expand v (All u))) (v.loan l.object) (next_of v (All u) l) (number_in z) facts becomes mine (λ w e. record {
         up = inr (l.way, has, ap number_of becomes.up_is ∙ root_on (v.up l.object) l.rest ∙ ap (λ q. number_of (v.up q)) object);
-        root = subst (λ q. (number_of q ≡ y) ⊎ ((k : Way) × (v.way y ≡ Some k) × (number_of q ≡ number_of k))) (sym (way_of z (expand v (All u)) w e))
-            (root_from y (All u) root);
+        root = subst (Has_root x y) (sym (way_of z (expand v (All u)) w e)) (lifted_from x y (All u) root l);
         loan = λ observes. inr (l.way, has, sees observes, becomes.loan_is ∙ ap v.loan object);
       })
 
@@ -435,6 +435,7 @@ module _ (t : Turn) (settled : IsSettled (typing t).table) (own_law : OwnsByShap
       (subst (λ n. n < x) (sym root) older) is (subst (λ n. Allows facts (act.Borrow x n)) (sym called) allowed) in
       let turned : Turned views (effect (act.Borrow x (ways.name_of w)) facts) =
       taken_from views x y z w w (effect (act.Borrow x (ways.name_of w)) facts) (becomes_with v x (way_from z (expand v (All w))) w (All w) (number_in z)) mine root
+      (λ same. absurd (omega (arith, older, same)))
       (λ sees. absurd (true_false (is_observer s x) sees borrows)) in
       (views, subst (λ n. Got views x z (effect (act.Borrow x n) facts)) called (got.sound, got.words_kept, got.views_held, turned))
 
@@ -450,6 +451,7 @@ module _ (t : Turn) (settled : IsSettled (typing t).table) (own_law : OwnsByShap
       is (subst (λ n. Allows facts (act.Observe x n false)) (sym called) allowed) in
       let turned : Turned views (effect (act.Observe x (ways.name_of w) false) facts) =
       taken_from views x y z w w (effect (act.Observe x (ways.name_of w) false) facts) (becomes_with v x (way_from z (expand v (All w))) w (All w) (number_in z)) mine root
+      (λ same. absurd (true_false (is_observer s x) sees (ap (is_observer s) (sym same) ∙ plain)))
       (λ sees. fact_added (act.Observe x (ways.name_of w) false) facts (Lent Observed x (ways.name_of w)) (inl refl)) in
       (views, subst (λ n. Got views x z (effect (act.Observe x n false) facts)) called (got.sound, got.words_kept, got.views_held, turned))
 

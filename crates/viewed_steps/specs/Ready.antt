@@ -11,11 +11,11 @@ use Rattle.flow_paths.specs.declared.report.Effects.{Effects}
 use Rattle.flow_paths.specs.Instructions.{Declare, Assign, Input, EndScope}
 use Rattle.flow_paths.specs.Objects.{object_at, is_variable, is_anonymous, is_observer, is_package_object, view_of}
 use Rattle.flow_paths.specs.Points.{NamedPoint, FlowPoint}
-use Rattle.flow_paths.specs.Laid.{FlowSub, FlowProgram, NamedSub, flow_typing, flow_program, flow_named}
+use Rattle.flow_paths.specs.Laid.{FlowSub, FlowProgram, NamedSub, number_in, flow_typing, flow_program, flow_named}
 use Rattle.flow_paths.specs.Scopes.{is_within}
 use Rattle.flow_paths.specs.Views.{encloses, scope_of}
 use Rattle.soundness.specs.Typed.{OwnsByShape}
-use Rattle.soundness.specs.Sound.{Accepted, IsNamedSub, IsProcedure}
+use Rattle.soundness.specs.Sound.{Accepted, IsNamedSub, IsAtPoint, IsProcedure}
 use Rattle.soundness.specs.Ready.{AreScoped, AreNew, AreElaborated}
 use Rattle.viewed_soundness.specs.Holds.{AllKeep}
 use Rattle.viewed_steps.specs.Sound.{IsViewClass, Lasts}
@@ -61,7 +61,7 @@ pub record ViewsAreOrderly (table : Table) (typed : TypedProgram) : Type 0 where
       → encloses (flow_program table typed).scopes a c ≡ true
   pub itself : (a : ℕ) → encloses (flow_program table typed).scopes a a ≡ true
   pub points : (sub : NamedSub) → Has (flow_named table typed) sub → (p : NamedPoint) → Has sub.points p
-      → AreOrderly (flow_program table typed) p (λ q. Has sub.points q × Has p.next q.name)
+      → AreOrderly (flow_program table typed) p (λ q. (n : ℕ) × Has (map (number_in sub.points) p.next) n × IsAtPoint sub.points n q)
   -- nothing is moved, written or freed through an observer
   pub kept : (sub : FlowSub) → Has (flow_program table typed).subs sub → (p : FlowPoint) → Has sub.points p
       → AllKeep (is_observer (flow_typing (flow_program table typed))) (map (λ (a : Placed). a.act) p.acts)

@@ -65,14 +65,13 @@ pub record HoldsAt (s : Typing) (frame : ℕ) (v : Views) (m : Memory) (p : Name
   pub only : (x : ℕ) (w : Way) → v.way x ≡ Some w → is_anonymous (view_of s x) ≡ true
 
 -- A view is in scope. The roots of its way and of what it was taken from last, and so does the one
--- that holds the loan of an observer. What a borrower borrows is older.
+-- that holds the loan of an observer.
 pub record IsPlaced (program : FlowProgram) (facts : List Fact) (v : Views) (scope : List ℕ) (x : ℕ) (w : Way) : Type 0 where
   pub within : is_within x scope ≡ true
   pub up : Lasts program scope (number_of (v.up x)) x
   pub root : Lasts program scope (number_of w) x
   pub holder : is_observer (flow_typing program) x ≡ true
       → (h : ℕ) × Has facts (Lent Observed h (name_of (v.loan x))) × Lasts program scope h x
-  pub older : is_observer (flow_typing program) x ≡ false → number_of w < x
 
 abbrev pub ArePlaced : FlowProgram → List Fact → Views → List ℕ → Type 0
 ArePlaced program facts v scope = (x : ℕ) (w : Way) → v.way x ≡ Some w → IsPlaced program facts v scope x w

@@ -1,0 +1,3 @@
+pub mod Faded
+pub mod Declared
+pub mod Released
