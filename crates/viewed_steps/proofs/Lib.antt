@@ -1,3 +1,4 @@
 pub mod Faded
 pub mod Declared
 pub mod Released
+pub mod Read

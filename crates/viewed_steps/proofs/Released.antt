@@ -27,10 +27,9 @@ use Rattle.machine.specs.States.{Waiting, Leak, Outcome}
 use Rattle.machine.specs.Step.{Turn, release, typing, here, start, goes, leaking_goes}
 use Rattle.machine.specs.Step as steps
 use Rattle.machine.specs.Owners.{is_in_formal, waiting_in}
-use Rattle.owned_ways.specs.Ways.{OfVariable, Loc, OfCell, Way, Object, All, Empty, Gone, Held, View, Reaches, IsRooted, Under, Named, IsMoved, Allows, part, after, AllowsAll, number_of}
+use Rattle.owned_ways.specs.Ways.{OfVariable, Loc, OfCell, Inside, Way, Object, Lost, Into, All, Empty, Gone, Held, View, Reaches, Below, IsRooted, Under, Named, IsMoved, Allows, part, after, AllowsAll, number_of}
 use Rattle.owned_ways.specs.Ways as ways
 use Rattle.owned_ways.proofs.Locations.{under_itself, depth as depth_of}
-use Rattle.owned_ways.proofs.Unique.{one_way}
 use Rattle.owned_ways.proofs.Named.{under_leads, covered_under}
 use Rattle.owned_ways.proofs.Assigned.{either_left, kept_fact, is_false, named_rooted}
 use Rattle.part_offsets.specs.Parts.{type_in, offset_in, has_part, owns_one, is_leaf, IsSettled}
@@ -51,7 +50,7 @@ use Rattle.soundness.proofs.Scalars.{acts, acts_append, after_append, allows_bot
 use Rattle.soundness.proofs.Stays.{Quiet}
 use Rattle.soundness.proofs.Numbers.{index_law}
 use Rattle.soundness.proofs.Lasting.{keeps, stored_kept, freed_kept}
-use Rattle.soundness.proofs.Freeing.{ends_there}
+use Rattle.owned_ways.proofs.Unique.{one_way, one_location}
 use Rattle.owned_loans.specs.Views.{Views, expand, ExcusedBy, IsMovedBy, Viewed}
 use Rattle.owned_loans.proofs.Ways.{meet_overlaps, under_on}
 use Rattle.owned_loans.proofs.Meeting.{IsPlain, meeting}
@@ -67,6 +66,22 @@ use Rattle.viewed_soundness.proofs.Stored.{holds_stored, no_view_place}
 use Rattle.viewed_soundness.proofs.Outcomes.{IsGood, Leads_on, raises, start_is, unturned, goes_to, goes_on, live}
 
 -- ---- facts at a release
+
+-- a way through a place without a number ends there
+module _ (view : View) (k : Way) (at : Loc) (target : Reaches view k at) (empty : (p : List ways.Step) → view.word (part at p) ≡ Empty) where
+  ends_there : (w : Way) (l : Loc) → Reaches view w l → Under k w → Below at l
+  ends_there (Object x) l r u = ([], one_location view (Object x) l at r (subst (λ z. Reaches view z at) u target))
+  ends_there (Lost x) l r u = ([], one_location view (Lost x) l at r (subst (λ z. Reaches view z at) u target))
+  ends_there (Into w i) l (m, r, e) u = elim u [
+    | inl same ↦ ([], one_location view (Into w i) l at (m, r, e) (subst (λ z. Reaches view z at) same target))
+    | inr u ↦ (let b = ends_there w m r u in (i ∷ b.0, e ∙ ap (λ y. Inside y i) b.1))
+  ]
+  ends_there (All w) l (m, c, r, h, e) u = elim u [
+    | inl same ↦ ([], one_location view (All w) l at (m, c, r, h, e) (subst (λ z. Reaches view z at) same target))
+    | inr u ↦ (
+        let b = ends_there w m r u in
+        let no_number : Held c ≡ Empty = sym h ∙ ap view.word b.1 ∙ empty b.0 in cc)
+  ]
 
 module _ (home : ℕ → ℕ) (observer : ℕ → Bool) (other : Way → Type 0) (v : Views) (s : View) (facts : List Fact)
     (viewed : Viewed home observer other v s facts) where
