@@ -50,7 +50,7 @@ use Rattle.viewed_soundness.proofs.Outcomes.{named_plain, not_views, IsGood, Lea
 
 -- ---- a variable that had nothing gets a value
 
-same_root : (f x g y : ℕ) → OfVariable f x ≡ OfVariable g y → (f ≡ g) × (x ≡ y)
+pub same_root : (f x g y : ℕ) → OfVariable f x ≡ OfVariable g y → (f ≡ g) × (x ≡ y)
 same_root f x g y e = (cc, cc)
 
 -- What is in no variable but another one, and in no hand.

@@ -2,3 +2,4 @@ pub mod Faded
 pub mod Declared
 pub mod Released
 pub mod Read
+pub mod Rounds

@@ -59,7 +59,7 @@ use Rattle.viewed_soundness.proofs.Stored.{holds_stored, no_view_place}
 use Rattle.viewed_soundness.proofs.Outcomes.{IsGood, Leads_on, raises, start_is, unturned, goes_to, live}
 
 -- a scalar type isn't anonymous
-scalar_named : (table : Table) (u : ℕ) → is_scalar (full table u) ≡ true → IsNamed table u
+pub scalar_named : (table : Table) (u : ℕ) → is_scalar (full table u) ≡ true → IsNamed table u
 scalar_named table u scalar d c n is = absurd (not_scalar d c n (sym (ap (λ z. is_scalar (view_of_shape z)) is) ∙ scalar))
   where
     not_scalar : (d : ℕ) (c n : Bool) → is_scalar (view_of_shape (shape.Access d c n)) ≡ true → ⊥
