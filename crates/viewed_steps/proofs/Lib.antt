@@ -3,3 +3,6 @@ pub mod Declared
 pub mod Released
 pub mod Read
 pub mod Rounds
+pub mod Lent
+pub mod Placed
+pub mod Ended

@@ -76,20 +76,20 @@ pub record IsPlaced (program : FlowProgram) (facts : List Fact) (v : Views) (sco
 abbrev pub ArePlaced : FlowProgram → List Fact → Views → List ℕ → Type 0
 ArePlaced program facts v scope = (x : ℕ) (w : Way) → v.way x ≡ Some w → IsPlaced program facts v scope x w
 
--- Frames that aren't there hold no numbers in views.
-abbrev pub HaveNone : Typing → ℕ → Memory → Type 0
-HaveNone s depth m =
-    (f x n : ℕ) → depth < f → is_anonymous (view_of s x) ≡ true → (get_or (variable_slots s f x m.variables) 0 no_slot).word ≡ Cell n → ⊥
+-- Before the main procedure begins, no view of its frame has a number.
+abbrev pub HaveNone : Typing → Memory → Type 0
+HaveNone s m = (x n : ℕ) → is_anonymous (view_of s x) ≡ true → (get_or (variable_slots s 1 x m.variables) 0 no_slot).word ≡ Cell n → ⊥
 
 -- ---- a state
 
 -- The frame of the package objects alone, which have no views; or that of the main procedure over
 -- it.
-abbrev pub IsRunning : Table → TypedProgram → Views → List Stage → Type 0
-IsRunning table typed v [] = ⊥
-IsRunning table typed v (e ∷ []) = (e.frame.sub ≡ 0) × IsPlain e × ((x : ℕ) → v.way x ≡ None)
-IsRunning table typed v (top ∷ (e ∷ [])) = IsProcedure table typed top.frame.sub × IsPlain top × (e.frame.sub ≡ 0) × IsPlain e
-IsRunning table typed v _ = ⊥
+abbrev pub IsRunning : Table → TypedProgram → Views → Memory → List Stage → Type 0
+IsRunning table typed v m [] = ⊥
+IsRunning table typed v m (e ∷ []) =
+    (e.frame.sub ≡ 0) × IsPlain e × ((x : ℕ) → v.way x ≡ None) × HaveNone (flow_typing (flow_program table typed)) m
+IsRunning table typed v m (top ∷ (e ∷ [])) = IsProcedure table typed top.frame.sub × IsPlain top × (e.frame.sub ≡ 0) × IsPlain e
+IsRunning table typed v m _ = ⊥
 
 -- The innermost frame with its views, the one around it, and what holds of both.
 pub record IsSound (table : Table) (typed : TypedProgram) (effects : Effects) (state : State) : Type 0 where
@@ -97,7 +97,7 @@ pub record IsSound (table : Table) (typed : TypedProgram) (effects : Effects) (s
   pub older : List Stage
   pub views : Views
   pub stages : AreStages (top ∷ older) state.frames
-  pub running : IsRunning table typed views (top ∷ older)
+  pub running : IsRunning table typed views state.memory (top ∷ older)
   pub path : ControlPath (path_points (flow_program table typed) effects (sub_of (flow_program table typed) top.frame.sub)) top.before top.frame.next
   -- the state is well owned, each view has a way to its cell, and what ways find gone is moved
   pub viewed : Viewed (home (flow_typing (flow_program table typed)) top.depth) (is_observer (flow_typing (flow_program table typed)))
@@ -113,7 +113,6 @@ pub record IsSound (table : Table) (typed : TypedProgram) (effects : Effects) (s
   pub scope : InScope (flow_typing (flow_program table typed)) state.memory top.depth point.scope
   pub holds : HoldsAt (flow_typing (flow_program table typed)) top.depth views state.memory point
   pub placed : ArePlaced (flow_program table typed) (facts_of (flow_program table typed) effects top) views point.scope
-  pub beyond : HaveNone (flow_typing (flow_program table typed)) top.depth state.memory
 
 -- ---- what is to be proved
 
