@@ -20,9 +20,9 @@ use Rattle.flow_paths.specs.Layout.{Around, within_loop, within_block, with_scop
 use Rattle.flow_paths.specs.Laid.{around_body, scope_at_end, procedure_end, function_end, body_points, sub_points}
 use Rattle.flow_paths.specs.Scopes.{leaves_silently, is_declaration, is_undeclaring, is_settled}
 use Rattle.flow_paths.specs.Views.{scope_of}
+use Rattle.flow_paths.proofs.ScopesFlow.{drop_held}
 use Rattle.flow_paths.proofs.StatementScopes.{after, after_undeclaring, after_more}
 use Rattle.scope_laws.proofs.Lists.{and_first, and_second, all_both, has_reverse}
-use Rattle.scope_laws.proofs.Ordered.{IsTemporary, held_temporary}
 use Rattle.layered_scopes.specs.Layered.{are_of_scope, are_apart, is_layered, is_each_layered, is_region, is_body_layered}
 use Rattle.layered_scopes.specs.Points.{IsAbove, GoesOn, IsFading, AreFading}
 use Rattle.layered_scopes.proofs.Closing.{all_test, Heads, Closes, closes_silent, closes_block, sorted}
@@ -40,9 +40,9 @@ is_quiet (instruction.Assign target e) = false
 is_quiet (instruction.EndScope x) = false
 is_quiet _ = true
 
-module _ (s : Setting) (older : ℕ → ℕ → Bool) (fits : Instruction → Bool) (is : ℕ → Type 0) (apart : (x : ℕ) → is x → IsTemporary s x → ⊥) where
+module _ (s : Setting) (older : ℕ → ℕ → Bool) (fits : Instruction → Bool) where
   abbrev Above : NamedPoint → Type 0
-  Above p = IsAbove is older fits p
+  Above p = IsAbove older fits p
 
   abbrev pub Good : List NamedPoint → Type 0
   Good ps = AllByRecursion Above ps × AreFading s.typing ps
@@ -91,19 +91,14 @@ module _ (s : Setting) (older : ℕ → ℕ → Bool) (fits : Instruction → Bo
   quiet : (p : NamedPoint) → is_quiet p.instr ≡ true → Good (p ∷ [])
   quiet p h = more p [] h none
 
-  held_or : (e : TypedTree) (at : Place) (scope : List ℕ) (y : ℕ) → is y → Has (with_held s e at scope) y → Has scope y
-  held_or e at scope y what has = elim (Has-append_cases (held s e at) scope y has) [
-    | inl waits ↦ absurd (apart y what (held_temporary s e at y waits))
-    | inr there ↦ there
-  ]
-
   declares_there : (name : PointName) (p : Pos) (x : ℕ) (v : TypedTree) (at : Place) (scope : List ℕ) (next : List PointName)
       → list_all (older x) scope && fits (instruction.Declare x v) ≡ true → Good (point name p (instruction.Declare x v) (with_held s v at scope) next ∷ [])
   declares_there name p x v at scope next h = (
     (
       record {
-        declares = λ z w e y what has.
-        (let same : x ≡ z = cc in subst (λ u. older u y ≡ true) same (all_test (older x) scope y (and_first (list_all (older x) scope) _ h) (held_or v at scope y what has)));
+        declares = λ z w e y has.
+        (let same : x ≡ z = cc in subst (λ u. older u y ≡ true) same
+        (all_test (older x) scope y (and_first (list_all (older x) scope) _ h) (subst (λ sc. Has sc y) (drop_held s v at scope) has)));
         ends = λ z e. absurd (let no_end : ⊥ = cc in no_end);
         declared = λ z w e. and_second (list_all (older x) scope) _ h;
         assigned = λ target w e. absurd (let no_end : ⊥ = cc in no_end);

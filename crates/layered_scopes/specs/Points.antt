@@ -5,12 +5,13 @@ use Rattle.typed_tree.specs.Trees.{TypedTree}
 use Rattle.flow_paths.specs.Instructions.{Instruction, Declare, Assign, EndScope}
 use Rattle.flow_paths.specs.Objects.{Typing, is_observer}
 use Rattle.flow_paths.specs.Points.{PointName, NamedPoint}
+use Rattle.flow_paths.specs.Scopes.{taken}
 use Rattle.flow_paths.specs.Views.{scope_of}
 
--- What is in scope where an object is declared, as far as told, is older; so is what else is in
--- scope where its scope ends. Declarations and assignments fit.
-pub record IsAbove (is : ℕ → Type 0) (older : ℕ → ℕ → Bool) (fits : Instruction → Bool) (p : NamedPoint) : Type 0 where
-  pub declares : (x : ℕ) (v : TypedTree) → p.instr ≡ Declare x v → (y : ℕ) → is y → Has p.scope y → older x y ≡ true
+-- What is in scope where an object is declared, but for the temporaries that its value is taken from,
+-- is older; so is what else is in scope where its scope ends. Declarations and assignments fit.
+pub record IsAbove (older : ℕ → ℕ → Bool) (fits : Instruction → Bool) (p : NamedPoint) : Type 0 where
+  pub declares : (x : ℕ) (v : TypedTree) → p.instr ≡ Declare x v → (y : ℕ) → Has (drop (taken p.instr) p.scope) y → older x y ≡ true
   pub ends : (x : ℕ) → p.instr ≡ EndScope x → (y : ℕ) → Has (drop 1 p.scope) y → older x y ≡ true
   pub declared : (x : ℕ) (v : TypedTree) → p.instr ≡ Declare x v → fits p.instr ≡ true
   pub assigned : (target e : TypedTree) → p.instr ≡ Assign target e → fits p.instr ≡ true
