@@ -1,0 +1,5 @@
+pub mod Acts
+pub mod Reports
+pub mod Enclosing
+pub mod Packages
+pub mod Facts

@@ -1,0 +1,2 @@
+-- what is asked of typed programs
+pub mod InOrder
