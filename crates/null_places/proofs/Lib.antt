@@ -1,0 +1,8 @@
+-- memories that agree
+pub mod Lists
+pub mod Memories
+pub mod Only
+-- what is looked at isn't gone
+pub mod Places
+pub mod Walks
+pub mod Scalars
