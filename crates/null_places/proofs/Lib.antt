@@ -6,3 +6,4 @@ pub mod Only
 pub mod Places
 pub mod Walks
 pub mod Scalars
+pub mod Evaluated
