@@ -7,3 +7,4 @@ pub mod Places
 pub mod Walks
 pub mod Scalars
 pub mod Evaluated
+pub mod Instructions

@@ -1,6 +1,6 @@
 -- Scalar expressions and the indexes of names give the same in memories that agree.
 use Rattle.std.proofs.Common.{◌≡◌, refl, sym, ap, ◌∙◌, subst, inl, inr, ℕ, ◌<◌, Bool, true, false, not, ◌&&◌, ◌||◌, List, [], ◌∷◌, ◌++◌, length, ℤ, ◌-ℤ◌, int_le, unsigned_abs, Option, Some, None, if◌then◌else◌}
-use Rattle.place_names.specs.declared.act.Act.{Act}
+use Rattle.spark_base.specs.declared.position.Pos.{Pos}
 use Rattle.place_names.specs.declared.act.Act.TheVariants as act
 use Rattle.place_names.specs.declared.act.Placed.{Placed}
 use Rattle.place_names.specs.declared.fact.Fact.{Fact}
@@ -23,7 +23,7 @@ use Rattle.flow_paths.specs.Acts.{used, acts_in}
 use Rattle.machine.specs.Words.{component_type}
 use Rattle.machine.specs.Words as machine
 use Rattle.machine.specs.Memory.{Slot, Memory, Place, slots_of, words_of, moved_out}
-use Rattle.machine.specs.Evaluate.{Here, Now, Use, AsValue, AsView, Evaluated, Done, Raises, Traps, followed_by, evaluate, steps_of, variable_place, walked, held_or_taken, taken, indexed, operated, operated_alone, given, decides, truth}
+use Rattle.machine.specs.Evaluate.{Here, Now, Use, AsValue, AsView, Evaluated, Done, Raises, Traps, followed_by, evaluate, steps_of, place_of, text_of, value, variable_place, walked, held_or_taken, taken, indexed, operated, operated_alone, given, decides, truth}
 use Rattle.machine.specs.Evaluate as run
 use Rattle.machine.specs.States.{Waiting, Leak}
 use Rattle.owned_ways.specs.Ways.{OfVariable, Loc, OfRoot, Way, Object, Reaches, IsRooted, Past, Named, IsMoved, Excused, Allows, after, AllowsAll, Sound}
@@ -34,12 +34,12 @@ use Rattle.owned_ways.proofs.Assigned.{test_fails, either_left, named_rooted}
 use Rattle.part_offsets.specs.Parts.{IsSettled}
 use Rattle.soundness.specs.Seen.{content, trunk, seen, home, IsNear}
 use Rattle.soundness.specs.Typed.{OwnsByShape, Kept, Spot}
-use Rattle.typed_laws.specs.Needed.{Stays, Leads, IndexLaw}
+use Rattle.typed_laws.specs.Needed.{Stays, Leads, Writes, IndexLaw}
 use Rattle.soundness.proofs.Near.{named_near, past_near}
 use Rattle.soundness.proofs.Walks.{way_along, Walked}
 use Rattle.soundness.proofs.Steps.{no_leaf}
 use Rattle.soundness.proofs.Scalars.{after_append, allows_both, acts, acts_append, read_way, look_way, number_along, named_along}
-use Rattle.soundness.proofs.Stays.{Quiet, One, Goes, quiet, steps_quiet, name_quiet}
+use Rattle.soundness.proofs.Stays.{Quiet, One, Any, Goes, quiet_then, quiet, steps_quiet, name_quiet}
 use Rattle.null_places.specs.Compares.{Compares}
 use Rattle.null_places.proofs.Memories.{NoneGone, words_agree}
 use Rattle.null_places.proofs.Only.{OnlyOwners}
@@ -337,3 +337,80 @@ module _ (h : Here) (settled : IsSettled h.typing.table) (hands : List Waiting) 
         (steps_same e u rest lead calls.1 compares.1 (each.0 first.1) i' (subst (λ z. SameNow h.typing z i') (still ∙ q.0) so)) (λ way n n'' now. (refl, now)))))
     steps_same t u NoMore lead none compares allowed n' same = (refl, same)
     steps_same t u steps lead none compares allowed n' same = absurd lead
+
+  -- ---- places
+
+  -- A place that a name leads to.
+  abbrev pub IsPlaced : ℕ → ℕ → TypedTree → Evaluated Place → Type 0
+  IsPlaced x t steps (Done k n) =
+      (way : List run.Step) × Goes h.typing.table (object_at h.typing x).of t steps way
+      × Walked h.typing settled hands leaks m waits (way_along way (first_way x)) t (Done k n)
+  IsPlaced x t steps y = Unit {0}
+
+  from_walk : (x t : ℕ) (steps : TypedTree) (way : List run.Step) → Goes h.typing.table (object_at h.typing x).of t steps way → (z : Evaluated Place)
+      → Walked h.typing settled hands leaks m waits (way_along way (first_way x)) t z → IsPlaced x t steps z
+  from_walk x t steps way goes (Done k n) is = (way, goes, is)
+  from_walk x t steps way goes (Raises e n) is = tt
+  from_walk x t steps way goes (Traps e n) is = tt
+
+  placed_there : (x t : ℕ) (steps : TypedTree) → Clean x steps → (y : Evaluated (List run.Step))
+      → Quiet at (λ way. Goes h.typing.table (object_at h.typing x).of t steps way) y
+      → IsPlaced x t steps (followed_by y (λ way now. walked h.typing way (variable_place h x) now))
+  placed_there x t steps clean (Done way n) (same, goes) =
+      subst (λ z. IsPlaced x t steps (walked h.typing way (variable_place h x) z)) (sym same)
+      (from_walk x t steps way goes (walked h.typing way (variable_place h x) at) (name_here x steps t way goes clean))
+  placed_there x t steps clean (Raises e n) q = tt
+  placed_there x t steps clean (Traps e n) q = tt
+
+  pub place_same : (p : Pos) (x t : ℕ) (steps : TypedTree) → Leads h.typing (object_at h.typing x).of steps t → has_call steps ≡ false → Compares h.typing steps
+      → AllowsAll facts (acts (acts_in h.typing steps)) → Clean x steps → (n' : Now) → SameNowAt n'
+      → SameTo h.typing (place_of h (Name p x steps t) at) (place_of h (Name p x steps t) n') × IsPlaced x t steps (place_of h (Name p x steps t) at)
+  place_same p x t steps lead none compares allowed clean n' same =
+      let q = (steps_here (object_at h.typing x).of t steps lead none allowed).0 in (
+        then_same h.typing (QuietAt (λ way. Goes h.typing.table (object_at h.typing x).of t steps way)) (steps_of h steps at) (steps_of h steps n')
+            (λ way now. walked h.typing way (variable_place h x) now) (λ way now. walked h.typing way (variable_place h x) now) q
+            (steps_same (object_at h.typing x).of t steps lead none compares allowed n' same)
+            (λ way n n'' p now. subst (λ z. SameTo h.typing (walked h.typing way (variable_place h x) z) (walked h.typing way (variable_place h x) n'')) (sym p.0)
+            (name_same x steps t way p.1 clean n'' (subst (λ z. SameNow h.typing z n'') p.0 now))),
+        placed_there x t steps clean (steps_of h steps at) q,
+      )
+
+  -- ---- strings
+
+  text_quiet : {A B : Type 0} (x : Evaluated A) (f : A → Now → Evaluated B) → Quiet at (Any {A = A}) x → ((a : A) → Quiet at (Any {A = B}) (f a at))
+      → Quiet at (Any {A = B}) (followed_by x f)
+  text_quiet x f q next = quiet_then at Any Any x f q (λ a any. next a)
+
+  weaker : (x : Evaluated (List machine.Word)) → Quiet at One x → Quiet at (Any {A = List machine.Word}) x
+  weaker (Done a n) q = (q.0, tt)
+  weaker (Raises e n) q = q
+  weaker (Traps e n) q = q
+
+  pub text_same : (e : TypedTree) → Writes h.typing e → has_call e ≡ false → Compares h.typing e → AllowsAll facts (acts (acts_in h.typing e))
+      → (n' : Now) → SameNowAt n'
+      → SameTo h.typing (text_of h e at) (text_of h e n') × Quiet at (Any {A = List ℕ}) (text_of h e at) × Stay (acts_in h.typing e)
+  unfolding Writes text_of has_call acts_in Compares
+  text_same (Text b) writes none compares allowed n' same = ((refl, same), (refl, tt), refl)
+  text_same (Image u e) stays none compares allowed n' same =
+      let q = quiet_here AsValue e stays none allowed in (
+        simply h.typing (value h e at) (value h e n') (λ ws now. Done (run.image_of h.typing.table u ws) now) (λ ws now. Done (run.image_of h.typing.table u ws) now)
+            (scalar_same AsValue e stays none compares allowed n' same) (λ ws n n'' now. (refl, now)),
+        text_quiet (value h e at) (λ ws now. Done (run.image_of h.typing.table u ws) now) (weaker (value h e at) q.0) (λ ws. (refl, tt)),
+        q.1,
+      )
+  text_same (Parens e) writes none compares allowed n' same = text_same e writes none compares allowed n' same
+  text_same (Binary op a b) (wa, wb) none compares allowed n' same =
+      let calls = or_cases (has_call a) (has_call b) none in
+      let each = split_allowed (acts_in h.typing a) (acts_in h.typing b) allowed in
+      let left = text_same a wa calls.0 compares.0 each.1 n' same in
+      let own = text_same b wb calls.1 compares.1 (each.0 left.2) n' same in
+      let second : List ℕ → Now → Evaluated (List ℕ) = (λ x now. followed_by (text_of h b now) (λ y now. Done (x ++ y) now)) in (
+        then_same h.typing (QuietAt (Any {A = List ℕ})) (text_of h a at) (text_of h a n') second second left.1 left.0
+            (λ x n n'' q now. subst (λ z. SameTo h.typing (second x z) (second x n'')) (sym q.0)
+            (simply h.typing (text_of h b at) (text_of h b n'') (λ y now. Done (x ++ y) now) (λ y now. Done (x ++ y) now)
+            (text_same b wb calls.1 compares.1 (each.0 left.2) n'' (subst (λ z. SameNow h.typing z n'') q.0 now)).0 (λ y k k' last. (refl, last)))),
+        text_quiet (text_of h a at) second left.1 (λ x. text_quiet (text_of h b at) (λ y now. Done (x ++ y) now) own.1 (λ y. (refl, tt))),
+        ap (λ z. after z facts) (acts_append (acts_in h.typing a) (acts_in h.typing b)) ∙ after_append (acts (acts_in h.typing a)) (acts (acts_in h.typing b)) facts
+            ∙ ap (after (acts (acts_in h.typing b))) left.2 ∙ own.2,
+      )
+  text_same e writes none compares allowed n' same = absurd writes
