@@ -12,7 +12,7 @@ use Rattle.type_definitions.specs.declared.table.Shape.TheVariants as shape
 use Rattle.type_definitions.specs.Types.{shape_of, full, is_scalar}
 use Rattle.typed_tree.specs.Trees.{TypedTree, TypedCode, Name, NoMore, More}
 use Rattle.flow_paths.specs.Instructions.{Skip, Fall}
-use Rattle.flow_paths.specs.Objects.{object_at, designated, is_observer}
+use Rattle.flow_paths.specs.Objects.{Typing, object_at, designated, is_observer}
 use Rattle.flow_paths.specs.Names.{has_call, name_of, whole, first, written, source}
 use Rattle.flow_paths.specs.Acts.{acts_in, stored_acts, declared_acts, assigned_to, source_acts, index_acts, reborrow, observe, target_pos as acts_target_pos}
 use Rattle.run_values.specs.declared.items.Item.{Item}
@@ -58,10 +58,13 @@ use Rattle.null_places.proofs.Scalars.{IsPlaced, place_same, scalar_same, text_s
 use Rattle.null_places.proofs.Evaluated.{checked_same, value_same}
 
 -- Outcomes agree, and where the step goes on, only words that own are gone.
+abbrev pub SameStepBy : Typing → Outcome → Outcome → Type 0
+SameStepBy s (Goes a) (Goes b) = SameState a b × OnlyOwners s a.memory
+SameStepBy s (Ends e a) (Ends f b) = (e ≡ f) × SameState a b
+SameStepBy s _ _ = ⊥
+
 abbrev pub SameStep : steps.Turn → Outcome → Outcome → Type 0
-SameStep t (Goes a) (Goes b) = SameState a b × OnlyOwners (typing t) a.memory
-SameStep t (Ends e a) (Ends f b) = (e ≡ f) × SameState a b
-SameStep t _ _ = ⊥
+SameStep t x y = SameStepBy (typing t) x y
 
 -- The turn in another memory.
 abbrev pub twin : Turn → Memory → Turn

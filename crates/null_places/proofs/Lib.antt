@@ -8,3 +8,5 @@ pub mod Walks
 pub mod Scalars
 pub mod Evaluated
 pub mod Instructions
+-- steps, and the law
+pub mod Steps

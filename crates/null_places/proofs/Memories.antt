@@ -293,6 +293,39 @@ clear_agrees m = record { variables = variables m.variables; cells = cells m.cel
     cells [] = tt
     cells (c ∷ cs) = ((refl, refl, clear_slots c.slots), cells cs)
 
+-- so does a memory that agrees
+clear_right : (x y : Slot) → AgreeSlot x y → AgreeSlot x (cleared_slot y)
+clear_right x y (inl e) = subst (λ z. AgreeSlot x (cleared_slot z)) e (clear_slot x)
+clear_right x y (inr (gone, null)) = inr (gone, clear_again y ∙ null)
+
+slots_right : (xs ys : List Slot) → AgreeSlots xs ys → AgreeSlots xs (map cleared_slot ys)
+slots_right [] [] p = tt
+slots_right (x ∷ xs) (y ∷ ys) p = (clear_right x y p.0, slots_right xs ys p.1)
+slots_right [] (y ∷ ys) p = absurd p
+slots_right (x ∷ xs) [] p = absurd p
+
+pub agrees_right : (m n : Memory) → Agrees m n → Agrees m (cleared n)
+agrees_right m n a = record { variables = variables m.variables n.variables a.variables; cells = cells m.cells n.cells a.cells; peaks = a.peaks }
+  where
+    variables : (vs ws : List Variable) → Pairwise AgreeVariable vs ws
+        → Pairwise AgreeVariable vs (map (λ (v : Variable). record v { slots = map cleared_slot v.slots }) ws)
+    variables [] [] p = tt
+    variables (v ∷ vs) (w ∷ ws) p = ((p.0.0, p.0.1, slots_right v.slots w.slots p.0.2), variables vs ws p.1)
+    variables [] (w ∷ ws) p = absurd p
+    variables (v ∷ vs) [] p = absurd p
+
+    cells : (cs ds : List HeapCell) → Pairwise AgreeCell cs ds → Pairwise AgreeCell cs (map (λ (c : HeapCell). record c { slots = map cleared_slot c.slots }) ds)
+    cells [] [] p = tt
+    cells (c ∷ cs) (d ∷ ds) p = ((p.0.0, p.0.1, slots_right c.slots d.slots p.0.2), cells cs ds p.1)
+    cells [] (d ∷ ds) p = absurd p
+    cells (c ∷ cs) [] p = absurd p
+
+-- as many cells are freed
+pub freed_count : (m n : Memory) → Agrees m n → length (filter (λ (c : HeapCell). c.freed) m.cells) ≡ length (filter (λ (c : HeapCell). c.freed) n.cells)
+freed_count m n a =
+    pair_length AgreeCell (filter (λ (c : HeapCell). c.freed) m.cells) (filter (λ (c : HeapCell). c.freed) n.cells)
+    (pair_filter AgreeCell (λ (c : HeapCell). c.freed) (λ c d p. p.1) m.cells n.cells a.cells)
+
 -- memories that agree are the same with null in moved places
 same_clear : (x y : Slot) → AgreeSlot x y → cleared_slot x ≡ cleared_slot y
 same_clear x y (inl e) = ap cleared_slot e
