@@ -10,3 +10,4 @@ pub mod Evaluated
 pub mod Instructions
 -- steps, and the law
 pub mod Steps
+pub mod Runs
