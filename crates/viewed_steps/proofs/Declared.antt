@@ -61,7 +61,7 @@ IsOff f x (OfCell c) = Unit {0}
 IsOff f x (Inside l i) = IsOff f x l
 
 -- An object of the frame isn't the root of a way.
-abbrev IsElsewhere : (ℕ → ℕ) → ℕ → ℕ → Way → Type 0
+abbrev pub IsElsewhere : (ℕ → ℕ) → ℕ → ℕ → Way → Type 0
 IsElsewhere home f x w = home x ≡ f → number_of w ≡ x → ⊥
 
 off_there : (home : ℕ → ℕ) (s : View) (f x : ℕ) (w : Way) (l : Loc) → Named home w → IsElsewhere home f x w → Reaches s w l → IsOff f x l
@@ -172,7 +172,7 @@ module _ (t : Turn) (settled : IsSettled (typing t).table) (own_law : OwnsByShap
   IsFree x = (y : ℕ) (w : Way) → v.way y ≡ Some w → IsElsewhere (home s depth) depth x w
 
   -- a part of it that is gone would be known as moved
-  not_gone : (x : ℕ) (facts : List Fact) (z : View) → Viewed (home s depth) (is_observer s) other v z facts → IsUnmoved x facts → IsFree x
+  pub not_gone : (x : ℕ) (facts : List Fact) (z : View) → Viewed (home s depth) (is_observer s) other v z facts → IsUnmoved x facts → IsFree x
       → (p : List Step) → ExcusedBy (home s depth) v other facts (along (Object (OfVariable depth x)) p) → ⊥
   not_gone x facts z viewed unmoved free p (inr o) = alone (along (Object (OfVariable depth x)) p) o
   not_gone x facts z viewed unmoved free p (inl (u, moved, leads)) =

@@ -39,7 +39,7 @@ use Rattle.viewed_steps.proofs.Placed.{lasts_on, within_on, view_ends, placed_on
 
 -- an object that isn't a borrower or observer has no anonymous type, if those that have one are
 -- variables
-view_kinds : (a b c : Bool) → b || c ≡ true → a ≡ true → a && c ≡ false → a && b ≡ true
+pub view_kinds : (a b c : Bool) → b || c ≡ true → a ≡ true → a && c ≡ false → a && b ≡ true
 view_kinds true true c any is none = refl
 view_kinds true false true any is none = cc
 view_kinds true false false any is none = cc
@@ -52,11 +52,11 @@ both_parts false b e = cc
 both_true : (a b : Bool) → a ≡ true → b ≡ true → a && b ≡ true
 both_true a b e f = ap (λ x. x && b) e ∙ f
 
-refused : (b : Bool) → (b ≡ true → ⊥) → b ≡ false
+pub refused : (b : Bool) → (b ≡ true → ⊥) → b ≡ false
 refused true e = absurd (e refl)
 refused false e = refl
 
-none_some : (w : Way) → None ≡ Some w → ⊥
+pub none_some : (w : Way) → None ≡ Some w → ⊥
 none_some w e = cc
 
 same_object : (f x g y : ℕ) → OfVariable f x ≡ OfVariable g y → y ≡ x
