@@ -17,11 +17,11 @@ use Rattle.machine.specs.Memory.{Memory, Slot, fresh, no_slot, variable_slots, u
 use Rattle.machine.specs.States.{Waiting, State, Outcome, Goes}
 use Rattle.machine.specs.Step.{Turn, typing}
 use Rattle.machine.specs.Step as steps
-use Rattle.machine.specs.Owners.{is_in_formal, waiting_in}
+use Rattle.machine.specs.Owners.{waiting_in}
 use Rattle.owned_ways.specs.Ways.{OfVariable, Way, View, Allows, name_of, number_of}
 use Rattle.owned_ways.proofs.Assigned.{kept_fact}
 use Rattle.part_offsets.specs.Parts.{IsSettled}
-use Rattle.soundness.specs.Seen.{seen, home}
+use Rattle.soundness.specs.Seen.{is_view_formal, seen, home}
 use Rattle.soundness.specs.Typed.{OwnsByShape, Kept}
 use Rattle.soundness.specs.Sound as sound
 use Rattle.soundness.proofs.Defaults.{none_default}
@@ -77,7 +77,7 @@ rest_within x y (z ∷ rest) last within off =
     drop_none (a ∷ rest) w = w
 
 module _ (t : Turn) (settled : IsSettled (typing t).table) (own_law : OwnsByShape (typing t).table) (other : Way → Type 0)
-    (alone : (w : Way) → other w → ⊥) (no_formals : (x : ℕ) → is_in_formal (typing t) x ≡ false)
+    (alone : (w : Way) → other w → ⊥) (no_formals : (x : ℕ) → is_view_formal (typing t) x ≡ false)
     (v : Views) (parts_named : PartsAreNamed (typing t).table) (may : ℕ → ℕ → Type 0)
     (frames : t.state.frames ≡ t.frame ∷ t.outer) (none : taken t.point.instr ≡ 0)
     (p q : NamedPoint) (y : ℕ) (is : p.instr ≡ EndScope y) (mine : home (typing t) (length t.outer) y ≡ length t.outer)

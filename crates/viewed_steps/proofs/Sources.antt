@@ -14,10 +14,9 @@ use Rattle.flow_paths.specs.Acts.{declared_acts, assigned_to}
 use Rattle.machine.specs.Words as machine
 use Rattle.machine.specs.States.{Outcome}
 use Rattle.machine.specs.Step.{Turn, typing, declare, assign}
-use Rattle.machine.specs.Owners.{is_in_formal}
 use Rattle.owned_ways.specs.Ways.{Way, after, AllowsAll}
 use Rattle.part_offsets.specs.Parts.{IsSettled}
-use Rattle.soundness.specs.Seen.{home}
+use Rattle.soundness.specs.Seen.{is_view_formal, home}
 use Rattle.soundness.specs.Typed.{OwnsByShape}
 use Rattle.typed_laws.specs.Needed.{Leads, Gives, Source}
 use Rattle.soundness.proofs.Scalars.{acts}
@@ -90,7 +89,7 @@ leads_or s parts (Designated rest) t u (d, c, n, is, lead) = inr (leads_named s 
 leads_or s parts path t u lead = absurd lead
 
 module _ (t : Turn) (settled : IsSettled (typing t).table) (own_law : OwnsByShape (typing t).table) (other : Way → Type 0)
-    (alone : (w : Way) → other w → ⊥) (no_formals : (x : ℕ) → is_in_formal (typing t) x ≡ false)
+    (alone : (w : Way) → other w → ⊥) (no_formals : (x : ℕ) → is_view_formal (typing t) x ≡ false)
     (v : Views) (parts_named : PartsAreNamed (typing t).table) (may : ℕ → ℕ → Type 0)
     (frames : t.state.frames ≡ t.frame ∷ t.outer) (none : taken t.point.instr ≡ 0) where
   abbrev s : Typing
