@@ -18,13 +18,13 @@ use Rattle.machine.specs.Evaluate.{Now, AsValue, AsView, Evaluated, Done, Raises
 use Rattle.machine.specs.States.{Waiting, Leak, State, Outcome}
 use Rattle.machine.specs.Step.{Turn, counted, typing, here, first_value, taken_by, goes, declare}
 use Rattle.machine.specs.Step as steps
-use Rattle.machine.specs.Owners.{is_in_formal, waiting_in, WellOwned}
+use Rattle.machine.specs.Owners.{waiting_in, WellOwned}
 use Rattle.owned_ways.specs.Ways.{Step, Root, OfVariable, OfHand, Loc, OfRoot, OfCell, Inside, Way, Object, Lost, Into, All, Empty, View, Reaches, Named, part, along, after, AllowsAll, number_of}
 use Rattle.owned_ways.specs.Ways as ways
 use Rattle.owned_ways.proofs.Locations.{reaches_along, named_along as rooted_along}
 use Rattle.owned_ways.proofs.Assigned.{is_false}
 use Rattle.part_offsets.specs.Parts.{offset_in, is_leaf, IsSettled}
-use Rattle.soundness.specs.Seen.{content, trunk, steps_in, word_in, owner_at, seen, home}
+use Rattle.soundness.specs.Seen.{is_view_formal, content, trunk, steps_in, word_in, owner_at, seen, home}
 use Rattle.soundness.specs.Changes.{Alike}
 use Rattle.soundness.specs.Typed.{OwnsByShape, Kept}
 use Rattle.typed_laws.specs.Needed.{Source, FirstSource}
@@ -34,6 +34,7 @@ use Rattle.soundness.proofs.Memories.{put_other}
 use Rattle.soundness.proofs.Moments.{declared_sound, number_part}
 use Rattle.soundness.proofs.Steps.{alike}
 use Rattle.soundness.proofs.Defaults.{none_default}
+use Rattle.soundness.proofs.Following.{Each}
 use Rattle.soundness.proofs.Fading.{FadesTo, still, then_fades, if_fades, checked_fades, fades}
 use Rattle.soundness.proofs.Lasting.{keeps, lengths, declared_kept}
 use Rattle.soundness.proofs.Numbers.{index_law}
@@ -61,7 +62,7 @@ IsOff f x (OfCell c) = Unit {0}
 IsOff f x (Inside l i) = IsOff f x l
 
 -- An object of the frame isn't the root of a way.
-abbrev IsElsewhere : (ℕ → ℕ) → ℕ → ℕ → Way → Type 0
+abbrev pub IsElsewhere : (ℕ → ℕ) → ℕ → ℕ → Way → Type 0
 IsElsewhere home f x w = home x ≡ f → number_of w ≡ x → ⊥
 
 off_there : (home : ℕ → ℕ) (s : View) (f x : ℕ) (w : Way) (l : Loc) → Named home w → IsElsewhere home f x w → Reaches s w l → IsOff f x l
@@ -99,7 +100,7 @@ module _ (s : Typing) (settled : IsSettled s.table) (home : ℕ → ℕ) (observ
   pub declared_viewed : (m : Memory) (got : Waiting) (rest : List Waiting) (leaks : List Leak) (facts : List Fact) (f x : ℕ)
       → Viewed home observer other v (seen s m (got ∷ rest) leaks) facts → ((w : Way) → other w → ⊥) → Kept s m (got ∷ rest)
       → ((p : List Step) → word_in s.table (content s m (got ∷ rest) (OfRoot (OfVariable f x))) p ≡ Empty)
-      → is_in_formal s x ≡ false → length got.words ≡ words s.table (object_at s x).of → Alike s.table got.of (object_at s x).of
+      → is_view_formal s x ≡ false → length got.words ≡ words s.table (object_at s x).of → Alike s.table got.of (object_at s x).of
       → ((y : ℕ) (w : Way) → v.way y ≡ Some w → IsElsewhere home f x w)
       → Viewed home observer other v (seen s (declared f x got.words m) rest leaks) facts
   declared_viewed m got rest leaks facts f x viewed alone kept blank own long like free =
@@ -129,10 +130,16 @@ in_home : (home : ℕ → ℕ) (f x : ℕ) (p : List Step) → Named home (along
 in_home home f x [] named = named
 in_home home f x (i ∷ p) named = in_home home f x p named
 
+-- The first words of the variables of other objects stay.
+abbrev pub OthersStay : Typing → Memory → ℕ → ℕ → Memory → Type 0
+OthersStay s m f x n =
+    (g y : ℕ) → (OfVariable f x ≡ OfVariable g y → ⊥)
+    → (get_or (variable_slots s g y n.variables) 0 no_slot).word ≡ (get_or (variable_slots s g y m.variables) 0 no_slot).word
+
 -- ---- the outcome
 
 module _ (t : Turn) (settled : IsSettled (typing t).table) (own_law : OwnsByShape (typing t).table) (other : Way → Type 0)
-    (alone : (w : Way) → other w → ⊥) (no_formals : (x : ℕ) → is_in_formal (typing t) x ≡ false)
+    (alone : (w : Way) → other w → ⊥) (no_formals : (x : ℕ) → is_view_formal (typing t) x ≡ false)
     (v : Views) (parts_named : PartsAreNamed (typing t).table) (may : ℕ → ℕ → Type 0)
     (frames : t.state.frames ≡ t.frame ∷ t.outer) (none : taken t.point.instr ≡ 0) where
   abbrev s : Typing
@@ -172,7 +179,7 @@ module _ (t : Turn) (settled : IsSettled (typing t).table) (own_law : OwnsByShap
   IsFree x = (y : ℕ) (w : Way) → v.way y ≡ Some w → IsElsewhere (home s depth) depth x w
 
   -- a part of it that is gone would be known as moved
-  not_gone : (x : ℕ) (facts : List Fact) (z : View) → Viewed (home s depth) (is_observer s) other v z facts → IsUnmoved x facts → IsFree x
+  pub not_gone : (x : ℕ) (facts : List Fact) (z : View) → Viewed (home s depth) (is_observer s) other v z facts → IsUnmoved x facts → IsFree x
       → (p : List Step) → ExcusedBy (home s depth) v other facts (along (Object (OfVariable depth x)) p) → ⊥
   not_gone x facts z viewed unmoved free p (inr o) = alone (along (Object (OfVariable depth x)) p) o
   not_gone x facts z viewed unmoved free p (inl (u, moved, leads)) =
@@ -191,7 +198,7 @@ module _ (t : Turn) (settled : IsSettled (typing t).table) (own_law : OwnsByShap
     | inr isnt ↦ word_no s.table (content s n.memory [] (OfRoot (OfVariable depth x))) p isnt
     | inl leaf ↦ (
         let one = faint depth x (offset_in s.table (object_at s x).of p) in
-        let own : not (is_in_formal s x) ≡ true = ap not (no_formals x) in
+        let own : not (is_view_formal s x) ≡ true = ap not (no_formals x) in
         let old : Slot = get_or (variable_slots s depth x m.variables) (offset_in s.table (object_at s x).of p) no_slot in
         let now_there : Slot = get_or (variable_slots s depth x n.memory.variables) (offset_in s.table (object_at s x).of p) no_slot in
         let root : Root = OfVariable depth x in
@@ -290,3 +297,18 @@ module _ (t : Turn) (settled : IsSettled (typing t).table) (own_law : OwnsByShap
       (first_value t (object_at s x).of e now)
       (first_given (object_at s x).of e named gives calls facts good (subst (λ z. AllowsAll facts (acts z)) same allowed) (subst (λ z. AllKeep (is_observer s) (acts z)) same keep))
       (first_fades (object_at s x).of e gives) new (subst (λ z. IsUnmoved x (after (acts z) facts)) same unmoved) free))
+
+  -- ---- variables of other objects
+
+  then_stay : (x : ℕ) (y : Evaluated (List machine.Word)) → FadesTo (here t) m y
+      → Each (λ (state : State). OthersStay s m depth x state.memory) (steps.evaluated t y (λ ws n. goes t (declared depth x ws n) 0))
+  then_stay x (Done ws n) faint = λ g y off.
+      ap (λ z. (get_or z 0 no_slot).word) (put_other s depth x g y off (fresh ws) n.memory.variables) ∙ (faint g y 0).word
+  then_stay x (Raises e n) faint = tt
+  then_stay x (Traps e n) faint = tt
+
+  pub others_stay : (x : ℕ) (e : TypedTree) → FirstSource s (object_at s x).of e → Each (λ (state : State). OthersStay s m depth x state.memory) (declare t x e)
+  others_stay x e gives =
+      subst (λ z. Each (λ (state : State). OthersStay s m depth x state.memory) (steps.evaluated t (first_value t (object_at s x).of e z) (λ ws n. goes t (declared depth x ws n) 0)))
+      (sym (start_is t settled own_law other alone no_formals v parts_named may frames none))
+      (then_stay x (first_value t (object_at s x).of e now) (first_fades (object_at s x).of e gives))

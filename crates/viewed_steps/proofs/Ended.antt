@@ -17,11 +17,11 @@ use Rattle.machine.specs.Memory.{Memory, Slot, fresh, no_slot, variable_slots, u
 use Rattle.machine.specs.States.{Waiting, State, Outcome, Goes}
 use Rattle.machine.specs.Step.{Turn, typing}
 use Rattle.machine.specs.Step as steps
-use Rattle.machine.specs.Owners.{is_in_formal, waiting_in}
+use Rattle.machine.specs.Owners.{waiting_in}
 use Rattle.owned_ways.specs.Ways.{OfVariable, Way, View, Allows, name_of, number_of}
 use Rattle.owned_ways.proofs.Assigned.{kept_fact}
 use Rattle.part_offsets.specs.Parts.{IsSettled}
-use Rattle.soundness.specs.Seen.{seen, home}
+use Rattle.soundness.specs.Seen.{is_view_formal, seen, home}
 use Rattle.soundness.specs.Typed.{OwnsByShape, Kept}
 use Rattle.soundness.specs.Sound as sound
 use Rattle.soundness.proofs.Defaults.{none_default}
@@ -39,7 +39,7 @@ use Rattle.viewed_steps.proofs.Placed.{lasts_on, within_on, view_ends, placed_on
 
 -- an object that isn't a borrower or observer has no anonymous type, if those that have one are
 -- variables
-view_kinds : (a b c : Bool) → b || c ≡ true → a ≡ true → a && c ≡ false → a && b ≡ true
+pub view_kinds : (a b c : Bool) → b || c ≡ true → a ≡ true → a && c ≡ false → a && b ≡ true
 view_kinds true true c any is none = refl
 view_kinds true false true any is none = cc
 view_kinds true false false any is none = cc
@@ -52,11 +52,11 @@ both_parts false b e = cc
 both_true : (a b : Bool) → a ≡ true → b ≡ true → a && b ≡ true
 both_true a b e f = ap (λ x. x && b) e ∙ f
 
-refused : (b : Bool) → (b ≡ true → ⊥) → b ≡ false
+pub refused : (b : Bool) → (b ≡ true → ⊥) → b ≡ false
 refused true e = absurd (e refl)
 refused false e = refl
 
-none_some : (w : Way) → None ≡ Some w → ⊥
+pub none_some : (w : Way) → None ≡ Some w → ⊥
 none_some w e = cc
 
 same_object : (f x g y : ℕ) → OfVariable f x ≡ OfVariable g y → y ≡ x
@@ -77,7 +77,7 @@ rest_within x y (z ∷ rest) last within off =
     drop_none (a ∷ rest) w = w
 
 module _ (t : Turn) (settled : IsSettled (typing t).table) (own_law : OwnsByShape (typing t).table) (other : Way → Type 0)
-    (alone : (w : Way) → other w → ⊥) (no_formals : (x : ℕ) → is_in_formal (typing t) x ≡ false)
+    (alone : (w : Way) → other w → ⊥) (no_formals : (x : ℕ) → is_view_formal (typing t) x ≡ false)
     (v : Views) (parts_named : PartsAreNamed (typing t).table) (may : ℕ → ℕ → Type 0)
     (frames : t.state.frames ≡ t.frame ∷ t.outer) (none : taken t.point.instr ≡ 0)
     (p q : NamedPoint) (y : ℕ) (is : p.instr ≡ EndScope y) (mine : home (typing t) (length t.outer) y ≡ length t.outer)

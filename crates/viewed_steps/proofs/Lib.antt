@@ -6,3 +6,4 @@ pub mod Rounds
 pub mod Lent
 pub mod Placed
 pub mod Ended
+pub mod Sources

@@ -14,11 +14,10 @@ use Rattle.flow_paths.specs.Scopes.{taken, Leads, Silent, is_within, is_temporar
 use Rattle.flow_paths.specs.Views.{encloses, scope_of}
 use Rattle.machine.specs.Memory.{Memory}
 use Rattle.machine.specs.Step.{Turn, typing}
-use Rattle.machine.specs.Owners.{is_in_formal}
 use Rattle.owned_ways.specs.Ways.{OfRoot, Held, Way, name_of, number_of}
 use Rattle.owned_ways.specs.Ways as ways
 use Rattle.part_offsets.specs.Parts.{IsSettled}
-use Rattle.soundness.specs.Seen.{content, word_in}
+use Rattle.soundness.specs.Seen.{is_view_formal, content, word_in}
 use Rattle.soundness.specs.Typed.{OwnsByShape}
 use Rattle.soundness.specs.Sound.{InScope}
 use Rattle.soundness.proofs.Contents.{word_no}
@@ -121,7 +120,7 @@ module _ (program : FlowProgram) where
     pub view : is_anonymous (view_of s x) ≡ true
 
 module _ (t : Turn) (settled : IsSettled (typing t).table) (own_law : OwnsByShape (typing t).table) (other : Way → Type 0)
-    (alone : (w : Way) → other w → ⊥) (no_formals : (x : ℕ) → is_in_formal (typing t) x ≡ false)
+    (alone : (w : Way) → other w → ⊥) (no_formals : (x : ℕ) → is_view_formal (typing t) x ≡ false)
     (v : Views) (parts_named : PartsAreNamed (typing t).table) (a b : List ℕ)
     (frames : t.state.frames ≡ t.frame ∷ t.outer) (none : taken t.point.instr ≡ 0)
     (transitive : (a b c : ℕ) → encloses t.program.scopes a b ≡ true → encloses t.program.scopes b c ≡ true → encloses t.program.scopes a c ≡ true)

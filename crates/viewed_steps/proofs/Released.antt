@@ -26,7 +26,7 @@ use Rattle.machine.specs.Calls.{checks_at}
 use Rattle.machine.specs.States.{Waiting, Leak, Outcome}
 use Rattle.machine.specs.Step.{Turn, release, typing, here, start, goes, leaking_goes}
 use Rattle.machine.specs.Step as steps
-use Rattle.machine.specs.Owners.{is_in_formal, waiting_in}
+use Rattle.machine.specs.Owners.{waiting_in}
 use Rattle.owned_ways.specs.Ways.{OfVariable, Loc, OfCell, Inside, Way, Object, Lost, Into, All, Empty, Gone, Held, View, Reaches, Below, IsRooted, Under, Named, IsMoved, Allows, part, after, AllowsAll, number_of}
 use Rattle.owned_ways.specs.Ways as ways
 use Rattle.owned_ways.proofs.Locations.{under_itself, depth as depth_of}
@@ -34,7 +34,7 @@ use Rattle.owned_ways.proofs.Named.{under_leads, covered_under}
 use Rattle.owned_ways.proofs.Assigned.{either_left, kept_fact, is_false, named_rooted}
 use Rattle.part_offsets.specs.Parts.{type_in, offset_in, has_part, owns_one, is_leaf, IsSettled}
 use Rattle.part_offsets.proofs.Ranges.{leaf_end, leaf_part}
-use Rattle.soundness.specs.Seen.{Content, content, trunk, steps_in, owner_at, owner_word, seen, home}
+use Rattle.soundness.specs.Seen.{is_view_formal, Content, content, trunk, steps_in, owner_at, owner_word, seen, home}
 use Rattle.soundness.specs.Changes.{Alike as AlikeTypes, Checks, leaks_at}
 use Rattle.soundness.specs.Typed.{Matches, OwnsByShape, Kept, Spot}
 use Rattle.typed_laws.specs.Needed.{Leads}
@@ -137,7 +137,7 @@ module _ (home : ℕ → ℕ) (observer : ℕ → Bool) (other : Way → Type 0)
 -- ---- the outcome
 
 module _ (t : Turn) (settled : IsSettled (typing t).table) (own_law : OwnsByShape (typing t).table) (other : Way → Type 0)
-    (alone : (w : Way) → other w → ⊥) (no_formals : (x : ℕ) → is_in_formal (typing t) x ≡ false)
+    (alone : (w : Way) → other w → ⊥) (no_formals : (x : ℕ) → is_view_formal (typing t) x ≡ false)
     (v : Views) (parts_named : PartsAreNamed (typing t).table) (may : ℕ → ℕ → Type 0)
     (frames : t.state.frames ≡ t.frame ∷ t.outer) (none : taken t.point.instr ≡ 0) where
   abbrev s : Typing

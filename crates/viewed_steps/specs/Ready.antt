@@ -14,6 +14,7 @@ use Rattle.flow_paths.specs.Points.{NamedPoint, FlowPoint}
 use Rattle.flow_paths.specs.Laid.{FlowSub, FlowProgram, NamedSub, number_in, flow_typing, flow_program, flow_named}
 use Rattle.flow_paths.specs.Scopes.{is_within}
 use Rattle.flow_paths.specs.Views.{encloses, scope_of}
+use Rattle.machine.specs.States.{sub_of}
 use Rattle.soundness.specs.Typed.{OwnsByShape}
 use Rattle.soundness.specs.Sound.{Accepted, IsNamedSub, IsAtPoint, IsProcedure}
 use Rattle.soundness.specs.Ready.{AreScoped, AreNew, AreElaborated}
@@ -57,6 +58,9 @@ pub record ViewsAreOrderly (table : Table) (typed : TypedProgram) : Type 0 where
   pub local : (x : ℕ) → is_anonymous (view_of (flow_typing (flow_program table typed)) x) ≡ true
       → (is_variable (object_at (flow_typing (flow_program table typed)) x).kind ≡ true)
       × (is_package_object (flow_typing (flow_program table typed)) x ≡ false)
+  -- no package object is one
+  pub packages : (p : FlowPoint) → Has (sub_of (flow_program table typed) 0).points p → (x : ℕ) (e : TypedTree) → p.instr ≡ Declare x e
+      → is_anonymous (view_of (flow_typing (flow_program table typed)) x) ≡ false
   pub transitive : (a b c : ℕ) → encloses (flow_program table typed).scopes a b ≡ true → encloses (flow_program table typed).scopes b c ≡ true
       → encloses (flow_program table typed).scopes a c ≡ true
   pub itself : (a : ℕ) → encloses (flow_program table typed).scopes a a ≡ true
