@@ -3,3 +3,4 @@ pub mod Reports
 pub mod Enclosing
 pub mod Packages
 pub mod Facts
+pub mod Scoped

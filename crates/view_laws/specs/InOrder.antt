@@ -49,9 +49,9 @@ fits s i = true
 abbrev pub no_views : Typing → List ℕ → Bool
 no_views s xs = list_all (λ x. not (is_anonymous (view_of s x))) xs
 
--- No initial value names a view.
+-- No view is declared, and no initial value names one.
 unfoldable pub names_no_view : Typing → TypedCode → Bool
-names_no_view s (typed.Declare p x v) = no_views s (roots v)
+names_no_view s (typed.Declare p x v) = not (is_anonymous (view_of s x)) && no_views s (roots v)
 names_no_view s (typed.More a rest) = names_no_view s a && names_no_view s rest
 names_no_view s _ = true
 
