@@ -97,8 +97,8 @@ module _ (s : Setting) (older : ℕ → ℕ → Bool) (fits : Instruction → Bo
     (
       record {
         declares = λ z w e y has.
-        (let same : x ≡ z = cc in subst (λ u. older u y ≡ true) same
-        (all_test (older x) scope y (and_first (list_all (older x) scope) _ h) (subst (λ sc. Has sc y) (drop_held s v at scope) has)));
+            (let same : x ≡ z = cc in subst (λ u. older u y ≡ true) same
+            (all_test (older x) scope y (and_first (list_all (older x) scope) _ h) (subst (λ sc. Has sc y) (drop_held s v at scope) has)));
         ends = λ z e. absurd (let no_end : ⊥ = cc in no_end);
         declared = λ z w e. and_second (list_all (older x) scope) _ h;
         assigned = λ target w e. absurd (let no_end : ⊥ = cc in no_end);

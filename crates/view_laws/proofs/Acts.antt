@@ -91,7 +91,7 @@ pub named_plain : (table : Table) (t : ℕ) → IsNamed table t → is_anonymous
 named_plain table t named = shape_named (shape_of table t) named
 
 -- an access type owns, or is anonymous
-access_lasts : (owns : ℕ → Bool) (d : ℕ) (c n : Bool) → owns_of owns (shape.Access d c n) || is_anonymous (view_of_shape (shape.Access d c n)) ≡ true
+pub access_lasts : (owns : ℕ → Bool) (d : ℕ) (c n : Bool) → owns_of owns (shape.Access d c n) || is_anonymous (view_of_shape (shape.Access d c n)) ≡ true
 access_lasts owns d c true = refl
 access_lasts owns d true false = refl
 access_lasts owns d false false = refl

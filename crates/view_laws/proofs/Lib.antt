@@ -4,3 +4,4 @@ pub mod Enclosing
 pub mod Packages
 pub mod Facts
 pub mod Scoped
+pub mod Points

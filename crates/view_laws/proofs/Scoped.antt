@@ -42,7 +42,8 @@ use Rattle.ready_laws.proofs.Subs.{setting_from, IsOfBody, named_cases, body_at,
 use Rattle.soundness.proofs.Successors.{nothing_procedures}
 use Rattle.typed_laws.specs.Needed.{IsFine}
 use Rattle.viewed_soundness.specs.Holds.{PartsAreNamed}
-use Rattle.view_laws.specs.InOrder.{no_views, AreViewsInOrder}
+use Rattle.view_laws.specs.InOrder.{no_views}
+use Rattle.view_laws.specs.Program.{IsViewProgram}
 use Rattle.view_laws.proofs.Acts.{instruction_good}
 use Rattle.view_laws.proofs.Packages.{IsPlain, package_plain, no_view}
 use Rattle.view_laws.proofs.Facts.{new_there}
@@ -81,11 +82,7 @@ sub_in subs k sub (front, rest, is, long) = subst (λ z. Has z sub) (sym is) (Ha
 
 -- ---- the program
 
-module _ (table : Table) (typed : TypedProgram) (effects : Effects) (accepted : Accepted table typed effects)
-    (owns : OwnsByShape (flow_program table typed).table) (parts_named : PartsAreNamed (flow_program table typed).table)
-    (no_calls : (sub : FlowSub) → Has (flow_program table typed).subs sub → (p : FlowPoint) → Has sub.points p → calls_nothing p.instr ≡ true)
-    (unformed : (x : ℕ) → is_formal (flow_typing (flow_program table typed)) x ≡ false) (order : IsInOrder table typed)
-    (views : AreViewsInOrder table typed order.first order.rest) where
+module _ (table : Table) (typed : TypedProgram) (effects : Effects) (given : IsViewProgram table typed effects) where
   abbrev pub program : FlowProgram
   program = flow_program table typed
 
@@ -96,13 +93,13 @@ module _ (table : Table) (typed : TypedProgram) (effects : Effects) (accepted : 
   own = typing_of table typed
 
   pub objects : program.objects ≡ typed.objects
-  objects = no_temporaries table typed no_calls
+  objects = no_temporaries table typed given.no_calls
 
   pub same : s ≡ own
   same = typing_same table typed objects
 
   pub laid : (named : NamedSub) → Has (flow_named table typed) named → IsLaid own named
-  laid named has = all_laid own typed.subs (λ sub there. (order.bodies sub there).settled) named has
+  laid named has = all_laid own typed.subs (λ sub there. (given.order.bodies sub there).settled) named has
 
   pub in_program : (named : NamedSub) → Has (flow_named table typed) named → Has program.subs (flow_sub own named)
   unfolding flow_program
@@ -110,50 +107,50 @@ module _ (table : Table) (typed : TypedProgram) (effects : Effects) (accepted : 
 
   pub nothing_there : (named : NamedSub) → Has (flow_named table typed) named → (p : NamedPoint) → Has named.points p → calls_nothing p.instr ≡ true
   nothing_there named has p there =
-      no_calls (flow_sub own named) (in_program named has) (flow_at own named p) (Has-map (λ (q : NamedPoint). flow_at own named q) named.points p there)
+      given.no_calls (flow_sub own named) (in_program named has) (flow_at own named p) (Has-map (λ (q : NamedPoint). flow_at own named q) named.points p there)
 
   pub calls_there : (named : NamedSub) → Has (flow_named table typed) named → (p : NamedPoint) → Has named.points p → calls_procedures p.instr ≡ true
   calls_there named has p there = nothing_procedures p.instr (nothing_there named has p there)
 
   pub fine_there : (named : NamedSub) → Has (flow_named table typed) named → (p : NamedPoint) → Has named.points p → IsFine s named.sub.result p.instr
   fine_there named has p there =
-      accepted.fine (flow_sub own named) (in_program named has) (flow_at own named p) (Has-map (λ (q : NamedPoint). flow_at own named q) named.points p there)
+      given.accepted.fine (flow_sub own named) (in_program named has) (flow_at own named p) (Has-map (λ (q : NamedPoint). flow_at own named q) named.points p there)
 
   pub local : (x : ℕ) → is_anonymous (view_of s x) ≡ true → (is_variable (object_at s x).kind ≡ true) × (is_package_object s x ≡ false)
-  local = subst (λ (z : Typing). (x : ℕ) → is_anonymous (view_of z x) ≡ true → (is_variable (object_at z x).kind ≡ true) × (is_package_object z x ≡ false)) (sym same) views.local
+  local = subst (λ (z : Typing). (x : ℕ) → is_anonymous (view_of z x) ≡ true → (is_variable (object_at z x).kind ≡ true) × (is_package_object z x ≡ false)) (sym same) given.views.local
 
   -- the package objects, or a body
   abbrev pub Elaborates : NamedSub → Type 0
-  Elaborates named = elaborated own order.first ≡ named
+  Elaborates named = elaborated own given.order.first ≡ named
 
   abbrev pub OfBody : NamedSub → Type 0
-  OfBody named = IsOfBody own order.rest named
+  OfBody named = IsOfBody own given.order.rest named
 
   pub cases : (named : NamedSub) → Has (flow_named table typed) named → Elaborates named ⊎ OfBody named
-  cases named has = named_cases own order.first order.rest named (subst (λ subs. Has (all_named own subs) named) order.subs has)
+  cases named has = named_cases own given.order.first given.order.rest named (subst (λ subs. Has (all_named own subs) named) given.order.subs has)
 
-  pub in_subs : (sub : TypedSub) → Has order.rest sub → Has typed.subs sub
-  in_subs sub has = subst (λ subs. Has subs sub) (sym order.subs) (inr has)
+  pub in_subs : (sub : TypedSub) → Has given.order.rest sub → Has typed.subs sub
+  in_subs sub has = subst (λ subs. Has subs sub) (sym given.order.subs) (inr has)
 
-  first_in : Has typed.subs order.first
-  first_in = subst (λ subs. Has subs order.first) (sym order.subs) (inl refl)
+  first_in : Has typed.subs given.order.first
+  first_in = subst (λ subs. Has subs given.order.first) (sym given.order.subs) (inl refl)
 
   -- ---- the package objects
 
   pub declares : (named : NamedSub) → Elaborates named → (p : NamedPoint) → Has named.points p → Declares own p
   declares named e p there =
-      package_declares own (unnumbered own) order.first order.declares order.unmoved p (subst (λ (z : NamedSub). Has z.points p) (sym e) there)
+      package_declares own (unnumbered own) given.order.first given.order.declares given.order.unmoved p (subst (λ (z : NamedSub). Has z.points p) (sym e) there)
 
   -- An object with a number other than that of Ada.Text_IO.
   abbrev IsNumbered : ℕ → Type 0
   IsNumbered x = 1 ≤ x
 
-  package_is_ordered : (named : NamedSub) → Elaborates named → (p : NamedPoint) → Has named.points p → IsOrdered IsNumbered (reverse order.first.formals) p
+  package_is_ordered : (named : NamedSub) → Elaborates named → (p : NamedPoint) → Has named.points p → IsOrdered IsNumbered (reverse given.order.first.formals) p
   package_is_ordered named e p there =
-      all_has (IsOrdered IsNumbered (reverse order.first.formals)) (elaboration_points (unnumbered own) order.first) p
-      (package_ordered (unnumbered own) IsNumbered (λ x least temporary. (let none = temporary.1 in omega (arith, least, none))) order.first
-      (order.bodies order.first first_in).settled
-      ((order.bodies order.first first_in).once, λ x has. ((order.bodies order.first first_in).numbered x has).0))
+      all_has (IsOrdered IsNumbered (reverse given.order.first.formals)) (elaboration_points (unnumbered own) given.order.first) p
+      (package_ordered (unnumbered own) IsNumbered (λ x least temporary. (let none = temporary.1 in omega (arith, least, none))) given.order.first
+      (given.order.bodies given.order.first first_in).settled
+      ((given.order.bodies given.order.first first_in).once, λ x has. ((given.order.bodies given.order.first first_in).numbered x has).0))
       (subst (λ (z : NamedSub). Has z.points p) (sym e) there)
 
   -- ---- bodies
@@ -166,25 +163,25 @@ module _ (table : Table) (typed : TypedProgram) (effects : Effects) (accepted : 
   body_is_ordered named (sub, has, n, above, e) p there =
       all_has (IsOrdered IsOwn (reverse sub.formals)) (sub_points (setting_from own n sub) sub) p
       (sub_ordered (setting_from own n sub) IsOwn (λ x what temporary. (let below = what.0 in let is = temporary.1 in omega (arith, above, below, is))) sub
-      (order.bodies sub (in_subs sub has)).settled (
-        (order.bodies sub (in_subs sub has)).once,
-        (λ x there. (((order.bodies sub (in_subs sub has)).numbered x there).1, (order.local sub has).own x there)),
+      (given.order.bodies sub (in_subs sub has)).settled (
+        (given.order.bodies sub (in_subs sub has)).once,
+        (λ x there. (((given.order.bodies sub (in_subs sub has)).numbered x there).1, (given.order.local sub has).own x there)),
       ))
       (subst (λ (z : NamedSub). Has z.points p) (sym e) there)
 
   pub body_is_seen : (named : NamedSub) → OfBody named → (p : NamedPoint) → Has named.points p → IsSeen (is_package_object own) p
   body_is_seen named (sub, has, n, above, e) p there =
       all_has (IsSeen (is_package_object own)) (sub_points (setting_from own n sub) sub) p
-      (sub_seen (is_package_object own) (setting_from own n sub) sub (order.local sub has).seen)
+      (sub_seen (is_package_object own) (setting_from own n sub) sub (given.order.local sub has).seen)
       (subst (λ (z : NamedSub). Has z.points p) (sym e) there)
 
-  pub no_formals : (sub : TypedSub) → Has order.rest sub → sub.formals ≡ []
-  no_formals sub has = none sub.formals (order.local sub has).formals
+  pub no_formals : (sub : TypedSub) → Has given.order.rest sub → sub.formals ≡ []
+  no_formals sub has = none sub.formals (given.order.local sub has).formals
     where
       none : (xs : List ℕ) → ((x : ℕ) → Has xs x → is_formal own x ≡ true) → xs ≡ []
       none [] are = refl
       none (x ∷ xs) are =
-          absurd (let both : true ≡ false = sym (are x (inl refl)) ∙ ap (λ z. is_formal z x) (sym same) ∙ unformed x in cc)
+          absurd (let both : true ≡ false = sym (are x (inl refl)) ∙ ap (λ z. is_formal z x) (sym same) ∙ given.unformed x in cc)
 
   -- ---- scopes
 
@@ -224,7 +221,7 @@ module _ (table : Table) (typed : TypedProgram) (effects : Effects) (accepted : 
   pub are_scoped : AreScoped table typed
   are_scoped = record {
     objects = objects;
-    bodies = λ sub has. (order.bodies sub has).settled;
+    bodies = λ sub has. (given.order.bodies sub has).settled;
     ready = ready_there;
     stored = stored_there;
     ends = ends_there;
@@ -233,16 +230,16 @@ module _ (table : Table) (typed : TypedProgram) (effects : Effects) (accepted : 
 
   -- ---- procedures
 
-  abbrev layout_at : (k : ℕ) (sub : TypedSub) → IsSub order.rest k sub → (m : ℕ) × IsNamedSub (all_named own (order.first ∷ order.rest)) (suc k) (named_sub own m (sub_temporaries own sub) sub)
-  layout_at k sub stands = body_at own order.first order.rest k sub stands
+  abbrev layout_at : (k : ℕ) (sub : TypedSub) → IsSub given.order.rest k sub → (m : ℕ) × IsNamedSub (all_named own (given.order.first ∷ given.order.rest)) (suc k) (named_sub own m (sub_temporaries own sub) sub)
+  layout_at k sub stands = body_at own given.order.first given.order.rest k sub stands
 
-  is_procedure : (k : ℕ) (sub : TypedSub) → IsSub order.rest k sub → sub.result ≡ None → IsProcedure table typed (suc k)
+  is_procedure : (k : ℕ) (sub : TypedSub) → IsSub given.order.rest k sub → sub.result ≡ None → IsProcedure table typed (suc k)
   unfolding flow_program
   is_procedure k sub is_sub none =
       let there = layout_at k sub is_sub in
       let named : NamedSub = named_sub own there.0 (sub_temporaries own sub) sub in
       let stands : IsNamedSub (flow_named table typed) (suc k) named =
-      subst (λ subs. IsNamedSub (all_named own subs) (suc k) named) (sym order.subs) there.1 in
+      subst (λ subs. IsNamedSub (all_named own subs) (suc k) named) (sym given.order.subs) there.1 in
       let begins = has_first (setting_from own there.0 sub) sub in
       record {
         named = named;
@@ -254,8 +251,8 @@ module _ (table : Table) (typed : TypedProgram) (effects : Effects) (accepted : 
         leads = λ p has. counted there.0 stands p has;
       }
     where
-      in_rest : Has order.rest sub
-      in_rest = sub_in order.rest k sub is_sub
+      in_rest : Has given.order.rest sub
+      in_rest = sub_in given.order.rest k sub is_sub
 
       counted : (n : ℕ) → IsNamedSub (flow_named table typed) (suc k) (named_sub own n (sub_temporaries own sub) sub)
           → (p : FlowPoint) → Has (sub_of program (suc k)).points p → length p.next ≡ successors p.instr
@@ -265,10 +262,10 @@ module _ (table : Table) (typed : TypedProgram) (effects : Effects) (accepted : 
           (subst (λ (z : FlowSub). Has z.points p) (sub_there table typed (suc k) named stands) has) in
           subst (λ (z : FlowPoint). length z.next ≡ successors z.instr) q.2
           (length-map (q.0).next (number_in named.points)
-          ∙ all_has IsCounted named.points q.0 (sub_counted (setting_from own n sub) sub (order.formed sub in_rest)) q.1)
+          ∙ all_has IsCounted named.points q.0 (sub_counted (setting_from own n sub) sub (given.order.formed sub in_rest)) q.1)
 
-  pub has_main : IsProcedure table typed (suc order.number)
-  has_main = is_procedure order.number order.main order.stands order.procedure
+  pub has_main : IsProcedure table typed (suc given.order.number)
+  has_main = is_procedure given.order.number given.order.main given.order.stands given.order.procedure
 
   -- ---- facts
 
@@ -281,7 +278,7 @@ module _ (table : Table) (typed : TypedProgram) (effects : Effects) (accepted : 
 
   pub plain_there : (named : NamedSub) → Elaborates named → (p : NamedPoint) → Has named.points p → IsPlain own p
   plain_there named e p there =
-      package_plain own (unnumbered own) order.first order.declares views.values p (subst (λ (z : NamedSub). Has z.points p) (sym e) there)
+      package_plain own (unnumbered own) given.order.first given.order.declares given.views.values p (subst (λ (z : NamedSub). Has z.points p) (sym e) there)
 
   -- the initial values of package objects name nothing that owns, and no view
   names_none : (named : NamedSub) → Has (flow_named table typed) named → Elaborates named → (p : NamedPoint) → Has named.points p → (x : ℕ)
@@ -298,10 +295,10 @@ module _ (table : Table) (typed : TypedProgram) (effects : Effects) (accepted : 
 
   new_in : (named : NamedSub) → Has (flow_named table typed) named → IsNewIn (flow_sub own named)
   new_in named has = elim (cases named has) [
-    | inl e ↦ new_there table typed effects no_calls owns parts_named accepted.fine objects accepted.effects_are (λ x anonymous. (local x anonymous).0) named has
-        (laid named has) IsNumbered (λ x. ⊥) (reverse order.first.formals)
+    | inl e ↦ new_there table typed effects given.no_calls given.owns given.parts_named given.accepted.fine objects given.accepted.effects_are (λ x anonymous. (local x anonymous).0) named has
+        (laid named has) IsNumbered (λ x. ⊥) (reverse given.order.first.formals)
         (λ x what out. out) (package_is_ordered named e) (λ p there x names lasts. absurd (names_none named has e p there x names lasts))
-    | inr b ↦ new_there table typed effects no_calls owns parts_named accepted.fine objects accepted.effects_are (λ x anonymous. (local x anonymous).0) named has
+    | inr b ↦ new_there table typed effects given.no_calls given.owns given.parts_named given.accepted.fine objects given.accepted.effects_are (λ x anonymous. (local x anonymous).0) named has
         (laid named has) IsOwn (λ x. is_package_object own x ≡ true)
         (reverse (b.0).formals) (λ x what out. (let both : false ≡ true = sym what.1 ∙ out in cc)) (body_is_ordered named b)
         (λ p there x names lasts. seen_has (is_package_object own) p.scope (named_in p.instr) x (body_is_seen named b p there) names)
@@ -315,10 +312,10 @@ module _ (table : Table) (typed : TypedProgram) (effects : Effects) (accepted : 
   -- ---- the package objects and the main procedure
 
   abbrev pub packages : NamedSub
-  packages = elaborated own order.first
+  packages = elaborated own given.order.first
 
   pub packages_stand : IsNamedSub (flow_named table typed) 0 packages
-  packages_stand = ([], named_subs own (length own.objects) order.rest, ap (all_named own) order.subs, refl)
+  packages_stand = ([], named_subs own (length own.objects) given.order.rest, ap (all_named own) given.order.subs, refl)
 
   packages_in : Has (flow_named table typed) packages
   packages_in = named_has (flow_named table typed) 0 packages packages_stand
@@ -341,13 +338,13 @@ module _ (table : Table) (typed : TypedProgram) (effects : Effects) (accepted : 
       unmoved_there : (p : FlowPoint) → Has (sub_of program 0).points p → (a : Placed) → Has p.acts a → (name : PlaceName) → Has (adds a.act) (Moved name) → ⊥
       unmoved_there p has a acts name moved =
           let q = package_point p has in
-          let kept : List ℕ = kept_roots own 0 own.objects (sub_facts own order.first packages.points) in
-          let found = (instruction_good s owns parts_named (λ x anonymous. (local x anonymous).0) order.first.result kept (q.0).pos (q.0).instr
+          let kept : List ℕ = kept_roots own 0 own.objects (sub_facts own given.order.first packages.points) in
+          let found = (instruction_good s given.owns given.parts_named (λ x anonymous. (local x anonymous).0) given.order.first.result kept (q.0).pos (q.0).instr
           (fine_there packages packages_in q.0 q.1) (nothing_there packages packages_in q.0 q.1) a
-          (subst (λ (z : Typing). Has (acts_of (record { typing = z; result = order.first.result; roots = kept }) (q.0).pos (q.0).instr) a) (sym same)
+          (subst (λ (z : Typing). Has (acts_of (record { typing = z; result = given.order.first.result; roots = kept }) (q.0).pos (q.0).instr) a) (sym same)
           (subst (λ (z : FlowPoint). Has z.acts a) (sym q.2) acts))).0 name moved in
           names_none packages packages_in refl q.0 q.1 name.root found.0 found.1
 
-  pub main_is : program.main ≡ Some (suc order.number)
+  pub main_is : program.main ≡ Some (suc given.order.number)
   unfolding flow_program
-  main_is = order.is_main
+  main_is = given.order.is_main
