@@ -1,6 +1,6 @@
 -- Borrowers and observers at the points of an accepted program: what they are declared and assigned with,
 -- what lasts as long as they do, and what is in scope where scopes end.
-use Rattle.std.proofs.Common.{◌≡◌, refl, sym, ap, ◌∙◌, subst, ◌⊎◌, inl, inr, ℕ, suc, ◌+◌, ◌<◌, ◌≤◌, Bool, true, false, cond, not, ◌&&◌, ◌||◌, ◌==◌, eqb-true, eq-eqb, List, [], ◌∷◌, ◌++◌, map, drop, length, arith, if◌then◌else◌, Option, Some, None}
+use Rattle.std.proofs.Common.{◌≡◌, refl, sym, ap, ◌∙◌, subst, ◌⊎◌, inl, inr, ℕ, suc, ◌+◌, ◌<◌, ◌≤◌, Bool, true, false, cond, not, ◌&&◌, ◌||◌, ◌==◌, eqb-true, eq-eqb, List, [], ◌∷◌, ◌++◌, map, drop, length, arith, if◌then◌else◌, Some}
 use Rattle.std.specs.Prelude.{nat_lt}
 use Rattle.std.specs.Bool.{Decides}
 use Rattle.std.specs.List.{AllByRecursion, position_or_len}
@@ -9,7 +9,7 @@ use Rattle.std.proofs.lemmas.Bool.{ltb-true}
 use Rattle.std.proofs.lemmas.Bool.Decides.{Decides-eqb}
 use Rattle.std.proofs.lemmas.List.Folds.{list_any-append}
 use Rattle.spark_base.specs.Lists.{Has}
-use Rattle.spark_base.proofs.Lists.{Has-append_left, Has-append_right, Has-map, Has-map_from}
+use Rattle.spark_base.proofs.Lists.{Has-append_right, Has-map, Has-map_from}
 use Rattle.spark_base.specs.declared.position.Pos.{Pos}
 use Rattle.place_names.specs.declared.act.Act.{Act}
 use Rattle.place_names.specs.declared.act.Act.TheVariants as act
@@ -19,17 +19,16 @@ use Rattle.place_names.specs.declared.selector.Sel.{Sel}
 use Rattle.place_names.specs.Names.{Name as PlaceName}
 use Rattle.type_definitions.specs.declared.judgement.View.{View}
 use Rattle.type_definitions.specs.declared.judgement.View.TheVariants as view
-use Rattle.type_definitions.specs.declared.table.Shape.TheVariants as shape
-use Rattle.type_definitions.specs.Types.{Table, is_nil, shape_of, full, is_owning, owns_of, is_scalar, view_of as view_of_shape}
+use Rattle.type_definitions.specs.Types.{Table, is_nil, full, is_owning, owns_of, view_of as view_of_shape}
 use Rattle.typed_tree.specs.Trees.{TypedTree, Name, NoMore, More}
 use Rattle.typed_tree.specs.Programs.{TypedSub, TypedProgram}
 use Rattle.flow_paths.specs.declared.report.Effects.{Effects}
 use Rattle.flow_paths.specs.Instructions.{Instruction, Declare, Assign, Input, EndScope}
 use Rattle.flow_paths.specs.Objects.{Typing, object_at, is_variable, is_borrower, is_observer, is_borrowing, is_observing, is_anonymous, is_formal, is_package_object, has_scope_end, view_of}
-use Rattle.flow_paths.specs.Names.{name_of, selectors, written, first, source, whole}
-use Rattle.flow_paths.specs.Acts.{placed, naming, observe, reborrow, target_pos, index_acts, source_acts, assigned_to, stored_acts, declared_acts, acts_in, acts_of}
+use Rattle.flow_paths.specs.Names.{name_of, written, source}
+use Rattle.flow_paths.specs.Acts.{placed, observe, reborrow, target_pos, index_acts, source_acts, assigned_to, stored_acts, declared_acts, acts_in, acts_of}
 use Rattle.flow_paths.specs.Points.{PointName, same_place, same_point, NamedPoint, FlowPoint}
-use Rattle.flow_paths.specs.Laid.{FlowSub, FlowProgram, NamedSub, number_in, named_sub, sub_temporaries, kept_roots, sub_facts, flow_sub, typing_of, flow_typing, flow_program, flow_named}
+use Rattle.flow_paths.specs.Laid.{FlowSub, FlowProgram, NamedSub, number_in, kept_roots, sub_facts, flow_sub, typing_of, flow_typing, flow_program, flow_named}
 use Rattle.flow_paths.specs.Scopes.{Differ, is_last, is_within, is_ready, brought, scope_behind, taken}
 use Rattle.flow_paths.specs.Views.{changes, encloses, scope_of, is_assignment}
 use Rattle.soundness.specs.Sound.{IsAtPoint}
@@ -45,9 +44,9 @@ use Rattle.layered_scopes.specs.Layered.{is_older}
 use Rattle.layered_scopes.specs.Points.{IsAbove, GoesOn, AreFading}
 use Rattle.layered_scopes.proofs.Layered.{sub_good}
 use Rattle.ready_laws.proofs.Subs.{setting_from}
-use Rattle.view_laws.specs.InOrder.{is_name_of, is_list_end, is_one_name_of, is_any, stores_name, fits}
+use Rattle.view_laws.specs.InOrder.{is_name_of, is_list_end, is_one_name_of, is_any, fits}
 use Rattle.view_laws.specs.Program.{IsViewProgram}
-use Rattle.view_laws.proofs.Acts.{Lasts, leads_lasts, access_lasts, scalar_plain, instruction_good}
+use Rattle.view_laws.proofs.Acts.{leads_lasts, access_lasts, scalar_plain, instruction_good}
 use Rattle.view_laws.proofs.Reports.{unchanged, not_observed, observed_encloses, reborrowed_own}
 use Rattle.view_laws.proofs.Enclosing.{enclosing_less}
 use Rattle.view_laws.proofs.Scoped as scoped

@@ -1,7 +1,7 @@
 -- Of an accepted program with borrowers and observers whose subprograms are in order: what is in scope at
 -- its points, its main procedure, and that no fact speaks of an object that is declared. (As in
 -- `ready_laws`, but with views.)
-use Rattle.std.proofs.Common.{◌≡◌, refl, sym, ap, ◌∙◌, subst, ◌⊎◌, inl, inr, ℕ, suc, ◌≤◌, ◌<◌, Bool, true, false, not, ◌&&◌, ◌||◌, List, [], ◌∷◌, length, get_or, arith, None, Some}
+use Rattle.std.proofs.Common.{◌≡◌, refl, sym, ap, ◌∙◌, subst, ◌⊎◌, inl, inr, ℕ, suc, ◌≤◌, ◌<◌, Bool, true, false, not, ◌||◌, List, [], ◌∷◌, length, get_or, arith, None, Some}
 use Rattle.std.specs.Prelude.{reverse}
 use Rattle.std.proofs.lemmas.List.{length-map}
 use Rattle.spark_base.specs.Lists.{Has}
@@ -25,8 +25,7 @@ use Rattle.flow_paths.specs.Effects.{path_points}
 use Rattle.flow_paths.specs.Scopes.{is_within, is_ready}
 use Rattle.machine.specs.States.{sub_of}
 use Rattle.machine.specs.Typed.{successors}
-use Rattle.soundness.specs.Typed.{OwnsByShape}
-use Rattle.soundness.specs.Sound.{Accepted, IsNamedSub, IsProcedure, calls_nothing, calls_procedures}
+use Rattle.soundness.specs.Sound.{IsNamedSub, IsProcedure, calls_nothing, calls_procedures}
 use Rattle.soundness.specs.Ready.{root_of, stored_at, AreScoped, AreNew, AreElaborated}
 use Rattle.soundness.proofs.Points.{IsLaid, all_laid, flow_at, typing_same, sub_there, named_has}
 use Rattle.scope_laws.specs.Code.{roots, are_seen}
@@ -35,13 +34,12 @@ use Rattle.scope_laws.proofs.Lists.{and_first, and_second, all_has}
 use Rattle.scope_laws.proofs.Successors.{sub_counted, has_first}
 use Rattle.scope_laws.proofs.Ordered.{sub_ordered, package_ordered}
 use Rattle.scope_laws.proofs.Seen.{sub_seen}
-use Rattle.ready_laws.specs.InOrder.{own_nothing, IsSub, IsInOrder}
+use Rattle.ready_laws.specs.InOrder.{own_nothing, IsSub}
 use Rattle.ready_laws.proofs.Temporaries.{no_temporaries}
 use Rattle.ready_laws.proofs.Elaborated.{Declares, package_declares, owns_none}
 use Rattle.ready_laws.proofs.Subs.{setting_from, IsOfBody, named_cases, body_at, one_named}
 use Rattle.soundness.proofs.Successors.{nothing_procedures}
 use Rattle.typed_laws.specs.Needed.{IsFine}
-use Rattle.viewed_soundness.specs.Holds.{PartsAreNamed}
 use Rattle.view_laws.specs.InOrder.{no_views}
 use Rattle.view_laws.specs.Program.{IsViewProgram}
 use Rattle.view_laws.proofs.Acts.{instruction_good}
