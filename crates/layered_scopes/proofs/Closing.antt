@@ -1,11 +1,11 @@
 -- Lists of objects whose scopes end one after the other, where what is in scope is in order.
-use Rattle.std.proofs.Common.{◌≡◌, refl, sym, ap, ◌∙◌, subst, inl, inr, ℕ, Bool, true, false, not, ◌&&◌, ◌||◌, ◌==◌, eqb-true, eq-eqb, List, [], ◌∷◌, ◌++◌, append_assoc, arith, if◌then◌else◌}
+use Rattle.std.proofs.Common.{◌≡◌, refl, sym, ap, ◌∙◌, subst, inl, inr, ℕ, Bool, true, false, ◌&&◌, ◌||◌, ◌==◌, eqb-true, eq-eqb, List, [], ◌∷◌, ◌++◌, append_assoc, arith, if◌then◌else◌}
 use Rattle.std.specs.Prelude.{cond, filter, drop, reverse}
 use Rattle.std.specs.List.{list_all}
 use Rattle.std.proofs.lemmas.List.{reverse-append}
 use Rattle.std.proofs.lemmas.Grind.{common_steps}
 use Rattle.spark_base.specs.Lists.{Has}
-use Rattle.spark_base.proofs.Lists.{Has-append_left, Has-append_right, Has-append_cases}
+use Rattle.spark_base.proofs.Lists.{Has-append_cases}
 use Rattle.typed_tree.specs.Trees.{TypedCode, Declare}
 use Rattle.typed_tree.specs.Trees as typed
 use Rattle.flow_paths.specs.Instructions.{Instruction}

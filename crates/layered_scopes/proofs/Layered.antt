@@ -1,11 +1,10 @@
 -- At each point of layered code what is in scope is older than what is declared there, or than the
 -- object whose scope ends; and the ends of the objects of a scope follow one another.
-use Rattle.std.proofs.Common.{◌≡◌, refl, sym, ap, ◌∙◌, subst, inl, inr, ℕ, suc, Bool, true, false, not, ◌&&◌, ◌||◌, ◌==◌, eq-eqb, List, [], ◌∷◌, ◌++◌, length, arith, if◌then◌else◌}
-use Rattle.std.specs.Prelude.{flat_map, filter, drop, reverse, is_some}
+use Rattle.std.proofs.Common.{◌≡◌, refl, sym, ap, ◌∙◌, subst, ℕ, suc, Bool, true, false, not, ◌&&◌, ◌||◌, ◌==◌, eq-eqb, List, [], ◌∷◌, ◌++◌, length, arith, if◌then◌else◌}
+use Rattle.std.specs.Prelude.{flat_map, drop, reverse, is_some}
 use Rattle.std.specs.List.{AllByRecursion, list_all}
 use Rattle.std.proofs.lemmas.Grind.{common_steps}
 use Rattle.spark_base.specs.Lists.{Has}
-use Rattle.spark_base.proofs.Lists.{Has-append_cases, Has-filter}
 use Rattle.spark_base.specs.declared.position.Pos.{Pos}
 use Rattle.typed_tree.specs.Trees.{TypedTree, Name, Component, Designated, Element, Image, Parens, Unary, Binary, Short, IsNull, Aggregate, Alike, New, TypedCode, Declare, Assign, Skip, Output, Input, Release, If, Branch, Case, When, Loop, While, For, Exit, Return, Block}
 use Rattle.typed_tree.specs.Trees as typed
@@ -15,16 +14,16 @@ use Rattle.flow_paths.specs.Instructions as instruction
 use Rattle.flow_paths.specs.Objects.{is_observer, has_scope_end}
 use Rattle.flow_paths.specs.Names.{has_call}
 use Rattle.flow_paths.specs.Points.{Place, PointName, row_at, NamedPoint, point, entry}
-use Rattle.flow_paths.specs.Prep.{Setting, held, with_held, prep}
+use Rattle.flow_paths.specs.Prep.{Setting, with_held, prep}
 use Rattle.flow_paths.specs.Layout.{Around, within_loop, within_block, with_scope, declared, from, ending, ends, closing, uses_both, laid, laid_branches, laid_branch, laid_whens, laid_when}
-use Rattle.flow_paths.specs.Laid.{around_body, scope_at_end, procedure_end, function_end, body_points, sub_points}
+use Rattle.flow_paths.specs.Laid.{around_body, scope_at_end, procedure_end, function_end, sub_points}
 use Rattle.flow_paths.specs.Scopes.{leaves_silently, is_declaration, is_undeclaring, is_settled}
 use Rattle.flow_paths.specs.Views.{scope_of}
 use Rattle.flow_paths.proofs.ScopesFlow.{drop_held}
 use Rattle.flow_paths.proofs.StatementScopes.{after, after_undeclaring, after_more}
 use Rattle.scope_laws.proofs.Lists.{and_first, and_second, all_both, has_reverse}
 use Rattle.layered_scopes.specs.Layered.{are_of_scope, are_apart, is_layered, is_each_layered, is_region, is_body_layered}
-use Rattle.layered_scopes.specs.Points.{IsAbove, GoesOn, IsFading, AreFading}
+use Rattle.layered_scopes.specs.Points.{IsAbove, GoesOn, AreFading}
 use Rattle.layered_scopes.proofs.Closing.{all_test, Heads, Closes, closes_silent, closes_block, sorted}
 
 or_second : (a b : Bool) → (a || b) ≡ true → a ≡ false → b ≡ true
@@ -97,8 +96,8 @@ module _ (s : Setting) (older : ℕ → ℕ → Bool) (fits : Instruction → Bo
     (
       record {
         declares = λ z w e y has.
-        (let same : x ≡ z = cc in subst (λ u. older u y ≡ true) same
-        (all_test (older x) scope y (and_first (list_all (older x) scope) _ h) (subst (λ sc. Has sc y) (drop_held s v at scope) has)));
+            (let same : x ≡ z = cc in subst (λ u. older u y ≡ true) same
+            (all_test (older x) scope y (and_first (list_all (older x) scope) _ h) (subst (λ sc. Has sc y) (drop_held s v at scope) has)));
         ends = λ z e. absurd (let no_end : ⊥ = cc in no_end);
         declared = λ z w e. and_second (list_all (older x) scope) _ h;
         assigned = λ target w e. absurd (let no_end : ⊥ = cc in no_end);

@@ -1,6 +1,6 @@
 -- What the acts of an instruction move is rooted in an object that the instruction names, whose scope
 -- ends at a point; and no act changes an observer itself.
-use Rattle.std.proofs.Common.{◌≡◌, refl, sym, ap, ◌∙◌, subst, ◌⊎◌, inl, inr, ℕ, zero, suc, ◌<◌, Bool, true, false, not, ◌&&◌, ◌||◌, List, [], ◌∷◌, ◌++◌, map, length, get_or, arith, ℤ, Option, Some, None, if◌then◌else◌}
+use Rattle.std.proofs.Common.{◌≡◌, refl, sym, ap, ◌∙◌, subst, ◌⊎◌, inl, inr, ℕ, zero, suc, ◌<◌, Bool, true, false, ◌&&◌, ◌||◌, List, [], ◌∷◌, ◌++◌, map, length, get_or, arith, ℤ, Option, Some, None, if◌then◌else◌}
 use Rattle.spark_base.specs.Lists.{Has}
 use Rattle.spark_base.proofs.Lists.{Has-append_left, Has-append_right, Has-append_cases}
 use Rattle.spark_base.specs.declared.position.Pos.{Pos}
@@ -20,14 +20,14 @@ use Rattle.typed_tree.specs.Trees.{TypedTree, Number, Literal, Text, Name, Compo
 use Rattle.typed_tree.specs.Trees as typed
 use Rattle.flow_paths.specs.Instructions.{Instruction, Skip, Declare, Assign, Output, Input, Release, Test, Choose, Start, Next, Evaluate, LeaveLoop, Hold, EndScope, Finish, Fall}
 use Rattle.flow_paths.specs.Instructions as instruction
-use Rattle.flow_paths.specs.Objects.{Typing, object_at, is_variable, is_borrower, is_observer, is_borrowing, is_observing, is_anonymous, has_scope_end, view_of, traverses}
+use Rattle.flow_paths.specs.Objects.{Typing, object_at, is_variable, is_borrower, is_observer, is_borrowing, is_observing, is_anonymous, view_of, traverses}
 use Rattle.flow_paths.specs.Names.{Written, name_of, selectors, written, first, source, whole, has_call}
-use Rattle.flow_paths.specs.Acts.{acts_in, acts_of, used, placed, naming, observe, reborrow, target_pos, index_acts, source_acts, assigned_to, whole_acts, stored_acts, declared_acts, returned_acts, gives_variable}
+use Rattle.flow_paths.specs.Acts.{acts_in, acts_of, used, placed, naming, observe, reborrow, target_pos, index_acts, source_acts, assigned_to, stored_acts, declared_acts, returned_acts, gives_variable}
 use Rattle.flow_paths.specs.Views.{changes}
-use Rattle.machine.specs.Words.{component_type, element_type, element_of, no_component}
+use Rattle.machine.specs.Words.{component_type, element_of, no_component}
 use Rattle.soundness.specs.Typed.{OwnsByShape}
 use Rattle.soundness.specs.Sound.{calls_nothing}
-use Rattle.typed_laws.specs.Needed.{Stays, Leads, Gives, GivesParts, GivesFirst, Writes, FirstWrites, IsView, Source, FirstSource, IsPlace, FirstStays, Returns, IsFine}
+use Rattle.typed_laws.specs.Needed.{Stays, Leads, Gives, GivesParts, GivesFirst, Writes, FirstWrites, Source, FirstSource, IsPlace, FirstStays, Returns, IsFine}
 use Rattle.viewed_soundness.specs.Holds.{IsNamed, PartsAreNamed}
 use Rattle.scope_laws.specs.Code.{roots}
 use Rattle.scope_laws.specs.Order.{named_in}
@@ -91,7 +91,7 @@ pub named_plain : (table : Table) (t : ℕ) → IsNamed table t → is_anonymous
 named_plain table t named = shape_named (shape_of table t) named
 
 -- an access type owns, or is anonymous
-access_lasts : (owns : ℕ → Bool) (d : ℕ) (c n : Bool) → owns_of owns (shape.Access d c n) || is_anonymous (view_of_shape (shape.Access d c n)) ≡ true
+pub access_lasts : (owns : ℕ → Bool) (d : ℕ) (c n : Bool) → owns_of owns (shape.Access d c n) || is_anonymous (view_of_shape (shape.Access d c n)) ≡ true
 access_lasts owns d c true = refl
 access_lasts owns d true false = refl
 access_lasts owns d false false = refl

@@ -1,6 +1,6 @@
 -- Along a control path, what facts say was moved is in scope, or in an object of a package; so no fact speaks
 -- of an object that is declared. (As in `ready_laws`, but with views.)
-use Rattle.std.proofs.Common.{◌≡◌, refl, sym, ap, ◌∙◌, subst, ◌⊎◌, inl, inr, ℕ, Bool, true, false, not, ◌&&◌, ◌||◌, ◌==◌, eqb-true, eq-eqb, List, [], ◌∷◌, ◌++◌, map, drop, get_or, Option, Some, None}
+use Rattle.std.proofs.Common.{◌≡◌, refl, sym, ap, ◌∙◌, subst, ◌⊎◌, inl, inr, ℕ, Bool, true, false, not, ◌&&◌, ◌||◌, ◌==◌, eqb-true, eq-eqb, List, [], ◌∷◌, ◌++◌, map, drop, get_or, Some, None}
 use Rattle.std.specs.Prelude.{filter}
 use Rattle.std.specs.List.{AllByRecursion}
 use Rattle.std.proofs.lemmas.List.Folds.{list_any-append}
@@ -20,13 +20,11 @@ use Rattle.flow_paths.specs.declared.report.Effects.{Effects}
 use Rattle.flow_paths.specs.Instructions.{Instruction, Skip, Declare, Assign, Call, Output, Input, Release, Test, Choose, Start, Next, Evaluate, LeaveLoop, Hold, EndScope, Finish, Fall}
 use Rattle.flow_paths.specs.Objects.{Typing, object_at, is_variable, is_anonymous, view_of, is_borrower, has_scope_end}
 use Rattle.flow_paths.specs.Acts.{acts_of}
-use Rattle.flow_paths.specs.Acts as flow
 use Rattle.flow_paths.specs.Points.{NamedPoint, FlowPoint}
 use Rattle.flow_paths.specs.Laid.{FlowSub, FlowProgram, NamedSub, kept_roots, sub_facts, flow_sub, typing_of, flow_typing, flow_program, flow_named}
 use Rattle.flow_paths.specs.Paths.{PathPoint, ControlPath, begins, goes_on, is_some_point, acts_at, facts_before}
 use Rattle.flow_paths.specs.Effects.{AreEffects, called_acts, path_points}
 use Rattle.flow_paths.specs.Scopes.{Leads, Silent, is_last, is_within, is_temporary, is_ready, brought, scope_behind}
-use Rattle.machine.specs.States.{sub_of}
 use Rattle.machine.specs.Run.{no_point}
 use Rattle.owned_ways.specs.Ways.{after}
 use Rattle.soundness.specs.Typed.{OwnsByShape}

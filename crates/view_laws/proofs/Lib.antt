@@ -3,3 +3,5 @@ pub mod Reports
 pub mod Enclosing
 pub mod Packages
 pub mod Facts
+pub mod Scoped
+pub mod Points

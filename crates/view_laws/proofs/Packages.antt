@@ -1,5 +1,5 @@
 -- What package objects are declared with names no view, at the points either.
-use Rattle.std.proofs.Common.{◌≡◌, refl, sym, subst, inl, inr, ℕ, Bool, true, false, not, ◌&&◌, List, [], ◌∷◌, ◌++◌, ap, ◌∙◌}
+use Rattle.std.proofs.Common.{◌≡◌, subst, inl, inr, ℕ, Bool, true, false, not, ◌&&◌, List, [], ◌∷◌, ◌++◌, ap, ◌∙◌}
 use Rattle.std.specs.List.{AllByRecursion}
 use Rattle.spark_base.specs.Lists.{Has}
 use Rattle.typed_tree.specs.Trees.{TypedTree, Name, Component, Designated, Element, Image, Parens, Unary, Binary, Short, IsNull, Aggregate, Alike, New, TypedCode}
@@ -17,9 +17,9 @@ use Rattle.scope_laws.proofs.Lists.{and_first, and_second, all_both, all_one, al
 use Rattle.ready_laws.specs.InOrder.{declares_only}
 use Rattle.view_laws.specs.InOrder.{no_views, names_no_view}
 
--- What is declared at a point is declared with a value that names no view.
+-- What is declared at a point is no view, and is declared with a value that names none.
 abbrev pub IsPlain : Typing → NamedPoint → Type 0
-IsPlain t p = (x : ℕ) (v : TypedTree) → p.instr ≡ Declare x v → no_views t (roots v) ≡ true
+IsPlain t p = (x : ℕ) (v : TypedTree) → p.instr ≡ Declare x v → not (is_anonymous (view_of t x)) && no_views t (roots v) ≡ true
 
 module _ (t : Typing) (s : Setting) where
   abbrev Plain : List NamedPoint → Type 0
@@ -75,7 +75,11 @@ module _ (t : Typing) (s : Setting) where
   laid_plain (typed.Declare p x v) at w k only none =
       one_more (prep s v (0 ∷ at) w.scope (row_at at 0 ∷ [])) (point (row_at at 0) p (Declare x v) (with_held s v (0 ∷ at) w.scope) k)
       (prep_plain v (0 ∷ at) w.scope (row_at at 0 ∷ []))
-      (λ y u e. (let same : v ≡ u = cc in subst (λ z. no_views t (roots z) ≡ true) same none))
+      (λ y u e.
+      (let object : x ≡ y = cc in
+      let value : v ≡ u = cc in
+      subst (λ z. not (is_anonymous (view_of t z)) && no_views t (roots u) ≡ true) object
+      (subst (λ z. not (is_anonymous (view_of t x)) && no_views t (roots z) ≡ true) value none)))
   laid_plain typed.NoMore at w k only none = tt
   laid_plain _ at w k only none = cc
 

@@ -1,8 +1,7 @@
 -- What follows of V1, V2 and V4 where nothing is reported.
-use Rattle.std.proofs.Common.{◌≡◌, refl, sym, ap, ◌∙◌, subst, inl, inr, ℕ, Bool, true, false, not, ◌&&◌, ◌||◌, ◌==◌, eqb-true, List, [], ◌∷◌, ◌++◌, Option, Some, None, IsTrue}
+use Rattle.std.proofs.Common.{◌≡◌, refl, ap, ◌∙◌, subst, inl, ℕ, Bool, true, false, not, ◌&&◌, ◌==◌, eqb-true, List, [], ◌∷◌, ◌++◌, Some}
 use Rattle.spark_base.specs.Lists.{Has}
 use Rattle.spark_base.specs.declared.position.Pos.{Pos}
-use Rattle.place_names.specs.declared.act.Act.{Act}
 use Rattle.place_names.specs.declared.act.Act.TheVariants as act
 use Rattle.place_names.specs.declared.act.Placed.{Placed}
 use Rattle.place_names.specs.declared.rule.Rule.TheVariants as rule
@@ -11,13 +10,12 @@ use Rattle.place_names.specs.declared.selector.Sel.TheVariants as sel
 use Rattle.place_names.specs.Names.{Name as PlaceName, extend}
 use Rattle.type_definitions.specs.Types.{is_nil}
 use Rattle.flow_paths.specs.declared.report.Effects.{Effects}
-use Rattle.flow_paths.specs.Objects.{Typing, object_at, is_variable, is_borrower, is_observer, is_borrowing, is_observing, is_formal, view_of, traverses}
-use Rattle.flow_paths.specs.Acts.{gives_variable}
+use Rattle.flow_paths.specs.Objects.{Typing, is_observer, traverses}
 use Rattle.flow_paths.specs.Points.{FlowPoint}
 use Rattle.flow_paths.specs.Laid.{FlowSub, FlowProgram, flow_typing}
 use Rattle.flow_paths.specs.Limits.{source_pos}
 use Rattle.flow_paths.specs.Reports.{AreReports, on_views}
-use Rattle.flow_paths.specs.Views.{ConstantView, of_observer, MayBorrow, directly, through, ViewReport, changed, lent, shorter, other_root, changes, lends, has_selector, first_of, traversed_of, traversed_formal, encloses, scope_of, is_assignment, ActAt, text_report}
+use Rattle.flow_paths.specs.Views.{of_observer, MayBorrow, directly, through, changed, lent, shorter, other_root, changes, lends, has_selector, traversed_of, encloses, scope_of, is_assignment, text_report}
 
 by_false : (b : Bool) → (not b ≡ true → ⊥) → b ≡ true
 by_false true none = refl

@@ -1,6 +1,6 @@
 -- What is asked of a typed program with borrowers and observers, beside that its subprograms are in
 -- order. Nothing here speaks of points, paths or facts.
-use Rattle.std.specs.Prelude.{◌≡◌, ℕ, ◌≤◌, Bool, true, false, not, ◌&&◌, ◌||◌, List, ◌∷◌, get_or, nat_lt, Option, Some, None}
+use Rattle.std.specs.Prelude.{◌≡◌, ℕ, ◌≤◌, Bool, true, false, not, ◌&&◌, ◌||◌, List, get_or, nat_lt, Option, Some, None}
 use Rattle.std.specs.List.{list_all}
 use Rattle.spark_base.specs.Lists.{Has}
 use Rattle.type_definitions.specs.Types.{Table}
@@ -49,9 +49,9 @@ fits s i = true
 abbrev pub no_views : Typing → List ℕ → Bool
 no_views s xs = list_all (λ x. not (is_anonymous (view_of s x))) xs
 
--- No initial value names a view.
+-- No view is declared, and no initial value names one.
 unfoldable pub names_no_view : Typing → TypedCode → Bool
-names_no_view s (typed.Declare p x v) = no_views s (roots v)
+names_no_view s (typed.Declare p x v) = not (is_anonymous (view_of s x)) && no_views s (roots v)
 names_no_view s (typed.More a rest) = names_no_view s a && names_no_view s rest
 names_no_view s _ = true
 
