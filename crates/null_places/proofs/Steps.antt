@@ -28,10 +28,10 @@ use Rattle.machine.specs.Evaluate.{StorageError}
 use Rattle.machine.specs.States.{Frame, State, Goes, sub_of, frame_words, stack_words, frame_at_start}
 use Rattle.machine.specs.Step.{Turn, turn, finish, call, waiting, behind}
 use Rattle.machine.specs.Step as steps
-use Rattle.machine.specs.Owners.{is_in, is_in_formal, waiting_in}
+use Rattle.machine.specs.Owners.{is_in, waiting_in}
 use Rattle.machine.specs.Run.{step}
 use Rattle.owned_ways.specs.Ways.{Way, Sound, AllowsAll}
-use Rattle.soundness.specs.Seen.{home, IsNear}
+use Rattle.soundness.specs.Seen.{home, IsNear, is_view_formal}
 use Rattle.soundness.specs.Typed.{Kept}
 use Rattle.typed_laws.specs.Needed.{IsFine, Source, FirstWrites, FirstStays}
 use Rattle.soundness.specs.Sound.{calls_nothing, calls_procedures, Stage, facts_of, Elsewhere, AreStages, Uses, AreRunning, IsNamedSub, IsAtPoint, view_of, IsSound}
@@ -93,7 +93,7 @@ module _ (table : Table) (typed : TypedProgram) (effects : Effects) (input : Lis
   same : s ≡ own
   same = typing_same table typed ready.scoped.objects
 
-  no_in_formals : (x : ℕ) → is_in_formal s x ≡ false
+  no_in_formals : (x : ℕ) → is_view_formal s x ≡ false
   no_in_formals x = ap (λ b. b && is_in (object_at s x).mode) (ready.class.no_formals x)
 
   -- ---- an instruction that calls nothing, at a point

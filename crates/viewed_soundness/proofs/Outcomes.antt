@@ -23,11 +23,11 @@ use Rattle.machine.specs.Calls.{checks_at, checked_at}
 use Rattle.machine.specs.States.{Waiting, Leak, State, Outcome, Goes, Ends}
 use Rattle.machine.specs.Step.{Turn, counted, typing, here, start, waiting, Stored, first_value, taken_by, declare, assign, goes, behind, led, successor, leaking_goes, target_pos}
 use Rattle.machine.specs.Step as steps
-use Rattle.machine.specs.Owners.{is_in_formal, waiting_in, WellOwned}
+use Rattle.machine.specs.Owners.{waiting_in, WellOwned}
 use Rattle.owned_ways.specs.Ways.{Loc, Way, All, Reaches, IsRooted, Named, Allows, after, AllowsAll, number_of, OfRoot}
 use Rattle.owned_ways.specs.Ways as ways
 use Rattle.part_offsets.specs.Parts.{IsSettled}
-use Rattle.soundness.specs.Seen.{content, trunk, seen, home}
+use Rattle.soundness.specs.Seen.{content, trunk, seen, home, is_view_formal}
 use Rattle.soundness.specs.Changes.{leaks_at, Checks}
 use Rattle.soundness.specs.Typed.{Matches, IsCell, OwnsByShape, Kept}
 use Rattle.soundness.specs.Sound.{IsTrap}
@@ -116,7 +116,7 @@ matches_on table a b c (inr e) (inr g) = inr (e.1, g.1)
 -- ---- outcomes
 
 module _ (t : Turn) (settled : IsSettled (typing t).table) (own_law : OwnsByShape (typing t).table) (other : Way → Type 0)
-    (alone : (w : Way) → other w → ⊥) (no_formals : (x : ℕ) → is_in_formal (typing t) x ≡ false)
+    (alone : (w : Way) → other w → ⊥) (no_formals : (x : ℕ) → is_view_formal (typing t) x ≡ false)
     (v : Views) (parts_named : PartsAreNamed (typing t).table)
     (frames : t.state.frames ≡ t.frame ∷ t.outer) (none : taken t.point.instr ≡ 0) where
   abbrev s : Typing
@@ -142,7 +142,7 @@ module _ (t : Turn) (settled : IsSettled (typing t).table) (own_law : OwnsByShap
 
   -- where the step raises
   raises : (facts : List Fact) → IsGood v facts t.state → (m : Memory) → WellOwned s (counted (record t.state { memory = given_up t.state.memory m }))
-  raises facts good m = raised_owned s settled t.state good.viewed.owned good.viewed.covered m
+  raises facts good m = raised_owned s settled own_law t.state good.viewed.owned good.viewed.covered m
 
   abbrev Raises_well : Type 0
   Raises_well = (m : Memory) → WellOwned s (counted (record t.state { memory = given_up t.state.memory m }))
