@@ -5,7 +5,6 @@ use Rattle.std.specs.Prelude.{nat_le}
 use Rattle.place_names.specs.declared.act.Act.TheVariants as act
 use Rattle.place_names.specs.declared.fact.Fact.{Fact}
 use Rattle.place_names.specs.Names.{Name as PlaceName}
-use Rattle.place_names.specs.Facts.{effect}
 use Rattle.type_definitions.specs.declared.table.Shape.TheVariants as shape
 use Rattle.type_definitions.specs.Types.{shape_of, is_owning, parts}
 use Rattle.typed_tree.specs.Trees.{TypedTree, Number, Literal, Name, Call, EndOfFile, Parens, Unary, Binary, Short, IsNull, Aggregate, Alike, New, NoMore, More}
@@ -15,22 +14,21 @@ use Rattle.flow_paths.specs.Names.{has_call, name_of}
 use Rattle.flow_paths.specs.Acts.{used, acts_in}
 use Rattle.machine.specs.Words.{default, fits_type}
 use Rattle.machine.specs.Words as machine
-use Rattle.machine.specs.Memory.{Memory, Place, slots_of, words_of, moved_out, with_new_cell, live_words}
+use Rattle.machine.specs.Memory.{Memory, Place, slots_of, moved_out, with_new_cell, live_words}
 use Rattle.machine.specs.Evaluate.{Here, Now, AsValue, part_type, parts_of, Evaluated, Done, Raises, Traps, followed_by, evaluate, steps_of, initial, checked, allocated, variable_place, walked, held_or_taken, taken, heap_words, StorageError}
 use Rattle.machine.specs.Evaluate as run
 use Rattle.machine.specs.States.{Waiting, Leak}
-use Rattle.machine.specs.Owners.{is_in_formal}
 use Rattle.owned_ways.specs.Ways.{OfVariable, Loc, Way, Object, Reaches, Named, Excused, Allows, after, AllowsAll, along}
 use Rattle.owned_ways.specs.Ways as ways
 use Rattle.owned_ways.proofs.Assigned.{move_way, move_clean, named_rooted}
 use Rattle.owned_ways.proofs.Locations.{under_along, under_itself}
 use Rattle.part_offsets.specs.Parts.{IsSettled}
-use Rattle.soundness.specs.Seen.{seen, home, IsNear}
-use Rattle.soundness.specs.Typed.{OwnsByShape, Spot}
+use Rattle.soundness.specs.Seen.{home, IsNear, is_view_formal}
+use Rattle.soundness.specs.Typed.{OwnsByShape}
 use Rattle.typed_laws.specs.Needed.{Stays, Leads, Gives, GivesParts, GivesFirst, IndexLaw}
 use Rattle.soundness.proofs.Near.{named_near, near_along}
 use Rattle.soundness.proofs.Walks.{way_along, Walked}
-use Rattle.soundness.proofs.Scalars.{after_append, allows_both, acts, acts_append, read_way, number_along, named_along}
+use Rattle.soundness.proofs.Scalars.{allows_both, acts, acts_append, read_way, number_along, named_along}
 use Rattle.soundness.proofs.Stays.{Goes, steps_quiet}
 use Rattle.soundness.proofs.Waits.{or_both}
 use Rattle.soundness.proofs.Evaluated.{Keeps, Ready, Given, regrouped, live_trunk, checked_given, evaluated}
@@ -39,11 +37,11 @@ use Rattle.null_places.proofs.Memories.{NoneGone, words_agree, moved_agree, made
 use Rattle.null_places.proofs.Only.{OnlyOwners, made_only}
 use Rattle.null_places.proofs.Places.{spot_whole, plain_whole, unmoved_whole, moved_only}
 use Rattle.null_places.proofs.Walks.{SameNow, SameTo, then_same, simply}
-use Rattle.null_places.proofs.Scalars.{copy_same, place_then, scalar_same, steps_same, called, named_way}
+use Rattle.null_places.proofs.Scalars.{copy_same, place_then, scalar_same, steps_same}
 
 module _ (h : Here) (settled : IsSettled h.typing.table) (leaks : List Leak) (waits : List (List machine.Word)) (other : Way → Type 0)
     (alone : (w : Way) → IsNear h.frame w → other w → ⊥) (keeps : Keeps h.typing)
-    (no_formals : (x : ℕ) → is_in_formal h.typing x ≡ false) (index_law : IndexLaw) (own_law : OwnsByShape h.typing.table)
+    (no_formals : (x : ℕ) → is_view_formal h.typing x ≡ false) (index_law : IndexLaw) (own_law : OwnsByShape h.typing.table)
     (all_named : (t d : ℕ) (c n : Bool) → shape_of h.typing.table t ≡ shape.Access d c n → n ≡ true) where
   abbrev ReadyIn : Memory → List Waiting → List Fact → Type 0
   ReadyIn m hands facts = Ready h settled leaks waits other alone keeps no_formals index_law own_law all_named m hands facts

@@ -1,5 +1,5 @@
 -- Instructions lead to the same in memories that agree.
-use Rattle.std.proofs.Common.{◌≡◌, refl, sym, ap, ◌∙◌, subst, ◌⊎◌, inl, inr, ℕ, suc, Bool, true, false, not, ◌&&◌, ◌||◌, List, [], ◌∷◌, ◌++◌, map, flat_map, length, nat_lt, append_assoc, append-nil, ℤ, Option, Some, None, if◌then◌else◌}
+use Rattle.std.proofs.Common.{◌≡◌, refl, sym, ap, ◌∙◌, subst, inl, inr, ℕ, Bool, true, false, not, ◌&&◌, List, [], ◌∷◌, ◌++◌, length, nat_lt, append_assoc, append-nil, ℤ, Option, Some, None, if◌then◌else◌}
 use Rattle.std.specs.Prelude.{int_le}
 use Rattle.spark_base.specs.declared.position.Pos.{Pos}
 use Rattle.place_names.specs.declared.act.Act.{Act}
@@ -20,27 +20,27 @@ use Rattle.run_values.specs.declared.items.Item.TheVariants as item
 use Rattle.run_values.specs.Items.{next_item}
 use Rattle.machine.specs.Words.{default, fits_type}
 use Rattle.machine.specs.Words as machine
-use Rattle.machine.specs.Memory.{Memory, Place, Slot, cell, freed, slots_of, words_of, declared, undeclared, stored, given_up}
+use Rattle.machine.specs.Memory.{Memory, Place, cell, freed, slots_of, words_of, declared, undeclared, stored}
 use Rattle.machine.specs.Evaluate.{Here, Now, AsValue, Exception, Trap, Evaluated, Done, Raises, Traps, followed_by, evaluate, initial, checked, value, viewed, place_of, cell_place, variable_place, walked, steps_of, text_of}
 use Rattle.machine.specs.Evaluate as run
 use Rattle.machine.specs.Calls.{checks_at}
-use Rattle.machine.specs.States.{Waiting, Loop, Frame, Leak, State, Outcome, Goes, Ends}
+use Rattle.machine.specs.States.{Waiting, Loop, Leak, State, Outcome, Goes, Ends}
 use Rattle.machine.specs.Step.{Turn, typing, here, start, waiting, counted, raised, trapped, Stored, first_value, taken_by, declare, assign, end_scope, goes, behind, leaking, leaking_goes, target_pos}
 use Rattle.machine.specs.Step as steps
-use Rattle.machine.specs.Owners.{is_in_formal, waiting_in}
+use Rattle.machine.specs.Owners.{waiting_in}
 use Rattle.owned_ways.specs.Ways.{OfVariable, Loc, OfRoot, Way, Object, Reaches, IsRooted, Excused, Allows, after, AllowsAll, Sound}
 use Rattle.owned_ways.specs.Ways as ways
 use Rattle.owned_ways.proofs.Locations.{past_under, under_itself}
 use Rattle.owned_ways.proofs.Assigned.{write_clean, named_rooted}
 use Rattle.part_offsets.specs.Parts.{IsSettled}
-use Rattle.soundness.specs.Seen.{content, trunk, seen, home, IsNear}
+use Rattle.soundness.specs.Seen.{content, trunk, seen, home, IsNear, is_view_formal}
 use Rattle.soundness.specs.Typed.{OwnsByShape, Kept, Spot}
-use Rattle.typed_laws.specs.Needed.{Stays, Writes, Leads, Gives, Source, FirstSource}
+use Rattle.typed_laws.specs.Needed.{Stays, Writes, Leads, Source, FirstSource}
 use Rattle.soundness.specs.Sound.{view_of}
 use Rattle.soundness.proofs.Near.{named_near}
-use Rattle.soundness.proofs.Walks.{way_along, Walked}
+use Rattle.soundness.proofs.Walks.{way_along}
 use Rattle.soundness.proofs.Steps.{no_leaf}
-use Rattle.soundness.proofs.Scalars.{acts, acts_append, after_append, allows_both}
+use Rattle.soundness.proofs.Scalars.{acts, acts_append, allows_both}
 use Rattle.soundness.proofs.Stays.{Quiet, One, quiet, steps_quiet}
 use Rattle.soundness.proofs.Numbers.{index_law}
 use Rattle.soundness.proofs.Lasting.{keeps}
@@ -203,14 +203,16 @@ module _ (t : Turn) (n : Memory) (agrees : Agrees t.state.memory n) where
       by : (c : Bool) → fails b ≡ c → SameStep t (f b m) (g b m')
       by true e = both_are t _ _ _ _ (one.at_fault b m e) (two.at_fault b m' e) (raised_same t n agrees run.ConstraintError m m' a)
       by false e =
-          both_are t _ _ _ _ (one.at_turn b m e) (two.at_turn b m' e)
-          (loop_same (loop b) (behind t (waiting t) (declared (length t.outer) x b.low m) 0) (behind (twin t n) (waiting t) (declared (length t.outer) x b.low m') 0)
-          (refl, declared_agree (length t.outer) x b.low m m' a), declared_only (typing t) m only (length t.outer) x b.low)
+          both_are t _ _ _ _ (one.at_turn b m e) (two.at_turn b m' e) (
+            loop_same (loop b) (behind t (waiting t) (declared (length t.outer) x b.low m) 0) (behind (twin t n) (waiting t) (declared (length t.outer) x b.low m') 0)
+                (refl, declared_agree (length t.outer) x b.low m m' a),
+            declared_only (typing t) m only (length t.outer) x b.low,
+          )
 
 -- ---- each instruction
 
 module _ (t : Turn) (settled : IsSettled (typing t).table) (own_law : OwnsByShape (typing t).table) (other : Way → Type 0)
-    (alone : (w : Way) → IsNear (length t.outer) w → other w → ⊥) (no_formals : (x : ℕ) → is_in_formal (typing t) x ≡ false)
+    (alone : (w : Way) → IsNear (length t.outer) w → other w → ⊥) (no_formals : (x : ℕ) → is_view_formal (typing t) x ≡ false)
     (all_named : (u d : ℕ) (c n : Bool) → shape_of (typing t).table u ≡ shape.Access d c n → n ≡ true) (facts : List Fact)
     (sound : Sound (home (typing t) (length t.outer)) other (view_of (typing t) t.state) facts) (kept : Kept (typing t) t.state.memory (waiting_in t.state))
     (only : OnlyOwners (typing t) t.state.memory) (n : Memory) (agrees : Agrees t.state.memory n) where

@@ -1,6 +1,6 @@
 -- What the machine does to memories that agree: each function of a memory gives the same or leaves
 -- memories that agree. Nothing is asked of programs and states here.
-use Rattle.std.proofs.Common.{◌≡◌, refl, sym, ap, ◌∙◌, subst, inl, inr, ℕ, zero, suc, ◌+◌, Bool, true, false, not, ◌&&◌, ◌==◌, List, [], ◌∷◌, ◌++◌, map, flat_map, filter, take, drop, length, sum, get_or, if◌then◌else◌}
+use Rattle.std.proofs.Common.{◌≡◌, refl, sym, ap, ◌∙◌, subst, inl, inr, ℕ, zero, suc, ◌+◌, Bool, true, false, not, ◌&&◌, ◌==◌, List, [], ◌∷◌, ◌++◌, map, filter, take, drop, length, sum, get_or, if◌then◌else◌}
 use Rattle.spark_base.specs.declared.position.Pos.{Pos}
 use Rattle.place_names.specs.declared.selector.Sel.{Sel}
 use Rattle.type_definitions.specs.Types.{words, parts}
@@ -8,7 +8,6 @@ use Rattle.flow_paths.specs.Objects.{Typing, object_at}
 use Rattle.machine.specs.Words.{Word, Int, Enumerated, Null, Cell, access_offsets, default, offsets}
 use Rattle.machine.specs.Memory.{Slot, Variable, HeapCell, Memory, Base, Place, OfVariable, OfCell, fresh, is_variable, variable_slots, no_cell, cell, slots_at, slots_of, words_of, no_slot, with_variable, at_number, with_cell, put, with_slots, stored, as_gone, gone_at, moved_out, declared, undeclared, without_frame, cell_words, live_cells, live_words, live_count, greatest, with_new_cell, as_freed, freed, given_up}
 use Rattle.machine.specs.Calls.{failed_at, failed, checked_at, checks_at}
-use Rattle.machine.specs.States.{Leak}
 use Rattle.null_places.specs.Cleared.{cleared_slot, cleared}
 use Rattle.null_places.specs.Agrees.{Pairwise, AgreeSlot, AgreeSlots, AgreeVariable, AgreeCell, Agrees}
 use Rattle.null_places.proofs.Lists.{pair_itself, pair_length, pair_append, pair_take, pair_drop, pair_get, pair_at, pair_same, pair_filter}

@@ -1,9 +1,9 @@
 -- Only words that own are ever gone.
-use Rattle.std.proofs.Common.{◌≡◌, refl, sym, ap, ◌∙◌, subst, ◌⊎◌, inl, inr, ℕ, zero, suc, ◌+◌, ◌<◌, Bool, true, false, not, cond, ◌&&◌, ◌==◌, eqb-true, List, [], ◌∷◌, ◌++◌, filter, take, drop, length, get_or, arith, if◌then◌else◌}
+use Rattle.std.proofs.Common.{◌≡◌, refl, sym, ap, ◌∙◌, subst, ◌⊎◌, inl, inr, ℕ, zero, suc, ◌+◌, Bool, true, false, not, cond, ◌&&◌, ◌==◌, eqb-true, List, [], ◌∷◌, ◌++◌, filter, take, drop, length, get_or, arith, if◌then◌else◌}
 use Rattle.type_definitions.specs.Types.{Table}
 use Rattle.flow_paths.specs.Objects.{Typing, object_at}
 use Rattle.machine.specs.Words.{Word, default}
-use Rattle.machine.specs.Memory.{Slot, Variable, HeapCell, Memory, Base, Place, OfVariable, OfCell, fresh, is_variable, variable_slots, no_cell, cell, slots_at, no_slot, with_variable, at_number, put, stored, declared, undeclared, without_frame, with_new_cell, as_freed, freed}
+use Rattle.machine.specs.Memory.{Slot, Variable, HeapCell, Memory, Base, Place, OfVariable, OfCell, fresh, is_variable, variable_slots, no_cell, slots_at, no_slot, with_variable, at_number, put, stored, declared, undeclared, without_frame, with_new_cell, as_freed, freed}
 use Rattle.owned_ways.specs.Ways.{Step, Loc, OfRoot}
 use Rattle.owned_ways.specs.Ways as ways
 use Rattle.owned_ways.proofs.Locations.{same_loc}

@@ -1,10 +1,10 @@
 -- What a place holds that a name leads to isn't gone, where no fact says so.
-use Rattle.std.proofs.Common.{◌≡◌, refl, sym, ap, ◌∙◌, subst, ◌⊎◌, inl, inr, ℕ, zero, suc, ◌+◌, ◌-◌, ◌<◌, ◌≤◌, Bool, true, false, ◌&&◌, List, [], ◌∷◌, ◌++◌, length, get_or, arith, append-nil}
+use Rattle.std.proofs.Common.{◌≡◌, refl, sym, ap, ◌∙◌, subst, ◌⊎◌, inl, inr, ℕ, zero, suc, ◌+◌, ◌-◌, ◌<◌, ◌≤◌, Bool, true, false, ◌&&◌, List, [], ◌∷◌, ◌++◌, length, get_or, arith}
 use Rattle.std.proofs.lemmas.Bool.{cases_lt}
 use Rattle.std.proofs.lemmas.List.{get_or_past}
 use Rattle.spark_base.specs.Lists.{Has}
 use Rattle.type_definitions.specs.declared.table.Shape.TheVariants as shape
-use Rattle.type_definitions.specs.Types.{Table, shape_of, words}
+use Rattle.type_definitions.specs.Types.{shape_of, words}
 use Rattle.flow_paths.specs.Objects.{Typing}
 use Rattle.machine.specs.Words.{access_offsets}
 use Rattle.machine.specs.Words as machine
@@ -12,14 +12,14 @@ use Rattle.machine.specs.Memory.{Slot, Memory, Base, Place, OfVariable, OfCell, 
 use Rattle.machine.specs.States.{Waiting, Leak}
 use Rattle.owned_ways.specs.Ways.{Step, Loc, Way, Gone, Reaches, IsRooted, Known, part, along}
 use Rattle.owned_ways.proofs.Locations.{same_loc, reaches_along, named_along as rooted_along}
-use Rattle.part_offsets.specs.Parts.{type_in, offset_in, has_part, owns_one, is_leaf, IsSettled}
+use Rattle.part_offsets.specs.Parts.{type_in, offset_in, owns_one, is_leaf, IsSettled}
 use Rattle.part_offsets.proofs.Ranges.{leaf_outside, leaf_end, leaf_part}
 use Rattle.part_offsets.proofs.Leaves.{leaf_from}
 use Rattle.soundness.specs.Seen.{Content, content, owner_at, trunk, steps_in, seen}
 use Rattle.soundness.specs.Changes.{Put}
 use Rattle.soundness.specs.Typed.{Kept, loc_of, Spot}
-use Rattle.soundness.proofs.Joined.{trunk_trunk, leaf_join, offset_join}
-use Rattle.soundness.proofs.Contents.{bool_cases, word_yes, word_part}
+use Rattle.soundness.proofs.Joined.{leaf_join, offset_join}
+use Rattle.soundness.proofs.Contents.{word_yes, word_part}
 use Rattle.soundness.proofs.Memories.{marked_length}
 use Rattle.soundness.proofs.Steps.{matches_words, alike, plain_shape, room, taken_slots, put_at, put_off, same_there}
 use Rattle.null_places.proofs.Memories.{NoneGone}

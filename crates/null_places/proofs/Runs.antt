@@ -1,12 +1,12 @@
 -- A run with null in moved places gives the same, in a program that is ready.
-use Rattle.std.proofs.Common.{◌≡◌, refl, sym, ap, ◌∙◌, subst, ℕ, zero, suc, Bool, true, false, List, [], ◌∷◌, nat_le, get_or, if◌then◌else◌}
+use Rattle.std.proofs.Common.{◌≡◌, refl, sym, ap, ◌∙◌, subst, ℕ, zero, suc, Bool, true, false, List, [], ◌∷◌, nat_le, if◌then◌else◌}
 use Rattle.type_definitions.specs.Types.{Table}
 use Rattle.typed_tree.specs.Programs.{TypedProgram}
 use Rattle.flow_paths.specs.declared.report.Effects.{Effects}
 use Rattle.flow_paths.specs.Objects.{Typing, object_at}
 use Rattle.flow_paths.specs.Laid.{FlowProgram, flow_typing, flow_program}
 use Rattle.machine.specs.Words.{default}
-use Rattle.machine.specs.Memory.{Memory, OfVariable, OfCell}
+use Rattle.machine.specs.Memory.{OfVariable, OfCell}
 use Rattle.machine.specs.Evaluate.{StorageError}
 use Rattle.machine.specs.States.{State, Ending, Raised, Spent, Outcome, Goes, Ends, sub_of, frame_words, stack_words, frame_at_start}
 use Rattle.machine.specs.Run.{empty_memory, step, then_on, within, state_at_start, run_of, main_of, run_with, ended, run}
@@ -15,7 +15,7 @@ use Rattle.soundness.specs.Ready.{IsReady}
 use Rattle.soundness.proofs.Beginning.{sound_start}
 use Rattle.soundness.proofs.Stepping.{sound_step}
 use Rattle.null_places.specs.Cleared.{cleared_state, cleared_outcome, null_step, null_within, null_run_of, null_run, RunsWithNull}
-use Rattle.null_places.specs.Agrees.{Agrees, SameState, SameOutcome}
+use Rattle.null_places.specs.Agrees.{SameState, SameOutcome}
 use Rattle.null_places.specs.Compares.{AreCompared}
 use Rattle.null_places.proofs.Memories.{itself, clear_agrees, agrees_right, agrees_clear, count_agree, freed_count}
 use Rattle.null_places.proofs.Only.{OnlyOwners, fresh_whole}

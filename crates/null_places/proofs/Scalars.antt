@@ -1,5 +1,5 @@
 -- Scalar expressions and the indexes of names give the same in memories that agree.
-use Rattle.std.proofs.Common.{◌≡◌, refl, sym, ap, ◌∙◌, subst, inl, inr, ℕ, ◌<◌, Bool, true, false, not, ◌&&◌, ◌||◌, List, [], ◌∷◌, ◌++◌, length, ℤ, ◌-ℤ◌, int_le, unsigned_abs, Option, Some, None, if◌then◌else◌}
+use Rattle.std.proofs.Common.{◌≡◌, refl, sym, ap, ◌∙◌, subst, inl, inr, ℕ, Bool, true, false, not, ◌&&◌, ◌||◌, List, [], ◌∷◌, ◌++◌, ℤ, ◌-ℤ◌, int_le, unsigned_abs, Option, Some, None, if◌then◌else◌}
 use Rattle.spark_base.specs.declared.position.Pos.{Pos}
 use Rattle.place_names.specs.declared.act.Act.TheVariants as act
 use Rattle.place_names.specs.declared.act.Placed.{Placed}
@@ -7,7 +7,7 @@ use Rattle.place_names.specs.declared.fact.Fact.{Fact}
 use Rattle.place_names.specs.declared.fact.Fact.TheVariants.{Moved}
 use Rattle.place_names.specs.declared.rule.Rule.TheVariants.{O2}
 use Rattle.place_names.specs.declared.rule.State.TheVariants as state
-use Rattle.place_names.specs.Names.{Name as PlaceName, leads_to}
+use Rattle.place_names.specs.Names.{leads_to}
 use Rattle.place_names.specs.Rules.{Forbidden}
 use Rattle.resolved_tree.specs.declared.operator.Operator.{Operator}
 use Rattle.resolved_tree.specs.declared.operator.UnaryOperator.{UnaryOperator}
@@ -22,7 +22,7 @@ use Rattle.flow_paths.specs.Names.{has_call, name_of, selectors}
 use Rattle.flow_paths.specs.Acts.{used, acts_in}
 use Rattle.machine.specs.Words.{component_type}
 use Rattle.machine.specs.Words as machine
-use Rattle.machine.specs.Memory.{Slot, Memory, Place, slots_of, words_of, moved_out}
+use Rattle.machine.specs.Memory.{Memory, Place, slots_of, moved_out}
 use Rattle.machine.specs.Evaluate.{Here, Now, Use, AsValue, AsView, Evaluated, Done, Raises, Traps, followed_by, evaluate, steps_of, place_of, text_of, value, variable_place, walked, held_or_taken, taken, indexed, operated, operated_alone, given, decides, truth}
 use Rattle.machine.specs.Evaluate as run
 use Rattle.machine.specs.States.{Waiting, Leak}
@@ -96,9 +96,11 @@ module _ (h : Here) where
   -- or read, where its type doesn't own
   pub copy_same : (k : Place) (n n' : Now) → NoneGone (slots_of h.typing n.memory k) → is_owning h.typing.table k.of ≡ false → SameNow h.typing n n'
       → Same (held_or_taken h AsValue k n) (held_or_taken h AsValue k n')
-  copy_same k n n' none plain same =
-      (words_agree h.typing n.memory n'.memory same.0 k none, subst (λ b. SameNow h.typing
-      (if b then record n { memory = moved_out h.typing k n.memory } else n) (if b then record n' { memory = moved_out h.typing k n'.memory } else n')) (sym plain) same)
+  copy_same k n n' none plain same = (
+    words_agree h.typing n.memory n'.memory same.0 k none,
+    subst (λ b. SameNow h.typing
+        (if b then record n { memory = moved_out h.typing k n.memory } else n) (if b then record n' { memory = moved_out h.typing k n'.memory } else n')) (sym plain) same,
+  )
 
 -- a comparison with null keeps what it names from being moved
 look_clean : (at_home : ℕ → ℕ) (facts : List Fact) (w : Way) → Allows facts (act.Look (ways.name_of w)) → IsMoved at_home facts w → ⊥

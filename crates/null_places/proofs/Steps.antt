@@ -1,5 +1,5 @@
 -- Each step of a sound state is the same in memories that agree, in a program that is ready.
-use Rattle.std.proofs.Common.{◌≡◌, refl, sym, ap, ◌∙◌, subst, ◌⊎◌, inl, inr, ℕ, zero, suc, ◌<◌, Bool, true, false, not, ◌&&◌, ◌||◌, List, [], ◌∷◌, ◌++◌, length, nat_le, arith, append-nil, Option, Some, None, if◌then◌else◌}
+use Rattle.std.proofs.Common.{◌≡◌, refl, sym, ap, ◌∙◌, subst, inl, inr, ℕ, suc, ◌<◌, Bool, true, false, ◌&&◌, ◌||◌, List, [], ◌∷◌, ◌++◌, length, nat_le, arith, None, if◌then◌else◌}
 use Rattle.spark_base.specs.Lists.{Has}
 use Rattle.spark_base.specs.declared.position.Pos.{Pos}
 use Rattle.spark_base.proofs.Lists.{Has-append_cases, Has-map_from}
@@ -10,7 +10,7 @@ use Rattle.place_names.specs.declared.fact.Fact.TheVariants.{Moved, Lent}
 use Rattle.place_names.specs.Facts.{adds}
 use Rattle.place_names.specs.Names.{Name as PlaceName}
 use Rattle.place_names.specs.Rules.{forbids}
-use Rattle.type_definitions.specs.Types.{Table, is_scalar, full, shape_of}
+use Rattle.type_definitions.specs.Types.{Table, shape_of}
 use Rattle.type_definitions.specs.declared.table.Shape.TheVariants as shape
 use Rattle.typed_tree.specs.Trees.{TypedTree, Name, NoMore, More}
 use Rattle.typed_tree.specs.Programs.{TypedProgram}
@@ -23,16 +23,15 @@ use Rattle.flow_paths.specs.Points.{NamedPoint, FlowPoint}
 use Rattle.flow_paths.specs.Laid.{FlowSub, FlowProgram, NamedSub, flow_sub, kept_roots, sub_facts, typing_of, flow_typing, flow_program, flow_named}
 use Rattle.flow_paths.specs.Paths.{PathPoint, path_point, ControlPath, acts_at, facts_before}
 use Rattle.flow_paths.specs.Effects.{act_writes, act_reads, flow_sub_at, path_points, called_acts}
-use Rattle.flow_paths.specs.Scopes.{taken}
-use Rattle.machine.specs.Memory.{Memory, without_frame}
+use Rattle.machine.specs.Memory.{Memory}
 use Rattle.machine.specs.Evaluate.{StorageError}
-use Rattle.machine.specs.States.{Frame, State, Normal, Outcome, Goes, Ends, sub_of, frame_words, stack_words, frame_at_start}
+use Rattle.machine.specs.States.{Frame, State, Goes, sub_of, frame_words, stack_words, frame_at_start}
 use Rattle.machine.specs.Step.{Turn, turn, finish, call, waiting, behind}
 use Rattle.machine.specs.Step as steps
-use Rattle.machine.specs.Owners.{is_in, is_in_formal, waiting_in}
+use Rattle.machine.specs.Owners.{is_in, waiting_in}
 use Rattle.machine.specs.Run.{step}
 use Rattle.owned_ways.specs.Ways.{Way, Sound, AllowsAll}
-use Rattle.soundness.specs.Seen.{home, IsNear}
+use Rattle.soundness.specs.Seen.{home, IsNear, is_view_formal}
 use Rattle.soundness.specs.Typed.{Kept}
 use Rattle.typed_laws.specs.Needed.{IsFine, Source, FirstWrites, FirstStays}
 use Rattle.soundness.specs.Sound.{calls_nothing, calls_procedures, Stage, facts_of, Elsewhere, AreStages, Uses, AreRunning, IsNamedSub, IsAtPoint, view_of, IsSound}
@@ -94,7 +93,7 @@ module _ (table : Table) (typed : TypedProgram) (effects : Effects) (input : Lis
   same : s ≡ own
   same = typing_same table typed ready.scoped.objects
 
-  no_in_formals : (x : ℕ) → is_in_formal s x ≡ false
+  no_in_formals : (x : ℕ) → is_view_formal s x ≡ false
   no_in_formals x = ap (λ b. b && is_in (object_at s x).mode) (ready.class.no_formals x)
 
   -- ---- an instruction that calls nothing, at a point

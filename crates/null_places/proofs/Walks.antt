@@ -1,7 +1,5 @@
 -- Evaluations in memories that agree, and where names lead in them.
-use Rattle.std.proofs.Common.{◌≡◌, refl, sym, ap, subst, ℕ, ◌<◌, Bool, true, false, List, [], ◌∷◌, length, if◌then◌else◌}
-use Rattle.type_definitions.specs.declared.table.Shape.TheVariants as shape
-use Rattle.type_definitions.specs.Types.{shape_of, fields}
+use Rattle.std.proofs.Common.{◌≡◌, refl, sym, subst, ℕ, Bool, true, false, List, [], ◌∷◌, if◌then◌else◌}
 use Rattle.flow_paths.specs.Objects.{Typing, designated}
 use Rattle.machine.specs.Words.{component_type, element_type, element_count}
 use Rattle.machine.specs.Words as machine
@@ -14,7 +12,7 @@ use Rattle.owned_ways.proofs.Locations.{under_itself}
 use Rattle.part_offsets.specs.Parts.{IsSettled}
 use Rattle.soundness.specs.Seen.{content, trunk, seen}
 use Rattle.soundness.specs.Typed.{Kept, Spot}
-use Rattle.soundness.proofs.Walks.{way_along, way_step, past_along, Lead, Walked, walk}
+use Rattle.soundness.proofs.Walks.{way_along, past_along, Lead, Walked, walk}
 use Rattle.null_places.specs.Agrees.{Agrees}
 use Rattle.null_places.proofs.Memories.{NoneGone, words_agree, cell_agree}
 use Rattle.null_places.proofs.Only.{OnlyOwners}
