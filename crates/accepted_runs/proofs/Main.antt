@@ -1,4 +1,5 @@
--- The runs of the programs of the first class that `check` accepts are sound, and no excused leak check fails in them.
+-- The runs of the programs of both classes that `check` accepts are sound, and in those of the first
+-- class no excused leak check fails.
 use Rattle.std.proofs.Common.{◌≡◌, ℕ, List, Some}
 use Rattle.spark_base.specs.declared.limits.TheConstants.{TOKENS, SOURCE_BYTES}
 use Rattle.ada_tree.specs.declared.unit.SourceUnit.{SourceUnit}
@@ -8,8 +9,9 @@ use Rattle.flow_paths.specs.declared.report.Effects.{Effects}
 use Rattle.soundness.specs.Sound.{RunIsSound}
 use Rattle.program_check.specs.Sources.{flow_of}
 use Rattle.order_laws.specs.Orderly.{typed_of}
-use Rattle.sound_files.specs.Class.{IsPlainText, CallsNothing}
+use Rattle.sound_files.specs.Class.{IsPlainText, CallsNothing, CallsProcedures, HasNoFunction}
 use Rattle.sound_files.proofs.Main.{parsed_sound}
+use Rattle.sound_files.proofs.Procedures.{parsed_procedures_sound}
 use Rattle.exact_facts.specs.Exact.{RunHolds}
 use Rattle.excused_runs.proofs.Files.{parsed_hold}
 use Rattle.command_words.specs.Words.{Check}
@@ -29,7 +31,7 @@ RunsAreSound trees = (input : List ℕ) → RunIsSound (known_of (program_of tre
 abbrev pub RunsHold : List (List SourceUnit) → Effects → Type 0
 RunsHold trees effects = (input : List ℕ) → RunHolds (flow_of trees) effects input
 
--- The class of programs.
+-- The first class of programs.
 pub record AreInClass (trees : List (List SourceUnit)) : Type 0 where
   pub text : IsPlainText (program_of trees)
   pub calls : CallsNothing (flow_of trees)
@@ -52,3 +54,25 @@ pub accepted_sound : (stored : List (List ℕ × List ℕ)) (input : List ℕ) (
 accepted_sound stored input words names answer command product zero =
     let is : Passed (sources stored 0 SOURCE_BYTES names) = product_passed stored input words names answer command product zero in
     (is, λ class. (passed_sound is.texts is.trees is.effects is.passes class, passed_hold is.texts is.trees is.effects is.passes class))
+
+-- ---- the second class
+
+-- What is called is called as a procedure, and is one.
+pub record AreInSecondClass (trees : List (List SourceUnit)) : Type 0 where
+  pub text : IsPlainText (program_of trees)
+  pub procedures : HasNoFunction (program_of trees)
+  pub calls : CallsProcedures (flow_of trees)
+
+pub passed_procedures_sound : (texts : List (List ℕ)) (trees : List (List SourceUnit)) (effects : Effects) → Passes texts trees effects → AreInSecondClass trees
+    → RunsAreSound trees
+passed_procedures_sound texts trees effects passes class input =
+    parsed_procedures_sound trees passes.cuts (are_parsed texts 0 TOKENS passes.cuts trees passes.cut passes.parsed) passes.named passes.typed class.text
+    class.procedures effects passes.effects_are passes.none class.calls input
+
+-- If the tool answers a check with status 0, and the program is in this class, its runs are sound.
+pub accepted_procedures_sound : (stored : List (List ℕ × List ℕ)) (input : List ℕ) (words names : List (List ℕ)) (answer : Answer)
+    → command_of words ≡ Some (Check names) → Product stored input words answer → answer.status ≡ 0
+    → (is : Passed (sources stored 0 SOURCE_BYTES names)) × (AreInSecondClass is.trees → RunsAreSound is.trees)
+accepted_procedures_sound stored input words names answer command product zero =
+    let is : Passed (sources stored 0 SOURCE_BYTES names) = product_passed stored input words names answer command product zero in
+    (is, passed_procedures_sound is.texts is.trees is.effects is.passes)

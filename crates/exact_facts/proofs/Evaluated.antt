@@ -18,12 +18,11 @@ use Rattle.machine.specs.Memory.{Memory, Place, words_of, moved_out, with_new_ce
 use Rattle.machine.specs.Evaluate.{Here, Now, AsValue, part_type, parts_of, Evaluated, Done, Raises, Traps, followed_by, evaluate, steps_of, initial, checked, allocated, variable_place, walked, held_or_taken, taken, heap_words, StorageError}
 use Rattle.machine.specs.Evaluate as run
 use Rattle.machine.specs.States.{Waiting, Leak}
-use Rattle.machine.specs.Owners.{is_in_formal}
 use Rattle.owned_ways.specs.Ways.{OfVariable, Way, Object, Named, Allows, after, AllowsAll}
 use Rattle.owned_ways.specs.Ways as ways
 use Rattle.owned_ways.proofs.Assigned.{move_way, named_rooted}
 use Rattle.part_offsets.specs.Parts.{IsSettled}
-use Rattle.soundness.specs.Seen.{home, IsNear}
+use Rattle.soundness.specs.Seen.{home, IsNear, is_view_formal}
 use Rattle.soundness.specs.Typed.{OwnsByShape}
 use Rattle.typed_laws.specs.Needed.{Stays, Gives, GivesParts, GivesFirst, IndexLaw}
 use Rattle.soundness.proofs.Defaults.{none_default}
@@ -38,7 +37,7 @@ use Rattle.exact_facts.proofs.Memories.{taken_exact, made_exact}
 
 module _ (h : Here) (settled : IsSettled h.typing.table) (leaks : List Leak) (waits : List (List machine.Word)) (other : Way → Type 0)
     (alone : (w : Way) → IsNear h.frame w → other w → ⊥) (keeps : Keeps h.typing)
-    (no_formals : (x : ℕ) → is_in_formal h.typing x ≡ false) (index_law : IndexLaw) (own_law : OwnsByShape h.typing.table)
+    (no_formals : (x : ℕ) → is_view_formal h.typing x ≡ false) (index_law : IndexLaw) (own_law : OwnsByShape h.typing.table)
     (all_named : (t d : ℕ) (c n : Bool) → shape_of h.typing.table t ≡ shape.Access d c n → n ≡ true) where
   abbrev ReadyIn : Memory → List Waiting → List Fact → Type 0
   ReadyIn m hands facts = Ready h settled leaks waits other alone keeps no_formals index_law own_law all_named m hands facts

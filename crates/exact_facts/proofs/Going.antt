@@ -10,7 +10,7 @@ use Rattle.place_names.specs.declared.fact.Fact.{Fact}
 use Rattle.place_names.specs.declared.fact.Fact.TheVariants.{Moved}
 use Rattle.place_names.specs.Facts.{adds}
 use Rattle.place_names.specs.Names.{Name as PlaceName}
-use Rattle.type_definitions.specs.Types.{Table, is_scalar, full, shape_of}
+use Rattle.type_definitions.specs.Types.{is_owning, Table, is_scalar, full, shape_of}
 use Rattle.type_definitions.specs.declared.table.Shape.TheVariants as shape
 use Rattle.typed_tree.specs.Trees.{TypedTree, Name, NoMore, More}
 use Rattle.typed_tree.specs.Programs.{TypedProgram}
@@ -30,12 +30,12 @@ use Rattle.machine.specs.Memory.{Memory}
 use Rattle.machine.specs.States.{Loop, Frame, State, Outcome, Goes, Ends, sub_of, frame_at_start}
 use Rattle.machine.specs.Step.{Turn, turn, led, main_frame}
 use Rattle.machine.specs.Typed.{successors}
-use Rattle.machine.specs.Owners.{is_in, is_in_formal, waiting_in}
+use Rattle.machine.specs.Owners.{is_in, waiting_in}
 use Rattle.machine.specs.Run.{no_point, stepped, step}
 use Rattle.owned_ways.specs.Ways.{Step, OfVariable, OfRoot, Way, Held, Sound, Told, after, AllowsAll, along}
 use Rattle.owned_ways.specs.Ways as ways
 use Rattle.owned_ways.proofs.Locations.{reaches_along, named_along as rooted_along}
-use Rattle.soundness.specs.Seen.{content, word_in, home, IsNear}
+use Rattle.soundness.specs.Seen.{content, word_in, home, IsNear, is_view_formal}
 use Rattle.soundness.specs.Typed.{Kept}
 use Rattle.typed_laws.specs.Needed.{IsFine, Source, FirstSource, FirstWrites, FirstStays}
 use Rattle.soundness.specs.Sound.{IsFirstClass, calls_nothing, Stage, facts_of, Elsewhere, AreStages, InScope, IsNamedSub, IsAtPoint, view_of, IsDefinite}
@@ -80,8 +80,8 @@ module _ (table : Table) (typed : TypedProgram) (effects : Effects) (input : Lis
   same : s ≡ own
   same = typing_same table typed ready.scoped.objects
 
-  no_in_formals : (x : ℕ) → is_in_formal s x ≡ false
-  no_in_formals x = ap (λ b. b && is_in (object_at s x).mode) (ready.class.no_formals x)
+  no_in_formals : (x : ℕ) → is_view_formal s x ≡ false
+  no_in_formals x = ap (λ b. (b && is_in (object_at s x).mode) && is_owning s.table (object_at s x).of) (class.no_formals x)
 
   laid : (named : NamedSub) → Has (flow_named table typed) named → IsLaid own named
   laid named has = all_laid own typed.subs ready.scoped.bodies named has
@@ -645,8 +645,8 @@ module _ (table : Table) (typed : TypedProgram) (effects : Effects) (input : Lis
     nothing_left is x q n held = elim (scope 1 x q n held) [
       | inl less ↦ omega (arith, less)
       | inr mine ↦ (
-          let empty : p.scope ≡ [] = ready.scoped.finishes named named_in p point_in_named is in
-          let no : false ≡ true = ap (is_within x) (sym empty) ∙ mine.1 in cc)
+          let formal = ready.scoped.finishes named named_in p point_in_named is x mine.1 in
+          let no : true ≡ false = sym formal ∙ class.no_formals x in cc)
     ]
 
     finishes : p.instr ≡ Finish → Both Finish

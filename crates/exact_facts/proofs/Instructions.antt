@@ -26,11 +26,11 @@ use Rattle.machine.specs.Calls.{checks_at}
 use Rattle.machine.specs.States.{Waiting, State, Outcome, Goes, Ends}
 use Rattle.machine.specs.Step.{Turn, typing, here, start, Stored, first_value, taken_by, declare, assign, end_scope, goes, leaking_goes, target_pos}
 use Rattle.machine.specs.Step as steps
-use Rattle.machine.specs.Owners.{is_in_formal, waiting_in}
+use Rattle.machine.specs.Owners.{waiting_in}
 use Rattle.owned_ways.specs.Ways.{OfVariable, OfRoot, Way, Object, after, AllowsAll, name_of as way_name}
 use Rattle.owned_ways.proofs.Named.{longer}
 use Rattle.part_offsets.specs.Parts.{IsSettled}
-use Rattle.soundness.specs.Seen.{content, home, IsNear}
+use Rattle.soundness.specs.Seen.{content, home, IsNear, is_view_formal}
 use Rattle.soundness.specs.Typed.{OwnsByShape}
 use Rattle.typed_laws.specs.Needed.{Stays, Leads, Source, FirstSource}
 use Rattle.soundness.proofs.Contents.{checks_made}
@@ -55,7 +55,7 @@ none_made Excused [] = tt
 none_made Excused (spot ∷ spots) = tt
 
 module _ (t : Turn) (settled : IsSettled (typing t).table) (own_law : OwnsByShape (typing t).table) (other : Way → Type 0)
-    (alone : (w : Way) → IsNear (length t.outer) w → other w → ⊥) (no_formals : (x : ℕ) → is_in_formal (typing t) x ≡ false)
+    (alone : (w : Way) → IsNear (length t.outer) w → other w → ⊥) (no_formals : (x : ℕ) → is_view_formal (typing t) x ≡ false)
     (all_named : (u d : ℕ) (c n : Bool) → shape_of (typing t).table u ≡ shape.Access d c n → n ≡ true)
     (frames : t.state.frames ≡ t.frame ∷ t.outer) (Excused : LeakSpot → Type 0) where
   abbrev s : Typing

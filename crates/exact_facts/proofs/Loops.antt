@@ -29,12 +29,12 @@ use Rattle.machine.specs.Evaluate as run
 use Rattle.machine.specs.States.{Waiting, State, Outcome, Goes}
 use Rattle.machine.specs.Step.{Turn, typing, here, start, waiting, behind}
 use Rattle.machine.specs.Step as steps
-use Rattle.machine.specs.Owners.{is_in_formal, waiting_in}
+use Rattle.machine.specs.Owners.{waiting_in}
 use Rattle.owned_ways.specs.Ways.{OfVariable, OfRoot, Way, Object, Named, Allows, IsSame, after, AllowsAll}
 use Rattle.owned_ways.specs.Ways as ways
 use Rattle.owned_ways.proofs.Assigned.{write_clean, named_rooted}
 use Rattle.part_offsets.specs.Parts.{IsSettled}
-use Rattle.soundness.specs.Seen.{seen, home, IsNear}
+use Rattle.soundness.specs.Seen.{seen, home, IsNear, is_view_formal}
 use Rattle.soundness.specs.Typed.{OwnsByShape}
 use Rattle.typed_laws.specs.Needed.{Stays, Writes, Leads}
 use Rattle.soundness.proofs.Contents.{bool_cases}
@@ -56,7 +56,7 @@ use Rattle.exact_facts.proofs.Memories.{told_seen, exact_from, stored_exact}
 use Rattle.exact_facts.proofs.Instructions.{ExactOn}
 
 module _ (t : Turn) (settled : IsSettled (typing t).table) (own_law : OwnsByShape (typing t).table) (other : Way → Type 0)
-    (alone : (w : Way) → IsNear (length t.outer) w → other w → ⊥) (no_formals : (x : ℕ) → is_in_formal (typing t) x ≡ false)
+    (alone : (w : Way) → IsNear (length t.outer) w → other w → ⊥) (no_formals : (x : ℕ) → is_view_formal (typing t) x ≡ false)
     (all_named : (u d : ℕ) (c n : Bool) → shape_of (typing t).table u ≡ shape.Access d c n → n ≡ true)
     (frames : t.state.frames ≡ t.frame ∷ t.outer) (Excused : LeakSpot → Type 0) where
   abbrev s : Typing

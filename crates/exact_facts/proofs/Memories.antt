@@ -17,13 +17,12 @@ use Rattle.machine.specs.Words as machine
 use Rattle.machine.specs.Memory.{Memory, HeapCell, Place, cell, no_slot, words_of, stored, moved_out, declared, undeclared, with_new_cell}
 use Rattle.machine.specs.Calls.{checked_at}
 use Rattle.machine.specs.States.{Waiting, Leak}
-use Rattle.machine.specs.Owners.{is_in_formal}
 use Rattle.owned_ways.specs.Ways.{Step, OfVariable, OfHand, Loc, OfRoot, OfCell, Inside, Way, Object, Gone, View, Reaches, part, along, Told, Owned, Named, Spares, Excused, Allows, Sound, Under, sels_of, name_of, sel_of}
 use Rattle.owned_ways.proofs.Locations.{under_along, under_itself, named_along, reaches_along}
 use Rattle.owned_ways.proofs.Named.{same_way}
 use Rattle.owned_ways.proofs.Assigned.{move_clean, named_rooted, given_apart}
 use Rattle.part_offsets.specs.Parts.{type_in, offset_in, is_leaf, sels_along, IsSettled}
-use Rattle.soundness.specs.Seen.{Content, content, trunk, steps_in, word_in, owner_at, owner_word, seen_of, seen, home}
+use Rattle.soundness.specs.Seen.{Content, content, trunk, steps_in, word_in, owner_at, owner_word, seen_of, seen, home, is_view_formal}
 use Rattle.soundness.specs.Changes.{Alike, hand, Checks, Takes}
 use Rattle.soundness.specs.Typed.{Matches, Kept, Spot}
 use Rattle.soundness.specs.Sound.{IsDefinite}
@@ -175,7 +174,7 @@ module _ (s : Typing) (settled : IsSettled s.table) (depth : ℕ) where
 
   pub declared_exact : (other : Way → Type 0) (m : Memory) (v : Waiting) (rest : List Waiting) (leaks : List Leak) (facts : List Fact) (f x : ℕ) (pos : Pos)
       → Sound (home s depth) other (seen s m (v ∷ rest) leaks) facts → Kept s m (v ∷ rest)
-      → is_in_formal s x ≡ false → length v.words ≡ words s.table (object_at s x).of → Alike s.table v.of (object_at s x).of
+      → is_view_formal s x ≡ false → length v.words ≡ words s.table (object_at s x).of → Alike s.table v.of (object_at s x).of
       → ((w : Way) → IsDefinite (home s depth) facts w → Under (Object (OfVariable f x)) w → ⊥)
       → IsExact s depth m facts → IsExact s depth (declared f x v.words m) facts
   declared_exact other m v rest leaks facts f x pos sound kept own long like none exact =

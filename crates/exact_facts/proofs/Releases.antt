@@ -22,14 +22,14 @@ use Rattle.machine.specs.Evaluate as run
 use Rattle.machine.specs.States.{Waiting, Leak, State, Outcome}
 use Rattle.machine.specs.Step.{Turn, release, typing, here, start}
 use Rattle.machine.specs.Step as steps
-use Rattle.machine.specs.Owners.{is_in_formal, waiting_in}
+use Rattle.machine.specs.Owners.{waiting_in}
 use Rattle.owned_ways.specs.Ways.{OfVariable, Loc, OfCell, Way, Object, All, Held, View, Reaches, IsRooted, Named, Excused as Excuses, Allows, after, AllowsAll}
 use Rattle.owned_ways.specs.Ways as ways
 use Rattle.owned_ways.proofs.Locations.{past_under, under_itself, depth as depth_of}
 use Rattle.owned_ways.proofs.Unique.{one_way}
 use Rattle.owned_ways.proofs.Assigned.{named_rooted}
 use Rattle.part_offsets.specs.Parts.{owns_one, is_leaf, IsSettled}
-use Rattle.soundness.specs.Seen.{content, trunk, steps_in, seen, home, IsNear}
+use Rattle.soundness.specs.Seen.{content, trunk, steps_in, seen, home, IsNear, is_view_formal}
 use Rattle.soundness.specs.Changes.{Alike as AlikeTypes, Checks, leaks_at}
 use Rattle.soundness.specs.Typed.{OwnsByShape, Spot}
 use Rattle.typed_laws.specs.Needed.{Leads}
@@ -54,7 +54,7 @@ use Rattle.exact_facts.proofs.Checks.{place_holds}
 use Rattle.exact_facts.proofs.Instructions.{none_made, ExactOn}
 
 module _ (t : Turn) (settled : IsSettled (typing t).table) (own_law : OwnsByShape (typing t).table) (other : Way → Type 0)
-    (alone : (w : Way) → IsNear (length t.outer) w → other w → ⊥) (no_formals : (x : ℕ) → is_in_formal (typing t) x ≡ false)
+    (alone : (w : Way) → IsNear (length t.outer) w → other w → ⊥) (no_formals : (x : ℕ) → is_view_formal (typing t) x ≡ false)
     (all_named : (u d : ℕ) (c n : Bool) → shape_of (typing t).table u ≡ shape.Access d c n → n ≡ true)
     (frames : t.state.frames ≡ t.frame ∷ t.outer) (Excused : LeakSpot → Type 0) (none : taken t.point.instr ≡ 0) where
   abbrev s : Typing

@@ -13,7 +13,7 @@ use Rattle.place_names.specs.declared.fact.Fact.TheVariants.{Moved}
 use Rattle.place_names.specs.Names.{Name as PlaceName, object, extend, has_elem}
 use Rattle.place_names.specs.Facts.{effect, facts_behind}
 use Rattle.place_names.proofs.Facts.{facts_behind-append}
-use Rattle.type_definitions.specs.Types.{Table, is_scalar, full, shape_of, parts}
+use Rattle.type_definitions.specs.Types.{is_owning, Table, is_scalar, full, shape_of, parts}
 use Rattle.type_definitions.specs.declared.table.Shape.TheVariants as shape
 use Rattle.typed_tree.specs.Trees.{TypedTree, Name, NoMore, More}
 use Rattle.typed_tree.specs.Programs.{TypedProgram}
@@ -33,10 +33,10 @@ use Rattle.flow_paths.specs.LeakPlan.{IsExcused}
 use Rattle.flow_paths.specs.Scopes.{taken}
 use Rattle.machine.specs.States.{Frame, State, sub_of}
 use Rattle.machine.specs.Step.{Turn, turn}
-use Rattle.machine.specs.Owners.{is_in, is_in_formal, waiting_in}
+use Rattle.machine.specs.Owners.{is_in, waiting_in}
 use Rattle.machine.specs.Run.{no_point, step}
 use Rattle.owned_ways.specs.Ways.{Way, Sound, after, AllowsAll}
-use Rattle.soundness.specs.Seen.{home, IsNear}
+use Rattle.soundness.specs.Seen.{home, IsNear, is_view_formal}
 use Rattle.soundness.specs.Typed.{Kept}
 use Rattle.typed_laws.specs.Needed.{IsFine, Source, FirstWrites, FirstStays}
 use Rattle.soundness.specs.Sound.{IsFirstClass, calls_nothing, Stage, Elsewhere, AreRunning, IsProcedure, IsNamedSub, IsAtPoint, view_of}
@@ -95,8 +95,8 @@ module _ (table : Table) (typed : TypedProgram) (effects : Effects) (input : Lis
   same : s ≡ own
   same = typing_same table typed ready.scoped.objects
 
-  pub no_in_formals : (x : ℕ) → is_in_formal s x ≡ false
-  no_in_formals x = ap (λ b. b && is_in (object_at s x).mode) (ready.class.no_formals x)
+  pub no_in_formals : (x : ℕ) → is_view_formal s x ≡ false
+  no_in_formals x = ap (λ b. (b && is_in (object_at s x).mode) && is_owning s.table (object_at s x).of) (class.no_formals x)
 
   -- the frames of the first class are as those of the second one
   pub running_of : (m : Memory) (stages : List Stage) → AreFirst program stages → AreRunning table typed effects m stages

@@ -12,8 +12,9 @@ use Rattle.soundness.specs.Ready.{IsReady}
 use Rattle.soundness.proofs.Points.{flow_table}
 use Rattle.soundness.proofs.Successors.{second_class}
 use Rattle.soundness.proofs.Main.{ready_sound}
-use Rattle.ready_laws.specs.InOrder.{IsInOrder, AreCallees}
+use Rattle.ready_laws.specs.InOrder.{IsInOrder, AreCallees, ArePassed}
 use Rattle.ready_laws.proofs.Temporaries.{few_temporaries}
+use Rattle.ready_laws.proofs.Actuals.{formless_passed}
 use Rattle.ready_laws.proofs.Ready.{is_ready_program}
 use Rattle.order_laws.specs.Orderly.{typed_of, bodies_of, IsOrderly}
 use Rattle.order_laws.proofs.Faults.{units_faultless}
@@ -43,14 +44,18 @@ module _ (p : Program) (effects : Effects) (no_fault : type_fault p ≡ None) (a
   abbrev pub CallProcedures : Type 0
   CallProcedures = AreCallees (known_of p).table (typed_of p) (bodies_of p)
 
-  pub procedures_ready : CallProcedures → IsReady table (typed_of p) effects
-  procedures_ready callees =
+  -- Of what is called the formals are known as such, and the actuals stay within what they name.
+  abbrev pub PassActuals : Type 0
+  PassActuals = ArePassed (flow_program (known_of p).table (typed_of p))
+
+  pub procedures_ready : CallProcedures → PassActuals → IsReady table (typed_of p) effects
+  procedures_ready callees passed =
       is_ready_program table (typed_of p) effects accepted (subst OwnsByShape (sym (flow_table table (typed_of p))) owns) class is_in_order
-      (subst (AreCallees table (typed_of p)) (sym rest_is) callees)
+      (subst (AreCallees table (typed_of p)) (sym rest_is) callees) passed
 
   -- Each moment of its run is well owned, and none is a trap.
-  pub procedures_sound : CallProcedures → (input : List ℕ) → RunIsSound table (typed_of p) input
-  procedures_sound callees input = ready_sound table (typed_of p) effects input (procedures_ready callees)
+  pub procedures_sound : CallProcedures → PassActuals → (input : List ℕ) → RunIsSound table (typed_of p) input
+  procedures_sound callees passed input = ready_sound table (typed_of p) effects input (procedures_ready callees passed)
 
 -- So it is in the first class, where nothing is called.
 module _ (p : Program) (effects : Effects) (no_fault : type_fault p ≡ None) (accepted : Accepted (known_of p).table (typed_of p) effects)
@@ -63,7 +68,7 @@ module _ (p : Program) (effects : Effects) (no_fault : type_fault p ≡ None) (a
       (let calls : false ≡ true = sym (ap calls_nothing is) ∙ class.no_calls sub has q there in cc)
 
   pub accepted_ready : IsReady (known_of p).table (typed_of p) effects
-  accepted_ready = procedures_ready p effects no_fault accepted owns (second_class program class) orderly none_called
+  accepted_ready = procedures_ready p effects no_fault accepted owns (second_class program class) orderly none_called (formless_passed program class.no_formals)
 
   pub accepted_sound : (input : List ℕ) → RunIsSound (known_of p).table (typed_of p) input
-  accepted_sound input = procedures_sound p effects no_fault accepted owns (second_class program class) orderly none_called input
+  accepted_sound input = procedures_sound p effects no_fault accepted owns (second_class program class) orderly none_called (formless_passed program class.no_formals) input

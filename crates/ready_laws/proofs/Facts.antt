@@ -37,7 +37,8 @@ use Rattle.soundness.proofs.Paths.{facts_next}
 use Rattle.soundness.proofs.Points.{IsLaid, flow_at, typing_same, point_has, point_there, path_there, next_there}
 use Rattle.soundness.proofs.Successors.{calls_cases, procedures_take_none}
 use Rattle.soundness.proofs.Used.{called_add_none}
-use Rattle.soundness.proofs.Returning.{called_ways}
+use Rattle.soundness.specs.Ready.{AreActuals}
+use Rattle.soundness.proofs.Passing.{AreReads, read_adds_none, ArePlain, call_reads, passed_to}
 use Rattle.soundness.proofs.Waits.{drop_none}
 use Rattle.scope_laws.specs.Order.{IsOrdered, named_in}
 use Rattle.ready_laws.proofs.Moves.{instruction_owned}
@@ -127,16 +128,22 @@ ended_fact x borrower facts name has root = elim (Has-append_cases (filter (λ f
 
 -- ---- paths
 
--- What is called has no formals.
-abbrev pub AreFormless : FlowProgram → Type 0
-AreFormless program =
+-- What is called is a procedure whose formals are of mode `in` and of scalar types, and the actuals
+-- stay within what they name.
+pub record IsPlainCall (program : FlowProgram) (owns : OwnsByShape (flow_typing program).table) (n : ℕ) (actuals : TypedTree) : Type 0 where
+  pub result : (sub_of program n).result ≡ None
+  pub formals : ArePlain (flow_typing program) owns (sub_of program n).formals
+  pub actuals_stay : AreActuals (flow_typing program) (sub_of program n).formals actuals
+
+abbrev pub ArePlainCalls : (program : FlowProgram) → OwnsByShape (flow_typing program).table → Type 0
+ArePlainCalls program owns =
     (sub : FlowSub) → Has program.subs sub → (p : FlowPoint) → Has sub.points p → (n : ℕ) (actuals : TypedTree) (result : Option ℕ)
-    → p.instr ≡ Call n actuals result → (sub_of program n).formals ≡ []
+    → p.instr ≡ Call n actuals result → IsPlainCall program owns n actuals
 
 module _ (table : Table) (typed : TypedProgram) (effects : Effects) (class : IsProcedureClass (flow_program table typed))
     (owns : OwnsByShape (flow_program table typed).table) (fine : AreFine (flow_program table typed))
     (objects : (flow_program table typed).objects ≡ typed.objects) (effects_are : AreEffects (flow_program table typed) effects)
-    (formless : AreFormless (flow_program table typed)) where
+    (plainly : ArePlainCalls (flow_program table typed) owns) where
   abbrev program : FlowProgram
   program = flow_program table typed
 
@@ -188,12 +195,13 @@ module _ (table : Table) (typed : TypedProgram) (effects : Effects) (class : IsP
       abbrev whole_acts : Instruction → List Placed
       whole_acts i = acts_here i ++ called_acts program effects p.pos i
 
-      -- a call of a subprogram without formals does nothing to what it names
-      call_none : (n : ℕ) (actuals : TypedTree) → p.instr ≡ Call n actuals None → acts_here p.instr ≡ []
-      call_none n actuals e =
-          ap acts_here e
-          ∙ ap (λ ways. flow.actual_values s ways actuals ++ flow.actual_acts ways actuals)
-          (called_ways program n (formless (flow_sub own named) in_program (flow_at own named p) in_sub n actuals None e))
+      -- a call reads what its actuals name
+      call_reads_there : (n : ℕ) (actuals : TypedTree) → p.instr ≡ Call n actuals None → AreReads (acts_here p.instr)
+      call_reads_there n actuals e =
+          let plain = plainly (flow_sub own named) in_program (flow_at own named p) in_sub n actuals None e in
+          subst AreReads
+          (sym (ap acts_here e ∙ ap (λ ways. flow.actual_values s ways actuals ++ flow.actual_acts ways actuals) (passed_to program owns n plain.result plain.formals)))
+          (call_reads s owns (sub_of program n).formals actuals plain.actuals_stay)
 
       -- what the acts of the point move
       own_known : (a : Placed) → Has (acts_here p.instr) a → (name : PlaceName) → Has (adds a.act) (Moved name) → Known p name.root
@@ -201,7 +209,7 @@ module _ (table : Table) (typed : TypedProgram) (effects : Effects) (class : IsP
         | inl calls ↦ (
             let found = instruction_owned s owns class.all_named named.sub.result kept p.pos p.instr fine_there calls a has name moved in
             (found.1, seen p there name.root found.0 found.1))
-        | inr call ↦ absurd (subst (λ z. Has z a) (call_none call.0 call.1 call.2) has)
+        | inr call ↦ absurd (read_adds_none a (call_reads_there call.0 call.1 call.2 a has) (Moved name) moved)
       ]
 
       moves_known : (a : Act) → Has (acts (whole_acts p.instr)) a → (name : PlaceName) → Has (adds a) (Moved name) → Known p name.root

@@ -3,4 +3,5 @@ pub mod Moves
 pub mod Facts
 pub mod Elaborated
 pub mod Subs
+pub mod Actuals
 pub mod Ready

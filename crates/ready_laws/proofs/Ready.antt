@@ -1,5 +1,5 @@
--- An accepted program of the first class whose subprograms are in order is ready.
-use Rattle.std.proofs.Common.{◌≡◌, refl, sym, ap, ◌∙◌, subst, ◌⊎◌, inl, inr, ℕ, suc, ◌≤◌, ◌<◌, Bool, true, false, ◌||◌, List, [], ◌∷◌, length, get_or, arith, None, Some}
+-- An accepted program of the second class whose subprograms are in order is ready.
+use Rattle.std.proofs.Common.{◌≡◌, refl, sym, ap, ◌∙◌, subst, ◌⊎◌, inl, inr, ℕ, suc, ◌≤◌, ◌<◌, Bool, true, false, ◌||◌, List, [], ◌∷◌, length, get_or, arith, Option, None, Some}
 use Rattle.std.specs.Prelude.{reverse}
 use Rattle.std.proofs.lemmas.List.{length-map}
 use Rattle.spark_base.specs.Lists.{Has}
@@ -12,7 +12,7 @@ use Rattle.type_definitions.specs.Types.{Table, is_owning}
 use Rattle.typed_tree.specs.Trees.{TypedTree, Name}
 use Rattle.typed_tree.specs.Programs.{TypedSub, TypedProgram}
 use Rattle.flow_paths.specs.declared.report.Effects.{Effects}
-use Rattle.flow_paths.specs.Instructions.{Instruction, Declare, Assign, Input, Release, EndScope, Finish}
+use Rattle.flow_paths.specs.Instructions.{Instruction, Declare, Assign, Call, Input, Release, EndScope, Finish}
 use Rattle.flow_paths.specs.Objects.{Typing, object_at, is_formal, is_package_object}
 use Rattle.flow_paths.specs.Points.{NamedPoint, FlowPoint}
 use Rattle.flow_paths.specs.Laid.{FlowSub, FlowProgram, NamedSub, unnumbered, named_sub, named_subs, elaborated, all_named, sub_temporaries, kept_roots, sub_facts, sub_points, elaboration_points, number_in, flow_sub, typing_of, flow_typing, flow_program, flow_named}
@@ -29,14 +29,14 @@ use Rattle.soundness.specs.Ready.{root_of, stored_at, AreScoped, AreNew, AreElab
 use Rattle.soundness.proofs.Points.{IsLaid, all_laid, flow_at, typing_same, sub_there, named_has}
 use Rattle.scope_laws.specs.Code.{roots, are_seen}
 use Rattle.scope_laws.specs.Order.{IsCounted, IsOrdered, named_in, IsSeen}
-use Rattle.scope_laws.proofs.Lists.{and_first, and_second, all_has}
+use Rattle.scope_laws.proofs.Lists.{and_first, and_second, all_has, has_reverse, within_has}
 use Rattle.scope_laws.proofs.Successors.{sub_counted, has_first}
 use Rattle.scope_laws.proofs.Ordered.{sub_ordered, package_ordered}
 use Rattle.scope_laws.proofs.Seen.{sub_seen}
-use Rattle.ready_laws.specs.InOrder.{own_nothing, IsSub, IsInOrder, AreCallees}
+use Rattle.ready_laws.specs.InOrder.{own_nothing, IsSub, IsInOrder, AreCallees, ArePassed}
 use Rattle.ready_laws.proofs.Temporaries.{few_temporaries}
 use Rattle.ready_laws.proofs.Moves.{instruction_owned}
-use Rattle.ready_laws.proofs.Facts.{AreFormless, new_there}
+use Rattle.ready_laws.proofs.Facts.{ArePlainCalls, new_there}
 use Rattle.ready_laws.proofs.Elaborated.{Declares, package_declares, owns_none}
 use Rattle.ready_laws.proofs.Subs.{setting_from, IsOfBody, named_cases, body_at, one_named}
 
@@ -72,7 +72,7 @@ sub_in subs k sub (front, rest, is, long) = subst (λ z. Has z sub) (sym is) (Ha
 
 module _ (table : Table) (typed : TypedProgram) (effects : Effects) (accepted : Accepted table typed effects)
     (owns : OwnsByShape (flow_program table typed).table) (class : IsProcedureClass (flow_program table typed)) (order : IsInOrder table typed)
-    (callees : AreCallees table typed order.rest) where
+    (callees : AreCallees table typed order.rest) (passed : ArePassed (flow_program table typed)) where
   abbrev program : FlowProgram
   program = flow_program table typed
 
@@ -155,14 +155,6 @@ module _ (table : Table) (typed : TypedProgram) (effects : Effects) (accepted : 
       (sub_seen (is_package_object own) (setting_from own n sub) sub (order.local sub has).seen)
       (subst (λ (z : NamedSub). Has z.points p) (sym e) there)
 
-  no_formals : (sub : TypedSub) → Has order.rest sub → sub.formals ≡ []
-  no_formals sub has = none sub.formals (order.local sub has).formals
-    where
-      none : (xs : List ℕ) → ((x : ℕ) → Has xs x → is_formal own x ≡ true) → xs ≡ []
-      none [] are = refl
-      none (x ∷ xs) are =
-          absurd (let both : true ≡ false = sym (are x (inl refl)) ∙ ap (λ z. is_formal z x) (sym same) ∙ class.no_formals x in cc)
-
   -- ---- scopes
 
   two_texts : (i : Instruction) (x y : ℕ) (v : TypedTree) → i ≡ Declare x v → i ≡ EndScope y → ⊥
@@ -192,10 +184,14 @@ module _ (table : Table) (typed : TypedProgram) (effects : Effects) (accepted : 
     | inr b ↦ ap (λ z. is_package_object z x) same ∙ ((body_is_ordered named b p there).ends x is).1
   ]
 
-  finishes_there : (named : NamedSub) → Has (flow_named table typed) named → (p : NamedPoint) → Has named.points p → p.instr ≡ Finish → p.scope ≡ []
-  finishes_there named has p there is = elim (cases named has) [
+  finishes_there : (named : NamedSub) → Has (flow_named table typed) named → (p : NamedPoint) → Has named.points p → p.instr ≡ Finish
+      → (x : ℕ) → is_within x p.scope ≡ true → is_formal s x ≡ true
+  finishes_there named has p there is x within = elim (cases named has) [
     | inl e ↦ (let declared = declares named e p there (calls_there named has p there) in absurd (no_finish p.instr declared.0 declared.1 declared.2 is))
-    | inr b ↦ (body_is_ordered named b p there).finishes is ∙ ap reverse (no_formals b.0 b.1)
+    | inr b ↦ (
+        let scope : p.scope ≡ reverse (b.0).formals = (body_is_ordered named b p there).finishes is in
+        ap (λ z. is_formal z x) same
+        ∙ (order.local b.0 b.1).formals x (has_reverse (b.0).formals x (within_has x (reverse (b.0).formals) (subst (λ z. is_within x z ≡ true) scope within))))
   ]
 
   pub are_scoped : AreScoped table typed
@@ -247,25 +243,49 @@ module _ (table : Table) (typed : TypedProgram) (effects : Effects) (accepted : 
   pub has_main : IsProcedure table typed (suc order.number)
   has_main = is_procedure order.number order.main order.stands order.procedure
 
-  -- what is called has no formals
-  formless : AreFormless program
-  formless sub has p there n actuals result is =
+  -- ---- calls
+
+  -- what is called, by its number among the bodies
+  module _ (k : ℕ) (callee : TypedSub) (is_sub : IsSub order.rest k callee) where
+    is_there : sub_of program (suc k) ≡ flow_sub own (named_sub own (layout_at k callee is_sub).0 (sub_temporaries own callee) callee)
+    is_there =
+        let there = layout_at k callee is_sub in
+        sub_there table typed (suc k) (named_sub own there.0 (sub_temporaries own callee) callee)
+        (subst (λ subs. IsNamedSub (all_named own subs) (suc k) (named_sub own there.0 (sub_temporaries own callee) callee)) (sym order.subs) there.1)
+
+    formals_at : (x : ℕ) → Has (sub_of program (suc k)).formals x → is_formal s x ≡ true
+    formals_at x has =
+        ap (λ z. is_formal z x) same
+        ∙ (order.local callee (sub_in order.rest k callee is_sub)).formals x (subst (λ xs. Has xs x) (ap (λ (z : FlowSub). z.formals) is_there) has)
+
+    result_at : callee.result ≡ None → (sub_of program (suc k)).result ≡ None
+    result_at none = ap (λ (z : FlowSub). z.result) is_there ∙ none
+
+  -- its formals are known as such
+  formals_known : (sub : FlowSub) → Has program.subs sub → (p : FlowPoint) → Has sub.points p → (n : ℕ) (actuals : TypedTree) (result : Option ℕ)
+      → p.instr ≡ Call n actuals result → (x : ℕ) → Has (sub_of program n).formals x → is_formal s x ≡ true
+  formals_known sub has p there n actuals result is x formal =
       let found = callees sub has p there n actuals result is in
-      ap (λ m. (sub_of program m).formals) found.2 ∙ no_formals_at found.0 found.1 found.3
-    where
-      no_formals_at : (k : ℕ) (callee : TypedSub) → IsSub order.rest k callee → (sub_of program (suc k)).formals ≡ []
-      no_formals_at k callee is_sub =
-          let there = layout_at k callee is_sub in
-          ap (λ (z : FlowSub). z.formals) (sub_there table typed (suc k) (named_sub own there.0 (sub_temporaries own callee) callee)
-          (subst (λ subs. IsNamedSub (all_named own subs) (suc k) (named_sub own there.0 (sub_temporaries own callee) callee)) (sym order.subs) there.1))
-          ∙ no_formals callee (sub_in order.rest k callee is_sub)
+      formals_at found.0 found.1 found.3 x (subst (λ m. Has (sub_of program m).formals x) found.2 formal)
+
+  plainly : ArePlainCalls program owns
+  plainly sub has p there n actuals result is =
+      let found = callees sub has p there n actuals result is in
+      let known = formals_known sub has p there n actuals result is in
+      record {
+        result = ap (λ m. (sub_of program m).result) found.2 ∙ result_at found.0 found.1 found.3 found.4;
+        formals = λ x formal. class.formals x (known x formal);
+        actuals_stay = passed sub has p there n actuals result is known;
+      }
 
   are_called : AreCalled table typed
   are_called sub has p there n actuals result is =
       let found = callees sub has p there n actuals result is in
+      let known = formals_known sub has p there n actuals result is in
       record {
         procedure = subst (IsProcedure table typed) (sym found.2) (is_procedure found.0 found.1 found.3 found.4);
-        formals = formless sub has p there n actuals result is;
+        formals = known;
+        actuals_stay = passed sub has p there n actuals result is known;
         text_io = ap (λ z. is_package_object z 0) same ∙ order.text_io;
       }
 
@@ -288,9 +308,9 @@ module _ (table : Table) (typed : TypedProgram) (effects : Effects) (accepted : 
 
   new_in : (named : NamedSub) → Has (flow_named table typed) named → IsNewIn (flow_sub own named)
   new_in named has = elim (cases named has) [
-    | inl e ↦ new_there table typed effects class owns accepted.fine objects accepted.effects_are formless named has (laid named has) IsNumbered (λ x. ⊥) (reverse order.first.formals)
+    | inl e ↦ new_there table typed effects class owns accepted.fine objects accepted.effects_are plainly named has (laid named has) IsNumbered (λ x. ⊥) (reverse order.first.formals)
         (λ x what out. out) (package_is_ordered named e) (λ p there x names owning. absurd (names_none named has e p there x names owning))
-    | inr b ↦ new_there table typed effects class owns accepted.fine objects accepted.effects_are formless named has (laid named has) IsOwn (λ x. is_package_object own x ≡ true)
+    | inr b ↦ new_there table typed effects class owns accepted.fine objects accepted.effects_are plainly named has (laid named has) IsOwn (λ x. is_package_object own x ≡ true)
         (reverse (b.0).formals) (λ x what out. (let both : false ≡ true = sym what.1 ∙ out in cc)) (body_is_ordered named b)
         (λ p there x names owning. seen_has (is_package_object own) p.scope (named_in p.instr) x (body_is_seen named b p there) names)
   ]

@@ -10,8 +10,10 @@ use Rattle.typed_tree.specs.Programs.{TypedSub, TypedProgram}
 use Rattle.flow_paths.specs.Objects.{Typing, object_at, is_formal, is_package_object}
 use Rattle.flow_paths.specs.Instructions.{Call}
 use Rattle.flow_paths.specs.Points.{FlowPoint}
-use Rattle.flow_paths.specs.Laid.{FlowSub, typing_of, flow_program}
+use Rattle.flow_paths.specs.Laid.{FlowSub, FlowProgram, typing_of, flow_typing, flow_program}
 use Rattle.flow_paths.specs.Scopes.{is_settled}
+use Rattle.machine.specs.States.{sub_of}
+use Rattle.soundness.specs.Ready.{AreActuals}
 use Rattle.scope_laws.specs.Code.{is_formed, Once, objects_of, roots, body_seen}
 
 -- ---- the package objects
@@ -76,3 +78,10 @@ abbrev pub AreCallees : Table → TypedProgram → List TypedSub → Type 0
 AreCallees table program rest =
     (sub : FlowSub) → Has (flow_program table program).subs sub → (p : FlowPoint) → Has sub.points p → (n : ℕ) (actuals : TypedTree) (result : Option ℕ)
     → p.instr ≡ Call n actuals result → (k : ℕ) × (callee : TypedSub) × (n ≡ suc k) × IsSub rest k callee × (callee.result ≡ None)
+
+-- Where the formals of what is called are known as such, the actuals stay within what they name.
+abbrev pub ArePassed : FlowProgram → Type 0
+ArePassed program =
+    (sub : FlowSub) → Has program.subs sub → (p : FlowPoint) → Has sub.points p → (n : ℕ) (actuals : TypedTree) (result : Option ℕ)
+    → p.instr ≡ Call n actuals result → ((x : ℕ) → Has (sub_of program n).formals x → is_formal (flow_typing program) x ≡ true)
+    → AreActuals (flow_typing program) (sub_of program n).formals actuals

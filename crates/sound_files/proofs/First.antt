@@ -1,13 +1,13 @@
 -- A text without anonymous access types and formals, without calls, is a program of the first class.
-use Rattle.std.proofs.Common.{◌≡◌, subst, sym, false, List, get_or}
+use Rattle.std.proofs.Common.{◌≡◌, subst, sym, ◌∙◌, ℕ, true, false, List, get_or}
 use Rattle.resolved_tree.specs.Trees.{Program}
 use Rattle.type_definitions.specs.declared.table.Shape.TheVariants as shape
 use Rattle.type_definitions.specs.Types.{Table, shape_of}
 use Rattle.type_definitions.specs.Whole.{known_of}
 use Rattle.typed_tree.specs.declared.object.Object.{Object}
 use Rattle.typed_tree.specs.Programs.{text_io}
-use Rattle.flow_paths.specs.Objects.{is_formal_kind}
-use Rattle.flow_paths.specs.Laid.{FlowProgram, flow_program}
+use Rattle.flow_paths.specs.Objects.{is_formal, is_formal_kind}
+use Rattle.flow_paths.specs.Laid.{FlowProgram, flow_typing, flow_program}
 use Rattle.soundness.specs.Sound.{IsFirstClass, IsProcedureClass}
 use Rattle.soundness.proofs.Points.{flow_table}
 use Rattle.ready_laws.proofs.Temporaries.{few_temporaries, no_temporaries}
@@ -32,12 +32,15 @@ module _ (p : Program) where
         subst (λ (objects : List Object). is_formal_kind (get_or objects x text_io).kind ≡ false) (sym (no_temporaries table (typed_of p) calls)) (no_formals p text.formless x);
   }
 
-  -- With calls of procedures it is one of the second class.
+  -- With calls of procedures it is one of the second class, without formals.
+  pub formless_class : IsPlainText p → CallsProcedures flow → (x : ℕ) → is_formal (flow_typing flow) x ≡ false
+  formless_class text calls x =
+      subst (λ (objects : List Object). is_formal_kind (get_or objects x text_io).kind ≡ false) (sym (few_temporaries table (typed_of p) calls)) (no_formals p text.formless x)
+
   pub procedure_class : IsPlainText p → CallsProcedures flow → IsProcedureClass flow
   procedure_class text calls = record {
     all_named = λ t d constant named is.
         access_named p text.named t d constant named (subst (λ (rows : Table). shape_of rows t ≡ shape.Access d constant named) (flow_table table (typed_of p)) is);
     calls = calls;
-    no_formals = λ x.
-        subst (λ (objects : List Object). is_formal_kind (get_or objects x text_io).kind ≡ false) (sym (few_temporaries table (typed_of p) calls)) (no_formals p text.formless x);
+    formals = λ x is. (let no : true ≡ false = sym is ∙ formless_class text calls x in cc);
   }

@@ -39,10 +39,11 @@ use Rattle.soundness.specs.Typed.{OwnsByShape}
 use Rattle.soundness.specs.Sound.{RunIsSound}
 use Rattle.soundness.proofs.Points.{flow_table}
 use Rattle.ready_laws.specs.InOrder.{IsSub, AreCallees}
+use Rattle.ready_laws.proofs.Actuals.{formless_passed}
 use Rattle.order_laws.specs.Orderly.{typed_of, bodies_of}
 use Rattle.order_laws.proofs.Accepted.{procedures_sound}
 use Rattle.sound_files.specs.Class.{IsPlainText, CallsProcedures, HasNoFunction}
-use Rattle.sound_files.proofs.First.{procedure_class}
+use Rattle.sound_files.proofs.First.{formless_class, procedure_class}
 use Rattle.sound_files.proofs.Fine.{procedures_fine}
 use Rattle.sound_files.proofs.Main.{files_orderly}
 
@@ -133,7 +134,8 @@ module _ (files : List (List SourceUnit)) where
         fine = procedures_fine files apart ended up named no_fault text calls;
       })
       (subst OwnsByShape (flow_table table (typed_of p)) (files_own files apart ended no_fault (typed_of p))) (procedure_class p text calls)
-      (files_orderly files apart ended up named no_fault text) (callees p (files_bodies up named) procedures) input
+      (files_orderly files apart ended up named no_fault text) (callees p (files_bodies up named) procedures)
+      (formless_passed flow (formless_class p text calls)) input
 
   -- So it is if the files are parsed from texts: then their positions are as in a text.
   pub parsed_procedures_sound : (texts : List (List Cut)) → AreParsed 0 texts files → name_fault files ≡ None → type_fault p ≡ None

@@ -15,11 +15,11 @@ use Rattle.machine.specs.Words.{default}
 use Rattle.machine.specs.Memory.{Memory, Variable, fresh, is_variable, variable_slots, without_frame}
 use Rattle.machine.specs.States.{Waiting, Frame, Leak, State, Normal, Ends}
 use Rattle.machine.specs.Step.{Turn, typing, finish}
-use Rattle.machine.specs.Owners.{is_in_formal, waiting_in, WellOwned}
+use Rattle.machine.specs.Owners.{waiting_in, WellOwned}
 use Rattle.owned_ways.specs.Ways.{Step, OfVariable, OfHand, Loc, OfRoot, OfCell, Inside, Way, Object, Lost, Into, All, Held, View, Reaches, Owned, Covered, Sound, name_of}
 use Rattle.owned_ways.proofs.Locations.{both_parts, same_loc}
 use Rattle.part_offsets.specs.Parts.{IsSettled}
-use Rattle.soundness.specs.Seen.{content, trunk, steps_in, word_in, seen, home, IsNear}
+use Rattle.soundness.specs.Seen.{content, trunk, steps_in, word_in, seen, home, IsNear, is_view_formal}
 use Rattle.soundness.specs.Typed.{OwnsByShape}
 use Rattle.soundness.proofs.Joined.{trunk_trunk, not_inside}
 use Rattle.soundness.proofs.Contents.{bool_cases}
@@ -117,7 +117,7 @@ module _ (s : Typing) (m : Memory) (f : ℕ) (hands : List Waiting) (leaks : Lis
     | inl e ↦ subst (λ z. Both (OfRoot (OfVariable z y)) p n) (sym e)
         ((λ h. absurd (nothing y p n h)), (λ h. absurd (left_blank y p n h)))
     | inr ne ↦ (
-        let same = ap (λ z. word_in s.table (record { of = (object_at s y).of; slots = z; owns = not (is_in_formal s y) }) p) (frame_other s f g y ne m.variables) in
+        let same = ap (λ z. word_in s.table (record { of = (object_at s y).of; slots = z; owns = not (is_view_formal s y) }) p) (frame_other s f g y ne m.variables) in
         ((λ h. same ∙ h), (λ h. sym same ∙ h)))
   ]
     where
@@ -142,7 +142,7 @@ module _ (program : FlowProgram) (input : List ℕ) (point : FlowPoint) (state :
   ending = record { program = program; input = input; point = point; state = state; frame = frame; outer = below ∷ [] }
 
   module _ (settled : IsSettled (typing ending).table) (own_law : OwnsByShape (typing ending).table) (other : Way → Type 0)
-      (alone : (w : Way) → IsNear 1 w → other w → ⊥) (no_formals : (x : ℕ) → is_in_formal (typing ending) x ≡ false)
+      (alone : (w : Way) → IsNear 1 w → other w → ⊥) (no_formals : (x : ℕ) → is_view_formal (typing ending) x ≡ false)
       (all_named : (u d : ℕ) (c n : Bool) → shape_of (typing ending).table u ≡ shape.Access d c n → n ≡ true)
       (frames : state.frames ≡ frame ∷ below ∷ []) (no_returns : frame.returns ≡ []) (no_waits : frame.waits ≡ []) where
     abbrev s : Typing
@@ -175,7 +175,7 @@ module _ (program : FlowProgram) (input : List ℕ) (point : FlowPoint) (state :
 
         owned : WellOwned s at_end
         owned =
-            well_owned s settled at_end
+            well_owned s settled own_law at_end
             (subst (λ z. Owned (seen s (without_frame 1 state.memory) z state.leaks)) (sym hands_end) (numbers_owned _ _ same holds.0.owned))
             (subst (λ z. Covered (seen s (without_frame 1 state.memory) z state.leaks)) (sym hands_end) (numbers_covered _ _ same holds.0.covered))
 

@@ -8,9 +8,8 @@ use Rattle.machine.specs.Words.{default}
 use Rattle.machine.specs.Words as machine
 use Rattle.machine.specs.Memory.{Memory, HeapCell, fresh, variable_slots, cell, no_cell, no_slot, declared, undeclared, with_new_cell}
 use Rattle.machine.specs.States.{Waiting, Leak}
-use Rattle.machine.specs.Owners.{is_in_formal}
 use Rattle.owned_ways.specs.Ways.{Step, OfVariable, OfHand, Loc, OfRoot, OfCell, Inside, Empty, IsDrop}
-use Rattle.soundness.specs.Seen.{in_hand, content, trunk, steps_in, word_in, seen}
+use Rattle.soundness.specs.Seen.{in_hand, content, trunk, steps_in, word_in, seen, is_view_formal}
 use Rattle.soundness.specs.Changes.{Alike, Checks, Stores}
 use Rattle.soundness.specs.Typed.{Kept}
 use Rattle.soundness.proofs.Joined.{trunk_trunk, not_inside, below_root}
@@ -25,14 +24,14 @@ module _ (s : Typing) (m : Memory) (f x : ℕ) where
   pub declared_there : (ws : List machine.Word) (hands : List Waiting) (k : Loc) → trunk k ≡ k → (k ≡ OfRoot (OfVariable f x) → ⊥)
       → content s (declared f x ws m) hands k ≡ content s m hands k
   declared_there ws hands (OfRoot (OfVariable g y)) t ne =
-      ap (λ z. record { of = (object_at s y).of; slots = z; owns = not (is_in_formal s y) })
+      ap (λ z. record { of = (object_at s y).of; slots = z; owns = not (is_view_formal s y) })
       (put_other s f x g y (λ e. ne (ap OfRoot (sym e))) (fresh ws) m.variables)
   declared_there ws hands (OfRoot (OfHand h)) t ne = refl
   declared_there ws hands (OfCell n) t ne = refl
   declared_there ws hands (Inside l i) t ne = absurd (not_inside l l i t)
 
   pub declares : (v : Waiting) (rest : List Waiting) → Kept s m (v ∷ rest) → length v.words ≡ words s.table (object_at s x).of
-      → Alike s.table v.of (object_at s x).of → is_in_formal s x ≡ false
+      → Alike s.table v.of (object_at s x).of → is_view_formal s x ≡ false
       → Stores s.table (content s m (v ∷ rest)) (content s (declared f x v.words m) rest) (length rest) v (OfRoot (OfVariable f x))
   declares v rest kept long alike own =
       let fresh_long : length (fresh v.words) ≡ length v.words = length-map v.words (λ w. record { word = w; gone = false }) in
@@ -64,7 +63,7 @@ module _ (s : Typing) (m : Memory) (f x : ℕ) where
   pub removed_there : (hands : List Waiting) (k : Loc) → trunk k ≡ k → (k ≡ OfRoot (OfVariable f x) → ⊥)
       → content s (undeclared f x m) hands k ≡ content s m hands k
   removed_there hands (OfRoot (OfVariable g y)) t ne =
-      ap (λ z. record { of = (object_at s y).of; slots = z; owns = not (is_in_formal s y) })
+      ap (λ z. record { of = (object_at s y).of; slots = z; owns = not (is_view_formal s y) })
       (removed_other s f x g y (λ e. ne (ap OfRoot (sym e))) m.variables)
   removed_there hands (OfRoot (OfHand h)) t ne = refl
   removed_there hands (OfCell n) t ne = refl

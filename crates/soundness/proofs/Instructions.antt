@@ -33,7 +33,7 @@ use Rattle.machine.specs.Calls.{checks_at, checked_at}
 use Rattle.machine.specs.States.{Waiting, Leak, State, Outcome, Goes, Ends}
 use Rattle.machine.specs.Step.{Turn, release, counted, typing, here, start, waiting, Stored, first_value, taken_by, declare, assign, end_scope, goes, behind, begun, led, successor, main_frame, leaking_goes, target_pos}
 use Rattle.machine.specs.Step as steps
-use Rattle.machine.specs.Owners.{is_in_formal, waiting_in, WellOwned}
+use Rattle.machine.specs.Owners.{waiting_in, WellOwned}
 use Rattle.owned_ways.specs.Ways.{Root, OfVariable, OfHand, Loc, OfRoot, OfCell, Inside, Way, Object, Lost, Into, All, Word, Empty, Gone, Held, View, Reaches, Below, IsRooted, Under, Named, IsMoved, Excused, Allows, part, along, after, AllowsAll, Sound}
 use Rattle.owned_ways.specs.Ways as ways
 use Rattle.owned_ways.proofs.Locations.{past_under, under_itself, reaches_along, named_along as rooted_along, depth as depth_of}
@@ -41,7 +41,7 @@ use Rattle.owned_ways.proofs.Unique.{one_way}
 use Rattle.owned_ways.proofs.Assigned.{write_clean, is_false, named_rooted}
 use Rattle.part_offsets.specs.Parts.{type_in, offset_in, has_part, owns_one, is_leaf, IsSettled}
 use Rattle.part_offsets.proofs.Ranges.{leaf_end, leaf_part}
-use Rattle.soundness.specs.Seen.{Content, content, word_in, owner_at, owner_word, trunk, steps_in, seen, home, IsNear}
+use Rattle.soundness.specs.Seen.{Content, content, word_in, owner_at, owner_word, trunk, steps_in, seen, home, IsNear, is_view_formal}
 use Rattle.soundness.specs.Changes.{Alike as AlikeTypes, Checks, leaks_at}
 use Rattle.soundness.specs.Typed.{Matches, OwnsByShape, Kept, Spot}
 use Rattle.typed_laws.specs.Needed.{Stays, Writes, Leads, Source, FirstSource}
@@ -98,7 +98,7 @@ module _ (s : Typing) (all_named : (u d : ℕ) (c n : Bool) → shape_of s.table
 -- ---- outcomes
 
 module _ (t : Turn) (settled : IsSettled (typing t).table) (own_law : OwnsByShape (typing t).table) (other : Way → Type 0)
-    (alone : (w : Way) → IsNear (length t.outer) w → other w → ⊥) (no_formals : (x : ℕ) → is_in_formal (typing t) x ≡ false)
+    (alone : (w : Way) → IsNear (length t.outer) w → other w → ⊥) (no_formals : (x : ℕ) → is_view_formal (typing t) x ≡ false)
     (all_named : (u d : ℕ) (c n : Bool) → shape_of (typing t).table u ≡ shape.Access d c n → n ≡ true)
     (frames : t.state.frames ≡ t.frame ∷ t.outer) where
   abbrev s : Typing
@@ -121,7 +121,7 @@ module _ (t : Turn) (settled : IsSettled (typing t).table) (own_law : OwnsByShap
 
   -- where the step raises
   pub raises : (facts : List Fact) → Holds facts t.state → (m : Memory) → WellOwned s (counted (record t.state { memory = given_up t.state.memory m }))
-  raises facts holds m = raised_owned s settled t.state holds.0.owned holds.0.covered m
+  raises facts holds m = raised_owned s settled own_law t.state holds.0.owned holds.0.covered m
 
   abbrev Raises_well : Type 0
   Raises_well = (m : Memory) → WellOwned s (counted (record t.state { memory = given_up t.state.memory m }))
@@ -198,7 +198,7 @@ module _ (t : Turn) (settled : IsSettled (typing t).table) (own_law : OwnsByShap
       | inr isnt ↦ word_no s.table (content s n.memory [] (OfRoot (OfVariable depth x))) p isnt
       | inl leaf ↦ (
           let one = faint depth x (offset_in s.table (object_at s x).of p) in
-          let own : not (is_in_formal s x) ≡ true = ap not (no_formals x) in
+          let own : not (is_view_formal s x) ≡ true = ap not (no_formals x) in
           let old : Slot = get_or (variable_slots s depth x t.state.memory.variables) (offset_in s.table (object_at s x).of p) no_slot in
           let now_there : Slot = get_or (variable_slots s depth x n.memory.variables) (offset_in s.table (object_at s x).of p) no_slot in
           let root : Root = OfVariable depth x in

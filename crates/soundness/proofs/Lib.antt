@@ -41,11 +41,12 @@ pub mod Scoped
 pub mod Following
 pub mod Points
 pub mod Successors
--- calls: facts of the frames around, acts on package objects, the ends of calls
+-- calls: facts of the frames around, acts on package objects, formals, the ends of calls
 pub mod Inherited
 pub mod Opened
 pub mod Used
 pub mod Around
+pub mod Passing
 pub mod Returning
 -- the state before the first step; each step; the run
 pub mod Beginning

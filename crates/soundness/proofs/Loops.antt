@@ -17,13 +17,13 @@ use Rattle.machine.specs.Evaluate as run
 use Rattle.machine.specs.States.{Waiting, Loop, Frame, Leak, State, Outcome, Goes}
 use Rattle.machine.specs.Step.{Turn, counted, typing, here, start, waiting, behind, led, successor}
 use Rattle.machine.specs.Step as steps
-use Rattle.machine.specs.Owners.{is_in_formal, waiting_in, WellOwned}
+use Rattle.machine.specs.Owners.{waiting_in, WellOwned}
 use Rattle.owned_ways.specs.Ways.{Step, OfVariable, OfHand, Loc, OfRoot, OfCell, Inside, Way, Object, Empty, IsSame, after, AllowsAll, Sound}
 use Rattle.owned_ways.specs.Ways as ways
 use Rattle.owned_ways.proofs.Locations.{same_loc}
 use Rattle.owned_ways.proofs.Assigned.{same_sound}
 use Rattle.part_offsets.specs.Parts.{offset_in, IsSettled}
-use Rattle.soundness.specs.Seen.{content, trunk, steps_in, word_in, seen, home, IsNear}
+use Rattle.soundness.specs.Seen.{content, trunk, steps_in, word_in, seen, home, IsNear, is_view_formal}
 use Rattle.soundness.specs.Typed.{OwnsByShape, Kept, Spot}
 use Rattle.typed_laws.specs.Needed.{Stays}
 use Rattle.soundness.proofs.Near.{near_under}
@@ -50,7 +50,7 @@ module _ (s : Typing) (settled : IsSettled s.table) (m : Memory) (hands : List W
   abbrev with_others : Memory
   with_others = record m { variables = variables }
 
-  same_word : (l : Loc) (p : List Step) → trunk l ≡ l
+  pub same_word : (l : Loc) (p : List Step) → trunk l ≡ l
       → word_in s.table (content s with_others hands l) p ≡ word_in s.table (content s m hands l) p
   same_word (OfRoot (OfVariable g y)) p t = elim (same_loc (OfRoot (OfVariable f x)) (OfRoot (OfVariable g y))) [
     | inl e ↦ (
@@ -59,7 +59,7 @@ module _ (s : Typing) (settled : IsSettled s.table) (m : Memory) (hands : List W
         let leaf = no_leaf s.table settled (object_at s y).of plain p in
         word_no s.table (content s with_others hands (OfRoot (OfVariable g y))) p leaf
         ∙ sym (word_no s.table (content s m hands (OfRoot (OfVariable g y))) p leaf))
-    | inr ne ↦ ap (λ z. word_in s.table (record { of = (object_at s y).of; slots = z; owns = not (is_in_formal s y) }) p)
+    | inr ne ↦ ap (λ z. word_in s.table (record { of = (object_at s y).of; slots = z; owns = not (is_view_formal s y) }) p)
         (others g y (λ e. ne (ap OfRoot e)))
   ]
   same_word (OfRoot (OfHand h)) p t = refl
@@ -98,7 +98,7 @@ value_plain (machine.Cell n ∷ ws) v = one_no_cell (machine.Int v) (λ k e. cc)
 -- ---- an iteration
 
 module _ (t : Turn) (settled : IsSettled (typing t).table) (own_law : OwnsByShape (typing t).table) (other : Way → Type 0)
-    (alone : (w : Way) → IsNear (length t.outer) w → other w → ⊥) (no_formals : (x : ℕ) → is_in_formal (typing t) x ≡ false)
+    (alone : (w : Way) → IsNear (length t.outer) w → other w → ⊥) (no_formals : (x : ℕ) → is_view_formal (typing t) x ≡ false)
     (all_named : (u d : ℕ) (c n : Bool) → shape_of (typing t).table u ≡ shape.Access d c n → n ≡ true)
     (frames : t.state.frames ≡ t.frame ∷ t.outer) where
   abbrev s : Typing

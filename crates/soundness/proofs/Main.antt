@@ -10,6 +10,7 @@ use Rattle.machine.specs.States.{State, Ending, Raised, Outcome, Goes, Ends, sta
 use Rattle.machine.specs.Owners.{WellOwned}
 use Rattle.machine.specs.Run.{step, then_on, within, state_at_start, run_of, main_of, moment}
 use Rattle.part_offsets.specs.Parts.{IsSettled}
+use Rattle.soundness.specs.Typed.{OwnsByShape}
 use Rattle.soundness.specs.Sound.{IsSound, IsTrap, LeadsOn, StepsLeadOn, ending_of, RunIsSound}
 use Rattle.soundness.specs.Ready.{IsReady}
 use Rattle.soundness.proofs.Owners.{well_owned}
@@ -18,12 +19,12 @@ use Rattle.soundness.proofs.Stepping.{sound_step}
 
 -- a sound state is well owned
 pub sound_owned : (table : Table) (typed : TypedProgram) (effects : Effects) (state : State) → IsSettled (flow_program table typed).table
-    → IsSound table typed effects state → WellOwned (flow_typing (flow_program table typed)) state
-sound_owned table typed effects state settled sound =
-    well_owned (flow_typing (flow_program table typed)) settled state sound.sound.owned sound.sound.covered
+    → OwnsByShape (flow_program table typed).table → IsSound table typed effects state → WellOwned (flow_typing (flow_program table typed)) state
+sound_owned table typed effects state settled own_law sound =
+    well_owned (flow_typing (flow_program table typed)) settled own_law state sound.sound.owned sound.sound.covered
 
 module _ (table : Table) (typed : TypedProgram) (effects : Effects) (input : List ℕ) (settled : IsSettled (flow_program table typed).table)
-    (each : StepsLeadOn table typed effects input) (start : IsSound table typed effects (state_at_start (flow_program table typed))) where
+    (own_law : OwnsByShape (flow_program table typed).table) (each : StepsLeadOn table typed effects input) (start : IsSound table typed effects (state_at_start (flow_program table typed))) where
   abbrev program : FlowProgram
   program = flow_program table typed
 
@@ -34,7 +35,7 @@ module _ (table : Table) (typed : TypedProgram) (effects : Effects) (input : Lis
 
   many : (n : ℕ) (state : State) → IsSound table typed effects state → LeadsOn table typed effects (within n (flow_program table typed) input state)
   unfolding within
-  many zero state sound = ((λ t. t), sound_owned table typed effects state settled sound)
+  many zero state sound = ((λ t. t), sound_owned table typed effects state settled own_law sound)
   many (suc n) state sound =
       go (step (flow_program table typed) input state) (within n (flow_program table typed) input) (each state sound) (λ t leads. many n t leads)
 
@@ -46,7 +47,7 @@ module _ (table : Table) (typed : TypedProgram) (effects : Effects) (input : Lis
           (if b then within n (flow_program table typed) input (state_at_start (flow_program table typed))
           else Ends (Raised StorageError (sub_of (flow_program table typed) main).pos) (state_at_start (flow_program table typed)))
       by_room true = many n (state_at_start (flow_program table typed)) start
-      by_room false = ((λ t. t), sound_owned table typed effects (state_at_start (flow_program table typed)) settled start)
+      by_room false = ((λ t. t), sound_owned table typed effects (state_at_start (flow_program table typed)) settled own_law start)
 
   pub run_sound : RunIsSound table typed input
   unfolding moment
@@ -57,7 +58,7 @@ module _ (table : Table) (typed : TypedProgram) (effects : Effects) (input : Lis
   }
     where
       owned_at : (o : Outcome) → LeadsOn table typed effects o → WellOwned (flow_typing (flow_program table typed)) (state_of o)
-      owned_at (Goes t) leads = sound_owned table typed effects t settled leads
+      owned_at (Goes t) leads = sound_owned table typed effects t settled own_law leads
       owned_at (Ends e t) leads = leads.1
 
       no_trap_at : (o : Outcome) → LeadsOn table typed effects o → (e : Ending) → ending_of o ≡ Some e → IsTrap e → ⊥
@@ -67,4 +68,4 @@ module _ (table : Table) (typed : TypedProgram) (effects : Effects) (input : Lis
 -- Each moment of the run of a program that is ready is well owned, and none is a trap.
 pub ready_sound : (table : Table) (typed : TypedProgram) (effects : Effects) (input : List ℕ) → IsReady table typed effects → RunIsSound table typed input
 ready_sound table typed effects input ready =
-    run_sound table typed effects input ready.accepted.settled (sound_step table typed effects input ready) (sound_start table typed effects ready)
+    run_sound table typed effects input ready.accepted.settled ready.owns (sound_step table typed effects input ready) (sound_start table typed effects ready)

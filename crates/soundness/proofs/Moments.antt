@@ -14,14 +14,13 @@ use Rattle.machine.specs.Words as machine
 use Rattle.machine.specs.Memory.{Slot, Memory, Place, fresh, cell, no_slot, slots_at, slots_of, words_of, gone_at, stored, moved_out, declared, undeclared}
 use Rattle.machine.specs.Calls.{checked_at}
 use Rattle.machine.specs.States.{Waiting, Leak}
-use Rattle.machine.specs.Owners.{is_in_formal}
 use Rattle.owned_ways.specs.Ways.{Step, OfVariable, OfHand, Loc, OfRoot, Way, Object, Lost, Into, All, Empty, Gone, Held, Reaches, part, along, Named, Spares, Excused, Allows, Sound, sels_of, name_of, sel_of, base_of, number_of}
 use Rattle.owned_ways.proofs.Assigned.{taken, put, handed, move_clean, named_rooted}
 use Rattle.owned_ways.proofs.Dropped.{dropped}
 use Rattle.owned_ways.proofs.Locations.{under_along, under_itself, named_along, reaches_along}
 use Rattle.part_offsets.specs.Parts.{type_in, offset_in, is_leaf, sels_along, IsSettled}
 use Rattle.part_offsets.proofs.Leaves.{leaf_has}
-use Rattle.soundness.specs.Seen.{Content, content, trunk, steps_in, word_in, owner_at, seen_of, seen}
+use Rattle.soundness.specs.Seen.{Content, content, trunk, steps_in, word_in, owner_at, seen_of, seen, is_view_formal}
 use Rattle.soundness.specs.Changes.{Alike, hand, Checks, leaks_at}
 use Rattle.soundness.specs.Typed.{Matches, Kept, Spot}
 use Rattle.soundness.proofs.Contents.{bool_cases, word_yes, word_part, stored_step, stored_whole, taken_step, taken_marks, checks_made}
@@ -141,7 +140,7 @@ module _ (s : Typing) (settled : IsSettled s.table) (at_home : ℕ → ℕ) (oth
   pub declared_sound : (m : Memory) (v : Waiting) (rest : List Waiting) (leaks : List Leak) (facts : List Fact) (f x : ℕ)
       → Sound at_home other (seen s m (v ∷ rest) leaks) facts → Hands → Kept s m (v ∷ rest)
       → ((p : List Step) → word_in s.table (content s m (v ∷ rest) (OfRoot (OfVariable f x))) p ≡ Empty)
-      → is_in_formal s x ≡ false → length v.words ≡ words s.table (object_at s x).of → Alike s.table v.of (object_at s x).of
+      → is_view_formal s x ≡ false → length v.words ≡ words s.table (object_at s x).of → Alike s.table v.of (object_at s x).of
       → Sound at_home other (seen s (declared f x v.words m) rest leaks) facts
   declared_sound m v rest leaks facts f x sound hands kept blank own long like =
       let a : Loc → Content = content s m (v ∷ rest) in

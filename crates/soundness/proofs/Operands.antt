@@ -20,12 +20,12 @@ use Rattle.machine.specs.Evaluate as run
 use Rattle.machine.specs.States.{Waiting, Frame, State, Outcome, Goes, sub_of}
 use Rattle.machine.specs.Step.{Turn, typing, here, start, waiting, behind, led, successor, taken_by}
 use Rattle.machine.specs.Step as steps
-use Rattle.machine.specs.Owners.{is_in_formal, waiting_in}
+use Rattle.machine.specs.Owners.{waiting_in}
 use Rattle.owned_ways.specs.Ways.{Way, after, AllowsAll, Sound}
 use Rattle.owned_ways.specs.Ways as ways
 use Rattle.owned_ways.proofs.Assigned.{same_sound}
 use Rattle.part_offsets.specs.Parts.{IsSettled}
-use Rattle.soundness.specs.Seen.{in_hand, word_in, seen, home, IsNear}
+use Rattle.soundness.specs.Seen.{in_hand, word_in, seen, home, IsNear, is_view_formal}
 use Rattle.soundness.specs.Typed.{OwnsByShape, Kept}
 use Rattle.typed_laws.specs.Needed.{Stays, Source}
 use Rattle.soundness.proofs.Contents.{word_no}
@@ -40,7 +40,7 @@ use Rattle.soundness.proofs.Waits.{waits_of, led_waits, drop_none}
 use Rattle.soundness.proofs.Instructions.{Holds, Leads_on, Given_here, raises, start_is, source_given, skip_leads}
 
 module _ (t : Turn) (settled : IsSettled (typing t).table) (own_law : OwnsByShape (typing t).table) (other : Way → Type 0)
-    (alone : (w : Way) → IsNear (length t.outer) w → other w → ⊥) (no_formals : (x : ℕ) → is_in_formal (typing t) x ≡ false)
+    (alone : (w : Way) → IsNear (length t.outer) w → other w → ⊥) (no_formals : (x : ℕ) → is_view_formal (typing t) x ≡ false)
     (all_named : (u d : ℕ) (c n : Bool) → shape_of (typing t).table u ≡ shape.Access d c n → n ≡ true)
     (frames : t.state.frames ≡ t.frame ∷ t.outer) (none : taken t.point.instr ≡ 0)
     (truth : is_scalar (full (typing t).table boolean) ≡ true) where
@@ -159,7 +159,7 @@ module _ (program : FlowProgram) (input : List ℕ) (point : FlowPoint) (state :
   returning = record { program = program; input = input; point = point; state = state; frame = frame; outer = caller ∷ outer }
 
   module _ (settled : IsSettled (typing returning).table) (own_law : OwnsByShape (typing returning).table) (other : Way → Type 0)
-      (alone : (w : Way) → IsNear (length returning.outer) w → other w → ⊥) (no_formals : (x : ℕ) → is_in_formal (typing returning) x ≡ false)
+      (alone : (w : Way) → IsNear (length returning.outer) w → other w → ⊥) (no_formals : (x : ℕ) → is_view_formal (typing returning) x ≡ false)
       (all_named : (u d : ℕ) (c n : Bool) → shape_of (typing returning).table u ≡ shape.Access d c n → n ≡ true)
       (frames : state.frames ≡ frame ∷ caller ∷ outer) (none : taken point.instr ≡ 0) (nothing : frame.waits ≡ []) where
     abbrev LeadsOn : List Fact → Outcome → Type 0

@@ -1,21 +1,33 @@
 -- A sound state is well owned.
-use Rattle.std.proofs.Common.{◌≡◌, refl, sym, ap, ◌∙◌, subst, ◌⊎◌, inl, inr, ℕ, zero, suc, ◌<◌, ◌≤◌, true, ◌==◌, eqb-true, List, [], ◌∷◌, ◌++◌, get_or, arith, append-nil}
-use Rattle.flow_paths.specs.Objects.{Typing}
+use Rattle.std.proofs.Common.{◌≡◌, refl, sym, ap, ◌∙◌, subst, ◌⊎◌, inl, inr, ℕ, zero, suc, ◌<◌, ◌≤◌, Bool, true, false, not, ◌&&◌, ◌==◌, eqb-true, List, [], ◌∷◌, ◌++◌, get_or, arith, append-nil}
+use Rattle.type_definitions.specs.Types.{is_owning}
+use Rattle.flow_paths.specs.Objects.{Typing, object_at}
 use Rattle.machine.specs.Memory.{Slot, cell, no_slot}
 use Rattle.machine.specs.States.{Leak, State}
-use Rattle.machine.specs.Owners.{Holder, InVariable, InWaiting, InCell, waiting_in, holder_type, holder_slots, may_own, owned, Owns, IsLeaked, HasOneOwner, IsHeld, leaked, by_variable, by_waiting, by_cell, WellOwned}
+use Rattle.machine.specs.Owners.{Holder, InVariable, InWaiting, InCell, waiting_in, holder_type, holder_slots, may_own, is_in_formal, owned, Owns, IsLeaked, HasOneOwner, IsHeld, leaked, by_variable, by_waiting, by_cell, WellOwned}
 use Rattle.owned_ways.specs.Ways.{Step, OfVariable, OfHand, Loc, OfRoot, OfCell, Inside, Way, Object, Lost, Into, All, Held, View, Reaches, part, Owned, Covered}
 use Rattle.owned_ways.proofs.Locations.{one_part, depth}
-use Rattle.part_offsets.specs.Parts.{offset_in, IsSettled}
+use Rattle.part_offsets.specs.Parts.{offset_in, is_leaf, IsSettled}
 use Rattle.part_offsets.proofs.Leaves.{leaf_at, leaf_from}
 use Rattle.soundness.specs.Seen.{Content, content, trunk, steps_in, word_in, owner_word}
 use Rattle.soundness.specs.Changes.{hand}
+use Rattle.soundness.specs.Typed.{OwnsByShape}
 use Rattle.soundness.specs.Sound.{view_of}
 use Rattle.soundness.proofs.Joined.{trunk_part, whole, not_inside}
+use Rattle.soundness.proofs.Lasting.{ownerless}
 use Rattle.soundness.proofs.Contents.{bool_cases, owner_held, word_yes, word_part, Shown, shown, any_from}
 
 slot_of : (x : Slot) (n : ℕ) → owner_word x ≡ Held n → x ≡ owned n
 slot_of x n e = let is = owner_held x.word x.gone n e in (λ j. record { word = is.0 j; gone = is.1 j })
+
+not_both : (a b : Bool) → not a ≡ true → not (a && b) ≡ true
+not_both true b e = cc
+not_both false b e = refl
+
+not_first : (a b : Bool) → b ≡ true → not (a && b) ≡ true → not a ≡ true
+not_first true true owns e = cc
+not_first true false owns e = cc
+not_first false b owns e = refl
 
 -- a part of a cell is reached through the cell
 pub strip : (view : View) (c : ℕ) (p : List Step) (w : Way) → Reaches view w (part (OfCell c) p) → (v : Way) × Reaches view v (OfCell c) × (depth v ≤ depth w)
@@ -57,15 +69,29 @@ same_holder (InWaiting a) (InCell b) e = cc
 same_holder (InCell a) (InVariable g y) e = cc
 same_holder (InCell a) (InWaiting b) e = cc
 
-module _ (s : Typing) (settled : IsSettled s.table) (state : State) (owners : Owned (view_of s state)) (covered : Covered (view_of s state)) where
+module _ (s : Typing) (settled : IsSettled s.table) (own_law : OwnsByShape s.table) (state : State) (owners : Owned (view_of s state)) (covered : Covered (view_of s state)) where
   abbrev seen_at : Loc → Content
   seen_at l = content s state.memory (waiting_in state) l
 
   -- what stands there is what the holder has
-  same_content : (h : Holder) → seen_at (at_holder h) ≡ record { of = holder_type s state h; slots = holder_slots s state h; owns = may_own s state h }
+  same_content : (h : Holder) → seen_at (at_holder h) ≡ record { of = holder_type s state h; slots = holder_slots s state h; owns = (seen_at (at_holder h)).owns }
   same_content (InVariable f x) = refl
   same_content (InWaiting k) = refl
   same_content (InCell c) = refl
+
+  -- what may own does, and what has something that owns may
+  owns_there : (h : Holder) → may_own s state h ≡ true → (seen_at (at_holder h)).owns ≡ true
+  owns_there (InVariable f x) may = not_both (is_in_formal s x) (is_owning s.table (object_at s x).of) may
+  owns_there (InWaiting k) may = refl
+  owns_there (InCell c) may = may
+
+  may_there : (h : Holder) (p : List Step) → (seen_at (at_holder h)).owns ≡ true → is_leaf s.table (holder_type s state h) p ≡ true → may_own s state h ≡ true
+  may_there (InVariable f x) p owns leaf = elim (bool_cases (is_owning s.table (object_at s x).of)) [
+    | inl owning ↦ not_first (is_in_formal s x) (is_owning s.table (object_at s x).of) owning owns
+    | inr none ↦ (let no : true ≡ false = sym leaf ∙ ownerless s.table own_law (object_at s x).of none p in cc)
+  ]
+  may_there (InWaiting k) p owns leaf = refl
+  may_there (InCell c) p owns leaf = owns
 
   -- where an owner stands
   abbrev Stands : Holder → ℕ → Loc → Type 0
@@ -81,7 +107,8 @@ module _ (s : Typing) (settled : IsSettled s.table) (state : State) (owners : Ow
             ∙ (λ j. word_in s.table (seen_at (own_trunk h j)) (leaf.0 ++ no_steps h j))
             ∙ ap (word_in s.table (seen_at (at_holder h))) (append-nil leaf.0)
             ∙ ap (λ c. word_in s.table c leaf.0) there
-            ∙ word_yes s.table (record { of = holder_type s state h; slots = holder_slots s state h; owns = may_own s state h }) leaf.0 owns.may leaf.1
+            ∙ word_yes s.table (record { of = holder_type s state h; slots = holder_slots s state h; owns = (seen_at (at_holder h)).owns }) leaf.0
+            (owns_there h owns.may) leaf.1
             ∙ ap (λ k. owner_word (get_or (holder_slots s state h) k no_slot)) leaf.2
             ∙ ap owner_word owns.holds,
         (leaf.0, refl, sym leaf.2),
@@ -107,7 +134,7 @@ module _ (s : Typing) (settled : IsSettled s.table) (state : State) (owners : Ow
         h,
         offset_in s.table (holder_type s state h) (steps_in l),
         record {
-          may = shows_there.owns;
+          may = may_there h (steps_in l) shows_there.owns shows_there.leaf;
           access = leaf_at s.table settled (holder_type s state h) (steps_in l) shows_there.leaf;
           holds = slot_of _ n shows_there.slot;
         },

@@ -11,6 +11,7 @@ use Rattle.machine.specs.Step.{counted}
 use Rattle.owned_ways.specs.Ways.{Step, OfVariable, OfHand, Loc, OfRoot, OfCell, Inside, Way, Object, Lost, Into, All, Reaches, Owned, Covered}
 use Rattle.part_offsets.specs.Parts.{IsSettled}
 use Rattle.soundness.specs.Seen.{content, trunk, steps_in, word_in, seen}
+use Rattle.soundness.specs.Typed.{OwnsByShape}
 use Rattle.soundness.specs.Sound.{view_of}
 use Rattle.soundness.proofs.Joined.{trunk_trunk, not_inside}
 use Rattle.soundness.proofs.Contents.{word_dead}
@@ -93,9 +94,9 @@ module _ (s : Typing) (before m : Memory) where
         ]
 
 -- the state that a raising step leaves
-pub raised_owned : (s : Typing) → IsSettled s.table → (state : State) → Owned (view_of s state) → Covered (view_of s state)
+pub raised_owned : (s : Typing) → IsSettled s.table → OwnsByShape s.table → (state : State) → Owned (view_of s state) → Covered (view_of s state)
     → (m : Memory) → WellOwned s (counted (record state { memory = given_up state.memory m }))
-raised_owned s settled state owned covered m =
-    well_owned s settled (counted (record state { memory = given_up state.memory m }))
+raised_owned s settled own_law state owned covered m =
+    well_owned s settled own_law (counted (record state { memory = given_up state.memory m }))
     (left_owned s state.memory m (waiting_in state) state.leaks owned covered)
     (left_covered s state.memory m (waiting_in state) state.leaks owned covered)

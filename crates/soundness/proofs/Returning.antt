@@ -1,26 +1,24 @@
 -- The end of a call: the variables of its frame are removed, and what ways find gone then is moved
--- by facts of the frames that are left. And a call of a subprogram without formals.
-use Rattle.std.proofs.Common.{◌≡◌, refl, sym, ap, ◌∙◌, subst, ◌⊎◌, inl, inr, ℕ, suc, zero, Bool, true, false, not, List, [], ◌∷◌, ◌++◌, map, length, get_or, nat_le, is_some, if◌then◌else◌}
+-- by facts of the frames that are left.
+use Rattle.std.proofs.Common.{◌≡◌, refl, sym, ap, ◌∙◌, subst, ◌⊎◌, inl, inr, ℕ, true, false, not, List, [], ◌∷◌, ◌++◌, length, get_or, if◌then◌else◌}
 use Rattle.std.specs.Prelude.{flat_map}
 use Rattle.std.proofs.lemmas.List.{length-map}
 use Rattle.spark_base.specs.Lists.{Has}
 use Rattle.place_names.specs.declared.fact.Fact.{Fact}
 use Rattle.place_names.specs.declared.fact.Fact.TheVariants.{Moved}
 use Rattle.place_names.specs.Names.{Name}
-use Rattle.typed_tree.specs.Trees.{TypedTree}
 use Rattle.flow_paths.specs.declared.report.Effects.{Effects}
-use Rattle.flow_paths.specs.Objects.{Typing, Signature, object_at, sub_at, is_package_object, passing, passings, traverses, first_traversed}
-use Rattle.flow_paths.specs.Laid.{FlowSub, FlowProgram, flow_typing}
+use Rattle.flow_paths.specs.Objects.{Typing, object_at, is_package_object}
+use Rattle.flow_paths.specs.Laid.{FlowProgram, flow_typing}
 use Rattle.machine.specs.Words.{default}
 use Rattle.machine.specs.Memory.{Memory, Slot, no_slot, variable_slots, without_frame}
-use Rattle.machine.specs.Evaluate.{StorageError}
-use Rattle.machine.specs.States.{Waiting, Frame, Leak, State, Normal, Goes, Ends, no_sub, sub_of, frame_words, stack_words, frame_at_start}
-use Rattle.machine.specs.Step.{Turn, typing, waiting, behind, counted, raised, leaking_goes, call, finish}
-use Rattle.machine.specs.Owners.{is_in_formal, waiting_in, WellOwned}
+use Rattle.machine.specs.States.{Waiting, Frame, Leak, State, Normal, Goes, Ends}
+use Rattle.machine.specs.Step.{Turn, counted, finish}
+use Rattle.machine.specs.Owners.{waiting_in, WellOwned}
 use Rattle.owned_ways.specs.Ways.{Step, OfVariable, OfHand, Loc, OfRoot, OfCell, Inside, Way, Object, Lost, Into, All, Empty, Gone, Held, View, Reaches, Named, Owned, Covered, Sound, base_of, number_of, name_of}
 use Rattle.part_offsets.specs.Parts.{offset_in, IsSettled}
-use Rattle.soundness.specs.Seen.{content, trunk, steps_in, word_in, seen, home}
-use Rattle.soundness.specs.Typed.{Points, Kept}
+use Rattle.soundness.specs.Seen.{content, trunk, steps_in, word_in, seen, home, is_view_formal}
+use Rattle.soundness.specs.Typed.{OwnsByShape, Points, Kept}
 use Rattle.soundness.specs.Sound.{Stage, facts_of, Elsewhere}
 use Rattle.soundness.proofs.Joined.{trunk_trunk, not_inside}
 use Rattle.soundness.proofs.Contents.{bool_cases}
@@ -67,7 +65,7 @@ module _ (s : Typing) (m : Memory) (f : ℕ) (hands : List Waiting) (leaks : Lis
         let there : word_in s.table (content s left hands (OfRoot (OfVariable f y))) p ≡ Gone =
         subst (λ z. word_in s.table (content s left hands (OfRoot (OfVariable z y))) p ≡ Gone) e gone in
         let no : Empty ≡ Gone = sym (blank y p) ∙ there in cc)
-    | inr ne ↦ ap (λ z. word_in s.table (record { of = (object_at s y).of; slots = z; owns = not (is_in_formal s y) }) p) (sym (frame_other s f g y ne m.variables)) ∙ gone
+    | inr ne ↦ ap (λ z. word_in s.table (record { of = (object_at s y).of; slots = z; owns = not (is_view_formal s y) }) p) (sym (frame_other s f g y ne m.variables)) ∙ gone
   ]
   gone_at (OfRoot (OfHand h)) p t gone = gone
   gone_at (OfCell c) p t gone = gone
@@ -125,7 +123,7 @@ module _ (s : Typing) (m : Memory) (f : ℕ) (hands : List Waiting) (leaks : Lis
     | inl e ↦ subst (λ z. Points s left (content s left hands (OfRoot (OfVariable z y)))) (sym e)
         (λ p d c n k has is at. absurd (none_default s.table (object_at s y).of k (cell_has (default s.table (object_at s y).of) (offset_in s.table (object_at s y).of p) k
         (ap (λ (z : List Slot). (get_or z (offset_in s.table (object_at s y).of p) no_slot).word) (sym (frame_same s f y m.variables)) ∙ at))))
-    | inr ne ↦ subst (λ z. Points s left (record { of = (object_at s y).of; slots = z; owns = not (is_in_formal s y) }))
+    | inr ne ↦ subst (λ z. Points s left (record { of = (object_at s y).of; slots = z; owns = not (is_view_formal s y) }))
         (sym (frame_other s f g y ne m.variables)) (kept.points (OfRoot (OfVariable g y)))
   ]
   left_points kept (OfRoot (OfHand h)) = kept.points (OfRoot (OfHand h))
@@ -149,7 +147,7 @@ module _ (s : Typing) (m : Memory) (f : ℕ) (hands : List Waiting) (leaks : Lis
   left_held g y p n held = elim (same_or_not g f) [
     | inl e ↦ absurd (left_blank s m f hands leaks nothing y p n
         (subst (λ z. word_in s.table (content s left hands (OfRoot (OfVariable z y))) p ≡ Held n) e held))
-    | inr ne ↦ (ne, ap (λ z. word_in s.table (record { of = (object_at s y).of; slots = z; owns = not (is_in_formal s y) }) p) (sym (frame_other s f g y ne m.variables)) ∙ held)
+    | inr ne ↦ (ne, ap (λ z. word_in s.table (record { of = (object_at s y).of; slots = z; owns = not (is_view_formal s y) }) p) (sym (frame_other s f g y ne m.variables)) ∙ held)
   ]
 
 -- ---- the outcomes
@@ -169,46 +167,14 @@ left_waits state frame outer m frames none =
     ap (λ z. z ++ flat_map (λ (f : Frame). f.waits) outer) (sym none) ∙ sym (ap (flat_map (λ (f : Frame). f.waits)) frames)
 
 -- where the run ends
-pub ended_owned : (s : Typing) (settled : IsSettled s.table) (state : State) (frame : Frame) (outer : List Frame) (f : ℕ)
+pub ended_owned : (s : Typing) (settled : IsSettled s.table) (own_law : OwnsByShape s.table) (state : State) (frame : Frame) (outer : List Frame) (f : ℕ)
     → state.frames ≡ frame ∷ outer → frame.waits ≡ []
     → ((x : ℕ) (p : List Step) (n : ℕ) → word_in s.table (content s state.memory (waiting_in state) (OfRoot (OfVariable f x))) p ≡ Held n → ⊥)
     → Owned (seen s state.memory (waiting_in state) state.leaks) → Covered (seen s state.memory (waiting_in state) state.leaks)
     → WellOwned s (counted (record state { frames = outer; memory = without_frame f state.memory }))
-ended_owned s settled state frame outer f frames none nothing owned covered =
+ended_owned s settled own_law state frame outer f frames none nothing owned covered =
     let same = frame_ends s state.memory f (waiting_in state) state.leaks nothing in
     let hands = left_waits state frame outer (without_frame f state.memory) frames none in
-    well_owned s settled (counted (record state { frames = outer; memory = without_frame f state.memory }))
+    well_owned s settled own_law (counted (record state { frames = outer; memory = without_frame f state.memory }))
     (subst (λ z. Owned (seen s (without_frame f state.memory) z state.leaks)) (sym hands) (numbers_owned _ _ same owned))
     (subst (λ z. Covered (seen s (without_frame f state.memory) z state.leaks)) (sym hands) (numbers_covered _ _ same covered))
-
-pub call_is : (t : Turn) (n : ℕ) (actuals : TypedTree) → (sub_of t.program n).formals ≡ [] → passings (typing t) (sub_at (typing t) n) ≡ []
-    → call t n actuals
-    ≡ (if nat_le (frame_words t.program (frame_at_start n [] ∷ (behind t (waiting t) t.state.memory 0).frames)) stack_words
-    then leaking_goes [] (Goes (record (behind t (waiting t) t.state.memory 0) {
-      frames = frame_at_start n [] ∷ (behind t (waiting t) t.state.memory 0).frames;
-    }))
-    else raised t StorageError t.state.memory)
-call_is t n actuals formals ways = rw (formals, ways) refl
-
--- how nothing is passed
-none_passed : (b : Bool) → (if b then first_traversed [] else []) ≡ []
-none_passed true = refl
-none_passed false = refl
-
-passes_none : (s : Typing) (sub : Signature) → sub.formals ≡ [] → passings s sub ≡ []
-passes_none s sub none =
-    ap (λ fs. if traverses s.table sub.result then first_traversed (map (passing s (not (is_some sub.result))) fs) else map (passing s (not (is_some sub.result))) fs) none
-    ∙ none_passed (traverses s.table sub.result)
-
-abbrev signature_of : FlowSub → Signature
-signature_of sub = record { formals = sub.formals; result = sub.result }
-
-signature_there : (subs : List FlowSub) (n : ℕ) → get_or (map signature_of subs) n (signature_of no_sub) ≡ signature_of (get_or subs n no_sub)
-signature_there [] n = refl
-signature_there (sub ∷ subs) zero = refl
-signature_there (sub ∷ subs) (suc n) = signature_there subs n
-
-pub called_ways : (program : FlowProgram) (n : ℕ) → (sub_of program n).formals ≡ []
-    → passings (flow_typing program) (sub_at (flow_typing program) n) ≡ []
-called_ways program n none =
-    passes_none (flow_typing program) (sub_at (flow_typing program) n) (ap (λ (z : Signature). z.formals) (signature_there program.subs n) ∙ none)

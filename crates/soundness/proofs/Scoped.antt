@@ -7,12 +7,12 @@ use Rattle.machine.specs.Words as machine
 use Rattle.machine.specs.Memory.{Slot, Memory, Base, OfVariable, OfCell, Place, fresh, no_slot, variable_slots, slots_at, cell, words_of, put, stored, declared, undeclared, freed}
 use Rattle.machine.specs.Evaluate.{Now, Evaluated, Done, Raises, Traps, followed_by, walked, designated_place, cell_place, component_place, element_place, ConstraintError, Touched}
 use Rattle.machine.specs.Evaluate as run
-use Rattle.machine.specs.Owners.{is_in_formal, owned}
+use Rattle.machine.specs.Owners.{owned}
 use Rattle.owned_ways.specs.Ways.{Step, Loc, OfRoot, Word, Empty, Held}
 use Rattle.owned_ways.specs.Ways as ways
 use Rattle.owned_ways.proofs.Locations.{same_loc}
 use Rattle.part_offsets.specs.Parts.{offset_in, is_leaf}
-use Rattle.soundness.specs.Seen.{Content, content, word_in, owner_word}
+use Rattle.soundness.specs.Seen.{Content, content, word_in, owner_word, is_view_formal}
 use Rattle.soundness.specs.Sound.{HoldOnly}
 use Rattle.soundness.proofs.Contents.{bool_cases, owner_held, word_yes, shown}
 use Rattle.soundness.proofs.Memories.{put_other, removed_other}
@@ -136,7 +136,7 @@ module _ (s : Typing) where
         (subst (λ z. word_in s.table (content s (undeclared depth x m) [] (OfRoot (ways.OfVariable z x))) p ≡ Held n) (sym frames)
         (subst (λ z. word_in s.table (content s (undeclared depth x m) [] (OfRoot (ways.OfVariable f z))) p ≡ Held n) (sym objects) held))))
     | inr ne ↦ elim (within f y p n
-        (ap (λ z. word_in s.table (record { of = (object_at s y).of; slots = z; owns = not (is_in_formal s y) }) p)
+        (ap (λ z. word_in s.table (record { of = (object_at s y).of; slots = z; owns = not (is_view_formal s y) }) p)
         (sym (removed_other s depth x f y (λ e. ne (ap OfRoot e)) m.variables)) ∙ held)) [
           | inl earlier ↦ inl earlier
           | inr mine ↦ inr (mine.0, last_out x y scope last mine.1 (λ e. ne (let frame = mine.0 in (λ j. OfRoot (ways.OfVariable (sym frame j) (sym e j))))))

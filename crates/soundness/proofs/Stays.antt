@@ -88,6 +88,15 @@ pub record Goes (table : Table) (t u : ℕ) (steps : TypedTree) (way : List run.
   pub lead : Lead table t way u
   pub sels : (w : Way) → sels_of (way_along way w) ≡ sels_of w ++ selectors steps
 
+-- a scalar type owns nothing
+pub scalar_owns : (s : Shape) (f : ℕ → Bool) → is_scalar (view_of s) ≡ true → owns_of f s ≡ false
+scalar_owns (shape.Whole a b) f e = refl
+scalar_owns (shape.Listed l a b) f e = refl
+scalar_owns (shape.Access d c n) f e = cc
+scalar_owns (shape.Fields cs) f e = cc
+scalar_owns (shape.Elements a b el) f e = cc
+scalar_owns (shape.Same of) f e = cc
+
 -- a left operand decides, or the right one is evaluated
 decided_quiet : {A : Type 0} (now : Now) (P : A → Type 0) (b : Bool) (x : A) (y : Evaluated A) → P x → Quiet now P y → Quiet now P (if b then Done x now else y)
 decided_quiet now P true x y p q = (refl, p)
@@ -140,15 +149,6 @@ module _ (h : Here) (settled : IsSettled h.typing.table) (hands : List Waiting) 
               sels = goes.sels (Object (OfVariable (home h.typing h.frame x) x)) j;
             }) v p mine
       ])
-
-  -- a scalar type owns nothing
-  scalar_owns : (s : Shape) (f : ℕ → Bool) → is_scalar (view_of s) ≡ true → owns_of f s ≡ false
-  scalar_owns (shape.Whole a b) f e = refl
-  scalar_owns (shape.Listed l a b) f e = refl
-  scalar_owns (shape.Access d c n) f e = cc
-  scalar_owns (shape.Fields cs) f e = cc
-  scalar_owns (shape.Elements a b el) f e = cc
-  scalar_owns (shape.Same of) f e = cc
 
   not_owning : (t : ℕ) → is_scalar (full h.typing.table t) ≡ true → is_owning h.typing.table t ≡ false
   not_owning t e = own_law t ∙ scalar_owns (shape_of h.typing.table t) (is_owning h.typing.table) e

@@ -1,5 +1,5 @@
 -- Each step of a sound state leads on, in a program that is ready.
-use Rattle.std.proofs.Common.{◌≡◌, refl, sym, ap, ◌∙◌, subst, ◌⊎◌, inl, inr, ℕ, zero, suc, ◌<◌, Bool, true, false, not, ◌&&◌, ◌||◌, ◌==◌, eq-eqb, List, [], ◌∷◌, ◌++◌, drop, length, get_or, nat_le, arith, append-nil, Some, None, if◌then◌else◌}
+use Rattle.std.proofs.Common.{◌≡◌, refl, sym, ap, ◌∙◌, subst, ◌⊎◌, inl, inr, ℕ, zero, suc, ◌<◌, Bool, true, false, not, ◌&&◌, ◌||◌, ◌==◌, eq-eqb, List, [], ◌∷◌, ◌++◌, drop, map, length, get_or, arith, append-nil, Some, None, if◌then◌else◌}
 use Rattle.spark_base.specs.Lists.{Has}
 use Rattle.spark_base.specs.declared.position.Pos.{Pos}
 use Rattle.spark_base.proofs.Lists.{Has-append_cases, Has-map_from}
@@ -11,13 +11,13 @@ use Rattle.place_names.specs.declared.fact.Fact.TheVariants.{Moved, Lent}
 use Rattle.place_names.specs.Facts.{adds}
 use Rattle.place_names.specs.Names.{Name as PlaceName}
 use Rattle.place_names.specs.Rules.{forbids}
-use Rattle.type_definitions.specs.Types.{Table, is_scalar, full, shape_of}
+use Rattle.type_definitions.specs.Types.{Table, is_owning, is_scalar, full, shape_of}
 use Rattle.type_definitions.specs.declared.table.Shape.TheVariants as shape
 use Rattle.typed_tree.specs.Trees.{TypedTree, Name, NoMore, More}
 use Rattle.typed_tree.specs.Programs.{TypedProgram}
 use Rattle.flow_paths.specs.declared.report.Effects.{Effects}
 use Rattle.flow_paths.specs.Instructions.{Instruction, Skip, Declare, Assign, Call, Output, Input, Release, Test, Choose, Start, Next, Evaluate, LeaveLoop, Hold, EndScope, Finish, Fall}
-use Rattle.flow_paths.specs.Objects.{Typing, object_at, sub_at, is_package_object, is_borrower, passings}
+use Rattle.flow_paths.specs.Objects.{Typing, object_at, sub_at, is_formal, is_package_object, is_borrower, passings}
 use Rattle.flow_paths.specs.Names.{has_call}
 use Rattle.flow_paths.specs.Acts as flow
 use Rattle.flow_paths.specs.Acts.{acts_of, acts_in}
@@ -27,24 +27,31 @@ use Rattle.flow_paths.specs.Paths.{PathPoint, path_point, ControlPath, begins, g
 use Rattle.flow_paths.specs.Effects.{act_writes, act_reads, flow_sub_at, path_points, globals_of, called_acts}
 use Rattle.flow_paths.specs.Scopes.{taken, brought, scope_behind, is_within, is_last, is_ready, Leads}
 use Rattle.machine.specs.Memory.{Memory, without_frame}
-use Rattle.machine.specs.Evaluate.{StorageError}
-use Rattle.machine.specs.States.{Loop, Frame, State, Outcome, Goes, Ends, sub_of, frame_words, stack_words, frame_at_start}
+use Rattle.machine.specs.Evaluate.{Now}
+use Rattle.machine.specs.States.{Loop, Frame, State, Outcome, Goes, Ends, sub_of, frame_at_start}
 use Rattle.machine.specs.Step.{Turn, turn, waiting, counted, behind, led, leaking, successor, main_frame}
 use Rattle.machine.specs.Step as steps
 use Rattle.machine.specs.Typed.{successors}
+use Rattle.machine.specs.Calls.{Passed, all_passed, with_formals}
 use Rattle.machine.specs.Owners.{is_in, is_in_formal, waiting_in}
 use Rattle.machine.specs.Run.{no_point, stepped, step}
-use Rattle.owned_ways.specs.Ways.{Step, OfVariable, OfRoot, Way, Held, Named, Sound, after, AllowsAll, along}
+use Rattle.owned_ways.specs.Ways.{Step, OfVariable, OfRoot, Way, Empty, Held, Named, Sound, after, AllowsAll, along}
 use Rattle.owned_ways.specs.Ways as ways
 use Rattle.owned_ways.proofs.Locations.{reaches_along, named_along as rooted_along}
-use Rattle.soundness.specs.Seen.{content, word_in, seen, home, IsNear}
+use Rattle.soundness.specs.Seen.{content, word_in, seen, home, IsNear, is_view_formal}
 use Rattle.soundness.specs.Typed.{Kept}
 use Rattle.typed_laws.specs.Needed.{IsFine, Source, FirstSource, FirstWrites, FirstStays}
 use Rattle.soundness.specs.Sound.{calls_nothing, calls_procedures, Stage, facts_of, Elsewhere, AreStages, Uses, IsCaller, AreCallers, AreRunning, InScope, IsNamedSub, IsAtPoint, view_of, IsSound, LeadsOn, StepsLeadOn}
 use Rattle.soundness.specs.Ready.{stored_at, IsCalled, IsReady}
-use Rattle.soundness.proofs.Contents.{bool_cases, word_root}
+use Rattle.soundness.proofs.Contents.{bool_cases, word_no, word_root}
+use Rattle.soundness.proofs.Steps.{no_leaf}
+use Rattle.soundness.proofs.Stays.{Quiet}
+use Rattle.soundness.proofs.Numbers.{index_law}
+use Rattle.soundness.proofs.Lasting.{keeps}
+use Rattle.soundness.proofs.Evaluated.{live_trunk}
+use Rattle.soundness.proofs.Passing.{plain_type, ArePlain, by_value, AreReads, reads_keep, read_open, values_read, values_alone, AreValues, formals_held, formals_good, all_quiet, entered, call_leads, passed_to}
 use Rattle.soundness.proofs.Moments.{number_part}
-use Rattle.soundness.proofs.Scalars.{acts}
+use Rattle.soundness.proofs.Scalars.{acts, acts_append, after_append, allows_both}
 use Rattle.soundness.proofs.Paths.{accepted_point, facts_next}
 use Rattle.soundness.proofs.Points.{flow_at, named_has, point_has, sub_there, sub_at_number, sub_in_range, sub_has, typing_same, point_there, point_in, path_there, IsLaid, all_laid, next_there, scope_next}
 use Rattle.soundness.proofs.Scoped.{MayHold, Inside}
@@ -53,11 +60,11 @@ use Rattle.soundness.proofs.Inherited.{Splits, after_splits, allowed_beside, Are
 use Rattle.soundness.proofs.Opened.{instruction_open}
 use Rattle.soundness.proofs.Used.{writes_used, reads_used, called_used, used_global, called_are, globals_are, path_acts, returns_whole}
 use Rattle.soundness.proofs.Around.{same_or_not, IsFar, far_alone, is_inherited, inherited, inherited_from, IsBetween, beside, apart_again, unused_there, all_between, AreStill, callers_kept}
-use Rattle.soundness.proofs.Returning.{returned_sound, returned_kept, left_held, finish_returns, finish_ends, left_waits, ended_owned, call_is, called_ways}
+use Rattle.soundness.proofs.Returning.{returned_sound, returned_kept, left_held, finish_returns, finish_ends, left_waits, ended_owned}
 use Rattle.soundness.proofs.Following.{Each, GoesOn, Declares, declare_on, declare_follows, assign_follows, release_follows, input_follows, test_follows, choose_follows, stays_follows, output_follows, start_follows, next_follows, end_scope_follows}
 use Rattle.soundness.proofs.Waits.{drop_none, or_both}
 use Rattle.soundness.proofs.Successors.{not_true, both_not, calls_cases, procedures_take_none, finish_or, below_one, below_two, successor_there, successor_cases, unmoved_after}
-use Rattle.soundness.proofs.Instructions.{Holds, Leads_on, raises, hands_behind, declare_leads, assign_leads, end_scope_leads, release_leads, test_leads, choose_leads, leave_loop_leads, skip_leads, fall_leads, output_leads, line_leads, input_leads}
+use Rattle.soundness.proofs.Instructions.{Holds, Leads_on, raises, start_is, hands_behind, declare_leads, assign_leads, end_scope_leads, release_leads, test_leads, choose_leads, leave_loop_leads, skip_leads, fall_leads, output_leads, line_leads, input_leads}
 use Rattle.soundness.proofs.Loops.{start_leads, next_leads}
 use Rattle.soundness.proofs.Endings.{main_begins}
 use Rattle.soundness.proofs.Beginning.{stage, first_point}
@@ -65,6 +72,10 @@ use Rattle.soundness.proofs.Beginning.{stage, first_point}
 or_right : (a b : Bool) → b ≡ true → a || b ≡ true
 or_right true b e = refl
 or_right false b e = e
+
+no_second : (a b : Bool) → b ≡ false → a && b ≡ false
+no_second true b e = e
+no_second false b e = refl
 
 moved_same : (a b : PlaceName) → Moved a ≡ Moved b → a ≡ b
 moved_same a b e = cc
@@ -90,8 +101,11 @@ module _ (table : Table) (typed : TypedProgram) (effects : Effects) (input : Lis
   same : s ≡ own
   same = typing_same table typed ready.scoped.objects
 
-  no_in_formals : (x : ℕ) → is_in_formal s x ≡ false
-  no_in_formals x = ap (λ b. b && is_in (object_at s x).mode) (ready.class.no_formals x)
+  no_in_formals : (x : ℕ) → is_view_formal s x ≡ false
+  no_in_formals x = elim (bool_cases (is_formal s x)) [
+    | inl e ↦ no_second (is_in_formal s x) (is_owning s.table (object_at s x).of) (plain_type s ready.owns (object_at s x).of (ready.class.formals x e).1)
+    | inr e ↦ ap (λ b. (b && is_in (object_at s x).mode) && is_owning s.table (object_at s x).of) e
+  ]
 
   laid : (named : NamedSub) → Has (flow_named table typed) named → IsLaid own named
   laid named has = all_laid own typed.subs ready.scoped.bodies named has
@@ -556,17 +570,13 @@ module _ (table : Table) (typed : TypedProgram) (effects : Effects) (input : Lis
             (name, refl, shared, λ uses. unused_there table typed effects unmoved_stage state.memory top.frame.sub older running.2 g has name fact shared uses)
         by_fact (Lent l h n) g has fact shared = cc
 
-    -- so these facts allow the acts of an instruction that calls nothing
-    acts_apart : calls_nothing p.instr ≡ true → (p.instr ≡ Finish → ⊥) → (a : Act) → Has (acts_of_main p.instr) a
-        → (f : Fact) → Has (inherited program effects older) f → forbids a f ≡ None
-    acts_apart calls going a has f there =
+    -- so these facts allow an act of the point that reads or writes what it names
+    one_apart : (placed : Placed) → Has (acts_by state top older outer named p frames of_sub at_point s p.instr) placed → is_open placed.act ≡ true
+        → (f : Fact) → Has (inherited program effects older) f → forbids placed.act f ≡ None
+    one_apart placed has opens f there =
         let found = unused f there in
-        let from = Has-map_from (λ (z : Placed). z.act) (acts_by state top older outer named p frames of_sub at_point s p.instr) a has in
-        let placed : Placed = from.0 in
-        let opens : is_open placed.act ≡ true =
-        instruction_open s ready.class.all_named named.sub.result (roots state top older outer named p frames of_sub at_point) p.pos p.instr calls going placed from.1 in
         let in_point : Has main_turn.point.acts placed =
-        subst (λ z. Has (acts_by state top older outer named p frames of_sub at_point z p.instr) placed) same from.1 in
+        subst (λ z. Has (acts_by state top older outer named p frames of_sub at_point z p.instr) placed) same has in
         let writes : act_writes (found.0).root placed.act ≡ false =
         not_so (act_writes (found.0).root placed.act) (λ e. found.3
         (writes_used program effects ready.accepted.effects_are top.frame.sub (flow_sub own named) sub_at_all sub_less (found.0).root found.2
@@ -575,12 +585,20 @@ module _ (table : Table) (typed : TypedProgram) (effects : Effects) (input : Lis
         not_so (act_reads (found.0).root placed.act) (λ e. found.3
         (reads_used program effects ready.accepted.effects_are top.frame.sub (flow_sub own named) sub_at_all sub_less (found.0).root found.2
         main_turn.point in_main placed in_point e)) in
-        ap (λ z. forbids z f) (sym from.2) ∙ ap (forbids placed.act) found.1
-        ∙ apart_allows found.0 (found.0).root refl placed.act opens writes reads
+        ap (forbids placed.act) found.1 ∙ apart_allows found.0 (found.0).root refl placed.act opens writes reads
       where
         not_so : (b : Bool) → (b ≡ true → ⊥) → b ≡ false
         not_so true e = absurd (e refl)
         not_so false e = refl
+
+    -- and those of an instruction that calls nothing
+    acts_apart : calls_nothing p.instr ≡ true → (p.instr ≡ Finish → ⊥) → (a : Act) → Has (acts_of_main p.instr) a
+        → (f : Fact) → Has (inherited program effects older) f → forbids a f ≡ None
+    acts_apart calls going a has f there =
+        let from = Has-map_from (λ (z : Placed). z.act) (acts_by state top older outer named p frames of_sub at_point s p.instr) a has in
+        let opens : is_open (from.0).act ≡ true =
+        instruction_open s ready.class.all_named named.sub.result (roots state top older outer named p frames of_sub at_point) p.pos p.instr calls going from.0 from.1 in
+        ap (λ z. forbids z f) (sym from.2) ∙ one_apart from.0 from.1 opens f there
 
     allowed_now : calls_nothing p.instr ≡ true → (p.instr ≡ Finish → ⊥) → AllowsAll facts_now (acts_of_main p.instr)
     allowed_now calls going =
@@ -782,8 +800,11 @@ module _ (table : Table) (typed : TypedProgram) (effects : Effects) (input : Lis
     nothing_left is x q n held = elim (scope depth x q n held) [
       | inl less ↦ omega (arith, less)
       | inr mine ↦ (
-          let empty : p.scope ≡ [] = ready.scoped.finishes named named_in p point_in_named is in
-          let no : false ≡ true = ap (is_within x) (sym empty) ∙ mine.1 in cc)
+          let formal = ready.scoped.finishes named named_in p point_in_named is x mine.1 in
+          let plain_there = (ready.class.formals x formal).1 in
+          let none = word_no s.table (content s state.memory (waiting_in state) (OfRoot (OfVariable depth x))) q
+          (no_leaf s.table ready.accepted.settled (object_at s x).of plain_there q) in
+          let no_number : Empty ≡ Held n = sym none ∙ held in cc)
     ]
 
     -- no part of a package object is moved then
@@ -853,7 +874,7 @@ module _ (table : Table) (typed : TypedProgram) (effects : Effects) (input : Lis
             → Sound (home s depth) (Elsewhere program effects (below ∷ m)) (view_of s state) own_facts → LeadsOn table typed effects (turn main_turn Finish)
         by_rest [] [] same_rest stages_there callers well =
             subst (LeadsOn table typed effects) (sym (finish_ends main_turn below.frame (ap (λ z. below.frame ∷ z) same_rest) running.1.1))
-            ((λ trap. trap), ended_owned s ready.accepted.settled state top.frame outer depth frames plain (nothing_left is) well.owned well.covered)
+            ((λ trap. trap), ended_owned s ready.accepted.settled ready.owns state top.frame outer depth frames plain (nothing_left is) well.owned well.covered)
         by_rest [] (h ∷ m) same_rest stages_there callers well = absurd stages_there.2
         by_rest (k ∷ r) [] same_rest stages_there callers well = absurd stages_there.2
         by_rest (k ∷ r) (h ∷ m) same_rest stages_there callers well =
@@ -862,21 +883,73 @@ module _ (table : Table) (typed : TypedProgram) (effects : Effects) (input : Lis
 
     -- ---- a call
 
-    module _ (n : ℕ) (actuals : TypedTree) (e : p.instr ≡ Call n actuals None) where
-      called : IsCalled table typed n
+    module _ (n : ℕ) (actuals : TypedTree) (e : p.instr ≡ Call n actuals None) (no_call : has_call actuals ≡ false) where
+      called : IsCalled table typed n actuals
       called = ready.called (flow_sub own named) (in_program state top older outer named p frames of_sub at_point) main_turn.point in_main n actuals None e
 
-      ways_none : passings s (sub_at s n) ≡ []
-      ways_none = called_ways program n called.formals
+      abbrev formals : List ℕ
+      formals = (sub_of program n).formals
 
-      call_acts : whole_acts state top older outer named p frames of_sub at_point p.instr ≡ globals_of program effects n
+      plain_formals : ArePlain s ready.owns formals
+      plain_formals x has = ready.class.formals x (called.formals x has)
+
+      scalar_formals : (x : ℕ) → Has formals x → is_scalar (full s.table (object_at s x).of) ≡ true
+      scalar_formals x has = (plain_formals x has).1
+
+      no_callee_result : (sub_of program n).result ≡ None
+      no_callee_result =
+          ap (λ (z : FlowSub). z.result) (sub_there table typed n called.procedure.named called.procedure.stands)
+          ∙ called.procedure.procedure called.procedure.named called.procedure.stands
+
+      ways_are : passings s (sub_at s n) ≡ map (by_value s ready.owns) formals
+      ways_are = passed_to program ready.owns n no_callee_result plain_formals
+
+      -- the acts: the actuals are read, and then come those on package objects
+      abbrev values : List Placed
+      values = flow.actual_values s (map (by_value s ready.owns) formals) actuals
+
+      values_are : acts_by state top older outer named p frames of_sub at_point s p.instr ≡ values
+      values_are =
+          ap (acts_by state top older outer named p frames of_sub at_point s) e
+          ∙ ap (λ z. flow.actual_values s z actuals ++ flow.actual_acts z actuals) ways_are
+          ∙ values_alone s ready.owns formals actuals
+
+      reads_there : AreReads values
+      reads_there = values_read s ready.owns formals actuals called.actuals_stay
+
+      call_acts : whole_acts state top older outer named p frames of_sub at_point p.instr ≡ acts values ++ globals_of program effects n
       call_acts =
-          ap (whole_acts state top older outer named p frames of_sub at_point) e
-          ∙ ap (λ z. acts ((flow.actual_values s z actuals ++ flow.actual_acts z actuals) ++ called_acts program effects p.pos (Call n actuals None))) ways_none
-          ∙ called_are program effects ready.accepted.effects_are p.pos n actuals None
+          ap (λ z. acts (z ++ called_acts program effects p.pos p.instr)) values_are
+          ∙ acts_append values (called_acts program effects p.pos p.instr)
+          ∙ ap (λ i. acts values ++ acts (called_acts program effects p.pos i)) e
+          ∙ ap (λ z. acts values ++ z) (called_are program effects ready.accepted.effects_are p.pos n actuals None)
+
+      each_allowed : AllowsAll own_facts (acts values) × AllowsAll (after (acts values) own_facts) (globals_of program effects n)
+      each_allowed =
+          allows_both own_facts (acts values) (globals_of program effects n)
+          (subst (AllowsAll own_facts) call_acts (allowed_whole state top older outer named p frames of_sub at_point path))
 
       call_allowed : AllowsAll own_facts (globals_of program effects n)
-      call_allowed = subst (AllowsAll own_facts) call_acts (allowed_whole state top older outer named p frames of_sub at_point path)
+      call_allowed = subst (λ z. AllowsAll z (globals_of program effects n)) (reads_keep values reads_there own_facts) each_allowed.1
+
+      values_apart : (a : Act) → Has (acts values) a → (f : Fact) → Has (inherited program effects older) f → forbids a f ≡ None
+      values_apart a has f there =
+          let from = Has-map_from (λ (z : Placed). z.act) values a has in
+          ap (λ z. forbids z f) (sym from.2)
+          ∙ one_apart from.0 (subst (λ zs. Has zs from.0) (sym values_are) from.1) (read_open from.0 (reads_there from.0 from.1)) f there
+
+      values_allowed : AllowsAll facts_now (acts values)
+      values_allowed = allowed_beside (acts values) facts_now own_facts (inherited program effects older) from_both each_allowed.0 values_apart
+
+      abbrev now : Now
+      now = record { memory = state.memory; waits = [] }
+
+      passed_quiet : Quiet now AreValues (all_passed (steps.here main_turn) (map (by_value s ready.owns) formals) formals actuals now)
+      passed_quiet =
+          all_quiet (steps.here main_turn) ready.accepted.settled (waiting_in state) state.leaks state.memory [] other facts_now kept sound alone
+          (live_trunk (steps.here main_turn) ready.accepted.settled state.leaks [] other alone (keeps s ready.accepted.settled ready.owns) no_in_formals index_law
+          ready.owns ready.class.all_named state.memory (waiting_in state) sound.owned)
+          index_law ready.owns ready.class.all_named formals actuals called.actuals_stay no_call values_allowed
 
       globals : AreGlobal (globals_of program effects n)
       globals = globals_are program effects ready.accepted.effects_are n
@@ -897,7 +970,9 @@ module _ (table : Table) (typed : TypedProgram) (effects : Effects) (input : Lis
       facts_there =
           ap (λ (z : FlowSub). facts_before (path_points program effects z) (top.frame.next ∷ top.before)) (sub_is state top older outer named p frames of_sub at_point)
           ∙ facts_whole state top older outer named p frames of_sub at_point path
-          ∙ ap (λ z. after z own_facts) call_acts ∙ global_after (globals_of program effects n) own_facts globals
+          ∙ ap (λ z. after z own_facts) call_acts ∙ after_append (acts values) (globals_of program effects n) own_facts
+          ∙ ap (after (globals_of program effects n)) (reads_keep values reads_there own_facts)
+          ∙ global_after (globals_of program effects n) own_facts globals
 
       -- what the callee uses isn't moved
       spares : (name : PlaceName) → Has own_facts (Moved name) → is_package_object s name.root ≡ true → Uses effects n name.root → ⊥
@@ -915,17 +990,6 @@ module _ (table : Table) (typed : TypedProgram) (effects : Effects) (input : Lis
       abbrev started : State
       started = behind main_turn (waiting main_turn) state.memory 0
 
-      abbrev entered : State
-      entered = leaking [] (record started { frames = frame_at_start n [] ∷ started.frames })
-
-      frames_there : entered.frames ≡ frame_at_start n [] ∷ (waits_there.frame ∷ outer)
-      frames_there =
-          ap (λ z. frame_at_start n [] ∷ led main_turn (record top.frame { waits = waiting main_turn }) z) next_point.1
-          ∙ ap (λ z. frame_at_start n [] ∷ (record top.frame { waits = z; next = next_point.0 } ∷ outer)) no_waiting
-
-      hands_there : waiting_in entered ≡ waiting_in state
-      hands_there = hands_behind main_turn ready.accepted.settled ready.owns other alone no_in_formals ready.class.all_named frames none_takes state.memory 0
-
       successor_point : (q : NamedPoint) × IsAtPoint named.points next_point.0 q × Leads own (scope_behind p) q.scope
       successor_point = next_there own named (laid named named_in) p point_in_named next_point.0 next_point.2
 
@@ -938,73 +1002,111 @@ module _ (table : Table) (typed : TypedProgram) (effects : Effects) (input : Lis
           call_scope : scope_behind p ≡ p.scope
           call_scope = ap (λ k. brought p.instr (drop k p.scope)) none_takes ∙ ap (brought p.instr) (drop_none p.scope) ∙ ap (λ i. brought i p.scope) e
 
-      waits_as_caller : IsCaller table typed effects state.memory n waits_there
-      waits_as_caller = record {
-        procedure = running.0;
-        plain = (refl, running.1.1, running.1.2);
-        path = subst (λ (z : FlowSub). ControlPath (path_points program effects z) (top.frame.next ∷ top.before) next_point.0)
-            (sym (sub_is state top older outer named p frames of_sub at_point))
-            (goes_on top.before top.frame.next next_point.0 (path_here state top older outer named p frames of_sub at_point path)
-            (subst (λ (z : PathPoint). Has z.next next_point.0) (sym (path_there own named top.frame.next p at_point program effects)) next_point.2));
-        named = named;
-        of_sub = of_sub;
-        point = successor_point.0;
-        at_point = successor_point.1;
-        scope = λ x q k held. elim (next_scope top.depth x q k held) [
-          | inl less ↦ absurd (omega (arith, less, deep))
-          | inr mine ↦ mine.1
-        ];
-        unmoved = λ name has shared uses. spares name (subst (λ z. Has z (Moved name)) facts_there has) shared uses;
-        uses = λ x uses. called_used program effects ready.accepted.effects_are top.frame.sub (flow_sub own named) sub_at_all sub_less n callee_less
-            main_turn.point in_main actuals None e x uses;
-      }
+      -- ---- what is passed
 
-      entered_sound : IsSound table typed effects entered
-      entered_sound = record {
-        top = stage table typed effects ready n (suc depth);
-        older = waits_there ∷ older;
-        stages = subst (AreStages (stage table typed effects ready n (suc depth) ∷ (waits_there ∷ older))) (sym frames_there) (refl, refl, (refl, deep, stages));
-        running = (called.procedure, (refl, refl, refl), (waits_as_caller, running.2));
-        path = begins (first_point table typed effects ready n called.procedure.named called.procedure.stands
-            called.procedure.point called.procedure.points called.procedure.begins);
-        sound = subst (λ z. Sound (home s (suc depth)) (Elsewhere program effects (waits_there ∷ older)) (seen s state.memory z (state.leaks ++ [])) []) (sym hands_there)
-            (subst (λ z. Sound (home s (suc depth)) (Elsewhere program effects (waits_there ∷ older)) (seen s state.memory (waiting_in state) z) []) (sym (append-nil state.leaks))
-            (record {
-              owned = sound_own.owned;
-              covered = sound_own.covered;
-              known = λ w l rooted r gone. inr (elsewhere w (sound_own.known w l rooted r gone));
-            }));
-        kept = subst (Kept s state.memory) (sym hands_there) kept;
-        named = called.procedure.named;
-        of_sub = called.procedure.stands;
-        point = called.procedure.point;
-        at_point = ([], called.procedure.points, called.procedure.begins, refl);
-        scope = λ f x q k held. elim (scope f x q k held) [
-          | inl less ↦ inl (omega (arith, less))
-          | inr mine ↦ (let is = mine.0 in inl (omega (arith, is)))
-        ];
-      }
-        where
-          elsewhere : (w : Way) → ways.Excused (home s depth) (Elsewhere program effects older) own_facts w → Elsewhere program effects (waits_there ∷ older) w
-          elsewhere w (inr (g, has, what)) = (g, inr has, what)
-          elsewhere w (inl moved) = (
-            waits_there,
-            inl refl,
-            inl (
-              subst (λ d. Named (home s d) w) (sym deep) moved.0,
-              subst (λ z. Has z (Moved (ways.name_of w))) (sym facts_there) moved.1,
+      module _ (passed : List Passed) (are_values : AreValues passed) where
+        abbrev with_all : Memory
+        with_all = with_formals s (suc depth) formals passed state.memory
+
+        abbrev after_call : State
+        after_call = leaking [] (entered main_turn n actuals passed)
+
+        -- no formal owns
+        held_before : (g y : ℕ) (q : List Step) → word_in s.table (content s with_all [] (OfRoot (OfVariable g y))) q
+            ≡ word_in s.table (content s state.memory [] (OfRoot (OfVariable g y))) q
+        held_before = formals_held s ready.accepted.settled (suc depth) formals passed state.memory scalar_formals are_values
+
+        still_called : AreStill table typed effects unmoved_stage state.memory with_all depth
+        still_called f x q k some less held = (q, k, sym (held_before f x q) ∙ held)
+
+        frames_there : after_call.frames ≡ frame_at_start n [] ∷ (waits_there.frame ∷ outer)
+        frames_there =
+            ap (λ z. frame_at_start n [] ∷ led main_turn (record top.frame { waits = waiting main_turn }) z) next_point.1
+            ∙ ap (λ z. frame_at_start n [] ∷ (record top.frame { waits = z; next = next_point.0 } ∷ outer)) no_waiting
+
+        hands_there : waiting_in after_call ≡ waiting_in state
+        hands_there = hands_behind main_turn ready.accepted.settled ready.owns other alone no_in_formals ready.class.all_named frames none_takes state.memory 0
+
+        waits_as_caller : IsCaller table typed effects with_all n waits_there
+        waits_as_caller = record {
+          procedure = running.0;
+          plain = (refl, running.1.1, running.1.2);
+          path = subst (λ (z : FlowSub). ControlPath (path_points program effects z) (top.frame.next ∷ top.before) next_point.0)
+              (sym (sub_is state top older outer named p frames of_sub at_point))
+              (goes_on top.before top.frame.next next_point.0 (path_here state top older outer named p frames of_sub at_point path)
+              (subst (λ (z : PathPoint). Has z.next next_point.0) (sym (path_there own named top.frame.next p at_point program effects)) next_point.2));
+          named = named;
+          of_sub = of_sub;
+          point = successor_point.0;
+          at_point = successor_point.1;
+          scope = λ x q k held. elim (next_scope top.depth x q k (sym (held_before top.depth x q) ∙ held)) [
+            | inl less ↦ absurd (omega (arith, less, deep))
+            | inr mine ↦ mine.1
+          ];
+          unmoved = λ name has shared uses. spares name (subst (λ z. Has z (Moved name)) facts_there has) shared uses;
+          uses = λ x uses. called_used program effects ready.accepted.effects_are top.frame.sub (flow_sub own named) sub_at_all sub_less n callee_less
+              main_turn.point in_main actuals None e x uses;
+        }
+
+        elsewhere : (w : Way) → ways.Excused (home s depth) (Elsewhere program effects older) own_facts w → Elsewhere program effects (waits_there ∷ older) w
+        elsewhere w (inr (g, has, what)) = (g, inr has, what)
+        elsewhere w (inl moved) = (
+          waits_there,
+          inl refl,
+          inl (
+            subst (λ d. Named (home s d) w) (sym deep) moved.0,
+            subst (λ z. Has z (Moved (ways.name_of w))) (sym facts_there) moved.1,
+          ),
+        )
+
+        good : Sound (home s (suc depth)) (Elsewhere program effects (waits_there ∷ older)) (seen s with_all (waiting_in state) state.leaks) []
+            × Kept s with_all (waiting_in state)
+        good =
+            formals_good s ready.accepted.settled (suc depth) (waiting_in state) state.leaks (home s (suc depth)) (Elsewhere program effects (waits_there ∷ older)) []
+            formals passed state.memory scalar_formals are_values (
+              record {
+                owned = sound_own.owned;
+                covered = sound_own.covered;
+                known = λ w l rooted r gone. inr (elsewhere w (sound_own.known w l rooted r gone));
+              },
+              kept,
+            )
+
+        entered_sound : IsSound table typed effects after_call
+        entered_sound = record {
+          top = stage table typed effects ready n (suc depth);
+          older = waits_there ∷ older;
+          stages = subst (AreStages (stage table typed effects ready n (suc depth) ∷ (waits_there ∷ older))) (sym frames_there) (refl, refl, (refl, deep, stages));
+          running = (
+            called.procedure,
+            (refl, refl, refl),
+            (
+              waits_as_caller,
+              callers_kept table typed effects unmoved_stage state.memory with_all top.frame.sub depth older outer stages (omega arith) still_called running.2,
             ),
-          )
+          );
+          path = begins (first_point table typed effects ready n called.procedure.named called.procedure.stands
+              called.procedure.point called.procedure.points called.procedure.begins);
+          sound = subst (λ z. Sound (home s (suc depth)) (Elsewhere program effects (waits_there ∷ older)) (seen s with_all z (state.leaks ++ [])) []) (sym hands_there)
+              (subst (λ z. Sound (home s (suc depth)) (Elsewhere program effects (waits_there ∷ older)) (seen s with_all (waiting_in state) z) []) (sym (append-nil state.leaks))
+              good.0);
+          kept = subst (Kept s with_all) (sym hands_there) good.1;
+          named = called.procedure.named;
+          of_sub = called.procedure.stands;
+          point = called.procedure.point;
+          at_point = ([], called.procedure.points, called.procedure.begins, refl);
+          scope = λ f x q k held. elim (scope f x q k (sym (held_before f x q) ∙ held)) [
+            | inl less ↦ inl (omega (arith, less))
+            | inr mine ↦ (let is = mine.0 in inl (omega (arith, is)))
+          ];
+        }
 
       pub calls_it : LeadsOn table typed effects (turn main_turn (Call n actuals None))
       calls_it =
-          subst (LeadsOn table typed effects) (sym (call_is main_turn n actuals called.formals ways_none))
-          (by_room (nat_le (frame_words program (frame_at_start n [] ∷ started.frames)) stack_words))
-        where
-          by_room : (b : Bool) → LeadsOn table typed effects
-              (if b then steps.leaking_goes [] (Goes (record started { frames = frame_at_start n [] ∷ started.frames })) else steps.raised main_turn StorageError state.memory)
-          by_room true = entered_sound
-          by_room false = ((λ trap. trap), raises main_turn ready.accepted.settled ready.owns other alone no_in_formals ready.class.all_named frames facts_now held_now state.memory)
+          call_leads main_turn n actuals (LeadsOn table typed effects)
+          (λ how m. ((λ trap. trap), raises main_turn ready.accepted.settled ready.owns other alone no_in_formals ready.class.all_named frames facts_now held_now m))
+          entered_sound (map (by_value s ready.owns) formals) ways_are now
+          (start_is main_turn ready.accepted.settled ready.owns other alone no_in_formals ready.class.all_named frames none_takes) refl passed_quiet
 
     -- ---- an instruction that calls nothing
 
@@ -1083,7 +1185,7 @@ module _ (table : Table) (typed : TypedProgram) (effects : Effects) (input : Lis
           | inl is ↦ subst (λ i. LeadsOn table typed effects (turn main_turn i)) (sym is) (ends_call is)
           | inr going ↦ elim (calls_cases p.instr (calls_there state top older outer named p frames of_sub at_point)) [
             | inl calls ↦ goes_plainly calls going
-            | inr call ↦ subst (λ i. LeadsOn table typed effects (turn main_turn i)) (sym call.2) (calls_it call.0 call.1 call.2)
+            | inr call ↦ subst (λ i. LeadsOn table typed effects (turn main_turn i)) (sym call.2) (calls_it call.0 call.1 call.2 call.3)
           ]
         ])
 

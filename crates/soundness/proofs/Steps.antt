@@ -11,12 +11,12 @@ use Rattle.machine.specs.Words as machine
 use Rattle.machine.specs.Memory.{Slot, Memory, Base, Place, HeapCell, fresh, cell, no_slot, slots_at, slots_of, words_of, put, with_slots, stored, moved_out, gone_at, at_number}
 use Rattle.machine.specs.Memory as memory
 use Rattle.machine.specs.States.{Waiting}
-use Rattle.machine.specs.Owners.{is_in_formal, no_value, waiting_at}
+use Rattle.machine.specs.Owners.{no_value, waiting_at}
 use Rattle.owned_ways.specs.Ways.{Step, Component, Element, OfVariable, OfHand, Loc, OfRoot, OfCell, Inside}
 use Rattle.part_offsets.specs.Parts.{type_in, offset_in, has_part, owns_one, is_leaf, IsSettled}
 use Rattle.part_offsets.proofs.Ranges.{both_parts, all_within, leaf_outside}
 use Rattle.part_offsets.proofs.Leaves.{leaf_at}
-use Rattle.soundness.specs.Seen.{Content, in_hand, content, trunk, steps_in}
+use Rattle.soundness.specs.Seen.{Content, in_hand, content, trunk, steps_in, is_view_formal}
 use Rattle.soundness.specs.Changes.{Alike, Put, hand, Stores, Takes}
 use Rattle.soundness.specs.Typed.{Matches, Kept, loc_of, IsMade, Spot}
 use Rattle.soundness.proofs.Joined.{not_inside, leaf_join, offset_join}
@@ -139,7 +139,7 @@ module _ (s : Typing) (m : Memory) where
   put_there : (hands : List Waiting) (b : Base) (slots : List Slot) (k : Loc) → trunk k ≡ k → (k ≡ loc_of b → ⊥)
       → content s (put b slots m) hands k ≡ content s m hands k
   put_there hands (memory.OfVariable f x) slots (OfRoot (OfVariable g y)) t ne =
-      ap (λ z. record { of = (object_at s y).of; slots = z; owns = not (is_in_formal s y) })
+      ap (λ z. record { of = (object_at s y).of; slots = z; owns = not (is_view_formal s y) })
       (put_other s f x g y (λ e. ne (ap OfRoot (sym e))) slots m.variables)
   put_there hands (memory.OfVariable f x) slots (OfRoot (OfHand h)) t ne = refl
   put_there hands (memory.OfVariable f x) slots (OfCell n) t ne = refl

@@ -18,12 +18,11 @@ use Rattle.machine.specs.Evaluate.{Here, Now, AsValue, Evaluated, Done, Raises, 
 use Rattle.machine.specs.Evaluate as run
 use Rattle.machine.specs.Step.{Stored}
 use Rattle.machine.specs.States.{Waiting, Leak}
-use Rattle.machine.specs.Owners.{is_in_formal}
 use Rattle.owned_ways.specs.Ways.{OfVariable, OfHand, Way, Object, Named, Allows, after, AllowsAll, Sound}
 use Rattle.owned_ways.specs.Ways as ways
 use Rattle.owned_ways.proofs.Assigned.{write_clean, named_rooted}
 use Rattle.part_offsets.specs.Parts.{IsSettled}
-use Rattle.soundness.specs.Seen.{seen, home, IsNear}
+use Rattle.soundness.specs.Seen.{seen, home, IsNear, is_view_formal}
 use Rattle.soundness.specs.Changes.{leaks_at}
 use Rattle.soundness.specs.Typed.{OwnsByShape, Kept}
 use Rattle.typed_laws.specs.Needed.{Leads, Gives, IndexLaw}
@@ -37,7 +36,7 @@ use Rattle.soundness.proofs.Evaluated.{regrouped, Keeps, Ready, Given, live_trun
 
 module _ (h : Here) (settled : IsSettled h.typing.table) (leaks : List Leak) (waits : List (List machine.Word)) (other : Way → Type 0)
     (alone : (w : Way) → IsNear h.frame w → other w → ⊥) (keeps : Keeps h.typing)
-    (no_formals : (x : ℕ) → is_in_formal h.typing x ≡ false) (index_law : IndexLaw) (own_law : OwnsByShape h.typing.table)
+    (no_formals : (x : ℕ) → is_view_formal h.typing x ≡ false) (index_law : IndexLaw) (own_law : OwnsByShape h.typing.table)
     (all_named : (t d : ℕ) (c n : Bool) → shape_of h.typing.table t ≡ shape.Access d c n → n ≡ true) where
   -- What it comes to: a state that is sound and typed once the value is stored after its leak
   -- checks, or an exception.

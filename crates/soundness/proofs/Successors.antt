@@ -1,5 +1,5 @@
 -- What instructions without calls take, the successors of points, and facts where nothing is moved.
-use Rattle.std.proofs.Common.{◌≡◌, refl, ap, ◌∙◌, ◌⊎◌, inl, inr, ℕ, zero, suc, ◌+◌, ◌<◌, Bool, true, false, not, ◌&&◌, List, [], ◌∷◌, length, arith, Some, None}
+use Rattle.std.proofs.Common.{◌≡◌, refl, sym, ap, ◌∙◌, ◌⊎◌, inl, inr, ℕ, zero, suc, ◌+◌, ◌<◌, Bool, true, false, not, ◌&&◌, List, [], ◌∷◌, length, arith, Some, None}
 use Rattle.std.specs.Prelude.{filter}
 use Rattle.spark_base.specs.Lists.{Has}
 use Rattle.spark_base.proofs.Lists.{Has-append_cases, Has-filter}
@@ -84,7 +84,7 @@ pub second_class : (program : FlowProgram) → IsFirstClass program → IsProced
 second_class program class = record {
   all_named = class.all_named;
   calls = λ sub has p there. nothing_procedures p.instr (class.no_calls sub has p there);
-  no_formals = class.no_formals;
+  formals = λ x is. (let no : true ≡ false = sym is ∙ class.no_formals x in cc);
 }
 
 pub finish_or : (i : Instruction) → (i ≡ Finish) ⊎ (i ≡ Finish → ⊥)

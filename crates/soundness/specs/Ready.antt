@@ -7,11 +7,11 @@ use Rattle.place_names.specs.declared.fact.Fact.TheVariants.{Moved}
 use Rattle.place_names.specs.Facts.{adds}
 use Rattle.place_names.specs.Names.{Name as PlaceName}
 use Rattle.type_definitions.specs.Types.{Table}
-use Rattle.typed_tree.specs.Trees.{TypedTree, Name}
+use Rattle.typed_tree.specs.Trees.{TypedTree, Name, More}
 use Rattle.typed_tree.specs.Programs.{TypedSub, TypedProgram}
 use Rattle.flow_paths.specs.declared.report.Effects.{Effects}
 use Rattle.flow_paths.specs.Instructions.{Instruction, Declare, Assign, Call, Input, Release, EndScope, Finish}
-use Rattle.flow_paths.specs.Objects.{is_package_object}
+use Rattle.flow_paths.specs.Objects.{Typing, is_formal, is_package_object}
 use Rattle.flow_paths.specs.Points.{NamedPoint, FlowPoint}
 use Rattle.flow_paths.specs.Laid.{FlowSub, FlowProgram, NamedSub, typing_of, flow_typing, flow_program, flow_named}
 use Rattle.flow_paths.specs.Paths.{ControlPath, facts_before}
@@ -19,6 +19,7 @@ use Rattle.flow_paths.specs.Effects.{path_points}
 use Rattle.flow_paths.specs.Scopes.{is_ready, is_within, is_settled}
 use Rattle.machine.specs.States.{sub_of}
 use Rattle.machine.specs.Run.{no_point}
+use Rattle.typed_laws.specs.Needed.{Stays}
 use Rattle.soundness.specs.Typed.{OwnsByShape}
 use Rattle.soundness.specs.Sound.{Accepted, IsProcedureClass, IsNamedSub, IsProcedure}
 
@@ -39,7 +40,7 @@ stored_at _ = []
 -- There are no temporaries, which hold the values of calls. Code is settled. At each point: the
 -- object that is declared isn't in scope, and the one whose scope ends is the last one in scope
 -- (`is_ready`); what is stored at is in scope or belongs to a package; the objects of packages have
--- no end of scope; and where a procedure ends nothing is in scope.
+-- no end of scope; and where a procedure ends its formals alone are in scope.
 pub record AreScoped (table : Table) (typed : TypedProgram) : Type 0 where
   pub objects : (flow_program table typed).objects ≡ typed.objects
   pub bodies : (sub : TypedSub) → Has typed.subs sub → is_settled (typing_of table typed) sub.body ≡ true
@@ -48,7 +49,8 @@ pub record AreScoped (table : Table) (typed : TypedProgram) : Type 0 where
       → (is_package_object (flow_typing (flow_program table typed)) x ≡ true) ⊎ (is_within x p.scope ≡ true)
   pub ends : (sub : NamedSub) → Has (flow_named table typed) sub → (p : NamedPoint) → Has sub.points p → (x : ℕ) → p.instr ≡ EndScope x
       → is_package_object (flow_typing (flow_program table typed)) x ≡ false
-  pub finishes : (sub : NamedSub) → Has (flow_named table typed) sub → (p : NamedPoint) → Has sub.points p → p.instr ≡ Finish → p.scope ≡ []
+  pub finishes : (sub : NamedSub) → Has (flow_named table typed) sub → (p : NamedPoint) → Has sub.points p → p.instr ≡ Finish
+      → (x : ℕ) → is_within x p.scope ≡ true → is_formal (flow_typing (flow_program table typed)) x ≡ true
 
 -- On each control path: where an object is declared, no fact says that a place in it was moved,
 -- neither before its initial value is evaluated nor then.
@@ -69,17 +71,23 @@ pub record AreElaborated (program : FlowProgram) : Type 0 where
 
 -- ---- calls
 
--- A subprogram that is called is a procedure without formals. (Where none is called, nothing is
--- asked of object 0, which is Ada.Text_IO.)
-pub record IsCalled (table : Table) (typed : TypedProgram) (n : ℕ) : Type 0 where
+-- Each actual that there is a formal for stays within what it names.
+abbrev pub AreActuals : Typing → List ℕ → TypedTree → Type 0
+AreActuals s (x ∷ formals) (More e rest) = Stays s e × AreActuals s formals rest
+AreActuals s formals actuals = Unit {0}
+
+-- A subprogram that is called is a procedure. (Where none is called, nothing is asked of object 0,
+-- which is Ada.Text_IO.)
+pub record IsCalled (table : Table) (typed : TypedProgram) (n : ℕ) (actuals : TypedTree) : Type 0 where
   pub procedure : IsProcedure table typed n
-  pub formals : (sub_of (flow_program table typed) n).formals ≡ []
+  pub formals : (x : ℕ) → Has (sub_of (flow_program table typed) n).formals x → is_formal (flow_typing (flow_program table typed)) x ≡ true
+  pub actuals_stay : AreActuals (flow_typing (flow_program table typed)) (sub_of (flow_program table typed) n).formals actuals
   pub text_io : is_package_object (flow_typing (flow_program table typed)) 0 ≡ false
 
 abbrev pub AreCalled : Table → TypedProgram → Type 0
 AreCalled table typed =
     (sub : FlowSub) → Has (flow_program table typed).subs sub → (p : FlowPoint) → Has sub.points p
-    → (n : ℕ) (actuals : TypedTree) (result : Option ℕ) → p.instr ≡ Call n actuals result → IsCalled table typed n
+    → (n : ℕ) (actuals : TypedTree) (result : Option ℕ) → p.instr ≡ Call n actuals result → IsCalled table typed n actuals
 
 -- ---- all of it
 

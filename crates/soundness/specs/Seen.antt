@@ -5,7 +5,7 @@
 -- number.
 use Rattle.std.specs.Prelude.{◌≡◌, ◌⊎◌, ℕ, suc, Bool, true, false, not, ◌&&◌, ◌==◌, List, [], ◌∷◌, length, get_or, if◌then◌else◌}
 use Rattle.std.specs.List.{list_any}
-use Rattle.type_definitions.specs.Types.{Table}
+use Rattle.type_definitions.specs.Types.{Table, is_owning}
 use Rattle.flow_paths.specs.Objects.{Typing, object_at, is_package_object}
 use Rattle.machine.specs.Words as machine
 use Rattle.machine.specs.Memory.{Slot, Memory, fresh, variable_slots, cell, no_slot}
@@ -23,10 +23,15 @@ pub record Content : Type 0 where
 abbrev pub in_hand : Waiting → Content
 in_hand v = record { of = v.of; slots = fresh v.words; owns = true }
 
+-- A formal of mode `in` of an owning type is a view: what it holds, the actual owns. One of another
+-- type has nothing that owns.
+abbrev pub is_view_formal : Typing → ℕ → Bool
+is_view_formal s x = is_in_formal s x && is_owning s.table (object_at s x).of
+
 -- The content of what a location is a part of.
 abbrev pub content : Typing → Memory → List Waiting → Loc → Content
 content s m hands (OfRoot (OfVariable f x)) =
-    record { of = (object_at s x).of; slots = variable_slots s f x m.variables; owns = not (is_in_formal s x) }
+    record { of = (object_at s x).of; slots = variable_slots s f x m.variables; owns = not (is_view_formal s x) }
 content s m hands (OfRoot (OfHand h)) = in_hand (waiting_at hands h)
 content s m hands (OfCell n) = record { of = (cell m n).of; slots = (cell m n).slots; owns = not (cell m n).freed }
 content s m hands (Inside l i) = content s m hands l

@@ -5,11 +5,11 @@ use Rattle.place_names.specs.declared.fact.Fact.{Fact}
 use Rattle.place_names.specs.declared.fact.Fact.TheVariants.{Moved}
 use Rattle.place_names.specs.Names.{Name as PlaceName, has_elem}
 use Rattle.type_definitions.specs.declared.table.Shape.TheVariants as shape
-use Rattle.type_definitions.specs.Types.{Table, shape_of}
+use Rattle.type_definitions.specs.Types.{Table, shape_of, full, is_scalar}
 use Rattle.typed_tree.specs.Programs.{TypedProgram}
 use Rattle.flow_paths.specs.declared.report.Effects.{Effects}
 use Rattle.flow_paths.specs.Instructions.{Instruction, Declare, Assign, Call, Output, Input, Release, Test, Choose, Start, Evaluate, LeaveLoop, Hold}
-use Rattle.flow_paths.specs.Objects.{Typing, is_formal, is_package_object}
+use Rattle.flow_paths.specs.Objects.{Typing, object_at, is_formal, is_package_object}
 use Rattle.flow_paths.specs.Names.{has_call}
 use Rattle.flow_paths.specs.Points.{NamedPoint, FlowPoint}
 use Rattle.flow_paths.specs.Laid.{FlowSub, FlowProgram, NamedSub, flow_typing, flow_program, flow_named}
@@ -20,9 +20,9 @@ use Rattle.flow_paths.specs.Scopes.{is_within}
 use Rattle.machine.specs.Memory.{Memory}
 use Rattle.machine.specs.States.{Frame, State, Ending, Trapped, Outcome, Goes, Ends, sub_of}
 use Rattle.machine.specs.Typed.{successors}
-use Rattle.machine.specs.Owners.{WellOwned, waiting_in}
+use Rattle.machine.specs.Owners.{is_in, WellOwned, waiting_in}
 use Rattle.machine.specs.Run.{step, main_of, run_of, moment}
-use Rattle.owned_ways.specs.Ways.{Root, Loc, OfRoot, Way, Object, Into, All, Held, View, Told, IsMoved, along, Step}
+use Rattle.owned_ways.specs.Ways.{OfRoot, Way, Held, View, Told, IsMoved, along, Step}
 use Rattle.owned_ways.specs.Ways as ways
 use Rattle.part_offsets.specs.Parts.{IsSettled}
 use Rattle.soundness.specs.Seen.{content, word_in, seen, home}
@@ -61,7 +61,7 @@ pub record IsFirstClass (program : FlowProgram) : Type 0 where
   pub no_calls : (sub : FlowSub) → Has program.subs sub → (p : FlowPoint) → Has sub.points p → calls_nothing p.instr ≡ true
   pub no_formals : (x : ℕ) → is_formal (flow_typing program) x ≡ false
 
--- The second class: procedures are called, too. They have no formals.
+-- The second class: procedures are called, too. Their formals are of mode `in` and of scalar types.
 abbrev pub calls_procedures : Instruction → Bool
 calls_procedures (Call sub actuals None) = not (has_call actuals)
 calls_procedures i = calls_nothing i
@@ -69,7 +69,8 @@ calls_procedures i = calls_nothing i
 pub record IsProcedureClass (program : FlowProgram) : Type 0 where
   pub all_named : (t d : ℕ) (constant named : Bool) → shape_of program.table t ≡ shape.Access d constant named → named ≡ true
   pub calls : (sub : FlowSub) → Has program.subs sub → (p : FlowPoint) → Has sub.points p → calls_procedures p.instr ≡ true
-  pub no_formals : (x : ℕ) → is_formal (flow_typing program) x ≡ false
+  pub formals : (x : ℕ) → is_formal (flow_typing program) x ≡ true
+      → (is_in (object_at (flow_typing program) x).mode ≡ true) × (is_scalar (full program.table (object_at (flow_typing program) x).of) ≡ true)
 
 -- The subprogram of the layout with a number, and the point there with a number.
 abbrev pub IsNamedSub : List NamedSub → ℕ → NamedSub → Type 0
@@ -156,27 +157,6 @@ AreRunning table typed effects m (e ∷ []) = (e.frame.sub ≡ 0) × IsPlain e
 AreRunning table typed effects m (top ∷ (g ∷ older)) =
     IsProcedure table typed top.frame.sub × IsPlain top × AreCallers table typed effects m top.frame.sub (g ∷ older)
 
--- ---- views, which programs of the first class have none of
-
--- A borrower, an observer or an `in` formal with a value has one way of owners to the cell that it
--- holds.
-abbrev pub Views : Type 0
-Views = Root → Option Way
-
--- A name rooted in one is just that way, gone on.
-abbrev pub expand_root : Option Way → Root → Way
-expand_root None r = Object r
-expand_root (Some w) r = w
-
-abbrev pub expand : Views → Way → Way
-expand env (Object r) = Object r
-expand env (ways.Lost n) = ways.Lost n
-expand env (Into w i) = Into (expand env w) i
-expand env (All (Object r)) = expand_root (env r) r
-expand env (All (Into w i)) = All (expand env (Into w i))
-expand env (All (All w)) = All (expand env (All w))
-expand env (All (ways.Lost n)) = All (ways.Lost n)
-
 -- ---- what holds
 
 -- What is in hand between two steps is what waits in the frames.
@@ -216,8 +196,8 @@ pub record IsSound (table : Table) (typed : TypedProgram) (effects : Effects) (s
   pub at_point : IsAtPoint named.points top.frame.next point
   pub scope : InScope (flow_typing (flow_program table typed)) state.memory top.depth point.scope
 
--- What excused leak checks need beside: what a fact without `Elem` calls moved is gone. (For the
--- first class, `exact_facts` shows that steps keep it. It is no part of what is sound.)
+-- What excused leak checks need beside: what a fact without `Elem` calls moved is gone. It is no part
+-- of what is sound; `exact_facts` shows of programs of the first class that steps keep it.
 abbrev pub AreExact : (table : Table) (typed : TypedProgram) (effects : Effects) (state : State) → IsSound table typed effects state → Type 0
 AreExact table typed effects state sound =
     Told (view_of (flow_typing (flow_program table typed)) state)

@@ -24,12 +24,11 @@ use Rattle.machine.specs.Evaluate.{Here, Now, AsValue, part_type, parts_of, Eval
 use Rattle.machine.specs.Evaluate as run
 use Rattle.machine.specs.Typed.{tree_count, field_count, is_record, is_array}
 use Rattle.machine.specs.States.{Waiting, Leak}
-use Rattle.machine.specs.Owners.{is_in_formal}
 use Rattle.owned_ways.specs.Ways.{Step, OfVariable, OfHand, Loc, OfRoot, OfCell, Inside, Way, Object, Lost, Into, All, Word, Empty, Reaches, IsRooted, Named, Spares, Allows, after, AllowsAll, Owned, IsSame, number_of}
 use Rattle.owned_ways.specs.Ways as ways
 use Rattle.owned_ways.proofs.Assigned.{named_rooted}
 use Rattle.part_offsets.specs.Parts.{type_in, offset_in, has_part, owns_one, is_leaf, IsSettled}
-use Rattle.soundness.specs.Seen.{in_hand, owner_word, content, trunk, word_in, seen, home}
+use Rattle.soundness.specs.Seen.{in_hand, owner_word, content, trunk, word_in, seen, home, is_view_formal}
 use Rattle.soundness.specs.Changes.{Alike as AlikeTypes}
 use Rattle.soundness.specs.Typed.{Matches, OwnsByShape, Kept, Spot}
 use Rattle.typed_laws.specs.Needed.{Stays, Gives, GivesParts, GivesFirst, IndexLaw}
@@ -75,7 +74,7 @@ part_named table named t i (shape.Same of) e made = cc
 
 module _ (h : Here) (settled : IsSettled h.typing.table) (leaks : List Leak) (waits : List (List machine.Word)) (other : Way → Type 0)
     (alone : (w : Way) → other w → ⊥) (keeps : Keeps h.typing)
-    (no_formals : (x : ℕ) → is_in_formal h.typing x ≡ false) (index_law : IndexLaw) (own_law : OwnsByShape h.typing.table)
+    (no_formals : (x : ℕ) → is_view_formal h.typing x ≡ false) (index_law : IndexLaw) (own_law : OwnsByShape h.typing.table)
     (v : Views) (parts_named : PartsAreNamed h.typing.table) where
   pub record Ready (m : Memory) (hands : List Waiting) (facts : List Fact) : Type 0 where
     pub viewed : Viewed (home h.typing h.frame) (is_observer h.typing) other v (seen h.typing m hands leaks) facts

@@ -18,12 +18,11 @@ use Rattle.machine.specs.Evaluate.{Here, Now, AsValue, Evaluated, Done, Raises, 
 use Rattle.machine.specs.Evaluate as run
 use Rattle.machine.specs.Step.{Stored}
 use Rattle.machine.specs.States.{Waiting, Leak}
-use Rattle.machine.specs.Owners.{is_in_formal}
 use Rattle.owned_ways.specs.Ways.{Root, OfVariable, Loc, OfRoot, Way, Object, Named, Allows, after, AllowsAll, number_of}
 use Rattle.owned_ways.specs.Ways as ways
 use Rattle.owned_ways.proofs.Assigned.{named_rooted}
 use Rattle.part_offsets.specs.Parts.{type_in, has_part, IsSettled}
-use Rattle.soundness.specs.Seen.{content, trunk, steps_in, seen, home}
+use Rattle.soundness.specs.Seen.{content, trunk, steps_in, seen, home, is_view_formal}
 use Rattle.soundness.specs.Changes.{leaks_at}
 use Rattle.soundness.specs.Typed.{Matches, OwnsByShape, Kept, Spot, loc_of}
 use Rattle.typed_laws.specs.Needed.{Leads, Gives, IndexLaw}
@@ -48,7 +47,7 @@ other_base f x g y e = (let a : f ≡ g = cc in let b : x ≡ y = cc in cc)
 
 module _ (h : Here) (settled : IsSettled h.typing.table) (leaks : List Leak) (waits : List (List machine.Word)) (other : Way → Type 0)
     (alone : (w : Way) → other w → ⊥) (keeps : Keeps h.typing)
-    (no_formals : (x : ℕ) → is_in_formal h.typing x ≡ false) (index_law : IndexLaw) (own_law : OwnsByShape h.typing.table)
+    (no_formals : (x : ℕ) → is_view_formal h.typing x ≡ false) (index_law : IndexLaw) (own_law : OwnsByShape h.typing.table)
     (v : Views) (parts_named : PartsAreNamed h.typing.table) where
   -- What it comes to: a state that is sound and typed once the value is stored after its leak
   -- checks, or an exception.
@@ -62,7 +61,7 @@ module _ (h : Here) (settled : IsSettled h.typing.table) (leaks : List Leak) (wa
   Assigns hands facts (Traps t n) = ⊥
 
   -- no place of a named type is in the variable of a view
-  no_view_place : (m : Memory) (hands : List Waiting) (t : ℕ) (k : Place) (l : Loc) → IsNamed h.typing.table t → k.of ≡ t → Spot h.typing m hands k l
+  pub no_view_place : (m : Memory) (hands : List Waiting) (t : ℕ) (k : Place) (l : Loc) → IsNamed h.typing.table t → k.of ≡ t → Spot h.typing m hands k l
       → (y : ℕ) → is_anonymous (view_of h.typing y) ≡ true → k.base ≡ memory.OfVariable (home h.typing h.frame y) y → ⊥
   no_view_place m hands t k l named of spot y view base =
       let root : trunk l ≡ OfRoot (OfVariable (home h.typing h.frame y) y) = spot.base ∙ ap loc_of base in
@@ -76,7 +75,7 @@ module _ (h : Here) (settled : IsSettled h.typing.table) (leaks : List Leak) (wa
       not_view h.typing.table (object_at h.typing y).of view (matches_named h.typing.table k.of (object_at h.typing y).of fits (subst (IsNamed h.typing.table) (sym of) named))
 
   -- a store elsewhere leaves what the variables of views have
-  holds_stored : (m : Memory) (k : Place) (ws : List machine.Word)
+  pub holds_stored : (m : Memory) (k : Place) (ws : List machine.Word)
       → ((y : ℕ) → is_anonymous (view_of h.typing y) ≡ true → k.base ≡ memory.OfVariable (home h.typing h.frame y) y → ⊥)
       → Holds h.typing h.frame v m → Holds h.typing h.frame v (stored h.typing k ws m)
   holds_stored m k ws off holds = record {

@@ -1,0 +1,79 @@
+-- The actuals of typed calls stay within what they name; and where no object is a formal, there is
+-- nothing to ask.
+use Rattle.std.proofs.Common.{◌≡◌, refl, sym, ap, ◌∙◌, subst, inl, inr, ℕ, Bool, true, false, List, [], ◌∷◌}
+use Rattle.spark_base.specs.Lists.{Has}
+use Rattle.place_names.specs.declared.act.Mode.{Mode}
+use Rattle.place_names.specs.declared.act.Mode.TheVariants as mode
+use Rattle.type_definitions.specs.declared.table.Shape.{Shape}
+use Rattle.type_definitions.specs.declared.table.Shape.TheVariants as shape
+use Rattle.type_definitions.specs.Entries.{integer, boolean}
+use Rattle.type_definitions.specs.Types.{shape_of, words, words_of, full, view_of, is_scalar}
+use Rattle.typed_tree.specs.Trees.{TypedTree, Name, Call, Parens, More}
+use Rattle.flow_paths.specs.Objects.{Typing, Signature, object_at, sub_at, is_formal}
+use Rattle.flow_paths.specs.Laid.{FlowProgram, flow_typing}
+use Rattle.machine.specs.States.{sub_of}
+use Rattle.machine.specs.Owners.{is_in}
+use Rattle.typed_laws.specs.Fine.{counts, lists}
+use Rattle.typed_laws.specs.Needed.{Stays}
+use Rattle.typed_laws.proofs.Sound.{stays}
+use Rattle.typed_steps.specs.Steps.{IsViewed, Taken, IsActual, ActualsTaken, IsTypedStep, AreTyped}
+use Rattle.soundness.specs.Sound.{IsProcedureClass}
+use Rattle.soundness.specs.Ready.{AreActuals}
+use Rattle.soundness.proofs.Passing.{signature_there}
+use Rattle.ready_laws.specs.InOrder.{ArePassed}
+
+-- an access type isn't scalar
+no_access : (z : Shape) (d : ℕ) (c n : Bool) → z ≡ shape.Access d c n → is_scalar (view_of z) ≡ true → ⊥
+no_access z d c n e plain = (let g = ap (λ x. is_scalar (view_of x)) e in cc)
+
+module _ (y : Typing) (whole : counts (shape_of y.table integer) ≡ true) (listed : lists (shape_of y.table boolean) ≡ true)
+    (word_law : (t : ℕ) → words y.table t ≡ words_of (words y.table) (shape_of y.table t)) where
+  -- what is looked at is of an access type
+  viewed : (want : ℕ) (e : TypedTree) → is_scalar (full y.table want) ≡ true → IsViewed y want e → ⊥
+  viewed want (Name p x steps t) plain (leads, (d, k, c, n, i, m, is, shaped, agree)) = no_access (shape_of y.table want) k i m shaped plain
+  viewed want (Call p sub actuals) plain (t, result, (d, k, c, n, i, m, is, shaped, agree)) = no_access (shape_of y.table want) k i m shaped plain
+  viewed want (Parens e) plain view = viewed want e plain view
+  viewed want e plain view = view
+
+  taken_stays : (want : ℕ) (e : TypedTree) → is_scalar (full y.table want) ≡ true → Taken y want e → Stays y e
+  taken_stays want e plain (inl has) = stays y whole listed word_law e want has plain
+  taken_stays want e plain (inr view) = absurd (viewed want e plain view)
+
+  abbrev IsPlain : ℕ → Type 0
+  IsPlain x = (is_in (object_at y x).mode ≡ true) × (is_scalar (full y.table (object_at y x).of) ≡ true)
+
+  actual_stays : (x : ℕ) (e : TypedTree) → IsPlain x → IsActual y x e → Stays y e
+  actual_stays x e plain actual = by_mode (object_at y x).mode refl actual
+    where
+      by_mode : (m : Mode) → (object_at y x).mode ≡ m → IsActual y x e → Stays y e
+      by_mode mode.In is g = taken_stays (object_at y x).of e plain.1 (rw is at g)
+      by_mode mode.Out is g = (let no : false ≡ true = sym (ap is_in is) ∙ plain.0 in cc)
+      by_mode mode.InOut is g = (let no : false ≡ true = sym (ap is_in is) ∙ plain.0 in cc)
+
+  actuals_stay : (formals : List ℕ) (actuals : TypedTree) → ((x : ℕ) → Has formals x → IsPlain x) → ActualsTaken y formals actuals → AreActuals y formals actuals
+  actuals_stay (x ∷ formals) (More e rest) plain (one, others) =
+      (actual_stays x e (plain x (inl refl)) one, actuals_stay formals rest (λ z has. plain z (inr has)) others)
+  actuals_stay [] actuals plain taken = tt
+  actuals_stay (x ∷ formals) actuals plain taken = absurd taken
+
+module _ (program : FlowProgram) where
+  abbrev s : Typing
+  s = flow_typing program
+
+  -- where typing finds no fault
+  pub typed_passed : IsProcedureClass program → counts (shape_of program.table integer) ≡ true → lists (shape_of program.table boolean) ≡ true
+      → ((t : ℕ) → words program.table t ≡ words_of (words program.table) (shape_of program.table t)) → AreTyped program → ArePassed program
+  typed_passed class whole listed word_law typed sub has p there n actuals result is known =
+      let call = subst (λ i. IsTypedStep (flow_typing program) sub.result i) is (typed sub has p there) in
+      let same : (sub_at (flow_typing program) n).formals ≡ (sub_of program n).formals = ap (λ (z : Signature). z.formals) (signature_there program.subs n) in
+      subst (λ fs. AreActuals (flow_typing program) fs actuals) same
+      (actuals_stay (flow_typing program) whole listed word_law (sub_at (flow_typing program) n).formals actuals
+      (λ x formal. class.formals x (known x (subst (λ fs. Has fs x) same formal))) call.0)
+
+  -- where there are no formals
+  pub formless_passed : ((x : ℕ) → is_formal (flow_typing program) x ≡ false) → ArePassed program
+  formless_passed none sub has p there n actuals result is known = by_formals (sub_of program n).formals known
+    where
+      by_formals : (formals : List ℕ) → ((x : ℕ) → Has formals x → is_formal (flow_typing program) x ≡ true) → AreActuals (flow_typing program) formals actuals
+      by_formals [] known = tt
+      by_formals (x ∷ formals) known = absurd (let no : true ≡ false = sym (known x (inl refl)) ∙ none x in cc)
