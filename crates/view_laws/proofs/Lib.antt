@@ -5,3 +5,4 @@ pub mod Packages
 pub mod Facts
 pub mod Scoped
 pub mod Points
+pub mod Ready

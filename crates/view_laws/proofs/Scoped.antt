@@ -210,11 +210,15 @@ module _ (table : Table) (typed : TypedProgram) (effects : Effects) (given : IsV
     | inr b ↦ ap (λ z. is_package_object z x) same ∙ ((body_is_ordered named b p there).ends x is).1
   ]
 
-  finishes_there : (named : NamedSub) → Has (flow_named table typed) named → (p : NamedPoint) → Has named.points p → p.instr ≡ Finish → p.scope ≡ []
-  finishes_there named has p there is = elim (cases named has) [
+  finishes_there : (named : NamedSub) → Has (flow_named table typed) named → (p : NamedPoint) → Has named.points p → p.instr ≡ Finish
+      → (x : ℕ) → is_within x p.scope ≡ true → is_formal s x ≡ true
+  finishes_there named has p there is x within = elim (cases named has) [
     | inl e ↦ (let declared = declares named e p there (calls_there named has p there) in absurd (no_finish p.instr declared.0 declared.1 declared.2 is))
-    | inr b ↦ (body_is_ordered named b p there).finishes is ∙ ap reverse (no_formals b.0 b.1)
+    | inr b ↦ absurd (none_within x (subst (λ z. is_within x z ≡ true) ((body_is_ordered named b p there).finishes is ∙ ap reverse (no_formals b.0 b.1)) within))
   ]
+    where
+      none_within : (x : ℕ) → is_within x [] ≡ true → ⊥
+      none_within x e = cc
 
   pub are_scoped : AreScoped table typed
   are_scoped = record {
@@ -315,11 +319,11 @@ module _ (table : Table) (typed : TypedProgram) (effects : Effects) (given : IsV
   pub packages_stand : IsNamedSub (flow_named table typed) 0 packages
   packages_stand = ([], named_subs own (length own.objects) given.order.rest, ap (all_named own) given.order.subs, refl)
 
-  packages_in : Has (flow_named table typed) packages
+  pub packages_in : Has (flow_named table typed) packages
   packages_in = named_has (flow_named table typed) 0 packages packages_stand
 
   -- a point of the package objects, by name
-  package_point : (p : FlowPoint) → Has (sub_of program 0).points p → (q : NamedPoint) × Has packages.points q × (flow_at own packages q ≡ p)
+  pub package_point : (p : FlowPoint) → Has (sub_of program 0).points p → (q : NamedPoint) × Has packages.points q × (flow_at own packages q ≡ p)
   package_point p has =
       Has-map_from (λ (q : NamedPoint). flow_at own packages q) packages.points p
       (subst (λ (z : FlowSub). Has z.points p) (sub_there table typed 0 packages packages_stand) has)
