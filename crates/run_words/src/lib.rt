@@ -12,8 +12,10 @@
 
 mod operators;
 mod places;
+mod quick;
 mod words;
 
 pub use operators::within;
 pub use places::spot;
+pub use quick::evaluate;
 pub use words::{operand, word};
