@@ -8,8 +8,8 @@
 //! of the frame, and a word of the cell that one designates. `evaluate` gives the same too: it tries
 //! these and operators on them at first, whose words fit into registers, since why there is none isn't
 //! said (`quick`); where that gives no word, `word` answers. `spot` finds a place in the same way
-//! ("places" there): the indexes of its name come first. No call takes memory, and each node is
-//! visited a fixed number of times at most.
+//! ("places" there): the indexes of its name come first. No call takes memory. `evaluate` visits each
+//! node three times more than `word` at most.
 #![tactic(auto)]
 
 mod operators;
