@@ -7,3 +7,5 @@ pub mod Lent
 pub mod Placed
 pub mod Ended
 pub mod Sources
+pub mod Stepping
+pub mod Main
