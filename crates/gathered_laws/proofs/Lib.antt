@@ -4,6 +4,7 @@ pub mod Main
 pub mod Nodes
 pub mod DefinedKinds
 pub mod Plain
+pub mod Views
 pub mod Put
 pub mod Walk
 pub mod Bounded
@@ -12,5 +13,6 @@ pub mod Agreed
 pub mod Declared
 pub mod Entries
 pub mod Sentences
+pub mod Parts
 pub mod Components
 pub mod Laws
