@@ -19,7 +19,7 @@ inner_at : (n m : ℕ) (xs : List ℕ) → n ≡ m → AreInner n xs → AreInne
 inner_at n m xs e h = subst (λ k. AreInner k xs) e h
 
 inner_both : (n : ℕ) (xs ys : List ℕ) → AreInner n xs → AreInner (n + length xs) ys → AreInner n (xs ++ ys)
-inner_both n [] ys h g = inner_at (n + length []) n ys (omega arith) g
+inner_both n [] ys h g = inner_at (n + 0) n ys (omega arith) g
 inner_both n (x ∷ xs) ys h g = (h.0, inner_both (suc n) xs ys h.1 (inner_at (n + length (x ∷ xs)) (suc n + length xs) ys (omega arith) g))
 
 two : (n k l : ℕ) (xs ys : List ℕ) → Counted n k xs → Counted (n + k) l ys → Counted n (k + l) (xs ++ ys)
