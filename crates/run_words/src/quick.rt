@@ -81,13 +81,7 @@ fn leaf(nodes: &Nodes, memory: &Memory, n: u32) -> Option<i64>
 /// An operator with two such operands.
 #[inline(always)]
 #[tactic(auto, unfolding(run_codes::specs::Flat::word))]
-fn leaves(
-    nodes: &Nodes,
-    memory: &Memory,
-    operator: Operator,
-    left: u32,
-    right: u32,
-) -> Option<i64>
+fn leaves(nodes: &Nodes, memory: &Memory, operator: Operator, left: u32, right: u32) -> Option<i64>
     requires left { left < length nodes.now }
     requires right { right < length nodes.now }
     requires whole { is_broken (word (flat memory.now) (Binary operator (code_at nodes.now left) (code_at nodes.now right))) ≡ false }
@@ -163,13 +157,7 @@ fn simple(nodes: &Nodes, memory: &Memory, n: u32) -> Option<i64>
 /// An operator with two operands.
 #[cycle(quick)]
 #[tactic(auto, unfolding(run_codes::specs::Flat::word))]
-fn binary(
-    nodes: &Nodes,
-    memory: &Memory,
-    operator: Operator,
-    left: u32,
-    right: u32,
-) -> Option<i64>
+fn binary(nodes: &Nodes, memory: &Memory, operator: Operator, left: u32, right: u32) -> Option<i64>
     requires left { left < length nodes.now }
     requires right { right < length nodes.now }
     requires whole { is_broken (word (flat memory.now) (Binary operator (code_at nodes.now left) (code_at nodes.now right))) ≡ false }
