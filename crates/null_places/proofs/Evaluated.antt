@@ -1,0 +1,256 @@
+-- Expressions without calls give the same in memories that agree, and what they move is gone in
+-- both.
+use Rattle.std.proofs.Common.{◌≡◌, refl, sym, ap, ◌∙◌, subst, inl, inr, ℕ, suc, ◌+◌, Bool, true, false, List, [], ◌∷◌, ◌++◌, length, append-nil, if◌then◌else◌}
+use Rattle.std.specs.Prelude.{nat_le}
+use Rattle.place_names.specs.declared.act.Act.TheVariants as act
+use Rattle.place_names.specs.declared.fact.Fact.{Fact}
+use Rattle.place_names.specs.Names.{Name as PlaceName}
+use Rattle.type_definitions.specs.declared.table.Shape.TheVariants as shape
+use Rattle.type_definitions.specs.Types.{shape_of, is_owning, parts}
+use Rattle.typed_tree.specs.Trees.{TypedTree, Number, Literal, Name, Call, EndOfFile, Parens, Unary, Binary, Short, IsNull, Aggregate, Alike, New, NoMore, More}
+use Rattle.typed_tree.specs.Trees as typed
+use Rattle.flow_paths.specs.Objects.{object_at}
+use Rattle.flow_paths.specs.Names.{has_call, name_of}
+use Rattle.flow_paths.specs.Acts.{used, acts_in}
+use Rattle.machine.specs.Words.{default, fits_type}
+use Rattle.machine.specs.Words as machine
+use Rattle.machine.specs.Memory.{Memory, Place, slots_of, moved_out, with_new_cell, live_words}
+use Rattle.machine.specs.Evaluate.{Here, Now, AsValue, part_type, parts_of, Evaluated, Done, Raises, Traps, followed_by, evaluate, steps_of, initial, checked, allocated, variable_place, walked, held_or_taken, taken, heap_words, StorageError}
+use Rattle.machine.specs.Evaluate as run
+use Rattle.machine.specs.States.{Waiting, Leak}
+use Rattle.owned_ways.specs.Ways.{OfVariable, Loc, Way, Object, Reaches, Named, Excused, Allows, after, AllowsAll, along}
+use Rattle.owned_ways.specs.Ways as ways
+use Rattle.owned_ways.proofs.Assigned.{move_way, move_clean, named_rooted}
+use Rattle.owned_ways.proofs.Locations.{under_along, under_itself}
+use Rattle.part_offsets.specs.Parts.{IsSettled}
+use Rattle.soundness.specs.Seen.{home, IsNear, is_view_formal}
+use Rattle.soundness.specs.Typed.{OwnsByShape}
+use Rattle.typed_laws.specs.Needed.{Stays, Leads, Gives, GivesParts, GivesFirst, IndexLaw}
+use Rattle.soundness.proofs.Near.{named_near, near_along}
+use Rattle.soundness.proofs.Walks.{way_along, Walked}
+use Rattle.soundness.proofs.Scalars.{allows_both, acts, acts_append, read_way, number_along, named_along}
+use Rattle.soundness.proofs.Stays.{Goes, steps_quiet}
+use Rattle.soundness.proofs.Waits.{or_both}
+use Rattle.soundness.proofs.Evaluated.{Keeps, Ready, Given, regrouped, live_trunk, checked_given, evaluated}
+use Rattle.null_places.specs.Compares.{Compares}
+use Rattle.null_places.proofs.Memories.{NoneGone, words_agree, moved_agree, made_agree, room_agree, count_agree}
+use Rattle.null_places.proofs.Only.{OnlyOwners, made_only}
+use Rattle.null_places.proofs.Places.{spot_whole, plain_whole, unmoved_whole, moved_only}
+use Rattle.null_places.proofs.Walks.{SameNow, SameTo, then_same, simply}
+use Rattle.null_places.proofs.Scalars.{copy_same, place_then, scalar_same, steps_same}
+
+module _ (h : Here) (settled : IsSettled h.typing.table) (leaks : List Leak) (waits : List (List machine.Word)) (other : Way → Type 0)
+    (alone : (w : Way) → IsNear h.frame w → other w → ⊥) (keeps : Keeps h.typing)
+    (no_formals : (x : ℕ) → is_view_formal h.typing x ≡ false) (index_law : IndexLaw) (own_law : OwnsByShape h.typing.table)
+    (all_named : (t d : ℕ) (c n : Bool) → shape_of h.typing.table t ≡ shape.Access d c n → n ≡ true) where
+  abbrev ReadyIn : Memory → List Waiting → List Fact → Type 0
+  ReadyIn m hands facts = Ready h settled leaks waits other alone keeps no_formals index_law own_law all_named m hands facts
+
+  abbrev GivenIn : ℕ → List Waiting → List Fact → Evaluated (List machine.Word) → Type 0
+  GivenIn want hands facts x = Given h settled leaks waits other alone keeps no_formals index_law own_law all_named want hands facts x
+
+  abbrev Same : {A : Type 0} → Evaluated A → Evaluated A → Type 0
+  Same x y = SameTo h.typing x y
+
+  pub checked_same : (t : ℕ) (x y : Evaluated (List machine.Word)) → Same x y → Same (followed_by x (checked h t)) (followed_by y (checked h t))
+  checked_same t x y same = simply h.typing x y (checked h t) (checked h t) same (λ ws n n' now. by_test ws n n' now (fits_type h.typing.table t ws))
+    where
+      by_test : (ws : List machine.Word) (n n' : Now) → SameNow h.typing n n' → (b : Bool)
+          → SameTo h.typing (if b then Done ws n else Raises run.ConstraintError n) (if b then Done ws n' else Raises run.ConstraintError n')
+      by_test ws n n' now true = (refl, now)
+      by_test ws n n' now false = (refl, now)
+
+  allocated_same : (t : ℕ) (x y : Evaluated (List machine.Word)) → Same x y → Same (followed_by x (allocated t)) (followed_by y (allocated t))
+  allocated_same t x y same =
+      simply h.typing x y (allocated t) (allocated t) same (λ ws n n' now.
+      subst (λ k. SameTo h.typing (allocated t ws n)
+      (if nat_le (k + length ws) heap_words
+      then Done (machine.Cell (suc (length n'.memory.cells)) ∷ []) (record n' { memory = with_new_cell t ws n'.memory })
+      else Raises StorageError n')) (room_agree n.memory n'.memory now.0) (by_test ws n n' now (nat_le (live_words n.memory + length ws) heap_words)))
+    where
+      by_test : (ws : List machine.Word) (n n' : Now) → SameNow h.typing n n' → (b : Bool)
+          → SameTo h.typing (if b then Done (machine.Cell (suc (length n.memory.cells)) ∷ []) (record n { memory = with_new_cell t ws n.memory }) else Raises StorageError n)
+          (if b then Done (machine.Cell (suc (length n'.memory.cells)) ∷ []) (record n' { memory = with_new_cell t ws n'.memory }) else Raises StorageError n')
+      by_test ws n n' now true = (
+        ap (λ k. machine.Cell (suc k) ∷ []) (count_agree n.memory n'.memory now.0),
+        (made_agree t ws n.memory n'.memory now.0, now.1, made_only h.typing n.memory now.2 t ws),
+      )
+      by_test ws n n' now false = (refl, now)
+
+  -- ---- names
+
+  module _ (m : Memory) (hands : List Waiting) (facts : List Fact) (ready : ReadyIn m hands facts) (only : OnlyOwners h.typing m) (x : ℕ) (steps : TypedTree) (t : ℕ) where
+    abbrev at : Now
+    at = record { memory = m; waits = waits }
+
+    abbrev first_way : Way
+    first_way = Object (OfVariable (home h.typing h.frame x) x)
+
+    abbrev WalkedTo : List run.Step → Evaluated Place → Type 0
+    WalkedTo way y = Walked h.typing settled hands leaks m waits (way_along way first_way) t y
+
+    -- what a place has is taken, where its type owns
+    owner_same : is_owning h.typing.table t ≡ true → Allows facts (act.Move (name_of x steps) (parts h.typing.table t))
+        → (way : List run.Step) → Goes h.typing.table (object_at h.typing x).of t steps way → (k : Place) (n n' : Now) → WalkedTo way (Done k n) → SameNow h.typing n n'
+        → Same (held_or_taken h AsValue k n) (held_or_taken h AsValue k n')
+    owner_same owns allowed way goes k n n' (l, is, spot, reaches, of) same =
+        subst (λ z. SameNow h.typing z n' → SameTo h.typing (taken h k z) (taken h k n')) (sym is) (λ now. (
+          words_agree h.typing m n'.memory now.0 k none,
+          subst (λ b. SameNow h.typing (if b then record at { memory = moved_out h.typing k m } else at) (if b then record n' { memory = moved_out h.typing k n'.memory } else n'))
+              (sym (ap (is_owning h.typing.table) of ∙ owns))
+              (moved_agree h.typing k m n'.memory now.0, now.1, moved_only h.typing settled m hands only ready.kept k l spot),
+        )) same
+      where
+        w : Way
+        w = way_along way first_way
+
+        named : Named (home h.typing h.frame) (way_along way first_way)
+        named = named_along (home h.typing h.frame) way first_way refl
+
+        called_so : ways.name_of (way_along way first_way) ≡ name_of x steps
+        called_so = (λ j. record { root = number_along way first_way j; sels = goes.sels first_way j })
+
+        moves : Allows facts (act.Move (ways.name_of (way_along way first_way)) (parts h.typing.table t))
+        moves = subst (λ z. Allows facts (act.Move z (parts h.typing.table t))) (sym called_so) allowed
+
+        clean : (p : List ways.Step) → Excused (home h.typing h.frame) other facts (along (way_along way first_way) p) → ⊥
+        clean p (inl moved) =
+            move_clean (home h.typing h.frame) facts w (parts h.typing.table t) moves (along w p) (under_along w w p (under_itself w)) moved
+        clean p (inr o) = alone (along w p) (near_along h.frame w p (named_near h.typing h.frame w named)) o
+
+        none : NoneGone (slots_of h.typing m k)
+        none =
+            spot_whole h.typing settled m hands only ready.kept k l spot
+            (unmoved_whole h.typing settled m hands leaks (Excused (home h.typing h.frame) other facts) ready.sound.known w l (named_rooted (home h.typing h.frame) w named) reaches
+            (live_trunk h settled leaks waits other alone keeps no_formals index_law own_law all_named m hands ready.sound.owned w l
+            (named_rooted (home h.typing h.frame) w named) reaches) clean)
+
+    -- a copy of what doesn't own
+    plain_same : is_owning h.typing.table t ≡ false → (way : List run.Step) → (k : Place) (n n' : Now) → WalkedTo way (Done k n) → SameNow h.typing n n'
+        → Same (held_or_taken h AsValue k n) (held_or_taken h AsValue k n')
+    plain_same plain way k n n' (l, is, spot, reaches, of) same =
+        let own : is_owning h.typing.table k.of ≡ false = ap (is_owning h.typing.table) of ∙ plain in
+        copy_same h k n n' (subst (λ (z : Now). NoneGone (slots_of h.typing z.memory k)) (sym is)
+        (spot_whole h.typing settled m hands only ready.kept k l spot (plain_whole h.typing settled m hands k l spot (keeps.ownerless k.of own)))) own same
+
+    -- a name that is moved, or read
+    name_by : (lead : Leads h.typing (object_at h.typing x).of steps t) → has_call steps ≡ false → Compares h.typing steps
+        → AllowsAll facts (acts (acts_in h.typing steps)) → Allows facts (used h.typing (name_of x steps) t) → (b : Bool) → is_owning h.typing.table t ≡ b
+        → (n' : Now) → SameNow h.typing at n'
+        → Same (followed_by (steps_of h steps at) (λ way now. followed_by (walked h.typing way (variable_place h x) now) (held_or_taken h AsValue)))
+        (followed_by (steps_of h steps n') (λ way now. followed_by (walked h.typing way (variable_place h x) now) (held_or_taken h AsValue)))
+    name_by lead calls compares allowed mine true owns n' same =
+        let is : used h.typing (name_of x steps) t ≡ act.Move (name_of x steps) (parts h.typing.table t) =
+        ap (λ b. if b then act.Move (name_of x steps) (parts h.typing.table t) else act.Read (name_of x steps)) owns in
+        let moves : Allows facts (act.Move (name_of x steps) (parts h.typing.table t)) = subst (Allows facts) is mine in
+        let live = live_trunk h settled leaks waits other alone keeps no_formals index_law own_law all_named m hands ready.sound.owned in
+        place_then h settled hands leaks m waits other facts ready.kept ready.sound alone live index_law own_law all_named only x t steps
+        (held_or_taken h AsValue) (held_or_taken h AsValue)
+        (λ w named same_name v past moved. move_way (home h.typing h.frame) facts w (parts h.typing.table t)
+        (subst (λ z. Allows facts (act.Move z (parts h.typing.table t))) (sym same_name) moves) v past moved)
+        (steps_quiet h settled hands leaks m waits other facts ready.kept ready.sound alone live index_law own_law all_named (object_at h.typing x).of t steps lead calls allowed).0
+        n' (steps_same h settled hands leaks m waits other facts ready.kept ready.sound alone live index_law own_law all_named only
+        (object_at h.typing x).of t steps lead calls compares allowed n' same)
+        (owner_same owns moves)
+    name_by lead calls compares allowed mine false owns n' same =
+        let is : used h.typing (name_of x steps) t ≡ act.Read (name_of x steps) =
+        ap (λ b. if b then act.Move (name_of x steps) (parts h.typing.table t) else act.Read (name_of x steps)) owns in
+        let reads : Allows facts (act.Read (name_of x steps)) = subst (Allows facts) is mine in
+        let live = live_trunk h settled leaks waits other alone keeps no_formals index_law own_law all_named m hands ready.sound.owned in
+        place_then h settled hands leaks m waits other facts ready.kept ready.sound alone live index_law own_law all_named only x t steps
+        (held_or_taken h AsValue) (held_or_taken h AsValue)
+        (λ w named same_name v past moved. read_way (home h.typing h.frame) facts w (subst (λ z. Allows facts (act.Read z)) (sym same_name) reads) v past moved)
+        (steps_quiet h settled hands leaks m waits other facts ready.kept ready.sound alone live index_law own_law all_named (object_at h.typing x).of t steps lead calls allowed).0
+        n' (steps_same h settled hands leaks m waits other facts ready.kept ready.sound alone live index_law own_law all_named only
+        (object_at h.typing x).of t steps lead calls compares allowed n' same)
+        (λ way goes. plain_same owns way)
+
+  -- ---- all together
+
+  scalar_value : (e : TypedTree) → Stays h.typing e → has_call e ≡ false → Compares h.typing e → (m : Memory) (hands : List Waiting) (facts : List Fact)
+      → ReadyIn m hands facts → AllowsAll facts (acts (acts_in h.typing e)) → OnlyOwners h.typing m → (n' : Now) → SameNow h.typing (record { memory = m; waits = waits }) n'
+      → Same (evaluate h AsValue e (record { memory = m; waits = waits })) (evaluate h AsValue e n')
+  scalar_value e stays calls compares m hands facts ready allowed only n' same =
+      let live = live_trunk h settled leaks waits other alone keeps no_formals index_law own_law all_named m hands ready.sound.owned in
+      scalar_same h settled hands leaks m waits other facts ready.kept ready.sound alone live index_law own_law all_named only AsValue e stays calls compares allowed n' same
+
+  mutual
+    unfolding Gives GivesParts GivesFirst Stays Compares evaluate initial parts_of acts_in has_call
+
+    pub value_same : (e : TypedTree) (want : ℕ) → Gives h.typing want e → has_call e ≡ false → Compares h.typing e
+        → (m : Memory) (hands : List Waiting) (facts : List Fact) → ReadyIn m hands facts → AllowsAll facts (acts (acts_in h.typing e)) → OnlyOwners h.typing m
+        → (n' : Now) → SameNow h.typing (record { memory = m; waits = waits }) n'
+        → Same (evaluate h AsValue e (record { memory = m; waits = waits })) (evaluate h AsValue e n')
+    value_same (Number v) want scalar calls compares m hands facts ready allowed only n' same = (refl, same)
+    value_same (Literal v) want scalar calls compares m hands facts ready allowed only n' same = (refl, same)
+    value_same EndOfFile want scalar calls compares m hands facts ready allowed only n' same = (refl, same)
+    value_same typed.Null want one calls compares m hands facts ready allowed only n' same = (refl, same)
+    value_same (Parens e) want gives calls compares m hands facts ready allowed only n' same =
+        value_same e want gives calls compares m hands facts ready allowed only n' same
+    value_same (Unary op e) want (scalar, stays) calls compares m hands facts ready allowed only n' same =
+        scalar_value (Unary op e) stays calls compares m hands facts ready allowed only n' same
+    value_same (Binary op a b) want (scalar, stays, stays') calls compares m hands facts ready allowed only n' same =
+        scalar_value (Binary op a b) (stays, stays') calls compares m hands facts ready allowed only n' same
+    value_same (Short op p a q b) want (scalar, stays, stays') calls compares m hands facts ready allowed only n' same =
+        scalar_value (Short op p a q b) (stays, stays') calls compares m hands facts ready allowed only n' same
+    value_same (IsNull equal e) want (scalar, stays) calls compares m hands facts ready allowed only n' same =
+        scalar_value (IsNull equal e) stays calls compares m hands facts ready allowed only n' same
+    value_same (Name p x steps t) want (lead, fits) calls compares m hands facts ready allowed only n' same =
+        let name : PlaceName = name_of x steps in
+        let live = live_trunk h settled leaks waits other alone keeps no_formals index_law own_law all_named m hands ready.sound.owned in
+        let each = allows_both facts (acts (acts_in h.typing steps)) (used h.typing name t ∷ [])
+        (subst (AllowsAll facts) (acts_append (acts_in h.typing steps) (record { pos = p; act = used h.typing name t } ∷ [])) allowed) in
+        let inner = steps_quiet h settled hands leaks m waits other facts ready.kept ready.sound alone live index_law own_law all_named
+        (object_at h.typing x).of t steps lead calls each.0 in
+        name_by m hands facts ready only x steps t lead calls compares each.0
+        (subst (λ z. Allows z (used h.typing name t)) inner.1 each.1.0) (is_owning h.typing.table t) refl n' same
+    value_same (New t (More e rest)) want (d, c, n, is, fits, (none, gives)) calls compares m hands facts ready allowed only n' same =
+        let acts_same : acts_in h.typing e ++ acts_in h.typing rest ≡ acts_in h.typing e = ap (λ z. acts_in h.typing e ++ acts_in h.typing z) none ∙ append-nil (acts_in h.typing e) in
+        let now : Now = record { memory = m; waits = waits } in
+        allocated_same t (followed_by (evaluate h AsValue e now) (checked h t)) (followed_by (evaluate h AsValue e n') (checked h t))
+        (checked_same t (evaluate h AsValue e now) (evaluate h AsValue e n')
+        (value_same e t gives (or_both (has_call e) (has_call rest) calls).0 compares.0 m hands facts ready (subst (λ z. AllowsAll facts (acts z)) acts_same allowed) only n' same))
+    value_same (New t NoMore) want (d, c, n, is, fits, none) calls compares m hands facts ready allowed only n' same =
+        allocated_same t (Done (default h.typing.table t) (record { memory = m; waits = waits })) (Done (default h.typing.table t) n') (refl, same)
+    value_same (New t v) want (d, c, n, is, fits, none) calls compares m hands facts ready allowed only n' same = absurd none
+    value_same (Aggregate t es) want (fits, made, count, gives) calls compares m hands facts ready allowed only n' same =
+        parts_same es t 0 gives calls compares m hands facts ready allowed only n' same
+    value_same (Alike t e) want (fits, array, plain, gives) calls compares m hands facts ready allowed only n' same =
+        let now : Now = record { memory = m; waits = waits } in
+        let el : ℕ = machine.element_type h.typing.table t in
+        let repeats : List machine.Word → Now → Evaluated (List machine.Word) = (λ ws n. Done (machine.repeated (machine.element_count h.typing.table t) ws) n) in
+        subst (λ z. SameTo h.typing z (evaluate h AsValue (Alike t e) n')) (regrouped (evaluate h AsValue e now) (checked h el) repeats)
+        (subst (SameTo h.typing (followed_by (followed_by (evaluate h AsValue e now) (checked h el)) repeats)) (regrouped (evaluate h AsValue e n') (checked h el) repeats)
+        (simply h.typing (followed_by (evaluate h AsValue e now) (checked h el)) (followed_by (evaluate h AsValue e n') (checked h el)) repeats repeats
+        (checked_same el (evaluate h AsValue e now) (evaluate h AsValue e n') (value_same e el gives calls compares m hands facts ready allowed only n' same))
+        (λ ws n n'' last. (refl, last))))
+    value_same (Call p sub actuals) want gives calls compares m hands facts ready allowed only n' same = cc
+    value_same e want gives calls compares m hands facts ready allowed only n' same = absurd gives
+
+    -- the parts of an aggregate from the i-th on
+    parts_same : (es : TypedTree) (t i : ℕ) → GivesParts h.typing t i es → has_call es ≡ false → Compares h.typing es
+        → (m : Memory) (hands : List Waiting) (facts : List Fact) → ReadyIn m hands facts → AllowsAll facts (acts (acts_in h.typing es)) → OnlyOwners h.typing m
+        → (n' : Now) → SameNow h.typing (record { memory = m; waits = waits }) n'
+        → Same (parts_of h t i es (record { memory = m; waits = waits })) (parts_of h t i es n')
+    parts_same (More e rest) t i gives calls compares m hands facts ready allowed only n' same =
+        let now : Now = record { memory = m; waits = waits } in
+        let u : ℕ = part_type (shape_of h.typing.table t) i in
+        let both = or_both (has_call e) (has_call rest) calls in
+        let each = allows_both facts (acts (acts_in h.typing e)) (acts (acts_in h.typing rest))
+        (subst (AllowsAll facts) (acts_append (acts_in h.typing e) (acts_in h.typing rest)) allowed) in
+        let between : List Fact = after (acts (acts_in h.typing e)) facts in
+        let next : List machine.Word → Now → Evaluated (List machine.Word) =
+        (λ ws now. followed_by (parts_of h t (suc i) rest now) (λ more now. Done (ws ++ more) now)) in
+        let given = checked_given h settled leaks waits other alone keeps no_formals index_law own_law all_named u u hands between (evaluate h AsValue e now)
+        (evaluated h settled leaks waits other alone keeps no_formals index_law own_law all_named e u gives.0 both.0 m hands facts ready each.0) in
+        let first = checked_same u (evaluate h AsValue e now) (evaluate h AsValue e n') (value_same e u gives.0 both.0 compares.0 m hands facts ready each.0 only n' same) in
+        subst (λ z. SameTo h.typing z (parts_of h t i (More e rest) n')) (regrouped (evaluate h AsValue e now) (checked h u) next)
+        (subst (SameTo h.typing (followed_by (followed_by (evaluate h AsValue e now) (checked h u)) next)) (regrouped (evaluate h AsValue e n') (checked h u) next)
+        (then_same h.typing (GivenIn u hands between) (followed_by (evaluate h AsValue e now) (checked h u)) (followed_by (evaluate h AsValue e n') (checked h u)) next next given first
+        (λ ws n n'' there still. simply h.typing (parts_of h t (suc i) rest n) (parts_of h t (suc i) rest n'') (λ more now. Done (ws ++ more) now) (λ more now. Done (ws ++ more) now)
+        (subst (λ z. SameNow h.typing (record { memory = n.memory; waits = z }) n''
+        → SameTo h.typing (parts_of h t (suc i) rest (record { memory = n.memory; waits = z })) (parts_of h t (suc i) rest n'')) (sym there.2)
+        (λ so. parts_same rest t (suc i) gives.1 both.1 compares.1 n.memory (record { of = u; words = ws } ∷ hands) between there.0 each.1 still.2 n'' so) still)
+        (λ more k k' last. (ap (λ z. ws ++ z) refl, last)))))
+    parts_same NoMore t i gives calls compares m hands facts ready allowed only n' same = (refl, same)
+    parts_same es t i gives calls compares m hands facts ready allowed only n' same = absurd gives

@@ -1,0 +1,596 @@
+-- Instructions lead to the same in memories that agree.
+use Rattle.std.proofs.Common.{◌≡◌, refl, sym, ap, ◌∙◌, subst, inl, inr, ℕ, Bool, true, false, not, ◌&&◌, List, [], ◌∷◌, ◌++◌, length, nat_lt, append_assoc, append-nil, ℤ, Option, Some, None, if◌then◌else◌}
+use Rattle.std.specs.Prelude.{int_le}
+use Rattle.spark_base.specs.declared.position.Pos.{Pos}
+use Rattle.place_names.specs.declared.act.Act.{Act}
+use Rattle.place_names.specs.declared.act.Act.TheVariants as act
+use Rattle.place_names.specs.declared.act.Mode.TheVariants as mode
+use Rattle.place_names.specs.declared.fact.Fact.{Fact}
+use Rattle.place_names.specs.Names.{Name as PlaceName}
+use Rattle.place_names.specs.Rules.{breaks_O3}
+use Rattle.type_definitions.specs.declared.table.Shape.TheVariants as shape
+use Rattle.type_definitions.specs.Types.{shape_of, full, is_scalar}
+use Rattle.typed_tree.specs.Trees.{TypedTree, TypedCode, Name, NoMore, More}
+use Rattle.flow_paths.specs.Instructions.{Skip, Fall}
+use Rattle.flow_paths.specs.Objects.{Typing, object_at, designated, is_observer}
+use Rattle.flow_paths.specs.Names.{has_call, name_of, whole, first, written, source}
+use Rattle.flow_paths.specs.Acts.{acts_in, stored_acts, declared_acts, assigned_to, source_acts, index_acts, reborrow, observe, target_pos as acts_target_pos}
+use Rattle.run_values.specs.declared.items.Item.{Item}
+use Rattle.run_values.specs.declared.items.Item.TheVariants as item
+use Rattle.run_values.specs.Items.{next_item}
+use Rattle.machine.specs.Words.{default, fits_type}
+use Rattle.machine.specs.Words as machine
+use Rattle.machine.specs.Memory.{Memory, Place, cell, freed, slots_of, words_of, declared, undeclared, stored}
+use Rattle.machine.specs.Evaluate.{Here, Now, AsValue, Exception, Trap, Evaluated, Done, Raises, Traps, followed_by, evaluate, initial, checked, value, viewed, place_of, cell_place, variable_place, walked, steps_of, text_of}
+use Rattle.machine.specs.Evaluate as run
+use Rattle.machine.specs.Calls.{checks_at}
+use Rattle.machine.specs.States.{Waiting, Loop, Leak, State, Outcome, Goes, Ends}
+use Rattle.machine.specs.Step.{Turn, typing, here, start, waiting, counted, raised, trapped, Stored, first_value, taken_by, declare, assign, end_scope, goes, behind, leaking, leaking_goes, target_pos}
+use Rattle.machine.specs.Step as steps
+use Rattle.machine.specs.Owners.{waiting_in}
+use Rattle.owned_ways.specs.Ways.{OfVariable, Loc, OfRoot, Way, Object, Reaches, IsRooted, Excused, Allows, after, AllowsAll, Sound}
+use Rattle.owned_ways.specs.Ways as ways
+use Rattle.owned_ways.proofs.Locations.{past_under, under_itself}
+use Rattle.owned_ways.proofs.Assigned.{write_clean, named_rooted}
+use Rattle.part_offsets.specs.Parts.{IsSettled}
+use Rattle.soundness.specs.Seen.{content, trunk, seen, home, IsNear, is_view_formal}
+use Rattle.soundness.specs.Typed.{OwnsByShape, Kept, Spot}
+use Rattle.typed_laws.specs.Needed.{Stays, Writes, Leads, Source, FirstSource}
+use Rattle.soundness.specs.Sound.{view_of}
+use Rattle.soundness.proofs.Near.{named_near}
+use Rattle.soundness.proofs.Walks.{way_along}
+use Rattle.soundness.proofs.Steps.{no_leaf}
+use Rattle.soundness.proofs.Scalars.{acts, acts_append, allows_both}
+use Rattle.soundness.proofs.Stays.{Quiet, One, quiet, steps_quiet}
+use Rattle.soundness.proofs.Numbers.{index_law}
+use Rattle.soundness.proofs.Lasting.{keeps}
+use Rattle.soundness.proofs.Evaluated.{live_trunk, Ready, Given, checked_given, evaluated}
+use Rattle.soundness.proofs.Freeing.{free_way, switched}
+use Rattle.soundness.proofs.Instructions.{not_anonymous, not_borrower, not_observer}
+use Rattle.soundness.proofs.Waits.{or_both}
+use Rattle.null_places.specs.Agrees.{Agrees, SameState}
+use Rattle.null_places.specs.Compares.{Compares}
+use Rattle.null_places.proofs.Memories.{NoneGone, words_agree, cell_agree, stored_agree, declared_agree, undeclared_agree, freed_agree, given_up_agree, checks_agree}
+use Rattle.null_places.proofs.Only.{OnlyOwners, stored_only, declared_only, undeclared_only, freed_only}
+use Rattle.null_places.proofs.Places.{spot_whole, plain_whole, access_whole}
+use Rattle.null_places.proofs.Walks.{SameNow, SameTo, then_same, simply}
+use Rattle.null_places.proofs.Scalars.{IsPlaced, place_same, scalar_same, text_same, called, named_way}
+use Rattle.null_places.proofs.Evaluated.{checked_same, value_same}
+
+-- Outcomes agree, and where the step goes on, only words that own are gone.
+abbrev pub SameStepBy : Typing → Outcome → Outcome → Type 0
+SameStepBy s (Goes a) (Goes b) = SameState a b × OnlyOwners s a.memory
+SameStepBy s (Ends e a) (Ends f b) = (e ≡ f) × SameState a b
+SameStepBy s _ _ = ⊥
+
+abbrev pub SameStep : steps.Turn → Outcome → Outcome → Type 0
+SameStep t x y = SameStepBy (typing t) x y
+
+-- The turn in another memory.
+abbrev pub twin : Turn → Memory → Turn
+twin t n = record t { state = record t.state { memory = n } }
+
+-- leak checks that give the same
+pub leaking_same : (t : Turn) (checks checks' : List (List Leak)) → checks ≡ checks' → (x y : Outcome) → SameStep t x y
+    → SameStep t (leaking_goes checks x) (leaking_goes checks' y)
+leaking_same t checks checks' e (Goes a) (Goes b) same =
+    subst (λ z. SameStep t (Goes (leaking checks a)) (Goes (leaking z b))) e ((ap (leaking checks) same.0.0, same.0.1), same.1)
+leaking_same t checks checks' e (Ends x a) (Ends y b) same =
+    subst (λ z. SameStep t (Ends x (leaking checks a)) (Ends y (leaking z b))) e (same.0, (ap (leaking checks) same.1.0, same.1.1))
+leaking_same t checks checks' e (Goes a) (Ends y b) same = absurd same
+leaking_same t checks checks' e (Ends x a) (Goes b) same = absurd same
+
+pub both_are : (t : Turn) (x x' y y' : Outcome) → x ≡ x' → y ≡ y' → SameStep t x' y' → SameStep t x y
+both_are t x x' y y' e e' same = subst (λ z. SameStep t z y) (sym e) (subst (SameStep t x') (sym e') same)
+
+module _ (t : Turn) (n : Memory) (agrees : Agrees t.state.memory n) where
+  pub goes_same : (m m' : Memory) (k : ℕ) → Agrees m m' → OnlyOwners (typing t) m → SameStep t (goes t m k) (goes (twin t n) m' k)
+  goes_same m m' k a only = ((refl, a), only)
+
+  pub leaks_same : (pos : Pos) (k : Place) (a b m m' : Memory) → Agrees a b → Agrees m m' → OnlyOwners (typing t) m
+      → SameStep t (leaking_goes (checks_at (typing t) pos a k) (goes t m 0)) (leaking_goes (checks_at (typing t) pos b k) (goes (twin t n) m' 0))
+  leaks_same pos k a b m m' before after_step only =
+      leaking_same t (checks_at (typing t) pos a k) (checks_at (typing t) pos b k) (checks_agree (typing t) pos a b before k) (goes t m 0) (goes (twin t n) m' 0)
+      (goes_same m m' 0 after_step only)
+
+  pub raised_same : (e : Exception) (m m' : Memory) → Agrees m m' → SameStep t (raised t e m) (raised (twin t n) e m')
+  raised_same e m m' a = (refl, (refl, given_up_agree t.state.memory n m m' agrees a))
+
+  pub trapped_same : (e : Trap) (m m' : Memory) → Agrees m m' → SameStep t (trapped t e m) (trapped (twin t n) e m')
+  trapped_same e m m' a = (refl, (refl, given_up_agree t.state.memory n m m' agrees a))
+
+  -- what an evaluation leads to, where something is known of it
+  pub step_then : {A : Type 0} (P : Evaluated A → Type 0) (x y : Evaluated A) (f g : A → Memory → Outcome) → P x → SameTo (typing t) x y
+      → ((a : A) (i j : Now) → P (Done a i) → SameNow (typing t) i j → SameStep t (f a i.memory) (g a j.memory))
+      → SameStep t (steps.evaluated t x f) (steps.evaluated (twin t n) y g)
+  step_then P (Done a i) (Done b j) f g p same next = subst (λ z. SameStep t (f a i.memory) (g z j.memory)) same.0 (next a i j p same.1)
+  step_then P (Raises e i) (Raises e' j) f g p same next =
+      subst (λ z. SameStep t (raised t e i.memory) (raised (twin t n) z j.memory)) same.0 (raised_same e i.memory j.memory same.1.0)
+  step_then P (Traps e i) (Traps e' j) f g p same next =
+      subst (λ z. SameStep t (trapped t e i.memory) (trapped (twin t n) z j.memory)) same.0 (trapped_same e i.memory j.memory same.1.0)
+  step_then P (Done a i) (Raises e j) f g p same next = absurd same
+  step_then P (Done a i) (Traps e j) f g p same next = absurd same
+  step_then P (Raises e i) (Done b j) f g p same next = absurd same
+  step_then P (Raises e i) (Traps e' j) f g p same next = absurd same
+  step_then P (Traps e i) (Done b j) f g p same next = absurd same
+  step_then P (Traps e i) (Raises e' j) f g p same next = absurd same
+
+  pub step_simply : {A : Type 0} (x y : Evaluated A) (f g : A → Memory → Outcome) → SameTo (typing t) x y
+      → ((a : A) (i j : Now) → SameNow (typing t) i j → SameStep t (f a i.memory) (g a j.memory))
+      → SameStep t (steps.evaluated t x f) (steps.evaluated (twin t n) y g)
+  step_simply x y f g same next = step_then (λ z. Unit {0}) x y f g tt same (λ a i j p now. next a i j now)
+
+-- ---- what is done at a place
+
+-- A release, by the word there.
+pub record Releases (t : Turn) (pos : Pos) (f : Place → Memory → Outcome) : Type 0 where
+  pub at_none : (k : Place) (m : Memory) → words_of (typing t) m k ≡ [] → f k m ≡ goes t m 0
+  pub at_whole : (k : Place) (m : Memory) (v : ℤ) (ws : List machine.Word) → words_of (typing t) m k ≡ machine.Int v ∷ ws → f k m ≡ goes t m 0
+  pub at_listed : (k : Place) (m : Memory) (v : ℕ) (ws : List machine.Word) → words_of (typing t) m k ≡ machine.Enumerated v ∷ ws → f k m ≡ goes t m 0
+  pub at_null : (k : Place) (m : Memory) (ws : List machine.Word) → words_of (typing t) m k ≡ machine.Null ∷ ws → f k m ≡ goes t m 0
+  pub at_more : (k : Place) (m : Memory) (c : ℕ) (w : machine.Word) (ws : List machine.Word) → words_of (typing t) m k ≡ machine.Cell c ∷ (w ∷ ws) → f k m ≡ goes t m 0
+  pub at_freed : (k : Place) (m : Memory) (c : ℕ) → words_of (typing t) m k ≡ machine.Cell c ∷ [] → (cell m c).freed ≡ true → f k m ≡ trapped t run.Twice m
+  pub at_cell : (k : Place) (m : Memory) (c : ℕ) → words_of (typing t) m k ≡ machine.Cell c ∷ [] → (cell m c).freed ≡ false
+      → f k m ≡ leaking_goes (checks_at (typing t) pos m (cell_place (designated (typing t).table k.of) c))
+      (goes t (stored (typing t) k (machine.Null ∷ []) (freed c m)) 0)
+
+-- An input, by the next item.
+pub record Gets (t : Turn) (f : Place → Memory → Outcome) : Type 0 where
+  pub at_missing : (k : Place) (m : Memory) → next_item t.input t.state.at ≡ item.Missing → f k m ≡ raised t run.EndError m
+  pub at_bad : (k : Place) (m : Memory) → next_item t.input t.state.at ≡ item.Bad → f k m ≡ raised t run.DataError m
+  pub at_number : (k : Place) (m : Memory) (v : ℤ) (end : ℕ) → next_item t.input t.state.at ≡ item.Number v end
+      → fits_type (typing t).table k.of (machine.Int v ∷ []) ≡ true
+      → f k m ≡ Goes (record (behind t (waiting t) (stored (typing t) k (machine.Int v ∷ []) m) 0) { at = end })
+  pub at_outside : (k : Place) (m : Memory) (v : ℤ) (end : ℕ) → next_item t.input t.state.at ≡ item.Number v end
+      → fits_type (typing t).table k.of (machine.Int v ∷ []) ≡ false → f k m ≡ raised t run.ConstraintError m
+
+-- The start of a loop, by its bounds.
+pub record Starts (t : Turn) (x : ℕ) (fails : steps.Bounds → Bool) (loop : steps.Bounds → Loop) (f : steps.Bounds → Memory → Outcome) : Type 0 where
+  pub at_fault : (b : steps.Bounds) (m : Memory) → fails b ≡ true → f b m ≡ raised t run.ConstraintError m
+  pub at_turn : (b : steps.Bounds) (m : Memory) → fails b ≡ false
+      → f b m ≡ Goes (steps.with_loop (loop b) (behind t (waiting t) (declared (length t.outer) x b.low m) 0))
+
+module _ (t : Turn) (n : Memory) (agrees : Agrees t.state.memory n) where
+  released_same : (pos : Pos) (f g : Place → Memory → Outcome) → Releases t pos f → Releases (twin t n) pos g → (k : Place) (m m' : Memory)
+      → Agrees m m' → OnlyOwners (typing t) m → (ws : List machine.Word) → words_of (typing t) m k ≡ ws → words_of (typing t) m' k ≡ ws → SameStep t (f k m) (g k m')
+  released_same pos f g one two k m m' a only ws is so = by ws is so
+    where
+      plain : SameStep t (goes t m 0) (goes (twin t n) m' 0)
+      plain = goes_same t n agrees m m' 0 a only
+
+      by_freed : (c : ℕ) (b : Bool) → words_of (typing t) m k ≡ machine.Cell c ∷ [] → words_of (typing t) m' k ≡ machine.Cell c ∷ [] → (cell m c).freed ≡ b
+          → (cell m' c).freed ≡ b → SameStep t (f k m) (g k m')
+      by_freed c true is so old new = both_are t _ _ _ _ (one.at_freed k m c is old) (two.at_freed k m' c so new) (trapped_same t n agrees run.Twice m m' a)
+      by_freed c false is so old new =
+          both_are t _ _ _ _ (one.at_cell k m c is old) (two.at_cell k m' c so new)
+          (leaks_same t n agrees pos (cell_place (designated (typing t).table k.of) c) m m' (stored (typing t) k (machine.Null ∷ []) (freed c m))
+          (stored (typing t) k (machine.Null ∷ []) (freed c m')) a (stored_agree (typing t) k (machine.Null ∷ []) (freed c m) (freed c m') (freed_agree c m m' a))
+          (stored_only (typing t) (freed c m) (freed_only (typing t) m only c) k (machine.Null ∷ [])))
+
+      by : (ws : List machine.Word) → words_of (typing t) m k ≡ ws → words_of (typing t) m' k ≡ ws → SameStep t (f k m) (g k m')
+      by [] is so = both_are t _ _ _ _ (one.at_none k m is) (two.at_none k m' so) plain
+      by (machine.Int v ∷ ws) is so = both_are t _ _ _ _ (one.at_whole k m v ws is) (two.at_whole k m' v ws so) plain
+      by (machine.Enumerated v ∷ ws) is so = both_are t _ _ _ _ (one.at_listed k m v ws is) (two.at_listed k m' v ws so) plain
+      by (machine.Null ∷ ws) is so = both_are t _ _ _ _ (one.at_null k m ws is) (two.at_null k m' ws so) plain
+      by (machine.Cell c ∷ (w ∷ ws)) is so = both_are t _ _ _ _ (one.at_more k m c w ws is) (two.at_more k m' c w ws so) plain
+      by (machine.Cell c ∷ []) is so = by_freed c (cell m c).freed is so refl (sym (cell_agree m m' a c).1)
+
+  got_same : (f g : Place → Memory → Outcome) → Gets t f → Gets (twin t n) g → (k : Place) (m m' : Memory)
+      → Agrees m m' → OnlyOwners (typing t) m → SameStep t (f k m) (g k m')
+  got_same f g one two k m m' a only = by (next_item t.input t.state.at) refl
+    where
+      by_fit : (v : ℤ) (end : ℕ) (b : Bool) → next_item t.input t.state.at ≡ item.Number v end → fits_type (typing t).table k.of (machine.Int v ∷ []) ≡ b
+          → SameStep t (f k m) (g k m')
+      by_fit v end true next fits =
+          both_are t _ _ _ _ (one.at_number k m v end next fits) (two.at_number k m' v end next fits)
+          ((refl, stored_agree (typing t) k (machine.Int v ∷ []) m m' a), stored_only (typing t) m only k (machine.Int v ∷ []))
+      by_fit v end false next fits =
+          both_are t _ _ _ _ (one.at_outside k m v end next fits) (two.at_outside k m' v end next fits) (raised_same t n agrees run.ConstraintError m m' a)
+
+      by : (it : Item) → next_item t.input t.state.at ≡ it → SameStep t (f k m) (g k m')
+      by item.Missing e = both_are t _ _ _ _ (one.at_missing k m e) (two.at_missing k m' e) (raised_same t n agrees run.EndError m m' a)
+      by item.Bad e = both_are t _ _ _ _ (one.at_bad k m e) (two.at_bad k m' e) (raised_same t n agrees run.DataError m m' a)
+      by (item.Number v end) e = by_fit v end (fits_type (typing t).table k.of (machine.Int v ∷ [])) e refl
+
+  -- the same loop in states that agree
+  loop_same : (l : Loop) (a b : State) → SameState a b → SameState (steps.with_loop l a) (steps.with_loop l b)
+  loop_same l a b same = (ap (steps.with_loop l) same.0, same.1)
+
+  started_same : (x : ℕ) (fails : steps.Bounds → Bool) (loop : steps.Bounds → Loop) (f g : steps.Bounds → Memory → Outcome)
+      → Starts t x fails loop f → Starts (twin t n) x fails loop g → (b : steps.Bounds) (m m' : Memory) → Agrees m m' → OnlyOwners (typing t) m → SameStep t (f b m) (g b m')
+  started_same x fails loop f g one two b m m' a only = by (fails b) refl
+    where
+      by : (c : Bool) → fails b ≡ c → SameStep t (f b m) (g b m')
+      by true e = both_are t _ _ _ _ (one.at_fault b m e) (two.at_fault b m' e) (raised_same t n agrees run.ConstraintError m m' a)
+      by false e =
+          both_are t _ _ _ _ (one.at_turn b m e) (two.at_turn b m' e) (
+            loop_same (loop b) (behind t (waiting t) (declared (length t.outer) x b.low m) 0) (behind (twin t n) (waiting t) (declared (length t.outer) x b.low m') 0)
+                (refl, declared_agree (length t.outer) x b.low m m' a),
+            declared_only (typing t) m only (length t.outer) x b.low,
+          )
+
+-- ---- each instruction
+
+module _ (t : Turn) (settled : IsSettled (typing t).table) (own_law : OwnsByShape (typing t).table) (other : Way → Type 0)
+    (alone : (w : Way) → IsNear (length t.outer) w → other w → ⊥) (no_formals : (x : ℕ) → is_view_formal (typing t) x ≡ false)
+    (all_named : (u d : ℕ) (c n : Bool) → shape_of (typing t).table u ≡ shape.Access d c n → n ≡ true) (facts : List Fact)
+    (sound : Sound (home (typing t) (length t.outer)) other (view_of (typing t) t.state) facts) (kept : Kept (typing t) t.state.memory (waiting_in t.state))
+    (only : OnlyOwners (typing t) t.state.memory) (n : Memory) (agrees : Agrees t.state.memory n) where
+  abbrev h : Here
+  h = here t
+
+  abbrev depth : ℕ
+  depth = length t.outer
+
+  abbrev hands : List Waiting
+  hands = waiting_in t.state
+
+  abbrev waits : List (List machine.Word)
+  waits = (start t).waits
+
+  abbrev at : Now
+  at = record { memory = t.state.memory; waits = (start t).waits }
+
+  abbrev Step : Outcome → Outcome → Type 0
+  Step x y = SameStep t x y
+
+  at_start : SameNow (typing t) at (start (twin t n))
+  at_start = (agrees, refl, only)
+
+  live : (w : Way) (l : Loc) → IsRooted w → Reaches (seen (typing t) t.state.memory hands t.state.leaks) w l → (content (typing t) t.state.memory hands (trunk l)).owns ≡ true
+  live = live_trunk h settled t.state.leaks waits other alone (keeps (typing t) settled own_law) no_formals index_law own_law all_named t.state.memory hands sound.owned
+
+  ready : Ready h settled t.state.leaks waits other alone (keeps (typing t) settled own_law) no_formals index_law own_law all_named t.state.memory hands facts
+  ready = record { sound = sound; kept = kept }
+
+  scalar : (e : TypedTree) → Stays (typing t) e → has_call e ≡ false → Compares (typing t) e → AllowsAll facts (acts (acts_in (typing t) e))
+      → (n' : Now) → SameNow (typing t) at n' → SameTo (typing t) (value h e at) (value h e n')
+  scalar e stays calls compares allowed n' same =
+      scalar_same h settled hands t.state.leaks t.state.memory waits other facts kept sound alone live index_law own_law all_named only AsValue e stays calls compares allowed n' same
+
+  -- the steps of a name change nothing, and so do their acts
+  steps_quiet_there : (i : Now) (hs : List Waiting) (fs : List Fact) (keeps_there : Kept (typing t) i.memory hs)
+      → (well : Sound (home (typing t) depth) other (seen (typing t) i.memory hs t.state.leaks) fs)
+      → ((w : Way) (l : Loc) → IsRooted w → Reaches (seen (typing t) i.memory hs t.state.leaks) w l → (content (typing t) i.memory hs (trunk l)).owns ≡ true)
+      → (u w : ℕ) (path : TypedTree) → Leads (typing t) u path w → has_call path ≡ false → AllowsAll fs (acts (acts_in (typing t) path))
+      → after (acts (acts_in (typing t) path)) fs ≡ fs
+  steps_quiet_there i hs fs keeps_there well alive u w path lead calls allowed =
+      (steps_quiet h settled hs t.state.leaks i.memory waits other fs keeps_there well alone alive index_law own_law all_named u w path lead calls allowed).1
+
+  -- ---- values that are taken
+
+  source_same : (u : ℕ) (e : TypedTree) → Source (typing t) u e → has_call e ≡ false → Compares (typing t) e → AllowsAll facts (acts (acts_in (typing t) e))
+      → SameTo (typing t) (taken_by t u e at) (taken_by t u e (start (twin t n)))
+  source_same u e (inl (view, is)) calls compares allowed = (let no : true ≡ false = sym view ∙ not_anonymous (typing t) all_named u in cc)
+  source_same u e (inr gives) calls compares allowed =
+      subst (λ b. SameTo (typing t) (if b then viewed h e at else followed_by (value h e at) (checked h u))
+      (if b then viewed h e (start (twin t n)) else followed_by (value h e (start (twin t n))) (checked h u))) (sym (not_anonymous (typing t) all_named u))
+      (checked_same h settled t.state.leaks waits other alone (keeps (typing t) settled own_law) no_formals index_law own_law all_named u (value h e at) (value h e (start (twin t n)))
+      (value_same h settled t.state.leaks waits other alone (keeps (typing t) settled own_law) no_formals index_law own_law all_named e u gives calls compares
+      t.state.memory hands facts ready allowed only (start (twin t n)) at_start))
+
+  source_given : (u : ℕ) (e : TypedTree) → Source (typing t) u e → has_call e ≡ false → AllowsAll facts (acts (acts_in (typing t) e))
+      → Given h settled t.state.leaks waits other alone (keeps (typing t) settled own_law) no_formals index_law own_law all_named u hands (after (acts (acts_in (typing t) e)) facts)
+      (taken_by t u e at)
+  source_given u e (inl (view, is)) calls allowed = (let no : true ≡ false = sym view ∙ not_anonymous (typing t) all_named u in cc)
+  source_given u e (inr gives) calls allowed =
+      subst (λ b. Given h settled t.state.leaks waits other alone (keeps (typing t) settled own_law) no_formals index_law own_law all_named u hands
+      (after (acts (acts_in (typing t) e)) facts) (if b then viewed h e at else followed_by (value h e at) (checked h u))) (sym (not_anonymous (typing t) all_named u))
+      (checked_given h settled t.state.leaks waits other alone (keeps (typing t) settled own_law) no_formals index_law own_law all_named u u hands
+      (after (acts (acts_in (typing t) e)) facts) (evaluate h AsValue e at)
+      (evaluated h settled t.state.leaks waits other alone (keeps (typing t) settled own_law) no_formals index_law own_law all_named e u gives calls t.state.memory hands facts ready allowed))
+
+  first_same : (u : ℕ) (v : TypedTree) → FirstSource (typing t) u v → has_call v ≡ false → Compares (typing t) v → AllowsAll facts (acts (acts_in (typing t) v))
+      → SameTo (typing t) (first_value t u v at) (first_value t u v (start (twin t n)))
+  unfolding acts_in has_call initial Compares
+  first_same u (More e rest) (last, gives) calls compares allowed =
+      let same : acts_in (typing t) e ++ acts_in (typing t) rest ≡ acts_in (typing t) e =
+      ap (λ z. acts_in (typing t) e ++ acts_in (typing t) z) last ∙ append-nil (acts_in (typing t) e) in
+      source_same u e gives (or_both (has_call e) (has_call rest) calls).0 compares.0 (subst (λ z. AllowsAll facts (acts z)) same allowed)
+  first_same u NoMore gives calls compares allowed = (refl, at_start)
+  first_same u v gives calls compares allowed = absurd gives
+
+  pub declare_same : (x : ℕ) (v : TypedTree) → FirstSource (typing t) (object_at (typing t) x).of v → has_call v ≡ false → Compares (typing t) v
+      → AllowsAll facts (acts (declared_acts (typing t) x v)) → Step (declare t x v) (declare (twin t n) x v)
+  declare_same x v gives calls compares allowed =
+      let same : declared_acts (typing t) x v ≡ acts_in (typing t) v =
+      ap (λ b. if b then source_acts (typing t) (first v) (act.Borrow x) else
+      (if is_observer (typing t) x then source_acts (typing t) (first v) (observe (typing t) x) else acts_in (typing t) v)) (not_borrower (typing t) all_named x)
+      ∙ ap (λ b. if b then source_acts (typing t) (first v) (observe (typing t) x) else acts_in (typing t) v) (not_observer (typing t) all_named x) in
+      step_simply t n agrees (first_value t (object_at (typing t) x).of v at) (first_value t (object_at (typing t) x).of v (start (twin t n)))
+      (λ ws m. goes t (declared depth x ws m) 0) (λ ws m. goes (twin t n) (declared depth x ws m) 0)
+      (first_same (object_at (typing t) x).of v gives calls compares (subst (λ z. AllowsAll facts (acts z)) same allowed))
+      (λ ws i j now. goes_same t n agrees (declared depth x ws i.memory) (declared depth x ws j.memory) 0
+      (declared_agree depth x ws i.memory j.memory now.0) (declared_only (typing t) i.memory now.2 depth x ws))
+
+  -- ---- assignments
+
+  assigned_acts : (p : Pos) (o : Option ℕ) (target e : TypedTree) → assigned_to (typing t) p o target e ≡ stored_acts (typing t) target e
+  assigned_acts p None target e = refl
+  assigned_acts p (Some x) target e =
+      ap (λ b. if b then index_acts (typing t) e ++ reborrow (acts_target_pos p (written target)) x (source e)
+      else (if is_observer (typing t) x then source_acts (typing t) e (observe (typing t) x) else stored_acts (typing t) target e)) (not_borrower (typing t) all_named x)
+      ∙ ap (λ b. if b then source_acts (typing t) e (observe (typing t) x) else stored_acts (typing t) target e) (not_observer (typing t) all_named x)
+
+  -- the place is found with the value in hand
+  then_placed : (p : Pos) (x u : ℕ) (path : TypedTree) → Leads (typing t) (object_at (typing t) x).of path u → has_call path ≡ false → Compares (typing t) path
+      → (behind_facts : List Fact) → AllowsAll behind_facts (acts (acts_in (typing t) path) ++ act.Write (name_of x path) ∷ []) → (ws : List machine.Word) (i j : Now)
+      → Given h settled t.state.leaks waits other alone (keeps (typing t) settled own_law) no_formals index_law own_law all_named u hands behind_facts (Done ws i)
+      → SameNow (typing t) i j
+      → SameTo {A = Stored} (typing t) (followed_by (place_of h (Name p x path u) i) (λ k now. Done (record { words = ws; place = k }) now))
+      (followed_by (place_of h (Name p x path u) j) (λ k now. Done (record { words = ws; place = k }) now))
+  then_placed p x u path lead calls compares behind_facts allowed ws i j (inner, long, same) now =
+      let v : Waiting = record { of = u; words = ws } in
+      let each = allows_both behind_facts (acts (acts_in (typing t) path)) (act.Write (name_of x path) ∷ []) allowed in
+      let alive = live_trunk h settled t.state.leaks waits other alone (keeps (typing t) settled own_law) no_formals index_law own_law all_named i.memory (v ∷ hands) inner.sound.owned in
+      let stay = steps_quiet_there i (v ∷ hands) behind_facts inner.kept inner.sound alive (object_at (typing t) x).of u path lead calls each.0 in
+      let writes : Allows behind_facts (act.Write (name_of x path)) = subst (λ z. Allows z (act.Write (name_of x path))) stay each.1.0 in
+      subst (λ z. SameNow (typing t) (record { memory = i.memory; waits = z }) j
+      → SameTo {A = Stored} (typing t) (followed_by (place_of h (Name p x path u) (record { memory = i.memory; waits = z })) (λ k now. Done (record { words = ws; place = k }) now))
+      (followed_by (place_of h (Name p x path u) j) (λ k now. Done (record { words = ws; place = k }) now))) (sym same)
+      (λ so. simply (typing t) (place_of h (Name p x path u) (record { memory = i.memory; waits = waits })) (place_of h (Name p x path u) j)
+      (λ k now. Done (record { words = ws; place = k }) now) (λ k now. Done (record { words = ws; place = k }) now)
+      (place_same h settled (v ∷ hands) t.state.leaks i.memory waits other behind_facts inner.kept inner.sound alone alive index_law own_law all_named now.2
+      p x u path lead calls compares each.0
+      (λ w named same_name z past moved. write_clean (home (typing t) depth) behind_facts w (subst (λ y. Allows behind_facts (act.Write y)) (sym same_name) writes) z past moved)
+      j so).0 (λ k a b last. (refl, last))) now
+
+  pub assign_same : (pos p : Pos) (x u : ℕ) (path e : TypedTree) → Source (typing t) u e → Leads (typing t) (object_at (typing t) x).of path u
+      → has_call e ≡ false → has_call path ≡ false → Compares (typing t) path → Compares (typing t) e
+      → AllowsAll facts (acts (assigned_to (typing t) pos (whole (Name p x path u)) (Name p x path u) e))
+      → Step (assign t (Name p x path u) e) (assign (twin t n) (Name p x path u) e)
+  assign_same pos p x u path e gives lead calls calls' compares compares' allowed =
+      let target : TypedTree = Name p x path u in
+      let a : List Act = acts (acts_in (typing t) e) in
+      let b : List Act = acts (acts_in (typing t) path) in
+      let all : acts (stored_acts (typing t) target e) ≡ a ++ (b ++ act.Write (name_of x path) ∷ []) =
+      acts_append (acts_in (typing t) e ++ acts_in (typing t) path) (record { pos = p; act = act.Write (name_of x path) } ∷ [])
+      ∙ ap (λ z. z ++ (act.Write (name_of x path) ∷ [])) (acts_append (acts_in (typing t) e) (acts_in (typing t) path))
+      ∙ append_assoc a b (act.Write (name_of x path) ∷ []) in
+      let plain : AllowsAll facts (acts (stored_acts (typing t) target e)) = subst (λ z. AllowsAll facts (acts z)) (assigned_acts pos (whole target) target e) allowed in
+      let each = allows_both facts a (b ++ act.Write (name_of x path) ∷ []) (subst (AllowsAll facts) all plain) in
+      let placed : List machine.Word → Now → Evaluated Stored = (λ ws now. followed_by (place_of h target now) (λ k now. Done (record { words = ws; place = k }) now)) in
+      step_simply t n agrees (followed_by (taken_by t u e at) placed) (followed_by (taken_by t u e (start (twin t n))) placed)
+      (λ (st : Stored) m. leaking_goes (checks_at (typing t) (target_pos t target) m st.place) (goes t (stored (typing t) st.place st.words m) 0))
+      (λ (st : Stored) m. leaking_goes (checks_at (typing t) (target_pos t target) m st.place) (goes (twin t n) (stored (typing t) st.place st.words m) 0))
+      (then_same (typing t)
+      (Given h settled t.state.leaks waits other alone (keeps (typing t) settled own_law) no_formals index_law own_law all_named u hands (after a facts))
+      (taken_by t u e at) (taken_by t u e (start (twin t n))) placed placed (source_given u e gives calls each.0) (source_same u e gives calls compares' each.0)
+      (λ ws i j given now. then_placed p x u path lead calls' compares (after a facts) each.1 ws i j given now))
+      (λ st i j now. leaks_same t n agrees (target_pos t target) st.place i.memory j.memory (stored (typing t) st.place st.words i.memory)
+      (stored (typing t) st.place st.words j.memory) now.0 (stored_agree (typing t) st.place st.words i.memory j.memory now.0)
+      (stored_only (typing t) i.memory now.2 st.place st.words))
+
+  -- ---- scopes
+
+  pub end_scope_same : (x : ℕ) → Step (end_scope t x) (end_scope (twin t n) x)
+  end_scope_same x =
+      leaks_same t n agrees t.point.pos (variable_place h x) t.state.memory n (undeclared depth x t.state.memory) (undeclared depth x n) agrees
+      (undeclared_agree depth x t.state.memory n agrees) (undeclared_only (typing t) t.state.memory only depth x)
+
+  -- ---- a release
+
+  release_by : (f g : Place → Memory → Outcome) (p : Pos) (x u d : ℕ) (path : TypedTree) → Releases t p f → Releases (twin t n) p g
+      → shape_of (typing t).table u ≡ shape.Access d false true → Leads (typing t) (object_at (typing t) x).of path u → has_call path ≡ false → Compares (typing t) path
+      → AllowsAll facts (acts (source_acts (typing t) (Name p x path u) act.Free))
+      → Step (steps.evaluated t (place_of h (Name p x path u) at) f) (steps.evaluated (twin t n) (place_of h (Name p x path u) (start (twin t n))) g)
+  release_by f g p x u d path one two access lead calls compares allowed =
+      let b : List Act = acts (acts_in (typing t) path) in
+      let all : acts (source_acts (typing t) (Name p x path u) act.Free) ≡ b ++ (act.Free (name_of x path) ∷ []) =
+      acts_append (acts_in (typing t) path) (record { pos = p; act = act.Free (name_of x path) } ∷ []) in
+      let each = allows_both facts b (act.Free (name_of x path) ∷ []) (subst (AllowsAll facts) all allowed) in
+      let stay = steps_quiet_there at hands facts kept sound live (object_at (typing t) x).of u path lead calls each.0 in
+      let frees : Allows facts (act.Free (name_of x path)) = subst (λ z. Allows z (act.Free (name_of x path))) stay each.1.0 in
+      let place = place_same h settled hands t.state.leaks t.state.memory waits other facts kept sound alone live index_law own_law all_named only
+      p x u path lead calls compares each.0
+      (λ w named same_name z past moved. free_way (home (typing t) depth) facts w (subst (λ y. Allows facts (act.Free y)) (sym same_name) frees) z (past_under z w past) moved)
+      (start (twin t n)) at_start in
+      step_then t n agrees (IsPlaced h settled hands t.state.leaks t.state.memory waits other facts kept sound alone live index_law own_law all_named only x u path)
+      (place_of h (Name p x path u) at) (place_of h (Name p x path u) (start (twin t n))) f g place.1 place.0
+      (λ k i j found now.
+      let none : NoneGone (slots_of (typing t) i.memory k) = freed_none frees k i found in
+      released_same t n agrees p f g one two k i.memory j.memory now.0 now.2 (words_of (typing t) i.memory k) refl
+      (sym (words_agree (typing t) i.memory j.memory now.0 k none)))
+    where
+      freed_none : Allows facts (act.Free (name_of x path)) → (k : Place) (i : Now)
+          → IsPlaced h settled hands t.state.leaks t.state.memory waits other facts kept sound alone live index_law own_law all_named only x u path (Done k i)
+          → NoneGone (slots_of (typing t) i.memory k)
+      freed_none frees k i (way, goes_along, (l, still, spot, reaches, of)) =
+          let w : Way = way_along way (Object (OfVariable (home (typing t) depth x) x)) in
+          let named = named_way h settled hands t.state.leaks t.state.memory waits other facts kept sound alone live index_law own_law all_named only x way in
+          let rooted = named_rooted (home (typing t) depth) w named in
+          let mine : Allows facts (act.Free (ways.name_of w)) =
+          subst (λ z. Allows facts (act.Free z))
+          (sym (called h settled hands t.state.leaks t.state.memory waits other facts kept sound alone live index_law own_law all_named only x u path way goes_along)) frees in
+          subst (λ (z : Now). NoneGone (slots_of (typing t) z.memory k)) (sym still)
+          (spot_whole (typing t) settled t.state.memory hands only kept k l spot
+          (access_whole (typing t) settled t.state.memory hands t.state.leaks (Excused (home (typing t) depth) other facts) sound.known w l rooted reaches (live w l rooted reaches)
+          k d false spot (ap (shape_of (typing t).table) of ∙ access)
+          (λ moved. elim moved [
+            | inl said ↦ free_way (home (typing t) depth) facts w mine w (under_itself w) said
+            | inr o ↦ alone w (named_near (typing t) depth w named) o
+          ])))
+
+  pub release_same : (p : Pos) (x u d : ℕ) (path : TypedTree) → shape_of (typing t).table u ≡ shape.Access d false true
+      → Leads (typing t) (object_at (typing t) x).of path u → has_call path ≡ false → Compares (typing t) path
+      → AllowsAll facts (acts (source_acts (typing t) (Name p x path u) act.Free))
+      → Step (steps.release t (Name p x path u)) (steps.release (twin t n) (Name p x path u))
+  release_same p x u d path access lead calls compares allowed =
+      release_by _ _ p x u d path (record {
+        at_none = λ k m is. rw is refl;
+        at_whole = λ k m v ws is. rw is refl;
+        at_listed = λ k m v ws is. rw is refl;
+        at_null = λ k m ws is. rw is refl;
+        at_more = λ k m c w ws is. rw is refl;
+        at_freed = λ k m c is dead. rw (is, dead) refl;
+        at_cell = λ k m c is alive. rw (is, alive) refl;
+      }) (record {
+        at_none = λ k m is. rw is refl;
+        at_whole = λ k m v ws is. rw is refl;
+        at_listed = λ k m v ws is. rw is refl;
+        at_null = λ k m ws is. rw is refl;
+        at_more = λ k m c w ws is. rw is refl;
+        at_freed = λ k m c is dead. rw (is, dead) refl;
+        at_cell = λ k m c is alive. rw (is, alive) refl;
+      }) access lead calls compares allowed
+
+  -- ---- input
+
+  abbrev out_act : PlaceName → Act
+  out_act name = act.Actual name mode.Out false false
+
+  input_by : (f g : Place → Memory → Outcome) (p : Pos) (x u : ℕ) (path : TypedTree) → Gets t f → Gets (twin t n) g
+      → Leads (typing t) (object_at (typing t) x).of path u → has_call path ≡ false → Compares (typing t) path
+      → AllowsAll facts (acts (source_acts (typing t) (Name p x path u) out_act))
+      → Step (steps.evaluated t (place_of h (Name p x path u) at) f) (steps.evaluated (twin t n) (place_of h (Name p x path u) (start (twin t n))) g)
+  input_by f g p x u path one two lead calls compares allowed =
+      let b : List Act = acts (acts_in (typing t) path) in
+      let all : acts (source_acts (typing t) (Name p x path u) out_act) ≡ b ++ (out_act (name_of x path) ∷ []) =
+      acts_append (acts_in (typing t) path) (record { pos = p; act = out_act (name_of x path) } ∷ []) in
+      let each = allows_both facts b (out_act (name_of x path) ∷ []) (subst (AllowsAll facts) all allowed) in
+      let stay = steps_quiet_there at hands facts kept sound live (object_at (typing t) x).of u path lead calls each.0 in
+      let actual : Allows facts (out_act (name_of x path)) = subst (λ z. Allows z (out_act (name_of x path))) stay each.1.0 in
+      let writes : Allows facts (act.Write (name_of x path)) = (λ g has. switched (breaks_O3 (name_of x path) g) _ _ (actual g has)) in
+      let place = place_same h settled hands t.state.leaks t.state.memory waits other facts kept sound alone live index_law own_law all_named only
+      p x u path lead calls compares each.0
+      (λ w named same_name z past moved. write_clean (home (typing t) depth) facts w (subst (λ y. Allows facts (act.Write y)) (sym same_name) writes) z past moved)
+      (start (twin t n)) at_start in
+      step_simply t n agrees (place_of h (Name p x path u) at) (place_of h (Name p x path u) (start (twin t n))) f g place.0
+      (λ k i j now. got_same t n agrees f g one two k i.memory j.memory now.0 now.2)
+
+  pub input_same : (p : Pos) (x u : ℕ) (path : TypedTree) → Leads (typing t) (object_at (typing t) x).of path u → has_call path ≡ false → Compares (typing t) path
+      → AllowsAll facts (acts (source_acts (typing t) (Name p x path u) out_act))
+      → Step (steps.input t (Name p x path u)) (steps.input (twin t n) (Name p x path u))
+  input_same p x u path lead calls compares allowed =
+      input_by _ _ p x u path (record {
+        at_missing = λ k m next. rw next refl;
+        at_bad = λ k m next. rw next refl;
+        at_number = λ k m v end next fits. rw (next, fits) refl;
+        at_outside = λ k m v end next out. rw (next, out) refl;
+      }) (record {
+        at_missing = λ k m next. rw next refl;
+        at_bad = λ k m next. rw next refl;
+        at_number = λ k m v end next fits. rw (next, fits) refl;
+        at_outside = λ k m v end next out. rw (next, out) refl;
+      }) lead calls compares allowed
+
+  -- ---- choices
+
+  pub skip_same : Step (steps.turn t Skip) (steps.turn (twin t n) Skip)
+  skip_same = goes_same t n agrees t.state.memory n 0 agrees only
+
+  pub fall_same : Step (steps.turn t Fall) (steps.turn (twin t n) Fall)
+  fall_same = raised_same t n agrees run.ProgramError t.state.memory n agrees
+
+  pub test_same : (e : TypedTree) → Stays (typing t) e → has_call e ≡ false → Compares (typing t) e → AllowsAll facts (acts (acts_in (typing t) e))
+      → Step (steps.test t e 0 1) (steps.test (twin t n) e 0 1)
+  test_same e stays calls compares allowed =
+      step_simply t n agrees (value h e at) (value h e (start (twin t n)))
+      (λ ws m. goes t m (if run.is_true ws then 0 else 1)) (λ ws m. goes (twin t n) m (if run.is_true ws then 0 else 1))
+      (scalar e stays calls compares allowed (start (twin t n)) at_start)
+      (λ ws i j now. goes_same t n agrees i.memory j.memory (if run.is_true ws then 0 else 1) now.0 now.2)
+
+  pub choose_same : (e : TypedTree) (choices : List TypedCode) → Stays (typing t) e → has_call e ≡ false → Compares (typing t) e
+      → AllowsAll facts (acts (acts_in (typing t) e)) → Step (steps.choose t e choices) (steps.choose (twin t n) e choices)
+  choose_same e choices stays calls compares allowed =
+      step_simply t n agrees (value h e at) (value h e (start (twin t n)))
+      (λ ws m. steps.chosen t (length choices) (steps.choice choices ws) m) (λ ws m. steps.chosen (twin t n) (length choices) (steps.choice choices ws) m)
+      (scalar e stays calls compares allowed (start (twin t n)) at_start)
+      (λ ws i j now. by_test (steps.choice choices ws) i j now (nat_lt (steps.choice choices ws) (length choices)))
+    where
+      by_test : (k : ℕ) (i j : Now) → SameNow (typing t) i j → (b : Bool)
+          → SameStep t (if b then goes t i.memory k else raised t run.ConstraintError i.memory) (if b then goes (twin t n) j.memory k else raised (twin t n) run.ConstraintError j.memory)
+      by_test k i j now true = goes_same t n agrees i.memory j.memory k now.0 now.2
+      by_test k i j now false = raised_same t n agrees run.ConstraintError i.memory j.memory now.0
+
+  pub leave_loop_same : (e rest : TypedTree) → rest ≡ NoMore → Stays (typing t) e → has_call e ≡ false → Compares (typing t) e
+      → AllowsAll facts (acts (acts_in (typing t) (More e rest))) → Step (steps.leave_loop t (More e rest)) (steps.leave_loop (twin t n) (More e rest))
+  unfolding acts_in
+  leave_loop_same e rest last stays calls compares allowed =
+      let same : acts_in (typing t) e ++ acts_in (typing t) rest ≡ acts_in (typing t) e =
+      ap (λ z. acts_in (typing t) e ++ acts_in (typing t) z) last ∙ append-nil (acts_in (typing t) e) in
+      test_same e stays calls compares (subst (λ z. AllowsAll facts (acts z)) same allowed)
+
+  -- ---- output
+
+  pub output_same : (e rest : TypedTree) (line : Bool) → rest ≡ NoMore → Writes (typing t) e → has_call e ≡ false → Compares (typing t) e
+      → AllowsAll facts (acts (acts_in (typing t) (More e rest))) → Step (steps.output t (More e rest) line) (steps.output (twin t n) (More e rest) line)
+  unfolding acts_in
+  output_same e rest line last writes calls compares allowed =
+      let same : acts_in (typing t) e ++ acts_in (typing t) rest ≡ acts_in (typing t) e =
+      ap (λ z. acts_in (typing t) e ++ acts_in (typing t) z) last ∙ append-nil (acts_in (typing t) e) in
+      step_simply t n agrees (text_of h e at) (text_of h e (start (twin t n)))
+      (λ bytes m. Goes (record (behind t (waiting t) m 0) { output = t.state.output ++ bytes ++ (if line then 10 ∷ [] else []) }))
+      (λ bytes m. Goes (record (behind (twin t n) (waiting t) m 0) { output = t.state.output ++ bytes ++ (if line then 10 ∷ [] else []) }))
+      (text_same h settled hands t.state.leaks t.state.memory waits other facts kept sound alone live index_law own_law all_named only e writes calls compares
+      (subst (λ z. AllowsAll facts (acts z)) same allowed) (start (twin t n)) at_start).0
+      (λ bytes i j now. ((refl, now.0), now.2))
+
+  pub line_same : (line : Bool) → Step (steps.output t NoMore line) (steps.output (twin t n) NoMore line)
+  unfolding text_of
+  line_same line = ((refl, agrees), only)
+
+  -- ---- loops
+
+  bounds_same : (low high : TypedTree) → Stays (typing t) low → Stays (typing t) high → has_call low ≡ false → has_call high ≡ false
+      → Compares (typing t) low → Compares (typing t) high → AllowsAll facts (acts (acts_in (typing t) low ++ acts_in (typing t) high))
+      → SameTo (typing t) (steps.bounds t low high at) (steps.bounds t low high (start (twin t n)))
+  bounds_same low high stays stays' calls calls' compares compares' allowed =
+      let each = allows_both facts (acts (acts_in (typing t) low)) (acts (acts_in (typing t) high))
+      (subst (AllowsAll facts) (acts_append (acts_in (typing t) low) (acts_in (typing t) high)) allowed) in
+      let q = quiet h settled hands t.state.leaks t.state.memory waits other facts kept sound alone live index_law own_law all_named AsValue low stays calls each.0 in
+      let second : List machine.Word → Now → Evaluated steps.Bounds = (λ a now. followed_by (value h high now) (λ b now. Done (record { low = a; high = b }) now)) in
+      then_same (typing t) (Quiet at One) (value h low at) (value h low (start (twin t n))) second second q.0
+      (scalar low stays calls compares each.0 (start (twin t n)) at_start)
+      (λ a i j quiet_there now. subst (λ z. SameTo (typing t) (second a z) (second a j)) (sym quiet_there.0)
+      (simply (typing t) (value h high at) (value h high j) (λ b now. Done (record { low = a; high = b }) now) (λ b now. Done (record { low = a; high = b }) now)
+      (scalar high stays' calls' compares' (subst (λ z. AllowsAll z (acts (acts_in (typing t) high))) q.1 each.1) j (subst (λ z. SameNow (typing t) z j) quiet_there.0 now))
+      (λ b k k' last. (refl, last))))
+
+  start_by : (f g : steps.Bounds → Memory → Outcome) (x : ℕ) (fails : steps.Bounds → Bool) (loop : steps.Bounds → Loop) (low high : TypedTree)
+      → Starts t x fails loop f → Starts (twin t n) x fails loop g → Stays (typing t) low → Stays (typing t) high → has_call low ≡ false → has_call high ≡ false
+      → Compares (typing t) low → Compares (typing t) high → AllowsAll facts (acts (acts_in (typing t) low ++ acts_in (typing t) high))
+      → Step (steps.evaluated t (steps.bounds t low high at) f) (steps.evaluated (twin t n) (steps.bounds t low high (start (twin t n))) g)
+  start_by f g x fails loop low high one two stays stays' calls calls' compares compares' allowed =
+      step_simply t n agrees (steps.bounds t low high at) (steps.bounds t low high (start (twin t n))) f g
+      (bounds_same low high stays stays' calls calls' compares compares' allowed)
+      (λ b i j now. started_same t n agrees x fails loop f g one two b i.memory j.memory now.0 now.2)
+
+  pub start_same : (x : ℕ) (low high : TypedTree) → Stays (typing t) low → Stays (typing t) high → has_call low ≡ false → has_call high ≡ false
+      → Compares (typing t) low → Compares (typing t) high → AllowsAll facts (acts (acts_in (typing t) low ++ acts_in (typing t) high))
+      → Step (steps.start_loop t x low high) (steps.start_loop (twin t n) x low high)
+  start_same x low high stays stays' calls calls' compares compares' allowed =
+      start_by _ _ x
+      (λ b. int_le (steps.number b.low) (steps.number b.high)
+      && not (fits_type (typing t).table (object_at (typing t) x).of b.low && fits_type (typing t).table (object_at (typing t) x).of b.high))
+      (λ b. record { parameter = x; low = steps.number b.low; high = steps.number b.high; first = true }) low high
+      (record { at_fault = λ b m e. rw e refl; at_turn = λ b m e. rw e refl })
+      (record { at_fault = λ b m e. rw e refl; at_turn = λ b m e. rw e refl })
+      stays stays' calls calls' compares compares' allowed
+
+  -- an iteration
+  turned_same : (x : ℕ) (ws : List machine.Word) (v : Option ℤ)
+      → Step (steps.turned_to t x (variable_place h x) ws v) (steps.turned_to (twin t n) x (variable_place h x) ws v)
+  turned_same x ws (Some v) = (
+    (refl, stored_agree (typing t) (variable_place h x) (steps.parameter_words ws v) t.state.memory n agrees),
+    stored_only (typing t) t.state.memory only (variable_place h x) (steps.parameter_words ws v),
+  )
+  turned_same x ws None = (
+    (refl, undeclared_agree depth x t.state.memory n agrees),
+    undeclared_only (typing t) t.state.memory only depth x,
+  )
+
+  pub next_same : (x : ℕ) (reversed : Bool) → is_scalar (full (typing t).table (object_at (typing t) x).of) ≡ true
+      → Step (steps.next_turn t x reversed) (steps.next_turn (twin t n) x reversed)
+  next_same x reversed plain =
+      let k : Place = variable_place h x in
+      let l : Loc = OfRoot (OfVariable (home (typing t) depth x) x) in
+      let spot : Spot (typing t) t.state.memory hands k l = record { base = refl; made = tt; at = refl; there = refl; of = inl refl } in
+      let none : NoneGone (slots_of (typing t) t.state.memory k) =
+      spot_whole (typing t) settled t.state.memory hands only kept k l spot
+      (plain_whole (typing t) settled t.state.memory hands k l spot (λ p. no_leaf (typing t).table settled k.of plain p)) in
+      subst (λ z. SameStep t (steps.next_turn t x reversed)
+      (steps.turned_to (twin t n) x k z (steps.next_value reversed (steps.loop_of x t.frame.loops) (steps.number z))))
+      (words_agree (typing t) t.state.memory n agrees k none)
+      (turned_same x (words_of (typing t) t.state.memory k)
+      (steps.next_value reversed (steps.loop_of x t.frame.loops) (steps.number (words_of (typing t) t.state.memory k))))

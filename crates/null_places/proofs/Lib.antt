@@ -1,0 +1,13 @@
+-- memories that agree
+pub mod Lists
+pub mod Memories
+pub mod Only
+-- what is looked at isn't gone
+pub mod Places
+pub mod Walks
+pub mod Scalars
+pub mod Evaluated
+pub mod Instructions
+-- steps, and the law
+pub mod Steps
+pub mod Runs

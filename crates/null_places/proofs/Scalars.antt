@@ -1,0 +1,418 @@
+-- Scalar expressions and the indexes of names give the same in memories that agree.
+use Rattle.std.proofs.Common.{◌≡◌, refl, sym, ap, ◌∙◌, subst, inl, inr, ℕ, Bool, true, false, not, ◌&&◌, ◌||◌, List, [], ◌∷◌, ◌++◌, ℤ, ◌-ℤ◌, int_le, unsigned_abs, Option, Some, None, if◌then◌else◌}
+use Rattle.spark_base.specs.declared.position.Pos.{Pos}
+use Rattle.place_names.specs.declared.act.Act.TheVariants as act
+use Rattle.place_names.specs.declared.act.Placed.{Placed}
+use Rattle.place_names.specs.declared.fact.Fact.{Fact}
+use Rattle.place_names.specs.declared.fact.Fact.TheVariants.{Moved}
+use Rattle.place_names.specs.declared.rule.Rule.TheVariants.{O2}
+use Rattle.place_names.specs.declared.rule.State.TheVariants as state
+use Rattle.place_names.specs.Names.{leads_to}
+use Rattle.place_names.specs.Rules.{Forbidden}
+use Rattle.resolved_tree.specs.declared.operator.Operator.{Operator}
+use Rattle.resolved_tree.specs.declared.operator.UnaryOperator.{UnaryOperator}
+use Rattle.type_definitions.specs.declared.table.Static.{Static}
+use Rattle.type_definitions.specs.declared.table.Shape.{Shape}
+use Rattle.type_definitions.specs.declared.table.Shape.TheVariants as shape
+use Rattle.type_definitions.specs.Types.{shape_of, full, is_owning, is_scalar, view_of, owns_of, parts}
+use Rattle.typed_tree.specs.Trees.{TypedTree, Number, Literal, Text, Name, Component as IntoComponent, Designated, Element, Call, EndOfFile, Parens, Image, Unary, Binary, Short, IsNull, Aggregate, Alike, New, NoMore, More}
+use Rattle.typed_tree.specs.Trees as typed
+use Rattle.flow_paths.specs.Objects.{object_at}
+use Rattle.flow_paths.specs.Names.{has_call, name_of, selectors}
+use Rattle.flow_paths.specs.Acts.{used, acts_in}
+use Rattle.machine.specs.Words.{component_type}
+use Rattle.machine.specs.Words as machine
+use Rattle.machine.specs.Memory.{Memory, Place, slots_of, moved_out}
+use Rattle.machine.specs.Evaluate.{Here, Now, Use, AsValue, AsView, Evaluated, Done, Raises, Traps, followed_by, evaluate, steps_of, place_of, text_of, value, variable_place, walked, held_or_taken, taken, indexed, operated, operated_alone, given, decides, truth}
+use Rattle.machine.specs.Evaluate as run
+use Rattle.machine.specs.States.{Waiting, Leak}
+use Rattle.owned_ways.specs.Ways.{OfVariable, Loc, OfRoot, Way, Object, Reaches, IsRooted, Past, Named, IsMoved, Excused, Allows, after, AllowsAll, Sound}
+use Rattle.owned_ways.specs.Ways as ways
+use Rattle.owned_ways.proofs.Locations.{under_itself}
+use Rattle.owned_ways.proofs.Named.{under_leads}
+use Rattle.owned_ways.proofs.Assigned.{test_fails, either_left, named_rooted}
+use Rattle.part_offsets.specs.Parts.{IsSettled}
+use Rattle.soundness.specs.Seen.{content, trunk, seen, home, IsNear}
+use Rattle.soundness.specs.Typed.{OwnsByShape, Kept, Spot}
+use Rattle.typed_laws.specs.Needed.{Stays, Leads, Writes, IndexLaw}
+use Rattle.soundness.proofs.Near.{named_near, past_near}
+use Rattle.soundness.proofs.Walks.{way_along, Walked}
+use Rattle.soundness.proofs.Steps.{no_leaf}
+use Rattle.soundness.proofs.Scalars.{after_append, allows_both, acts, acts_append, read_way, look_way, number_along, named_along}
+use Rattle.soundness.proofs.Stays.{Quiet, One, Any, Goes, quiet_then, quiet, steps_quiet, name_quiet}
+use Rattle.null_places.specs.Compares.{Compares}
+use Rattle.null_places.proofs.Memories.{NoneGone, words_agree}
+use Rattle.null_places.proofs.Only.{OnlyOwners}
+use Rattle.null_places.proofs.Places.{spot_whole, plain_whole, access_whole}
+use Rattle.null_places.proofs.Walks.{SameNow, SameTo, then_same, simply, walk_same}
+
+-- ---- operators
+
+module _ (h : Here) where
+  abbrev Same : {A : Type 0} → Evaluated A → Evaluated A → Type 0
+  Same x y = SameTo h.typing x y
+
+  given_same : (v : Option Static) (n n' : Now) → SameNow h.typing n n' → Same (given v n) (given v n')
+  given_same None n n' same = (refl, same)
+  given_same (Some v) n n' same = (refl, same)
+
+  one_same : (op : UnaryOperator) (ws : List machine.Word) (n n' : Now) → SameNow h.typing n n' → Same (operated_alone op ws n) (operated_alone op ws n')
+  one_same op [] n n' same = (refl, same)
+  one_same op (a ∷ []) n n' same = given_same _ n n' same
+  one_same op (a ∷ b ∷ ws) n n' same = (refl, same)
+
+  two_same : (op : Operator) (xs ys : List machine.Word) (n n' : Now) → SameNow h.typing n n' → Same (operated op xs ys n) (operated op xs ys n')
+  two_same op [] ys n n' same = (refl, same)
+  two_same op (a ∷ []) [] n n' same = (refl, same)
+  two_same op (a ∷ []) (b ∷ []) n n' same = given_same _ n n' same
+  two_same op (a ∷ []) (b ∷ c ∷ ys) n n' same = (refl, same)
+  two_same op (a ∷ c ∷ xs) ys n n' same = (refl, same)
+
+  -- an index changes nothing
+  abbrev Still : {A : Type 0} → Now → Evaluated A → Type 0
+  Still now (Done a n) = n ≡ now
+  Still now x = Unit {0}
+
+  index_same : (low high : ℤ) (ws : List machine.Word) (n n' : Now) → SameNow h.typing n n'
+      → Same (indexed low high ws n) (indexed low high ws n') × Still n (indexed low high ws n)
+  index_same low high [] n n' same = ((refl, same), tt)
+  index_same low high (machine.Int v ∷ []) n n' same = by_test (int_le low v && int_le v high)
+    where
+      by_test : (b : Bool)
+          → Same (if b then Done (unsigned_abs (v -ℤ low)) n else Raises run.ConstraintError n) (if b then Done (unsigned_abs (v -ℤ low)) n' else Raises run.ConstraintError n')
+          × Still n (if b then Done (unsigned_abs (v -ℤ low)) n else Raises run.ConstraintError n)
+      by_test true = ((refl, same), refl)
+      by_test false = ((refl, same), tt)
+  index_same low high (machine.Int v ∷ w ∷ ws) n n' same = ((refl, same), tt)
+  index_same low high (machine.Enumerated v ∷ ws) n n' same = ((refl, same), tt)
+  index_same low high (machine.Null ∷ ws) n n' same = ((refl, same), tt)
+  index_same low high (machine.Cell v ∷ ws) n n' same = ((refl, same), tt)
+
+  -- a place of which nothing is gone is looked at
+  pub view_same : (k : Place) (n n' : Now) → NoneGone (slots_of h.typing n.memory k) → SameNow h.typing n n'
+      → Same (held_or_taken h AsView k n) (held_or_taken h AsView k n')
+  view_same k n n' none same = (words_agree h.typing n.memory n'.memory same.0 k none, same)
+
+  -- or read, where its type doesn't own
+  pub copy_same : (k : Place) (n n' : Now) → NoneGone (slots_of h.typing n.memory k) → is_owning h.typing.table k.of ≡ false → SameNow h.typing n n'
+      → Same (held_or_taken h AsValue k n) (held_or_taken h AsValue k n')
+  copy_same k n n' none plain same = (
+    words_agree h.typing n.memory n'.memory same.0 k none,
+    subst (λ b. SameNow h.typing
+        (if b then record n { memory = moved_out h.typing k n.memory } else n) (if b then record n' { memory = moved_out h.typing k n'.memory } else n')) (sym plain) same,
+  )
+
+-- a comparison with null keeps what it names from being moved
+look_clean : (at_home : ℕ → ℕ) (facts : List Fact) (w : Way) → Allows facts (act.Look (ways.name_of w)) → IsMoved at_home facts w → ⊥
+look_clean at_home facts w allowed h =
+    test_fails Forbidden (record { rule = O2; name = ways.name_of w; word = state.Moved }) (leads_to (ways.name_of w) (ways.name_of w) || false)
+    (either_left (leads_to (ways.name_of w) (ways.name_of w)) false (under_leads w w (under_itself w))) (allowed (Moved (ways.name_of w)) h.1)
+
+or_cases : (a b : Bool) → a || b ≡ false → (a ≡ false) × (b ≡ false)
+or_cases true b e = cc
+or_cases false b e = (refl, e)
+
+scalar_owns : (s : Shape) (f : ℕ → Bool) → is_scalar (view_of s) ≡ true → owns_of f s ≡ false
+scalar_owns (shape.Whole a b) f e = refl
+scalar_owns (shape.Listed l a b) f e = refl
+scalar_owns (shape.Access d c n) f e = cc
+scalar_owns (shape.Fields cs) f e = cc
+scalar_owns (shape.Elements a b el) f e = cc
+scalar_owns (shape.Same of) f e = cc
+
+-- ---- names and expressions
+
+module _ (h : Here) (settled : IsSettled h.typing.table) (hands : List Waiting) (leaks : List Leak) (m : Memory) (waits : List (List machine.Word))
+    (other : Way → Type 0) (facts : List Fact) (kept : Kept h.typing m hands)
+    (sound : Sound (home h.typing h.frame) other (seen h.typing m hands leaks) facts) (alone : (w : Way) → IsNear h.frame w → other w → ⊥)
+    (live : (w : Way) (l : Loc) → IsRooted w → Reaches (seen h.typing m hands leaks) w l → (content h.typing m hands (trunk l)).owns ≡ true)
+    (index_law : IndexLaw) (own_law : OwnsByShape h.typing.table)
+    (all_named : (t d : ℕ) (c n : Bool) → shape_of h.typing.table t ≡ shape.Access d c n → n ≡ true) (only : OnlyOwners h.typing m) where
+  abbrev at : Now
+  at = record { memory = m; waits = waits }
+
+  abbrev SameNowAt : Now → Type 0
+  SameNowAt n = SameNow h.typing at n
+
+  abbrev first_way : ℕ → Way
+  first_way x = Object (OfVariable (home h.typing h.frame x) x)
+
+  -- nothing moved stands on the way of a name
+  abbrev Clean : ℕ → TypedTree → Type 0
+  Clean x steps =
+      (w : Way) → Named (home h.typing h.frame) w → ways.name_of w ≡ name_of x steps → (v : Way) → Past v w → IsMoved (home h.typing h.frame) facts v → ⊥
+
+  pub called : (x t : ℕ) (steps : TypedTree) (way : List run.Step) → Goes h.typing.table (object_at h.typing x).of t steps way
+      → ways.name_of (way_along way (first_way x)) ≡ name_of x steps
+  called x t steps way goes = (λ j. record { root = number_along way (first_way x) j; sels = goes.sels (first_way x) j })
+
+  pub named_way : (x : ℕ) (way : List run.Step) → Named (home h.typing h.frame) (way_along way (first_way x))
+  named_way x way = named_along (home h.typing h.frame) way (first_way x) refl
+
+  pub name_same : (x : ℕ) (steps : TypedTree) (t : ℕ) (way : List run.Step) → Goes h.typing.table (object_at h.typing x).of t steps way → Clean x steps
+      → (n' : Now) → SameNowAt n' → SameTo h.typing (walked h.typing way (variable_place h x) at) (walked h.typing way (variable_place h x) n')
+  name_same x steps t way goes clean n' same =
+      walk_same h.typing settled hands leaks m waits (Excused (home h.typing h.frame) other facts) kept sound.owned sound.known live only way (variable_place h x)
+      (OfRoot (OfVariable (home h.typing h.frame x) x)) (first_way x) t
+      (record { base = refl; made = tt; at = refl; there = refl; of = inl refl }) tt refl goes.lead
+      (λ v p moved. elim moved [
+        | inr o ↦ alone v (past_near h.frame v (way_along way (first_way x)) p (named_near h.typing h.frame (way_along way (first_way x)) (named_way x way))) o
+        | inl mine ↦ clean (way_along way (first_way x)) (named_way x way) (called x t steps way goes) v p mine
+      ]) n' same
+
+  not_owning : (t : ℕ) → is_scalar (full h.typing.table t) ≡ true → is_owning h.typing.table t ≡ false
+  not_owning t e = own_law t ∙ scalar_owns (shape_of h.typing.table t) (is_owning h.typing.table) e
+
+  -- what a place of a scalar type has isn't gone
+  scalar_none : (k : Place) (l : Loc) (t : ℕ) → Spot h.typing m hands k l → k.of ≡ t → is_scalar (full h.typing.table t) ≡ true → NoneGone (slots_of h.typing m k)
+  scalar_none k l t spot of scalar =
+      spot_whole h.typing settled m hands only kept k l spot
+      (plain_whole h.typing settled m hands k l spot (λ p. no_leaf h.typing.table settled k.of (ap (λ z. is_scalar (full h.typing.table z)) of ∙ scalar) p))
+
+  read_same : (u : Use) (w : Way) (t : ℕ) → is_scalar (full h.typing.table t) ≡ true → (k : Place) (n n' : Now)
+      → Walked h.typing settled hands leaks m waits w t (Done k n) → SameNow h.typing n n' → SameTo h.typing (held_or_taken h u k n) (held_or_taken h u k n')
+  read_same AsView w t scalar k n n' (l, is, spot, reaches, of) same =
+      view_same h k n n' (subst (λ (z : Now). NoneGone (slots_of h.typing z.memory k)) (sym is) (scalar_none k l t spot of scalar)) same
+  read_same AsValue w t scalar k n n' (l, is, spot, reaches, of) same =
+      copy_same h k n n' (subst (λ (z : Now). NoneGone (slots_of h.typing z.memory k)) (sym is) (scalar_none k l t spot of scalar))
+      (ap (is_owning h.typing.table) of ∙ not_owning t scalar) same
+
+  abbrev QuietAt : {A : Type 0} → (A → Type 0) → Evaluated A → Type 0
+  QuietAt P x = Quiet at P x
+
+  abbrev Stay : List Placed → Type 0
+  Stay ps = after (acts ps) facts ≡ facts
+
+  split_allowed : (a b : List Placed) → AllowsAll facts (acts (a ++ b)) → (Stay a → AllowsAll facts (acts b)) × AllowsAll facts (acts a)
+  split_allowed a b x =
+      let each = allows_both facts (acts a) (acts b) (subst (AllowsAll facts) (acts_append a b) x) in
+      (λ stay. subst (λ z. AllowsAll z (acts b)) stay each.1, each.0)
+
+  quiet_here : (u : Use) (e : TypedTree) → Stays h.typing e → has_call e ≡ false → AllowsAll facts (acts (acts_in h.typing e))
+      → Quiet at One (evaluate h u e at) × Stay (acts_in h.typing e)
+  quiet_here u e stays calls allowed = quiet h settled hands leaks m waits other facts kept sound alone live index_law own_law all_named u e stays calls allowed
+
+  steps_here : (t u : ℕ) (steps : TypedTree) → Leads h.typing t steps u → has_call steps ≡ false → AllowsAll facts (acts (acts_in h.typing steps))
+      → Quiet at (λ way. Goes h.typing.table t u steps way) (steps_of h steps at) × Stay (acts_in h.typing steps)
+  steps_here t u steps lead calls allowed =
+      steps_quiet h settled hands leaks m waits other facts kept sound alone live index_law own_law all_named t u steps lead calls allowed
+
+  name_here : (x : ℕ) (steps : TypedTree) (t : ℕ) (way : List run.Step) → Goes h.typing.table (object_at h.typing x).of t steps way → Clean x steps
+      → Walked h.typing settled hands leaks m waits (way_along way (first_way x)) t (walked h.typing way (variable_place h x) at)
+  name_here x steps t way goes clean = name_quiet h settled hands leaks m waits other facts kept sound alone live index_law own_law all_named x steps t way goes clean
+
+  -- a name whose steps are evaluated, and what is done with its place
+  pub place_then : {A : Type 0} (x t : ℕ) (steps : TypedTree) (f g : Place → Now → Evaluated A) → Clean x steps
+      → Quiet at (λ way. Goes h.typing.table (object_at h.typing x).of t steps way) (steps_of h steps at) → (n' : Now)
+      → SameTo h.typing (steps_of h steps at) (steps_of h steps n')
+      → ((way : List run.Step) → Goes h.typing.table (object_at h.typing x).of t steps way → (k : Place) (n n' : Now)
+      → Walked h.typing settled hands leaks m waits (way_along way (first_way x)) t (Done k n) → SameNow h.typing n n' → SameTo h.typing (f k n) (g k n'))
+      → SameTo h.typing (followed_by (steps_of h steps at) (λ way now. followed_by (walked h.typing way (variable_place h x) now) f))
+      (followed_by (steps_of h steps n') (λ way now. followed_by (walked h.typing way (variable_place h x) now) g))
+  place_then x t steps f g clean q n' same next =
+      then_same h.typing (QuietAt (λ way. Goes h.typing.table (object_at h.typing x).of t steps way)) (steps_of h steps at) (steps_of h steps n')
+      (λ way now. followed_by (walked h.typing way (variable_place h x) now) f) (λ way now. followed_by (walked h.typing way (variable_place h x) now) g) q same
+      (λ way n n'' p now. subst (λ z. SameTo h.typing (followed_by (walked h.typing way (variable_place h x) z) f) (followed_by (walked h.typing way (variable_place h x) n'') g)) (sym p.0)
+      (then_same h.typing (Walked h.typing settled hands leaks m waits (way_along way (first_way x)) t) (walked h.typing way (variable_place h x) at)
+      (walked h.typing way (variable_place h x) n'') f g (name_here x steps t way p.1 clean)
+      (name_same x steps t way p.1 clean n'' (subst (λ z. SameNow h.typing z n'') p.0 now)) (next way p.1)))
+
+  -- what is compared with null
+  looked_same : (x t : ℕ) (steps : TypedTree) (d : ℕ) (c b : Bool) → shape_of h.typing.table t ≡ shape.Access d c b → Allows facts (act.Look (name_of x steps))
+      → (way : List run.Step) → Goes h.typing.table (object_at h.typing x).of t steps way → (k : Place) (n n' : Now)
+      → Walked h.typing settled hands leaks m waits (way_along way (first_way x)) t (Done k n) → SameNow h.typing n n'
+      → SameTo h.typing (held_or_taken h AsView k n) (held_or_taken h AsView k n')
+  looked_same x t steps d c b is looks way goes k n n' (l, still, spot, reaches, of) same =
+      let w : Way = way_along way (first_way x) in
+      let rooted = named_rooted (home h.typing h.frame) w (named_way x way) in
+      let mine : Allows facts (act.Look (ways.name_of w)) = subst (λ z. Allows facts (act.Look z)) (sym (called x t steps way goes)) looks in
+      let type : shape_of h.typing.table k.of ≡ shape.Access d c true =
+      ap (shape_of h.typing.table) of ∙ is ∙ ap (shape.Access d c) (all_named t d c b is) in
+      let none : NoneGone (slots_of h.typing m k) =
+      spot_whole h.typing settled m hands only kept k l spot
+      (access_whole h.typing settled m hands leaks (Excused (home h.typing h.frame) other facts) sound.known w l rooted reaches (live w l rooted reaches) k d c spot type
+      (λ moved. elim moved [
+        | inl facts_say ↦ look_clean (home h.typing h.frame) facts w mine facts_say
+        | inr o ↦ alone w (named_near h.typing h.frame w (named_way x way)) o
+      ])) in
+      view_same h k n n' (subst (λ (z : Now). NoneGone (slots_of h.typing z.memory k)) (sym still) none) same
+
+  mutual
+    unfolding Stays Leads Compares evaluate steps_of acts_in has_call selectors
+
+    pub scalar_same : (u : Use) (e : TypedTree) → Stays h.typing e → has_call e ≡ false → Compares h.typing e → AllowsAll facts (acts (acts_in h.typing e))
+        → (n' : Now) → SameNowAt n' → SameTo h.typing (evaluate h u e at) (evaluate h u e n')
+    scalar_same u (Number v) stays none compares allowed n' same = (refl, same)
+    scalar_same u (Literal n) stays none compares allowed n' same = (refl, same)
+    scalar_same u typed.Null stays none compares allowed n' same = (refl, same)
+    scalar_same u (Text b) stays none compares allowed n' same = absurd stays
+    scalar_same u EndOfFile stays none compares allowed n' same = (refl, same)
+    scalar_same u NoMore stays none compares allowed n' same = absurd stays
+    scalar_same u (Name p x steps t) (lead, scalar) none compares allowed n' same =
+        let owns = not_owning t scalar in
+        let is : used h.typing (name_of x steps) t ≡ act.Read (name_of x steps) =
+        ap (λ b. if b then act.Move (name_of x steps) (parts h.typing.table t) else act.Read (name_of x steps)) owns in
+        let each = split_allowed (acts_in h.typing steps) (record { pos = p; act = used h.typing (name_of x steps) t } ∷ []) allowed in
+        let inner = steps_here (object_at h.typing x).of t steps lead none each.1 in
+        let reads : Allows facts (act.Read (name_of x steps)) = subst (Allows facts) is (each.0 inner.1).0 in
+        place_then x t steps (held_or_taken h u) (held_or_taken h u)
+        (λ w named same_name v past moved. read_way (home h.typing h.frame) facts w (subst (λ z. Allows facts (act.Read z)) (sym same_name) reads) v past moved)
+        inner.0 n' (steps_same (object_at h.typing x).of t steps lead none compares each.1 n' same)
+        (λ way goes k n n'' walked now. read_same u (way_along way (first_way x)) t scalar k n n'' walked now)
+    scalar_same u (Call p sub actuals) stays none compares allowed n' same = cc
+    scalar_same u (Parens e) stays none compares allowed n' same = scalar_same AsValue e stays none compares allowed n' same
+    scalar_same u (Image t e) stays none compares allowed n' same = absurd stays
+    scalar_same u (Unary op e) stays none compares allowed n' same =
+        simply h.typing (evaluate h AsValue e at) (evaluate h AsValue e n') (operated_alone op) (operated_alone op)
+        (scalar_same AsValue e stays none compares allowed n' same) (λ ws n n'' now. one_same h op ws n n'' now)
+    scalar_same u (Binary op a b) stays none compares allowed n' same =
+        let calls = or_cases (has_call a) (has_call b) none in
+        let each = split_allowed (acts_in h.typing a) (acts_in h.typing b) allowed in
+        let left = quiet_here AsValue a stays.0 calls.0 each.1 in
+        then_same h.typing (QuietAt One) (evaluate h AsValue a at) (evaluate h AsValue a n')
+        (λ x now. followed_by (evaluate h AsValue b now) (operated op x)) (λ x now. followed_by (evaluate h AsValue b now) (operated op x)) left.0
+        (scalar_same AsValue a stays.0 calls.0 compares.0 each.1 n' same)
+        (λ x n n'' q now. subst (λ z. SameTo h.typing (followed_by (evaluate h AsValue b z) (operated op x)) (followed_by (evaluate h AsValue b n'') (operated op x))) (sym q.0)
+        (simply h.typing (evaluate h AsValue b at) (evaluate h AsValue b n'') (operated op x) (operated op x)
+        (scalar_same AsValue b stays.1 calls.1 compares.1 (each.0 left.1) n'' (subst (λ z. SameNow h.typing z n'') q.0 now))
+        (λ y k k' last. two_same h op x y k k' last)))
+    scalar_same u (Short op p a q b) stays none compares allowed n' same =
+        let calls = or_cases (has_call a) (has_call b) none in
+        let is : acts_in h.typing (Short op p a q b) ≡ acts_in h.typing a ++ acts_in h.typing b =
+        ap (λ c. if c then [] else acts_in h.typing a ++ acts_in h.typing b) calls.1 in
+        let each = split_allowed (acts_in h.typing a) (acts_in h.typing b) (subst (λ z. AllowsAll facts (acts z)) is allowed) in
+        let left = quiet_here AsValue a stays.0 calls.0 each.1 in
+        let right : List machine.Word → Now → Evaluated (List machine.Word) = (λ x now. if decides op x then Done x now else evaluate h AsValue b now) in
+        subst (λ c. SameTo h.typing (if c then run.waited at else followed_by (evaluate h AsValue a at) right)
+        (if c then run.waited n' else followed_by (evaluate h AsValue a n') right)) (sym calls.1)
+        (then_same h.typing (QuietAt One) (evaluate h AsValue a at) (evaluate h AsValue a n') right right left.0
+        (scalar_same AsValue a stays.0 calls.0 compares.0 each.1 n' same)
+        (λ x n n'' q now. decided (decides op x) x n n'' now (subst (λ z. SameTo h.typing (evaluate h AsValue b z) (evaluate h AsValue b n'')) (sym q.0)
+        (scalar_same AsValue b stays.1 calls.1 compares.1 (each.0 left.1) n'' (subst (λ z. SameNow h.typing z n'') q.0 now)))))
+      where
+        decided : (c : Bool) (x : List machine.Word) (n n'' : Now) → SameNow h.typing n n'' → SameTo h.typing (evaluate h AsValue b n) (evaluate h AsValue b n'')
+            → SameTo h.typing (if c then Done x n else evaluate h AsValue b n) (if c then Done x n'' else evaluate h AsValue b n'')
+        decided true x n n'' now is = (refl, now)
+        decided false x n n'' now is = is
+    scalar_same u (IsNull equal (Name p x steps t)) lead none (d, c, b, is, compares) allowed n' same =
+        let each = split_allowed (acts_in h.typing steps) (record { pos = p; act = act.Look (name_of x steps) } ∷ []) allowed in
+        let inner = steps_here (object_at h.typing x).of t steps lead none each.1 in
+        let looks : Allows facts (act.Look (name_of x steps)) = (each.0 inner.1).0 in
+        simply h.typing (evaluate h AsView (Name p x steps t) at) (evaluate h AsView (Name p x steps t) n')
+        (λ ws now. Done (truth (if run.is_null ws then equal else not equal)) now) (λ ws now. Done (truth (if run.is_null ws then equal else not equal)) now)
+        (place_then x t steps (held_or_taken h AsView) (held_or_taken h AsView)
+        (λ w named same_name v past moved. look_way (home h.typing h.frame) facts w (subst (λ z. Allows facts (act.Look z)) (sym same_name) looks) v past moved)
+        inner.0 n' (steps_same (object_at h.typing x).of t steps lead none compares each.1 n' same)
+        (λ way goes k n n'' walked now. looked_same x t steps d c b is looks way goes k n n'' walked now))
+        (λ ws n n'' now. (refl, now))
+    scalar_same u (IsNull equal (Call p sub actuals)) stays none compares allowed n' same = cc
+    scalar_same u (IsNull equal e) stays none compares allowed n' same = absurd stays
+    scalar_same u (More e rest) stays none compares allowed n' same = absurd stays
+    scalar_same u (Aggregate t es) stays none compares allowed n' same = absurd stays
+    scalar_same u (Alike t e) stays none compares allowed n' same = absurd stays
+    scalar_same u (New t v) stays none compares allowed n' same = absurd stays
+    scalar_same u (IntoComponent i rest) stays none compares allowed n' same = absurd stays
+    scalar_same u (Designated rest) stays none compares allowed n' same = absurd stays
+    scalar_same u (Element index low high rest) stays none compares allowed n' same = absurd stays
+
+    pub steps_same : (t u : ℕ) (steps : TypedTree) → Leads h.typing t steps u → has_call steps ≡ false → Compares h.typing steps
+        → AllowsAll facts (acts (acts_in h.typing steps)) → (n' : Now) → SameNowAt n' → SameTo h.typing (steps_of h steps at) (steps_of h steps n')
+    steps_same t u (IntoComponent i rest) (lt, lead) none compares allowed n' same =
+        simply h.typing (steps_of h rest at) (steps_of h rest n') (λ way now. Done (run.ToComponent i ∷ way) now) (λ way now. Done (run.ToComponent i ∷ way) now)
+        (steps_same (component_type h.typing.table t i) u rest lead none compares allowed n' same) (λ way n n'' now. (refl, now))
+    steps_same t u (Designated rest) (d, c, b, is, lead) none compares allowed n' same =
+        simply h.typing (steps_of h rest at) (steps_of h rest n') (λ way now. Done (run.ToDesignated ∷ way) now) (λ way now. Done (run.ToDesignated ∷ way) now)
+        (steps_same d u rest lead none compares allowed n' same) (λ way n n'' now. (refl, now))
+    steps_same t u (Element index low high rest) (e, is, stays, lead) none compares allowed n' same =
+        let calls = or_cases (has_call index) (has_call rest) none in
+        let each = split_allowed (acts_in h.typing index) (acts_in h.typing rest) allowed in
+        let first = quiet_here AsValue index stays calls.0 each.1 in
+        let last : ℕ → Now → Evaluated (List run.Step) = (λ k now. followed_by (steps_of h rest now) (λ way now. Done (run.ToElement k ∷ way) now)) in
+        then_same h.typing (QuietAt One) (evaluate h AsValue index at) (evaluate h AsValue index n')
+        (λ ws now. followed_by (indexed low high ws now) last) (λ ws now. followed_by (indexed low high ws now) last) first.0
+        (scalar_same AsValue index stays calls.0 compares.0 each.1 n' same)
+        (λ ws n n'' q now.
+        let test = index_same h low high ws n n'' now in
+        then_same h.typing (Still h n) (indexed low high ws n) (indexed low high ws n'') last last test.1 test.0
+        (λ k i i' still so. subst (λ z. SameTo h.typing (last k z) (last k i')) (sym (still ∙ q.0))
+        (simply h.typing (steps_of h rest at) (steps_of h rest i') (λ way now. Done (run.ToElement k ∷ way) now) (λ way now. Done (run.ToElement k ∷ way) now)
+        (steps_same e u rest lead calls.1 compares.1 (each.0 first.1) i' (subst (λ z. SameNow h.typing z i') (still ∙ q.0) so)) (λ way n n'' now. (refl, now)))))
+    steps_same t u NoMore lead none compares allowed n' same = (refl, same)
+    steps_same t u steps lead none compares allowed n' same = absurd lead
+
+  -- ---- places
+
+  -- A place that a name leads to.
+  abbrev pub IsPlaced : ℕ → ℕ → TypedTree → Evaluated Place → Type 0
+  IsPlaced x t steps (Done k n) =
+      (way : List run.Step) × Goes h.typing.table (object_at h.typing x).of t steps way
+      × Walked h.typing settled hands leaks m waits (way_along way (first_way x)) t (Done k n)
+  IsPlaced x t steps y = Unit {0}
+
+  from_walk : (x t : ℕ) (steps : TypedTree) (way : List run.Step) → Goes h.typing.table (object_at h.typing x).of t steps way → (z : Evaluated Place)
+      → Walked h.typing settled hands leaks m waits (way_along way (first_way x)) t z → IsPlaced x t steps z
+  from_walk x t steps way goes (Done k n) is = (way, goes, is)
+  from_walk x t steps way goes (Raises e n) is = tt
+  from_walk x t steps way goes (Traps e n) is = tt
+
+  placed_there : (x t : ℕ) (steps : TypedTree) → Clean x steps → (y : Evaluated (List run.Step))
+      → Quiet at (λ way. Goes h.typing.table (object_at h.typing x).of t steps way) y
+      → IsPlaced x t steps (followed_by y (λ way now. walked h.typing way (variable_place h x) now))
+  placed_there x t steps clean (Done way n) (same, goes) =
+      subst (λ z. IsPlaced x t steps (walked h.typing way (variable_place h x) z)) (sym same)
+      (from_walk x t steps way goes (walked h.typing way (variable_place h x) at) (name_here x steps t way goes clean))
+  placed_there x t steps clean (Raises e n) q = tt
+  placed_there x t steps clean (Traps e n) q = tt
+
+  pub place_same : (p : Pos) (x t : ℕ) (steps : TypedTree) → Leads h.typing (object_at h.typing x).of steps t → has_call steps ≡ false → Compares h.typing steps
+      → AllowsAll facts (acts (acts_in h.typing steps)) → Clean x steps → (n' : Now) → SameNowAt n'
+      → SameTo h.typing (place_of h (Name p x steps t) at) (place_of h (Name p x steps t) n') × IsPlaced x t steps (place_of h (Name p x steps t) at)
+  place_same p x t steps lead none compares allowed clean n' same =
+      let q = (steps_here (object_at h.typing x).of t steps lead none allowed).0 in (
+        then_same h.typing (QuietAt (λ way. Goes h.typing.table (object_at h.typing x).of t steps way)) (steps_of h steps at) (steps_of h steps n')
+            (λ way now. walked h.typing way (variable_place h x) now) (λ way now. walked h.typing way (variable_place h x) now) q
+            (steps_same (object_at h.typing x).of t steps lead none compares allowed n' same)
+            (λ way n n'' p now. subst (λ z. SameTo h.typing (walked h.typing way (variable_place h x) z) (walked h.typing way (variable_place h x) n'')) (sym p.0)
+            (name_same x steps t way p.1 clean n'' (subst (λ z. SameNow h.typing z n'') p.0 now))),
+        placed_there x t steps clean (steps_of h steps at) q,
+      )
+
+  -- ---- strings
+
+  text_quiet : {A B : Type 0} (x : Evaluated A) (f : A → Now → Evaluated B) → Quiet at (Any {A = A}) x → ((a : A) → Quiet at (Any {A = B}) (f a at))
+      → Quiet at (Any {A = B}) (followed_by x f)
+  text_quiet x f q next = quiet_then at Any Any x f q (λ a any. next a)
+
+  weaker : (x : Evaluated (List machine.Word)) → Quiet at One x → Quiet at (Any {A = List machine.Word}) x
+  weaker (Done a n) q = (q.0, tt)
+  weaker (Raises e n) q = q
+  weaker (Traps e n) q = q
+
+  pub text_same : (e : TypedTree) → Writes h.typing e → has_call e ≡ false → Compares h.typing e → AllowsAll facts (acts (acts_in h.typing e))
+      → (n' : Now) → SameNowAt n'
+      → SameTo h.typing (text_of h e at) (text_of h e n') × Quiet at (Any {A = List ℕ}) (text_of h e at) × Stay (acts_in h.typing e)
+  unfolding Writes text_of has_call acts_in Compares
+  text_same (Text b) writes none compares allowed n' same = ((refl, same), (refl, tt), refl)
+  text_same (Image u e) stays none compares allowed n' same =
+      let q = quiet_here AsValue e stays none allowed in (
+        simply h.typing (value h e at) (value h e n') (λ ws now. Done (run.image_of h.typing.table u ws) now) (λ ws now. Done (run.image_of h.typing.table u ws) now)
+            (scalar_same AsValue e stays none compares allowed n' same) (λ ws n n'' now. (refl, now)),
+        text_quiet (value h e at) (λ ws now. Done (run.image_of h.typing.table u ws) now) (weaker (value h e at) q.0) (λ ws. (refl, tt)),
+        q.1,
+      )
+  text_same (Parens e) writes none compares allowed n' same = text_same e writes none compares allowed n' same
+  text_same (Binary op a b) (wa, wb) none compares allowed n' same =
+      let calls = or_cases (has_call a) (has_call b) none in
+      let each = split_allowed (acts_in h.typing a) (acts_in h.typing b) allowed in
+      let left = text_same a wa calls.0 compares.0 each.1 n' same in
+      let own = text_same b wb calls.1 compares.1 (each.0 left.2) n' same in
+      let second : List ℕ → Now → Evaluated (List ℕ) = (λ x now. followed_by (text_of h b now) (λ y now. Done (x ++ y) now)) in (
+        then_same h.typing (QuietAt (Any {A = List ℕ})) (text_of h a at) (text_of h a n') second second left.1 left.0
+            (λ x n n'' q now. subst (λ z. SameTo h.typing (second x z) (second x n'')) (sym q.0)
+            (simply h.typing (text_of h b at) (text_of h b n'') (λ y now. Done (x ++ y) now) (λ y now. Done (x ++ y) now)
+            (text_same b wb calls.1 compares.1 (each.0 left.2) n'' (subst (λ z. SameNow h.typing z n'') q.0 now)).0 (λ y k k' last. (refl, last)))),
+        text_quiet (text_of h a at) second left.1 (λ x. text_quiet (text_of h b at) (λ y now. Done (x ++ y) now) own.1 (λ y. (refl, tt))),
+        ap (λ z. after z facts) (acts_append (acts_in h.typing a) (acts_in h.typing b)) ∙ after_append (acts (acts_in h.typing a)) (acts (acts_in h.typing b)) facts
+            ∙ ap (after (acts (acts_in h.typing b))) left.2 ∙ own.2,
+      )
+  text_same e writes none compares allowed n' same = absurd writes
