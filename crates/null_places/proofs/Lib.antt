@@ -8,6 +8,9 @@ pub mod Walks
 pub mod Scalars
 pub mod Evaluated
 pub mod Instructions
+pub mod Calls
+-- typed programs
+pub mod Typed
 -- steps, and the law
 pub mod Steps
 pub mod Runs

@@ -1,5 +1,5 @@
 -- Scalar expressions and the indexes of names give the same in memories that agree.
-use Rattle.std.proofs.Common.{◌≡◌, refl, sym, ap, ◌∙◌, subst, inl, inr, ℕ, Bool, true, false, not, ◌&&◌, ◌||◌, List, [], ◌∷◌, ◌++◌, ℤ, ◌-ℤ◌, int_le, unsigned_abs, Option, Some, None, if◌then◌else◌}
+use Rattle.std.proofs.Common.{◌≡◌, refl, sym, ap, ◌∙◌, subst, inl, inr, ℕ, Bool, true, false, not, ◌&&◌, ◌||◌, List, [], ◌∷◌, ◌++◌, map, ℤ, ◌-ℤ◌, int_le, unsigned_abs, Option, Some, None, if◌then◌else◌}
 use Rattle.spark_base.specs.declared.position.Pos.{Pos}
 use Rattle.place_names.specs.declared.act.Act.TheVariants as act
 use Rattle.place_names.specs.declared.act.Placed.{Placed}
@@ -17,14 +17,15 @@ use Rattle.type_definitions.specs.declared.table.Shape.TheVariants as shape
 use Rattle.type_definitions.specs.Types.{shape_of, full, is_owning, is_scalar, view_of, owns_of, parts}
 use Rattle.typed_tree.specs.Trees.{TypedTree, Number, Literal, Text, Name, Component as IntoComponent, Designated, Element, Call, EndOfFile, Parens, Image, Unary, Binary, Short, IsNull, Aggregate, Alike, New, NoMore, More}
 use Rattle.typed_tree.specs.Trees as typed
-use Rattle.flow_paths.specs.Objects.{object_at}
+use Rattle.flow_paths.specs.Objects.{object_at, is_anonymous, view_of as view_of_object, Passing, ByValue}
 use Rattle.flow_paths.specs.Names.{has_call, name_of, selectors}
-use Rattle.flow_paths.specs.Acts.{used, acts_in}
-use Rattle.machine.specs.Words.{component_type}
+use Rattle.flow_paths.specs.Acts.{used, acts_in, actual_values}
+use Rattle.machine.specs.Words.{component_type, fits_type}
 use Rattle.machine.specs.Words as machine
 use Rattle.machine.specs.Memory.{Memory, Place, slots_of, moved_out}
-use Rattle.machine.specs.Evaluate.{Here, Now, Use, AsValue, AsView, Evaluated, Done, Raises, Traps, followed_by, evaluate, steps_of, place_of, text_of, value, variable_place, walked, held_or_taken, taken, indexed, operated, operated_alone, given, decides, truth}
+use Rattle.machine.specs.Evaluate.{Here, Now, Use, AsValue, AsView, Evaluated, Done, Raises, Traps, followed_by, evaluate, steps_of, place_of, text_of, value, variable_place, walked, held_or_taken, taken, viewed, checked, indexed, operated, operated_alone, given, decides, truth}
 use Rattle.machine.specs.Evaluate as run
+use Rattle.machine.specs.Calls.{Passed, type_of, value_passed, passed, all_passed}
 use Rattle.machine.specs.States.{Waiting, Leak}
 use Rattle.owned_ways.specs.Ways.{OfVariable, Loc, OfRoot, Way, Object, Reaches, IsRooted, Past, Named, IsMoved, Excused, Allows, after, AllowsAll, Sound}
 use Rattle.owned_ways.specs.Ways as ways
@@ -34,11 +35,13 @@ use Rattle.owned_ways.proofs.Assigned.{test_fails, either_left, named_rooted}
 use Rattle.part_offsets.specs.Parts.{IsSettled}
 use Rattle.soundness.specs.Seen.{content, trunk, seen, home, IsNear}
 use Rattle.soundness.specs.Typed.{OwnsByShape, Kept, Spot}
+use Rattle.soundness.specs.Ready.{AreActuals}
 use Rattle.typed_laws.specs.Needed.{Stays, Leads, Writes, IndexLaw}
 use Rattle.soundness.proofs.Near.{named_near, past_near}
 use Rattle.soundness.proofs.Walks.{way_along, Walked}
 use Rattle.soundness.proofs.Steps.{no_leaf}
 use Rattle.soundness.proofs.Scalars.{after_append, allows_both, acts, acts_append, read_way, look_way, number_along, named_along}
+use Rattle.soundness.proofs.Passing.{by_value}
 use Rattle.soundness.proofs.Stays.{Quiet, One, Any, Goes, quiet_then, quiet, steps_quiet, name_quiet}
 use Rattle.null_places.specs.Compares.{Compares}
 use Rattle.null_places.proofs.Memories.{NoneGone, words_agree}
@@ -416,3 +419,65 @@ module _ (h : Here) (settled : IsSettled h.typing.table) (hands : List Waiting) 
             ∙ ap (after (acts (acts_in h.typing b))) left.2 ∙ own.2,
       )
   text_same e writes none compares allowed n' same = absurd writes
+
+  -- ---- actuals of formals of scalar types
+
+  if_same : (b : Bool) (x y x' y' : Evaluated (List machine.Word)) → SameTo h.typing x x' → SameTo h.typing y y' → SameTo h.typing (if b then x else y) (if b then x' else y')
+  if_same true x y x' y' p q = p
+  if_same false x y x' y' p q = q
+
+  if_quiet : (b : Bool) (x y : Evaluated (List machine.Word)) → Quiet at One x → Quiet at One y → Quiet at One (if b then x else y)
+  if_quiet true x y p q = p
+  if_quiet false x y p q = q
+
+  given_value : (x : ℕ) (ws : List machine.Word) (n n' : Now) → SameNow h.typing n n'
+      → SameTo h.typing (followed_by (checked h (type_of h x) ws n) value_passed) (followed_by (checked h (type_of h x) ws n') value_passed)
+  given_value x ws n n' same = by_test (fits_type h.typing.table (type_of h x) ws)
+    where
+      by_test : (b : Bool) → SameTo h.typing (followed_by (if b then Done ws n else Raises run.ConstraintError n) value_passed)
+          (followed_by (if b then Done ws n' else Raises run.ConstraintError n') value_passed)
+      by_test true = (refl, same)
+      by_test false = (refl, same)
+
+  given_quiet : (x : ℕ) (ws : List machine.Word) → Quiet at (Any {A = Passed}) (followed_by (checked h (type_of h x) ws at) value_passed)
+  given_quiet x ws = by_test (fits_type h.typing.table (type_of h x) ws)
+    where
+      by_test : (b : Bool) → Quiet at (Any {A = Passed}) (followed_by (if b then Done ws at else Raises run.ConstraintError at) value_passed)
+      by_test true = (refl, tt)
+      by_test false = refl
+
+  passed_same : (x : ℕ) (e : TypedTree) → Stays h.typing e → has_call e ≡ false → Compares h.typing e → AllowsAll facts (acts (acts_in h.typing e))
+      → (n' : Now) → SameNowAt n'
+      → SameTo h.typing (passed h ByValue x e at) (passed h ByValue x e n') × Quiet at (Any {A = Passed}) (passed h ByValue x e at)
+  passed_same x e stays none compares allowed n' same =
+      let b : Bool = is_anonymous (view_of_object h.typing x) in
+      let last : List machine.Word → Now → Evaluated Passed = (λ ws now. followed_by (checked h (type_of h x) ws now) value_passed) in (
+        simply h.typing (if b then viewed h e at else value h e at) (if b then viewed h e n' else value h e n') last last
+            (if_same b (viewed h e at) (value h e at) (viewed h e n') (value h e n')
+            (scalar_same AsView e stays none compares allowed n' same) (scalar_same AsValue e stays none compares allowed n' same))
+            (λ ws n n'' now. given_value x ws n n'' now),
+        quiet_then at One (Any {A = Passed}) (if b then viewed h e at else value h e at) last
+            (if_quiet b (viewed h e at) (value h e at) (quiet_here AsView e stays none allowed).0 (quiet_here AsValue e stays none allowed).0)
+            (λ ws one. given_quiet x ws),
+      )
+
+  pub all_same : (formals : List ℕ) (actuals : TypedTree) → AreActuals h.typing formals actuals → has_call actuals ≡ false → Compares h.typing actuals
+      → AllowsAll facts (acts (actual_values h.typing (map (by_value h.typing own_law) formals) actuals)) → (n' : Now) → SameNowAt n'
+      → SameTo h.typing (all_passed h (map (by_value h.typing own_law) formals) formals actuals at) (all_passed h (map (by_value h.typing own_law) formals) formals actuals n')
+  unfolding has_call Compares
+  all_same [] actuals stay none compares allowed n' same = (refl, same)
+  all_same (x ∷ formals) (More e rest) stay none compares allowed n' same =
+      let calls = or_cases (has_call e) (has_call rest) none in
+      let ways_of : List Passing = map (by_value h.typing own_law) formals in
+      let each = allows_both facts (acts (acts_in h.typing e)) (acts (actual_values h.typing ways_of rest))
+      (subst (AllowsAll facts) (acts_append (acts_in h.typing e) (actual_values h.typing ways_of rest)) allowed) in
+      let one = passed_same x e stay.0 calls.0 compares.0 each.0 n' same in
+      let stays_so = (quiet_here AsValue e stay.0 calls.0 each.0).1 in
+      let next : Passed → Now → Evaluated (List Passed) = (λ a now. followed_by (all_passed h ways_of formals rest now) (λ more now. Done (a ∷ more) now)) in
+      then_same h.typing (QuietAt (Any {A = Passed})) (passed h ByValue x e at) (passed h ByValue x e n') next next one.1 one.0
+      (λ a n n'' q now. subst (λ z. SameTo h.typing (next a z) (next a n'')) (sym q.0)
+      (simply h.typing (all_passed h ways_of formals rest at) (all_passed h ways_of formals rest n'') (λ more now. Done (a ∷ more) now) (λ more now. Done (a ∷ more) now)
+      (all_same formals rest stay.1 calls.1 compares.1 (subst (λ z. AllowsAll z (acts (actual_values h.typing ways_of rest))) stays_so each.1) n''
+      (subst (λ z. SameNow h.typing z n'') q.0 now))
+      (λ more k k' last. (refl, last))))
+  all_same (x ∷ formals) actuals stay none compares allowed n' same = (refl, same)

@@ -1,5 +1,5 @@
 -- Each step of a sound state is the same in memories that agree, in a program that is ready.
-use Rattle.std.proofs.Common.{◌≡◌, refl, sym, ap, ◌∙◌, subst, inl, inr, ℕ, suc, ◌<◌, Bool, true, false, ◌&&◌, ◌||◌, List, [], ◌∷◌, ◌++◌, length, nat_le, arith, None, if◌then◌else◌}
+use Rattle.std.proofs.Common.{◌≡◌, refl, sym, ap, ◌∙◌, subst, inl, inr, ℕ, suc, ◌<◌, Bool, true, false, ◌&&◌, ◌||◌, List, [], ◌∷◌, ◌++◌, map, length, arith, None, if◌then◌else◌}
 use Rattle.spark_base.specs.Lists.{Has}
 use Rattle.spark_base.specs.declared.position.Pos.{Pos}
 use Rattle.spark_base.proofs.Lists.{Has-append_cases, Has-map_from}
@@ -10,25 +10,25 @@ use Rattle.place_names.specs.declared.fact.Fact.TheVariants.{Moved, Lent}
 use Rattle.place_names.specs.Facts.{adds}
 use Rattle.place_names.specs.Names.{Name as PlaceName}
 use Rattle.place_names.specs.Rules.{forbids}
-use Rattle.type_definitions.specs.Types.{Table, shape_of}
+use Rattle.type_definitions.specs.Types.{Table, is_owning, shape_of}
 use Rattle.type_definitions.specs.declared.table.Shape.TheVariants as shape
 use Rattle.typed_tree.specs.Trees.{TypedTree, Name, NoMore, More}
 use Rattle.typed_tree.specs.Programs.{TypedProgram}
 use Rattle.flow_paths.specs.declared.report.Effects.{Effects}
 use Rattle.flow_paths.specs.Instructions.{Instruction, Skip, Declare, Assign, Call, Output, Input, Release, Test, Choose, Start, Next, Evaluate, LeaveLoop, Hold, EndScope, Finish, Fall}
-use Rattle.flow_paths.specs.Objects.{Typing, object_at, sub_at, is_package_object, passings}
+use Rattle.flow_paths.specs.Objects.{Typing, object_at, sub_at, is_formal, is_package_object, passings}
 use Rattle.flow_paths.specs.Names.{has_call}
+use Rattle.flow_paths.specs.Acts as flow
 use Rattle.flow_paths.specs.Acts.{acts_of, acts_in}
 use Rattle.flow_paths.specs.Points.{NamedPoint, FlowPoint}
 use Rattle.flow_paths.specs.Laid.{FlowSub, FlowProgram, NamedSub, flow_sub, kept_roots, sub_facts, typing_of, flow_typing, flow_program, flow_named}
 use Rattle.flow_paths.specs.Paths.{PathPoint, path_point, ControlPath, acts_at, facts_before}
 use Rattle.flow_paths.specs.Effects.{act_writes, act_reads, flow_sub_at, path_points, called_acts}
 use Rattle.machine.specs.Memory.{Memory}
-use Rattle.machine.specs.Evaluate.{StorageError}
-use Rattle.machine.specs.States.{Frame, State, Goes, sub_of, frame_words, stack_words, frame_at_start}
-use Rattle.machine.specs.Step.{Turn, turn, finish, call, waiting, behind}
+use Rattle.machine.specs.States.{Frame, State, sub_of}
+use Rattle.machine.specs.Step.{Turn, turn, finish}
 use Rattle.machine.specs.Step as steps
-use Rattle.machine.specs.Owners.{is_in, waiting_in}
+use Rattle.machine.specs.Owners.{is_in, is_in_formal, waiting_in}
 use Rattle.machine.specs.Run.{step}
 use Rattle.owned_ways.specs.Ways.{Way, Sound, AllowsAll}
 use Rattle.soundness.specs.Seen.{home, IsNear, is_view_formal}
@@ -36,22 +36,25 @@ use Rattle.soundness.specs.Typed.{Kept}
 use Rattle.typed_laws.specs.Needed.{IsFine, Source, FirstWrites, FirstStays}
 use Rattle.soundness.specs.Sound.{calls_nothing, calls_procedures, Stage, facts_of, Elsewhere, AreStages, Uses, AreRunning, IsNamedSub, IsAtPoint, view_of, IsSound}
 use Rattle.soundness.specs.Ready.{IsCalled, IsReady}
-use Rattle.soundness.proofs.Scalars.{acts}
+use Rattle.soundness.proofs.Scalars.{acts, acts_append, allows_both}
 use Rattle.soundness.proofs.Paths.{facts_next}
 use Rattle.soundness.proofs.Points.{flow_at, typing_same, sub_there, sub_at_number, sub_in_range, sub_has, point_in}
 use Rattle.soundness.proofs.Inherited.{Splits, allowed_beside, is_open, apart_allows}
 use Rattle.soundness.proofs.Opened.{instruction_open}
 use Rattle.soundness.proofs.Used.{writes_used, reads_used, path_acts}
 use Rattle.soundness.proofs.Around.{IsFar, far_alone, is_inherited, inherited, inherited_from, IsBetween, beside, unused_there, all_between}
-use Rattle.soundness.proofs.Returning.{finish_returns, finish_ends, call_is, called_ways}
+use Rattle.soundness.proofs.Returning.{finish_returns, finish_ends}
+use Rattle.soundness.proofs.Contents.{bool_cases}
+use Rattle.soundness.proofs.Passing.{plain_type, ArePlain, by_value, AreReads, read_open, values_read, values_alone, passed_to}
 use Rattle.soundness.proofs.Waits.{or_both}
 use Rattle.soundness.proofs.Successors.{not_true, both_not, calls_cases, finish_or, unmoved_after}
-use Rattle.soundness.proofs.Stepping.{step_is, calls_there, fine, facts_are, allowed}
+use Rattle.soundness.proofs.Stepping.{step_is, calls_there, fine, facts_are, allowed_whole, allowed}
 use Rattle.null_places.specs.Agrees.{Agrees}
 use Rattle.null_places.specs.Compares.{Compares, ComparesIn, AreCompared}
 use Rattle.null_places.proofs.Memories.{frame_agree}
 use Rattle.null_places.proofs.Only.{OnlyOwners, frame_only}
-use Rattle.null_places.proofs.Instructions.{SameStepBy, SameStep, twin, both_are, raised_same, declare_same, assign_same, end_scope_same, release_same, input_same, skip_same, fall_same, test_same, choose_same, leave_loop_same, output_same, line_same, start_same, next_same}
+use Rattle.null_places.proofs.Calls.{call_same}
+use Rattle.null_places.proofs.Instructions.{SameStepBy, SameStep, twin, both_are, declare_same, assign_same, end_scope_same, release_same, input_same, skip_same, fall_same, test_same, choose_same, leave_loop_same, output_same, line_same, start_same, next_same}
 
 -- the end of a call
 finish_same : (t : Turn) (n : Memory) → Agrees t.state.memory n → OnlyOwners (steps.typing t) t.state.memory → t.frame.returns ≡ [] → (g : Frame) (rest : List Frame)
@@ -61,23 +64,6 @@ finish_same t n agrees only none g [] outer =
 finish_same t n agrees only none g (f ∷ rest) outer =
     both_are t _ _ _ _ (finish_returns t g f rest outer none) (finish_returns (twin t n) g f rest outer none)
     ((refl, frame_agree (length t.outer) t.state.memory n agrees), frame_only (steps.typing t) t.state.memory only (length t.outer))
-
--- a call of a procedure without formals
-call_same : (t : Turn) (n : Memory) → Agrees t.state.memory n → OnlyOwners (steps.typing t) t.state.memory → (k : ℕ) (actuals : TypedTree)
-    → (sub_of t.program k).formals ≡ [] → passings (steps.typing t) (sub_at (steps.typing t) k) ≡ [] → SameStep t (call t k actuals) (call (twin t n) k actuals)
-call_same t n agrees only k actuals formals ways =
-    both_are t _ _ _ _ (call_is t k actuals formals ways) (call_is (twin t n) k actuals formals ways)
-    (by_room (nat_le (frame_words t.program (frame_at_start k [] ∷ (behind t (waiting t) t.state.memory 0).frames)) stack_words))
-  where
-    by_room : (b : Bool) → SameStep t
-        (if b then steps.leaking_goes [] (Goes (record (behind t (waiting t) t.state.memory 0) {
-          frames = frame_at_start k [] ∷ (behind t (waiting t) t.state.memory 0).frames;
-        })) else steps.raised t StorageError t.state.memory)
-        (if b then steps.leaking_goes [] (Goes (record (behind (twin t n) (waiting t) n 0) {
-          frames = frame_at_start k [] ∷ (behind t (waiting t) t.state.memory 0).frames;
-        })) else steps.raised (twin t n) StorageError n)
-    by_room true = ((refl, agrees), only)
-    by_room false = raised_same t n agrees StorageError t.state.memory n agrees
 
 module _ (table : Table) (typed : TypedProgram) (effects : Effects) (input : List ℕ) (ready : IsReady table typed effects)
     (compared : AreCompared (flow_program table typed)) where
@@ -93,8 +79,15 @@ module _ (table : Table) (typed : TypedProgram) (effects : Effects) (input : Lis
   same : s ≡ own
   same = typing_same table typed ready.scoped.objects
 
+  no_second : (a b : Bool) → b ≡ false → a && b ≡ false
+  no_second true b e = e
+  no_second false b e = refl
+
   no_in_formals : (x : ℕ) → is_view_formal s x ≡ false
-  no_in_formals x = ap (λ b. b && is_in (object_at s x).mode) (ready.class.no_formals x)
+  no_in_formals x = elim (bool_cases (is_formal s x)) [
+    | inl e ↦ no_second (is_in_formal s x) (is_owning s.table (object_at s x).of) (plain_type s ready.owns (object_at s x).of (ready.class.formals x e).1)
+    | inr e ↦ ap (λ b. (b && is_in (object_at s x).mode) && is_owning s.table (object_at s x).of) e
+  ]
 
   -- ---- an instruction that calls nothing, at a point
 
@@ -329,27 +322,31 @@ module _ (table : Table) (typed : TypedProgram) (effects : Effects) (input : Lis
             (name, refl, shared, λ uses. unused_there table typed effects unmoved_stage state.memory top.frame.sub older running.2 g has name fact shared uses)
         by_fact (Lent l h n) g has fact shared = cc
 
-    acts_apart : calls_nothing p.instr ≡ true → (p.instr ≡ Finish → ⊥) → (a : Act) → Has (acts (placed_by s p.instr)) a
-        → (f : Fact) → Has (inherited program effects older) f → forbids a f ≡ None
-    acts_apart calls going a has f there =
+    -- so these facts allow an act of the point that reads or writes what it names
+    one_apart : (placed : Placed) → Has (placed_by s p.instr) placed → is_open placed.act ≡ true
+        → (f : Fact) → Has (inherited program effects older) f → forbids placed.act f ≡ None
+    one_apart placed has opens f there =
         let found = unused f there in
-        let from = Has-map_from (λ (z : Placed). z.act) (placed_by s p.instr) a has in
-        let placed : Placed = from.0 in
-        let opens : is_open placed.act ≡ true =
-        instruction_open s ready.class.all_named named.sub.result (kept_roots own 0 own.objects (sub_facts own named.sub named.points)) p.pos p.instr calls going placed from.1 in
-        let in_point : Has here.acts placed = subst (λ z. Has (placed_by z p.instr) placed) same from.1 in
+        let in_point : Has here.acts placed = subst (λ z. Has (placed_by z p.instr) placed) same has in
         let writes : act_writes (found.0).root placed.act ≡ false =
         not_so (act_writes (found.0).root placed.act) (λ e. found.3
         (writes_used program effects ready.accepted.effects_are top.frame.sub (flow_sub own named) sub_at_all sub_less (found.0).root found.2 here in_sub placed in_point e)) in
         let reads : act_reads (found.0).root placed.act ≡ false =
         not_so (act_reads (found.0).root placed.act) (λ e. found.3
         (reads_used program effects ready.accepted.effects_are top.frame.sub (flow_sub own named) sub_at_all sub_less (found.0).root found.2 here in_sub placed in_point e)) in
-        ap (λ z. forbids z f) (sym from.2) ∙ ap (forbids placed.act) found.1
-        ∙ apart_allows found.0 (found.0).root refl placed.act opens writes reads
+        ap (forbids placed.act) found.1 ∙ apart_allows found.0 (found.0).root refl placed.act opens writes reads
       where
         not_so : (b : Bool) → (b ≡ true → ⊥) → b ≡ false
         not_so true e = absurd (e refl)
         not_so false e = refl
+
+    acts_apart : calls_nothing p.instr ≡ true → (p.instr ≡ Finish → ⊥) → (a : Act) → Has (acts (placed_by s p.instr)) a
+        → (f : Fact) → Has (inherited program effects older) f → forbids a f ≡ None
+    acts_apart calls going a has f there =
+        let from = Has-map_from (λ (z : Placed). z.act) (placed_by s p.instr) a has in
+        let opens : is_open (from.0).act ≡ true =
+        instruction_open s ready.class.all_named named.sub.result (kept_roots own 0 own.objects (sub_facts own named.sub named.points)) p.pos p.instr calls going from.0 from.1 in
+        ap (λ z. forbids z f) (sym from.2) ∙ one_apart from.0 from.1 opens f there
 
     allowed_now : calls_nothing p.instr ≡ true → (p.instr ≡ Finish → ⊥) → AllowsAll facts_now (acts (placed_by s p.instr))
     allowed_now calls going =
@@ -368,12 +365,57 @@ module _ (table : Table) (typed : TypedProgram) (effects : Effects) (input : Lis
         (subst (λ r. IsFine s r p.instr) ((running.0).procedure named of_sub) (fine table typed effects input ready state top older outer named p frames of_sub at_point))
         calls compares_here (allowed_now calls going)
 
-    calls_it : (k : ℕ) (actuals : TypedTree) → p.instr ≡ Call k actuals None
-        → SameStep turn_here (turn turn_here (Call k actuals None)) (turn (twin turn_here n) (Call k actuals None))
-    calls_it k actuals e =
-        let called : IsCalled table typed k =
-        ready.called (flow_sub own named) (sub_has table typed top.frame.sub named of_sub) here in_sub k actuals None e in
-        call_same turn_here n agrees only k actuals called.formals (called_ways program k called.formals)
+    -- ---- a call
+
+    module _ (k : ℕ) (actuals : TypedTree) (e : p.instr ≡ Call k actuals None) (no_call : has_call actuals ≡ false) where
+      called : IsCalled table typed k actuals
+      called = ready.called (flow_sub own named) (sub_has table typed top.frame.sub named of_sub) here in_sub k actuals None e
+
+      abbrev formals : List ℕ
+      formals = (sub_of program k).formals
+
+      plain_formals : ArePlain s ready.owns formals
+      plain_formals x has = ready.class.formals x (called.formals x has)
+
+      no_callee_result : (sub_of program k).result ≡ None
+      no_callee_result =
+          ap (λ (z : FlowSub). z.result) (sub_there table typed k called.procedure.named called.procedure.stands)
+          ∙ called.procedure.procedure called.procedure.named called.procedure.stands
+
+      ways_are : passings s (sub_at s k) ≡ map (by_value s ready.owns) formals
+      ways_are = passed_to program ready.owns k no_callee_result plain_formals
+
+      abbrev values : List Placed
+      values = flow.actual_values s (map (by_value s ready.owns) formals) actuals
+
+      values_are : placed_by s p.instr ≡ values
+      values_are =
+          ap (placed_by s) e ∙ ap (λ z. flow.actual_values s z actuals ++ flow.actual_acts z actuals) ways_are
+          ∙ values_alone s ready.owns formals actuals
+
+      reads_there : AreReads values
+      reads_there = values_read s ready.owns formals actuals called.actuals_stay
+
+      -- the actuals are read before the acts on package objects
+      own_allowed : AllowsAll own_facts (acts values)
+      own_allowed =
+          (allows_both own_facts (acts values) (acts (called_acts program effects p.pos p.instr))
+          (subst (AllowsAll own_facts) (ap (λ z. acts (z ++ called_acts program effects p.pos p.instr)) values_are ∙ acts_append values (called_acts program effects p.pos p.instr))
+          (allowed_whole table typed effects input ready state top older outer named p frames of_sub at_point path))).0
+
+      values_apart : (a : Act) → Has (acts values) a → (f : Fact) → Has (inherited program effects older) f → forbids a f ≡ None
+      values_apart a has f there =
+          let from = Has-map_from (λ (z : Placed). z.act) values a has in
+          ap (λ z. forbids z f) (sym from.2)
+          ∙ one_apart from.0 (subst (λ zs. Has zs from.0) (sym values_are) from.1) (read_open from.0 (reads_there from.0 from.1)) f there
+
+      values_allowed : AllowsAll facts_now (acts values)
+      values_allowed = allowed_beside (acts values) facts_now own_facts (inherited program effects older) from_both own_allowed values_apart
+
+      calls_it : SameStep turn_here (turn turn_here (Call k actuals None)) (turn (twin turn_here n) (Call k actuals None))
+      calls_it =
+          call_same turn_here ready.accepted.settled ready.owns far alone_there no_in_formals ready.class.all_named facts_now well_now kept only n agrees k actuals
+          ways_are called.actuals_stay no_call (subst (ComparesIn s) e compares_here) values_allowed
 
     pub procedure_same : SameAt state n
     procedure_same =
@@ -384,7 +426,7 @@ module _ (table : Table) (typed : TypedProgram) (effects : Effects) (input : Lis
               (finish_same turn_here n agrees only running.1.1 below.frame rest refl)
           | inr going ↦ elim (calls_cases p.instr (calls_there table typed effects input ready state top older outer named p frames of_sub at_point)) [
             | inl calls ↦ goes_plainly calls going
-            | inr call ↦ subst (λ i. SameStep turn_here (turn turn_here i) (turn (twin turn_here n) i)) (sym call.2) (calls_it call.0 call.1 call.2)
+            | inr call ↦ subst (λ i. SameStep turn_here (turn turn_here i) (turn (twin turn_here n) i)) (sym call.2) (calls_it call.0 call.1 call.2 call.3)
           ]
         ])
 

@@ -3,13 +3,14 @@ use Rattle.std.specs.Prelude.{◌≡◌, ℕ, Bool}
 use Rattle.spark_base.specs.Lists.{Has}
 use Rattle.type_definitions.specs.declared.table.Shape.TheVariants as shape
 use Rattle.type_definitions.specs.Types.{shape_of}
-use Rattle.typed_tree.specs.Trees.{TypedTree, Name, Component as IntoComponent, Designated, Element, Call, Parens, Image, Unary, Binary, Short, IsNull, Aggregate, Alike, New, More}
+use Rattle.typed_tree.specs.Trees.{TypedTree, Name, Component as IntoComponent, Designated, Element, Parens, Image, Unary, Binary, Short, IsNull, Aggregate, Alike, New, More}
 use Rattle.flow_paths.specs.Instructions.{Instruction, Declare, Assign, Output, Input, Release, Test, Choose, Start, Evaluate, LeaveLoop, Hold}
 use Rattle.flow_paths.specs.Instructions as instruction
 use Rattle.flow_paths.specs.Objects.{Typing}
 use Rattle.flow_paths.specs.Points.{FlowPoint}
 use Rattle.flow_paths.specs.Laid.{FlowSub, FlowProgram, flow_typing}
 
+-- A call in an expression has its actuals at a point of its own.
 unfoldable pub Compares : Typing → TypedTree → Type 0
 Compares s (IsNull equal (Name p x steps t)) =
     (d : ℕ) × (constant : Bool) × (named : Bool) × (shape_of s.table t ≡ shape.Access d constant named) × Compares s steps
@@ -18,7 +19,6 @@ Compares s (Name p x steps t) = Compares s steps
 Compares s (IntoComponent i rest) = Compares s rest
 Compares s (Designated rest) = Compares s rest
 Compares s (Element index low high rest) = Compares s index × Compares s rest
-Compares s (Call p sub actuals) = Compares s actuals
 Compares s (Parens e) = Compares s e
 Compares s (Image t e) = Compares s e
 Compares s (Unary op e) = Compares s e

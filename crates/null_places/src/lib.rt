@@ -5,6 +5,6 @@
 //! `specs/Compares.antt` what is asked of comparisons with null. What the machine does to memories
 //! that agree (`proofs/Memories.antt`) is of all states; what it looks at isn't gone where the state
 //! is sound (`Only`, `Places`). So expressions (`Walks`, `Scalars`, `Evaluated`), instructions
-//! (`Instructions`) and steps (`Steps`) give the same in memories that agree, and so do runs
+//! (`Instructions`, `Calls`) and steps (`Steps`) give the same in memories that agree, and so do runs
 //! (`Runs`). Nothing here runs.
 #![tactic(auto)]
