@@ -39,7 +39,7 @@ use Rattle.owned_ways.specs.Ways.{Way, Sound, after, AllowsAll}
 use Rattle.soundness.specs.Seen.{home, IsNear, is_view_formal}
 use Rattle.soundness.specs.Typed.{Kept}
 use Rattle.typed_laws.specs.Needed.{IsFine, Source, FirstWrites, FirstStays}
-use Rattle.soundness.specs.Sound.{IsPlain, IsFirstClass, calls_nothing, Stage, Elsewhere, AreRunning, IsProcedure, IsNamedSub, IsAtPoint, view_of}
+use Rattle.soundness.specs.Sound.{IsPlain, IsResting, IsFirstClass, calls_nothing, Stage, Elsewhere, AreRunning, IsProcedure, IsNamedSub, IsAtPoint, view_of}
 use Rattle.soundness.specs.Ready.{IsReady}
 use Rattle.soundness.proofs.Scalars.{acts}
 use Rattle.soundness.proofs.Points.{flow_at, named_has, point_has, sub_has, typing_same, point_there, point_in, path_there}
@@ -48,7 +48,7 @@ use Rattle.soundness.proofs.Successors.{not_true, both_not}
 use Rattle.soundness.proofs.Instructions.{Holds}
 use Rattle.soundness.proofs.Endings.{finish_is}
 use Rattle.soundness.proofs.Stepping.{step_is, takes, fine, path_here, allowed, facts_on}
-use Rattle.exact_facts.specs.Exact.{IsBare, AreFirst, IsExact, Knows}
+use Rattle.exact_facts.specs.Exact.{AreFirst, IsExact, Knows}
 use Rattle.exact_facts.proofs.Instructions.{ExactOn, assigned_acts, declare_exact, assign_exact, end_scope_exact, test_exact, choose_exact, leave_loop_exact, skip_exact}
 use Rattle.exact_facts.proofs.Releases.{release_exact}
 use Rattle.exact_facts.proofs.Loops.{next_exact, start_exact, output_exact, line_exact, input_exact}
@@ -99,7 +99,7 @@ module _ (table : Table) (typed : TypedProgram) (effects : Effects) (input : Lis
   no_in_formals x = ap (λ b. (b && is_in (object_at s x).mode) && is_owning s.table (object_at s x).of) (class.no_formals x)
 
   -- the frames of the first class are as those of the second one
-  plain_of : (g : Stage) → IsBare g → IsPlain s g
+  plain_of : (g : Stage) → IsPlain g → IsResting s g
   plain_of g bare = (bare.0, (λ r has. absurd (subst (λ z. Has z r) bare.1 has)), bare.2)
 
   pub running_of : (m : Memory) (stages : List Stage) → AreFirst program stages → AreRunning table typed effects m stages

@@ -20,7 +20,7 @@ use Rattle.machine.specs.States.{Frame, Leak, State, Outcome, Goes, Ends, sub_of
 use Rattle.machine.specs.Run.{no_point, step, main_of, run_of, moment}
 use Rattle.owned_ways.specs.Ways.{Told}
 use Rattle.soundness.specs.Seen.{seen, home}
-use Rattle.soundness.specs.Sound.{Stage, IsDefinite, IsSound, AreExact}
+use Rattle.soundness.specs.Sound.{Stage, IsPlain, IsDefinite, IsSound, AreExact}
 
 -- So it is of the facts of a frame, in a memory. (What is in hand has no name, and leak checks
 -- change no word.)
@@ -42,15 +42,11 @@ Knows Excused pos name before facts parts =
 
 -- ---- the frames
 
--- Nothing waits in a frame, and nothing is copied back.
-abbrev pub IsBare : Stage → Type 0
-IsBare g = (g.frame.waits ≡ []) × (g.frame.returns ≡ []) × (g.returns ≡ [])
-
 -- The frames of a program of the first class: that of the package objects, at first alone, and then
 -- with that of the main procedure.
 abbrev pub AreFirst : FlowProgram → List Stage → Type 0
-AreFirst program (g ∷ []) = (g.frame.sub ≡ 0) × IsBare g
-AreFirst program (g ∷ (e ∷ [])) = (program.main ≡ Some g.frame.sub) × IsBare g × (e.frame.sub ≡ 0) × IsBare e
+AreFirst program (g ∷ []) = (g.frame.sub ≡ 0) × IsPlain g
+AreFirst program (g ∷ (e ∷ [])) = (program.main ≡ Some g.frame.sub) × IsPlain g × (e.frame.sub ≡ 0) × IsPlain e
 AreFirst program _ = ⊥
 
 -- ---- the law

@@ -199,13 +199,13 @@ module _ (s : Typing) (own_law : OwnsByShape s.table) where
   head_acts mode.In e = acts_in s e
   head_acts m e = index_acts s e
 
-  head_values : (m : Mode) (e : TypedTree) (ways : List Passing) (rest : TypedTree)
+  pub head_values : (m : Mode) (e : TypedTree) (ways : List Passing) (rest : TypedTree)
       → actual_values s (way_by m ∷ ways) (More e rest) ≡ head_acts m e ++ actual_values s ways rest
   head_values mode.In e ways rest = refl
   head_values mode.Out e ways rest = refl
   head_values mode.InOut e ways rest = refl
 
-  head_reads : (m : Mode) (e : TypedTree) → IsActualBy s m e → AreReads (head_acts m e)
+  pub head_reads : (m : Mode) (e : TypedTree) → IsActualBy s m e → AreReads (head_acts m e)
   head_reads mode.In e stays = reads_in e stays
   head_reads mode.Out e place = index_reads e place.0 place.1
   head_reads mode.InOut e place = index_reads e place.0 place.1
@@ -329,7 +329,7 @@ module _ (s : Typing) (settled : IsSettled s.table) (own_law : OwnsByShape s.tab
         declared_kept s settled m f x v hands (scalar s settled m v hands plain good.1) long (inl refl),
       ), λ g y p. same_word s settled m [] [] f x plain (declared f x ws m).variables others (OfRoot (OfVariable g y)) p refl)
 
-  with_one : (x : ℕ) (a : Passed) (m : Memory) → Scalar x → IsLaid s a → GoodThere m → Onward m (with_formal s f x a m)
+  pub with_one : (x : ℕ) (a : Passed) (m : Memory) → Scalar x → IsLaid s a → GoodThere m → Onward m (with_formal s f x a m)
   with_one x (Value ws) m plain laid good = one_formal x ws m plain laid good
   with_one x (From k) m plain laid good =
       let first = moved_good s settled own_law hands leaks at_home other facts k laid m good in
@@ -499,7 +499,7 @@ module _ (h : Here) (settled : IsSettled h.typing.table) (hands : List Waiting) 
       (λ v past moved. past_none way direct root (λ z never. never) v past))
       (walked_in h.typing way direct (variable_place h x) at)
 
-  place_given : (e : TypedTree) (t : ℕ) → IsPlace h.typing e t → is_scalar (full h.typing.table t) ≡ true → has_call e ≡ false → goes_through_none e ≡ true
+  pub place_given : (e : TypedTree) (t : ℕ) → IsPlace h.typing e t → is_scalar (full h.typing.table t) ≡ true → has_call e ≡ false → goes_through_none e ≡ true
       → AllowsAll facts (acts (index_acts h.typing e)) → Quiet at (λ k. IsPut e k) (place_of h e at)
   unfolding has_call goes_through_none
   place_given (Name p x path u) t (leads, type) plain none direct allowed =
@@ -534,7 +534,7 @@ module _ (h : Here) (settled : IsSettled h.typing.table) (hands : List Waiting) 
   abbrev IsCopiedName : Mode → TypedTree → Type 0
   IsCopiedName m' e = is_in m' ≡ false → goes_through_none e ≡ true
 
-  one_given : (mode_of : Mode) (x : ℕ) (e : TypedTree) → IsActualBy h.typing mode_of e → IsCopiedName mode_of e → has_call e ≡ false
+  pub one_given : (mode_of : Mode) (x : ℕ) (e : TypedTree) → IsActualBy h.typing mode_of e → IsCopiedName mode_of e → has_call e ≡ false
       → AllowsAll facts (acts (head_acts h.typing own_law mode_of e)) → Quiet at (λ a. IsGiven mode_of e a) (passed h (way_by h.typing own_law mode_of) x e at)
   one_given mode.In x e actual copied none allowed = value_is e (passed h ByValue x e at) (value_given x e actual none allowed)
   one_given mode.Out x e actual copied none allowed =
@@ -570,7 +570,7 @@ module _ (h : Here) (settled : IsSettled h.typing.table) (hands : List Waiting) 
       (λ more are. (refl, (is, are))))
   all_given (x ∷ formals) actuals stay copied none allowed = (refl, refl)
 
-  given_laid : (mode_of : Mode) (e : TypedTree) (a : Passed) → IsGiven mode_of e a → IsLaid h.typing a
+  pub given_laid : (mode_of : Mode) (e : TypedTree) (a : Passed) → IsGiven mode_of e a → IsLaid h.typing a
   given_laid mode.In e (Value ws) is = is
   given_laid mode.In e (From k) is = absurd is
   given_laid mode.In e (To k) is = absurd is

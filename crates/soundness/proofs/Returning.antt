@@ -174,12 +174,12 @@ if_back Q false ws begun f q = tt
 
 module _ (t : Turn) where
   -- A place in a variable is there.
-  copied_is : (r : Return) (rest : List Return) (begun : Now) → IsFixed (typing t) r.to → copied_back t (r ∷ rest) begun
+  pub copied_is : (r : Return) (rest : List Return) (begun : Now) → IsFixed (typing t) r.to → copied_back t (r ∷ rest) begun
       ≡ followed_by (checked (here t) r.to.of (words_of (typing t) begun.memory (variable_place (here t) r.formal)) begun)
       (λ ws n. copied_back t rest (record n { memory = stored (typing t) r.to ws (moved_out (typing t) (variable_place (here t) r.formal) n.memory) }))
   copied_is r rest begun fixed = rw fixed.base refl
 
-  formal_fixed : (x : ℕ) → is_scalar (full (typing t).table (object_at (typing t) x).of) ≡ true → IsFixed (typing t) (variable_place (here t) x)
+  pub formal_fixed : (x : ℕ) → is_scalar (full (typing t).table (object_at (typing t) x).of) ≡ true → IsFixed (typing t) (variable_place (here t) x)
   formal_fixed x plain = record {
     frame = home (typing t) (length t.outer) x;
     object = x;
@@ -241,6 +241,15 @@ module _ (t : Turn) where
     ends_lead g outer on back_there =
         finish_from _ (λ m. Ends Normal (counted (record t.state { frames = t.outer; memory = without_frame (length t.outer) m }))) (λ m n. rw outer refl) on
         (copied_back t t.frame.returns (start t)) back_there
+
+-- where nothing is copied back
+pub finish_returns : (t : Turn) (g h : Frame) (rest : List Frame) → t.outer ≡ g ∷ (h ∷ rest) → t.frame.returns ≡ []
+    → finish t ≡ Goes (counted (record t.state { frames = t.outer; memory = without_frame (length t.outer) t.state.memory }))
+finish_returns t g h rest outer none = rw (none, outer) refl
+
+pub finish_ends : (t : Turn) (g : Frame) → t.outer ≡ g ∷ [] → t.frame.returns ≡ []
+    → finish t ≡ Ends Normal (counted (record t.state { frames = t.outer; memory = without_frame (length t.outer) t.state.memory }))
+finish_ends t g outer none = rw (none, outer) refl
 
 -- what waits in the frames that are left
 pub left_waits : (state : State) (frame : Frame) (outer : List Frame) (m : Memory) → state.frames ≡ frame ∷ outer → frame.waits ≡ []

@@ -934,6 +934,7 @@ module _ (table : Table) (typed : TypedProgram) (effects : Effects) (input : Lis
 
       copied_there : AreCopied s formals actuals
       copied_there = ready.class.copied (flow_sub own named) (in_program state top older outer named p frames of_sub at_point) main_turn.point in_main n actuals None e
+      called.formals
 
       -- the acts: actuals are read, or their indexes are; then come those of what is copied back, and
       -- those on package objects

@@ -86,7 +86,8 @@ pub record IsProcedureClass (program : FlowProgram) : Type 0 where
   pub calls : (sub : FlowSub) → Has program.subs sub → (p : FlowPoint) → Has sub.points p → calls_procedures p.instr ≡ true
   pub formals : (x : ℕ) → is_formal (flow_typing program) x ≡ true → is_scalar (full program.table (object_at (flow_typing program) x).of) ≡ true
   pub copied : (sub : FlowSub) → Has program.subs sub → (p : FlowPoint) → Has sub.points p → (n : ℕ) (actuals : TypedTree) (result : Option ℕ)
-      → p.instr ≡ Call n actuals result → AreCopied (flow_typing program) (sub_of program n).formals actuals
+      → p.instr ≡ Call n actuals result → ((x : ℕ) → Has (sub_of program n).formals x → is_formal (flow_typing program) x ≡ true)
+      → AreCopied (flow_typing program) (sub_of program n).formals actuals
 
 -- The subprogram of the layout with a number, and the point there with a number.
 abbrev pub IsNamedSub : List NamedSub → ℕ → NamedSub → Type 0
@@ -136,9 +137,13 @@ AreStages _ _ = ⊥
 abbrev pub IsCopied : Typing → Return → Type 0
 IsCopied s r = (is_scalar (full s.table (object_at s r.formal).of) ≡ true) × IsFixed s r.to
 
+-- Nothing waits in a frame, and nothing is copied back.
+abbrev pub IsPlain : Stage → Type 0
+IsPlain g = (g.frame.waits ≡ []) × (g.frame.returns ≡ []) × (g.returns ≡ [])
+
 -- Nothing waits in a frame between two steps, and nothing that owns is copied back.
-abbrev pub IsPlain : Typing → Stage → Type 0
-IsPlain s g = (g.frame.waits ≡ []) × ((r : Return) → Has g.frame.returns r → IsCopied s r) × (g.returns ≡ [])
+abbrev pub IsResting : Typing → Stage → Type 0
+IsResting s g = (g.frame.waits ≡ []) × ((r : Return) → Has g.frame.returns r → IsCopied s r) × (g.returns ≡ [])
 
 -- A subprogram reads or writes a package object, itself or by what it calls.
 abbrev pub Uses : Effects → ℕ → ℕ → Type 0
@@ -149,7 +154,7 @@ Uses effects n x = Has (read_by effects n) x ⊎ Has (written_by effects n) x
 -- the frame says was moved is used by the callee, and what the callee uses, its caller uses.
 pub record IsCaller (table : Table) (typed : TypedProgram) (effects : Effects) (m : Memory) (callee : ℕ) (g : Stage) : Type 0 where
   pub procedure : IsProcedure table typed g.frame.sub
-  pub plain : IsPlain (flow_typing (flow_program table typed)) g
+  pub plain : IsResting (flow_typing (flow_program table typed)) g
   pub path : ControlPath (path_points (flow_program table typed) effects (sub_of (flow_program table typed) g.frame.sub)) g.before g.frame.next
   pub named : NamedSub
   pub of_sub : IsNamedSub (flow_named table typed) g.frame.sub named
@@ -165,7 +170,7 @@ pub record IsCaller (table : Table) (typed : TypedProgram) (effects : Effects) (
 -- The frames around one that runs a procedure: callers, and the frame of the package objects.
 abbrev pub AreCallers : Table → TypedProgram → Effects → Memory → ℕ → List Stage → Type 0
 AreCallers table typed effects m callee [] = ⊥
-AreCallers table typed effects m callee (e ∷ []) = (e.frame.sub ≡ 0) × IsPlain (flow_typing (flow_program table typed)) e
+AreCallers table typed effects m callee (e ∷ []) = (e.frame.sub ≡ 0) × IsResting (flow_typing (flow_program table typed)) e
 AreCallers table typed effects m callee (g ∷ (h ∷ older)) =
     IsCaller table typed effects m callee g × AreCallers table typed effects m g.frame.sub (h ∷ older)
 
@@ -173,9 +178,9 @@ AreCallers table typed effects m callee (g ∷ (h ∷ older)) =
 -- procedure with those around it.
 abbrev pub AreRunning : Table → TypedProgram → Effects → Memory → List Stage → Type 0
 AreRunning table typed effects m [] = ⊥
-AreRunning table typed effects m (e ∷ []) = (e.frame.sub ≡ 0) × IsPlain (flow_typing (flow_program table typed)) e
+AreRunning table typed effects m (e ∷ []) = (e.frame.sub ≡ 0) × IsResting (flow_typing (flow_program table typed)) e
 AreRunning table typed effects m (top ∷ (g ∷ older)) =
-    IsProcedure table typed top.frame.sub × IsPlain (flow_typing (flow_program table typed)) top × AreCallers table typed effects m top.frame.sub (g ∷ older)
+    IsProcedure table typed top.frame.sub × IsResting (flow_typing (flow_program table typed)) top × AreCallers table typed effects m top.frame.sub (g ∷ older)
 
 -- ---- what holds
 
