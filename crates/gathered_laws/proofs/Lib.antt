@@ -13,5 +13,6 @@ pub mod Agreed
 pub mod Declared
 pub mod Entries
 pub mod Sentences
+pub mod Parts
 pub mod Components
 pub mod Laws

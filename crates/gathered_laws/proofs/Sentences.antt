@@ -254,6 +254,25 @@ module _ (p : Program) (are : IsOrderly p) (opens : AllOpen (known_of p) p.units
         ]
       ]
 
+  -- A type with a name is no anonymous access type.
+  pub named_type : (t d : ℕ) (c n : Bool) → IsOne last.awaited last.defined t → shape_of table t ≡ shape.Access d c n → n ≡ true
+  named_type t d c n is means = by (agrees p are opens views.apart faultless t is)
+    where
+      b : ℕ
+      b = base table t
+
+      owned : written table b ≡ shape.Access d c n → IsOwn (written table b) ⊎ (b < 5) → n ≡ true
+      owned at (inl own) = let o : IsOwn (shape.Access d c n) = subst IsOwn at own in o.1
+      owned at (inr less) =
+          let k = own_low table predefined b less ((based p are opens views.apart faultless).bases t is) in
+          let two = ap kind at in absurd (omega (arith, k, two))
+
+      by : Agrees table t → n ≡ true
+      by (inr like) = let k = like.1 in let two = ap kind means in absurd (omega (arith, k, two))
+      by (inl same) =
+          owned (ap (written table) (sym same) ∙ means)
+          (own_shape b ((based p are opens views.apart faultless).based t is) ((based p are opens views.apart faultless).bases t is))
+
   -- ---- literals and instances
 
   abbrev IsLiteral : ℕ → Type 0

@@ -1,5 +1,5 @@
 -- Calls of procedures with formals of scalar types lead to the same in memories that agree.
-use Rattle.std.proofs.Common.{◌≡◌, refl, sym, ap, ◌∙◌, subst, ◌⊎◌, inl, inr, ℕ, suc, Bool, true, false, List, [], ◌∷◌, ◌++◌, map, length, nat_le, if◌then◌else◌}
+use Rattle.std.proofs.Common.{◌≡◌, refl, sym, subst, ℕ, suc, Bool, true, false, List, [], ◌∷◌, ◌++◌, map, length, nat_le}
 use Rattle.spark_base.specs.declared.position.Pos.{Pos}
 use Rattle.place_names.specs.declared.fact.Fact.{Fact}
 use Rattle.type_definitions.specs.declared.table.Shape.TheVariants as shape
@@ -8,10 +8,9 @@ use Rattle.typed_tree.specs.Trees.{TypedTree, More}
 use Rattle.flow_paths.specs.Objects.{Typing, sub_at, Passing, passings}
 use Rattle.flow_paths.specs.Names.{has_call, written}
 use Rattle.flow_paths.specs.Acts.{actual_values}
-use Rattle.machine.specs.Words as machine
 use Rattle.machine.specs.Memory.{Memory, declared}
-use Rattle.machine.specs.Evaluate.{Here, Now, Evaluated, Done, StorageError}
-use Rattle.machine.specs.Calls.{Passed, Value, From, To, checks_at, written_pos, all_passed, out_checks, with_formals, returns_of}
+use Rattle.machine.specs.Evaluate.{Here, Now, StorageError}
+use Rattle.machine.specs.Calls.{Passed, Value, From, To, written_pos, all_passed, out_checks, with_formals, returns_of}
 use Rattle.machine.specs.States.{Waiting, State, Outcome, Goes, sub_of, frame_words, stack_words, frame_at_start}
 use Rattle.machine.specs.Step.{Turn, typing, here, start, waiting, behind, call}
 use Rattle.machine.specs.Step as steps
@@ -32,7 +31,6 @@ use Rattle.null_places.specs.Agrees.{Agrees}
 use Rattle.null_places.specs.Compares.{Compares}
 use Rattle.null_places.proofs.Memories.{checks_agree, declared_agree}
 use Rattle.null_places.proofs.Only.{OnlyOwners, declared_only}
-use Rattle.null_places.proofs.Walks.{SameNow}
 use Rattle.null_places.proofs.Scalars.{all_same}
 use Rattle.null_places.proofs.Instructions.{SameStep, twin, both_are, leaking_same, raised_same, step_then}
 

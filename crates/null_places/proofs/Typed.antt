@@ -9,7 +9,6 @@ use Rattle.flow_paths.specs.Instructions.{Instruction, Skip, Declare, Assign, Ou
 use Rattle.flow_paths.specs.Instructions as instruction
 use Rattle.flow_paths.specs.Objects.{Typing, object_at, sub_at}
 use Rattle.flow_paths.specs.Laid.{FlowProgram, flow_typing}
-use Rattle.machine.specs.Evaluate.{part_type}
 use Rattle.typed_laws.specs.Fine.{Has, HasParts, HasFirst, Leads}
 use Rattle.typed_steps.specs.Steps.{IsViewed, Taken, FirstTaken, FirstHas, IsPlaceOf, IsText, FirstText, IsActual, ActualsTaken, Returned, IsTypedStep, AreTyped}
 use Rattle.null_places.specs.Compares.{Compares, ComparesIn, AreCompared}

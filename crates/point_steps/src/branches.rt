@@ -11,7 +11,7 @@ ghost use Rattle.point_steps.specs.Steps.{tested, chosen_by, decided_by};
 use crate::between::is_between;
 use code_rows::{Choice, Exception, Nodes, Range, Rows, Stop};
 use run_memory::Memory;
-use run_words::word;
+use run_words::evaluate;
 
 /// Where a condition leads.
 #[tactic(auto, using(crate::proofs::Wholes::tested_whole))]
@@ -26,7 +26,7 @@ pub fn test(
     requires whole { is_broken (tested (flat memory.now) (code_at nodes.now condition) holds fails) ≡ false }
     ensures { tested (flat memory.now) (code_at nodes.now condition) holds fails ≡ shown result }
 {
-    let word = word(nodes, memory, condition)?;
+    let word = evaluate(nodes, memory, condition)?;
     Ok(if word == 0 { fails } else { holds })
 }
 
@@ -51,7 +51,7 @@ pub fn choose(rows: &Rows, memory: &Memory, selector: u32, choices: Range) -> Re
     requires whole { is_broken (chosen_by (flat memory.now) (code_at rows.now.nodes selector) (choices_of rows.now choices)) ≡ false }
     ensures { chosen_by (flat memory.now) (code_at rows.now.nodes selector) (choices_of rows.now choices) ≡ shown result }
 {
-    let word = word(&rows.nodes, memory, selector)?;
+    let word = evaluate(&rows.nodes, memory, selector)?;
     let first = choices.first as usize;
     match chosen(&rows.choices[first..first + choices.count as usize], word) {
         Some(next) => Ok(next),

@@ -10,7 +10,7 @@ ghost use Rattle.point_steps.specs.Steps.{put_checked, put_pointer, ended_pointe
 use code_rows::{Nodes, Stop};
 use run_memory::{Memory, seen};
 use run_values::Kind;
-use run_words::{operand, within};
+use run_words::{evaluate, operand, within};
 
 /// Puts a word at an offset in the frame.
 #[tactic(auto, using(crate::proofs::Words::one_there, crate::proofs::Words::one_put))]
@@ -37,7 +37,7 @@ pub fn put(
     ensures put { put_checked (flat memory.old) at (code_at nodes.now value) low high ≡ shown_as (flat memory.new) result }
     ensures only { memory.new ≡ record memory.old { stack = memory.new.stack } }
 {
-    let word = within(operand(nodes, memory, value)?, low, high)?;
+    let word = within(evaluate(nodes, memory, value)?, low, high)?;
     put_word(memory, at, word);
     Ok(())
 }

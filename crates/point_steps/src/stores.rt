@@ -9,7 +9,7 @@ ghost use Rattle.point_steps.specs.Steps.{stored_checked};
 use code_rows::{Nodes, Place, Stop};
 use run_memory::Memory;
 use run_values::Kind;
-use run_words::{operand, spot, within};
+use run_words::{evaluate, spot, within};
 
 /// A scalar value within bounds is stored at a place, which is found after it.
 #[tactic(auto, using(crate::proofs::Storing::value_whole, crate::proofs::Storing::spot_whole, crate::proofs::Storing::store_whole))]
@@ -28,7 +28,7 @@ pub fn store(
     ensures stored { stored_checked (flat memory.old) (place_of (code_at nodes.now) place) (code_at nodes.now value) low high kind ≡ shown_as (flat memory.new) result }
     ensures elsewhere { elsewhere memory.new ≡ elsewhere memory.old }
 {
-    let word = within(operand(nodes, memory, value)?, low, high)?;
+    let word = within(evaluate(nodes, memory, value)?, low, high)?;
     let spot = spot(nodes, memory, place)?;
     memory.put_at(spot, kind, word)
 }

@@ -137,6 +137,7 @@ impl<'s> Memory<'s> {
     }
 
     /// The word of a kind at an offset in the cell that an access value designates.
+    #[inline(always)]
     pub fn behind(&self, pointer: i64, at: u64, kind: Kind) -> Result<i64, Stop>
         requires { is_broken (behind (flat self.now) at kind pointer) ≡ false }
         ensures { behind (flat self.now) at kind pointer ≡ shown result }

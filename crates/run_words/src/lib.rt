@@ -5,15 +5,19 @@
 //! to a trap, exactly as `run_codes` defines it (`specs/Flat.antt`, "expressions"; `docs/RUN.md`,
 //! "Expressions"). It asks that the expression is whole: each word that it reads stands where it is
 //! read. `operand` gives the same, without a call for the most frequent expressions: a number, a word
-//! of the frame, and a word of the cell that one designates. `spot` finds a place in the same way
-//! ("places" there): the indexes of its name come first. No call takes memory, and each node is
-//! visited once.
+//! of the frame, and a word of the cell that one designates. `evaluate` gives the same too: it tries
+//! these and operators on them at first, whose words fit into registers, since why there is none isn't
+//! said (`quick`); where that gives no word, `word` answers. `spot` finds a place in the same way
+//! ("places" there): the indexes of its name come first. No call takes memory. `evaluate` visits each
+//! node three times more than `word` at most.
 #![tactic(auto)]
 
 mod operators;
 mod places;
+mod quick;
 mod words;
 
 pub use operators::within;
 pub use places::spot;
+pub use quick::evaluate;
 pub use words::{operand, word};

@@ -7,6 +7,7 @@ ghost use Rattle.run_codes.specs.Codes.{Behind};
 ghost use Rattle.run_codes.specs.Lowered.{no_index};
 ghost use Rattle.run_codes.specs.Flat.{spot, is_broken};
 
+use crate::quick::evaluate;
 use crate::words::{names, word};
 use code_rows::{Nodes, Place, Stop};
 use run_memory::{Memory, Spot};
@@ -51,12 +52,12 @@ pub fn spot(nodes: &Nodes, memory: &Memory, place: Place) -> Result<Spot, Stop>
     match place {
         Place::Local { at } => Ok(memory.local_spot(at, 0)),
         Place::LocalAt { at, index } => {
-            let index = word(nodes, memory, index)?;
+            let index = evaluate(nodes, memory, index)?;
             Ok(memory.local_spot(at, index))
         }
         Place::Global { at } => Ok(memory.global_spot(at, 0)),
         Place::GlobalAt { at, index } => {
-            let index = word(nodes, memory, index)?;
+            let index = evaluate(nodes, memory, index)?;
             Ok(memory.global_spot(at, index))
         }
         Place::Behind { pointer, at } => behind(nodes, memory, pointer, at),

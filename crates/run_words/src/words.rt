@@ -262,14 +262,17 @@ pub fn operand(nodes: &Nodes, memory: &Memory, n: u32) -> Result<i64, Stop>
     requires whole { is_broken (word (flat memory.now) (code_at nodes.now n)) ≡ false }
     ensures { word (flat memory.now) (code_at nodes.now n) ≡ shown result }
 {
-    match nodes.node(n) {
-        Node::Number { value } => Ok(value as i64),
-        Node::Local { at } => Ok(memory.local(at)),
-        Node::ViaLocal { local, at, kind } => {
-            memory.behind(memory.local(local), at as u64, kind)
-        }
-        _ => word(nodes, memory, n),
+    let node = nodes.node(n);
+    if let Node::Local { at } = node {
+        return Ok(memory.local(at));
     }
+    if let Node::ViaLocal { local, at, kind } = node {
+        return memory.behind(memory.local(local), at as u64, kind);
+    }
+    if let Node::Number { value } = node {
+        return Ok(value as i64);
+    }
+    word(nodes, memory, n)
 }
 
 /// The indexes of a name, in order. They come before the name is followed.

@@ -1,8 +1,10 @@
 pub mod Acts
 pub mod Reports
 pub mod Enclosing
+pub mod Inner
 pub mod Packages
 pub mod Facts
 pub mod Scoped
 pub mod Points
 pub mod Ready
+pub mod Written

@@ -13,9 +13,10 @@ use Rattle.flow_paths.specs.Points.{NamedPoint, FlowPoint}
 use Rattle.flow_paths.specs.Laid.{FlowProgram, NamedSub, number_in, flow_typing, flow_program, flow_named}
 use Rattle.flow_paths.specs.Views.{encloses}
 use Rattle.machine.specs.States.{sub_of}
-use Rattle.soundness.specs.Sound.{IsAtPoint}
+use Rattle.soundness.specs.Sound.{IsAtPoint, RunIsSound}
 use Rattle.viewed_steps.specs.Sound.{IsViewClass}
 use Rattle.viewed_steps.specs.Ready.{AreOrderly, ViewsAreOrderly, IsReady}
+use Rattle.viewed_steps.proofs.Main.{ready_sound}
 use Rattle.view_laws.specs.Program.{IsViewProgram}
 use Rattle.view_laws.proofs.Enclosing.{itself, transitive}
 use Rattle.view_laws.proofs.Scoped as scoped
@@ -108,3 +109,7 @@ module _ (table : Table) (typed : TypedProgram) (effects : Effects) (given : IsV
     is_main = scoped.main_is table typed effects given;
     main_there = scoped.has_main table typed effects given;
   }
+
+  -- So each moment of its run is well owned, and none is a trap.
+  pub views_sound : (input : List ℕ) → RunIsSound table typed input
+  views_sound input = ready_sound table typed effects input views_ready

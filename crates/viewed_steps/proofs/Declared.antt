@@ -1,5 +1,5 @@
 -- The declaration of an object that isn't a view.
-use Rattle.std.proofs.Common.{◌≡◌, refl, sym, ap, ◌∙◌, subst, ◌⊎◌, inl, inr, ℕ, suc, ◌<◌, Bool, true, false, not, ◌==◌, eqb-true, eq-eqb, List, [], ◌∷◌, ◌++◌, length, get_or, arith, append-nil, Some, if◌then◌else◌}
+use Rattle.std.proofs.Common.{◌≡◌, refl, sym, ap, ◌∙◌, subst, ◌⊎◌, inl, inr, ℕ, suc, Bool, true, false, not, List, [], ◌∷◌, ◌++◌, length, get_or, arith, append-nil, Some, if◌then◌else◌}
 use Rattle.spark_base.specs.Lists.{Has}
 use Rattle.place_names.specs.declared.act.Act.TheVariants as act
 use Rattle.place_names.specs.declared.fact.Fact.{Fact}
@@ -7,7 +7,7 @@ use Rattle.place_names.specs.declared.fact.Fact.TheVariants.{Moved}
 use Rattle.place_names.specs.Names.{Name as PlaceName}
 use Rattle.type_definitions.specs.Types.{words, full}
 use Rattle.typed_tree.specs.Trees.{TypedTree, NoMore, More}
-use Rattle.flow_paths.specs.Objects.{Typing, object_at, is_anonymous, is_borrower, is_observer, view_of}
+use Rattle.flow_paths.specs.Objects.{Typing, object_at, is_anonymous, is_observer, view_of}
 use Rattle.flow_paths.specs.Names.{has_call, first}
 use Rattle.flow_paths.specs.Scopes.{taken}
 use Rattle.flow_paths.specs.Acts.{acts_in, declared_acts, source_acts, observe}
@@ -28,7 +28,6 @@ use Rattle.soundness.specs.Seen.{is_view_formal, content, trunk, steps_in, word_
 use Rattle.soundness.specs.Changes.{Alike}
 use Rattle.soundness.specs.Typed.{OwnsByShape, Kept}
 use Rattle.typed_laws.specs.Needed.{Source, FirstSource}
-use Rattle.soundness.specs.Sound.{IsTrap}
 use Rattle.soundness.proofs.Contents.{bool_cases, word_yes, word_no, word_root}
 use Rattle.soundness.proofs.Memories.{put_other}
 use Rattle.soundness.proofs.Moments.{declared_sound, number_part}

@@ -1,11 +1,10 @@
 -- The end of a scope: observers that fade give up their ways, and the object gives up its own.
-use Rattle.std.proofs.Common.{◌≡◌, refl, sym, ap, ◌∙◌, subst, ◌⊎◌, inl, inr, ℕ, ◌<◌, Bool, true, false, not, ◌&&◌, ◌||◌, ◌==◌, eqb-true, eq-eqb, List, [], ◌∷◌, drop, length, get_or, arith, Option, Some, None, if◌then◌else◌}
+use Rattle.std.proofs.Common.{◌≡◌, refl, sym, ap, ◌∙◌, subst, inl, inr, ℕ, ◌<◌, Bool, true, false, ◌&&◌, ◌||◌, ◌==◌, eqb-true, eq-eqb, List, [], ◌∷◌, drop, length, get_or, arith, Option, Some, None}
 use Rattle.spark_base.specs.Lists.{Has}
 use Rattle.place_names.specs.declared.act.Act.TheVariants as act
 use Rattle.place_names.specs.declared.fact.Fact.{Fact}
-use Rattle.place_names.specs.declared.fact.Fact.TheVariants.{Moved, Lent}
+use Rattle.place_names.specs.declared.fact.Fact.TheVariants.{Lent}
 use Rattle.place_names.specs.declared.rule.Loan.TheVariants.{Observed}
-use Rattle.place_names.specs.Names.{Name as PlaceName}
 use Rattle.place_names.specs.Facts.{effect}
 use Rattle.flow_paths.specs.Instructions.{EndScope}
 use Rattle.flow_paths.specs.Objects.{Typing, object_at, is_variable, is_anonymous, is_borrowing, is_observing, is_borrower, is_observer, is_package_object, view_of}
@@ -14,28 +13,27 @@ use Rattle.flow_paths.specs.Scopes.{taken, Leads, is_within, is_last}
 use Rattle.flow_paths.specs.Views.{encloses, scope_of}
 use Rattle.machine.specs.Words as machine
 use Rattle.machine.specs.Memory.{Memory, Slot, fresh, no_slot, variable_slots, undeclared}
-use Rattle.machine.specs.States.{Waiting, State, Outcome, Goes}
 use Rattle.machine.specs.Step.{Turn, typing}
 use Rattle.machine.specs.Step as steps
 use Rattle.machine.specs.Owners.{waiting_in}
-use Rattle.owned_ways.specs.Ways.{OfVariable, Way, View, Allows, name_of, number_of}
+use Rattle.owned_ways.specs.Ways.{OfVariable, Way, Allows, name_of, number_of}
 use Rattle.owned_ways.proofs.Assigned.{kept_fact}
 use Rattle.part_offsets.specs.Parts.{IsSettled}
-use Rattle.soundness.specs.Seen.{is_view_formal, seen, home}
+use Rattle.soundness.specs.Seen.{is_view_formal, home}
 use Rattle.soundness.specs.Typed.{OwnsByShape, Kept}
 use Rattle.soundness.specs.Sound as sound
 use Rattle.soundness.proofs.Defaults.{none_default}
 use Rattle.soundness.proofs.Keeping.{cell_has}
 use Rattle.soundness.proofs.Memories.{removed_same, removed_other}
-use Rattle.owned_loans.specs.Views.{Views, Viewed, Becomes, Unused, with_view}
+use Rattle.owned_loans.specs.Views.{Views, Viewed, Unused, with_view}
 use Rattle.owned_loans.proofs.Safe.{root_before}
 use Rattle.owned_loans.proofs.Taken.{becomes_with, given_up}
 use Rattle.viewed_soundness.specs.Holds.{PartsAreNamed}
 use Rattle.viewed_soundness.proofs.Names.{true_false}
 use Rattle.viewed_soundness.proofs.Outcomes.{LeavesOthers, Is_left, scope_left, borrower_unmoved}
-use Rattle.viewed_steps.specs.Sound.{Lasts, IsFading, HoldsAt, IsPlaced, ArePlaced}
+use Rattle.viewed_steps.specs.Sound.{Lasts, IsFading, HoldsAt, ArePlaced}
 use Rattle.viewed_steps.proofs.Faded.{without, had_way, has_way, no_way, faded}
-use Rattle.viewed_steps.proofs.Placed.{lasts_on, within_on, view_ends, placed_on}
+use Rattle.viewed_steps.proofs.Placed.{lasts_on, within_on, view_ends}
 
 -- an object that isn't a borrower or observer has no anonymous type, if those that have one are
 -- variables
@@ -83,11 +81,11 @@ module _ (t : Turn) (settled : IsSettled (typing t).table) (own_law : OwnsByShap
     (p q : NamedPoint) (y : ℕ) (is : p.instr ≡ EndScope y) (mine : home (typing t) (length t.outer) y ≡ length t.outer)
     (not_shared : is_package_object (typing t) y ≡ false) (last : is_last y p.scope ≡ true)
     (local : (x : ℕ) → is_anonymous (view_of (typing t) x) ≡ true
-        → (is_variable (object_at (typing t) x).kind ≡ true) × (is_package_object (typing t) x ≡ false))
+    → (is_variable (object_at (typing t) x).kind ≡ true) × (is_package_object (typing t) x ≡ false))
     (ended : (x : ℕ) → is_within x p.scope ≡ true → (x ≡ y → ⊥)
-        → (x < y) × (encloses t.program.scopes (scope_of (typing t) y) (scope_of (typing t) x) ≡ true → scope_of (typing t) x ≡ scope_of (typing t) y))
+    → (x < y) × (encloses t.program.scopes (scope_of (typing t) y) (scope_of (typing t) x) ≡ true → scope_of (typing t) x ≡ scope_of (typing t) y))
     (followed : (x : ℕ) → is_within x q.scope ≡ true → is_observer (typing t) x ≡ true → scope_of (typing t) x ≡ scope_of (typing t) y
-        → (z : ℕ) × (q.instr ≡ EndScope z) × (scope_of (typing t) x ≡ scope_of (typing t) z))
+    → (z : ℕ) × (q.instr ≡ EndScope z) × (scope_of (typing t) x ≡ scope_of (typing t) z))
     (leads : Leads (typing t) (drop 1 p.scope) q.scope)
     (facts : List Fact) (allowed : Allows facts (act.EndScope y (is_borrower (typing t) y)))
     (viewed : Viewed (home (typing t) (length t.outer)) (is_observer (typing t)) other v (sound.view_of (typing t) t.state) facts)
@@ -218,8 +216,7 @@ module _ (t : Turn) (settled : IsSettled (typing t).table) (own_law : OwnsByShap
       let old = leaves.1.was x w has in
       let place = placed x w old.2 in
       let h = place.holder sees in
-      let off : h.0 ≡ y → ⊥ = other_root x place.within old.0 old.1 h.0 h.2 (λ e. absurd (true_false (is_observer s x) sees e)) in
-      (
+      let off : h.0 ≡ y → ⊥ = other_root x place.within old.0 old.1 h.0 h.2 (λ e. absurd (true_false (is_observer s x) sees e)) in (
         h.0,
         kept_fact (act.EndScope y (is_borrower s y)) facts (Lent Observed h.0 (name_of (views_left.loan x)))
             (subst (λ z. Has facts (Lent Observed h.0 (name_of z))) (sym (leaves.1.loans x old.0)) h.1)

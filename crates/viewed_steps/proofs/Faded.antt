@@ -1,5 +1,5 @@
 -- Some observers give up their ways.
-use Rattle.std.proofs.Common.{◌≡◌, refl, sym, ap, ◌∙◌, inl, inr, ℕ, Bool, true, false, List, Option, Some, None, if◌then◌else◌}
+use Rattle.std.proofs.Common.{◌≡◌, refl, sym, ap, ◌∙◌, inl, inr, ℕ, Bool, true, false, List, Some, None, if◌then◌else◌}
 use Rattle.place_names.specs.declared.fact.Fact.{Fact}
 use Rattle.owned_ways.specs.Ways.{OfVariable, OfHand, Way, Object, Lost, Into, All, View, number_of, name_of}
 use Rattle.owned_loans.specs.Views.{Views, expand_root, expand, Viewed}

@@ -8,3 +8,4 @@ pub mod Placed
 pub mod Ended
 pub mod Sources
 pub mod Stepping
+pub mod Main

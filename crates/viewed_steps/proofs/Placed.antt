@@ -1,5 +1,5 @@
 -- Where views are, their roots last.
-use Rattle.std.proofs.Common.{◌≡◌, refl, sym, ap, ◌∙◌, subst, ◌⊎◌, inl, inr, ℕ, ◌<◌, Bool, true, false, not, ◌&&◌, ◌||◌, ◌==◌, eqb-true, List, [], ◌∷◌, ◌++◌, length, Some}
+use Rattle.std.proofs.Common.{◌≡◌, refl, sym, ap, ◌∙◌, subst, ◌⊎◌, inl, inr, ℕ, Bool, true, false, not, ◌&&◌, ◌||◌, ◌==◌, eqb-true, List, [], ◌∷◌, Some}
 use Rattle.std.specs.List.{AllByRecursion}
 use Rattle.std.proofs.lemmas.List.Folds.{list_any-append}
 use Rattle.spark_base.specs.Lists.{Has}
@@ -8,7 +8,7 @@ use Rattle.place_names.specs.declared.fact.Fact.TheVariants.{Lent}
 use Rattle.place_names.specs.declared.rule.Loan.TheVariants.{Observed}
 use Rattle.place_names.specs.Names.{Name as PlaceName}
 use Rattle.type_definitions.specs.Types.{is_owning}
-use Rattle.flow_paths.specs.Objects.{Typing, object_at, is_anonymous, is_observer, is_package_object, has_scope_end, view_of}
+use Rattle.flow_paths.specs.Objects.{Typing, object_at, is_anonymous, is_package_object, has_scope_end, view_of}
 use Rattle.flow_paths.specs.Laid.{FlowProgram, flow_typing}
 use Rattle.flow_paths.specs.Scopes.{taken, Leads, Silent, is_within, is_temporary}
 use Rattle.flow_paths.specs.Views.{encloses, scope_of}
@@ -25,8 +25,8 @@ use Rattle.soundness.proofs.Lasting.{ownerless}
 use Rattle.owned_loans.specs.Views.{Views}
 use Rattle.viewed_soundness.specs.Holds.{PartsAreNamed}
 use Rattle.viewed_soundness.proofs.Names.{true_false}
-use Rattle.viewed_soundness.proofs.Outcomes.{IsSame, Comes, Turned}
-use Rattle.viewed_steps.specs.Sound.{Lasts, IsPlaced, ArePlaced}
+use Rattle.viewed_soundness.proofs.Outcomes.{Turned}
+use Rattle.viewed_steps.specs.Sound.{Lasts, ArePlaced}
 
 either : (a b : Bool) → a || b ≡ true → (a ≡ true) ⊎ (b ≡ true)
 either true b e = inl refl

@@ -1,5 +1,5 @@
 -- Input: a number is stored at a scalar place.
-use Rattle.std.proofs.Common.{◌≡◌, refl, sym, ap, ◌∙◌, subst, ◌⊎◌, inl, inr, ℕ, suc, Bool, true, false, List, [], ◌∷◌, ◌++◌, flat_map, length, arith, append-nil, ℤ, if◌then◌else◌}
+use Rattle.std.proofs.Common.{◌≡◌, refl, sym, ap, ◌∙◌, subst, ◌⊎◌, inl, inr, ℕ, suc, Bool, true, false, List, [], ◌∷◌, ◌++◌, flat_map, length, arith, append-nil, ℤ}
 use Rattle.std.specs.Prelude as int
 use Rattle.spark_base.specs.declared.position.Pos.{Pos}
 use Rattle.place_names.specs.declared.act.Act.{Act}
@@ -9,7 +9,6 @@ use Rattle.place_names.specs.declared.fact.Fact.{Fact}
 use Rattle.place_names.specs.Names.{Name as PlaceName}
 use Rattle.place_names.specs.Rules.{breaks_O3}
 use Rattle.place_names.specs.Facts.{effect}
-use Rattle.type_definitions.specs.declared.table.Shape.{Shape}
 use Rattle.type_definitions.specs.declared.table.Shape.TheVariants as shape
 use Rattle.type_definitions.specs.Types.{Table, shape_of, words, parts, is_scalar, full, view_of as view_of_shape}
 use Rattle.typed_tree.specs.Trees.{TypedTree, Name}
@@ -26,7 +25,7 @@ use Rattle.machine.specs.Memory.{Memory, Place, slots_at, stored}
 use Rattle.machine.specs.Evaluate.{Now, Evaluated, Done, Raises, Traps, followed_by, place_of, variable_place, walked, steps_of}
 use Rattle.machine.specs.Evaluate as run
 use Rattle.machine.specs.Calls.{checked_at}
-use Rattle.machine.specs.States.{Waiting, State, Outcome, Goes}
+use Rattle.machine.specs.States.{Waiting, Outcome, Goes}
 use Rattle.machine.specs.Step.{Turn, typing, here, start, waiting, goes, behind}
 use Rattle.machine.specs.Step as steps
 use Rattle.machine.specs.Owners.{waiting_in}
@@ -38,7 +37,6 @@ use Rattle.soundness.specs.Seen.{is_view_formal, content, trunk, seen, home}
 use Rattle.soundness.specs.Changes.{leaks_at}
 use Rattle.soundness.specs.Typed.{Matches, OwnsByShape, Spot}
 use Rattle.typed_laws.specs.Needed.{Leads}
-use Rattle.soundness.specs.Sound.{IsTrap}
 use Rattle.soundness.proofs.Contents.{bool_cases}
 use Rattle.soundness.proofs.Walks.{way_along, Walked}
 use Rattle.soundness.proofs.Steps.{plain_shape}

@@ -1,15 +1,15 @@
 -- Releases: a cell is freed, or null is.
-use Rattle.std.proofs.Common.{◌≡◌, refl, sym, ap, ◌∙◌, subst, inl, inr, ℕ, suc, ◌<◌, Bool, true, false, not, List, [], ◌∷◌, ◌++◌, map, length, arith, ℤ, Some}
+use Rattle.std.proofs.Common.{◌≡◌, refl, sym, ap, ◌∙◌, subst, inl, inr, ℕ, suc, Bool, true, false, not, List, [], ◌∷◌, ◌++◌, map, length, arith, ℤ}
 use Rattle.spark_base.specs.Lists.{Has}
 use Rattle.spark_base.specs.declared.position.Pos.{Pos}
 use Rattle.place_names.specs.declared.act.Act.{Act}
 use Rattle.place_names.specs.declared.act.Act.TheVariants as act
 use Rattle.place_names.specs.declared.fact.Fact.{Fact}
-use Rattle.place_names.specs.declared.fact.Fact.TheVariants.{Moved, Lent}
+use Rattle.place_names.specs.declared.fact.Fact.TheVariants.{Moved}
 use Rattle.place_names.specs.declared.rule.Loan.TheVariants.{Borrowed}
 use Rattle.place_names.specs.declared.rule.Rule.TheVariants.{O14}
 use Rattle.place_names.specs.Names.{leads_to, covers}
-use Rattle.place_names.specs.Rules.{breaks_O14, lent}
+use Rattle.place_names.specs.Rules.{breaks_O14}
 use Rattle.place_names.specs.Facts.{effect}
 use Rattle.type_definitions.specs.declared.table.Shape.TheVariants as shape
 use Rattle.type_definitions.specs.Types.{Table, shape_of, words, words_of as words_of_shape, view_of as view_of_shape}
@@ -36,9 +36,8 @@ use Rattle.part_offsets.specs.Parts.{type_in, offset_in, has_part, owns_one, is_
 use Rattle.part_offsets.proofs.Ranges.{leaf_end, leaf_part}
 use Rattle.soundness.specs.Seen.{is_view_formal, Content, content, trunk, steps_in, owner_at, owner_word, seen, home}
 use Rattle.soundness.specs.Changes.{Alike as AlikeTypes, Checks, leaks_at}
-use Rattle.soundness.specs.Typed.{Matches, OwnsByShape, Kept, Spot}
+use Rattle.soundness.specs.Typed.{Matches, OwnsByShape, Spot}
 use Rattle.typed_laws.specs.Needed.{Leads}
-use Rattle.soundness.specs.Sound.{IsTrap}
 use Rattle.soundness.proofs.Contents.{bool_cases, word_yes, word_no, word_part, checks_made, all_checks}
 use Rattle.soundness.proofs.Joined.{trunk_trunk, below_cell}
 use Rattle.soundness.proofs.Walks.{both_true, way_along, Walked, slot_at, one_slot, type_is, slot_is, held_there, cell_spot}

@@ -17,15 +17,14 @@ use Rattle.machine.specs.States.{Waiting, Loop, Frame, State, Outcome, Goes}
 use Rattle.machine.specs.Step.{Turn, typing, here, start, waiting, behind, led, successor}
 use Rattle.machine.specs.Step as steps
 use Rattle.machine.specs.Owners.{waiting_in}
-use Rattle.owned_ways.specs.Ways.{Step, OfVariable, Loc, OfRoot, Way, Empty, Reaches, IsRooted, after, AllowsAll}
+use Rattle.owned_ways.specs.Ways.{OfVariable, Loc, OfRoot, Way, Reaches, IsRooted, after, AllowsAll}
 use Rattle.part_offsets.specs.Parts.{offset_in, IsSettled}
-use Rattle.soundness.specs.Seen.{is_view_formal, content, trunk, word_in, seen, home}
+use Rattle.soundness.specs.Seen.{is_view_formal, content, trunk, seen, home}
 use Rattle.soundness.specs.Typed.{OwnsByShape, Kept, Spot}
 use Rattle.typed_laws.specs.Needed.{Stays, Writes}
-use Rattle.soundness.specs.Sound.{IsTrap}
-use Rattle.soundness.proofs.Contents.{bool_cases, word_no}
+use Rattle.soundness.proofs.Contents.{bool_cases}
 use Rattle.soundness.proofs.Memories.{put_other, removed_other}
-use Rattle.soundness.proofs.Steps.{alike, no_leaf, plain_shape}
+use Rattle.soundness.proofs.Steps.{plain_shape}
 use Rattle.soundness.proofs.Keeping.{cell_has}
 use Rattle.soundness.proofs.Scalars.{acts, acts_append, after_append, allows_both}
 use Rattle.soundness.proofs.Stays.{Quiet, Any, One, quiet_then}
@@ -258,8 +257,7 @@ module _ (t : Turn) (settled : IsSettled (typing t).table) (own_law : OwnsByShap
         let given = scalar_given (here t) settled t.state.leaks [] other alone (keeps s settled own_law) no_formals index_law own_law v parts_named
         m hands facts facts u (record { viewed = good.viewed; kept = good.kept; holds = good.holds }) refl scalar (Done b.low now) (refl, both.0) in
         let next : Memory = declared depth x b.low m in
-        let waits = loop_waits (starts.loop b) (behind t (waiting t) next 0) ∙ hands_behind t settled own_law other alone no_formals v parts_named may frames none next 0 in
-        (
+        let waits = loop_waits (starts.loop b) (behind t (waiting t) next 0) ∙ hands_behind t settled own_law other alone no_formals v parts_named may frames none next 0 in (
           v,
           unturned t settled own_law other alone no_formals v parts_named may frames none facts,
           record {

@@ -17,7 +17,7 @@ use Rattle.typed_tree.specs.Trees.{TypedTree, Name, NoMore, More}
 use Rattle.typed_tree.specs.Programs.{TypedProgram}
 use Rattle.flow_paths.specs.declared.report.Effects.{Effects}
 use Rattle.flow_paths.specs.Instructions.{Instruction, Skip, Declare, Assign, Call, Output, Input, Release, Test, Choose, Start, Next, Evaluate, LeaveLoop, Hold, EndScope, Finish, Fall}
-use Rattle.flow_paths.specs.Objects.{Typing, object_at, is_formal, is_anonymous, is_package_object, is_borrower, is_observer, view_of}
+use Rattle.flow_paths.specs.Objects.{Typing, object_at, is_formal, is_anonymous, is_package_object, is_observer, view_of}
 use Rattle.flow_paths.specs.Names.{has_call, name_of}
 use Rattle.flow_paths.specs.Acts as flow
 use Rattle.flow_paths.specs.Acts.{acts_of, acts_in}
@@ -27,10 +27,9 @@ use Rattle.flow_paths.specs.Paths.{PathPoint, is_some_point, path_point, Control
 use Rattle.flow_paths.specs.Effects.{path_points, called_acts}
 use Rattle.flow_paths.specs.Scopes.{taken, brought, scope_behind, is_within, is_last, is_ready, Leads}
 use Rattle.machine.specs.Words as machine
-use Rattle.machine.specs.Memory.{Memory, no_slot, variable_slots}
+use Rattle.machine.specs.Memory.{no_slot, variable_slots}
 use Rattle.machine.specs.States.{Loop, Frame, State, Outcome, Goes, Ends, sub_of, frame_at_start}
-use Rattle.machine.specs.Step.{Turn, turn, typing, led, successor, main_frame}
-use Rattle.machine.specs.Step as steps
+use Rattle.machine.specs.Step.{Turn, turn, led, successor, main_frame}
 use Rattle.machine.specs.Typed.{successors}
 use Rattle.machine.specs.Owners.{is_in, waiting_in}
 use Rattle.machine.specs.Run.{no_point, stepped, step}
@@ -46,7 +45,7 @@ use Rattle.soundness.proofs.Contents.{bool_cases, word_root}
 use Rattle.soundness.proofs.Scalars.{acts, acts_append}
 use Rattle.soundness.proofs.Paths.{accepted_point, facts_next}
 use Rattle.soundness.proofs.Points.{flow_at, named_has, point_has, sub_there, sub_has, typing_same, point_there, point_in, path_there, IsLaid, all_laid, next_there}
-use Rattle.soundness.proofs.Scoped.{MayHold, Inside}
+use Rattle.soundness.proofs.Scoped.{MayHold}
 use Rattle.soundness.proofs.Used.{path_acts}
 use Rattle.soundness.proofs.Returning.{finish_ends, ended_owned}
 use Rattle.soundness.proofs.Following.{Each, GoesOn, Declares, declare_on, declare_follows, assign_follows, release_follows, input_follows, test_follows, choose_follows, stays_follows, output_follows, start_follows, next_follows, end_scope_follows}
@@ -57,7 +56,7 @@ use Rattle.viewed_soundness.specs.Holds.{IsNamed, AllKeep}
 use Rattle.viewed_soundness.proofs.Names.{plain_named, true_false}
 use Rattle.viewed_soundness.proofs.Evaluated.{keep_both}
 use Rattle.viewed_soundness.proofs.Outcomes.{named_plain, IsGood, Turned, Leads_on, Is_left, test_leads, choose_leads, assign_leads}
-use Rattle.viewed_steps.specs.Sound.{Lasts, IsFading, HoldsAt, ArePlaced, HaveNone, IsRunning, IsSound, LeadsOn, StepsLeadOn}
+use Rattle.viewed_steps.specs.Sound.{Lasts, HoldsAt, ArePlaced, HaveNone, IsRunning, IsSound, LeadsOn, StepsLeadOn}
 use Rattle.viewed_steps.specs.Ready.{AreOrderly, IsReady}
 use Rattle.viewed_steps.proofs.Declared.{IsElsewhere, OthersStay, not_gone, declare_leads, others_stay}
 use Rattle.viewed_steps.proofs.Released.{release_leads}
@@ -83,6 +82,9 @@ number_along_part w (i ∷ q) = number_along_part w q
 end_or : (i : Instruction) → ((x : ℕ) × (i ≡ EndScope x)) ⊎ ((x : ℕ) → i ≡ EndScope x → ⊥)
 end_or (EndScope x) = inl (x, refl)
 end_or i = inr (λ x e. cc)
+
+not_next : (n : ℕ) → n ≡ suc n → ⊥
+not_next n e = omega (arith, e)
 
 only_first : (k : ℕ) → k < 1 → k ≡ 0
 only_first zero less = refl
@@ -496,7 +498,7 @@ module _ (table : Table) (typed : TypedProgram) (effects : Effects) (input : Lis
       free x v e y w has at_home root = by_package (is_package_object s x) refl
         where
           by_package : (b : Bool) → is_package_object s x ≡ b → ⊥
-          by_package true shared = (let no : 0 ≡ 1 = sym (ap (λ b. if b then 0 else 1) shared) ∙ at_home in cc)
+          by_package true shared = not_next 0 (sym (ap (λ b. if b then 0 else 1) shared) ∙ at_home)
           by_package false mine = unrooted x v e (number_of w) y mine (placed y w has).root root
 
       unused : (x : ℕ) (v : TypedTree) → p.instr ≡ Declare x v → is_package_object s x ≡ false → Unused views facts_now x

@@ -1,5 +1,5 @@
 -- What holds at each moment of a run of an accepted program with borrowers and observers.
-use Rattle.std.specs.Prelude.{◌≡◌, ◌⊎◌, ◌<◌, ℕ, true, false, List, [], ◌∷◌, get_or, Some, None}
+use Rattle.std.specs.Prelude.{◌≡◌, ◌⊎◌, ℕ, true, false, List, [], ◌∷◌, get_or, Some, None}
 use Rattle.spark_base.specs.Lists.{Has}
 use Rattle.place_names.specs.declared.fact.Fact.{Fact}
 use Rattle.place_names.specs.declared.fact.Fact.TheVariants.{Lent}

@@ -6,12 +6,12 @@ use Rattle.run_codes.specs.Flat.{word, spot, is_broken}
 use Rattle.run_words.proofs.Wholes.{first_whole}
 use Rattle.run_words.proofs.places.spot.Goals as goal
 
-pub word-requires-clause-whole : goal.word-requires-clause-whole
-word-requires-clause-whole c =
+pub evaluate-requires-clause-whole : goal.evaluate-requires-clause-whole
+evaluate-requires-clause-whole c =
     let whole : is_broken (spot (flat c.args.memory.now) (place_of (code_at c.args.nodes.now) (place.LocalAt c.in-LocalAt.at c.in-LocalAt.index))) ≡ false = search rules in
     first_whole (word (flat c.args.memory.now) (code_at c.args.nodes.now c.in-LocalAt.index)) _ whole
 
-pub word-requires-in-GlobalAt-clause-whole : goal.word-requires-in-GlobalAt-clause-whole
-word-requires-in-GlobalAt-clause-whole c =
+pub evaluate-requires-in-GlobalAt-clause-whole : goal.evaluate-requires-in-GlobalAt-clause-whole
+evaluate-requires-in-GlobalAt-clause-whole c =
     let whole : is_broken (spot (flat c.args.memory.now) (place_of (code_at c.args.nodes.now) (place.GlobalAt c.in-GlobalAt.at c.in-GlobalAt.index))) ≡ false = search rules in
     first_whole (word (flat c.args.memory.now) (code_at c.args.nodes.now c.in-GlobalAt.index)) _ whole

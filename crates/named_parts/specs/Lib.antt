@@ -1,0 +1,2 @@
+-- types that marks may denote, and those of objects
+pub mod Marks

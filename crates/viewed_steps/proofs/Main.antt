@@ -1,0 +1,178 @@
+-- The state before the first step is sound, and so each moment of the run is well owned, and none is
+-- a trap.
+use Rattle.std.proofs.Common.{◌≡◌, refl, sym, ap, subst, ℕ, zero, suc, Bool, true, false, nat_le, List, [], ◌∷◌, ◌++◌, get_or, inl, inr, Some, None, if◌then◌else◌}
+use Rattle.type_definitions.specs.Types.{Table}
+use Rattle.typed_tree.specs.Programs.{TypedProgram}
+use Rattle.flow_paths.specs.declared.report.Effects.{Effects}
+use Rattle.flow_paths.specs.Objects.{Typing, object_at, is_observer}
+use Rattle.flow_paths.specs.Points.{NamedPoint, FlowPoint}
+use Rattle.flow_paths.specs.Laid.{FlowSub, FlowProgram, flow_sub, typing_of, flow_typing, flow_program}
+use Rattle.flow_paths.specs.Paths.{begins}
+use Rattle.machine.specs.Words as machine
+use Rattle.machine.specs.Memory.{no_slot, variable_slots}
+use Rattle.machine.specs.Evaluate.{StorageError}
+use Rattle.machine.specs.States.{Frame, State, Ending, Raised, Outcome, Goes, Ends, state_of, sub_of, frame_words, stack_words, frame_at_start}
+use Rattle.machine.specs.Step.{main_frame}
+use Rattle.machine.specs.Owners.{WellOwned}
+use Rattle.machine.specs.Run.{empty_memory, frames_at_start, state_at_start, step, then_on, within, run_of, main_of, moment}
+use Rattle.owned_ways.specs.Ways.{Way, Lost}
+use Rattle.soundness.specs.Seen.{home, seen}
+use Rattle.soundness.specs.Sound.{Stage, Elsewhere, IsTrap, ending_of, RunIsSound}
+use Rattle.soundness.proofs.Defaults.{none_default}
+use Rattle.soundness.proofs.Keeping.{cell_has}
+use Rattle.soundness.proofs.Owners.{well_owned}
+use Rattle.soundness.proofs.Beginning.{empty_sound, empty_kept, empty_scope}
+use Rattle.soundness.proofs.Points.{sub_there}
+use Rattle.owned_loans.specs.Views.{Views, Viewed}
+use Rattle.viewed_steps.specs.Sound.{IsSound, LeadsOn}
+use Rattle.viewed_steps.specs.Ready.{IsReady}
+use Rattle.viewed_steps.proofs.Stepping.{stage, first_point, sound_step}
+
+-- ---- the start
+
+-- No object has a way.
+abbrev pub no_views : Views
+no_views = record { way = λ x. None; loan = λ x. Lost 0; up = λ x. Lost 0; cell = λ x. 0 }
+
+none_some : (w : Way) → None ≡ Some w → ⊥
+none_some w e = cc
+
+module _ (s : Typing) where
+  empty_viewed : (at_home : ℕ → ℕ) (other : Way → Type 0) → Viewed at_home (is_observer s) other no_views (seen s empty_memory [] []) []
+  empty_viewed at_home other =
+      let sound = empty_sound s at_home other [] in
+      record {
+        owned = sound.owned;
+        covered = sound.covered;
+        known = λ w l rooted r gone. absurd (elim ((empty_sound s at_home (λ w. ⊥) []).known w l rooted r gone) [ inl moved ↦ moved.1 | inr o ↦ o ]);
+        clear = record {
+          moved = λ l h n m has there over. has;
+          lent = λ b h n m has there off over. has;
+          seen = λ b h n m has there over. has;
+          owned = λ n has. absurd has;
+        };
+        views = λ x w has. absurd (none_some w has);
+      }
+
+  empty_word : (f x n : ℕ) → (get_or (variable_slots s f x empty_memory.variables) 0 no_slot).word ≡ machine.Cell n → ⊥
+  empty_word f x n e = none_default s.table (object_at s x).of n (cell_has (machine.default s.table (object_at s x).of) 0 n e)
+
+module _ (table : Table) (typed : TypedProgram) (effects : Effects) (input : List ℕ) (ready : IsReady table typed effects) where
+  abbrev program : FlowProgram
+  program = flow_program table typed
+
+  abbrev s : Typing
+  s = flow_typing program
+
+  abbrev started : List Frame → State
+  started frames = record (state_at_start program) { frames = frames }
+
+  abbrev stage_of : ℕ → ℕ → Stage
+  stage_of n depth = stage table typed effects input ready n depth
+
+  -- the package objects are declared first
+  packages_start : (p : NamedPoint) (rest : List NamedPoint) → ready.packages.points ≡ p ∷ rest → IsSound table typed effects (started (frame_at_start 0 [] ∷ []))
+  packages_start p rest is = record {
+    top = stage_of 0 0;
+    older = [];
+    views = no_views;
+    stages = (refl, refl, tt);
+    running = (refl, (refl, refl, refl), (λ x. refl), (λ x n view e. empty_word s 1 x n e));
+    path = begins (first_point table typed effects input ready 0 ready.packages ready.stands p rest is);
+    viewed = empty_viewed s (home s 0) (Elsewhere program effects []);
+    kept = empty_kept s;
+    named = ready.packages;
+    of_sub = ready.stands;
+    point = p;
+    at_point = ([], rest, is, refl);
+    scope = empty_scope s 0 p.scope;
+    holds = record {
+      held = λ x n lasts view e. absurd (empty_word s (home s 0 x) x n e);
+      within = λ x n view e. absurd (empty_word s (home s 0 x) x n e);
+      only = λ x w has. absurd (none_some w has);
+    };
+    placed = λ x w has. absurd (none_some w has);
+  }
+
+  -- without any, the main procedure begins
+  main_start : IsSound table typed effects (started (frame_at_start ready.main [] ∷ (frame_at_start 0 [] ∷ [])))
+  main_start = record {
+    top = stage_of ready.main 1;
+    older = stage_of 0 0 ∷ [];
+    views = no_views;
+    stages = (refl, refl, (refl, refl, tt));
+    running = (ready.main_there, (refl, refl, refl), refl, (refl, refl, refl));
+    path = begins (first_point table typed effects input ready ready.main ready.main_there.named ready.main_there.stands
+        ready.main_there.point ready.main_there.points ready.main_there.begins);
+    viewed = empty_viewed s (home s 1) (Elsewhere program effects (stage_of 0 0 ∷ []));
+    kept = empty_kept s;
+    named = ready.main_there.named;
+    of_sub = ready.main_there.stands;
+    point = ready.main_there.point;
+    at_point = ([], ready.main_there.points, ready.main_there.begins, refl);
+    scope = empty_scope s 1 ready.main_there.point.scope;
+    holds = record {
+      held = λ x n lasts view e. absurd (empty_word s (home s 1 x) x n e);
+      within = λ x n view e. absurd (empty_word s (home s 1 x) x n e);
+      only = λ x w has. absurd (none_some w has);
+    };
+    placed = λ x w has. absurd (none_some w has);
+  }
+
+  -- by the points of the package objects
+  abbrev numbered_there : List NamedPoint → List FlowPoint
+  numbered_there points = (flow_sub (typing_of table typed) (record ready.packages { points = points })).points
+
+  by_points : (points : List NamedPoint) → ready.packages.points ≡ points → IsSound table typed effects (started (frames_at_start program (numbered_there points)))
+  by_points [] is =
+      subst (λ fs. IsSound table typed effects (started fs))
+      (sym (ap (λ z. main_frame (record program { main = z }) ++ (frame_at_start 0 [] ∷ [])) ready.is_main)) main_start
+  by_points (p ∷ rest) is = packages_start p rest is
+
+  pub sound_start : IsSound table typed effects (state_at_start program)
+  sound_start =
+      subst (λ (z : FlowSub). IsSound table typed effects (started (frames_at_start program z.points)))
+      (sym (sub_there table typed 0 ready.packages ready.stands)) (by_points ready.packages.points refl)
+
+  -- ---- runs
+
+  sound_owned : (state : State) → IsSound table typed effects state → WellOwned s state
+  sound_owned state sound = well_owned s ready.accepted.settled ready.owns state sound.viewed.owned sound.viewed.covered
+
+  go : (o : Outcome) (on : State → Outcome) → LeadsOn table typed effects o
+      → ((state : State) → IsSound table typed effects state → LeadsOn table typed effects (on state)) → LeadsOn table typed effects (then_on o on)
+  go (Goes t) on leads next = next t leads
+  go (Ends e t) on leads next = leads
+
+  many : (n : ℕ) (state : State) → IsSound table typed effects state → LeadsOn table typed effects (within n (flow_program table typed) input state)
+  unfolding within
+  many zero state sound = ((λ t. t), sound_owned state sound)
+  many (suc n) state sound =
+      go (step (flow_program table typed) input state) (within n (flow_program table typed) input) (sound_step table typed effects input ready state sound) (λ t leads. many n t leads)
+
+  -- where the frames at the start have too many words, the run ends there
+  whole_run : (main n : ℕ) → LeadsOn table typed effects (run_of (flow_program table typed) main input n)
+  whole_run main n = by_room (nat_le (frame_words (flow_program table typed) (frame_at_start main [] ∷ frame_at_start 0 [] ∷ [])) stack_words)
+    where
+      by_room : (b : Bool) → LeadsOn table typed effects
+          (if b then within n (flow_program table typed) input (state_at_start (flow_program table typed))
+          else Ends (Raised StorageError (sub_of (flow_program table typed) main).pos) (state_at_start (flow_program table typed)))
+      by_room true = many n (state_at_start (flow_program table typed)) sound_start
+      by_room false = ((λ t. t), sound_owned (state_at_start (flow_program table typed)) sound_start)
+
+  -- Each moment of the run of a program that is ready is well owned, and none is a trap.
+  pub ready_sound : RunIsSound table typed input
+  unfolding moment
+  ready_sound = record {
+    owned = λ n. owned_at (run_of (flow_program table typed) (main_of (flow_program table typed).main) input n) (whole_run (main_of (flow_program table typed).main) n);
+    no_trap = λ n e is. no_trap_at (run_of (flow_program table typed) (main_of (flow_program table typed).main) input n)
+        (whole_run (main_of (flow_program table typed).main) n) e is;
+  }
+    where
+      owned_at : (o : Outcome) → LeadsOn table typed effects o → WellOwned (flow_typing (flow_program table typed)) (state_of o)
+      owned_at (Goes t) leads = sound_owned t leads
+      owned_at (Ends e t) leads = leads.1
+
+      no_trap_at : (o : Outcome) → LeadsOn table typed effects o → (e : Ending) → ending_of o ≡ Some e → IsTrap e → ⊥
+      no_trap_at (Goes t) leads e is trap = cc
+      no_trap_at (Ends f t) leads e is trap = (let same : f ≡ e = cc in leads.0 (subst IsTrap (sym same) trap))
