@@ -158,25 +158,29 @@ module _ (s : Typing) (settled : IsSettled s.table) where
         let l : Loc = fixed_at k fixed in
         let spot : Spot s m hands k l = fixed_spot k fixed m hands in
         let marks : List Slot = gone_at (access_offsets s.table k.of) (slots_of s m k) in
-        let long = marks_long k fixed m hands kept in
-        ((
-          same_sound at_home other (seen s m hands leaks) (seen s (with_slots s k marks m) hands leaks) facts
-              (put_same_view s settled m hands k l spot kept fixed.scalar marks long leaks) sound,
-          less_kept s settled (moved_out s k m) (record { of = k.of; words = words_of s m k }) hands ((keeps s settled own_law).moved m hands k l spot kept),
-        ), λ g y p. put_word s settled m hands k l spot kept fixed.scalar marks long (OfRoot (ways.OfVariable g y)) p refl)
+        let long = marks_long k fixed m hands kept in (
+          (
+            same_sound at_home other (seen s m hands leaks) (seen s (with_slots s k marks m) hands leaks) facts
+                (put_same_view s settled m hands k l spot kept fixed.scalar marks long leaks) sound,
+            less_kept s settled (moved_out s k m) (record { of = k.of; words = words_of s m k }) hands ((keeps s settled own_law).moved m hands k l spot kept),
+          ),
+          λ g y p. put_word s settled m hands k l spot kept fixed.scalar marks long (OfRoot (ways.OfVariable g y)) p refl,
+        )
 
     pub stored_good : (k : Place) → IsFixed s k → (ws : List machine.Word) → length ws ≡ 1 → (m : Memory) → Good m → LeadsTo m (stored s k ws m)
     stored_good k fixed ws one m (sound, kept) =
         let l : Loc = fixed_at k fixed in
         let v : Waiting = record { of = k.of; words = ws } in
         let spot : Spot s m hands k l = fixed_spot k fixed m hands in
-        let long = fresh_long k fixed ws one in
-        ((
-          same_sound at_home other (seen s m hands leaks) (seen s (with_slots s k (fresh ws) m) hands leaks) facts
-              (put_same_view s settled m hands k l spot kept fixed.scalar (fresh ws) long leaks) sound,
-          put_away s settled m v hands k l (scalar s settled m v hands fixed.scalar kept) (fixed_spot k fixed m (v ∷ hands))
-              (one ∙ sym (plain_word k.of fixed.scalar)) (inl refl),
-        ), λ g y p. put_word s settled m hands k l spot kept fixed.scalar (fresh ws) long (OfRoot (ways.OfVariable g y)) p refl)
+        let long = fresh_long k fixed ws one in (
+          (
+            same_sound at_home other (seen s m hands leaks) (seen s (with_slots s k (fresh ws) m) hands leaks) facts
+                (put_same_view s settled m hands k l spot kept fixed.scalar (fresh ws) long leaks) sound,
+            put_away s settled m v hands k l (scalar s settled m v hands fixed.scalar kept) (fixed_spot k fixed m (v ∷ hands))
+                (one ∙ sym (plain_word k.of fixed.scalar)) (inl refl),
+          ),
+          λ g y p. put_word s settled m hands k l spot kept fixed.scalar (fresh ws) long (OfRoot (ways.OfVariable g y)) p refl,
+        )
 
     pub leads_on : (a b c : Memory) → LeadsTo a b → LeadsTo b c → LeadsTo a c
     leads_on a b c first second = (second.0, λ g y p. second.1 g y p ∙ first.1 g y p)

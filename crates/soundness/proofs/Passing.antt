@@ -322,12 +322,14 @@ module _ (s : Typing) (settled : IsSettled s.table) (own_law : OwnsByShape s.tab
       let v : Waiting = record { of = u; words = ws } in
       let long : length ws ≡ words s.table u = one ∙ sym (plain_word s settled u plain) in
       let others : (g y : ℕ) → (OfVariable f x ≡ OfVariable g y → ⊥) → variable_slots s g y (declared f x ws m).variables ≡ variable_slots s g y m.variables =
-      λ g y ne. put_other s f x g y ne (fresh ws) m.variables in
-      ((
-        same_sound at_home other (seen s m hands leaks) (seen s (declared f x ws m) hands leaks) facts
-            (scalar_same s settled m hands leaks f x plain (declared f x ws m).variables others) good.0,
-        declared_kept s settled m f x v hands (scalar s settled m v hands plain good.1) long (inl refl),
-      ), λ g y p. same_word s settled m [] [] f x plain (declared f x ws m).variables others (OfRoot (OfVariable g y)) p refl)
+      λ g y ne. put_other s f x g y ne (fresh ws) m.variables in (
+        (
+          same_sound at_home other (seen s m hands leaks) (seen s (declared f x ws m) hands leaks) facts
+              (scalar_same s settled m hands leaks f x plain (declared f x ws m).variables others) good.0,
+          declared_kept s settled m f x v hands (scalar s settled m v hands plain good.1) long (inl refl),
+        ),
+        λ g y p. same_word s settled m [] [] f x plain (declared f x ws m).variables others (OfRoot (OfVariable g y)) p refl,
+      )
 
   pub with_one : (x : ℕ) (a : Passed) (m : Memory) → Scalar x → IsLaid s a → GoodThere m → Onward m (with_formal s f x a m)
   with_one x (Value ws) m plain laid good = one_formal x ws m plain laid good

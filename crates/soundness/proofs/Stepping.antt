@@ -895,8 +895,11 @@ module _ (table : Table) (typed : TypedProgram) (effects : Effects) (input : Lis
             ends_lead main_turn (LeadsOn table typed effects)
             (LeadsTo s ready.accepted.settled ready.owns (waiting_in state) state.leaks (home s depth) (Elsewhere program effects (below ∷ [])) own_facts state.memory)
             ends_well below.frame (ap (λ z. below.frame ∷ z) same_rest)
-            (λ m on. ((λ trap. trap), ended_owned s ready.accepted.settled ready.owns (record state { memory = m }) top.frame outer depth frames plain
-            (λ x q n held. nothing_left is x q n (sym (on.1 depth x q) ∙ held)) on.0.0.owned on.0.0.covered))
+            (λ m on. (
+              (λ trap. trap),
+              ended_owned s ready.accepted.settled ready.owns (record state { memory = m }) top.frame outer depth frames plain
+                  (λ x q n held. nothing_left is x q n (sym (on.1 depth x q) ∙ held)) on.0.0.owned on.0.0.covered,
+            ))
             (back main_turn ready.accepted.settled ready.owns (waiting_in state) state.leaks (home s depth) (Elsewhere program effects (below ∷ [])) own_facts
             top.frame.returns running.1.1 (start main_turn) (well, kept))
         by_rest [] (h ∷ m) same_rest stages_there callers well = absurd stages_there.2
@@ -1096,12 +1099,14 @@ module _ (table : Table) (typed : TypedProgram) (effects : Effects) (input : Lis
         same_owners =
             let before = sound_called passed given in
             formals_good s ready.accepted.settled ready.owns (suc depth) (waiting_in state) state.leaks (home s (suc depth)) (Elsewhere program effects (waits_there ∷ older)) []
-            formals passed state.memory scalar_formals (given_laid passed given)
-            (record {
-              owned = before.owned;
-              covered = before.covered;
-              known = λ w l rooted r gone. inr (elsewhere w (before.known w l rooted r gone));
-            }, kept)
+            formals passed state.memory scalar_formals (given_laid passed given) (
+              record {
+                owned = before.owned;
+                covered = before.covered;
+                known = λ w l rooted r gone. inr (elsewhere w (before.known w l rooted r gone));
+              },
+              kept,
+            )
 
         held_before : (g y : ℕ) (q : List Step) → word_in s.table (content s with_all [] (OfRoot (OfVariable g y))) q
             ≡ word_in s.table (content s state.memory [] (OfRoot (OfVariable g y))) q
