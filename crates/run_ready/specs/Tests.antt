@@ -1,5 +1,5 @@
--- Tests of the subprograms of a program that is laid out, in the rows of code.
-use Rattle.std.specs.Prelude.{ℕ, suc, Bool, true, ◌&&◌, not, List, [], ◌∷◌, length, get_or, is_some, nat_lt, nat_le, Option, Some, None}
+-- Tests of a program that is laid out: of its types, and of its subprograms in the rows of code.
+use Rattle.std.specs.Prelude.{◌≡◌, ℕ, suc, Bool, true, ◌&&◌, not, List, [], ◌∷◌, length, get_or, is_some, nat_lt, nat_le, Option, Some, None}
 use Rattle.std.specs.List.{list_all}
 use Rattle.typed_tree.specs.declared.object.Object.{Object}
 use Rattle.typed_tree.specs.Programs.{text_io}
@@ -9,6 +9,7 @@ use Rattle.flow_paths.specs.declared.point.Point.{Point}
 use Rattle.flow_paths.specs.declared.point.LaidSub.{LaidSub}
 use Rattle.flow_paths.specs.Objects.{is_state}
 use Rattle.laid_program.specs.declared.laid.Laid.{Laid}
+use Rattle.table_laws.specs.Ranks.{IsFit}
 
 -- Each is greater than those before it; the first one is not below this bound.
 abbrev pub ascend : ℕ → List ℕ → Bool
@@ -47,3 +48,8 @@ main_fits subs (Some n) = is_called subs n
 abbrev pub frames_fit : Laid → Bool
 frames_fit laid =
     list_all (sub_calls (length laid.subs)) laid.subs && (subs_enter laid.objects laid.subs && main_fits (length laid.subs) laid.main)
+
+-- What the laws on runs ask of a program is told by its table and by its rows.
+pub record IsReady (laid : Laid) : Type 0 where
+  pub types : IsFit laid.table
+  pub frames : frames_fit laid ≡ true

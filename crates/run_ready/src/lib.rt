@@ -4,14 +4,14 @@
 //! laws on runs ask of a program holds: `HasTypes` and `HasFrames` of `run_points`. What a `Laid` keeps says
 //! nothing of positions, and identifiers with one position have one number. So what rests on that is tested:
 //! that no type has itself in it (by ranks, `specs/Ranks.antt` of `table_laws`), that formals are different and
-//! belong to no package, and that what is called has points (`specs/Tests.antt`). A program that fails a test
-//! gives `Memory`.
+//! belong to no package, and that what is called has points (`specs/Tests.antt`). `is_ready` tells whether a
+//! program passes: for one that does (`IsReady`) it says so, unless there is too little memory. A program that
+//! fails a test gives `Memory`.
 //! Time and memory are linear in the table of types and in the points.
 #![tactic(auto)]
 
 mod frames;
-mod ranks;
 mod ready;
 mod types;
 
-pub use ready::lower_ready;
+pub use ready::{is_ready, lower_ready};

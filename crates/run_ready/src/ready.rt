@@ -5,30 +5,22 @@ ghost use Rattle.run_codes.specs.Programs.{lowered_program};
 ghost use Rattle.code_rows.specs.Points.{program_of, IsWhole};
 ghost use Rattle.run_points.specs.Turns.{HasTypes};
 ghost use Rattle.run_points.specs.Frames.{HasFrames};
+ghost use Rattle.run_ready.specs.Tests.{IsReady};
 
 use crate::frames::are_fit;
 use crate::types::is_fit;
 use code_rows::Codes;
 use laid_program::Laid;
 use program_lowering::{LowerFault, lower};
-use std::alloc::Global;
+use std::alloc::{AllocError, Global};
 
-/// Whether the types of a program are as the laws on runs ask. Where there is too little memory to
-/// tell, they aren't.
-fn has_types(alloc: Global, laid: &Laid) -> bool
-    ensures { IsTrue result → HasTypes (laid_programs.program_of laid.now) }
+/// Whether the types and the subprograms of a program are as the laws on runs ask.
+pub fn is_ready(alloc: Global, laid: &Laid) -> Result<bool, AllocError>
+    ensures sound { IfOk result (λ ready. IsTrue ready → IsReady laid.now) }
+    ensures complete { IfOk result (λ ready. IsReady laid.now → IsTrue ready) }
 {
-    match is_fit(alloc, &laid.table) {
-        Ok(fit) => fit,
-        Err(_) => false,
-    }
-}
-
-/// Whether the subprograms of a program are as the laws on runs ask.
-fn has_frames(laid: &Laid) -> bool
-    ensures { IsTrue result → HasFrames (laid_programs.program_of laid.now) }
-{
-    are_fit(laid)
+    let fit = is_fit(alloc, &laid.table)?;
+    Ok(fit && are_fit(laid))
 }
 
 /// A program as it is run, of which all stands that the laws on runs ask. There is none where there
@@ -41,8 +33,8 @@ pub fn lower_ready(alloc: Global, laid: &Laid) -> Result<Codes, LowerFault>
     ensures types { IfOk result (λ codes. HasTypes (laid_programs.program_of laid.now)) }
     ensures frames { IfOk result (λ codes. HasFrames (laid_programs.program_of laid.now)) }
 {
-    if !has_types(alloc, laid) || !has_frames(laid) {
-        return Err(LowerFault::Memory);
+    match is_ready(alloc, laid) {
+        Ok(true) => lower(alloc, laid),
+        _ => Err(LowerFault::Memory),
     }
-    lower(alloc, laid)
 }

@@ -1,14 +1,14 @@
 //! Whether a table of types is fit for runs.
-ghost use Rattle.std.specs.Prelude.{◌≡◌, ◌<◌, ℕ, IfOk, IsTrue, length, nat_le, slice_get, true};
+ghost use Rattle.std.specs.Prelude.{◌≡◌, ◌<◌, ℕ, IfOk, IsTrue, length, slice_get, true};
 ghost use Rattle.std.specs.List.{list_all};
-ghost use Rattle.type_definitions.specs.Types.{shape_found, full, words};
+ghost use Rattle.type_definitions.specs.Types.{shape_found, full};
 ghost use Rattle.type_definitions.specs.Entries.{boolean};
 ghost use Rattle.table_laws.specs.Ranks as spec;
 ghost use Rattle.table_laws.specs.Ranks.{shape_all, parent_all, is_same_as, is_listed, fits, IsFit};
 
-use crate::ranks::ranks;
 use std::alloc::{AllocError, Global};
 use type_definitions::{Component, Info, Shape, View};
+use type_ranks::ranks;
 use type_table::TypeTable;
 
 /// The declaration of Boolean.
@@ -90,35 +90,27 @@ fn is_plain(table: &[Info], shape: &Shape) -> bool
     }
 }
 
-/// Whether a type is within the limit of words.
-fn has_few_words(table: &TypeTable, t: usize) -> bool
-    ensures { IsTrue result → nat_le (words table.now t) 65536 ≡ true }
-{
-    match u32::try_from(t) {
-        Ok(t) => table.words(t) <= 65_536,
-        Err(_) => false,
-    }
-}
-
 /// Whether a type is as is asked.
-fn fits(table: &TypeTable, ranks: &[usize], t: usize) -> bool
-    ensures { IsTrue result → fits table.now ranks.now t (slice_get table.now t) ≡ true }
+fn fits(table: &TypeTable, ranks: &[usize], t: u32) -> bool
+    ensures { result ≡ fits table.now ranks.now t (slice_get table.now t) }
 {
     let infos = table.infos();
-    match infos.get(t) {
+    match infos.get(t as usize) {
         Some(info) => {
-            is_ranked(ranks, t, info) && is_plain(infos, &info.shape) && has_few_words(table, t)
+            is_ranked(ranks, t as usize, info)
+                && is_plain(infos, &info.shape)
+                && table.words(t) <= 65_536
         }
         None => true,
     }
 }
 
-/// Whether all types are.
-fn all_fit(table: &TypeTable, ranks: &[usize]) -> bool
-    ensures { IsTrue result → (t : ℕ) → t < length table.now → fits table.now ranks.now t (slice_get table.now t) ≡ true }
+/// Whether all of so many types are.
+fn all_fit(table: &TypeTable, ranks: &[usize], types: u32) -> bool
+    ensures sound { IsTrue result → (t : ℕ) → t < types → fits table.now ranks.now t (slice_get table.now t) ≡ true }
+    ensures complete { ((t : ℕ) → t < types → fits table.now ranks.now t (slice_get table.now t) ≡ true) → IsTrue result }
 {
-    let infos = table.infos();
-    'types: for t in 0..infos.len() {
+    'types: for t in 0..types {
         if !fits(table, ranks, t) {
             return false;
         }
@@ -133,11 +125,23 @@ fn has_truth(table: &TypeTable) -> bool
     matches!(table.view(BOOLEAN), View::Listed { .. })
 }
 
-/// Whether no type of a table has itself in it, all are within the limit of words, and Boolean is an
+/// How many types there are. More than a number counts is too much for memory.
+fn count(table: &TypeTable) -> Result<u32, AllocError>
+    ensures { IfOk result (λ types. types ≡ length table.now) }
+{
+    match u32::try_from(table.infos().len()) {
+        Ok(types) => Ok(types),
+        Err(_) => Err(AllocError),
+    }
+}
+
+/// Whether no type of the table has itself in it, all are within the limit of words, and Boolean is an
 /// enumeration.
 pub fn is_fit(alloc: Global, table: &TypeTable) -> Result<bool, AllocError>
-    ensures { IfOk result (λ fit. IsTrue fit → IsFit table.now) }
+    ensures sound { IfOk result (λ fit. IsTrue fit → IsFit table.now) }
+    ensures complete { IfOk result (λ fit. IsFit table.now → IsTrue fit) }
 {
+    let types = count(table)?;
     let ranks = ranks(alloc, table.infos())?;
-    Ok(all_fit(table, &ranks) && has_truth(table))
+    Ok(all_fit(table, &ranks, types) && has_truth(table))
 }

@@ -1,12 +1,12 @@
 -- What instructions lead to in programs with borrowers and observers: conditions, assignments to
 -- targets that aren't views, and declarations of borrowers and observers.
-use Rattle.std.proofs.Common.{◌≡◌, refl, sym, ap, ◌∙◌, subst, inl, inr, ℕ, ◌<◌, Bool, true, false, not, ◌&&◌, ◌||◌, List, [], ◌∷◌, ◌++◌, map, flat_map, reverse, take, drop, length, nat_lt, Some, None, if◌then◌else◌, ◌==◌, eqb-true, eq-eqb, get_or, ◌+◌, append-nil, arith}
+use Rattle.std.proofs.Common.{◌≡◌, refl, sym, ap, ◌∙◌, subst, ◌⊎◌, inl, inr, ℕ, ◌<◌, Bool, true, false, not, ◌&&◌, ◌||◌, List, [], ◌∷◌, ◌++◌, map, flat_map, reverse, take, drop, length, nat_lt, Option, Some, None, if◌then◌else◌, ◌==◌, eqb-true, eq-eqb, ◌+◌, append-nil, arith}
 use Rattle.spark_base.specs.declared.position.Pos.{Pos}
 use Rattle.place_names.specs.declared.act.Act.{Act}
 use Rattle.place_names.specs.declared.act.Act.TheVariants as act
 use Rattle.place_names.specs.declared.fact.Fact.{Fact}
 use Rattle.place_names.specs.Names.{Name as PlaceName}
-use Rattle.place_names.specs.Facts.{effect}
+use Rattle.place_names.specs.Facts.{adds, removes, effect}
 use Rattle.type_definitions.specs.declared.table.Shape.TheVariants as shape
 use Rattle.type_definitions.specs.Types.{Table, shape_of, words, words_of as shape_words, full, is_scalar, view_of as view_of_shape, parts, parts_of}
 use Rattle.typed_tree.specs.Trees.{TypedTree, TypedCode, Name, NoMore, More}
@@ -34,14 +34,14 @@ use Rattle.soundness.specs.Sound.{IsTrap}
 use Rattle.soundness.specs.Sound as sound
 use Rattle.typed_laws.specs.Needed.{Stays, Leads, Gives}
 use Rattle.soundness.proofs.Contents.{bool_cases, all_checks, checks_made}
-use Rattle.soundness.proofs.Memories.{removed_same, removed_other}
-use Rattle.soundness.proofs.Defaults.{none_default}
-use Rattle.soundness.proofs.Keeping.{cell_has}
 use Rattle.soundness.proofs.Steps.{alike}
 use Rattle.owned_loans.proofs.Clear.{refused, clear_same}
 use Rattle.viewed_soundness.proofs.Moments.{ended_viewed}
 use Rattle.spark_base.specs.Lists.{Has}
-use Rattle.place_names.specs.declared.fact.Fact.TheVariants.{Moved}
+use Rattle.spark_base.proofs.Lists.{Has-append_right}
+use Rattle.std.specs.Prelude.{filter}
+use Rattle.place_names.specs.declared.fact.Fact.TheVariants.{Moved, Lent}
+use Rattle.place_names.specs.declared.rule.Loan.TheVariants.{Observed}
 use Rattle.place_names.specs.declared.rule.Rule.TheVariants.{O8}
 use Rattle.place_names.specs.Rules.{breaks_O8}
 use Rattle.owned_ways.proofs.Assigned.{kept_fact}
@@ -52,9 +52,9 @@ use Rattle.soundness.proofs.Raised.{raised_owned}
 use Rattle.soundness.proofs.Scalars.{acts, acts_append, after_append, allows_both}
 use Rattle.soundness.proofs.Stays.{Quiet, One}
 use Rattle.soundness.proofs.Waits.{take_none, drop_none, waits_of, led_waits}
-use Rattle.owned_loans.specs.Views.{Views, expand, Viewed, Unused, with_view, HasLoan}
+use Rattle.owned_loans.specs.Views.{Views, expand, Viewed, Becomes, Unused, with_view, HasLoan}
 use Rattle.owned_loans.proofs.Allowed.{Cleared, borrow_clears, observe_clears, loan_kept, reborrow_clears}
-use Rattle.owned_loans.proofs.Ways.{Lifted, next_of}
+use Rattle.owned_loans.proofs.Ways.{Lifted, next_of, lifts, lifted_root, lifted_way, root_on}
 use Rattle.owned_loans.proofs.Taken.{becomes_with}
 use Rattle.owned_loans.proofs.Taken as lent
 use Rattle.viewed_soundness.specs.Holds.{IsNamed, PartsAreNamed, Holds, AllKeep}
@@ -82,7 +82,7 @@ neither : (a b : Bool) → a || b ≡ false → (a ≡ false) × (b ≡ false)
 neither true b e = cc
 neither false b e = (refl, e)
 
-not_views : (s : Typing) (x : ℕ) → IsNamed s.table (object_at s x).of → (is_borrower s x ≡ false) × (is_observer s x ≡ false)
+pub not_views : (s : Typing) (x : ℕ) → IsNamed s.table (object_at s x).of → (is_borrower s x ≡ false) × (is_observer s x ≡ false)
 not_views s x named =
     let none = neither (is_borrowing (full s.table (object_at s x).of)) (is_observing (full s.table (object_at s x).of)) (named_plain s.table (object_at s x).of named) in (
       no_and (is_variable (object_at s x).kind) (is_borrowing (full s.table (object_at s x).of)) none.0,
@@ -117,7 +117,7 @@ matches_on table a b c (inr e) (inr g) = inr (e.1, g.1)
 
 module _ (t : Turn) (settled : IsSettled (typing t).table) (own_law : OwnsByShape (typing t).table) (other : Way → Type 0)
     (alone : (w : Way) → other w → ⊥) (no_formals : (x : ℕ) → is_view_formal (typing t) x ≡ false)
-    (v : Views) (parts_named : PartsAreNamed (typing t).table)
+    (v : Views) (parts_named : PartsAreNamed (typing t).table) (may : ℕ → ℕ → Type 0)
     (frames : t.state.frames ≡ t.frame ∷ t.outer) (none : taken t.point.instr ≡ 0) where
   abbrev s : Typing
   s = typing t
@@ -134,40 +134,61 @@ module _ (t : Turn) (settled : IsSettled (typing t).table) (own_law : OwnsByShap
     pub kept : Kept s state.memory (waiting_in state)
     pub holds : Holds s depth views state.memory
 
+  -- A view has what it had.
+  pub record IsSame (views : Views) (x : ℕ) : Type 0 where
+    pub way : views.way x ≡ v.way x
+    pub loan : views.loan x ≡ v.loan x
+    pub up : views.up x ≡ v.up x
+
+  -- A view got its way from an object, or from the way of one that is a view itself.
+  pub record Comes (views : Views) (facts : List Fact) (x y : ℕ) (w : Way) : Type 0 where
+    pub up : (number_of (views.up x) ≡ y) ⊎ ((k : Way) × (v.way y ≡ Some k) × (number_of (views.up x) ≡ number_of (v.up y)))
+    pub root : ((number_of w ≡ y) × (y ≡ x → ⊥)) ⊎ ((k : Way) × (v.way y ≡ Some k) × (number_of w ≡ number_of k))
+    pub loan : is_observer s x ≡ true → (Has facts (Lent Observed x (ways.name_of (views.loan x))))
+        ⊎ ((k : Way) × (v.way y ≡ Some k) × (is_observer s y ≡ true) × (views.loan x ≡ v.loan y))
+
+  -- Each view has what it had, or got its way from an object that it may have it from.
+  abbrev pub Turned : Views → List Fact → Type 0
+  Turned views facts = (x : ℕ) (w : Way) → views.way x ≡ Some w → IsSame views x ⊎ ((y : ℕ) × may x y × Comes views facts x y w)
+
   -- What an outcome has to be: such a state, where views may have got other ways; and no trap, in a
   -- well owned state.
   abbrev pub Leads_on : List Fact → Outcome → Type 0
-  Leads_on facts (Goes state) = (views : Views) × IsGood views facts state
+  Leads_on facts (Goes state) = (views : Views) × Turned views facts × IsGood views facts state
   Leads_on facts (Ends e state) = (IsTrap e → ⊥) × WellOwned s state
 
   -- where the step raises
-  raises : (facts : List Fact) → IsGood v facts t.state → (m : Memory) → WellOwned s (counted (record t.state { memory = given_up t.state.memory m }))
+  pub raises : (facts : List Fact) → IsGood v facts t.state → (m : Memory) → WellOwned s (counted (record t.state { memory = given_up t.state.memory m }))
   raises facts good m = raised_owned s settled own_law t.state good.viewed.owned good.viewed.covered m
 
   abbrev Raises_well : Type 0
   Raises_well = (m : Memory) → WellOwned s (counted (record t.state { memory = given_up t.state.memory m }))
 
-  abbrev now : Now
+  abbrev pub now : Now
   now = record { memory = t.state.memory; waits = [] }
 
-  start_is : start t ≡ record { memory = t.state.memory; waits = [] }
+  pub start_is : start t ≡ record { memory = t.state.memory; waits = [] }
   start_is =
       (λ j. record { memory = t.state.memory; waits = map (λ (v : Waiting). v.words) (reverse (take (none j) t.frame.waits)) })
       ∙ ap (λ z. record { memory = t.state.memory; waits = map (λ (v : Waiting). v.words) (reverse z) }) (take_none t.frame.waits)
 
   -- what waits, waits on
-  hands_behind : (m : Memory) (k : ℕ) → waiting_in (behind t (waiting t) m k) ≡ hands
+  pub hands_behind : (m : Memory) (k : ℕ) → waiting_in (behind t (waiting t) m k) ≡ hands
   hands_behind m k =
       led_waits t (record t.frame { waits = waiting t }) (successor t k)
       ∙ ap (λ n. drop n t.frame.waits ++ flat_map waits_of t.outer) none
       ∙ ap (λ z. z ++ flat_map waits_of t.outer) (drop_none t.frame.waits)
       ∙ sym (ap (flat_map waits_of) frames)
 
+  pub unturned : (facts : List Fact) → Turned v facts
+  unturned facts x w e = inl (record { way = refl; loan = refl; up = refl })
+
   -- the state afterwards
-  goes_to : (m : Memory) (k : ℕ) (views : Views) (facts : List Fact) → Viewed (home s depth) (is_observer s) other views (seen s m hands t.state.leaks) facts
+  pub goes_to : (m : Memory) (k : ℕ) (views : Views) (facts : List Fact) → Turned views facts → Viewed (home s depth) (is_observer s) other views (seen s m hands t.state.leaks) facts
       → Kept s m hands → Holds s depth views m → Leads_on facts (goes t m k)
-  goes_to m k views facts viewed kept holds = (
+  goes_to m k views facts turned viewed kept holds = (
     views,
+    turned,
     record {
       viewed = subst (λ z. Viewed (home s depth) (is_observer s) other views (seen s m z t.state.leaks) facts) (sym (hands_behind m k)) viewed;
       kept = subst (Kept s m) (sym (hands_behind m k)) kept;
@@ -175,11 +196,12 @@ module _ (t : Turn) (settled : IsSettled (typing t).table) (own_law : OwnsByShap
     },
   )
 
-  goes_on : (m : Memory) (checks : List (List Leak)) (leaks : List Leak) → flat_map (λ (z : List Leak). z) checks ≡ leaks → (views : Views)
-      → (facts : List Fact) → Viewed (home s depth) (is_observer s) other views (seen s m hands (t.state.leaks ++ leaks)) facts → Kept s m hands
+  pub goes_on : (m : Memory) (checks : List (List Leak)) (leaks : List Leak) → flat_map (λ (z : List Leak). z) checks ≡ leaks → (views : Views)
+      → (facts : List Fact) → Turned views facts → Viewed (home s depth) (is_observer s) other views (seen s m hands (t.state.leaks ++ leaks)) facts → Kept s m hands
       → Holds s depth views m → Leads_on facts (leaking_goes checks (goes t m 0))
-  goes_on m checks leaks same views facts viewed kept holds = (
+  goes_on m checks leaks same views facts turned viewed kept holds = (
     views,
+    turned,
     record {
       viewed = subst (λ z. Viewed (home s depth) (is_observer s) other views (seen s m z (t.state.leaks ++ flat_map (λ (z : List Leak). z) checks)) facts) (sym (hands_behind m 0))
           (subst (λ z. Viewed (home s depth) (is_observer s) other views (seen s m hands (t.state.leaks ++ z)) facts) (sym same) viewed);
@@ -190,14 +212,14 @@ module _ (t : Turn) (settled : IsSettled (typing t).table) (own_law : OwnsByShap
 
   -- ---- conditions
 
-  live : (facts : List Fact) (good : IsGood v facts t.state) → (w : Way) (l : Loc) → IsRooted w → Reaches (seen s t.state.memory hands t.state.leaks) w l
+  pub live : (facts : List Fact) (good : IsGood v facts t.state) → (w : Way) (l : Loc) → IsRooted w → Reaches (seen s t.state.memory hands t.state.leaks) w l
       → (content s t.state.memory hands (trunk l)).owns ≡ true
   live facts good = live_trunk (here t) settled t.state.leaks [] other alone (keeps s settled own_law) no_formals index_law own_law v parts_named t.state.memory hands good.viewed.owned
 
   then_on : {A : Type 0} (P : A → Type 0) (facts : List Fact) → IsGood v facts t.state → (y : Evaluated A) → Quiet now P y → (k : A → ℕ)
       → Leads_on facts (steps.evaluated t y (λ a m. goes t m (k a)))
   then_on P facts good (Done a n) (same, p) k =
-      subst (λ (z : Now). Leads_on facts (goes t z.memory (k a))) (sym same) (goes_to t.state.memory (k a) v facts good.viewed good.kept good.holds)
+      subst (λ (z : Now). Leads_on facts (goes t z.memory (k a))) (sym same) (goes_to t.state.memory (k a) v facts (unturned facts) good.viewed good.kept good.holds)
   then_on P facts good (Raises e n) is k = (λ trap. trap, raises facts good n.memory)
   then_on P facts good (Traps e n) never k = absurd never
 
@@ -219,7 +241,7 @@ module _ (t : Turn) (settled : IsSettled (typing t).table) (own_law : OwnsByShap
   chosen_leads : (count k : ℕ) (facts : List Fact) → IsGood v facts t.state → Leads_on facts (steps.chosen t count k t.state.memory)
   chosen_leads count k facts good = elim (bool_cases (nat_lt k count)) [
     | inl fits ↦ subst (λ b. Leads_on facts (if b then goes t t.state.memory k else steps.raised t run.ConstraintError t.state.memory)) (sym fits)
-        (goes_to t.state.memory k v facts good.viewed good.kept good.holds)
+        (goes_to t.state.memory k v facts (unturned facts) good.viewed good.kept good.holds)
     | inr none_fits ↦ subst (λ b. Leads_on facts (if b then goes t t.state.memory k else steps.raised t run.ConstraintError t.state.memory)) (sym none_fits)
         ((λ trap. trap), raises facts good t.state.memory)
   ]
@@ -249,7 +271,7 @@ module _ (t : Turn) (settled : IsSettled (typing t).table) (own_law : OwnsByShap
       → Leads_on facts (steps.evaluated t y (λ (st : Stored) m. leaking_goes (checks_at s pos m st.place) (goes t (stored s st.place st.words m) 0)))
   then_stored well facts pos (Done st n) (viewed, kept, holds) =
       goes_on (stored s st.place st.words n.memory) (checks_at s pos n.memory st.place) (leaks_at s pos n.memory st.place)
-      (all_checks s pos n.memory st.place) v facts (viewed pos) kept holds
+      (all_checks s pos n.memory st.place) v facts (unturned facts) (viewed pos) kept holds
   then_stored well facts pos (Raises e n) given = (λ trap. trap, well n.memory)
   then_stored well facts pos (Traps e n) never = absurd never
 
@@ -283,7 +305,90 @@ module _ (t : Turn) (settled : IsSettled (typing t).table) (own_law : OwnsByShap
   abbrev Got : Views → ℕ → machine.Word → List Fact → Type 0
   Got views x z facts =
       Viewed (home s depth) (is_observer s) other views (seen s (declared depth x (z ∷ []) m) hands t.state.leaks) facts
-      × Kept s (declared depth x (z ∷ []) m) hands × Holds s depth views (declared depth x (z ∷ []) m)
+      × Kept s (declared depth x (z ∷ []) m) hands × Holds s depth views (declared depth x (z ∷ []) m) × Turned views facts
+
+  -- the root of what a name stands for that is rooted in an object
+  abbrev Has_root : ℕ → ℕ → Way → Type 0
+  Has_root x y w = ((number_of w ≡ y) × (y ≡ x → ⊥)) ⊎ ((k : Way) × (v.way y ≡ Some k) × (number_of w ≡ number_of k))
+
+  lifted_from : (x y : ℕ) (u : Way) → number_of u ≡ y → Lifted v u → Has_root x y (expand v u)
+  lifted_from x y u root l = inr (
+    l.way,
+    subst (λ z. v.way z ≡ Some l.way) (sym (lifted_root v u l) ∙ root) l.has,
+    ap number_of (lifted_way v u l) ∙ root_on l.way l.rest,
+  )
+
+  root_from : (x y : ℕ) (u : Way) → number_of u ≡ y → (y ≡ x → ⊥) → Has_root x y (expand v u)
+  root_from x y u root apart = elim (lifts v u) [
+    | inl e ↦ inl (ap number_of e ∙ root, apart)
+    | inr l ↦ lifted_from x y u root l
+  ]
+
+  same_some : (a b : Way) → Some a ≡ Some b → a ≡ b
+  same_some a b e = cc
+
+  way_of : (z : machine.Word) (w k : Way) → way_from z w ≡ Some k → k ≡ w
+  way_of (machine.Cell n) w k e = sym (same_some w k e)
+  way_of (machine.Int n) w k e = cc
+  way_of (machine.Enumerated n) w k e = cc
+  way_of machine.Null w k e = cc
+
+  -- one view got another way
+  turned_by : (views : Views) (x y : ℕ) (way : Option Way) (loan up : Way) (cell : ℕ) (facts : List Fact) → Becomes v views x way loan up cell → may x y
+      → ((w : Way) → way ≡ Some w → Comes views facts x y w) → Turned views facts
+  turned_by views x y way loan up cell facts becomes mine comes q w e = by_object (q == x) refl
+    where
+      by_object : (b : Bool) → (q == x) ≡ b → IsSame views q ⊎ ((y : ℕ) × may q y × Comes views facts q y w)
+      by_object true b =
+          let same : x ≡ q = sym (eqb-true q x b) in
+          subst (λ z. IsSame views z ⊎ ((y : ℕ) × may z y × Comes views facts z y w)) same
+          (inr (y, mine, comes w (sym becomes.way_is ∙ ap views.way same ∙ e)))
+      by_object false b =
+          let off : q ≡ x → ⊥ = λ same. (let no = eq-eqb q x same in cc) in
+          inl (record { way = becomes.ways q off; loan = becomes.loans q off; up = becomes.ups q off })
+
+  -- it is taken from an object, or from what another view designates
+  taken_from : (views : Views) (x y : ℕ) (z : machine.Word) (u loan : Way) (facts : List Fact)
+      → Becomes v views x (way_from z (expand v (All u))) loan (All u) (number_in z) → may x y → number_of u ≡ y → (y ≡ x → ⊥)
+      → (is_observer s x ≡ true → Has facts (Lent Observed x (ways.name_of loan))) → Turned views facts
+  taken_from views x y z u loan facts becomes mine root apart lent =
+      turned_by views x y (way_from z (expand v (All u))) loan (All u) (number_in z) facts becomes mine (λ w e. record {
+        up = inl (ap number_of becomes.up_is ∙ root);
+        root = subst (Has_root x y) (sym (way_of z (expand v (All u)) w e)) (root_from x y (All u) root apart);
+        loan = λ sees. inl (subst (λ q. Has facts (Lent Observed x (ways.name_of q))) (sym becomes.loan_is) (lent sees));
+      })
+
+  taken_again : (views : Views) (x y : ℕ) (z : machine.Word) (u : Way) (l : Lifted v (All u)) (facts : List Fact)
+      → Becomes v views x (way_from z (expand v (All u))) (v.loan l.object) (next_of v (All u) l) (number_in z) → may x y → number_of u ≡ y
+      → (is_observer s x ≡ true → is_observer s y ≡ true) → Turned views facts
+  taken_again views x y z u l facts becomes mine root sees =
+      let object : l.object ≡ y = sym (lifted_root v (All u) l) ∙ root in
+      let has : v.way y ≡ Some l.way = subst (λ q. v.way q ≡ Some l.way) object l.has in
+      turned_by views x y (way_from z (expand v (All u))) (v.loan l.object) (next_of v (All u) l) (number_in z) facts becomes mine (λ w e. record {
+        up = inr (l.way, has, ap number_of becomes.up_is ∙ root_on (v.up l.object) l.rest ∙ ap (λ q. number_of (v.up q)) object);
+        root = subst (Has_root x y) (sym (way_of z (expand v (All u)) w e)) (lifted_from x y (All u) root l);
+        loan = λ observes. inr (l.way, has, sees observes, becomes.loan_is ∙ ap v.loan object);
+      })
+
+  -- it has none
+  taken_none : (views : Views) (x : ℕ) (z : machine.Word) (w loan up : Way) (facts : List Fact)
+      → Becomes v views x (way_from z w) loan up (number_in z) → ((k : ℕ) → z ≡ machine.Cell k → ⊥) → Turned views facts
+  taken_none views x z w loan up facts becomes null q k e = by_object (q == x) refl
+    where
+      no_way : (z : machine.Word) → way_from z w ≡ Some k → ((k : ℕ) → z ≡ machine.Cell k → ⊥) → ⊥
+      no_way (machine.Cell n) e null = null n refl
+      no_way (machine.Int n) e null = cc
+      no_way (machine.Enumerated n) e null = cc
+      no_way machine.Null e null = cc
+
+      by_object : (b : Bool) → (q == x) ≡ b → IsSame views q ⊎ ((y : ℕ) × may q y × Comes views facts q y k)
+      by_object true b = absurd (no_way z (sym becomes.way_is ∙ ap views.way (sym (eqb-true q x b)) ∙ e) null)
+      by_object false b =
+          let off : q ≡ x → ⊥ = λ same. (let no = eq-eqb q x same in cc) in
+          inl (record { way = becomes.ways q off; loan = becomes.loans q off; up = becomes.ups q off })
+
+  fact_added : (a : Act) (facts : List Fact) (f : Fact) → Has (adds a) f → Has (effect a facts) f
+  fact_added a facts f has = Has-append_right (filter (λ g. not (removes a g)) facts) (adds a) f has
 
   -- What the source gives is stored in the variable of the view.
   abbrev Gets : ℕ → ℕ → ℕ → PlaceName → List Fact → Type 0
@@ -319,28 +424,36 @@ module _ (t : Turn) (settled : IsSettled (typing t).table) (own_law : OwnsByShap
   one_word x y u d path observes = settled.word_law (object_at s x).of ∙ ap (shape_words (words s.table)) observes.view
 
   borrow_gets : (x y u d : ℕ) (path : TypedTree) (facts : List Fact) → Observes x y u d path → IsGood v facts t.state → Unused v facts x
-      → is_observer s x ≡ false → is_observer s y ≡ false → y < x → Allows facts (act.Borrow x (name_of y path))
+      → is_observer s x ≡ false → is_observer s y ≡ false → y < x → may x y → Allows facts (act.Borrow x (name_of y path))
       → Gets x y d (name_of y path) (effect (act.Borrow x (name_of y path)) facts)
-  borrow_gets x y u d path facts observes good unused borrows plain older allowed w z named called is typed lifted =
+  borrow_gets x y u d path facts observes good unused borrows plain older mine allowed w z named called is typed lifted =
       let views : Views = with_view v x (way_from z (expand v (All w))) w (All w) (number_in z) in
       let root : number_of w ≡ y = ap (λ (n : PlaceName). n.root) called in
       let got = borrower_declared s settled depth other v views m hands t.state.leaks facts good.viewed good.kept good.holds x z observes.mine observes.anonymous
       (one_word x y u d path observes) (of_type x y u d path observes z typed) w
       (becomes_with v x (way_from z (expand v (All w))) w (All w) (number_in z)) unused borrows named (ap (is_observer s) root ∙ plain)
       (subst (λ n. n < x) (sym root) older) is (subst (λ n. Allows facts (act.Borrow x n)) (sym called) allowed) in
-      (views, subst (λ n. Got views x z (effect (act.Borrow x n) facts)) called (got.sound, got.words_kept, got.views_held))
+      let turned : Turned views (effect (act.Borrow x (ways.name_of w)) facts) =
+      taken_from views x y z w w (effect (act.Borrow x (ways.name_of w)) facts) (becomes_with v x (way_from z (expand v (All w))) w (All w) (number_in z)) mine root
+      (λ same. absurd (omega (arith, older, same)))
+      (λ sees. absurd (true_false (is_observer s x) sees borrows)) in
+      (views, subst (λ n. Got views x z (effect (act.Borrow x n) facts)) called (got.sound, got.words_kept, got.views_held, turned))
 
   observe_gets : (x y u d : ℕ) (path : TypedTree) (facts : List Fact) → Observes x y u d path → IsGood v facts t.state
-      → is_observer s x ≡ true → is_observer s y ≡ false → Allows facts (act.Observe x (name_of y path) false)
+      → is_observer s x ≡ true → is_observer s y ≡ false → may x y → Allows facts (act.Observe x (name_of y path) false)
       → Gets x y d (name_of y path) (effect (act.Observe x (name_of y path) false) facts)
-  observe_gets x y u d path facts observes good sees plain allowed w z named called is typed lifted =
+  observe_gets x y u d path facts observes good sees plain mine allowed w z named called is typed lifted =
       let views : Views = with_view v x (way_from z (expand v (All w))) w (All w) (number_in z) in
       let root : number_of w ≡ y = ap (λ (n : PlaceName). n.root) called in
       let got = observer_stored s settled depth other v views m hands t.state.leaks facts good.viewed good.kept good.holds x z observes.mine observes.anonymous
       (one_word x y u d path observes) (of_type x y u d path observes z typed) w
       (becomes_with v x (way_from z (expand v (All w))) w (All w) (number_in z)) sees named (ap (is_observer s) root ∙ plain)
       is (subst (λ n. Allows facts (act.Observe x n false)) (sym called) allowed) in
-      (views, subst (λ n. Got views x z (effect (act.Observe x n false) facts)) called (got.sound, got.words_kept, got.views_held))
+      let turned : Turned views (effect (act.Observe x (ways.name_of w) false) facts) =
+      taken_from views x y z w w (effect (act.Observe x (ways.name_of w) false) facts) (becomes_with v x (way_from z (expand v (All w))) w (All w) (number_in z)) mine root
+      (λ same. absurd (true_false (is_observer s x) sees (ap (is_observer s) (sym same) ∙ plain)))
+      (λ sees. fact_added (act.Observe x (ways.name_of w) false) facts (Lent Observed x (ways.name_of w)) (inl refl)) in
+      (views, subst (λ n. Got views x z (effect (act.Observe x n false) facts)) called (got.sound, got.words_kept, got.views_held, turned))
 
   abbrev Shown : (facts : List Fact) → IsGood v facts t.state → ℕ → ℕ → PlaceName → List machine.Word → Type 0
   Shown facts good y d name ws =
@@ -353,7 +466,7 @@ module _ (t : Turn) (settled : IsSettled (typing t).table) (own_law : OwnsByShap
       let got = gets u shows.word named called shows.designated shows.typed shows.lifted in
       subst (λ (z : Now). Leads_on behind (goes t (declared depth x ws z.memory) 0)) (sym same)
       (subst (λ z. Leads_on behind (goes t (declared depth x z m) 0)) (sym shows.is)
-      (goes_to (declared depth x (shows.word ∷ []) m) 0 got.0 behind got.1.0 got.1.1 got.1.2))
+      (goes_to (declared depth x (shows.word ∷ []) m) 0 got.0 behind got.1.3 got.1.0 got.1.1 got.1.2))
   then_got x y d name facts behind good gets (Raises e n) is = (λ trap. trap, raises facts good n.memory)
   then_got x y d name facts behind good gets (Traps e n) never = absurd never
 
@@ -397,10 +510,10 @@ module _ (t : Turn) (settled : IsSettled (typing t).table) (own_law : OwnsByShap
 
   -- A borrower is declared. Its source is an older object, or is rooted in one.
   pub borrower_leads : (x y u d : ℕ) (p : Pos) (path rest : TypedTree) → Observes x y u d path → is_borrower s x ≡ true → is_observer s x ≡ false
-      → is_observer s y ≡ false → y < x → has_call path ≡ false → (facts : List Fact) (good : IsGood v facts t.state) → Unused v facts x
+      → is_observer s y ≡ false → y < x → may x y → has_call path ≡ false → (facts : List Fact) (good : IsGood v facts t.state) → Unused v facts x
       → AllowsAll facts (acts (declared_acts s x (More (Name p y path u) rest)))
       → Leads_on (after (acts (declared_acts s x (More (Name p y path u) rest))) facts) (declare t x (More (Name p y path u) rest))
-  borrower_leads x y u d p path rest observes is borrows plain older calls facts good unused allowed =
+  borrower_leads x y u d p path rest observes is borrows plain older from calls facts good unused allowed =
       let e : TypedTree = Name p y path u in
       let same : declared_acts s x (More e rest) ≡ source_acts s e (act.Borrow x) =
       ap (λ b. if b then source_acts s e (act.Borrow x) else (if is_observer s x then source_acts s e (observe s x) else acts_in s (More e rest))) is in
@@ -408,14 +521,14 @@ module _ (t : Turn) (settled : IsSettled (typing t).table) (own_law : OwnsByShap
       subst (λ z. Leads_on (after (acts z) facts) (declare t x (More e rest))) (sym same)
       (view_leads x y u d p path rest (act.Borrow x) observes calls facts good goes_by
       (λ w called plain. borrow_clears facts x w (subst (λ n. Allows facts (act.Borrow x n)) (sym called) (last_allowed x y u d p path (act.Borrow x) observes calls facts good goes_by)))
-      (λ mine. borrow_gets x y u d path facts observes good unused borrows plain older mine))
+      (λ mine. borrow_gets x y u d path facts observes good unused borrows plain older from mine))
 
   -- An observer is declared, of what an owner has, or what a borrower leads to.
   pub observer_leads : (x y u d : ℕ) (p : Pos) (path rest : TypedTree) → Observes x y u d path → is_borrower s x ≡ false → is_observer s x ≡ true
-      → is_observer s y ≡ false → has_call path ≡ false → (facts : List Fact) (good : IsGood v facts t.state)
+      → is_observer s y ≡ false → may x y → has_call path ≡ false → (facts : List Fact) (good : IsGood v facts t.state)
       → AllowsAll facts (acts (declared_acts s x (More (Name p y path u) rest)))
       → Leads_on (after (acts (declared_acts s x (More (Name p y path u) rest))) facts) (declare t x (More (Name p y path u) rest))
-  observer_leads x y u d p path rest observes is_not sees plain calls facts good allowed =
+  observer_leads x y u d p path rest observes is_not sees plain from calls facts good allowed =
       let e : TypedTree = Name p y path u in
       let a : PlaceName → Act = (λ n. act.Observe x n false) in
       let same : declared_acts s x (More e rest) ≡ source_acts s e a =
@@ -426,14 +539,14 @@ module _ (t : Turn) (settled : IsSettled (typing t).table) (own_law : OwnsByShap
       subst (λ z. Leads_on (after (acts z) facts) (declare t x (More e rest))) (sym same)
       (view_leads x y u d p path rest a observes calls facts good goes_by
       (λ w called plain. observe_clears facts x false w (subst (λ n. Allows facts (act.Observe x n false)) (sym called) (last_allowed x y u d p path a observes calls facts good goes_by)))
-      (λ mine. observe_gets x y u d path facts observes good sees plain mine))
+      (λ mine. observe_gets x y u d path facts observes good sees plain from mine))
 
   -- ---- an observer of what another observer sees
 
   again_gets : (x y u d : ℕ) (path : TypedTree) (facts : List Fact) → Observes x y u d path → IsGood v facts t.state
-      → is_observer s x ≡ true → is_observer s y ≡ true
+      → is_observer s x ≡ true → is_observer s y ≡ true → may x y
       → Gets x y d (name_of y path) (effect (act.Observe x (name_of y path) true) facts)
-  again_gets x y u d path facts observes good sees from w z named called is typed lifted = by_word z is typed lifted
+  again_gets x y u d path facts observes good sees from mine w z named called is typed lifted = by_word z is typed lifted
     where
       anonymous : (a b c : Bool) → a && c ≡ true → b || c ≡ true
       anonymous true true c e = refl
@@ -453,7 +566,7 @@ module _ (t : Turn) (settled : IsSettled (typing t).table) (own_law : OwnsByShap
           (lent.observer_unused (home s depth) (is_observer s) other v views (seen s m hands t.state.leaks) facts good.viewed x sees)
           (λ n has. kept_fact a facts (Moved n) has refl) (λ seen q n. loan_kept a facts (λ l h k. refl) seen q n)
           (clear_same (is_observer s) facts good.viewed.clear a refl) in
-          (views, (got.sound, got.words_kept, got.views_held))
+          (views, (got.sound, got.words_kept, got.views_held, taken_none views x z w w w (effect a facts) (becomes_with v x (way_from z w) w w (number_in z)) null))
 
       by_word : (z : machine.Word) → IsDesignated v (seen s m hands t.state.leaks) w z → ((k : ℕ) → z ≡ machine.Cell k → IsCell s m d k)
           → (is_anonymous (view_of s y) ≡ true → (k : ℕ) → z ≡ machine.Cell k → (l : Lifted v (All w)) × (l.object ≡ y))
@@ -465,17 +578,21 @@ module _ (t : Turn) (settled : IsSettled (typing t).table) (own_law : OwnsByShap
           let got = observer_again s settled depth other v views m hands t.state.leaks facts good.viewed good.kept good.holds x z observes.mine observes.anonymous
           (one_word x y u d path observes) (of_type x y u d path observes z typed) w l.0 (ap (is_observer s) l.1 ∙ from)
           (becomes_with v x (way_from z (expand v (All w))) (v.loan l.0.object) (next_of v (All w) l.0) (number_in z)) sees named is in
-          (views, subst (λ n. Got views x z (effect (act.Observe x n true) facts)) called (got.sound, got.words_kept, got.views_held))
+          let turned : Turned views (effect (act.Observe x (ways.name_of w) true) facts) =
+          taken_again views x y z w l.0 (effect (act.Observe x (ways.name_of w) true) facts)
+          (becomes_with v x (way_from z (expand v (All w))) (v.loan l.0.object) (next_of v (All w) l.0) (number_in z)) mine
+          (ap (λ (n : PlaceName). n.root) called) (λ observes. from) in
+          (views, subst (λ n. Got views x z (effect (act.Observe x n true) facts)) called (got.sound, got.words_kept, got.views_held, turned))
       by_word (machine.Int k) is typed lifted = nothing (machine.Int k) (λ q e. cc) is typed
       by_word (machine.Enumerated k) is typed lifted = nothing (machine.Enumerated k) (λ q e. cc) is typed
       by_word machine.Null is typed lifted = nothing machine.Null (λ q e. cc) is typed
 
   -- An observer is declared that sees what another one does.
   pub observer_again_leads : (x y u d : ℕ) (p : Pos) (path rest : TypedTree) → Observes x y u d path → is_borrower s x ≡ false → is_observer s x ≡ true
-      → is_observer s y ≡ true → has_call path ≡ false → (facts : List Fact) (good : IsGood v facts t.state)
+      → is_observer s y ≡ true → may x y → has_call path ≡ false → (facts : List Fact) (good : IsGood v facts t.state)
       → AllowsAll facts (acts (declared_acts s x (More (Name p y path u) rest)))
       → Leads_on (after (acts (declared_acts s x (More (Name p y path u) rest))) facts) (declare t x (More (Name p y path u) rest))
-  observer_again_leads x y u d p path rest observes is_not sees from calls facts good allowed =
+  observer_again_leads x y u d p path rest observes is_not sees from taken calls facts good allowed =
       let e : TypedTree = Name p y path u in
       let a : PlaceName → Act = (λ n. act.Observe x n true) in
       let same : declared_acts s x (More e rest) ≡ source_acts s e a =
@@ -486,7 +603,7 @@ module _ (t : Turn) (settled : IsSettled (typing t).table) (own_law : OwnsByShap
       subst (λ z. Leads_on (after (acts z) facts) (declare t x (More e rest))) (sym same)
       (view_leads x y u d p path rest a observes calls facts good goes_by
       (λ w called plain. absurd (true_false (is_observer s y) from plain))
-      (λ mine. again_gets x y u d path facts observes good sees from))
+      (λ mine. again_gets x y u d path facts observes good sees from taken))
 
   -- ---- assignments to borrowers and observers
 
@@ -535,7 +652,7 @@ module _ (t : Turn) (settled : IsSettled (typing t).table) (own_law : OwnsByShap
       (subst (λ (z : Now). Leads_on behind (leaking_goes (checks_at s pos z.memory k) (goes t (stored s k ws z.memory) 0))) (sym same)
       (subst (λ z. Leads_on behind (leaking_goes (checks_at s pos m k) (goes t (stored s k z m) 0))) (sym shows.is)
       (subst (λ z. Leads_on behind (leaking_goes (checks_at s pos m k) (goes t z 0))) (sym is)
-      (goes_on (declared depth x (shows.word ∷ []) m) (checks_at s pos m k) [] (all_checks s pos m k ∙ unchecked x y u d path observes pos) got.0 behind
+      (goes_on (declared depth x (shows.word ∷ []) m) (checks_at s pos m k) [] (all_checks s pos m k ∙ unchecked x y u d path observes pos) got.0 behind got.1.3
       (subst (λ z. Viewed (home s depth) (is_observer s) other got.0 (seen s (declared depth x (shows.word ∷ []) m) hands z) behind) (sym (append-nil t.state.leaks)) got.1.0)
       got.1.1 got.1.2))))
   then_put pos q x y u w d path name facts behind good observes gets (Raises e n) is = (λ trap. trap, raises facts good n.memory)
@@ -570,9 +687,9 @@ module _ (t : Turn) (settled : IsSettled (typing t).table) (own_law : OwnsByShap
 
   -- A borrower goes on from where it is.
   reborrow_gets : (x u d : ℕ) (path : TypedTree) (facts : List Fact) → Observes x x u d path → IsGood v facts t.state
-      → is_observer s x ≡ false → Allows facts (act.Reborrow x (name_of x path))
+      → is_observer s x ≡ false → may x x → Allows facts (act.Reborrow x (name_of x path))
       → Gets x x d (name_of x path) (effect (act.Reborrow x (name_of x path)) facts)
-  reborrow_gets x u d path facts observes good borrows allowed w z named called is typed lifted = by_word z is typed lifted
+  reborrow_gets x u d path facts observes good borrows mine allowed w z named called is typed lifted = by_word z is typed lifted
     where
       nothing : (z : machine.Word) → ((k : ℕ) → z ≡ machine.Cell k → ⊥) → ((k : ℕ) → z ≡ machine.Cell k → IsCell s m d k)
           → (views : Views) × Got views x z (effect (act.Reborrow x (name_of x path)) facts)
@@ -584,7 +701,7 @@ module _ (t : Turn) (settled : IsSettled (typing t).table) (own_law : OwnsByShap
           (lent.reborrow_unused (home s depth) (is_observer s) other v views (seen s m hands t.state.leaks) facts good.viewed x (name_of x path) allowed)
           (λ n has. kept_fact a facts (Moved n) has refl) (λ seen q n. loan_kept a facts (λ l h k. refl) seen q n)
           (clear_same (is_observer s) facts good.viewed.clear a refl) in
-          (views, (got.sound, got.words_kept, got.views_held))
+          (views, (got.sound, got.words_kept, got.views_held, taken_none views x z w w w (effect a facts) (becomes_with v x (way_from z w) w w (number_in z)) null))
 
       by_word : (z : machine.Word) → IsDesignated v (seen s m hands t.state.leaks) w z → ((k : ℕ) → z ≡ machine.Cell k → IsCell s m d k)
           → (is_anonymous (view_of s x) ≡ true → (k : ℕ) → z ≡ machine.Cell k → (l : Lifted v (All w)) × (l.object ≡ x))
@@ -597,17 +714,21 @@ module _ (t : Turn) (settled : IsSettled (typing t).table) (own_law : OwnsByShap
           (one_word x x u d path observes) (of_type x x u d path observes z typed) w l.0 l.1
           (becomes_with v x (way_from z (expand v (All w))) (v.loan l.0.object) (next_of v (All w) l.0) (number_in z)) borrows named is
           (subst (λ n. Allows facts (act.Reborrow x n)) (sym called) allowed) in
-          (views, subst (λ n. Got views x z (effect (act.Reborrow x n) facts)) called (got.sound, got.words_kept, got.views_held))
+          let turned : Turned views (effect (act.Reborrow x (ways.name_of w)) facts) =
+          taken_again views x x z w l.0 (effect (act.Reborrow x (ways.name_of w)) facts)
+          (becomes_with v x (way_from z (expand v (All w))) (v.loan l.0.object) (next_of v (All w) l.0) (number_in z)) mine
+          (ap (λ (n : PlaceName). n.root) called) (λ observes. observes) in
+          (views, subst (λ n. Got views x z (effect (act.Reborrow x n) facts)) called (got.sound, got.words_kept, got.views_held, turned))
       by_word (machine.Int k) is typed lifted = nothing (machine.Int k) (λ q e. cc) typed
       by_word (machine.Enumerated k) is typed lifted = nothing (machine.Enumerated k) (λ q e. cc) typed
       by_word machine.Null is typed lifted = nothing machine.Null (λ q e. cc) typed
 
   pub assign_borrower_leads : (pos q p : Pos) (x u d : ℕ) (path : TypedTree) → Observes x x u d path → is_borrower s x ≡ true → is_observer s x ≡ false
-      → has_call path ≡ false → (facts : List Fact) (good : IsGood v facts t.state)
+      → may x x → has_call path ≡ false → (facts : List Fact) (good : IsGood v facts t.state)
       → AllowsAll facts (acts (assigned_to s pos (Some x) (Name q x NoMore (object_at s x).of) (Name p x path u)))
       → Leads_on (after (acts (assigned_to s pos (Some x) (Name q x NoMore (object_at s x).of) (Name p x path u))) facts)
       (assign t (Name q x NoMore (object_at s x).of) (Name p x path u))
-  assign_borrower_leads pos q p x u d path observes is borrows calls facts good allowed =
+  assign_borrower_leads pos q p x u d path observes is borrows from calls facts good allowed =
       let e : TypedTree = Name p x path u in
       let target : TypedTree = Name q x NoMore (object_at s x).of in
       let same : assigned_to s pos (Some x) target e ≡ acts_in s path ++ record { pos = q; act = act.Reborrow x (name_of x path) } ∷ [] =
@@ -616,15 +737,15 @@ module _ (t : Turn) (settled : IsSettled (typing t).table) (own_law : OwnsByShap
       subst (λ z. Leads_on (after (acts z) facts) (assign t target e)) (sym same)
       (put_leads (target_pos t target) q p q x x u d path (act.Reborrow x) observes calls facts good (subst (λ z. AllowsAll facts (acts z)) same allowed)
       (λ w called plain mine. reborrow_clears facts x w (ap (λ (n : PlaceName). n.root) called) (subst (λ n. Allows facts (act.Reborrow x n)) (sym called) mine))
-      (λ mine. reborrow_gets x u d path facts observes good borrows mine))
+      (λ mine. reborrow_gets x u d path facts observes good borrows from mine))
 
   -- An observer gets another value, of what an owner has, or what a borrower or an observer leads to.
   pub assign_observer_leads : (pos q p : Pos) (x y u d : ℕ) (path : TypedTree) → Observes x y u d path → is_borrower s x ≡ false → is_observer s x ≡ true
-      → has_call path ≡ false → (facts : List Fact) (good : IsGood v facts t.state)
+      → may x y → has_call path ≡ false → (facts : List Fact) (good : IsGood v facts t.state)
       → AllowsAll facts (acts (assigned_to s pos (Some x) (Name q x NoMore (object_at s x).of) (Name p y path u)))
       → Leads_on (after (acts (assigned_to s pos (Some x) (Name q x NoMore (object_at s x).of) (Name p y path u))) facts)
       (assign t (Name q x NoMore (object_at s x).of) (Name p y path u))
-  assign_observer_leads pos q p x y u d path observes is_not sees calls facts good allowed =
+  assign_observer_leads pos q p x y u d path observes is_not sees taken calls facts good allowed =
       let e : TypedTree = Name p y path u in
       let target : TypedTree = Name q x NoMore (object_at s x).of in
       let same : assigned_to s pos (Some x) target e ≡ acts_in s path ++ record { pos = p; act = act.Observe x (name_of y path) (is_observer s y) } ∷ [] =
@@ -645,8 +766,8 @@ module _ (t : Turn) (settled : IsSettled (typing t).table) (own_law : OwnsByShap
         where
           gets : (b : Bool) → is_observer s y ≡ b → Allows facts (act.Observe x (name_of y path) b)
               → Gets x y d (name_of y path) (effect (act.Observe x (name_of y path) b) facts)
-          gets true from mine = again_gets x y u d path facts observes good sees from
-          gets false from mine = observe_gets x y u d path facts observes good sees from mine
+          gets true from mine = again_gets x y u d path facts observes good sees from taken
+          gets false from mine = observe_gets x y u d path facts observes good sees from taken mine
 
   -- ---- the end of a scope
 
@@ -657,81 +778,38 @@ module _ (t : Turn) (settled : IsSettled (typing t).table) (own_law : OwnsByShap
     pub roots : (y : ℕ) (w : Way) → views.way y ≡ Some w → number_of w ≡ x → ⊥
     pub loans : (y : ℕ) (w : Way) → views.way y ≡ Some w → is_observer s y ≡ true → HasLoan true y facts (ways.name_of (views.loan y))
 
-  -- the variables of the other views
-  abbrev Others_hold : Views → ℕ → Type 0
-  Others_hold views x =
-      ((y n : ℕ) → (y ≡ x → ⊥) → is_anonymous (view_of s y) ≡ true
-      → (get_or (variable_slots s (home s depth y) y m.variables) 0 no_slot).word ≡ machine.Cell n → (w : Way) × (views.way y ≡ Some w) × (views.cell y ≡ n))
-      × ((y : ℕ) (w : Way) → views.way y ≡ Some w → is_anonymous (view_of s y) ≡ true)
+  -- What is left when a scope ends, with the memory then.
+  abbrev pub Is_left : Views → ℕ → List Fact → Outcome → Type 0
+  Is_left views x facts (Goes state) =
+      Viewed (home s depth) (is_observer s) other views (sound.view_of s state) facts × Kept s state.memory (waiting_in state)
+      × (state.memory ≡ undeclared depth x m)
+  Is_left views x facts (Ends e state) = ⊥
 
-  holds_ended : (views : Views) (x : ℕ) → home s depth x ≡ depth → Others_hold views x → Holds s depth views (undeclared depth x m)
-  holds_ended views x mine (others, only) = record {
-    held = λ y n view e. by_object y n view e (y == x) refl;
-    only = only;
-  }
-    where
-      same_variable : (f x g y : ℕ) → ways.OfVariable f x ≡ ways.OfVariable g y → y ≡ x
-      same_variable f x g y e = cc
+  is_left : (views : Views) (x : ℕ) (checks : List (List Leak)) (leaks : List Leak) (facts : List Fact) → flat_map (λ (z : List Leak). z) checks ≡ leaks
+      → Viewed (home s depth) (is_observer s) other views (seen s (undeclared depth x m) hands (t.state.leaks ++ leaks)) facts
+      → Kept s (undeclared depth x m) hands → Is_left views x facts (leaking_goes checks (goes t (undeclared depth x m) 0))
+  is_left views x checks leaks facts same viewed kept = (
+    subst (λ z. Viewed (home s depth) (is_observer s) other views (seen s (undeclared depth x m) z (t.state.leaks ++ flat_map (λ (z : List Leak). z) checks)) facts) (sym (hands_behind (undeclared depth x m) 0))
+        (subst (λ z. Viewed (home s depth) (is_observer s) other views (seen s (undeclared depth x m) hands (t.state.leaks ++ z)) facts) (sym same) viewed),
+    subst (Kept s (undeclared depth x m)) (sym (hands_behind (undeclared depth x m) 0)) kept,
+    refl,
+  )
 
-      by_object : (y n : ℕ) → is_anonymous (view_of s y) ≡ true
-          → (get_or (variable_slots s (home s depth y) y (undeclared depth x m).variables) 0 no_slot).word ≡ machine.Cell n
-          → (b : Bool) → (y == x) ≡ b → (w : Way) × (views.way y ≡ Some w) × (views.cell y ≡ n)
-      by_object y n view e true b =
-          let same = eqb-true y x b in
-          let was : get_or (fresh (machine.default s.table (object_at s x).of)) 0 no_slot ≡ get_or (variable_slots s (home s depth y) y (undeclared depth x m).variables) 0 no_slot =
-          sym (ap (λ q. get_or q 0 no_slot) (removed_same s depth x m.variables))
-          ∙ ap (λ f. get_or (variable_slots s f x (undeclared depth x m).variables) 0 no_slot) (sym mine)
-          ∙ ap (λ q. get_or (variable_slots s (home s depth q) q (undeclared depth x m).variables) 0 no_slot) (sym same) in
-          absurd (none_default s.table (object_at s x).of n
-          (cell_has (machine.default s.table (object_at s x).of) 0 n (ap (λ (q : Slot). q.word) was ∙ e)))
-      by_object y n view e false b =
-          let off : y ≡ x → ⊥ = λ same. (let no = eq-eqb y x same in cc) in
-          others y n off view
-          (sym (ap (λ q. (get_or q 0 no_slot).word) (removed_other s depth x (home s depth y) y (λ same. off (same_variable depth x (home s depth y) y same)) m.variables)) ∙ e)
-
-  ends_with : (views : Views) (x : ℕ) (borrower : Bool) → home s depth x ≡ depth → (facts : List Fact)
-      → Viewed (home s depth) (is_observer s) other views (seen s m hands t.state.leaks) facts → Kept s m hands → Others_hold views x
-      → LeavesOthers views x (effect (act.EndScope x borrower) facts) → Leads_on (effect (act.EndScope x borrower) facts) (steps.end_scope t x)
-  ends_with views x borrower mine facts viewed kept others leaves =
+  -- the scope of an object ends that has no way of its own
+  pub scope_left : (views : Views) (x : ℕ) (borrower : Bool) → home s depth x ≡ depth → (facts : List Fact)
+      → Viewed (home s depth) (is_observer s) other views (seen s m hands t.state.leaks) facts → Kept s m hands
+      → LeavesOthers views x (effect (act.EndScope x borrower) facts) → Is_left views x (effect (act.EndScope x borrower) facts) (steps.end_scope t x)
+  scope_left views x borrower mine facts viewed kept leaves =
       let leaks : List Leak = leaks_at s t.point.pos m (run.variable_place (here t) x) in
       let checks : Checks s.table (content s m hands (OfRoot (ways.OfVariable (home s depth x) x))) [] t.state.leaks (t.state.leaks ++ leaks) =
       checks_made s.table settled (content s m hands (OfRoot (ways.OfVariable (home s depth x) x))) [] (object_at s x).of t.point.pos t.state.leaks refl
       (ap not (no_formals x)) (alike s.table settled (object_at s x).of (object_at s x).of (inl refl)) in
-      goes_on (undeclared depth x m) (checks_at s t.point.pos m (run.variable_place (here t) x)) leaks
-      (all_checks s t.point.pos m (run.variable_place (here t) x)) views (effect (act.EndScope x borrower) facts)
+      is_left views x (checks_at s t.point.pos m (run.variable_place (here t) x)) leaks (effect (act.EndScope x borrower) facts)
+      (all_checks s t.point.pos m (run.variable_place (here t) x))
       (subst (λ f. Viewed (home s depth) (is_observer s) other views (seen s (undeclared f x m) hands (t.state.leaks ++ leaks)) (effect (act.EndScope x borrower) facts)) mine
       (ended_viewed s settled (home s depth) (is_observer s) other views m hands t.state.leaks (t.state.leaks ++ leaks) facts x borrower viewed checks
       (record { none = leaves.no_value; roots = leaves.roots; loans = leaves.loans }) (λ w o. absurd (alone w o))))
-      (removed_kept s settled m depth x hands kept) (holds_ended views x mine others)
-
-  -- the scope of an object ends that isn't a view with a value
-  pub end_scope_leads : (x : ℕ) (borrower : Bool) → home s depth x ≡ depth → (facts : List Fact) → IsGood v facts t.state
-      → LeavesOthers v x (effect (act.EndScope x borrower) facts) → Leads_on (effect (act.EndScope x borrower) facts) (steps.end_scope t x)
-  end_scope_leads x borrower mine facts good leaves =
-      ends_with v x borrower mine facts good.viewed good.kept ((λ y n off view e. good.holds.held y n view e), good.holds.only) leaves
-
-  -- The scope of a view ends. No name that was moved is rooted in it, and no other view was taken
-  -- from it.
-  pub end_view_leads : (x : ℕ) (borrower : Bool) → home s depth x ≡ depth → (facts : List Fact) → IsGood v facts t.state → Unused v facts x
-      → LeavesOthers (with_view v x None (v.loan x) (v.up x) 0) x (effect (act.EndScope x borrower) facts)
-      → Leads_on (effect (act.EndScope x borrower) facts) (steps.end_scope t x)
-  end_view_leads x borrower mine facts good unused leaves =
-      let views : Views = with_view v x None (v.loan x) (v.up x) 0 in
-      let becomes = becomes_with v x None (v.loan x) (v.up x) 0 in
-      ends_with views x borrower mine facts
-      (lent.given_up (home s depth) (is_observer s) other v views (seen s m hands t.state.leaks) facts good.viewed x (v.loan x) (v.up x) 0 becomes unused)
-      good.kept (
-        λ y n off view e. (let old = good.holds.held y n view e in (old.0, becomes.ways y off ∙ old.1, becomes.cells y off ∙ old.2)),
-        λ y w e. by_object y w e (y == x) refl,
-      )
-      leaves
-    where
-      none_some : (w : Way) → None ≡ Some w → ⊥
-      none_some w e = cc
-
-      by_object : (y : ℕ) (w : Way) → (with_view v x None (v.loan x) (v.up x) 0).way y ≡ Some w → (b : Bool) → (y == x) ≡ b → is_anonymous (view_of s y) ≡ true
-      by_object y w e true b = absurd (none_some w (sym (ap (λ c. if c then None else v.way y) b) ∙ e))
-      by_object y w e false b = good.holds.only y w (sym (ap (λ c. if c then None else v.way y) b) ∙ e)
+      (removed_kept s settled m depth x hands kept)
 
 -- what a borrower's end asks of facts
 pub borrower_unmoved : (facts : List Fact) (x : ℕ) → Allows facts (act.EndScope x true) → (n : PlaceName) → Has facts (Moved n) → n.root ≡ x → ⊥

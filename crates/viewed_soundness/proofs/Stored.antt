@@ -61,7 +61,7 @@ module _ (h : Here) (settled : IsSettled h.typing.table) (leaks : List Leak) (wa
   Assigns hands facts (Traps t n) = ⊥
 
   -- no place of a named type is in the variable of a view
-  no_view_place : (m : Memory) (hands : List Waiting) (t : ℕ) (k : Place) (l : Loc) → IsNamed h.typing.table t → k.of ≡ t → Spot h.typing m hands k l
+  pub no_view_place : (m : Memory) (hands : List Waiting) (t : ℕ) (k : Place) (l : Loc) → IsNamed h.typing.table t → k.of ≡ t → Spot h.typing m hands k l
       → (y : ℕ) → is_anonymous (view_of h.typing y) ≡ true → k.base ≡ memory.OfVariable (home h.typing h.frame y) y → ⊥
   no_view_place m hands t k l named of spot y view base =
       let root : trunk l ≡ OfRoot (OfVariable (home h.typing h.frame y) y) = spot.base ∙ ap loc_of base in
@@ -75,7 +75,7 @@ module _ (h : Here) (settled : IsSettled h.typing.table) (leaks : List Leak) (wa
       not_view h.typing.table (object_at h.typing y).of view (matches_named h.typing.table k.of (object_at h.typing y).of fits (subst (IsNamed h.typing.table) (sym of) named))
 
   -- a store elsewhere leaves what the variables of views have
-  holds_stored : (m : Memory) (k : Place) (ws : List machine.Word)
+  pub holds_stored : (m : Memory) (k : Place) (ws : List machine.Word)
       → ((y : ℕ) → is_anonymous (view_of h.typing y) ≡ true → k.base ≡ memory.OfVariable (home h.typing h.frame y) y → ⊥)
       → Holds h.typing h.frame v m → Holds h.typing h.frame v (stored h.typing k ws m)
   holds_stored m k ws off holds = record {

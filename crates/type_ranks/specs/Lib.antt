@@ -1,0 +1,3 @@
+pub mod Ranks
+-- what functions inside promise each other
+pub mod Stages

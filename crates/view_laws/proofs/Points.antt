@@ -1,0 +1,544 @@
+-- Borrowers and observers at the points of an accepted program: what they are declared and assigned with,
+-- what lasts as long as they do, and what is in scope where scopes end.
+use Rattle.std.proofs.Common.{◌≡◌, refl, sym, ap, ◌∙◌, subst, ◌⊎◌, inl, inr, ℕ, suc, ◌+◌, ◌<◌, ◌≤◌, Bool, true, false, cond, not, ◌&&◌, ◌||◌, ◌==◌, eqb-true, eq-eqb, List, [], ◌∷◌, ◌++◌, map, drop, length, arith, if◌then◌else◌, Some}
+use Rattle.std.specs.Prelude.{nat_lt}
+use Rattle.std.specs.Bool.{Decides}
+use Rattle.std.specs.List.{AllByRecursion, position_or_len}
+use Rattle.std.specs.Cmp.Lexicographic.{pointwise_decides}
+use Rattle.std.proofs.lemmas.Bool.{ltb-true}
+use Rattle.std.proofs.lemmas.Bool.Decides.{Decides-eqb}
+use Rattle.std.proofs.lemmas.List.Folds.{list_any-append}
+use Rattle.spark_base.specs.Lists.{Has}
+use Rattle.spark_base.proofs.Lists.{Has-append_right, Has-map, Has-map_from}
+use Rattle.spark_base.specs.declared.position.Pos.{Pos}
+use Rattle.place_names.specs.declared.act.Act.{Act}
+use Rattle.place_names.specs.declared.act.Act.TheVariants as act
+use Rattle.place_names.specs.declared.act.Mode.TheVariants as mode
+use Rattle.place_names.specs.declared.act.Placed.{Placed}
+use Rattle.place_names.specs.declared.selector.Sel.{Sel}
+use Rattle.place_names.specs.Names.{Name as PlaceName}
+use Rattle.type_definitions.specs.declared.judgement.View.{View}
+use Rattle.type_definitions.specs.declared.judgement.View.TheVariants as view
+use Rattle.type_definitions.specs.Types.{Table, is_nil, full, is_owning, owns_of, view_of as view_of_shape}
+use Rattle.typed_tree.specs.Trees.{TypedTree, Name, NoMore, More}
+use Rattle.typed_tree.specs.Programs.{TypedSub, TypedProgram}
+use Rattle.flow_paths.specs.declared.report.Effects.{Effects}
+use Rattle.flow_paths.specs.Instructions.{Instruction, Declare, Assign, Input, EndScope}
+use Rattle.flow_paths.specs.Objects.{Typing, object_at, is_variable, is_borrower, is_observer, is_borrowing, is_observing, is_anonymous, is_formal, is_package_object, has_scope_end, view_of}
+use Rattle.flow_paths.specs.Names.{name_of, written, source}
+use Rattle.flow_paths.specs.Acts.{placed, observe, reborrow, target_pos, index_acts, source_acts, assigned_to, stored_acts, declared_acts, acts_in, acts_of}
+use Rattle.flow_paths.specs.Points.{PointName, same_place, same_point, NamedPoint, FlowPoint}
+use Rattle.flow_paths.specs.Laid.{FlowSub, FlowProgram, NamedSub, number_in, kept_roots, sub_facts, flow_sub, typing_of, flow_typing, flow_program, flow_named}
+use Rattle.flow_paths.specs.Scopes.{Differ, is_last, is_within, is_ready, brought, scope_behind, taken}
+use Rattle.flow_paths.specs.Views.{changes, encloses, scope_of, is_assignment}
+use Rattle.soundness.specs.Sound.{IsAtPoint}
+use Rattle.soundness.proofs.Points.{flow_at, next_there}
+use Rattle.soundness.proofs.Successors.{procedures_take_none}
+use Rattle.soundness.proofs.Waits.{drop_none}
+use Rattle.typed_laws.specs.Needed.{Gives, Leads, Source, IsFine}
+use Rattle.viewed_soundness.specs.Holds.{KeepsObserved, AllKeep}
+use Rattle.scope_laws.specs.Order.{named_in}
+use Rattle.scope_laws.specs.Code.{roots}
+use Rattle.scope_laws.proofs.Lists.{all_has, within_has, and_first, and_second}
+use Rattle.layered_scopes.specs.Layered.{is_older}
+use Rattle.layered_scopes.specs.Points.{IsAbove, GoesOn, AreFading}
+use Rattle.layered_scopes.proofs.Layered.{sub_good}
+use Rattle.ready_laws.proofs.Subs.{setting_from}
+use Rattle.view_laws.specs.InOrder.{is_name_of, is_list_end, is_one_name_of, is_any, fits}
+use Rattle.view_laws.specs.Program.{IsViewProgram}
+use Rattle.view_laws.proofs.Acts.{leads_lasts, access_lasts, scalar_plain, instruction_good}
+use Rattle.view_laws.proofs.Reports.{unchanged, not_observed, observed_encloses, reborrowed_own}
+use Rattle.view_laws.proofs.Enclosing.{enclosing_less}
+use Rattle.view_laws.proofs.Scoped as scoped
+use Rattle.view_laws.proofs.Scoped.{seen_has}
+
+-- ---- tests
+
+either : (a b : Bool) → a || b ≡ true → (a ≡ true) ⊎ (b ≡ true)
+either true b e = inl refl
+either false b e = inr e
+
+or_right : (a b : Bool) → b ≡ true → a || b ≡ true
+or_right true b e = refl
+or_right false b e = e
+
+or_other : (a b : Bool) → a ≡ false → a || b ≡ true → b ≡ true
+or_other true b none e = cc
+or_other false b none e = e
+
+not_test : (a b : Bool) → a ≡ true → not a || b ≡ true → b ≡ true
+not_test true b is e = e
+not_test false b is e = cc
+
+bool_cases : (b : Bool) → (b ≡ true) ⊎ (b ≡ false)
+bool_cases true = inl refl
+bool_cases false = inr refl
+
+true_false : (b : Bool) → b ≡ true → b ≡ false → ⊥
+true_false true e f = cc
+true_false false e f = cc
+
+both_second : (a b : Bool) → a && b ≡ true → b ≡ true
+both_second true b e = e
+both_second false b e = cc
+
+nil_is : (xs : List Sel) → is_nil xs ≡ true → xs ≡ []
+nil_is [] e = refl
+nil_is (x ∷ xs) e = cc
+
+-- a view is a borrower or an observer
+one_kind : (v : View) → is_observing v ≡ true → is_borrowing v ≡ false
+one_kind (view.Access d true true) sees = refl
+one_kind (view.Access d true false) sees = refl
+one_kind (view.Access d false true) sees = cc
+one_kind (view.Access d false false) sees = cc
+one_kind _ sees = cc
+
+and_none : (a b : Bool) → b ≡ false → a && b ≡ false
+and_none true b e = e
+and_none false b e = refl
+
+-- ---- names
+
+-- A name with its root.
+abbrev NamedBy : (ℕ → Bool) → (TypedTree → Type 0) → Type 0
+NamedBy test is = (q : Pos) × (y : ℕ) × (path : TypedTree) × (u : ℕ) × is (Name q y path u) × (test y ≡ true)
+
+name_is : (test : ℕ → Bool) (e : TypedTree) → is_name_of test e ≡ true → NamedBy test (λ n. e ≡ n)
+name_is test (Name q y path u) h = (q, y, path, u, refl, h)
+name_is test _ h = cc
+
+end_is : (e : TypedTree) → is_list_end e ≡ true → e ≡ NoMore
+end_is NoMore h = refl
+end_is _ h = cc
+
+one_name_is : (test : ℕ → Bool) (e : TypedTree) → is_one_name_of test e ≡ true → NamedBy test (λ n. e ≡ More n NoMore)
+one_name_is test (More e rest) h =
+    let found = name_is test e (and_first (is_name_of test e) (is_list_end rest) h) in
+    let none = end_is rest (and_second (is_name_of test e) (is_list_end rest) h) in
+    (found.0, found.1, found.2, found.3, ap (λ z. More z rest) found.4 ∙ ap (More (Name found.0 found.1 found.2 found.3)) none, found.5)
+one_name_is test _ h = cc
+
+first_root : (q : Pos) (y : ℕ) (path : TypedTree) (u : ℕ) (rest : TypedTree) → Has (roots (More (Name q y path u) rest)) y
+unfolding roots
+first_root q y path u rest = inl refl
+
+name_root : (q : Pos) (y : ℕ) (path : TypedTree) (u : ℕ) (xs : List ℕ) → Has (roots (Name q y path u) ++ xs) y
+unfolding roots
+name_root q y path u xs = inl refl
+
+-- ---- acts of views
+
+borrow_there : (s : Typing) (x : ℕ) (q : Pos) (y : ℕ) (path : TypedTree) (u : ℕ) → is_borrower s x ≡ true
+    → Has (declared_acts s x (More (Name q y path u) NoMore)) (placed q (act.Borrow x (name_of y path)))
+borrow_there s x q y path u is =
+    subst (λ b. Has (if b then source_acts s (Name q y path u) (act.Borrow x)
+    else (if is_observer s x then source_acts s (Name q y path u) (observe s x) else acts_in s (More (Name q y path u) NoMore))) (placed q (act.Borrow x (name_of y path)))) (sym is)
+    (Has-append_right (acts_in s path) (placed q (act.Borrow x (name_of y path)) ∷ []) (placed q (act.Borrow x (name_of y path))) (inl refl))
+
+observe_there : (s : Typing) (pos q : Pos) (x w : ℕ) (r : Pos) (y : ℕ) (path : TypedTree) (u : ℕ) → is_borrower s x ≡ false → is_observer s x ≡ true
+    → Has (assigned_to s pos (Some x) (Name q x NoMore w) (Name r y path u)) (placed r (observe s x (name_of y path)))
+observe_there s pos q x w r y path u none sees =
+    let target : TypedTree = Name q x NoMore w in
+    let e : TypedTree = Name r y path u in
+    let a : Placed = placed r (observe s x (name_of y path)) in
+    subst (λ b. Has (if b then index_acts s e ++ reborrow (target_pos pos (written target)) x (source e)
+    else (if is_observer s x then source_acts s e (observe s x) else stored_acts s target e)) a) (sym none)
+    (subst (λ b. Has (if b then source_acts s e (observe s x) else stored_acts s target e) a) (sym sees)
+    (Has-append_right (acts_in s path) (a ∷ []) a (inl refl)))
+
+reborrow_there : (s : Typing) (pos q : Pos) (x w : ℕ) (r : Pos) (y : ℕ) (path : TypedTree) (u : ℕ) → is_borrower s x ≡ true
+    → Has (assigned_to s pos (Some x) (Name q x NoMore w) (Name r y path u)) (placed q (act.Reborrow x (name_of y path)))
+reborrow_there s pos q x w r y path u is =
+    let target : TypedTree = Name q x NoMore w in
+    let e : TypedTree = Name r y path u in
+    let a : Placed = placed q (act.Reborrow x (name_of y path)) in
+    subst (λ b. Has (if b then index_acts s e ++ reborrow (target_pos pos (written target)) x (source e)
+    else (if is_observer s x then source_acts s e (observe s x) else stored_acts s target e)) a) (sym is)
+    (Has-append_right (acts_in s path) (a ∷ []) a (inl refl))
+
+-- ---- points by name and number
+
+point_decides : (a b : PointName) → Decides (same_point a b) (a ≡ b)
+point_decides a b =
+    let places = pointwise_decides {E = λ i j. i == j} Decides-eqb a.place b.place in (
+      λ e.
+          let row = eqb-true a.row b.row (and_second (same_place a.place b.place) (a.row == b.row) e) in
+          let place = places.0 (and_first (same_place a.place b.place) (a.row == b.row) e) in
+          λ i. record { place = place i; row = row i },
+      λ e. both_true (same_place a.place b.place) (a.row == b.row) (places.1 (ap (λ n. n.place) e)) (eq-eqb a.row b.row (ap (λ n. n.row) e)),
+    )
+  where
+    both_true : (a b : Bool) → a ≡ true → b ≡ true → a && b ≡ true
+    both_true a b e f = ap (λ x. x && b) e ∙ f
+
+-- A name of a point has the number at which the point stands.
+number_there : (points : List NamedPoint) (q : NamedPoint) → Differ points → Has points q → IsAtPoint points (number_in points q.name) q
+number_there [] q differ has = absurd has
+number_there (p ∷ rest) q (apart, differ) (inl e) = subst (λ z. IsAtPoint (p ∷ rest) (number_in (p ∷ rest) z.name) z) e
+    ([], rest, refl, sym (ap (λ b. cond (not b) (1 + position_or_len (λ r. same_point p.name r.name) rest) 0) ((point_decides p.name p.name).1 refl)))
+number_there (p ∷ rest) q (apart, differ) (inr has) =
+    let later = number_there rest q differ has in
+    let other : same_point q.name p.name ≡ false = refused (same_point q.name p.name) (λ e.
+    all_has (λ r. p.name ≡ r.name → ⊥) rest q apart has (sym ((point_decides q.name p.name).0 e))) in
+    let long = later.3 in
+    let more : suc (length later.0) ≡ 1 + position_or_len (λ r. same_point q.name r.name) rest = omega (arith, long) in (
+      p ∷ later.0,
+      later.1,
+      ap (λ z. p ∷ z) later.2,
+      more ∙ sym (ap (λ b. cond (not b) (1 + position_or_len (λ r. same_point q.name r.name) rest) 0) other),
+    )
+  where
+    refused : (b : Bool) → (b ≡ true → ⊥) → b ≡ false
+    refused true e = absurd (e refl)
+    refused false e = refl
+
+-- One number has one point.
+one_point : (points : List NamedPoint) (n : ℕ) (a b : NamedPoint) → IsAtPoint points n a → IsAtPoint points n b → a ≡ b
+one_point points n a b (front, rest, is, long) (front', rest', is', long') = aligned front front' (sym is ∙ is') (long ∙ sym long')
+  where
+    aligned : (front front' : List NamedPoint) → front ++ a ∷ rest ≡ front' ++ b ∷ rest' → length front ≡ length front' → a ≡ b
+    aligned [] [] e long = cc
+    aligned [] (x ∷ front') e long = cc
+    aligned (x ∷ front) [] e long = cc
+    aligned (x ∷ front) (y ∷ front') e long =
+        (let tails : front ++ a ∷ rest ≡ front' ++ b ∷ rest' = cc in aligned front front' tails (omega (arith, long)))
+
+-- ---- ends of scopes
+
+last_out : (x y : ℕ) (scope : List ℕ) → is_last x scope ≡ true → is_within y scope ≡ true → (y ≡ x → ⊥) → is_within y (drop 1 scope) ≡ true
+last_out x y [] last within ne = cc
+last_out x y (z ∷ rest) last within ne = elim (either (y == z) (is_within y rest) within) [
+  | inl e ↦ absurd (ne (eqb-true y z e ∙ sym (eqb-true x z last)))
+  | inr later ↦ ap (is_within y) (drop_none rest) ∙ later
+]
+
+-- The end of another object follows where an observer of the scope is left.
+fading_at : (s : Typing) (points : List NamedPoint) → AreFading s points → (p : NamedPoint) → Has points p → (z y : ℕ) → p.instr ≡ EndScope z
+    → Has (drop 1 p.scope) y → is_observer s y ≡ true → scope_of s y ≡ scope_of s z
+    → (q : NamedPoint) × Has points q × (k : ℕ) × (q.instr ≡ EndScope k) × (scope_of s k ≡ scope_of s z) × (p.next ≡ q.name ∷ [])
+fading_at s [] fading p has z y is there sees same = absurd has
+fading_at s (a ∷ rest) fading p (inl e) z y is there sees same =
+    on rest (subst (λ (b : NamedPoint). GoesOn s (scope_of s z) b.next rest) e
+    (fading.0 z y (ap (λ (b : NamedPoint). b.instr) e ∙ is) (subst (λ (b : NamedPoint). Has (drop 1 b.scope) y) (sym e) there) sees same))
+  where
+    on : (rest : List NamedPoint) → GoesOn s (scope_of s z) p.next rest
+        → (q : NamedPoint) × Has (a ∷ rest) q × (k : ℕ) × (q.instr ≡ EndScope k) × (scope_of s k ≡ scope_of s z) × (p.next ≡ q.name ∷ [])
+    on [] h = absurd h
+    on (q ∷ more) h = (q, inr (inl refl), h.0, h.1, h.2, h.3)
+fading_at s (a ∷ rest) fading p (inr has) z y is there sees same =
+    let found = fading_at s rest fading.1 p has z y is there sees same in
+    (found.0, inr found.1, found.2, found.3, found.4, found.5)
+
+all_keep : (observer : ℕ → Bool) (acts : List Placed) → ((a : Placed) → Has acts a → (m : PlaceName) → changes a.act ≡ Some m → observer m.root ≡ false)
+    → AllKeep observer (map (λ (a : Placed). a.act) acts)
+all_keep observer [] h = tt
+all_keep observer (a ∷ acts) h = (one a.act (λ m e. h a (inl refl) m e), all_keep observer acts (λ b has. h b (inr has)))
+  where
+    one : (a : Act) → ((m : PlaceName) → changes a ≡ Some m → observer m.root ≡ false) → KeepsObserved observer a
+    one (act.Move m parts) h = h m refl
+    one (act.Write m) h = h m refl
+    one (act.Free m) h = h m refl
+    one _ h = tt
+
+-- ---- programs
+
+module _ (table : Table) (typed : TypedProgram) (effects : Effects) (given : IsViewProgram table typed effects) where
+  abbrev program : FlowProgram
+  program = flow_program table typed
+
+  abbrev s : Typing
+  s = flow_typing program
+
+  abbrev own : Typing
+  own = typing_of table typed
+
+  same : s ≡ own
+  same = scoped.same table typed effects given
+
+  scopes_same : program.scopes ≡ typed.scopes
+  unfolding flow_program
+  scopes_same = refl
+
+  local : (x : ℕ) → is_anonymous (view_of s x) ≡ true → (is_variable (object_at s x).kind ≡ true) × (is_package_object s x ≡ false)
+  local = scoped.local table typed effects given
+
+  -- An object is there as long as another one may be used, where these objects are in scope.
+  abbrev pub Outlives : List ℕ → ℕ → ℕ → Type 0
+  Outlives scope y x =
+      (is_package_object s y ≡ true)
+      ⊎ ((is_within y scope ≡ true) × (has_scope_end s y ≡ true) × (encloses program.scopes (scope_of s y) (scope_of s x) ≡ true))
+
+  -- a view that isn't an observer is a borrower
+  borrows : (x : ℕ) → is_anonymous (view_of s x) ≡ true → is_observer s x ≡ false → is_borrower s x ≡ true
+  borrows x anonymous none =
+      let kind = (local x anonymous).0 in
+      let plain : is_observing (view_of s x) ≡ false = sym (ap (λ b. b && is_observing (view_of s x)) kind) ∙ none in
+      ap (λ b. b && is_borrowing (view_of s x)) kind
+      ∙ elim (either (is_borrowing (view_of s x)) (is_observing (view_of s x)) anonymous) [
+        | inl is ↦ is
+        | inr sees ↦ absurd (true_false (is_observing (view_of s x)) sees plain)
+      ]
+
+  no_borrower : (x : ℕ) → is_observer s x ≡ true → is_borrower s x ≡ false
+  no_borrower x sees =
+      and_none (is_variable (object_at s x).kind) (is_borrowing (view_of s x))
+      (one_kind (view_of s x) (both_second (is_variable (object_at s x).kind) (is_observing (view_of s x)) sees))
+
+  -- What is looked at for a view is rooted in an object whose scope ends at a point.
+  source_lasts : (want : ℕ) (q : Pos) (y : ℕ) (path : TypedTree) (u : ℕ) → is_anonymous (full s.table want) ≡ true → Source s want (Name q y path u)
+      → has_scope_end s y ≡ true
+  unfolding Gives
+  source_lasts want q y path u anonymous (inl seen) =
+      let view = seen.1 in
+      leads_lasts s given.owns given.parts_named (object_at s y).of path u view.6
+      (ap (λ b. b || is_anonymous (full s.table u)) (given.owns u)
+      ∙ ap (λ z. owns_of (is_owning s.table) z || is_anonymous (view_of_shape z)) view.7
+      ∙ access_lasts (is_owning s.table) view.0 view.2 view.3)
+  source_lasts want q y path u anonymous (inr gives) =
+      leads_lasts s given.owns given.parts_named (object_at s y).of path u gives.0
+      (or_right (is_owning s.table u) (is_anonymous (full s.table u)) (elim gives.1 [
+        | inl one ↦ ap (λ z. is_anonymous (view_of_shape z)) one ∙ anonymous
+        | inr scalars ↦ absurd (true_false (is_anonymous (full s.table want)) anonymous (scalar_plain s given.owns given.parts_named want scalars.1))
+      ]))
+
+  -- ---- the acts of a point
+
+  module _ (named : NamedSub) (has : Has (flow_named table typed) named) (p : NamedPoint) (there : Has named.points p) where
+    abbrev sub : FlowSub
+    sub = flow_sub own named
+
+    abbrev at : FlowPoint
+    at = flow_at own named p
+
+    in_program : Has program.subs sub
+    in_program = scoped.in_program table typed effects given named has
+
+    in_sub : Has sub.points at
+    in_sub = Has-map (λ (q : NamedPoint). flow_at own named q) named.points p there
+
+    abbrev kept : List ℕ
+    kept = kept_roots own 0 own.objects (sub_facts own named.sub named.points)
+
+    abbrev acts_here : Typing → List Placed
+    acts_here z = acts_of (record { typing = z; result = named.sub.result; roots = kept }) p.pos p.instr
+
+    fine_there : IsFine s named.sub.result p.instr
+    fine_there = scoped.fine_there table typed effects given named has p there
+
+    act_there : (a : Placed) → Has (acts_here s) a → Has at.acts a
+    act_there a h = subst (λ (z : Typing). Has (acts_here z) a) same h
+
+    pub changed_plain : (a : Placed) → Has at.acts a → (m : PlaceName) → changes a.act ≡ Some m → is_observer s m.root ≡ false
+    changed_plain a h m e = elim (bool_cases (is_nil m.sels)) [
+      | inl empty ↦ (instruction_good s given.owns given.parts_named (λ x anonymous. (local x anonymous).0) named.sub.result kept p.pos p.instr fine_there
+          (scoped.nothing_there table typed effects given named has p there) a (subst (λ (z : Typing). Has (acts_here z) a) (sym same) h)).1 m e (nil_is m.sels empty)
+      | inr some ↦ unchanged program effects given.accepted.no_reports sub in_program at in_sub a h m e (ap not some)
+    ]
+
+    pub read_plain : (q : Pos) (x w : ℕ) (path : TypedTree) → p.instr ≡ Input (Name q x path w) → is_observer s x ≡ false
+    read_plain q x w path is =
+        let a : Placed = placed q (act.Actual (name_of x path) mode.Out false false) in
+        let h : Has (acts_here s) a =
+        subst (λ i. Has (acts_of (record { typing = s; result = named.sub.result; roots = kept }) p.pos i) a) (sym is)
+        (Has-append_right (acts_in s path) (a ∷ []) a (inl refl)) in
+        changed_plain a (act_there a h) (name_of x path) refl
+
+  -- ---- bodies
+
+  module _ (named : NamedSub) (has : Has (flow_named table typed) named) (body : scoped.OfBody table typed effects given named) where
+    abbrev Above : NamedPoint → Type 0
+    Above p = IsAbove (is_older own typed.scopes) (fits own) p
+
+    good : AllByRecursion Above named.points × AreFading own named.points
+    good =
+        let text : TypedSub = body.0 in
+        let layered = given.views.layered text body.1 in
+        subst (λ (z : NamedSub). AllByRecursion Above z.points × AreFading own z.points) body.4
+        (sub_good (setting_from own body.2 text) (is_older own typed.scopes) (fits own) layered.0 text
+        (given.order.bodies text (scoped.in_subs table typed effects given text body.1)).settled layered.1)
+
+    formless : (x : ℕ) → Has named.sub.formals x → ⊥
+    formless x there =
+        let mine : Has (body.0).formals x = subst (λ (z : NamedSub). Has z.sub.formals x) (sym body.4) there in
+        true_false (is_formal s x) (ap (λ z. is_formal z x) same ∙ (given.order.local body.0 body.1).formals x mine) (given.unformed x)
+
+    module _ (p : NamedPoint) (there : Has named.points p) where
+      above : Above p
+      above = all_has Above named.points p good.0 there
+
+      seen_there : (y : ℕ) → Has (named_in p.instr) y → (is_package_object s y ≡ true) ⊎ (is_within y p.scope ≡ true)
+      seen_there y names =
+          subst (λ (z : Typing). (is_package_object z y ≡ true) ⊎ (is_within y p.scope ≡ true)) (sym same)
+          (seen_has (is_package_object own) p.scope (named_in p.instr) y (scoped.body_is_seen table typed effects given named body p there) names)
+
+      outlives : (y x : ℕ) → Has (named_in p.instr) y → has_scope_end s y ≡ true
+          → (is_within y p.scope ≡ true → encloses program.scopes (scope_of s y) (scope_of s x) ≡ true) → Outlives p.scope y x
+      outlives y x names lasts around = elim (seen_there y names) [
+        | inl shared ↦ inl shared
+        | inr within ↦ inr (within, lasts, around within)
+      ]
+
+      older_encloses : (y x : ℕ) → is_older own typed.scopes x y ≡ true → encloses program.scopes (scope_of s y) (scope_of s x) ≡ true
+      older_encloses y x e =
+          ap (λ z. encloses z (scope_of s y) (scope_of s x)) scopes_same ∙ ap (λ (z : Typing). encloses typed.scopes (scope_of z y) (scope_of z x)) same
+          ∙ and_second (nat_lt y x) (encloses typed.scopes (scope_of own y) (scope_of own x)) e
+
+      -- what is in scope where an object is declared
+      around_declared : (x : ℕ) (e : TypedTree) → p.instr ≡ Declare x e → (y : ℕ) → is_within y p.scope ≡ true
+          → encloses program.scopes (scope_of s y) (scope_of s x) ≡ true
+      around_declared x e is y within =
+          older_encloses y x (above.declares x e is y
+          (subst (λ n. Has (drop n p.scope) y) (sym (procedures_take_none p.instr (scoped.calls_there table typed effects given named has p there)))
+          (subst (λ sc. Has sc y) (sym (drop_none p.scope)) (within_has y p.scope within))))
+
+      abbrev here : FlowPoint
+      here = flow_at own named p
+
+      act_has : (i : Instruction) → p.instr ≡ i → (a : Placed)
+          → Has (acts_of (record { typing = s; result = named.sub.result; roots = kept named has p there }) p.pos i) a → Has here.acts a
+      act_has i is a h =
+          act_there named has p there a
+          (subst (λ j. Has (acts_of (record { typing = s; result = named.sub.result; roots = kept named has p there }) p.pos j) a) (sym is) h)
+
+      -- what a borrower is declared with
+      older_there : (x : ℕ) (q : Pos) (y : ℕ) (path : TypedTree) (u : ℕ) → is_anonymous (view_of s x) ≡ true → is_observer own x || nat_lt y x ≡ true
+          → p.instr ≡ Declare x (More (Name q y path u) NoMore) → is_observer s x ≡ false → (is_observer s y ≡ false) × (y < x)
+      older_there x q y path u anonymous test is none = (
+        not_observed program effects given.accepted.no_reports (flow_sub own named) (in_program named has p there) formless here (in_sub named has p there)
+            (placed q (act.Borrow x (name_of y path)))
+            (act_has (Declare x (More (Name q y path u) NoMore)) is (placed q (act.Borrow x (name_of y path))) (borrow_there s x q y path u (borrows x anonymous none)))
+            x (name_of y path) refl,
+        ltb-true y x (or_other (is_observer own x) (nat_lt y x) (ap (λ z. is_observer z x) (sym same) ∙ none) test),
+      )
+
+      -- where a view is declared
+      pub declared_there : (x : ℕ) (e : TypedTree) → p.instr ≡ Declare x e → is_anonymous (view_of s x) ≡ true
+          → (q : Pos) × (y : ℕ) × (path : TypedTree) × (u : ℕ) × (e ≡ More (Name q y path u) NoMore) × Outlives p.scope y x
+          × (is_observer s x ≡ false → (is_observer s y ≡ false) × (y < x))
+      declared_there x e is anonymous =
+          let test : ℕ → Bool = λ y. is_observer own x || nat_lt y x in
+          let mine : is_anonymous (view_of own x) ≡ true = ap (λ z. is_anonymous (view_of z x)) (sym same) ∙ anonymous in
+          let found = one_name_is test e (not_test (is_anonymous (view_of own x)) (is_one_name_of test e) mine
+          (sym (ap (fits own) is) ∙ above.declared x e is)) in
+          let value : TypedTree = More (Name found.0 found.1 found.2 found.3) NoMore in
+          let whole_is : p.instr ≡ Declare x value = is ∙ ap (Declare x) found.4 in
+          let fine : IsFine s named.sub.result (Declare x value) = subst (IsFine s named.sub.result) whole_is (fine_there named has p there) in (
+            found.0,
+            found.1,
+            found.2,
+            found.3,
+            found.4,
+            outlives found.1 x (subst (λ i. Has (named_in i) found.1) (sym whole_is) (first_root found.0 found.1 found.2 found.3 NoMore))
+                (source_lasts (object_at s x).of found.0 found.1 found.2 found.3 anonymous fine.1) (around_declared x e is found.1),
+            older_there x found.0 found.1 found.2 found.3 anonymous found.5 whole_is,
+          )
+
+      -- where a view is assigned
+      pub assigned_there : (q : Pos) (x w : ℕ) (e : TypedTree) → p.instr ≡ Assign (Name q x NoMore w) e → is_anonymous (view_of s x) ≡ true
+          → (r : Pos) × (y : ℕ) × (path : TypedTree) × (u : ℕ) × (e ≡ Name r y path u) × (is_observer s x ≡ true → Outlives p.scope y x)
+          × (is_observer s x ≡ false → y ≡ x)
+      unfolding Leads
+      assigned_there q x w e is anonymous =
+          let target : TypedTree = Name q x NoMore w in
+          let mine : is_anonymous (view_of own x) ≡ true = ap (λ z. is_anonymous (view_of z x)) (sym same) ∙ anonymous in
+          let found = name_is is_any e (not_test (is_anonymous (view_of own x)) (is_name_of is_any e) mine
+          (sym (ap (fits own) is) ∙ above.assigned target e is)) in
+          let y : ℕ = found.1 in
+          let n : TypedTree = Name found.0 y found.2 found.3 in
+          let whole_is : p.instr ≡ Assign target n = is ∙ ap (Assign target) found.4 in
+          let fine : IsFine s named.sub.result (Assign target n) = subst (IsFine s named.sub.result) whole_is (fine_there named has p there) in
+          let of : (object_at s x).of ≡ fine.0 = fine.1.0 ∙ fine.1.1 in
+          let lasts : has_scope_end s y ≡ true =
+          source_lasts fine.0 found.0 y found.2 found.3 (ap (λ z. is_anonymous (full s.table z)) (sym of) ∙ anonymous) fine.2 in (
+            found.0,
+            y,
+            found.2,
+            found.3,
+            found.4,
+            λ sees. outlives y x (subst (λ i. Has (named_in i) y) (sym whole_is) (name_root found.0 y found.2 found.3 (roots target))) lasts
+                (λ within. observed_encloses program effects given.accepted.no_reports (flow_sub own named) (in_program named has p there) here (in_sub named has p there)
+                found.0 x (name_of y found.2) (is_observer s y)
+                (act_has (Assign target n) whole_is (placed found.0 (observe s x (name_of y found.2)))
+                (observe_there s p.pos q x w found.0 y found.2 found.3 (no_borrower x sees) sees)) (ap is_assignment whole_is)),
+            λ none. reborrowed_own program effects given.accepted.no_reports (flow_sub own named) (in_program named has p there) here (in_sub named has p there)
+                q x (name_of y found.2)
+                (act_has (Assign target n) whole_is (placed q (act.Reborrow x (name_of y found.2)))
+                (reborrow_there s p.pos q x w found.0 y found.2 found.3 (borrows x anonymous none))),
+          )
+
+      -- what else is in scope where a scope ends
+      left_there : (y x : ℕ) → p.instr ≡ EndScope y → is_within x p.scope ≡ true → (x ≡ y → ⊥) → Has (drop 1 p.scope) x
+      left_there y x is within other =
+          within_has x (drop 1 p.scope)
+          (last_out y x p.scope (subst (λ i. is_ready p i ≡ true) is (scoped.ready_there table typed effects given named has p there)) within other)
+
+      pub ended_there : (y x : ℕ) → p.instr ≡ EndScope y → is_within x p.scope ≡ true → (x ≡ y → ⊥)
+          → (x < y) × (encloses program.scopes (scope_of s y) (scope_of s x) ≡ true → scope_of s x ≡ scope_of s y)
+      ended_there y x is within other =
+          let older : is_older own typed.scopes y x ≡ true = above.ends y is x (left_there y x is within other) in (
+            ltb-true x y (and_first (nat_lt x y) (encloses typed.scopes (scope_of own x) (scope_of own y)) older),
+            λ back. (
+                let out = less (scope_of s x) (scope_of s y) (older_encloses x y older) in
+                let into = less (scope_of s y) (scope_of s x) back in
+                omega (arith, out, into)),
+          )
+        where
+          less : (a b : ℕ) → encloses program.scopes a b ≡ true → a ≤ b
+          less a b e = enclosing_less typed.scopes given.views.inner a b (ap (λ z. encloses z a b) (sym scopes_same) ∙ e)
+
+      behind_is : (y : ℕ) → p.instr ≡ EndScope y → scope_behind p ≡ drop 1 p.scope
+      behind_is y is = ap (λ i. brought i (drop (taken i) p.scope)) is ∙ ap (drop 1) (drop_none p.scope)
+
+      -- what follows where observers of the scope are left
+      pub followed_there : (y x : ℕ) → p.instr ≡ EndScope y → (q : NamedPoint) (n : ℕ) → Has (map (number_in named.points) p.next) n → IsAtPoint named.points n q
+          → is_within x q.scope ≡ true → is_observer s x ≡ true → scope_of s x ≡ scope_of s y
+          → (z : ℕ) × (q.instr ≡ EndScope z) × (scope_of s x ≡ scope_of s z)
+      followed_there y x is q n next stands within sees alike =
+          let laid = scoped.laid table typed effects given named has in
+          let on = next_there own named laid p there n next in
+          let one : on.0 ≡ q = one_point named.points n on.0 q on.1 stands in
+          let gone : List ℕ = on.2.0 in
+          let before : is_within x (scope_behind p) ≡ true =
+          ap (is_within x) on.2.2 ∙ list_any-append (λ z. x == z) gone (on.0).scope
+          ∙ or_right (is_within x gone) (is_within x (on.0).scope) (ap (λ (z : NamedPoint). is_within x z.scope) one ∙ within) in
+          let found = fading_at own named.points good.1 p there y x is (within_has x (drop 1 p.scope) (ap (is_within x) (sym (behind_is y is)) ∙ before))
+          (ap (λ z. is_observer z x) (sym same) ∙ sees)
+          (ap (λ z. scope_of z x) (sym same) ∙ alike ∙ ap (λ z. scope_of z y) same) in
+          let number : number_in named.points (found.0).name ≡ n =
+          single (number_in named.points (found.0).name) n (subst (λ z. Has (map (number_in named.points) z) n) found.5 next) in
+          let q_is : found.0 ≡ q =
+          one_point named.points n found.0 q (subst (λ k. IsAtPoint named.points k found.0) number (number_there named.points found.0 laid.0 found.1)) stands in (
+            found.2,
+            sym (ap (λ (z : NamedPoint). z.instr) q_is) ∙ found.3,
+            alike ∙ ap (λ z. scope_of z y) same ∙ sym found.4 ∙ ap (λ z. scope_of z found.2) (sym same),
+          )
+        where
+          single : (k n : ℕ) → Has (k ∷ []) n → k ≡ n
+          single k n (inl e) = e
+          single k n (inr none) = absurd none
+
+  -- ---- the package objects
+
+  -- At each point one is declared, and it is no view.
+  pub package_there : (named : NamedSub) → Has (flow_named table typed) named → scoped.Elaborates table typed effects given named → (p : NamedPoint)
+      → Has named.points p → (x : ℕ) × (v : TypedTree) × (p.instr ≡ Declare x v) × (is_anonymous (view_of s x) ≡ false)
+  package_there named has e p there =
+      let found = scoped.declares table typed effects given named e p there (scoped.calls_there table typed effects given named has p there) in
+      let plain = scoped.plain_there table typed effects given named e p there found.0 found.1 found.2 in
+      (found.0, found.1, found.2, ap (λ z. is_anonymous (view_of z found.0)) same ∙ not_true (is_anonymous (view_of own found.0)) (and_first _ _ plain))
+    where
+      not_true : (b : Bool) → not b ≡ true → b ≡ false
+      not_true true e = cc
+      not_true false e = refl
+
+  -- ---- all points
+
+  -- Nothing is moved, written or freed through an observer.
+  pub all_kept : (sub : FlowSub) → Has program.subs sub → (p : FlowPoint) → Has sub.points p → AllKeep (is_observer s) (map (λ (a : Placed). a.act) p.acts)
+  unfolding flow_program
+  all_kept sub has p there =
+      let named = Has-map_from (flow_sub own) (flow_named table typed) sub has in
+      let q = Has-map_from (λ (z : NamedPoint). flow_at own named.0 z) (named.0).points p (subst (λ (z : FlowSub). Has z.points p) (sym named.2) there) in
+      subst (λ (z : FlowPoint). AllKeep (is_observer s) (map (λ (a : Placed). a.act) z.acts)) q.2
+      (all_keep (is_observer s) (flow_at own named.0 q.0).acts (λ a h m e. changed_plain named.0 named.1 q.0 q.1 a h m e))

@@ -1,0 +1,110 @@
+-- An accepted program with borrowers and observers whose subprograms and views are in order is ready, as
+-- soundness with views asks.
+use Rattle.std.proofs.Common.{◌≡◌, refl, sym, ap, ◌∙◌, subst, ◌⊎◌, inl, inr, ℕ, suc, Bool, true, false, List, map, Some}
+use Rattle.spark_base.specs.Lists.{Has}
+use Rattle.spark_base.specs.declared.position.Pos.{Pos}
+use Rattle.type_definitions.specs.Types.{Table}
+use Rattle.typed_tree.specs.Trees.{TypedTree, Name, NoMore, More}
+use Rattle.typed_tree.specs.Programs.{TypedProgram}
+use Rattle.flow_paths.specs.declared.report.Effects.{Effects}
+use Rattle.flow_paths.specs.Instructions.{Instruction, Declare, Assign, EndScope}
+use Rattle.flow_paths.specs.Objects.{Typing, is_anonymous, is_observer, view_of}
+use Rattle.flow_paths.specs.Points.{NamedPoint, FlowPoint}
+use Rattle.flow_paths.specs.Laid.{FlowProgram, NamedSub, number_in, flow_typing, flow_program, flow_named}
+use Rattle.flow_paths.specs.Views.{encloses}
+use Rattle.machine.specs.States.{sub_of}
+use Rattle.soundness.specs.Sound.{IsAtPoint}
+use Rattle.viewed_steps.specs.Sound.{IsViewClass}
+use Rattle.viewed_steps.specs.Ready.{AreOrderly, ViewsAreOrderly, IsReady}
+use Rattle.view_laws.specs.Program.{IsViewProgram}
+use Rattle.view_laws.proofs.Enclosing.{itself, transitive}
+use Rattle.view_laws.proofs.Scoped as scoped
+use Rattle.view_laws.proofs.Points as points
+
+no_assign : (i : Instruction) (x : ℕ) (v target e : TypedTree) → i ≡ Declare x v → i ≡ Assign target e → ⊥
+no_assign i x v target e is other = (let both : Declare x v ≡ Assign target e = sym is ∙ other in cc)
+
+no_end : (i : Instruction) (x : ℕ) (v : TypedTree) (y : ℕ) → i ≡ Declare x v → i ≡ EndScope y → ⊥
+no_end i x v y is other = (let both : Declare x v ≡ EndScope y = sym is ∙ other in cc)
+
+same_object : (i : Instruction) (x y : ℕ) (v e : TypedTree) → i ≡ Declare x v → i ≡ Declare y e → x ≡ y
+same_object i x y v e is other = (let both : Declare x v ≡ Declare y e = sym is ∙ other in cc)
+
+module _ (table : Table) (typed : TypedProgram) (effects : Effects) (given : IsViewProgram table typed effects) where
+  abbrev program : FlowProgram
+  program = flow_program table typed
+
+  abbrev s : Typing
+  s = flow_typing program
+
+  abbrev Follows : NamedSub → NamedPoint → NamedPoint → Type 0
+  Follows named p q = (n : ℕ) × Has (map (number_in named.points) p.next) n × IsAtPoint named.points n q
+
+  -- a point that declares a package object
+  package_orderly : (named : NamedSub) → Has (flow_named table typed) named → scoped.Elaborates table typed effects given named → (p : NamedPoint)
+      → Has named.points p → AreOrderly program p (Follows named p)
+  package_orderly named has e p there =
+      let found = points.package_there table typed effects given named has e p there in
+      record {
+        declared = λ x v is anonymous.
+            (let both : true ≡ false = sym anonymous ∙ ap (λ z. is_anonymous (view_of s z)) (sym (same_object p.instr found.0 x found.1 v found.2 is)) ∙ found.3 in cc);
+        assigned = λ q x w v is anonymous. absurd (no_assign p.instr found.0 found.1 (Name q x NoMore w) v found.2 is);
+        read = points.read_plain table typed effects given named has p there;
+        ended = λ y x is within other. absurd (no_end p.instr found.0 found.1 y found.2 is);
+        followed = λ y x is q follows within sees alike. absurd (no_end p.instr found.0 found.1 y found.2 is);
+      }
+
+  body_orderly : (named : NamedSub) → (has : Has (flow_named table typed) named) → scoped.OfBody table typed effects given named → (p : NamedPoint)
+      → Has named.points p → AreOrderly program p (Follows named p)
+  body_orderly named has body p there = record {
+    declared = points.declared_there table typed effects given named has body p there;
+    assigned = points.assigned_there table typed effects given named has body p there;
+    read = points.read_plain table typed effects given named has p there;
+    ended = points.ended_there table typed effects given named has body p there;
+    followed = λ y x is q follows. points.followed_there table typed effects given named has body p there y x is q follows.0 follows.1 follows.2;
+  }
+
+  point_orderly : (named : NamedSub) → Has (flow_named table typed) named → (p : NamedPoint) → Has named.points p → AreOrderly program p (Follows named p)
+  point_orderly named has p there = elim (scoped.cases table typed effects given named has) [
+    | inl e ↦ package_orderly named has e p there
+    | inr body ↦ body_orderly named has body p there
+  ]
+
+  -- no package object is a view
+  packages_plain : (p : FlowPoint) → Has (sub_of program 0).points p → (x : ℕ) (e : TypedTree) → p.instr ≡ Declare x e → is_anonymous (view_of s x) ≡ false
+  packages_plain p has x e is =
+      let named : NamedSub = scoped.packages table typed effects given in
+      let q = scoped.package_point table typed effects given p has in
+      let found = points.package_there table typed effects given named (scoped.packages_in table typed effects given) refl q.0 q.1 in
+      let here : (q.0).instr ≡ Declare x e = ap (λ (z : FlowPoint). z.instr) q.2 ∙ is in
+      ap (λ z. is_anonymous (view_of s z)) (sym (same_object (q.0).instr found.0 x found.1 e found.2 here)) ∙ found.3
+
+  pub views_orderly : ViewsAreOrderly table typed
+  unfolding flow_program
+  views_orderly = record {
+    local = scoped.local table typed effects given;
+    packages = packages_plain;
+    transitive = transitive typed.scopes given.views.inner;
+    itself = itself typed.scopes;
+    points = point_orderly;
+    kept = points.all_kept table typed effects given;
+  }
+
+  class : IsViewClass program
+  class = record { parts_named = given.parts_named; no_calls = given.no_calls; no_formals = given.unformed }
+
+  pub views_ready : IsReady table typed effects
+  views_ready = record {
+    accepted = given.accepted;
+    owns = given.owns;
+    class = class;
+    scoped = scoped.are_scoped table typed effects given;
+    new = scoped.are_new table typed effects given;
+    elaborated = scoped.are_elaborated table typed effects given;
+    orderly = views_orderly;
+    packages = scoped.packages table typed effects given;
+    stands = scoped.packages_stand table typed effects given;
+    main = suc given.order.number;
+    is_main = scoped.main_is table typed effects given;
+    main_there = scoped.has_main table typed effects given;
+  }

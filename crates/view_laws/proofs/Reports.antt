@@ -1,0 +1,79 @@
+-- What follows of V1, V2 and V4 where nothing is reported.
+use Rattle.std.proofs.Common.{◌≡◌, refl, ap, ◌∙◌, subst, inl, ℕ, Bool, true, false, not, ◌&&◌, ◌==◌, eqb-true, List, [], ◌∷◌, ◌++◌, Some}
+use Rattle.spark_base.specs.Lists.{Has}
+use Rattle.spark_base.specs.declared.position.Pos.{Pos}
+use Rattle.place_names.specs.declared.act.Act.TheVariants as act
+use Rattle.place_names.specs.declared.act.Placed.{Placed}
+use Rattle.place_names.specs.declared.rule.Rule.TheVariants as rule
+use Rattle.place_names.specs.declared.selector.Sel.{Sel}
+use Rattle.place_names.specs.declared.selector.Sel.TheVariants as sel
+use Rattle.place_names.specs.Names.{Name as PlaceName, extend}
+use Rattle.type_definitions.specs.Types.{is_nil}
+use Rattle.flow_paths.specs.declared.report.Effects.{Effects}
+use Rattle.flow_paths.specs.Objects.{Typing, is_observer, traverses}
+use Rattle.flow_paths.specs.Points.{FlowPoint}
+use Rattle.flow_paths.specs.Laid.{FlowSub, FlowProgram, flow_typing}
+use Rattle.flow_paths.specs.Limits.{source_pos}
+use Rattle.flow_paths.specs.Reports.{AreReports, on_views}
+use Rattle.flow_paths.specs.Views.{of_observer, MayBorrow, directly, through, changed, lent, shorter, other_root, changes, lends, has_selector, traversed_of, encloses, scope_of, is_assignment, text_report}
+
+by_false : (b : Bool) → (not b ≡ true → ⊥) → b ≡ true
+by_false true none = refl
+by_false false none = absurd (none refl)
+
+by_true : (b : Bool) → (b ≡ true → ⊥) → b ≡ false
+by_true true none = absurd (none refl)
+by_true false none = refl
+
+some_more : (xs : List Sel) (x : Sel) → not (is_nil (xs ++ x ∷ [])) ≡ true
+some_more [] x = refl
+some_more (y ∷ xs) x = refl
+
+both : (a b : Bool) → a ≡ true → b ≡ true → a && b ≡ true
+both a b e f = ap (λ z. z && b) e ∙ f
+
+has_first : (xs : List ℕ) (b : Bool) (f : ℕ) → traversed_of b xs ≡ Some f → Has xs f
+has_first (x ∷ xs) true f e = inl (let same : x ≡ f = cc in same)
+has_first [] true f e = cc
+has_first xs false f e = cc
+
+module _ (program : FlowProgram) (effects : Effects) (accepted : AreReports program effects []) (sub : FlowSub) (there : Has program.subs sub) where
+  abbrev s : Typing
+  s = flow_typing program
+
+  -- V1: what is changed isn't a part of what an observer designates.
+  pub unchanged : (p : FlowPoint) → Has sub.points p → (a : Placed) → Has p.acts a → (m : PlaceName) → changes a.act ≡ Some m → has_selector m ≡ true
+      → is_observer s m.root ≡ false
+  unchanged p point a has m e parted =
+      by_true (is_observer s m.root)
+      (λ sees. accepted.complete (text_report a.pos rule.V1 m)
+      (on_views sub there (changed p a m (point, has) e (of_observer (both (is_observer s m.root) (has_selector m) sees parted)))))
+
+  -- V1: what is borrowed isn't named through an observer, where there are no formals.
+  pub not_observed : ((x : ℕ) → Has sub.formals x → ⊥) → (p : FlowPoint) → Has sub.points p → (a : Placed) → Has p.acts a → (h : ℕ) (m : PlaceName)
+      → a.act ≡ act.Borrow h m → is_observer s m.root ≡ false
+  not_observed formless p point a has h m e =
+      by_true (is_observer s m.root)
+      (λ sees. accepted.complete (text_report a.pos rule.V1 m)
+      (on_views sub there (lent p a m (point, has) (ap lends e)
+      (of_observer (both (is_observer s m.root) (has_selector (extend m (sel.Deref ∷ []))) sees (some_more m.sels sel.Deref)))
+      (λ may. never sees (subst (λ z. MayBorrow s sub z) e may)))))
+    where
+      never : is_observer s m.root ≡ true → MayBorrow s sub (act.Borrow h m) → ⊥
+      never sees (directly h' f m' gives traversed root) = formless f (has_first sub.formals (traverses s.table sub.result) f traversed)
+      never sees (through h' f m' gives traversed borrows only) = formless f (has_first sub.formals (traverses s.table sub.result) f traversed)
+
+  -- V2: what an observer is assigned lasts as long as it does.
+  pub observed_encloses : (p : FlowPoint) → Has sub.points p → (at : Pos) (h : ℕ) (m : PlaceName) (from : Bool)
+      → Has p.acts (record { pos = at; act = act.Observe h m from }) → is_assignment p.instr ≡ true
+      → encloses program.scopes (scope_of s m.root) (scope_of s h) ≡ true
+  observed_encloses p point at h m from has assigns =
+      by_false (encloses program.scopes (scope_of s m.root) (scope_of s h))
+      (λ none. accepted.complete (text_report at rule.V2 m) (on_views sub there (shorter p at h m from (point, has) assigns none)))
+
+  -- V4: a borrower is assigned from what is rooted in it.
+  pub reborrowed_own : (p : FlowPoint) → Has sub.points p → (at : Pos) (b : ℕ) (m : PlaceName)
+      → Has p.acts (record { pos = at; act = act.Reborrow b m }) → m.root ≡ b
+  reborrowed_own p point at b m has =
+      eqb-true m.root b (by_false (m.root == b)
+      (λ none. accepted.complete (text_report (source_pos p.instr at) rule.V4 m) (on_views sub there (other_root p at b m (point, has) none))))

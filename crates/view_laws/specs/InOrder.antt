@@ -1,0 +1,70 @@
+-- What is asked of a typed program with borrowers and observers, beside that its subprograms are in
+-- order. Nothing here speaks of points, paths or facts.
+use Rattle.std.specs.Prelude.{◌≡◌, ℕ, ◌≤◌, Bool, true, false, not, ◌&&◌, ◌||◌, List, get_or, nat_lt, Option, Some, None}
+use Rattle.std.specs.List.{list_all}
+use Rattle.spark_base.specs.Lists.{Has}
+use Rattle.type_definitions.specs.Types.{Table}
+use Rattle.typed_tree.specs.Trees.{TypedTree, Name, NoMore, More, TypedCode}
+use Rattle.typed_tree.specs.Trees as typed
+use Rattle.typed_tree.specs.Programs.{TypedSub, TypedProgram}
+use Rattle.flow_paths.specs.Instructions.{Instruction, Declare, Assign}
+use Rattle.flow_paths.specs.Objects.{Typing, object_at, is_variable, is_anonymous, is_observer, is_package_object, view_of}
+use Rattle.flow_paths.specs.Names.{whole}
+use Rattle.flow_paths.specs.Laid.{typing_of}
+use Rattle.scope_laws.specs.Code.{roots}
+use Rattle.layered_scopes.specs.Layered.{is_older, is_body_layered}
+
+-- ---- what views are declared and assigned with
+
+-- An expression is a name that is rooted in an object as asked.
+abbrev pub is_name_of : (ℕ → Bool) → TypedTree → Bool
+is_name_of test (Name p y steps t) = test y
+is_name_of test e = false
+
+-- A list of one such name.
+abbrev pub is_list_end : TypedTree → Bool
+is_list_end NoMore = true
+is_list_end e = false
+
+abbrev pub is_one_name_of : (ℕ → Bool) → TypedTree → Bool
+is_one_name_of test (More e rest) = is_name_of test e && is_list_end rest
+is_one_name_of test e = false
+
+abbrev pub is_any : ℕ → Bool
+is_any y = true
+
+abbrev pub stores_name : Typing → Option ℕ → TypedTree → Bool
+stores_name s None e = true
+stores_name s (Some x) e = not (is_anonymous (view_of s x)) || is_name_of is_any e
+
+-- A view is declared with a name, and a borrower with one that is rooted in an older object; a view is
+-- assigned a name.
+abbrev pub fits : Typing → Instruction → Bool
+fits s (Declare x v) = not (is_anonymous (view_of s x)) || is_one_name_of (λ y. is_observer s x || nat_lt y x) v
+fits s (Assign target e) = stores_name s (whole target) e
+fits s i = true
+
+-- ---- the package objects
+
+abbrev pub no_views : Typing → List ℕ → Bool
+no_views s xs = list_all (λ x. not (is_anonymous (view_of s x))) xs
+
+-- No view is declared, and no initial value names one.
+unfoldable pub names_no_view : Typing → TypedCode → Bool
+names_no_view s (typed.Declare p x v) = not (is_anonymous (view_of s x)) && no_views s (roots v)
+names_no_view s (typed.More a rest) = names_no_view s a && names_no_view s rest
+names_no_view s _ = true
+
+-- ---- programs
+
+-- The subprogram of the package objects, and those with a body in the text.
+pub record AreViewsInOrder (table : Table) (program : TypedProgram) (first : TypedSub) (rest : List TypedSub) : Type 0 where
+  pub values : names_no_view (typing_of table program) first.body ≡ true
+  -- the scope around one has a smaller number, or is it
+  pub inner : (b : ℕ) → get_or program.scopes b b ≤ b
+  -- what stands around an object is older
+  pub layered : (sub : TypedSub) → Has rest sub
+      → (n : ℕ) × (is_body_layered (typing_of table program) (is_older (typing_of table program) program.scopes) (fits (typing_of table program)) n sub ≡ true)
+  -- views are variables of subprograms
+  pub local : (x : ℕ) → is_anonymous (view_of (typing_of table program) x) ≡ true
+      → (is_variable (object_at (typing_of table program) x).kind ≡ true) × (is_package_object (typing_of table program) x ≡ false)

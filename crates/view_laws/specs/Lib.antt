@@ -1,0 +1,3 @@
+-- what is asked of typed programs
+pub mod InOrder
+pub mod Program

@@ -1,0 +1,314 @@
+-- The declaration of an object that isn't a view.
+use Rattle.std.proofs.Common.{◌≡◌, refl, sym, ap, ◌∙◌, subst, ◌⊎◌, inl, inr, ℕ, suc, ◌<◌, Bool, true, false, not, ◌==◌, eqb-true, eq-eqb, List, [], ◌∷◌, ◌++◌, length, get_or, arith, append-nil, Some, if◌then◌else◌}
+use Rattle.spark_base.specs.Lists.{Has}
+use Rattle.place_names.specs.declared.act.Act.TheVariants as act
+use Rattle.place_names.specs.declared.fact.Fact.{Fact}
+use Rattle.place_names.specs.declared.fact.Fact.TheVariants.{Moved}
+use Rattle.place_names.specs.Names.{Name as PlaceName}
+use Rattle.type_definitions.specs.Types.{words, full}
+use Rattle.typed_tree.specs.Trees.{TypedTree, NoMore, More}
+use Rattle.flow_paths.specs.Objects.{Typing, object_at, is_anonymous, is_borrower, is_observer, view_of}
+use Rattle.flow_paths.specs.Names.{has_call, first}
+use Rattle.flow_paths.specs.Scopes.{taken}
+use Rattle.flow_paths.specs.Acts.{acts_in, declared_acts, source_acts, observe}
+use Rattle.machine.specs.Words.{default}
+use Rattle.machine.specs.Words as machine
+use Rattle.machine.specs.Memory.{Memory, Slot, fresh, no_slot, variable_slots, declared, given_up}
+use Rattle.machine.specs.Evaluate.{Now, AsValue, AsView, Evaluated, Done, Raises, Traps, followed_by, evaluate, initial, checked, value, viewed}
+use Rattle.machine.specs.States.{Waiting, Leak, State, Outcome}
+use Rattle.machine.specs.Step.{Turn, counted, typing, here, first_value, taken_by, goes, declare}
+use Rattle.machine.specs.Step as steps
+use Rattle.machine.specs.Owners.{waiting_in, WellOwned}
+use Rattle.owned_ways.specs.Ways.{Step, Root, OfVariable, OfHand, Loc, OfRoot, OfCell, Inside, Way, Object, Lost, Into, All, Empty, View, Reaches, Named, part, along, after, AllowsAll, number_of}
+use Rattle.owned_ways.specs.Ways as ways
+use Rattle.owned_ways.proofs.Locations.{reaches_along, named_along as rooted_along}
+use Rattle.owned_ways.proofs.Assigned.{is_false}
+use Rattle.part_offsets.specs.Parts.{offset_in, is_leaf, IsSettled}
+use Rattle.soundness.specs.Seen.{is_view_formal, content, trunk, steps_in, word_in, owner_at, seen, home}
+use Rattle.soundness.specs.Changes.{Alike}
+use Rattle.soundness.specs.Typed.{OwnsByShape, Kept}
+use Rattle.typed_laws.specs.Needed.{Source, FirstSource}
+use Rattle.soundness.specs.Sound.{IsTrap}
+use Rattle.soundness.proofs.Contents.{bool_cases, word_yes, word_no, word_root}
+use Rattle.soundness.proofs.Memories.{put_other}
+use Rattle.soundness.proofs.Moments.{declared_sound, number_part}
+use Rattle.soundness.proofs.Steps.{alike}
+use Rattle.soundness.proofs.Defaults.{none_default}
+use Rattle.soundness.proofs.Following.{Each}
+use Rattle.soundness.proofs.Fading.{FadesTo, still, then_fades, if_fades, checked_fades, fades}
+use Rattle.soundness.proofs.Lasting.{keeps, lengths, declared_kept}
+use Rattle.soundness.proofs.Numbers.{index_law}
+use Rattle.soundness.proofs.Scalars.{acts}
+use Rattle.soundness.proofs.Waits.{or_both}
+use Rattle.owned_loans.specs.Views.{Views, expand, ExcusedBy, Viewed}
+use Rattle.owned_loans.proofs.Ways.{lifts, lifted_way, root_on}
+use Rattle.owned_loans.proofs.Moves.{as_sound, all_known, view_named, view_on, named_way}
+use Rattle.viewed_soundness.specs.Holds.{IsNamed, PartsAreNamed, Holds, AllKeep}
+use Rattle.viewed_soundness.proofs.Names.{true_false}
+use Rattle.viewed_soundness.proofs.Moments.{hands_spared}
+use Rattle.viewed_soundness.proofs.Evaluated.{Given, blank_ready, checked_given, evaluated}
+use Rattle.viewed_soundness.proofs.Outcomes.{named_plain, not_views, IsGood, Leads_on, raises, start_is, unturned, goes_to}
+
+-- ---- a variable that had nothing gets a value
+
+pub same_root : (f x g y : ℕ) → OfVariable f x ≡ OfVariable g y → (f ≡ g) × (x ≡ y)
+same_root f x g y e = (cc, cc)
+
+-- What is in no variable but another one, and in no hand.
+abbrev IsOff : ℕ → ℕ → Loc → Type 0
+IsOff f x (OfRoot (OfVariable g y)) = OfVariable f x ≡ OfVariable g y → ⊥
+IsOff f x (OfRoot (OfHand h)) = ⊥
+IsOff f x (OfCell c) = Unit {0}
+IsOff f x (Inside l i) = IsOff f x l
+
+-- An object of the frame isn't the root of a way.
+abbrev pub IsElsewhere : (ℕ → ℕ) → ℕ → ℕ → Way → Type 0
+IsElsewhere home f x w = home x ≡ f → number_of w ≡ x → ⊥
+
+off_there : (home : ℕ → ℕ) (s : View) (f x : ℕ) (w : Way) (l : Loc) → Named home w → IsElsewhere home f x w → Reaches s w l → IsOff f x l
+off_there home s f x (Object (OfVariable g y)) l n off r =
+    subst (IsOff f x) (sym r) (λ e. (
+    let same = same_root f x g y e in
+    off (ap home same.1 ∙ sym n ∙ sym same.0) (sym same.1)))
+off_there home s f x (Object (OfHand h)) l n off r = absurd n
+off_there home s f x (Lost c) l n off r = absurd n
+off_there home s f x (Into w i) l n off (m, r, e) = subst (IsOff f x) (sym e) (off_there home s f x w m n off r)
+off_there home s f x (All w) l n off (m, c, r, held, e) = subst (IsOff f x) (sym e) tt
+
+reaches_off : (home : ℕ → ℕ) (s t : View) (f x : ℕ) → ((l : Loc) → IsOff f x l → t.word l ≡ s.word l) → (w : Way) (l : Loc) → Named home w
+    → IsElsewhere home f x w → Reaches s w l → Reaches t w l
+reaches_off home s t f x same (Object r) l n off reach = reach
+reaches_off home s t f x same (Lost c) l n off reach = absurd n
+reaches_off home s t f x same (Into w i) l n off (m, reach, e) = (m, reaches_off home s t f x same w m n off reach, e)
+reaches_off home s t f x same (All w) l n off (m, c, reach, held, e) =
+    (m, c, reaches_off home s t f x same w m n off reach, same m (off_there home s f x w m n off reach) ∙ held, e)
+
+word_off : (s : Typing) (m : Memory) (a b : List Waiting) (leaks : List Leak) (f x : ℕ) (ws : List machine.Word) (l : Loc) → IsOff f x l
+    → (seen s (declared f x ws m) b leaks).word l ≡ (seen s m a leaks).word l
+word_off s m a b leaks f x ws l off = by_trunk l (steps_in l) off
+  where
+    by_trunk : (l : Loc) (p : List Step) → IsOff f x l
+        → word_in s.table (content s (declared f x ws m) b (trunk l)) p ≡ word_in s.table (content s m a (trunk l)) p
+    by_trunk (OfRoot (OfVariable g y)) p off =
+        ap (λ z. word_in s.table (record { of = (object_at s y).of; slots = z; owns = (content s m a (OfRoot (OfVariable g y))).owns }) p)
+        (put_other s f x g y off (fresh ws) m.variables)
+    by_trunk (OfRoot (OfHand h)) p off = absurd off
+    by_trunk (OfCell c) p off = refl
+    by_trunk (Inside l i) p off = by_trunk l p off
+
+module _ (s : Typing) (settled : IsSettled s.table) (home : ℕ → ℕ) (observer : ℕ → Bool) (other : Way → Type 0) (v : Views) where
+  pub declared_viewed : (m : Memory) (got : Waiting) (rest : List Waiting) (leaks : List Leak) (facts : List Fact) (f x : ℕ)
+      → Viewed home observer other v (seen s m (got ∷ rest) leaks) facts → ((w : Way) → other w → ⊥) → Kept s m (got ∷ rest)
+      → ((p : List Step) → word_in s.table (content s m (got ∷ rest) (OfRoot (OfVariable f x))) p ≡ Empty)
+      → is_view_formal s x ≡ false → length got.words ≡ words s.table (object_at s x).of → Alike s.table got.of (object_at s x).of
+      → ((y : ℕ) (w : Way) → v.way y ≡ Some w → IsElsewhere home f x w)
+      → Viewed home observer other v (seen s (declared f x got.words m) rest leaks) facts
+  declared_viewed m got rest leaks facts f x viewed alone kept blank own long like free =
+      let a : View = seen s m (got ∷ rest) leaks in
+      let b : View = seen s (declared f x got.words m) rest leaks in
+      let sound = declared_sound s settled home (ExcusedBy home v other facts) m got rest leaks [] f x (as_sound home observer other v a facts viewed)
+      (hands_spared home observer other v a facts viewed alone) kept blank own long like in
+      record {
+        owned = sound.owned;
+        covered = sound.covered;
+        known = all_known home observer other v b facts sound.known;
+        clear = viewed.clear;
+        views = λ y w has. (let view = viewed.views y w has in
+            view_on home observer other v a b facts facts y w view (λ seen n loan. loan)
+            (reaches_off home a b f x (λ l off. word_off s m (got ∷ rest) rest leaks f x got.words l off) w (OfCell (v.cell y))
+            (view_named home observer other v a facts viewed.views y w has) (free y w has) view.reaches));
+      }
+
+-- the root of what a name stands for
+stands_root : (v : Views) (u : Way) → (number_of (expand v u) ≡ number_of u) ⊎ ((y : ℕ) × (k : Way) × (v.way y ≡ Some k) × (number_of (expand v u) ≡ number_of k))
+stands_root v u = elim (lifts v u) [
+  | inl e ↦ inl (ap number_of e)
+  | inr l ↦ inr (l.object, l.way, l.has, ap number_of (lifted_way v u l) ∙ root_on l.way l.rest)
+]
+
+in_home : (home : ℕ → ℕ) (f x : ℕ) (p : List Step) → Named home (along (Object (OfVariable f x)) p) → f ≡ home x
+in_home home f x [] named = named
+in_home home f x (i ∷ p) named = in_home home f x p named
+
+-- The first words of the variables of other objects stay.
+abbrev pub OthersStay : Typing → Memory → ℕ → ℕ → Memory → Type 0
+OthersStay s m f x n =
+    (g y : ℕ) → (OfVariable f x ≡ OfVariable g y → ⊥)
+    → (get_or (variable_slots s g y n.variables) 0 no_slot).word ≡ (get_or (variable_slots s g y m.variables) 0 no_slot).word
+
+-- ---- the outcome
+
+module _ (t : Turn) (settled : IsSettled (typing t).table) (own_law : OwnsByShape (typing t).table) (other : Way → Type 0)
+    (alone : (w : Way) → other w → ⊥) (no_formals : (x : ℕ) → is_view_formal (typing t) x ≡ false)
+    (v : Views) (parts_named : PartsAreNamed (typing t).table) (may : ℕ → ℕ → Type 0)
+    (frames : t.state.frames ≡ t.frame ∷ t.outer) (none : taken t.point.instr ≡ 0) where
+  abbrev s : Typing
+  s = typing t
+
+  abbrev depth : ℕ
+  depth = length t.outer
+
+  abbrev hands : List Waiting
+  hands = waiting_in t.state
+
+  abbrev m : Memory
+  m = t.state.memory
+
+  abbrev now : Now
+  now = record { memory = t.state.memory; waits = [] }
+
+  abbrev Good : List Fact → Type 0
+  Good facts = IsGood t settled own_law other alone no_formals v parts_named may frames none v facts t.state
+
+  abbrev LeadsHere : List Fact → Outcome → Type 0
+  LeadsHere facts outcome = Leads_on t settled own_law other alone no_formals v parts_named may frames none facts outcome
+
+  abbrev Given_here : ℕ → List Fact → Evaluated (List machine.Word) → Type 0
+  Given_here u facts x = Given (here t) settled t.state.leaks [] other alone (keeps s settled own_law) no_formals index_law own_law v parts_named u hands facts x
+
+  -- the object has nothing before
+  abbrev pub IsBlank : ℕ → Memory → Type 0
+  IsBlank x m = (p : List Step) → word_in s.table (content s m [] (OfRoot (OfVariable depth x))) p ≡ Empty
+
+  -- no fact says that a part of it was moved
+  abbrev pub IsUnmoved : ℕ → List Fact → Type 0
+  IsUnmoved x facts = (name : PlaceName) → Has facts (Moved name) → name.root ≡ x → ⊥
+
+  -- no view has a way from it
+  abbrev pub IsFree : ℕ → Type 0
+  IsFree x = (y : ℕ) (w : Way) → v.way y ≡ Some w → IsElsewhere (home s depth) depth x w
+
+  -- a part of it that is gone would be known as moved
+  pub not_gone : (x : ℕ) (facts : List Fact) (z : View) → Viewed (home s depth) (is_observer s) other v z facts → IsUnmoved x facts → IsFree x
+      → (p : List Step) → ExcusedBy (home s depth) v other facts (along (Object (OfVariable depth x)) p) → ⊥
+  not_gone x facts z viewed unmoved free p (inr o) = alone (along (Object (OfVariable depth x)) p) o
+  not_gone x facts z viewed unmoved free p (inl (u, moved, leads)) =
+      let root : number_of (expand v u) ≡ x = ap number_of leads ∙ number_part (Object (OfVariable depth x)) p in
+      let named : Named (home s depth) (along (Object (OfVariable depth x)) p) = subst (Named (home s depth)) leads
+      (named_way (home s depth) (is_observer s) other v z facts viewed.views (suc (number_of u)) u (omega arith)
+      (moved.0, viewed.clear.owned (ways.name_of u) moved.1)) in
+      elim (stands_root v u) [
+        | inl e ↦ unmoved (ways.name_of u) moved.1 (sym e ∙ root)
+        | inr (y, k, has, e) ↦ free y k has (sym (in_home (home s depth) depth x p named)) (sym e ∙ root)
+      ]
+
+  blank_after : (x : ℕ) (facts : List Fact) (ws : List machine.Word) (n : Now) → Given_here (object_at s x).of facts (Done ws n)
+      → FadesTo (here t) {A = List machine.Word} m (Done ws n) → IsBlank x m → IsUnmoved x facts → IsFree x → IsBlank x n.memory
+  blank_after x facts ws n (ready, long, same) faint new unmoved free p = elim (bool_cases (is_leaf s.table (object_at s x).of p)) [
+    | inr isnt ↦ word_no s.table (content s n.memory [] (OfRoot (OfVariable depth x))) p isnt
+    | inl leaf ↦ (
+        let one = faint depth x (offset_in s.table (object_at s x).of p) in
+        let own : not (is_view_formal s x) ≡ true = ap not (no_formals x) in
+        let old : Slot = get_or (variable_slots s depth x m.variables) (offset_in s.table (object_at s x).of p) no_slot in
+        let now_there : Slot = get_or (variable_slots s depth x n.memory.variables) (offset_in s.table (object_at s x).of p) no_slot in
+        let root : Root = OfVariable depth x in
+        let hands' : List Waiting = record { of = (object_at s x).of; words = ws } ∷ hands in
+        word_yes s.table (content s n.memory [] (OfRoot root)) p own leaf ∙ elim (bool_cases now_there.gone) [
+          | inl gone ↦ absurd (not_gone x facts (seen s n.memory hands' t.state.leaks) ready.viewed unmoved free p
+              (ready.viewed.known (along (Object root) p) (part (OfRoot root) p) (rooted_along (Object root) p tt)
+              (reaches_along (seen s n.memory hands' t.state.leaks) (Object root) (OfRoot root) p refl)
+              (word_root s.table (content s n.memory hands') root p ∙ word_yes s.table (content s n.memory hands' (OfRoot root)) p own leaf
+              ∙ ap (owner_at now_there.word) gone)))
+          | inr whole ↦ (
+              let was : old.gone ≡ false = is_false old.gone (λ g. (let no_more : true ≡ false = sym (one.gone g) ∙ whole in cc)) in
+              (λ j. owner_at (one.word j) (whole j)) ∙ ap (owner_at old.word) (sym was)
+              ∙ sym (word_yes s.table (content s m [] (OfRoot root)) p own leaf) ∙ new p)
+        ])
+  ]
+
+  first_fades : (u : ℕ) (e : TypedTree) → FirstSource s u e → FadesTo (here t) m (first_value t u e now)
+  unfolding initial
+  first_fades u (More e rest) gives =
+      if_fades (here t) m (is_anonymous (full s.table u)) (viewed (here t) e now) (followed_by (value (here t) e now) (checked (here t) u))
+      (fades (here t) AsView e now)
+      (then_fades (here t) m (value (here t) e now) (checked (here t) u) (fades (here t) AsValue e now) (checked_fades (here t) u))
+  first_fades u NoMore gives = still s m
+  first_fades u e gives = absurd gives
+
+  source_given : (u : ℕ) (e : TypedTree) → IsNamed s.table u → Source s u e → has_call e ≡ false → (facts : List Fact) → Good facts
+      → AllowsAll facts (acts (acts_in s e)) → AllKeep (is_observer s) (acts (acts_in s e)) → Given_here u (after (acts (acts_in s e)) facts) (taken_by t u e now)
+  source_given u e named (inl (view, is)) calls facts good allowed keep = absurd (true_false (is_anonymous (full s.table u)) view (named_plain s.table u named))
+  source_given u e named (inr gives) calls facts good allowed keep =
+      subst (λ b. Given_here u (after (acts (acts_in s e)) facts) (if b then viewed (here t) e now else followed_by (value (here t) e now) (checked (here t) u)))
+      (sym (named_plain s.table u named))
+      (checked_given (here t) settled t.state.leaks [] other alone (keeps s settled own_law) no_formals index_law own_law v parts_named u u hands
+      (after (acts (acts_in s e)) facts) (evaluate (here t) AsValue e now)
+      (evaluated (here t) settled t.state.leaks [] other alone (keeps s settled own_law) no_formals index_law own_law v parts_named e u gives calls
+      m hands facts (record { viewed = good.viewed; kept = good.kept; holds = good.holds }) allowed named keep))
+
+  first_given : (u : ℕ) (e : TypedTree) → IsNamed s.table u → FirstSource s u e → has_call e ≡ false → (facts : List Fact) → Good facts
+      → AllowsAll facts (acts (acts_in s e)) → AllKeep (is_observer s) (acts (acts_in s e)) → Given_here u (after (acts (acts_in s e)) facts) (first_value t u e now)
+  unfolding acts_in has_call initial
+  first_given u (More e rest) named (last, gives) calls facts good allowed keep =
+      let same : acts_in s e ++ acts_in s rest ≡ acts_in s e = ap (λ z. acts_in s e ++ acts_in s z) last ∙ append-nil (acts_in s e) in
+      subst (λ z. Given_here u (after (acts z) facts) (taken_by t u e now)) (sym same)
+      (source_given u e named gives (or_both (has_call e) (has_call rest) calls).0 facts good (subst (λ z. AllowsAll facts (acts z)) same allowed)
+      (subst (λ z. AllKeep (is_observer s) (acts z)) same keep))
+  first_given u NoMore named gives calls facts good allowed keep = (
+    blank_ready (here t) settled t.state.leaks [] other alone (keeps s settled own_law) no_formals index_law own_law v parts_named
+        m hands facts u (default s.table u) (none_default s.table u) (record { viewed = good.viewed; kept = good.kept; holds = good.holds }),
+    lengths s.table u,
+    refl,
+  )
+  first_given u e named gives calls facts good allowed keep = absurd gives
+
+  -- the variables of views stay
+  holds_beside : (n : Memory) (x : ℕ) (ws : List machine.Word) → IsNamed s.table (object_at s x).of → Holds s depth v n → Holds s depth v (declared depth x ws n)
+  holds_beside n x ws named holds = record {
+    held = λ y k view e. holds.held y k view
+        (sym (ap (λ z. (get_or z 0 no_slot).word) (put_other s depth x (home s depth y) y (off y view) (fresh ws) n.variables)) ∙ e);
+    only = holds.only;
+  }
+    where
+      off : (y : ℕ) → is_anonymous (view_of s y) ≡ true → OfVariable depth x ≡ OfVariable (home s depth y) y → ⊥
+      off y view e =
+          let same = same_root depth x (home s depth y) y e in
+          true_false (is_anonymous (view_of s y)) view (ap (λ z. is_anonymous (view_of s z)) (sym same.1) ∙ named_plain s.table (object_at s x).of named)
+
+  then_declared : ((n : Memory) → WellOwned s (counted (record t.state { memory = given_up t.state.memory n }))) → (x : ℕ) (facts : List Fact)
+      → IsNamed s.table (object_at s x).of → (y : Evaluated (List machine.Word)) → Given_here (object_at s x).of facts y
+      → FadesTo (here t) m y → IsBlank x m → IsUnmoved x facts → IsFree x → LeadsHere facts (steps.evaluated t y (λ ws n. goes t (declared depth x ws n) 0))
+  then_declared well x facts named (Done ws n) (ready, long, same) faint new unmoved free =
+      goes_to t settled own_law other alone no_formals v parts_named may frames none (declared depth x ws n.memory) 0 v facts
+      (unturned t settled own_law other alone no_formals v parts_named may frames none facts)
+      (declared_viewed s settled (home s depth) (is_observer s) other v n.memory (record { of = (object_at s x).of; words = ws }) hands t.state.leaks facts depth x
+      ready.viewed alone ready.kept (blank_after x facts ws n (ready, long, same) faint new unmoved free) (no_formals x) long
+      (alike s.table settled (object_at s x).of (object_at s x).of (inl refl)) free)
+      (declared_kept s settled n.memory depth x (record { of = (object_at s x).of; words = ws }) hands ready.kept long (inl refl))
+      (holds_beside n.memory x ws named ready.holds)
+  then_declared well x facts named (Raises e n) given faint new unmoved free = (λ trap. trap, well n.memory)
+  then_declared well x facts named (Traps e n) never faint new unmoved free = absurd never
+
+  -- An object is declared. It has nothing yet, and no fact after the evaluation names it.
+  pub declare_leads : (x : ℕ) (e : TypedTree) → IsNamed s.table (object_at s x).of → FirstSource s (object_at s x).of e → has_call e ≡ false → (facts : List Fact)
+      → Good facts → AllowsAll facts (acts (declared_acts s x e)) → AllKeep (is_observer s) (acts (declared_acts s x e))
+      → IsBlank x m → IsUnmoved x (after (acts (declared_acts s x e)) facts) → IsFree x
+      → LeadsHere (after (acts (declared_acts s x e)) facts) (declare t x e)
+  declare_leads x e named gives calls facts good allowed keep new unmoved free =
+      let kinds = not_views s x named in
+      let same : declared_acts s x e ≡ acts_in s e =
+      ap (λ b. if b then source_acts s (first e) (act.Borrow x) else
+      (if is_observer s x then source_acts s (first e) (observe s x) else acts_in s e)) kinds.0
+      ∙ ap (λ b. if b then source_acts s (first e) (observe s x) else acts_in s e) kinds.1 in
+      subst (λ z. LeadsHere (after (acts z) facts) (declare t x e)) (sym same)
+      (subst (λ z. LeadsHere (after (acts (acts_in s e)) facts) (steps.evaluated t (first_value t (object_at s x).of e z) (λ ws n. goes t (declared depth x ws n) 0)))
+      (sym (start_is t settled own_law other alone no_formals v parts_named may frames none))
+      (then_declared (raises t settled own_law other alone no_formals v parts_named may frames none facts good) x (after (acts (acts_in s e)) facts) named
+      (first_value t (object_at s x).of e now)
+      (first_given (object_at s x).of e named gives calls facts good (subst (λ z. AllowsAll facts (acts z)) same allowed) (subst (λ z. AllKeep (is_observer s) (acts z)) same keep))
+      (first_fades (object_at s x).of e gives) new (subst (λ z. IsUnmoved x (after (acts z) facts)) same unmoved) free))
+
+  -- ---- variables of other objects
+
+  then_stay : (x : ℕ) (y : Evaluated (List machine.Word)) → FadesTo (here t) m y
+      → Each (λ (state : State). OthersStay s m depth x state.memory) (steps.evaluated t y (λ ws n. goes t (declared depth x ws n) 0))
+  then_stay x (Done ws n) faint = λ g y off.
+      ap (λ z. (get_or z 0 no_slot).word) (put_other s depth x g y off (fresh ws) n.memory.variables) ∙ (faint g y 0).word
+  then_stay x (Raises e n) faint = tt
+  then_stay x (Traps e n) faint = tt
+
+  pub others_stay : (x : ℕ) (e : TypedTree) → FirstSource s (object_at s x).of e → Each (λ (state : State). OthersStay s m depth x state.memory) (declare t x e)
+  others_stay x e gives =
+      subst (λ z. Each (λ (state : State). OthersStay s m depth x state.memory) (steps.evaluated t (first_value t (object_at s x).of e z) (λ ws n. goes t (declared depth x ws n) 0)))
+      (sym (start_is t settled own_law other alone no_formals v parts_named may frames none))
+      (then_stay x (first_value t (object_at s x).of e now) (first_fades (object_at s x).of e gives))

@@ -1,0 +1,74 @@
+-- Some observers give up their ways.
+use Rattle.std.proofs.Common.{◌≡◌, refl, sym, ap, ◌∙◌, inl, inr, ℕ, Bool, true, false, List, Option, Some, None, if◌then◌else◌}
+use Rattle.place_names.specs.declared.fact.Fact.{Fact}
+use Rattle.owned_ways.specs.Ways.{OfVariable, OfHand, Way, Object, Lost, Into, All, View, number_of, name_of}
+use Rattle.owned_loans.specs.Views.{Views, expand_root, expand, Viewed}
+
+abbrev pub without : Views → (ℕ → Bool) → Views
+without v fades = record {
+  way = λ x. if fades x then None else v.way x;
+  loan = v.loan;
+  up = v.up;
+  cell = v.cell;
+}
+
+-- one that has a way still had it before
+pub had_way : (v : Views) (fades : ℕ → Bool) (x : ℕ) (w : Way) → (without v fades).way x ≡ Some w → (fades x ≡ false) × (v.way x ≡ Some w)
+had_way v fades x w e = by_kind (fades x) refl e
+  where
+    by_kind : (b : Bool) → fades x ≡ b → (if b then None else v.way x) ≡ Some w → (fades x ≡ false) × (v.way x ≡ Some w)
+    by_kind true f has = cc
+    by_kind false f has = (f, has)
+
+pub has_way : (v : Views) (fades : ℕ → Bool) (x : ℕ) → fades x ≡ false → (without v fades).way x ≡ v.way x
+has_way v fades x e = ap (λ b. if b then None else v.way x) e
+
+pub no_way : (v : Views) (fades : ℕ → Bool) (x : ℕ) → fades x ≡ true → (without v fades).way x ≡ None
+no_way v fades x e = ap (λ b. if b then None else v.way x) e
+
+module _ (home : ℕ → ℕ) (observer : ℕ → Bool) (other : Way → Type 0) (v : Views) (fades : ℕ → Bool)
+    (sees : (x : ℕ) → fades x ≡ true → observer x ≡ true) where
+  abbrev left : Views
+  left = without v fades
+
+  stays : (x : ℕ) → observer x ≡ false → fades x ≡ false
+  stays x plain = by_kind (fades x) refl
+    where
+      by_kind : (b : Bool) → fades x ≡ b → fades x ≡ false
+      by_kind true e = (let is = sym (sees x e) ∙ plain in cc)
+      by_kind false e = e
+
+  -- names that aren't rooted in observers stand for what they stood for
+  expand_left : (u : Way) → observer (number_of u) ≡ false → expand left u ≡ expand v u
+  expand_left (Object r) plain = refl
+  expand_left (Lost n) plain = refl
+  expand_left (Into w i) plain = ap (λ z. Into z i) (expand_left w plain)
+  expand_left (All (Object (OfVariable f x))) plain = ap (λ o. expand_root o (OfVariable f x)) (has_way v fades x (stays x plain))
+  expand_left (All (Object (OfHand h))) plain = refl
+  expand_left (All (Lost n)) plain = refl
+  expand_left (All (Into w i)) plain = ap All (expand_left (Into w i) plain)
+  expand_left (All (All w)) plain = ap All (expand_left (All w) plain)
+
+  pub faded : (s : View) (facts : List Fact) → Viewed home observer other v s facts → Viewed home observer other left s facts
+  faded s facts viewed = record {
+    owned = viewed.owned;
+    covered = viewed.covered;
+    known = λ w l rooted r gone. elim (viewed.known w l rooted r gone) [
+      | inr o ↦ inr o
+      | inl (u, moved, leads) ↦ inl (u, moved, expand_left u (viewed.clear.owned (name_of u) moved.1) ∙ leads)
+    ];
+    clear = viewed.clear;
+    views = λ x w has. (
+        let old = had_way v fades x w has in
+        let view = viewed.views x w old.1 in
+        record {
+          named = view.named;
+          leads = expand_left (v.up x) view.plain ∙ view.leads;
+          begins = view.begins;
+          deep = view.deep;
+          plain = view.plain;
+          older = view.older;
+          lent = view.lent;
+          reaches = view.reaches;
+        });
+  }

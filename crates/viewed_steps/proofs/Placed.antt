@@ -1,0 +1,168 @@
+-- Where views are, their roots last.
+use Rattle.std.proofs.Common.{◌≡◌, refl, sym, ap, ◌∙◌, subst, ◌⊎◌, inl, inr, ℕ, ◌<◌, Bool, true, false, not, ◌&&◌, ◌||◌, ◌==◌, eqb-true, List, [], ◌∷◌, ◌++◌, length, Some}
+use Rattle.std.specs.List.{AllByRecursion}
+use Rattle.std.proofs.lemmas.List.Folds.{list_any-append}
+use Rattle.spark_base.specs.Lists.{Has}
+use Rattle.place_names.specs.declared.fact.Fact.{Fact}
+use Rattle.place_names.specs.declared.fact.Fact.TheVariants.{Lent}
+use Rattle.place_names.specs.declared.rule.Loan.TheVariants.{Observed}
+use Rattle.place_names.specs.Names.{Name as PlaceName}
+use Rattle.type_definitions.specs.Types.{is_owning}
+use Rattle.flow_paths.specs.Objects.{Typing, object_at, is_anonymous, is_observer, is_package_object, has_scope_end, view_of}
+use Rattle.flow_paths.specs.Laid.{FlowProgram, flow_typing}
+use Rattle.flow_paths.specs.Scopes.{taken, Leads, Silent, is_within, is_temporary}
+use Rattle.flow_paths.specs.Views.{encloses, scope_of}
+use Rattle.machine.specs.Memory.{Memory}
+use Rattle.machine.specs.Step.{Turn, typing}
+use Rattle.owned_ways.specs.Ways.{OfRoot, Held, Way, name_of, number_of}
+use Rattle.owned_ways.specs.Ways as ways
+use Rattle.part_offsets.specs.Parts.{IsSettled}
+use Rattle.soundness.specs.Seen.{is_view_formal, content, word_in}
+use Rattle.soundness.specs.Typed.{OwnsByShape}
+use Rattle.soundness.specs.Sound.{InScope}
+use Rattle.soundness.proofs.Contents.{word_no}
+use Rattle.soundness.proofs.Lasting.{ownerless}
+use Rattle.owned_loans.specs.Views.{Views}
+use Rattle.viewed_soundness.specs.Holds.{PartsAreNamed}
+use Rattle.viewed_soundness.proofs.Names.{true_false}
+use Rattle.viewed_soundness.proofs.Outcomes.{IsSame, Comes, Turned}
+use Rattle.viewed_steps.specs.Sound.{Lasts, IsPlaced, ArePlaced}
+
+either : (a b : Bool) → a || b ≡ true → (a ≡ true) ⊎ (b ≡ true)
+either true b e = inl refl
+either false b e = inr e
+
+or_right : (a b : Bool) → b ≡ true → a || b ≡ true
+or_right true b e = refl
+or_right false b e = e
+
+-- ---- what leaves scope silently
+
+module _ (s : Typing) where
+  not_and : (a b : Bool) → not a && b ≡ true → a ≡ false
+  not_and true b e = cc
+  not_and false b e = refl
+
+  not_or : (a b : Bool) → a || b ≡ false → a ≡ false
+  not_or true b e = cc
+  not_or false b e = refl
+
+  silent_in : (x : ℕ) (gone : List ℕ) → AllByRecursion (Silent s) gone → is_within x gone ≡ true → has_scope_end s x ≡ false
+  silent_in x [] all e = cc
+  silent_in x (y ∷ gone) all e = elim (either (x == y) (is_within x gone) e) [
+    | inl same ↦ not_and (has_scope_end s x) (not (is_temporary (object_at s x).kind)) (subst (Silent s) (sym (eqb-true x y same)) all.0)
+    | inr later ↦ silent_in x gone all.1 later
+  ]
+
+  -- what has an end of its own stays
+  pub within_on : (a b : List ℕ) (x : ℕ) → Leads s a b → has_scope_end s x ≡ true → is_within x a ≡ true → is_within x b ≡ true
+  within_on a b x (gone, silent, is) end within =
+      elim (either (is_within x gone) (is_within x b) (sym (list_any-append (λ y. x == y) gone b) ∙ ap (is_within x) (sym is) ∙ within)) [
+        | inr there ↦ there
+        | inl left ↦ absurd (true_false (has_scope_end s x) end (silent_in x gone silent left))
+      ]
+
+  pub view_ends : (x : ℕ) → is_anonymous (view_of s x) ≡ true → has_scope_end s x ≡ true
+  view_ends x view = or_right (is_owning s.table (object_at s x).of) (is_anonymous (view_of s x)) view
+
+  -- so variables that own stay in scope
+  pub scope_on : OwnsByShape s.table → (m : Memory) (depth : ℕ) (a b : List ℕ) → InScope s m depth a → Leads s a b → InScope s m depth b
+  scope_on own_law m depth a b within leads f x p n held = elim (within f x p n held) [
+    | inl older ↦ inl older
+    | inr mine ↦ inr (mine.0, by_end f x p n (has_scope_end s x) refl mine.1 held)
+  ]
+    where
+      by_end : (f x : ℕ) (p : List ways.Step) (n : ℕ) (e : Bool) → has_scope_end s x ≡ e → is_within x a ≡ true
+          → word_in s.table (content s m [] (OfRoot (ways.OfVariable f x))) p ≡ Held n → is_within x b ≡ true
+      by_end f x p n true end there held = within_on a b x leads end there
+      by_end f x p n false end there held =
+          let none = word_no s.table (content s m [] (OfRoot (ways.OfVariable f x))) p
+          (ownerless s.table own_law (object_at s x).of (not_or (is_owning s.table (object_at s x).of) (is_anonymous (view_of s x)) end) p) in
+          let no_number = sym none ∙ held in cc
+
+-- ---- what lasts
+
+module _ (program : FlowProgram) where
+  abbrev s : Typing
+  s = flow_typing program
+
+  pub lasts_more : (a b : List ℕ) (r x : ℕ) → ((y : ℕ) → is_within y a ≡ true → is_within y b ≡ true) → Lasts program a r x → Lasts program b r x
+  lasts_more a b r x more (inl shared) = inl shared
+  lasts_more a b r x more (inr (within, end, around)) = inr (more r within, end, around)
+
+  pub lasts_on : (a b : List ℕ) (r x : ℕ) → Leads s a b → Lasts program a r x → Lasts program b r x
+  lasts_on a b r x leads (inl shared) = inl shared
+  lasts_on a b r x leads (inr (within, end, around)) = inr (within_on s a b r leads end within, end, around)
+
+  -- what lasts as long as something that lasts as long as an object
+  pub lasts_through : ((a b c : ℕ) → encloses program.scopes a b ≡ true → encloses program.scopes b c ≡ true → encloses program.scopes a c ≡ true)
+      → (scope : List ℕ) (r y x : ℕ) → is_package_object s y ≡ false → Lasts program scope r y → Lasts program scope y x → Lasts program scope r x
+  lasts_through transitive scope r y x local (inl shared) on = inl shared
+  lasts_through transitive scope r y x local (inr (within, end, around)) (inl shared) = absurd (true_false (is_package_object s y) shared local)
+  lasts_through transitive scope r y x local (inr (within, end, around)) (inr (there, last, beyond)) =
+      inr (within, end, transitive (scope_of s r) (scope_of s y) (scope_of s x) around beyond)
+
+  pub placed_on : (facts : List Fact) (v : Views) (a b : List ℕ) → ((x : ℕ) (w : Way) → v.way x ≡ Some w → is_anonymous (view_of s x) ≡ true) → Leads s a b
+      → ArePlaced program facts v a → ArePlaced program facts v b
+  placed_on facts v a b only leads placed x w has =
+      let old = placed x w has in
+      record {
+        within = within_on s a b x leads (view_ends s x (only x w has)) old.within;
+        up = lasts_on a b (number_of (v.up x)) x leads old.up;
+        root = lasts_on a b (number_of w) x leads old.root;
+        holder = λ sees. (let h = old.holder sees in (h.0, h.1, lasts_on a b h.0 x leads h.2));
+      }
+
+  -- An object may be the source of a view.
+  pub record MayBe (scope : List ℕ) (x y : ℕ) : Type 0 where
+    pub lasts : Lasts program scope y x
+    pub within : is_within x scope ≡ true
+    pub view : is_anonymous (view_of s x) ≡ true
+
+module _ (t : Turn) (settled : IsSettled (typing t).table) (own_law : OwnsByShape (typing t).table) (other : Way → Type 0)
+    (alone : (w : Way) → other w → ⊥) (no_formals : (x : ℕ) → is_view_formal (typing t) x ≡ false)
+    (v : Views) (parts_named : PartsAreNamed (typing t).table) (a b : List ℕ)
+    (frames : t.state.frames ≡ t.frame ∷ t.outer) (none : taken t.point.instr ≡ 0)
+    (transitive : (a b c : ℕ) → encloses t.program.scopes a b ≡ true → encloses t.program.scopes b c ≡ true → encloses t.program.scopes a c ≡ true)
+    (itself : (a : ℕ) → encloses t.program.scopes a a ≡ true)
+    (local : (x : ℕ) → is_anonymous (view_of (typing t) x) ≡ true → is_package_object (typing t) x ≡ false)
+    (only : (x : ℕ) (w : Way) → v.way x ≡ Some w → is_anonymous (view_of (typing t) x) ≡ true)
+    (more : (y : ℕ) → is_within y a ≡ true → is_within y b ≡ true) where
+  abbrev may : ℕ → ℕ → Type 0
+  may x y = MayBe t.program b x y
+
+  -- views that turned as they may are placed after the instruction
+  pub turned_placed : (views : Views) (facts facts' : List Fact) → ((h : ℕ) (n : PlaceName) → Has facts (Lent Observed h n) → Has facts' (Lent Observed h n))
+      → ArePlaced t.program facts v a → Turned t settled own_law other alone no_formals v parts_named may frames none views facts' → ArePlaced t.program facts' views b
+  turned_placed views facts facts' lent placed turned x w has = elim (turned x w has) [
+    | inl same ↦ (
+        let old = placed x w (sym same.way ∙ has) in
+        record {
+          within = more x old.within;
+          up = subst (λ z. Lasts t.program b (number_of z) x) (sym same.up) (lasts_more t.program a b (number_of (v.up x)) x more old.up);
+          root = lasts_more t.program a b (number_of w) x more old.root;
+          holder = λ sees. (let h = old.holder sees in
+              (h.0, subst (λ z. Has facts' (Lent Observed h.0 (name_of z))) (sym same.loan) (lent h.0 (name_of (v.loan x)) h.1), lasts_more t.program a b h.0 x more h.2));
+        })
+    | inr (y, from, comes) ↦ record {
+      within = from.within;
+      up = elim comes.up [
+        | inl is ↦ subst (λ z. Lasts t.program b z x) (sym is) from.lasts
+        | inr (k, has_y, is) ↦ subst (λ z. Lasts t.program b z x) (sym is) (through y k has_y from (number_of (v.up y)) (placed y k has_y).up)
+      ];
+      root = elim comes.root [
+        | inl is ↦ subst (λ z. Lasts t.program b z x) (sym is.0) from.lasts
+        | inr (k, has_y, is) ↦ subst (λ z. Lasts t.program b z x) (sym is) (through y k has_y from (number_of k) (placed y k has_y).root)
+      ];
+      holder = λ sees. elim (comes.loan sees) [
+        | inl own ↦ (x, own, inr (from.within, view_ends (typing t) x from.view, itself (scope_of (typing t) x)))
+        | inr (k, has_y, sees_y, is) ↦ (
+            let h = (placed y k has_y).holder sees_y in
+            (h.0, subst (λ z. Has facts' (Lent Observed h.0 (name_of z))) (sym is) (lent h.0 (name_of (v.loan y)) h.1), through y k has_y from h.0 h.2))
+      ];
+    }
+  ]
+    where
+      through : (y : ℕ) (k : Way) → v.way y ≡ Some k → may x y → (r : ℕ) → Lasts t.program a r y → Lasts t.program b r x
+      through y k has_y from r lasts =
+          lasts_through t.program transitive b r y x (local y (only y k has_y)) (lasts_more t.program a b r y more lasts) from.lasts

@@ -1,0 +1,317 @@
+-- Loops, output, and instructions that change nothing.
+use Rattle.std.proofs.Common.{◌≡◌, refl, sym, ap, ◌∙◌, subst, inl, inr, ℕ, ◌+◌, Bool, true, false, not, ◌&&◌, List, [], ◌∷◌, ◌++◌, flat_map, take, drop, length, get_or, int_le, append-nil, ℤ, Option, Some, None, if◌then◌else◌}
+use Rattle.place_names.specs.declared.fact.Fact.{Fact}
+use Rattle.type_definitions.specs.Types.{shape_of, words, is_scalar, full}
+use Rattle.typed_tree.specs.Trees.{TypedTree, Text, Parens, Image, Binary, NoMore, More}
+use Rattle.flow_paths.specs.Instructions.{Skip, Fall}
+use Rattle.flow_paths.specs.Objects.{Typing, object_at, is_anonymous, is_observer, view_of}
+use Rattle.flow_paths.specs.Names.{has_call}
+use Rattle.flow_paths.specs.Scopes.{taken}
+use Rattle.flow_paths.specs.Acts.{acts_in}
+use Rattle.machine.specs.Words.{fits_type}
+use Rattle.machine.specs.Words as machine
+use Rattle.machine.specs.Memory.{Memory, Slot, Place, fresh, no_slot, variable_slots, words_of, stored, declared, undeclared}
+use Rattle.machine.specs.Evaluate.{Now, AsValue, Evaluated, Done, Raises, Traps, followed_by, value, variable_place, text_of}
+use Rattle.machine.specs.Evaluate as run
+use Rattle.machine.specs.States.{Waiting, Loop, Frame, State, Outcome, Goes}
+use Rattle.machine.specs.Step.{Turn, typing, here, start, waiting, behind, led, successor}
+use Rattle.machine.specs.Step as steps
+use Rattle.machine.specs.Owners.{waiting_in}
+use Rattle.owned_ways.specs.Ways.{Step, OfVariable, Loc, OfRoot, Way, Empty, Reaches, IsRooted, after, AllowsAll}
+use Rattle.part_offsets.specs.Parts.{offset_in, IsSettled}
+use Rattle.soundness.specs.Seen.{is_view_formal, content, trunk, word_in, seen, home}
+use Rattle.soundness.specs.Typed.{OwnsByShape, Kept, Spot}
+use Rattle.typed_laws.specs.Needed.{Stays, Writes}
+use Rattle.soundness.specs.Sound.{IsTrap}
+use Rattle.soundness.proofs.Contents.{bool_cases, word_no}
+use Rattle.soundness.proofs.Memories.{put_other, removed_other}
+use Rattle.soundness.proofs.Steps.{alike, no_leaf, plain_shape}
+use Rattle.soundness.proofs.Keeping.{cell_has}
+use Rattle.soundness.proofs.Scalars.{acts, acts_append, after_append, allows_both}
+use Rattle.soundness.proofs.Stays.{Quiet, Any, One, quiet_then}
+use Rattle.soundness.proofs.Numbers.{index_law}
+use Rattle.soundness.proofs.Lasting.{keeps, stored_kept, declared_kept, removed_kept}
+use Rattle.soundness.proofs.Loops.{scalar_same, value_plain}
+use Rattle.soundness.proofs.Waits.{or_both, waits_of, led_waits}
+use Rattle.owned_loans.specs.Views.{Views, Viewed}
+use Rattle.owned_loans.proofs.Moves.{same_viewed}
+use Rattle.viewed_soundness.specs.Holds.{PartsAreNamed, Holds}
+use Rattle.viewed_soundness.proofs.Names.{true_false}
+use Rattle.viewed_soundness.proofs.Stays.{quiet}
+use Rattle.viewed_soundness.proofs.Evaluated.{scalar_given}
+use Rattle.viewed_soundness.proofs.Outcomes.{named_plain, IsGood, Leads_on, raises, start_is, hands_behind, unturned, goes_to, live, test_leads}
+use Rattle.viewed_steps.proofs.Declared.{same_root}
+use Rattle.viewed_steps.proofs.Read.{scalar_named}
+
+value_long : (ws : List machine.Word) (v : ℤ) → length (steps.parameter_words ws v) ≡ 1
+value_long [] v = refl
+value_long (machine.Enumerated n ∷ []) v = refl
+value_long (machine.Enumerated n ∷ (w ∷ ws)) v = refl
+value_long (machine.Int n ∷ ws) v = refl
+value_long (machine.Null ∷ ws) v = refl
+value_long (machine.Cell n ∷ ws) v = refl
+
+module _ (t : Turn) (settled : IsSettled (typing t).table) (own_law : OwnsByShape (typing t).table) (other : Way → Type 0)
+    (alone : (w : Way) → other w → ⊥) (no_formals : (x : ℕ) → is_view_formal (typing t) x ≡ false)
+    (v : Views) (parts_named : PartsAreNamed (typing t).table) (may : ℕ → ℕ → Type 0)
+    (frames : t.state.frames ≡ t.frame ∷ t.outer) (none : taken t.point.instr ≡ 0) where
+  abbrev s : Typing
+  s = typing t
+
+  abbrev depth : ℕ
+  depth = length t.outer
+
+  abbrev hands : List Waiting
+  hands = waiting_in t.state
+
+  abbrev m : Memory
+  m = t.state.memory
+
+  abbrev now : Now
+  now = record { memory = t.state.memory; waits = [] }
+
+  abbrev GoodState : List Fact → State → Type 0
+  GoodState facts state = IsGood t settled own_law other alone no_formals v parts_named may frames none v facts state
+
+  abbrev Good : List Fact → Type 0
+  Good facts = GoodState facts t.state
+
+  abbrev LeadsHere : List Fact → Outcome → Type 0
+  LeadsHere facts outcome = Leads_on t settled own_law other alone no_formals v parts_named may frames none facts outcome
+
+  raised_here : (facts : List Fact) → Good facts → (e : run.Exception) (m : Memory) → LeadsHere facts (steps.raised t e m)
+  raised_here facts good e m = (λ trap. trap, raises t settled own_law other alone no_formals v parts_named may frames none facts good m)
+
+  stays_here : (facts : List Fact) → Good facts → (k : ℕ) → LeadsHere facts (steps.goes t m k)
+  stays_here facts good k =
+      goes_to t settled own_law other alone no_formals v parts_named may frames none m k v facts
+      (unturned t settled own_law other alone no_formals v parts_named may frames none facts) good.viewed good.kept good.holds
+
+  started_is : start t ≡ now
+  started_is = start_is t settled own_law other alone no_formals v parts_named may frames none
+
+  alive_trunk : (facts : List Fact) → Good facts → (w : Way) (l : Loc) → IsRooted w → Reaches (seen s m hands t.state.leaks) w l → (content s m hands (trunk l)).owns ≡ true
+  alive_trunk facts good = live t settled own_law other alone no_formals v parts_named may frames none facts good
+
+  pub skip_leads : (facts : List Fact) → Good facts → LeadsHere facts (steps.turn t Skip)
+  skip_leads facts good = stays_here facts good 0
+
+  pub fall_leads : (facts : List Fact) → Good facts → LeadsHere facts (steps.turn t Fall)
+  fall_leads facts good = (λ trap. trap, raises t settled own_law other alone no_formals v parts_named may frames none facts good m)
+
+  pub leave_loop_leads : (e rest : TypedTree) → rest ≡ NoMore → Stays s e → has_call e ≡ false → (facts : List Fact) → Good facts
+      → AllowsAll facts (acts (acts_in s (More e rest))) → LeadsHere (after (acts (acts_in s (More e rest))) facts) (steps.leave_loop t (More e rest))
+  unfolding acts_in
+  leave_loop_leads e rest last stays calls facts good allowed =
+      let same : acts_in s e ++ acts_in s rest ≡ acts_in s e = ap (λ z. acts_in s e ++ acts_in s z) last ∙ append-nil (acts_in s e) in
+      subst (λ z. LeadsHere (after (acts z) facts) (steps.test t e 0 1)) (sym same)
+      (test_leads t settled own_law other alone no_formals v parts_named may frames none e stays calls facts good (subst (λ z. AllowsAll facts (acts z)) same allowed))
+
+  -- ---- output
+
+  text_quiet : (e : TypedTree) → Writes s e → has_call e ≡ false → (facts : List Fact) → Good facts → AllowsAll facts (acts (acts_in s e))
+      → Quiet now (Any {A = List ℕ}) (text_of (here t) e now) × (after (acts (acts_in s e)) facts ≡ facts)
+  unfolding Writes text_of has_call acts_in
+  text_quiet (Text b) writes calls facts good allowed = ((refl, tt), refl)
+  text_quiet (Image u e) stays calls facts good allowed =
+      let q = quiet (here t) settled hands t.state.leaks m [] other facts v good.kept good.viewed good.holds alone (alive_trunk facts good)
+      index_law own_law parts_named AsValue e stays calls allowed in
+      (quiet_then now One (Any {A = List ℕ}) (value (here t) e now) (λ ws n. Done (run.image_of s.table u ws) n) q.0 (λ ws one. (refl, tt)), q.1)
+  text_quiet (Parens e) writes calls facts good allowed = text_quiet e writes calls facts good allowed
+  text_quiet (Binary op a b) (wa, wb) calls facts good allowed =
+      let both = or_both (has_call a) (has_call b) calls in
+      let each = allows_both facts (acts (acts_in s a)) (acts (acts_in s b)) (subst (AllowsAll facts) (acts_append (acts_in s a) (acts_in s b)) allowed) in
+      let left = text_quiet a wa both.0 facts good each.0 in
+      let right = text_quiet b wb both.1 facts good (subst (λ z. AllowsAll z (acts (acts_in s b))) left.1 each.1) in (
+        quiet_then now (Any {A = List ℕ}) (Any {A = List ℕ}) (text_of (here t) a now) (λ x n. followed_by (text_of (here t) b n) (λ y n. Done (x ++ y) n)) left.0
+            (λ x any. quiet_then now (Any {A = List ℕ}) (Any {A = List ℕ}) (text_of (here t) b now) (λ y n. Done (x ++ y) n) right.0 (λ y any. (refl, tt))),
+        ap (λ z. after z facts) (acts_append (acts_in s a) (acts_in s b)) ∙ after_append (acts (acts_in s a)) (acts (acts_in s b)) facts
+            ∙ ap (after (acts (acts_in s b))) left.1 ∙ right.1,
+      )
+  text_quiet e writes calls facts good allowed = absurd writes
+
+  then_written : (facts : List Fact) → Good facts → (line : Bool) (y : Evaluated (List ℕ)) → Quiet now (Any {A = List ℕ}) y
+      → LeadsHere facts (steps.evaluated t y (λ bytes m. Goes (record (behind t (waiting t) m 0) {
+        output = t.state.output ++ bytes ++ (if line then 10 ∷ [] else []);
+      })))
+  then_written facts good line (Done a n) (same, p) =
+      let on = stays_here facts good 0 in
+      subst (λ (z : Now). LeadsHere facts (Goes (record (behind t (waiting t) z.memory 0) {
+        output = t.state.output ++ a ++ (if line then 10 ∷ [] else []);
+      }))) (sym same) (on.0, on.1, record { viewed = on.2.viewed; kept = on.2.kept; holds = record { held = on.2.holds.held; only = on.2.holds.only } })
+  then_written facts good line (Raises e n) is = raised_here facts good e n.memory
+  then_written facts good line (Traps e n) never = absurd never
+
+  pub output_leads : (e rest : TypedTree) (line : Bool) → rest ≡ NoMore → Writes s e → has_call e ≡ false → (facts : List Fact) → Good facts
+      → AllowsAll facts (acts (acts_in s (More e rest))) → LeadsHere (after (acts (acts_in s (More e rest))) facts) (steps.output t (More e rest) line)
+  unfolding acts_in
+  output_leads e rest line last writes calls facts good allowed =
+      let same : acts_in s e ++ acts_in s rest ≡ acts_in s e = ap (λ z. acts_in s e ++ acts_in s z) last ∙ append-nil (acts_in s e) in
+      let q = text_quiet e writes calls facts good (subst (λ z. AllowsAll facts (acts z)) same allowed) in
+      subst (λ z. LeadsHere z (steps.output t (More e rest) line)) (sym (ap (λ z. after (acts z) facts) same ∙ q.1))
+      (subst (λ z. LeadsHere facts (steps.evaluated t (text_of (here t) e z) (λ bytes m. Goes (record (behind t (waiting t) m 0) {
+        output = t.state.output ++ bytes ++ (if line then 10 ∷ [] else []);
+      })))) (sym started_is) (then_written facts good line (text_of (here t) e now) q.0))
+
+  -- a line that ends without a text
+  pub line_leads : (line : Bool) (facts : List Fact) → Good facts → LeadsHere facts (steps.output t NoMore line)
+  unfolding text_of
+  line_leads line facts good = then_written facts good line (Done [] (start t)) (started_is, tt)
+
+  -- ---- iterations
+
+  -- what waits doesn't go by the loops that have started
+  turn_waits : (loops : List Loop) (k : ℕ) → flat_map waits_of (led t (record t.frame { loops = loops }) (successor t k)) ≡ hands
+  turn_waits loops k = led_waits t (record t.frame { loops = loops }) (successor t k) ∙ sym (ap (flat_map waits_of) frames)
+
+  turned_there : (loops : List Loop) (n : Memory) (k : ℕ) (facts : List Fact)
+      → Viewed (home s depth) (is_observer s) other v (seen s n hands t.state.leaks) facts
+      → Kept s n hands → Holds s depth v n → LeadsHere facts (steps.with_turn t loops n k)
+  turned_there loops n k facts viewed kept holds = (
+    v,
+    unturned t settled own_law other alone no_formals v parts_named may frames none facts,
+    record {
+      viewed = subst (λ z. Viewed (home s depth) (is_observer s) other v (seen s n z t.state.leaks) facts) (sym (turn_waits loops k)) viewed;
+      kept = subst (Kept s n) (sym (turn_waits loops k)) kept;
+      holds = record { held = holds.held; only = holds.only };
+    },
+  )
+
+  -- the variables of views aren't that of a scalar object
+  apart : (f x : ℕ) → is_scalar (full s.table (object_at s x).of) ≡ true → (y : ℕ) → is_anonymous (view_of s y) ≡ true → OfVariable f x ≡ OfVariable (home s depth y) y → ⊥
+  apart f x scalar y view e =
+      let same = same_root f x (home s depth y) y e in
+      true_false (is_anonymous (view_of s y)) view
+      (ap (λ z. is_anonymous (view_of s z)) (sym same.1) ∙ named_plain s.table (object_at s x).of (scalar_named s.table (object_at s x).of scalar))
+
+  next_by : (x : ℕ) → is_scalar (full s.table (object_at s x).of) ≡ true → (facts : List Fact) → Good facts
+      → (ws : List machine.Word) (i : Option ℤ) → LeadsHere facts (steps.turned_to t x (variable_place (here t) x) ws i)
+  next_by x scalar facts good ws (Some i) =
+      let k : Place = variable_place (here t) x in
+      let u : ℕ = (object_at s x).of in
+      let f : ℕ = home s depth x in
+      let value : List machine.Word = steps.parameter_words ws i in
+      let spot : Spot s m hands k (OfRoot (OfVariable f x)) = record { base = refl; made = tt; at = refl; there = refl; of = inl refl } in
+      let long : length value ≡ words s.table u =
+      value_long ws i ∙ sym (settled.word_law u ∙ (plain_shape (shape_of s.table u) scalar).3 (words s.table)) in
+      let all : List Slot = variable_slots s f x m.variables in
+      let slots : List Slot = take 0 all ++ fresh value ++ drop (0 + length (fresh value)) all in
+      let next : Memory = stored s k value m in
+      turned_there (steps.turned x t.frame.loops) next 0 facts
+      (same_viewed (home s depth) (is_observer s) other v (seen s m hands t.state.leaks) (seen s next hands t.state.leaks) facts
+      (scalar_same s settled m hands t.state.leaks f x scalar next.variables (λ g y ne. put_other s f x g y ne slots m.variables)) good.viewed)
+      (stored_kept s settled m hands k (OfRoot (OfVariable f x)) u value good.kept spot long (inl refl)
+      (λ p d c n j has is at. absurd (value_plain ws i j (cell_has value (offset_in s.table u p) j at))))
+      (record {
+        held = λ y n view e. good.holds.held y n view
+            (sym (ap (λ z. (get_or z 0 no_slot).word) (put_other s f x (home s depth y) y (apart f x scalar y view) slots m.variables)) ∙ e);
+        only = good.holds.only;
+      })
+  next_by x scalar facts good ws None =
+      let next : Memory = undeclared depth x m in
+      turned_there (steps.without_loop x t.frame.loops) next 1 facts
+      (same_viewed (home s depth) (is_observer s) other v (seen s m hands t.state.leaks) (seen s next hands t.state.leaks) facts
+      (scalar_same s settled m hands t.state.leaks depth x scalar next.variables (λ g y ne. removed_other s depth x g y ne m.variables)) good.viewed)
+      (removed_kept s settled m depth x hands good.kept)
+      (record {
+        held = λ y n view e. good.holds.held y n view
+            (sym (ap (λ z. (get_or z 0 no_slot).word) (removed_other s depth x (home s depth y) y (apart depth x scalar y view) m.variables)) ∙ e);
+        only = good.holds.only;
+      })
+
+  -- the parameter of a loop gets its next value, or leaves scope
+  pub next_leads : (x : ℕ) (reversed : Bool) → is_scalar (full s.table (object_at s x).of) ≡ true → (facts : List Fact) → Good facts
+      → LeadsHere facts (steps.next_turn t x reversed)
+  next_leads x reversed scalar facts good =
+      let k : Place = variable_place (here t) x in
+      let ws : List machine.Word = words_of s m k in
+      next_by x scalar facts good ws (steps.next_value reversed (steps.loop_of x t.frame.loops) (steps.number ws))
+
+  -- ---- the start
+
+  -- what waits doesn't go by the loops that have started
+  loop_waits : (l : Loop) (state : State) → waiting_in (steps.with_loop l state) ≡ waiting_in state
+  loop_waits l state = by_frames state.frames
+    where
+      by_frames : (fs : List Frame) → waiting_in (steps.with_loop l (record state { frames = fs })) ≡ flat_map waits_of fs
+      by_frames [] = refl
+      by_frames (f ∷ rest) = refl
+
+  abbrev Both : steps.Bounds → Type 0
+  Both b = One b.low × One b.high
+
+  -- what a start does with its bounds: it raises, or the parameter is declared
+  pub record Starts (x : ℕ) (f : steps.Bounds → Memory → Outcome) : Type 0 where
+    pub fails : steps.Bounds → Bool
+    pub loop : steps.Bounds → Loop
+    pub at_fault : (b : steps.Bounds) (m : Memory) → fails b ≡ true → f b m ≡ steps.raised t run.ConstraintError m
+    pub at_turn : (b : steps.Bounds) (m : Memory) → fails b ≡ false
+        → f b m ≡ Goes (steps.with_loop (loop b) (behind t (waiting t) (declared depth x b.low m) 0))
+
+  module _ (x : ℕ) (f : steps.Bounds → Memory → Outcome) (starts : Starts x f) (scalar : is_scalar (full s.table (object_at s x).of) ≡ true)
+      (facts : List Fact) (good : Good facts) where
+    begun_there : (b : steps.Bounds) → Both b
+        → LeadsHere facts (Goes (steps.with_loop (starts.loop b) (behind t (waiting t) (declared depth x b.low m) 0)))
+    begun_there b both =
+        let u : ℕ = (object_at s x).of in
+        let value_of : Waiting = record { of = u; words = b.low } in
+        let given = scalar_given (here t) settled t.state.leaks [] other alone (keeps s settled own_law) no_formals index_law own_law v parts_named
+        m hands facts facts u (record { viewed = good.viewed; kept = good.kept; holds = good.holds }) refl scalar (Done b.low now) (refl, both.0) in
+        let next : Memory = declared depth x b.low m in
+        let waits = loop_waits (starts.loop b) (behind t (waiting t) next 0) ∙ hands_behind t settled own_law other alone no_formals v parts_named may frames none next 0 in
+        (
+          v,
+          unturned t settled own_law other alone no_formals v parts_named may frames none facts,
+          record {
+            viewed = subst (λ z. Viewed (home s depth) (is_observer s) other v (seen s next z t.state.leaks) facts) (sym waits)
+                (same_viewed (home s depth) (is_observer s) other v (seen s m hands t.state.leaks) (seen s next hands t.state.leaks) facts
+                (scalar_same s settled m hands t.state.leaks depth x scalar next.variables (λ g y ne. put_other s depth x g y ne (fresh b.low) m.variables)) good.viewed);
+            kept = subst (Kept s next) (sym waits) (declared_kept s settled m depth x value_of hands given.0.kept given.1 (inl refl));
+            holds = record {
+              held = λ y n view e. good.holds.held y n view
+                  (sym (ap (λ z. (get_or z 0 no_slot).word) (put_other s depth x (home s depth y) y (apart depth x scalar y view) (fresh b.low) m.variables)) ∙ e);
+              only = good.holds.only;
+            };
+          },
+        )
+
+    then_started : (y : Evaluated steps.Bounds) → Quiet now Both y → LeadsHere facts (steps.evaluated t y f)
+    then_started (Done b n) (same, both) =
+        subst (λ (z : Now). LeadsHere facts (f b z.memory)) (sym same) (elim (bool_cases (starts.fails b)) [
+          | inl e ↦ subst (LeadsHere facts) (sym (starts.at_fault b m e)) (raised_here facts good run.ConstraintError m)
+          | inr e ↦ subst (LeadsHere facts) (sym (starts.at_turn b m e)) (begun_there b both)
+        ])
+    then_started (Raises e n) is = raised_here facts good e n.memory
+    then_started (Traps e n) never = absurd never
+
+  started_by : (x : ℕ) (f : steps.Bounds → Memory → Outcome) (low high : TypedTree) → Starts x f → is_scalar (full s.table (object_at s x).of) ≡ true
+      → Stays s low → Stays s high → has_call low ≡ false → has_call high ≡ false → (facts : List Fact) → Good facts
+      → AllowsAll facts (acts (acts_in s low ++ acts_in s high))
+      → LeadsHere (after (acts (acts_in s low ++ acts_in s high)) facts) (steps.evaluated t (steps.bounds t low high (start t)) f)
+  started_by x f low high starts scalar stays stays' calls calls' facts good allowed =
+      let each = allows_both facts (acts (acts_in s low)) (acts (acts_in s high)) (subst (AllowsAll facts) (acts_append (acts_in s low) (acts_in s high)) allowed) in
+      let first_bound = quiet (here t) settled hands t.state.leaks m [] other facts v good.kept good.viewed good.holds alone (alive_trunk facts good) index_law own_law parts_named AsValue low stays calls each.0 in
+      let second_bound = quiet (here t) settled hands t.state.leaks m [] other facts v good.kept good.viewed good.holds alone (alive_trunk facts good) index_law own_law parts_named AsValue high stays' calls'
+      (subst (λ z. AllowsAll z (acts (acts_in s high))) first_bound.1 each.1) in
+      let all : after (acts (acts_in s low ++ acts_in s high)) facts ≡ facts =
+      ap (λ z. after z facts) (acts_append (acts_in s low) (acts_in s high)) ∙ after_append (acts (acts_in s low)) (acts (acts_in s high)) facts
+      ∙ ap (after (acts (acts_in s high))) first_bound.1 ∙ second_bound.1 in
+      let q : Quiet now Both (steps.bounds t low high now) =
+      quiet_then now One Both (value (here t) low now) (λ a n. followed_by (value (here t) high n) (λ b n. Done (record { low = a; high = b }) n)) first_bound.0
+      (λ a one. quiet_then now One Both (value (here t) high now) (λ b n. Done (record { low = a; high = b }) n) second_bound.0 (λ b other_one. (refl, (one, other_one)))) in
+      subst (λ z. LeadsHere z (steps.evaluated t (steps.bounds t low high (start t)) f)) (sym all)
+      (subst (λ z. LeadsHere facts (steps.evaluated t (steps.bounds t low high z) f)) (sym started_is)
+      (then_started x f starts scalar facts good (steps.bounds t low high now) q))
+
+  pub start_leads : (x : ℕ) (low high : TypedTree) → is_scalar (full s.table (object_at s x).of) ≡ true
+      → Stays s low → Stays s high → has_call low ≡ false → has_call high ≡ false → (facts : List Fact) → Good facts
+      → AllowsAll facts (acts (acts_in s low ++ acts_in s high))
+      → LeadsHere (after (acts (acts_in s low ++ acts_in s high)) facts) (steps.start_loop t x low high)
+  start_leads x low high scalar stays stays' calls calls' facts good allowed =
+      started_by x _ low high (record {
+        fails = λ b. int_le (steps.number b.low) (steps.number b.high)
+            && not (fits_type s.table (object_at s x).of b.low && fits_type s.table (object_at s x).of b.high);
+        loop = λ b. record { parameter = x; low = steps.number b.low; high = steps.number b.high; first = true };
+        at_fault = λ b m e. rw e refl;
+        at_turn = λ b m e. rw e refl;
+      }) scalar stays stays' calls calls' facts good allowed

@@ -1,0 +1,174 @@
+-- Declarations of borrowers and observers and assignments to them, by what typing says of their
+-- sources.
+use Rattle.std.proofs.Common.{◌≡◌, refl, sym, ap, ◌∙◌, subst, ◌⊎◌, inl, inr, ℕ, ◌<◌, Bool, true, false, not, ◌&&◌, ◌||◌, List, [], ◌∷◌, length, Some}
+use Rattle.spark_base.specs.declared.position.Pos.{Pos}
+use Rattle.place_names.specs.declared.fact.Fact.{Fact}
+use Rattle.type_definitions.specs.declared.table.Shape.{Shape}
+use Rattle.type_definitions.specs.declared.table.Shape.TheVariants as shape
+use Rattle.type_definitions.specs.Types.{Table, shape_of, full, is_scalar, view_of as view_of_shape}
+use Rattle.typed_tree.specs.Trees.{TypedTree, Name, Component, Designated, Element, NoMore, More}
+use Rattle.flow_paths.specs.Objects.{Typing, object_at, is_variable, is_anonymous, is_borrowing, is_observing, is_borrower, is_observer, view_of}
+use Rattle.flow_paths.specs.Names.{has_call}
+use Rattle.flow_paths.specs.Scopes.{taken}
+use Rattle.flow_paths.specs.Acts.{declared_acts, assigned_to}
+use Rattle.machine.specs.Words as machine
+use Rattle.machine.specs.States.{Outcome}
+use Rattle.machine.specs.Step.{Turn, typing, declare, assign}
+use Rattle.owned_ways.specs.Ways.{Way, after, AllowsAll}
+use Rattle.part_offsets.specs.Parts.{IsSettled}
+use Rattle.soundness.specs.Seen.{is_view_formal, home}
+use Rattle.soundness.specs.Typed.{OwnsByShape}
+use Rattle.typed_laws.specs.Needed.{Leads, Gives, Source}
+use Rattle.soundness.proofs.Scalars.{acts}
+use Rattle.owned_loans.specs.Views.{Views, Unused}
+use Rattle.viewed_soundness.specs.Holds.{IsNamed, PartsAreNamed}
+use Rattle.viewed_soundness.proofs.Outcomes.{IsGood, Leads_on, Observes, borrower_leads, observer_leads, observer_again_leads, assign_borrower_leads, assign_observer_leads}
+use Rattle.viewed_steps.proofs.Ended.{view_kinds}
+
+-- ---- types of views
+
+pub view_shape : (sh : Shape) → is_anonymous (view_of_shape sh) ≡ true → (k : ℕ) × (e : Bool) × (o : Bool) × (sh ≡ shape.Access k e o)
+view_shape (shape.Access k e o) view = (k, e, o, refl)
+view_shape (shape.Whole a b) view = cc
+view_shape (shape.Listed l a b) view = cc
+view_shape (shape.Fields cs) view = cc
+view_shape (shape.Elements a b el) view = cc
+view_shape (shape.Same of) view = cc
+
+view_scalar : (sh : Shape) → is_anonymous (view_of_shape sh) ≡ true → is_scalar (view_of_shape sh) ≡ true → ⊥
+view_scalar sh view scalar = by_shape (view_shape sh view)
+  where
+    by_shape : ((k : ℕ) × (e : Bool) × (o : Bool) × (sh ≡ shape.Access k e o)) → ⊥
+    by_shape (k, e, o, is) = (let no : false ≡ true = sym (ap (λ z. is_scalar (view_of_shape z)) is) ∙ scalar in cc)
+
+exclusive : (sh : Shape) → is_observing (view_of_shape sh) ≡ true → is_borrowing (view_of_shape sh) ≡ false
+exclusive (shape.Access k true o) sees = constant o
+  where
+    constant : (o : Bool) → not o && false ≡ false
+    constant true = refl
+    constant false = refl
+exclusive (shape.Access k false true) sees = refl
+exclusive (shape.Access k false false) sees = cc
+exclusive (shape.Whole a b) sees = cc
+exclusive (shape.Listed l a b) sees = cc
+exclusive (shape.Fields cs) sees = cc
+exclusive (shape.Elements a b el) sees = cc
+exclusive (shape.Same of) sees = cc
+
+right_part : (a b : Bool) → a && b ≡ true → b ≡ true
+right_part true b e = e
+right_part false b e = cc
+
+no_and : (a b : Bool) → b ≡ false → a && b ≡ false
+no_and true b e = e
+no_and false b e = refl
+
+observer_only : (s : Typing) (x : ℕ) → is_observer s x ≡ true → is_borrower s x ≡ false
+observer_only s x sees =
+    no_and (is_variable (object_at s x).kind) (is_borrowing (view_of s x))
+    (exclusive (shape_of s.table (object_at s x).of) (right_part (is_variable (object_at s x).kind) (is_observing (view_of s x)) sees))
+
+-- names lead from named types to named ones
+pub leads_named : (s : Typing) → PartsAreNamed s.table → (path : TypedTree) (t u : ℕ) → IsNamed s.table t → Leads s t path u → IsNamed s.table u
+unfolding Leads
+leads_named s parts (Component i rest) t u named (less, lead) = leads_named s parts rest _ u (parts.component t i) lead
+leads_named s parts (Element index low high rest) t u named (e, is, stays, lead) =
+    leads_named s parts rest e u (subst (IsNamed s.table) (ap machine.element_of is) (parts.element t)) lead
+leads_named s parts (Designated rest) t u named (d, c, n, is, lead) = leads_named s parts rest d u (parts.designated t d c n is) lead
+leads_named s parts NoMore t u named lead = subst (IsNamed s.table) lead named
+leads_named s parts path t u named lead = absurd lead
+
+-- a name of the type of a view names a view as a whole
+pub leads_or : (s : Typing) → PartsAreNamed s.table → (path : TypedTree) (t u : ℕ) → Leads s t path u → ((path ≡ NoMore) × (t ≡ u)) ⊎ IsNamed s.table u
+unfolding Leads
+leads_or s parts NoMore t u lead = inl (refl, lead)
+leads_or s parts (Component i rest) t u (less, lead) = inr (leads_named s parts rest _ u (parts.component t i) lead)
+leads_or s parts (Element index low high rest) t u (e, is, stays, lead) =
+    inr (leads_named s parts rest e u (subst (IsNamed s.table) (ap machine.element_of is) (parts.element t)) lead)
+leads_or s parts (Designated rest) t u (d, c, n, is, lead) = inr (leads_named s parts rest d u (parts.designated t d c n is) lead)
+leads_or s parts path t u lead = absurd lead
+
+module _ (t : Turn) (settled : IsSettled (typing t).table) (own_law : OwnsByShape (typing t).table) (other : Way → Type 0)
+    (alone : (w : Way) → other w → ⊥) (no_formals : (x : ℕ) → is_view_formal (typing t) x ≡ false)
+    (v : Views) (parts_named : PartsAreNamed (typing t).table) (may : ℕ → ℕ → Type 0)
+    (frames : t.state.frames ≡ t.frame ∷ t.outer) (none : taken t.point.instr ≡ 0) where
+  abbrev s : Typing
+  s = typing t
+
+  abbrev depth : ℕ
+  depth = length t.outer
+
+  abbrev Good : List Fact → Type 0
+  Good facts = IsGood t settled own_law other alone no_formals v parts_named may frames none v facts t.state
+
+  abbrev LeadsHere : List Fact → Outcome → Type 0
+  LeadsHere facts outcome = Leads_on t settled own_law other alone no_formals v parts_named may frames none facts outcome
+
+  abbrev Observes_here : ℕ → ℕ → ℕ → ℕ → TypedTree → Type 0
+  Observes_here x y u d path = Observes t settled own_law other alone no_formals v parts_named may frames none x y u d path
+
+  observes : (q : Pos) (x y u : ℕ) (path : TypedTree) → is_anonymous (view_of s x) ≡ true → home s depth x ≡ depth
+      → Source s (object_at s x).of (Name q y path u) → (d : ℕ) × Observes_here x y u d path
+  unfolding Gives
+  observes q x y u path view mine (inl (is_view, (d, k, c, n, e, o, lead, source, want, fits))) = (
+    d,
+    record { k = k; c = c; n = n; e = e; o = o; lead = lead; source = source; view = want; fits = fits; anonymous = view; mine = mine },
+  )
+  observes q x y u path view mine (inr (lead, inl same)) =
+      let sh = view_shape (shape_of s.table (object_at s x).of) view in (
+        sh.0,
+        record { k = sh.0; c = sh.1; n = sh.2; e = sh.1; o = sh.2; lead = lead; source = same ∙ sh.3; view = sh.3; fits = inl refl; anonymous = view; mine = mine },
+      )
+  observes q x y u path view mine (inr (lead, inr scalar)) = absurd (view_scalar (shape_of s.table (object_at s x).of) view scalar.1)
+
+  -- a view is declared
+  pub view_declared : (q : Pos) (x y u : ℕ) (path : TypedTree) → is_anonymous (view_of s x) ≡ true → is_variable (object_at s x).kind ≡ true
+      → home s depth x ≡ depth → Source s (object_at s x).of (Name q y path u) → has_call path ≡ false
+      → (is_observer s x ≡ false → (is_observer s y ≡ false) × (y < x)) → may x y → (facts : List Fact) → Good facts → Unused v facts x
+      → AllowsAll facts (acts (declared_acts s x (More (Name q y path u) NoMore)))
+      → LeadsHere (after (acts (declared_acts s x (More (Name q y path u) NoMore))) facts) (declare t x (More (Name q y path u) NoMore))
+  view_declared q x y u path view variable mine source calls older from facts good unused allowed =
+      let from_it = observes q x y u path view mine source in
+      by_kind from_it.0 from_it.1 (is_observer s x) refl (is_observer s y) refl
+    where
+      by_kind : (d : ℕ) → Observes_here x y u d path → (b : Bool) → is_observer s x ≡ b → (c : Bool) → is_observer s y ≡ c
+          → LeadsHere (after (acts (declared_acts s x (More (Name q y path u) NoMore))) facts) (declare t x (More (Name q y path u) NoMore))
+      by_kind d found true e true f =
+          observer_again_leads t settled own_law other alone no_formals v parts_named may frames none x y u d q path NoMore found (observer_only s x e) e f from calls facts good allowed
+      by_kind d found true e false f =
+          observer_leads t settled own_law other alone no_formals v parts_named may frames none x y u d q path NoMore found (observer_only s x e) e f from calls facts good allowed
+      by_kind d found false e c f =
+          borrower_leads t settled own_law other alone no_formals v parts_named may frames none x y u d q path NoMore found
+          (view_kinds (is_variable (object_at s x).kind) (is_borrowing (view_of s x)) (is_observing (view_of s x)) view variable e) e
+          (older e).0 (older e).1 from calls facts good unused allowed
+
+  -- a view is assigned
+  pub view_assigned : (pos r q : Pos) (x y u : ℕ) (path : TypedTree) → is_anonymous (view_of s x) ≡ true → is_variable (object_at s x).kind ≡ true
+      → home s depth x ≡ depth → Source s (object_at s x).of (Name q y path u) → has_call path ≡ false
+      → (is_observer s x ≡ false → y ≡ x) → may x y → (facts : List Fact) → Good facts
+      → AllowsAll facts (acts (assigned_to s pos (Some x) (Name r x NoMore (object_at s x).of) (Name q y path u)))
+      → LeadsHere (after (acts (assigned_to s pos (Some x) (Name r x NoMore (object_at s x).of) (Name q y path u))) facts)
+      (assign t (Name r x NoMore (object_at s x).of) (Name q y path u))
+  view_assigned pos r q x y u path view variable mine source calls itself from facts good allowed =
+      let from_it = observes q x y u path view mine source in
+      by_kind from_it.0 from_it.1 (is_observer s x) refl
+    where
+      by_kind : (d : ℕ) → Observes_here x y u d path → (b : Bool) → is_observer s x ≡ b
+          → LeadsHere (after (acts (assigned_to s pos (Some x) (Name r x NoMore (object_at s x).of) (Name q y path u))) facts)
+          (assign t (Name r x NoMore (object_at s x).of) (Name q y path u))
+      by_kind d found true e =
+          assign_observer_leads t settled own_law other alone no_formals v parts_named may frames none pos r q x y u d path found (observer_only s x e) e from calls facts good allowed
+      by_kind d found false e = at_itself y (itself e) found from allowed
+        where
+          at_itself : (y : ℕ) → y ≡ x → Observes_here x y u d path → may x y
+              → AllowsAll facts (acts (assigned_to s pos (Some x) (Name r x NoMore (object_at s x).of) (Name q y path u)))
+              → LeadsHere (after (acts (assigned_to s pos (Some x) (Name r x NoMore (object_at s x).of) (Name q y path u))) facts)
+              (assign t (Name r x NoMore (object_at s x).of) (Name q y path u))
+          at_itself y same found from allowed =
+              subst (λ z. LeadsHere (after (acts (assigned_to s pos (Some x) (Name r x NoMore (object_at s x).of) (Name q z path u))) facts)
+              (assign t (Name r x NoMore (object_at s x).of) (Name q z path u))) (sym same)
+              (assign_borrower_leads t settled own_law other alone no_formals v parts_named may frames none pos r q x u d path
+              (subst (λ z. Observes_here x z u d path) same found)
+              (view_kinds (is_variable (object_at s x).kind) (is_borrowing (view_of s x)) (is_observing (view_of s x)) view variable e) e
+              (subst (may x) same from) calls facts good
+              (subst (λ z. AllowsAll facts (acts (assigned_to s pos (Some x) (Name r x NoMore (object_at s x).of) (Name q z path u)))) same allowed))

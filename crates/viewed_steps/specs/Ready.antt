@@ -1,0 +1,88 @@
+-- What is asked of an accepted program with borrowers and observers so that its runs are sound: what
+-- typing, the layout and the rules see to. Nothing here speaks of a run.
+use Rattle.std.specs.Prelude.{◌≡◌, ◌⊎◌, ◌<◌, ℕ, true, false, List, [], ◌∷◌, map, Some}
+use Rattle.spark_base.specs.Lists.{Has}
+use Rattle.spark_base.specs.declared.position.Pos.{Pos}
+use Rattle.place_names.specs.declared.act.Placed.{Placed}
+use Rattle.type_definitions.specs.Types.{Table}
+use Rattle.typed_tree.specs.Trees.{TypedTree, Name, NoMore, More}
+use Rattle.typed_tree.specs.Programs.{TypedProgram}
+use Rattle.flow_paths.specs.declared.report.Effects.{Effects}
+use Rattle.flow_paths.specs.Instructions.{Declare, Assign, Input, EndScope}
+use Rattle.flow_paths.specs.Objects.{object_at, is_variable, is_anonymous, is_observer, is_package_object, view_of}
+use Rattle.flow_paths.specs.Points.{NamedPoint, FlowPoint}
+use Rattle.flow_paths.specs.Laid.{FlowSub, FlowProgram, NamedSub, number_in, flow_typing, flow_program, flow_named}
+use Rattle.flow_paths.specs.Scopes.{is_within}
+use Rattle.flow_paths.specs.Views.{encloses, scope_of}
+use Rattle.machine.specs.States.{sub_of}
+use Rattle.soundness.specs.Typed.{OwnsByShape}
+use Rattle.soundness.specs.Sound.{Accepted, IsNamedSub, IsAtPoint, IsProcedure}
+use Rattle.soundness.specs.Ready.{AreScoped, AreNew, AreElaborated}
+use Rattle.viewed_soundness.specs.Holds.{AllKeep}
+use Rattle.viewed_steps.specs.Sound.{IsViewClass, Lasts}
+
+-- ---- borrowers and observers in order
+
+-- A view is declared from a name that lasts, and a borrower from an older one that isn't rooted in
+-- an observer.
+abbrev pub IsSource : FlowProgram → List ℕ → ℕ → TypedTree → Type 0
+IsSource program scope x e =
+    (q : Pos) × (y : ℕ) × (path : TypedTree) × (u : ℕ) × (e ≡ More (Name q y path u) NoMore)
+    × Lasts program scope y x
+    × (is_observer (flow_typing program) x ≡ false → (is_observer (flow_typing program) y ≡ false) × (y < x))
+
+-- An observer is assigned from a name that lasts, and a borrower from one that is rooted in it.
+abbrev pub IsNewSource : FlowProgram → List ℕ → ℕ → TypedTree → Type 0
+IsNewSource program scope x e =
+    (q : Pos) × (y : ℕ) × (path : TypedTree) × (u : ℕ) × (e ≡ Name q y path u)
+    × (is_observer (flow_typing program) x ≡ true → Lasts program scope y x)
+    × (is_observer (flow_typing program) x ≡ false → y ≡ x)
+
+-- Views at a point with its successors.
+pub record AreOrderly (program : FlowProgram) (p : NamedPoint) (next : NamedPoint → Type 0) : Type 0 where
+  pub declared : (x : ℕ) (e : TypedTree) → p.instr ≡ Declare x e → is_anonymous (view_of (flow_typing program) x) ≡ true → IsSource program p.scope x e
+  pub assigned : (q : Pos) (x w : ℕ) (e : TypedTree) → p.instr ≡ Assign (Name q x NoMore w) e → is_anonymous (view_of (flow_typing program) x) ≡ true
+      → IsNewSource program p.scope x e
+  pub read : (q : Pos) (x w : ℕ) (path : TypedTree) → p.instr ≡ Input (Name q x path w) → is_observer (flow_typing program) x ≡ false
+  -- where a scope ends: objects of greater numbers have ended before; and of the objects in scope,
+  -- what its scope encloses is of the same region, and ends at the points that follow
+  pub ended : (y x : ℕ) → p.instr ≡ EndScope y → is_within x p.scope ≡ true → (x ≡ y → ⊥)
+      → (x < y) × (encloses program.scopes (scope_of (flow_typing program) y) (scope_of (flow_typing program) x) ≡ true
+      → scope_of (flow_typing program) x ≡ scope_of (flow_typing program) y)
+  pub followed : (y x : ℕ) → p.instr ≡ EndScope y → (q : NamedPoint) → next q → is_within x q.scope ≡ true → is_observer (flow_typing program) x ≡ true
+      → scope_of (flow_typing program) x ≡ scope_of (flow_typing program) y
+      → (z : ℕ) × (q.instr ≡ EndScope z) × (scope_of (flow_typing program) x ≡ scope_of (flow_typing program) z)
+
+-- What holds of a program.
+pub record ViewsAreOrderly (table : Table) (typed : TypedProgram) : Type 0 where
+  pub local : (x : ℕ) → is_anonymous (view_of (flow_typing (flow_program table typed)) x) ≡ true
+      → (is_variable (object_at (flow_typing (flow_program table typed)) x).kind ≡ true)
+      × (is_package_object (flow_typing (flow_program table typed)) x ≡ false)
+  -- no package object is one
+  pub packages : (p : FlowPoint) → Has (sub_of (flow_program table typed) 0).points p → (x : ℕ) (e : TypedTree) → p.instr ≡ Declare x e
+      → is_anonymous (view_of (flow_typing (flow_program table typed)) x) ≡ false
+  pub transitive : (a b c : ℕ) → encloses (flow_program table typed).scopes a b ≡ true → encloses (flow_program table typed).scopes b c ≡ true
+      → encloses (flow_program table typed).scopes a c ≡ true
+  pub itself : (a : ℕ) → encloses (flow_program table typed).scopes a a ≡ true
+  pub points : (sub : NamedSub) → Has (flow_named table typed) sub → (p : NamedPoint) → Has sub.points p
+      → AreOrderly (flow_program table typed) p (λ q. (n : ℕ) × Has (map (number_in sub.points) p.next) n × IsAtPoint sub.points n q)
+  -- nothing is moved, written or freed through an observer
+  pub kept : (sub : FlowSub) → Has (flow_program table typed).subs sub → (p : FlowPoint) → Has sub.points p
+      → AllKeep (is_observer (flow_typing (flow_program table typed))) (map (λ (a : Placed). a.act) p.acts)
+
+-- ---- all of it
+
+-- An accepted program of the class, of which this holds.
+pub record IsReady (table : Table) (typed : TypedProgram) (effects : Effects) : Type 0 where
+  pub accepted : Accepted table typed effects
+  pub owns : OwnsByShape (flow_program table typed).table
+  pub class : IsViewClass (flow_program table typed)
+  pub scoped : AreScoped table typed
+  pub new : AreNew (flow_program table typed) effects
+  pub elaborated : AreElaborated (flow_program table typed)
+  pub orderly : ViewsAreOrderly table typed
+  pub packages : NamedSub
+  pub stands : IsNamedSub (flow_named table typed) 0 packages
+  pub main : ℕ
+  pub is_main : (flow_program table typed).main ≡ Some main
+  pub main_there : IsProcedure table typed main
