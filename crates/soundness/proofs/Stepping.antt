@@ -933,8 +933,8 @@ module _ (table : Table) (typed : TypedProgram) (effects : Effects) (input : Lis
       ways_are = passed_to program ready.owns n no_callee_result scalar_formals
 
       copied_there : AreCopied s formals actuals
-      copied_there = ready.class.copied (flow_sub own named) (in_program state top older outer named p frames of_sub at_point) main_turn.point in_main n actuals None e
-      called.formals
+      copied_there =
+          ready.class.copied (flow_sub own named) (in_program state top older outer named p frames of_sub at_point) main_turn.point in_main n actuals None e called.formals
 
       -- the acts: actuals are read, or their indexes are; then come those of what is copied back, and
       -- those on package objects
