@@ -1,6 +1,6 @@
 -- Calls of procedures with formals of scalar types, and their ends, lead to the same in memories that
 -- agree.
-use Rattle.std.proofs.Common.{◌≡◌, refl, sym, subst, ℕ, suc, Bool, true, false, List, [], ◌∷◌, ◌++◌, map, length, nat_le}
+use Rattle.std.proofs.Common.{◌≡◌, refl, sym, inl, inr, subst, ℕ, suc, Bool, true, false, List, [], ◌∷◌, ◌++◌, map, length, nat_le, if◌then◌else◌}
 use Rattle.spark_base.specs.Lists.{Has}
 use Rattle.spark_base.specs.declared.position.Pos.{Pos}
 use Rattle.place_names.specs.declared.fact.Fact.{Fact}
@@ -10,9 +10,11 @@ use Rattle.typed_tree.specs.Trees.{TypedTree, More}
 use Rattle.flow_paths.specs.Objects.{Typing, object_at, sub_at, Passing, passings}
 use Rattle.flow_paths.specs.Names.{has_call, written}
 use Rattle.flow_paths.specs.Acts.{actual_values}
+use Rattle.machine.specs.Words.{fits_type}
+use Rattle.machine.specs.Words as machine
 use Rattle.machine.specs.Memory.{Memory, Place, slots_of, words_of, stored, moved_out, declared, without_frame}
 use Rattle.machine.specs.Evaluate.{Here, Now, Evaluated, Done, Raises, Traps, followed_by, checked, variable_place, ConstraintError, StorageError}
-use Rattle.machine.specs.Calls.{Passed, Value, From, To, checks_at, written_pos, all_passed, out_checks, with_formal, with_formals, returns_of}
+use Rattle.machine.specs.Calls.{Passed, Value, From, To, written_pos, all_passed, out_checks, with_formal, with_formals, returns_of}
 use Rattle.machine.specs.States.{Waiting, Return, Frame, Leak, State, Normal, Outcome, Goes, Ends, sub_of, frame_words, stack_words, frame_at_start}
 use Rattle.machine.specs.Step.{Turn, typing, here, start, waiting, counted, behind, raised, call, copied_back, finish}
 use Rattle.machine.specs.Step as steps

@@ -131,7 +131,7 @@ scalar_owns (shape.Same of) f e = cc
 
 -- ---- names that go through no access value
 
-has_deref : List Sel → Bool
+abbrev has_deref : List Sel → Bool
 has_deref [] = false
 has_deref (sel.Deref ∷ rest) = true
 has_deref (sel.Field i ∷ rest) = has_deref rest

@@ -26,8 +26,7 @@ use Rattle.flow_paths.specs.Paths.{PathPoint, path_point, ControlPath, acts_at, 
 use Rattle.flow_paths.specs.Effects.{act_writes, act_reads, flow_sub_at, path_points, called_acts}
 use Rattle.machine.specs.Memory.{Memory}
 use Rattle.machine.specs.States.{Frame, State, sub_of}
-use Rattle.machine.specs.Step.{Turn, turn, finish}
-use Rattle.machine.specs.Step as steps
+use Rattle.machine.specs.Step.{Turn, turn}
 use Rattle.machine.specs.Owners.{is_in, is_in_formal, waiting_in}
 use Rattle.machine.specs.Run.{step}
 use Rattle.owned_ways.specs.Ways.{Way, Sound, AllowsAll}
@@ -50,8 +49,7 @@ use Rattle.soundness.proofs.Successors.{not_true, both_not, calls_cases, finish_
 use Rattle.soundness.proofs.Stepping.{step_is, calls_there, fine, facts_are, allowed_whole, allowed}
 use Rattle.null_places.specs.Agrees.{Agrees}
 use Rattle.null_places.specs.Compares.{Compares, ComparesIn, AreCompared}
-use Rattle.null_places.proofs.Memories.{frame_agree}
-use Rattle.null_places.proofs.Only.{OnlyOwners, frame_only}
+use Rattle.null_places.proofs.Only.{OnlyOwners}
 use Rattle.null_places.proofs.Calls.{call_same, finish_same}
 use Rattle.null_places.proofs.Instructions.{SameStepBy, SameStep, twin, both_are, declare_same, assign_same, end_scope_same, release_same, input_same, skip_same, fall_same, test_same, choose_same, leave_loop_same, output_same, line_same, start_same, next_same}
 
