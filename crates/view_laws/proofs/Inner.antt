@@ -1,5 +1,5 @@
 -- The scope around one that begins in code has a smaller number.
-use Rattle.std.proofs.Common.{◌≡◌, refl, sym, ap, ◌∙◌, subst, ℕ, zero, suc, ◌+◌, ◌≤◌, List, [], ◌∷◌, ◌++◌, length, get_or, arith}
+use Rattle.std.proofs.Common.{◌≡◌, refl, subst, ℕ, zero, suc, ◌+◌, ◌≤◌, List, [], ◌∷◌, ◌++◌, length, get_or, arith}
 use Rattle.std.proofs.lemmas.List.{length-append}
 use Rattle.resolved_tree.specs.Trees.{More, Code, SubBody, Package, PackageBody, If, Branch, Case, When, Loop, While, For, Block}
 use Rattle.type_definitions.specs.declared.table.Known.{Known}
@@ -19,7 +19,7 @@ inner_at : (n m : ℕ) (xs : List ℕ) → n ≡ m → AreInner n xs → AreInne
 inner_at n m xs e h = subst (λ k. AreInner k xs) e h
 
 inner_both : (n : ℕ) (xs ys : List ℕ) → AreInner n xs → AreInner (n + length xs) ys → AreInner n (xs ++ ys)
-inner_both n [] ys h g = inner_at (n + length []) n ys (omega arith) g
+inner_both n [] ys h g = inner_at (n + 0) n ys (omega arith) g
 inner_both n (x ∷ xs) ys h g = (h.0, inner_both (suc n) xs ys h.1 (inner_at (n + length (x ∷ xs)) (suc n + length xs) ys (omega arith) g))
 
 two : (n k l : ℕ) (xs ys : List ℕ) → Counted n k xs → Counted (n + k) l ys → Counted n (k + l) (xs ++ ys)

@@ -1,17 +1,15 @@
 -- An accepted program with borrowers and observers whose subprograms and views are in order is ready, as
 -- soundness with views asks.
-use Rattle.std.proofs.Common.{◌≡◌, refl, sym, ap, ◌∙◌, subst, ◌⊎◌, inl, inr, ℕ, suc, Bool, true, false, List, map, Some}
+use Rattle.std.proofs.Common.{◌≡◌, refl, sym, ap, ◌∙◌, inl, inr, ℕ, suc, true, false, List, map}
 use Rattle.spark_base.specs.Lists.{Has}
-use Rattle.spark_base.specs.declared.position.Pos.{Pos}
 use Rattle.type_definitions.specs.Types.{Table}
-use Rattle.typed_tree.specs.Trees.{TypedTree, Name, NoMore, More}
+use Rattle.typed_tree.specs.Trees.{TypedTree, Name, NoMore}
 use Rattle.typed_tree.specs.Programs.{TypedProgram}
 use Rattle.flow_paths.specs.declared.report.Effects.{Effects}
 use Rattle.flow_paths.specs.Instructions.{Instruction, Declare, Assign, EndScope}
-use Rattle.flow_paths.specs.Objects.{Typing, is_anonymous, is_observer, view_of}
+use Rattle.flow_paths.specs.Objects.{Typing, is_anonymous, view_of}
 use Rattle.flow_paths.specs.Points.{NamedPoint, FlowPoint}
 use Rattle.flow_paths.specs.Laid.{FlowProgram, NamedSub, number_in, flow_typing, flow_program, flow_named}
-use Rattle.flow_paths.specs.Views.{encloses}
 use Rattle.machine.specs.States.{sub_of}
 use Rattle.soundness.specs.Sound.{IsAtPoint, RunIsSound}
 use Rattle.viewed_steps.specs.Sound.{IsViewClass}

@@ -1,10 +1,9 @@
 -- What subprograms change or lend of package objects, they write, and so do their callers; and a call is
 -- allowed only if nothing is lent of what the callee writes, nor borrowed of what it uses.
-use Rattle.std.proofs.Common.{◌≡◌, refl, sym, ap, ◌∙◌, subst, ◌⊎◌, inl, inr, ℕ, zero, suc, ◌+◌, ◌<◌, ◌≤◌, Bool, true, false, ◌&&◌, ◌||◌, ◌==◌, eq-eqb, eqb-true, List, [], ◌∷◌, drop, length, arith, IsTrue, Option, Some, None, if◌then◌else◌}
+use Rattle.std.proofs.Common.{◌≡◌, refl, sym, ap, ◌∙◌, subst, ◌⊎◌, inl, inr, ℕ, zero, suc, ◌+◌, ◌<◌, ◌≤◌, Bool, true, false, ◌&&◌, ◌||◌, ◌==◌, eq-eqb, eqb-true, List, [], ◌∷◌, length, arith, IsTrue, Option, None}
 use Rattle.std.specs.List.{list_any}
 use Rattle.spark_base.specs.Lists.{Has}
 use Rattle.spark_base.proofs.Lists.{Has-append_left, Has-append_right}
-use Rattle.place_names.specs.declared.act.Act.{Act}
 use Rattle.place_names.specs.declared.act.Act.TheVariants as act
 use Rattle.place_names.specs.declared.act.Placed.{Placed}
 use Rattle.place_names.specs.declared.fact.Fact.{Fact}
@@ -14,7 +13,7 @@ use Rattle.place_names.specs.declared.rule.Loan.TheVariants.{Borrowed}
 use Rattle.place_names.specs.declared.rule.Rule.TheVariants.{O11}
 use Rattle.place_names.specs.declared.selector.Sel.{Sel}
 use Rattle.place_names.specs.Names.{Name as PlaceName, object, agree_along, overlaps}
-use Rattle.place_names.specs.Rules.{Forbidden, forbidden_if}
+use Rattle.place_names.specs.Rules.{forbidden_if}
 use Rattle.typed_tree.specs.declared.object.Object.{Object}
 use Rattle.typed_tree.specs.Trees.{TypedTree}
 use Rattle.flow_paths.specs.declared.report.Effects.{Effects}
@@ -22,7 +21,7 @@ use Rattle.flow_paths.specs.Instructions.{Call}
 use Rattle.flow_paths.specs.Objects.{Typing, is_package_object}
 use Rattle.flow_paths.specs.Points.{FlowPoint}
 use Rattle.flow_paths.specs.Laid.{FlowSub, FlowProgram, flow_typing}
-use Rattle.flow_paths.specs.Effects.{is_in, act_writes, writes_text, point_writes, is_global, own_writes, calls, sub_calls, flow_sub_at, ends, calls_on, AreEffects, read_by, written_by, global_act, globals_from}
+use Rattle.flow_paths.specs.Effects.{is_in, act_writes, writes_text, point_writes, is_global, own_writes, calls, sub_calls, flow_sub_at, ends, calls_on, AreEffects, written_by, global_act, globals_from}
 use Rattle.owned_ways.specs.Ways.{Allows}
 
 any_has : {A : Type 0} (test : A → Bool) (xs : List A) (x : A) → Has xs x → test x ≡ true → list_any test xs ≡ true

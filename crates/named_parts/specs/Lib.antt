@@ -1,2 +1,0 @@
--- types that marks may denote, and those of objects
-pub mod Marks
