@@ -416,7 +416,7 @@ module _ (table : Table) (typed : TypedProgram) (effects : Effects) (input : Lis
                 top = stage table typed effects ready ready.main 1;
                 older = below ∷ [];
                 stages = subst (AreStages (stage table typed effects ready ready.main 1 ∷ (below ∷ []))) (sym begins_main) (refl, refl, (refl, refl, tt));
-                running = (ready.main_there, (refl, refl, refl), (first.0, (refl, first.1.1, refl)));
+                running = (ready.main_there, (refl, (λ r has. absurd has), refl), (first.0, (refl, (λ r has. absurd (subst (λ z. Has z r) first.1.1 has)), refl)));
                 path = begins (first_point table typed effects ready ready.main ready.main_there.named ready.main_there.stands
                     ready.main_there.point ready.main_there.points ready.main_there.begins);
                 sound = main_begins s (Elsewhere program effects []) (Elsewhere program effects (below ∷ [])) (view_of s after_step) (after (acts_there p.instr) facts_there)

@@ -39,7 +39,7 @@ use Rattle.owned_ways.specs.Ways.{Way, Sound, after, AllowsAll}
 use Rattle.soundness.specs.Seen.{home, IsNear, is_view_formal}
 use Rattle.soundness.specs.Typed.{Kept}
 use Rattle.typed_laws.specs.Needed.{IsFine, Source, FirstWrites, FirstStays}
-use Rattle.soundness.specs.Sound.{IsFirstClass, calls_nothing, Stage, Elsewhere, AreRunning, IsProcedure, IsNamedSub, IsAtPoint, view_of}
+use Rattle.soundness.specs.Sound.{IsPlain, IsResting, IsFirstClass, calls_nothing, Stage, Elsewhere, AreRunning, IsProcedure, IsNamedSub, IsAtPoint, view_of}
 use Rattle.soundness.specs.Ready.{IsReady}
 use Rattle.soundness.proofs.Scalars.{acts}
 use Rattle.soundness.proofs.Points.{flow_at, named_has, point_has, sub_has, typing_same, point_there, point_in, path_there}
@@ -99,13 +99,16 @@ module _ (table : Table) (typed : TypedProgram) (effects : Effects) (input : Lis
   no_in_formals x = ap (λ b. (b && is_in (object_at s x).mode) && is_owning s.table (object_at s x).of) (class.no_formals x)
 
   -- the frames of the first class are as those of the second one
+  plain_of : (g : Stage) → IsPlain g → IsResting s g
+  plain_of g bare = (bare.0, (λ r has. absurd (subst (λ z. Has z r) bare.1 has)), bare.2)
+
   pub running_of : (m : Memory) (stages : List Stage) → AreFirst program stages → AreRunning table typed effects m stages
   running_of m [] first = absurd first
-  running_of m (e ∷ []) first = first
+  running_of m (e ∷ []) first = (first.0, plain_of e first.1)
   running_of m (g ∷ (e ∷ [])) first =
       let both : Some g.frame.sub ≡ Some ready.main = sym first.0 ∙ ready.is_main in
       let main_sub : g.frame.sub ≡ ready.main = cc in
-      (subst (IsProcedure table typed) (sym main_sub) ready.main_there, first.1, (first.2, first.3))
+      (subst (IsProcedure table typed) (sym main_sub) ready.main_there, plain_of g first.1, (first.2, plain_of e first.3))
   running_of m (g ∷ (e ∷ (h ∷ stages))) first = absurd first
 
   -- a point of the main procedure, in a state that is sound and whose facts are exact

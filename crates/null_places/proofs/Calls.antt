@@ -1,36 +1,44 @@
--- Calls of procedures with formals of scalar types lead to the same in memories that agree.
-use Rattle.std.proofs.Common.{◌≡◌, refl, sym, subst, ℕ, suc, Bool, true, false, List, [], ◌∷◌, ◌++◌, map, length, nat_le}
+-- Calls of procedures with formals of scalar types, and their ends, lead to the same in memories that
+-- agree.
+use Rattle.std.proofs.Common.{◌≡◌, refl, sym, inl, inr, subst, ℕ, suc, Bool, true, false, List, [], ◌∷◌, ◌++◌, map, length, nat_le, if◌then◌else◌}
+use Rattle.spark_base.specs.Lists.{Has}
 use Rattle.spark_base.specs.declared.position.Pos.{Pos}
 use Rattle.place_names.specs.declared.fact.Fact.{Fact}
 use Rattle.type_definitions.specs.declared.table.Shape.TheVariants as shape
-use Rattle.type_definitions.specs.Types.{shape_of}
+use Rattle.type_definitions.specs.Types.{shape_of, full, is_scalar}
 use Rattle.typed_tree.specs.Trees.{TypedTree, More}
-use Rattle.flow_paths.specs.Objects.{Typing, sub_at, Passing, passings}
+use Rattle.flow_paths.specs.Objects.{Typing, object_at, sub_at, Passing, passings}
 use Rattle.flow_paths.specs.Names.{has_call, written}
 use Rattle.flow_paths.specs.Acts.{actual_values}
-use Rattle.machine.specs.Memory.{Memory, declared}
-use Rattle.machine.specs.Evaluate.{Here, Now, StorageError}
-use Rattle.machine.specs.Calls.{Passed, Value, From, To, written_pos, all_passed, out_checks, with_formals, returns_of}
-use Rattle.machine.specs.States.{Waiting, State, Outcome, Goes, sub_of, frame_words, stack_words, frame_at_start}
-use Rattle.machine.specs.Step.{Turn, typing, here, start, waiting, behind, call}
+use Rattle.machine.specs.Words.{fits_type}
+use Rattle.machine.specs.Words as machine
+use Rattle.machine.specs.Memory.{Memory, Place, slots_of, words_of, stored, moved_out, declared, without_frame}
+use Rattle.machine.specs.Evaluate.{Here, Now, Evaluated, Done, Raises, Traps, followed_by, checked, variable_place, ConstraintError, StorageError}
+use Rattle.machine.specs.Calls.{Passed, Value, From, To, written_pos, all_passed, out_checks, with_formal, with_formals, returns_of}
+use Rattle.machine.specs.States.{Waiting, Return, Frame, Leak, State, Normal, Outcome, Goes, Ends, sub_of, frame_words, stack_words, frame_at_start}
+use Rattle.machine.specs.Step.{Turn, typing, here, start, waiting, counted, behind, raised, call, copied_back, finish}
 use Rattle.machine.specs.Step as steps
 use Rattle.machine.specs.Owners.{waiting_in}
 use Rattle.owned_ways.specs.Ways.{Way, Sound, AllowsAll}
 use Rattle.part_offsets.specs.Parts.{IsSettled}
 use Rattle.soundness.specs.Seen.{home, IsNear, is_view_formal}
-use Rattle.soundness.specs.Typed.{OwnsByShape, Kept}
-use Rattle.soundness.specs.Sound.{view_of}
+use Rattle.soundness.specs.Typed.{OwnsByShape, Kept, IsFixed}
+use Rattle.soundness.specs.Sound.{view_of, IsCopied, AreCopied}
 use Rattle.soundness.specs.Ready.{AreActuals}
 use Rattle.soundness.proofs.Scalars.{acts}
 use Rattle.soundness.proofs.Stays.{Quiet}
 use Rattle.soundness.proofs.Numbers.{index_law}
 use Rattle.soundness.proofs.Lasting.{keeps}
 use Rattle.soundness.proofs.Evaluated.{live_trunk}
-use Rattle.soundness.proofs.Passing.{by_value, AreValues, all_quiet, Enters}
+use Rattle.soundness.proofs.Steps.{no_leaf}
+use Rattle.soundness.proofs.Fixed.{fixed_at, fixed_spot, fixed_one, Good, moved_good, stored_good}
+use Rattle.soundness.proofs.Passing.{way_of, IsLaid, AreLaid, with_one, AreGiven, all_given, all_laid, Enters}
+use Rattle.soundness.proofs.Returning.{copied_is, formal_fixed}
 use Rattle.null_places.specs.Agrees.{Agrees}
 use Rattle.null_places.specs.Compares.{Compares}
-use Rattle.null_places.proofs.Memories.{checks_agree, declared_agree}
-use Rattle.null_places.proofs.Only.{OnlyOwners, declared_only}
+use Rattle.null_places.proofs.Memories.{NoneGone, words_agree, checks_agree, declared_agree, moved_agree, stored_agree, frame_agree}
+use Rattle.null_places.proofs.Only.{OnlyOwners, stored_only, declared_only, frame_only}
+use Rattle.null_places.proofs.Places.{spot_whole, plain_whole, moved_only}
 use Rattle.null_places.proofs.Scalars.{all_same}
 use Rattle.null_places.proofs.Instructions.{SameStep, twin, both_are, leaking_same, raised_same, step_then}
 
@@ -47,15 +55,45 @@ out_same s pos m n a (To k ∷ rest) actuals = refl
 out_same s pos m n a (Value ws ∷ rest) actuals = refl
 out_same s pos m n a (From k ∷ rest) actuals = refl
 
--- formals that get values
-formals_same : (s : Typing) (f : ℕ) (formals : List ℕ) (passed : List Passed) → AreValues passed → (m n : Memory) → Agrees m n → OnlyOwners s m
-    → Agrees (with_formals s f formals passed m) (with_formals s f formals passed n) × OnlyOwners s (with_formals s f formals passed m)
-formals_same s f [] passed are m n a only = (a, only)
-formals_same s f (x ∷ formals) [] are m n a only = (a, only)
-formals_same s f (x ∷ formals) (Value ws ∷ rest) are m n a only =
-    formals_same s f formals rest are.1 (declared f x ws m) (declared f x ws n) (declared_agree f x ws m n a) (declared_only s m only f x ws)
-formals_same s f (x ∷ formals) (From k ∷ rest) are m n a only = absurd are.0
-formals_same s f (x ∷ formals) (To k ∷ rest) are m n a only = absurd are.0
+module _ (s : Typing) (settled : IsSettled s.table) (own_law : OwnsByShape s.table) (f : ℕ) (hands : List Waiting) (leaks : List Leak)
+    (at_home : ℕ → ℕ) (other : Way → Type 0) (facts : List Fact) where
+  abbrev GoodThere : Memory → Type 0
+  GoodThere m = Good s settled own_law hands leaks at_home other facts m
+
+  -- Memories that agree, where only words that own are gone in the first one.
+  abbrev pub AgreeBy : Memory → Memory → Type 0
+  AgreeBy m n = Agrees m n × OnlyOwners s m
+
+  -- what a scalar place in a variable has isn't gone
+  pub fixed_none : (k : Place) → IsFixed s k → (m : Memory) → Kept s m hands → OnlyOwners s m → NoneGone (slots_of s m k)
+  fixed_none k fixed m kept only =
+      spot_whole s settled m hands only kept k (fixed_at s settled k fixed) (fixed_spot s settled k fixed m hands)
+      (plain_whole s settled m hands k (fixed_at s settled k fixed) (fixed_spot s settled k fixed m hands) (λ p. no_leaf s.table settled k.of fixed.scalar p))
+
+  pub taken_same : (k : Place) → IsFixed s k → (m n : Memory) → Kept s m hands → AgreeBy m n → AgreeBy (moved_out s k m) (moved_out s k n)
+  taken_same k fixed m n kept same =
+      (moved_agree s k m n same.0, moved_only s settled m hands same.1 kept k (fixed_at s settled k fixed) (fixed_spot s settled k fixed m hands))
+
+  declared_same : (x : ℕ) (ws : List machine.Word) (m n : Memory) → AgreeBy m n → AgreeBy (declared f x ws m) (declared f x ws n)
+  declared_same x ws m n same = (declared_agree f x ws m n same.0, declared_only s m same.1 f x ws)
+
+  one_formal : (x : ℕ) (a : Passed) → IsLaid s a → (m n : Memory) → GoodThere m → AgreeBy m n → AgreeBy (with_formal s f x a m) (with_formal s f x a n)
+  one_formal x (Value ws) laid m n good same = declared_same x ws m n same
+  one_formal x (From k) laid m n good same =
+      subst (λ z. AgreeBy (declared f x (words_of s m k) (moved_out s k m)) (declared f x z (moved_out s k n)))
+      (words_agree s m n same.0 k (fixed_none k laid m good.1 same.1))
+      (declared_same x (words_of s m k) (moved_out s k m) (moved_out s k n) (taken_same k laid m n good.1 same))
+  one_formal x (To k) laid m n good same =
+      declared_same x (machine.default s.table (object_at s x).of) (moved_out s k m) (moved_out s k n) (taken_same k laid m n good.1 same)
+
+  pub formals_same : (formals : List ℕ) (passed : List Passed) → ((x : ℕ) → Has formals x → is_scalar (full s.table (object_at s x).of) ≡ true) → AreLaid s passed
+      → (m n : Memory) → GoodThere m → AgreeBy m n → AgreeBy (with_formals s f formals passed m) (with_formals s f formals passed n)
+  formals_same [] passed plain are m n good same = same
+  formals_same (x ∷ formals) [] plain are m n good same = same
+  formals_same (x ∷ formals) (a ∷ rest) plain are m n good same =
+      formals_same formals rest (λ y has. plain y (inr has)) are.1 (with_formal s f x a m) (with_formal s f x a n)
+      (with_one s settled own_law f hands leaks at_home other facts x a m (plain x (inl refl)) are.0 good).0
+      (one_formal x a are.0 m n good same)
 
 -- ---- the call
 
@@ -73,7 +111,8 @@ module _ (t : Turn) (settled : IsSettled (typing t).table) (own_law : OwnsByShap
     (alone : (w : Way) → IsNear (length t.outer) w → other w → ⊥) (no_formals : (x : ℕ) → is_view_formal (typing t) x ≡ false)
     (all_named : (u d : ℕ) (c n : Bool) → shape_of (typing t).table u ≡ shape.Access d c n → n ≡ true) (facts : List Fact)
     (sound : Sound (home (typing t) (length t.outer)) other (view_of (typing t) t.state) facts) (kept : Kept (typing t) t.state.memory (waiting_in t.state))
-    (only : OnlyOwners (typing t) t.state.memory) (n : Memory) (agrees : Agrees t.state.memory n) (k : ℕ) (actuals : TypedTree) where
+    (only : OnlyOwners (typing t) t.state.memory) (n : Memory) (agrees : Agrees t.state.memory n) (k : ℕ) (actuals : TypedTree)
+    (plain : (x : ℕ) → Has (sub_of t.program k).formals x → is_scalar (full (typing t).table (object_at (typing t) x).of) ≡ true) where
   abbrev h : Here
   h = here t
 
@@ -87,17 +126,19 @@ module _ (t : Turn) (settled : IsSettled (typing t).table) (own_law : OwnsByShap
   formals = (sub_of t.program k).formals
 
   abbrev ways_of : List Passing
-  ways_of = map (by_value (typing t) own_law) (sub_of t.program k).formals
+  ways_of = map (way_of (typing t) own_law) (sub_of t.program k).formals
 
   -- the formals are declared, where there is room
-  entered_same : (f g : List Passed → Memory → Outcome) → Enters t k actuals f → Enters (twin t n) k actuals g → (passed : List Passed) → AreValues passed
-      → (m m' : Memory) → Agrees m m' → OnlyOwners (typing t) m → SameStep t (f passed m) (g passed m')
-  entered_same f g one two passed are m m' a still = by_room (nat_le (frames_with t k passed m) stack_words) refl
+  entered_same : (f g : List Passed → Memory → Outcome) → Enters t settled k actuals f → Enters (twin t n) settled k actuals g → (passed : List Passed) → AreLaid (typing t) passed
+      → (m m' : Memory) → Good (typing t) settled own_law hands t.state.leaks (home (typing t) (length t.outer)) other facts m → Agrees m m' → OnlyOwners (typing t) m
+      → SameStep t (f passed m) (g passed m')
+  entered_same f g one two passed are m m' good a still = by_room (nat_le (frames_with t k passed m) stack_words) refl
     where
       by_room : (b : Bool) → nat_le (frames_with t k passed m) stack_words ≡ b → SameStep t (f passed m) (g passed m')
       by_room false full = both_are t _ _ _ _ (one.full passed m full) (two.full passed m' full) (raised_same t n agrees StorageError m m' a)
       by_room true fits =
-          let declared_there = formals_same (typing t) (suc (length t.outer)) (sub_of t.program k).formals passed are m m' a still in
+          let declared_there = formals_same (typing t) settled own_law (suc (length t.outer)) hands t.state.leaks (home (typing t) (length t.outer)) other facts
+          (sub_of t.program k).formals passed plain are m m' good (a, still) in
           both_are t _ _ _ _ (one.fits passed m fits) (two.fits passed m' fits)
           (leaking_same t (out_checks (typing t) t.point.pos m passed actuals) (out_checks (typing t) t.point.pos m' passed actuals)
           (out_same (typing t) t.point.pos m m' a passed actuals)
@@ -105,22 +146,106 @@ module _ (t : Turn) (settled : IsSettled (typing t).table) (own_law : OwnsByShap
           (Goes (entered_with (twin t n) k passed m'))
           ((refl, declared_there.0), declared_there.1))
 
-  called_by : (f g : List Passed → Memory → Outcome) → Enters t k actuals f → Enters (twin t n) k actuals g → passings (typing t) (sub_at (typing t) k) ≡ ways_of
-      → AreActuals (typing t) formals actuals → has_call actuals ≡ false → Compares (typing t) actuals
+  called_by : (f g : List Passed → Memory → Outcome) → Enters t settled k actuals f → Enters (twin t n) settled k actuals g → passings (typing t) (sub_at (typing t) k) ≡ ways_of
+      → AreActuals (typing t) formals actuals → AreCopied (typing t) formals actuals → has_call actuals ≡ false → Compares (typing t) actuals
       → AllowsAll facts (acts (actual_values (typing t) ways_of actuals))
       → SameStep t (steps.evaluated t (all_passed h (passings (typing t) (sub_at (typing t) k)) formals actuals (start t)) f)
       (steps.evaluated (twin t n) (all_passed h (passings (typing t) (sub_at (typing t) k)) formals actuals (start (twin t n))) g)
-  called_by f g one two ways stay none compares allowed =
+  called_by f g one two ways stay copied none compares allowed =
       let live = live_trunk h settled t.state.leaks (start t).waits other alone (keeps (typing t) settled own_law) no_formals index_law own_law all_named t.state.memory hands sound.owned in
       subst (λ z. SameStep t (steps.evaluated t (all_passed h z formals actuals at) f) (steps.evaluated (twin t n) (all_passed h z formals actuals (start (twin t n))) g)) (sym ways)
-      (step_then t n agrees (λ y. Quiet at AreValues y) (all_passed h ways_of formals actuals at) (all_passed h ways_of formals actuals (start (twin t n))) f g
-      (all_quiet h settled hands t.state.leaks t.state.memory (start t).waits other facts kept sound alone live index_law own_law all_named formals actuals stay none allowed)
-      (all_same h settled hands t.state.leaks t.state.memory (start t).waits other facts kept sound alone live index_law own_law all_named only formals actuals stay none compares allowed
+      (step_then t n agrees
+      (λ y. Quiet at (λ passed. AreGiven h settled hands t.state.leaks t.state.memory (start t).waits other facts kept sound alone live index_law own_law all_named formals actuals passed) y)
+      (all_passed h ways_of formals actuals at) (all_passed h ways_of formals actuals (start (twin t n))) f g
+      (all_given h settled hands t.state.leaks t.state.memory (start t).waits other facts kept sound alone live index_law own_law all_named formals actuals stay copied none allowed)
+      (all_same h settled hands t.state.leaks t.state.memory (start t).waits other facts kept sound alone live index_law own_law all_named only formals actuals stay copied none compares allowed
       (start (twin t n)) (agrees, refl, only))
-      (λ passed i j quiet_there now. entered_same f g one two passed quiet_there.1 i.memory j.memory now.0 now.2))
+      (λ passed i j given now. entered_same f g one two passed
+      (all_laid h settled hands t.state.leaks t.state.memory (start t).waits other facts kept sound alone live index_law own_law all_named formals actuals passed given.1)
+      i.memory j.memory (subst (λ (z : Now). Good (typing t) settled own_law hands t.state.leaks (home (typing t) (length t.outer)) other facts z.memory) (sym given.0) (sound, kept))
+      now.0 now.2))
 
-  pub call_same : passings (typing t) (sub_at (typing t) k) ≡ ways_of → AreActuals (typing t) formals actuals → has_call actuals ≡ false → Compares (typing t) actuals
-      → AllowsAll facts (acts (actual_values (typing t) ways_of actuals)) → SameStep t (call t k actuals) (call (twin t n) k actuals)
-  call_same ways stay none compares allowed =
+  pub call_same : passings (typing t) (sub_at (typing t) k) ≡ ways_of → AreActuals (typing t) formals actuals → AreCopied (typing t) formals actuals → has_call actuals ≡ false
+      → Compares (typing t) actuals → AllowsAll facts (acts (actual_values (typing t) ways_of actuals)) → SameStep t (call t k actuals) (call (twin t n) k actuals)
+  call_same ways stay copied none compares allowed =
       called_by _ _ (record { fits = λ passed m e. rw e refl; full = λ passed m e. rw e refl }) (record { fits = λ passed m e. rw e refl; full = λ passed m e. rw e refl })
-      ways stay none compares allowed
+      ways stay copied none compares allowed
+
+-- ---- the end of a call
+
+-- The memory after formals are copied back.
+abbrev BackSame : Typing → Evaluated Memory → Evaluated Memory → Type 0
+BackSame s (Done m i) (Done n j) = Agrees m n × OnlyOwners s m
+BackSame s (Raises e i) (Raises f j) = (e ≡ f) × Agrees i.memory j.memory
+BackSame s _ _ = ⊥
+
+module _ (t : Turn) (settled : IsSettled (typing t).table) (own_law : OwnsByShape (typing t).table) (other : Way → Type 0) (facts : List Fact) (n : Memory)
+    (agrees : Agrees t.state.memory n) where
+  abbrev GoodHere : Memory → Type 0
+  GoodHere m = Good (typing t) settled own_law (waiting_in t.state) t.state.leaks (home (typing t) (length t.outer)) other facts m
+
+  if_same : (b : Bool) (ws : List machine.Word) (i j : Now) (f g : List machine.Word → Now → Evaluated Memory) → Agrees i.memory j.memory
+      → BackSame (typing t) (f ws i) (g ws j)
+      → BackSame (typing t) (followed_by (if b then Done ws i else Raises ConstraintError i) f) (followed_by (if b then Done ws j else Raises ConstraintError j) g)
+  if_same true ws i j f g same on = on
+  if_same false ws i j f g same on = (refl, same)
+
+  back_same : (returns : List Return) → ((r : Return) → Has returns r → IsCopied (typing t) r) → (i j : Now) → GoodHere i.memory
+      → Agrees i.memory j.memory → OnlyOwners (typing t) i.memory → BackSame (typing t) (copied_back t returns i) (copied_back (twin t n) returns j)
+  back_same [] copied i j good same only = (same, only)
+  back_same (r ∷ rest) copied i j good same only =
+      let s : Typing = typing t in
+      let hands : List Waiting = waiting_in t.state in
+      let is : IsCopied s r = copied r (inl refl) in
+      let formal : Place = variable_place (here t) r.formal in
+      let fixed : IsFixed s formal = formal_fixed t r.formal is.0 in
+      let ws : List machine.Word = words_of s i.memory formal in
+      let words_so : ws ≡ words_of s j.memory formal =
+      words_agree s i.memory j.memory same formal (fixed_none s settled own_law 0 hands t.state.leaks (home s (length t.outer)) other facts formal fixed i.memory good.1 only) in
+      let moved = taken_same s settled own_law 0 hands t.state.leaks (home s (length t.outer)) other facts formal fixed i.memory j.memory good.1 (same, only) in
+      let next : Memory = stored s r.to ws (moved_out s formal i.memory) in
+      let next' : Memory = stored s r.to ws (moved_out s formal j.memory) in
+      let first = moved_good s settled own_law hands t.state.leaks (home s (length t.outer)) other facts formal fixed i.memory good in
+      let second = stored_good s settled own_law hands t.state.leaks (home s (length t.outer)) other facts r.to is.1 ws
+      (fixed_one s settled formal fixed i.memory hands good.1) (moved_out s formal i.memory) first.0 in
+      let f : List machine.Word → Now → Evaluated Memory =
+      (λ us z. copied_back t rest (record z { memory = stored s r.to us (moved_out s formal z.memory) })) in
+      let g : List machine.Word → Now → Evaluated Memory =
+      (λ us z. copied_back (twin t n) rest (record z { memory = stored s r.to us (moved_out s formal z.memory) })) in
+      subst (λ z. BackSame s z (copied_back (twin t n) (r ∷ rest) j)) (sym (copied_is t r rest i is.1))
+      (subst (BackSame s (followed_by (checked (here t) r.to.of ws i) f)) (sym (copied_is (twin t n) r rest j is.1))
+      (subst (λ us. BackSame s (followed_by (checked (here t) r.to.of ws i) f) (followed_by (checked (here t) r.to.of us j) g)) words_so
+      (if_same (fits_type s.table r.to.of ws) ws i j f g same
+      (back_same rest (λ q has. copied q (inr has)) (record i { memory = next }) (record j { memory = next' }) second.0
+      (stored_agree s r.to ws (moved_out s formal i.memory) (moved_out s formal j.memory) moved.0)
+      (stored_only s (moved_out s formal i.memory) moved.1 r.to ws)))))
+
+  -- what is done with it
+  finish_by : (f g : Memory → Memory → Outcome) (out out' : Memory → Outcome) → ((m i : Memory) → f m i ≡ out m) → ((m i : Memory) → g m i ≡ out' m)
+      → ((a b : Memory) → Agrees a b → OnlyOwners (typing t) a → SameStep t (out a) (out' b)) → (y z : Evaluated Memory) → BackSame (typing t) y z
+      → SameStep t (steps.evaluated t y f) (steps.evaluated (twin t n) z g)
+  finish_by f g out out' one two on (Done a i) (Done b j) same = both_are t _ _ _ _ (one a i.memory) (two b j.memory) (on a b same.0 same.1)
+  finish_by f g out out' one two on (Raises e i) (Raises e' j) same =
+      subst (λ z. SameStep t (raised t e i.memory) (raised (twin t n) z j.memory)) same.0 (raised_same t n agrees e i.memory j.memory same.1)
+  finish_by f g out out' one two on (Done a i) (Raises e j) same = absurd same
+  finish_by f g out out' one two on (Done a i) (Traps e j) same = absurd same
+  finish_by f g out out' one two on (Raises e i) (Done b j) same = absurd same
+  finish_by f g out out' one two on (Raises e i) (Traps e' j) same = absurd same
+  finish_by f g out out' one two on (Traps e i) (Done b j) same = absurd same
+  finish_by f g out out' one two on (Traps e i) (Raises e' j) same = absurd same
+  finish_by f g out out' one two on (Traps e i) (Traps e' j) same = absurd same
+
+  pub finish_same : GoodHere t.state.memory → OnlyOwners (typing t) t.state.memory → ((r : Return) → Has t.frame.returns r → IsCopied (typing t) r)
+      → (g : Frame) (rest : List Frame) → t.outer ≡ g ∷ rest → SameStep t (finish t) (finish (twin t n))
+  finish_same good only copied g [] outer =
+      finish_by _ _ (λ m. Ends Normal (counted (record t.state { frames = t.outer; memory = without_frame (length t.outer) m })))
+      (λ m. Ends Normal (counted (record t.state { frames = t.outer; memory = without_frame (length t.outer) m }))) (λ m i. rw outer refl) (λ m i. rw outer refl)
+      (λ a b same still. (refl, (refl, frame_agree (length t.outer) a b same)))
+      (copied_back t t.frame.returns (start t)) (copied_back (twin t n) t.frame.returns (start (twin t n)))
+      (back_same t.frame.returns copied (start t) (start (twin t n)) good agrees only)
+  finish_same good only copied g (f ∷ rest) outer =
+      finish_by _ _ (λ m. Goes (counted (record t.state { frames = t.outer; memory = without_frame (length t.outer) m })))
+      (λ m. Goes (counted (record t.state { frames = t.outer; memory = without_frame (length t.outer) m }))) (λ m i. rw outer refl) (λ m i. rw outer refl)
+      (λ a b same still. ((refl, frame_agree (length t.outer) a b same), frame_only (typing t) a still (length t.outer)))
+      (copied_back t t.frame.returns (start t)) (copied_back (twin t n) t.frame.returns (start (twin t n)))
+      (back_same t.frame.returns copied (start t) (start (twin t n)) good agrees only)

@@ -2,12 +2,16 @@
 use Rattle.std.proofs.Common.{◌≡◌, refl, sym, ap, ◌∙◌, subst, inl, inr, ℕ, Bool, true, false, not, ◌&&◌, ◌||◌, List, [], ◌∷◌, ◌++◌, map, ℤ, ◌-ℤ◌, int_le, unsigned_abs, Option, Some, None, if◌then◌else◌}
 use Rattle.spark_base.specs.declared.position.Pos.{Pos}
 use Rattle.place_names.specs.declared.act.Act.TheVariants as act
+use Rattle.place_names.specs.declared.selector.Sel.{Sel}
+use Rattle.place_names.specs.declared.selector.Sel.TheVariants as sel
+use Rattle.place_names.specs.declared.act.Mode.{Mode}
+use Rattle.place_names.specs.declared.act.Mode.TheVariants as mode
 use Rattle.place_names.specs.declared.act.Placed.{Placed}
 use Rattle.place_names.specs.declared.fact.Fact.{Fact}
 use Rattle.place_names.specs.declared.fact.Fact.TheVariants.{Moved}
 use Rattle.place_names.specs.declared.rule.Rule.TheVariants.{O2}
 use Rattle.place_names.specs.declared.rule.State.TheVariants as state
-use Rattle.place_names.specs.Names.{leads_to}
+use Rattle.place_names.specs.Names.{Name as PlaceName, leads_to}
 use Rattle.place_names.specs.Rules.{Forbidden}
 use Rattle.resolved_tree.specs.declared.operator.Operator.{Operator}
 use Rattle.resolved_tree.specs.declared.operator.UnaryOperator.{UnaryOperator}
@@ -22,10 +26,11 @@ use Rattle.flow_paths.specs.Names.{has_call, name_of, selectors}
 use Rattle.flow_paths.specs.Acts.{used, acts_in, actual_values}
 use Rattle.machine.specs.Words.{component_type, fits_type}
 use Rattle.machine.specs.Words as machine
-use Rattle.machine.specs.Memory.{Memory, Place, slots_of, moved_out}
+use Rattle.machine.specs.Memory.{Memory, Place, slots_of, words_of, moved_out}
 use Rattle.machine.specs.Evaluate.{Here, Now, Use, AsValue, AsView, Evaluated, Done, Raises, Traps, followed_by, evaluate, steps_of, place_of, text_of, value, variable_place, walked, held_or_taken, taken, viewed, checked, indexed, operated, operated_alone, given, decides, truth}
 use Rattle.machine.specs.Evaluate as run
-use Rattle.machine.specs.Calls.{Passed, type_of, value_passed, passed, all_passed}
+use Rattle.machine.specs.Owners.{is_in}
+use Rattle.machine.specs.Calls.{Passed, From, To, type_of, value_passed, passed, all_passed}
 use Rattle.machine.specs.States.{Waiting, Leak}
 use Rattle.owned_ways.specs.Ways.{OfVariable, Loc, OfRoot, Way, Object, Reaches, IsRooted, Past, Named, IsMoved, Excused, Allows, after, AllowsAll, Sound}
 use Rattle.owned_ways.specs.Ways as ways
@@ -35,13 +40,14 @@ use Rattle.owned_ways.proofs.Assigned.{test_fails, either_left, named_rooted}
 use Rattle.part_offsets.specs.Parts.{IsSettled}
 use Rattle.soundness.specs.Seen.{content, trunk, seen, home, IsNear}
 use Rattle.soundness.specs.Typed.{OwnsByShape, Kept, Spot}
-use Rattle.soundness.specs.Ready.{AreActuals}
+use Rattle.soundness.specs.Sound.{goes_through_none, AreCopied}
+use Rattle.soundness.specs.Ready.{IsActualBy, AreActuals}
 use Rattle.typed_laws.specs.Needed.{Stays, Leads, Writes, IndexLaw}
 use Rattle.soundness.proofs.Near.{named_near, past_near}
 use Rattle.soundness.proofs.Walks.{way_along, Walked}
 use Rattle.soundness.proofs.Steps.{no_leaf}
 use Rattle.soundness.proofs.Scalars.{after_append, allows_both, acts, acts_append, read_way, look_way, number_along, named_along}
-use Rattle.soundness.proofs.Passing.{by_value}
+use Rattle.soundness.proofs.Passing.{way_by, way_of, head_acts, head_values, head_reads, reads_keep, one_given}
 use Rattle.soundness.proofs.Stays.{Quiet, One, Any, Goes, quiet_then, quiet, steps_quiet, name_quiet}
 use Rattle.null_places.specs.Compares.{Compares}
 use Rattle.null_places.proofs.Memories.{NoneGone, words_agree}
@@ -55,19 +61,19 @@ module _ (h : Here) where
   abbrev Same : {A : Type 0} → Evaluated A → Evaluated A → Type 0
   Same x y = SameTo h.typing x y
 
-  given_same : (v : Option Static) (n n' : Now) → SameNow h.typing n n' → Same (given v n) (given v n')
-  given_same None n n' same = (refl, same)
-  given_same (Some v) n n' same = (refl, same)
+  static_same : (v : Option Static) (n n' : Now) → SameNow h.typing n n' → Same (given v n) (given v n')
+  static_same None n n' same = (refl, same)
+  static_same (Some v) n n' same = (refl, same)
 
   one_same : (op : UnaryOperator) (ws : List machine.Word) (n n' : Now) → SameNow h.typing n n' → Same (operated_alone op ws n) (operated_alone op ws n')
   one_same op [] n n' same = (refl, same)
-  one_same op (a ∷ []) n n' same = given_same _ n n' same
+  one_same op (a ∷ []) n n' same = static_same _ n n' same
   one_same op (a ∷ b ∷ ws) n n' same = (refl, same)
 
   two_same : (op : Operator) (xs ys : List machine.Word) (n n' : Now) → SameNow h.typing n n' → Same (operated op xs ys n) (operated op xs ys n')
   two_same op [] ys n n' same = (refl, same)
   two_same op (a ∷ []) [] n n' same = (refl, same)
-  two_same op (a ∷ []) (b ∷ []) n n' same = given_same _ n n' same
+  two_same op (a ∷ []) (b ∷ []) n n' same = static_same _ n n' same
   two_same op (a ∷ []) (b ∷ c ∷ ys) n n' same = (refl, same)
   two_same op (a ∷ c ∷ xs) ys n n' same = (refl, same)
 
@@ -122,6 +128,40 @@ scalar_owns (shape.Access d c n) f e = cc
 scalar_owns (shape.Fields cs) f e = cc
 scalar_owns (shape.Elements a b el) f e = cc
 scalar_owns (shape.Same of) f e = cc
+
+-- ---- names that go through no access value
+
+abbrev has_deref : List Sel → Bool
+has_deref [] = false
+has_deref (sel.Deref ∷ rest) = true
+has_deref (sel.Field i ∷ rest) = has_deref rest
+has_deref (sel.Elem ∷ rest) = has_deref rest
+
+deref_front : (a b : List Sel) → has_deref a ≡ true → has_deref (a ++ b) ≡ true
+deref_front [] b e = cc
+deref_front (sel.Deref ∷ a) b e = refl
+deref_front (sel.Field i ∷ a) b e = deref_front a b e
+deref_front (sel.Elem ∷ a) b e = deref_front a b e
+
+deref_end : (a : List Sel) → has_deref (a ++ sel.Deref ∷ []) ≡ true
+deref_end [] = refl
+deref_end (sel.Deref ∷ a) = refl
+deref_end (sel.Field i ∷ a) = deref_end a
+deref_end (sel.Elem ∷ a) = deref_end a
+
+-- what is past a number goes through it
+past_deref : (v w : Way) → Past v w → has_deref (ways.sels_of w) ≡ true
+past_deref v (Object r) past = absurd past
+past_deref v (ways.Lost n) past = absurd past
+past_deref v (ways.Into w i) past = deref_front (ways.sels_of w) (ways.sel_of i ∷ []) (past_deref v w past)
+past_deref v (ways.All w) past = deref_end (ways.sels_of w)
+
+selectors_direct : (path : TypedTree) → goes_through_none path ≡ true → has_deref (selectors path) ≡ false
+unfolding goes_through_none selectors
+selectors_direct (IntoComponent i rest) direct = selectors_direct rest direct
+selectors_direct (Designated rest) direct = cc
+selectors_direct (Element index low high rest) direct = selectors_direct rest direct
+selectors_direct path direct = refl
 
 -- ---- names and expressions
 
@@ -430,9 +470,9 @@ module _ (h : Here) (settled : IsSettled h.typing.table) (hands : List Waiting) 
   if_quiet true x y p q = p
   if_quiet false x y p q = q
 
-  given_value : (x : ℕ) (ws : List machine.Word) (n n' : Now) → SameNow h.typing n n'
+  value_there : (x : ℕ) (ws : List machine.Word) (n n' : Now) → SameNow h.typing n n'
       → SameTo h.typing (followed_by (checked h (type_of h x) ws n) value_passed) (followed_by (checked h (type_of h x) ws n') value_passed)
-  given_value x ws n n' same = by_test (fits_type h.typing.table (type_of h x) ws)
+  value_there x ws n n' same = by_test (fits_type h.typing.table (type_of h x) ws)
     where
       by_test : (b : Bool) → SameTo h.typing (followed_by (if b then Done ws n else Raises run.ConstraintError n) value_passed)
           (followed_by (if b then Done ws n' else Raises run.ConstraintError n') value_passed)
@@ -455,29 +495,81 @@ module _ (h : Here) (settled : IsSettled h.typing.table) (hands : List Waiting) 
         simply h.typing (if b then viewed h e at else value h e at) (if b then viewed h e n' else value h e n') last last
             (if_same b (viewed h e at) (value h e at) (viewed h e n') (value h e n')
             (scalar_same AsView e stays none compares allowed n' same) (scalar_same AsValue e stays none compares allowed n' same))
-            (λ ws n n'' now. given_value x ws n n'' now),
+            (λ ws n n'' now. value_there x ws n n'' now),
         quiet_then at One (Any {A = Passed}) (if b then viewed h e at else value h e at) last
             (if_quiet b (viewed h e at) (value h e at) (quiet_here AsView e stays none allowed).0 (quiet_here AsValue e stays none allowed).0)
             (λ ws one. given_quiet x ws),
       )
 
-  pub all_same : (formals : List ℕ) (actuals : TypedTree) → AreActuals h.typing formals actuals → has_call actuals ≡ false → Compares h.typing actuals
-      → AllowsAll facts (acts (actual_values h.typing (map (by_value h.typing own_law) formals) actuals)) → (n' : Now) → SameNowAt n'
-      → SameTo h.typing (all_passed h (map (by_value h.typing own_law) formals) formals actuals at) (all_passed h (map (by_value h.typing own_law) formals) formals actuals n')
+  any_quiet : {A : Type 0} (P : A → Type 0) (x : Evaluated A) → Quiet at P x → Quiet at (Any {A = A}) x
+  any_quiet P (Done a n) q = (q.0, tt)
+  any_quiet P (Raises e n) q = q
+  any_quiet P (Traps e n) q = q
+
+  -- a name that goes through no access value has nothing moved on its way
+  direct_clean : (x : ℕ) (path : TypedTree) → goes_through_none path ≡ true → Clean x path
+  direct_clean x path direct w named same_name v past moved =
+      let none : has_deref (ways.sels_of w) ≡ false = ap (λ (z : PlaceName). has_deref z.sels) same_name ∙ selectors_direct path direct in
+      let no : true ≡ false = sym (past_deref v w past) ∙ none in cc
+
+  read_back : (x : ℕ) (k : Place) (n n' : Now) → NoneGone (slots_of h.typing n.memory k) → SameNow h.typing n n'
+      → SameTo h.typing (followed_by (checked h (type_of h x) (words_of h.typing n.memory k) n) (λ ws now. Done (From k) now))
+      (followed_by (checked h (type_of h x) (words_of h.typing n'.memory k) n') (λ ws now. Done (From k) now))
+  read_back x k n n' none same =
+      subst (λ z. SameTo h.typing (followed_by (checked h (type_of h x) (words_of h.typing n.memory k) n) (λ ws now. Done (From k) now))
+      (followed_by (checked h (type_of h x) z n') (λ ws now. Done (From k) now))) (words_agree h.typing n.memory n'.memory same.0 k none)
+      (by_test (words_of h.typing n.memory k) (fits_type h.typing.table (type_of h x) (words_of h.typing n.memory k)))
+    where
+      by_test : (ws : List machine.Word) (b : Bool)
+          → SameTo h.typing (followed_by (if b then Done ws n else Raises run.ConstraintError n) (λ ws now. Done (From k) now))
+          (followed_by (if b then Done ws n' else Raises run.ConstraintError n') (λ ws now. Done (From k) now))
+      by_test ws true = (refl, same)
+      by_test ws false = (refl, same)
+
+  -- an actual, by the mode of its formal
+  given_same : (mode_of : Mode) (x : ℕ) (e : TypedTree) → IsActualBy h.typing mode_of e → (is_in mode_of ≡ false → goes_through_none e ≡ true)
+      → has_call e ≡ false → Compares h.typing e → AllowsAll facts (acts (head_acts h.typing own_law mode_of e)) → (n' : Now) → SameNowAt n'
+      → SameTo h.typing (passed h (way_by h.typing own_law mode_of) x e at) (passed h (way_by h.typing own_law mode_of) x e n')
+  unfolding has_call Compares goes_through_none
+  given_same mode.In x e stays direct none compares allowed n' same = (passed_same x e stays none compares allowed n' same).0
+  given_same mode.Out x (Name p y path u) (t, (lead, type), plain) direct none compares allowed n' same =
+      simply h.typing (place_of h (Name p y path u) at) (place_of h (Name p y path u) n') (λ k now. Done (To k) now) (λ k now. Done (To k) now)
+      (place_same p y u path lead none compares allowed (direct_clean y path (direct refl)) n' same).0 (λ k n n'' now. (refl, now))
+  given_same mode.Out x e (t, never, plain) direct none compares allowed n' same = absurd never
+  given_same mode.InOut x (Name p y path u) (t, (lead, type), plain) direct none compares allowed n' same =
+      let place = place_same p y u path lead none compares allowed (direct_clean y path (direct refl)) n' same in
+      let back : Place → Now → Evaluated Passed =
+      (λ k now. followed_by (checked h (type_of h x) (words_of h.typing now.memory k) now) (λ ws now. Done (From k) now)) in
+      then_same h.typing (IsPlaced y u path) (place_of h (Name p y path u) at) (place_of h (Name p y path u) n') back back place.1 place.0
+      (λ k n n'' found now. read_back x k n n'' (subst (λ (z : Now). NoneGone (slots_of h.typing z.memory k)) (sym found.2.1)
+      (scalar_none k found.2.0 u found.2.2 found.2.4 (subst (λ z. is_scalar (full h.typing.table z) ≡ true) (sym type) plain))) now)
+  given_same mode.InOut x e (t, never, plain) direct none compares allowed n' same = absurd never
+
+  abbrev ways_of : List ℕ → List Passing
+  ways_of formals = map (way_of h.typing own_law) formals
+
+  pub all_same : (formals : List ℕ) (actuals : TypedTree) → AreActuals h.typing formals actuals → AreCopied h.typing formals actuals → has_call actuals ≡ false
+      → Compares h.typing actuals → AllowsAll facts (acts (actual_values h.typing (map (way_of h.typing own_law) formals) actuals)) → (n' : Now) → SameNowAt n'
+      → SameTo h.typing (all_passed h (map (way_of h.typing own_law) formals) formals actuals at) (all_passed h (map (way_of h.typing own_law) formals) formals actuals n')
   unfolding has_call Compares
-  all_same [] actuals stay none compares allowed n' same = (refl, same)
-  all_same (x ∷ formals) (More e rest) stay none compares allowed n' same =
+  all_same [] actuals stay copied none compares allowed n' same = (refl, same)
+  all_same (x ∷ formals) (More e rest) stay copied none compares allowed n' same =
+      let mode_of : Mode = (object_at h.typing x).mode in
       let calls = or_cases (has_call e) (has_call rest) none in
-      let ways_of : List Passing = map (by_value h.typing own_law) formals in
-      let each = allows_both facts (acts (acts_in h.typing e)) (acts (actual_values h.typing ways_of rest))
-      (subst (AllowsAll facts) (acts_append (acts_in h.typing e) (actual_values h.typing ways_of rest)) allowed) in
-      let one = passed_same x e stay.0 calls.0 compares.0 each.0 n' same in
-      let stays_so = (quiet_here AsValue e stay.0 calls.0 each.0).1 in
-      let next : Passed → Now → Evaluated (List Passed) = (λ a now. followed_by (all_passed h ways_of formals rest now) (λ more now. Done (a ∷ more) now)) in
-      then_same h.typing (QuietAt (Any {A = Passed})) (passed h ByValue x e at) (passed h ByValue x e n') next next one.1 one.0
+      let both : AllowsAll facts (acts (head_acts h.typing own_law mode_of e ++ actual_values h.typing (ways_of formals) rest)) =
+      subst (λ z. AllowsAll facts (acts z)) (head_values h.typing own_law mode_of e (ways_of formals) rest) allowed in
+      let each = allows_both facts (acts (head_acts h.typing own_law mode_of e)) (acts (actual_values h.typing (ways_of formals) rest))
+      (subst (AllowsAll facts) (acts_append (head_acts h.typing own_law mode_of e) (actual_values h.typing (ways_of formals) rest)) both) in
+      let still : after (acts (head_acts h.typing own_law mode_of e)) facts ≡ facts =
+      reads_keep (head_acts h.typing own_law mode_of e) (head_reads h.typing own_law mode_of e stay.0) facts in
+      let quiet_there = any_quiet _ (passed h (way_by h.typing own_law mode_of) x e at)
+      (one_given h settled hands leaks m waits other facts kept sound alone live index_law own_law all_named mode_of x e stay.0 copied.0 calls.0 each.0) in
+      let next : Passed → Now → Evaluated (List Passed) = (λ a now. followed_by (all_passed h (ways_of formals) formals rest now) (λ more now. Done (a ∷ more) now)) in
+      then_same h.typing (QuietAt (Any {A = Passed})) (passed h (way_by h.typing own_law mode_of) x e at) (passed h (way_by h.typing own_law mode_of) x e n') next next quiet_there
+      (given_same mode_of x e stay.0 copied.0 calls.0 compares.0 each.0 n' same)
       (λ a n n'' q now. subst (λ z. SameTo h.typing (next a z) (next a n'')) (sym q.0)
-      (simply h.typing (all_passed h ways_of formals rest at) (all_passed h ways_of formals rest n'') (λ more now. Done (a ∷ more) now) (λ more now. Done (a ∷ more) now)
-      (all_same formals rest stay.1 calls.1 compares.1 (subst (λ z. AllowsAll z (acts (actual_values h.typing ways_of rest))) stays_so each.1) n''
+      (simply h.typing (all_passed h (ways_of formals) formals rest at) (all_passed h (ways_of formals) formals rest n'') (λ more now. Done (a ∷ more) now) (λ more now. Done (a ∷ more) now)
+      (all_same formals rest stay.1 copied.1 calls.1 compares.1 (subst (λ z. AllowsAll z (acts (actual_values h.typing (ways_of formals) rest))) still each.1) n''
       (subst (λ z. SameNow h.typing z n'') q.0 now))
       (λ more k k' last. (refl, last))))
-  all_same (x ∷ formals) actuals stay none compares allowed n' same = (refl, same)
+  all_same (x ∷ formals) actuals stay copied none compares allowed n' same = (refl, same)

@@ -2,7 +2,7 @@
 use Rattle.std.proofs.Common.{◌≡◌, refl, sym, ap, ◌∙◌, subst, inl, inr, ℕ, suc, ◌<◌, Bool, true, false, ◌&&◌, ◌||◌, List, [], ◌∷◌, ◌++◌, map, length, arith, None}
 use Rattle.spark_base.specs.Lists.{Has}
 use Rattle.spark_base.specs.declared.position.Pos.{Pos}
-use Rattle.spark_base.proofs.Lists.{Has-append_cases, Has-map_from}
+use Rattle.spark_base.proofs.Lists.{Has-append_cases, Has-map_from, Has-append_left}
 use Rattle.place_names.specs.declared.act.Act.{Act}
 use Rattle.place_names.specs.declared.act.Placed.{Placed}
 use Rattle.place_names.specs.declared.fact.Fact.{Fact}
@@ -16,7 +16,7 @@ use Rattle.typed_tree.specs.Trees.{TypedTree, Name, NoMore, More}
 use Rattle.typed_tree.specs.Programs.{TypedProgram}
 use Rattle.flow_paths.specs.declared.report.Effects.{Effects}
 use Rattle.flow_paths.specs.Instructions.{Instruction, Skip, Declare, Assign, Call, Output, Input, Release, Test, Choose, Start, Next, Evaluate, LeaveLoop, Hold, EndScope, Finish, Fall}
-use Rattle.flow_paths.specs.Objects.{Typing, object_at, sub_at, is_formal, is_package_object, passings}
+use Rattle.flow_paths.specs.Objects.{Typing, object_at, sub_at, is_formal, is_package_object, passings, Passing}
 use Rattle.flow_paths.specs.Names.{has_call}
 use Rattle.flow_paths.specs.Acts as flow
 use Rattle.flow_paths.specs.Acts.{acts_of, acts_in}
@@ -26,15 +26,14 @@ use Rattle.flow_paths.specs.Paths.{PathPoint, path_point, ControlPath, acts_at, 
 use Rattle.flow_paths.specs.Effects.{act_writes, act_reads, flow_sub_at, path_points, called_acts}
 use Rattle.machine.specs.Memory.{Memory}
 use Rattle.machine.specs.States.{Frame, State, sub_of}
-use Rattle.machine.specs.Step.{Turn, turn, finish}
-use Rattle.machine.specs.Step as steps
+use Rattle.machine.specs.Step.{Turn, turn}
 use Rattle.machine.specs.Owners.{is_in, is_in_formal, waiting_in}
 use Rattle.machine.specs.Run.{step}
 use Rattle.owned_ways.specs.Ways.{Way, Sound, AllowsAll}
 use Rattle.soundness.specs.Seen.{home, IsNear, is_view_formal}
 use Rattle.soundness.specs.Typed.{Kept}
 use Rattle.typed_laws.specs.Needed.{IsFine, Source, FirstWrites, FirstStays}
-use Rattle.soundness.specs.Sound.{calls_nothing, calls_procedures, Stage, facts_of, Elsewhere, AreStages, Uses, AreRunning, IsNamedSub, IsAtPoint, view_of, IsSound}
+use Rattle.soundness.specs.Sound.{calls_nothing, calls_procedures, Stage, facts_of, Elsewhere, AreStages, Uses, AreRunning, IsNamedSub, IsAtPoint, view_of, IsSound, AreCopied}
 use Rattle.soundness.specs.Ready.{IsCalled, IsReady}
 use Rattle.soundness.proofs.Scalars.{acts, acts_append, allows_both}
 use Rattle.soundness.proofs.Paths.{facts_next}
@@ -43,27 +42,16 @@ use Rattle.soundness.proofs.Inherited.{Splits, allowed_beside, is_open, apart_al
 use Rattle.soundness.proofs.Opened.{instruction_open}
 use Rattle.soundness.proofs.Used.{writes_used, reads_used, path_acts}
 use Rattle.soundness.proofs.Around.{IsFar, far_alone, is_inherited, inherited, inherited_from, IsBetween, beside, unused_there, all_between}
-use Rattle.soundness.proofs.Returning.{finish_returns, finish_ends}
 use Rattle.soundness.proofs.Contents.{bool_cases}
-use Rattle.soundness.proofs.Passing.{plain_type, ArePlain, by_value, AreReads, read_open, values_read, values_alone, passed_to}
+use Rattle.soundness.proofs.Passing.{plain_type, ArePlain, way_of, AreReads, read_open, values_read, passed_to}
 use Rattle.soundness.proofs.Waits.{or_both}
 use Rattle.soundness.proofs.Successors.{not_true, both_not, calls_cases, finish_or, unmoved_after}
 use Rattle.soundness.proofs.Stepping.{step_is, calls_there, fine, facts_are, allowed_whole, allowed}
 use Rattle.null_places.specs.Agrees.{Agrees}
 use Rattle.null_places.specs.Compares.{Compares, ComparesIn, AreCompared}
-use Rattle.null_places.proofs.Memories.{frame_agree}
-use Rattle.null_places.proofs.Only.{OnlyOwners, frame_only}
-use Rattle.null_places.proofs.Calls.{call_same}
+use Rattle.null_places.proofs.Only.{OnlyOwners}
+use Rattle.null_places.proofs.Calls.{call_same, finish_same}
 use Rattle.null_places.proofs.Instructions.{SameStepBy, SameStep, twin, both_are, declare_same, assign_same, end_scope_same, release_same, input_same, skip_same, fall_same, test_same, choose_same, leave_loop_same, output_same, line_same, start_same, next_same}
-
--- the end of a call
-finish_same : (t : Turn) (n : Memory) → Agrees t.state.memory n → OnlyOwners (steps.typing t) t.state.memory → t.frame.returns ≡ [] → (g : Frame) (rest : List Frame)
-    → t.outer ≡ g ∷ rest → SameStep t (finish t) (finish (twin t n))
-finish_same t n agrees only none g [] outer =
-    both_are t _ _ _ _ (finish_ends t g outer none) (finish_ends (twin t n) g outer none) (refl, (refl, frame_agree (length t.outer) t.state.memory n agrees))
-finish_same t n agrees only none g (f ∷ rest) outer =
-    both_are t _ _ _ _ (finish_returns t g f rest outer none) (finish_returns (twin t n) g f rest outer none)
-    ((refl, frame_agree (length t.outer) t.state.memory n agrees), frame_only (steps.typing t) t.state.memory only (length t.outer))
 
 module _ (table : Table) (typed : TypedProgram) (effects : Effects) (input : List ℕ) (ready : IsReady table typed effects)
     (compared : AreCompared (flow_program table typed)) where
@@ -85,7 +73,7 @@ module _ (table : Table) (typed : TypedProgram) (effects : Effects) (input : Lis
 
   no_in_formals : (x : ℕ) → is_view_formal s x ≡ false
   no_in_formals x = elim (bool_cases (is_formal s x)) [
-    | inl e ↦ no_second (is_in_formal s x) (is_owning s.table (object_at s x).of) (plain_type s ready.owns (object_at s x).of (ready.class.formals x e).1)
+    | inl e ↦ no_second (is_in_formal s x) (is_owning s.table (object_at s x).of) (plain_type s ready.owns (object_at s x).of (ready.class.formals x e))
     | inr e ↦ ap (λ b. (b && is_in (object_at s x).mode) && is_owning s.table (object_at s x).of) e
   ]
 
@@ -374,40 +362,48 @@ module _ (table : Table) (typed : TypedProgram) (effects : Effects) (input : Lis
       abbrev formals : List ℕ
       formals = (sub_of program k).formals
 
-      plain_formals : ArePlain s ready.owns formals
-      plain_formals x has = ready.class.formals x (called.formals x has)
+      scalar_formals : ArePlain s ready.owns formals
+      scalar_formals x has = ready.class.formals x (called.formals x has)
 
       no_callee_result : (sub_of program k).result ≡ None
       no_callee_result =
           ap (λ (z : FlowSub). z.result) (sub_there table typed k called.procedure.named called.procedure.stands)
           ∙ called.procedure.procedure called.procedure.named called.procedure.stands
 
-      ways_are : passings s (sub_at s k) ≡ map (by_value s ready.owns) formals
-      ways_are = passed_to program ready.owns k no_callee_result plain_formals
+      abbrev ways_there : List Passing
+      ways_there = map (way_of s ready.owns) formals
+
+      ways_are : passings s (sub_at s k) ≡ ways_there
+      ways_are = passed_to program ready.owns k no_callee_result scalar_formals
+
+      copied_there : AreCopied s formals actuals
+      copied_there = ready.class.copied (flow_sub own named) (sub_has table typed top.frame.sub named of_sub) here in_sub k actuals None e called.formals
 
       abbrev values : List Placed
-      values = flow.actual_values s (map (by_value s ready.owns) formals) actuals
+      values = flow.actual_values s ways_there actuals
 
-      values_are : placed_by s p.instr ≡ values
-      values_are =
-          ap (placed_by s) e ∙ ap (λ z. flow.actual_values s z actuals ++ flow.actual_acts z actuals) ways_are
-          ∙ values_alone s ready.owns formals actuals
+      abbrev copies : List Placed
+      copies = flow.actual_acts ways_there actuals
+
+      values_are : placed_by s p.instr ≡ values ++ copies
+      values_are = ap (placed_by s) e ∙ ap (λ z. flow.actual_values s z actuals ++ flow.actual_acts z actuals) ways_are
 
       reads_there : AreReads values
       reads_there = values_read s ready.owns formals actuals called.actuals_stay
 
-      -- the actuals are read before the acts on package objects
+      -- the actuals are read before the acts on what is copied back and on package objects
       own_allowed : AllowsAll own_facts (acts values)
       own_allowed =
-          (allows_both own_facts (acts values) (acts (called_acts program effects p.pos p.instr))
-          (subst (AllowsAll own_facts) (ap (λ z. acts (z ++ called_acts program effects p.pos p.instr)) values_are ∙ acts_append values (called_acts program effects p.pos p.instr))
-          (allowed_whole table typed effects input ready state top older outer named p frames of_sub at_point path))).0
+          let all = (allows_both own_facts (acts (values ++ copies)) (acts (called_acts program effects p.pos p.instr))
+          (subst (AllowsAll own_facts) (ap (λ z. acts (z ++ called_acts program effects p.pos p.instr)) values_are ∙ acts_append (values ++ copies) (called_acts program effects p.pos p.instr))
+          (allowed_whole table typed effects input ready state top older outer named p frames of_sub at_point path))).0 in
+          (allows_both own_facts (acts values) (acts copies) (subst (AllowsAll own_facts) (acts_append values copies) all)).0
 
       values_apart : (a : Act) → Has (acts values) a → (f : Fact) → Has (inherited program effects older) f → forbids a f ≡ None
       values_apart a has f there =
           let from = Has-map_from (λ (z : Placed). z.act) values a has in
           ap (λ z. forbids z f) (sym from.2)
-          ∙ one_apart from.0 (subst (λ zs. Has zs from.0) (sym values_are) from.1) (read_open from.0 (reads_there from.0 from.1)) f there
+          ∙ one_apart from.0 (subst (λ zs. Has zs from.0) (sym values_are) (Has-append_left values copies from.0 from.1)) (read_open from.0 (reads_there from.0 from.1)) f there
 
       values_allowed : AllowsAll facts_now (acts values)
       values_allowed = allowed_beside (acts values) facts_now own_facts (inherited program effects older) from_both own_allowed values_apart
@@ -415,7 +411,7 @@ module _ (table : Table) (typed : TypedProgram) (effects : Effects) (input : Lis
       calls_it : SameStep turn_here (turn turn_here (Call k actuals None)) (turn (twin turn_here n) (Call k actuals None))
       calls_it =
           call_same turn_here ready.accepted.settled ready.owns far alone_there no_in_formals ready.class.all_named facts_now well_now kept only n agrees k actuals
-          ways_are called.actuals_stay no_call (subst (ComparesIn s) e compares_here) values_allowed
+          scalar_formals ways_are called.actuals_stay copied_there no_call (subst (ComparesIn s) e compares_here) values_allowed
 
     pub procedure_same : SameAt state n
     procedure_same =
@@ -423,7 +419,7 @@ module _ (table : Table) (typed : TypedProgram) (effects : Effects) (input : Lis
         (step_is table typed effects input ready (record state { memory = n }) top older outer named p frames of_sub at_point)
         (elim (finish_or p.instr) [
           | inl is ↦ subst (λ i. SameStep turn_here (turn turn_here i) (turn (twin turn_here n) i)) (sym is)
-              (finish_same turn_here n agrees only running.1.1 below.frame rest refl)
+              (finish_same turn_here ready.accepted.settled ready.owns far facts_now n agrees (well_now, kept) only running.1.1 below.frame rest refl)
           | inr going ↦ elim (calls_cases p.instr (calls_there table typed effects input ready state top older outer named p frames of_sub at_point)) [
             | inl calls ↦ goes_plainly calls going
             | inr call ↦ subst (λ i. SameStep turn_here (turn turn_here i) (turn (twin turn_here n) i)) (sym call.2) (calls_it call.0 call.1 call.2 call.3)

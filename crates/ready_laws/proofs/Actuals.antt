@@ -12,13 +12,12 @@ use Rattle.typed_tree.specs.Trees.{TypedTree, Name, Call, Parens, More}
 use Rattle.flow_paths.specs.Objects.{Typing, Signature, object_at, sub_at, is_formal}
 use Rattle.flow_paths.specs.Laid.{FlowProgram, flow_typing}
 use Rattle.machine.specs.States.{sub_of}
-use Rattle.machine.specs.Owners.{is_in}
-use Rattle.typed_laws.specs.Fine.{counts, lists}
-use Rattle.typed_laws.specs.Needed.{Stays}
-use Rattle.typed_laws.proofs.Sound.{stays}
-use Rattle.typed_steps.specs.Steps.{IsViewed, Taken, IsActual, ActualsTaken, IsTypedStep, AreTyped}
+use Rattle.typed_laws.specs.Fine.{Agree, counts, lists}
+use Rattle.typed_laws.specs.Needed.{Matches, Stays, IsPlace}
+use Rattle.typed_laws.proofs.Sound.{matches, stays, leads}
+use Rattle.typed_steps.specs.Steps.{IsPlaceOf, IsViewed, Taken, IsActual, ActualsTaken, IsTypedStep, AreTyped}
 use Rattle.soundness.specs.Sound.{IsProcedureClass}
-use Rattle.soundness.specs.Ready.{AreActuals}
+use Rattle.soundness.specs.Ready.{IsActualBy, AreActuals}
 use Rattle.soundness.proofs.Passing.{signature_there}
 use Rattle.ready_laws.specs.InOrder.{ArePassed}
 
@@ -39,20 +38,31 @@ module _ (y : Typing) (whole : counts (shape_of y.table integer) ≡ true) (list
   taken_stays want e plain (inl has) = stays y whole listed word_law e want has plain
   taken_stays want e plain (inr view) = absurd (viewed want e plain view)
 
-  abbrev IsPlain : ℕ → Type 0
-  IsPlain x = (is_in (object_at y x).mode ≡ true) × (is_scalar (full y.table (object_at y x).of) ≡ true)
+  scalar_back : (t u : ℕ) → Matches y.table t u → is_scalar (full y.table u) ≡ true → is_scalar (full y.table t) ≡ true
+  scalar_back t u (inl e) plain = ap (λ z. is_scalar (view_of z)) e ∙ plain
+  scalar_back t u (inr (a, b)) plain = a
 
-  actual_stays : (x : ℕ) (e : TypedTree) → IsPlain x → IsActual y x e → Stays y e
-  actual_stays x e plain actual = by_mode (object_at y x).mode refl actual
+  -- what is copied back to is a name
+  place_is : (x t : ℕ) (e : TypedTree) → is_scalar (full y.table (object_at y x).of) ≡ true → IsPlaceOf y t e → Agree y.table t (object_at y x).of
+      → (u : ℕ) × IsPlace y e u × (is_scalar (full y.table u) ≡ true)
+  place_is x t (Name p z path u) plain place agree = (
+    t,
+    (leads y whole listed word_law path (object_at y z).of u place.0, place.1),
+    scalar_back t (object_at y x).of (matches y.table t (object_at y x).of agree) plain,
+  )
+  place_is x t e plain place agree = absurd place
+
+  actual_is : (x : ℕ) (e : TypedTree) → is_scalar (full y.table (object_at y x).of) ≡ true → IsActual y x e → IsActualBy y (object_at y x).mode e
+  actual_is x e plain actual = by_mode (object_at y x).mode refl actual
     where
-      by_mode : (m : Mode) → (object_at y x).mode ≡ m → IsActual y x e → Stays y e
-      by_mode mode.In is g = taken_stays (object_at y x).of e plain.1 (rw is at g)
-      by_mode mode.Out is g = (let no : false ≡ true = sym (ap is_in is) ∙ plain.0 in cc)
-      by_mode mode.InOut is g = (let no : false ≡ true = sym (ap is_in is) ∙ plain.0 in cc)
+      by_mode : (m : Mode) → (object_at y x).mode ≡ m → IsActual y x e → IsActualBy y m e
+      by_mode mode.In is g = taken_stays (object_at y x).of e plain (rw is at g)
+      by_mode mode.Out is g = (let place = rw is at g in place_is x place.0 e plain place.1 place.2)
+      by_mode mode.InOut is g = (let place = rw is at g in place_is x place.0 e plain place.1 place.2)
 
-  actuals_stay : (formals : List ℕ) (actuals : TypedTree) → ((x : ℕ) → Has formals x → IsPlain x) → ActualsTaken y formals actuals → AreActuals y formals actuals
+  actuals_stay : (formals : List ℕ) (actuals : TypedTree) → ((x : ℕ) → Has formals x → is_scalar (full y.table (object_at y x).of) ≡ true) → ActualsTaken y formals actuals → AreActuals y formals actuals
   actuals_stay (x ∷ formals) (More e rest) plain (one, others) =
-      (actual_stays x e (plain x (inl refl)) one, actuals_stay formals rest (λ z has. plain z (inr has)) others)
+      (actual_is x e (plain x (inl refl)) one, actuals_stay formals rest (λ z has. plain z (inr has)) others)
   actuals_stay [] actuals plain taken = tt
   actuals_stay (x ∷ formals) actuals plain taken = absurd taken
 

@@ -38,7 +38,7 @@ use Rattle.soundness.proofs.Points.{IsLaid, flow_at, typing_same, point_has, poi
 use Rattle.soundness.proofs.Successors.{calls_cases, procedures_take_none}
 use Rattle.soundness.proofs.Used.{called_add_none}
 use Rattle.soundness.specs.Ready.{AreActuals}
-use Rattle.soundness.proofs.Passing.{AreReads, read_adds_none, ArePlain, call_reads, passed_to}
+use Rattle.soundness.proofs.Passing.{AddNone, ArePlain, call_adds, passed_to}
 use Rattle.soundness.proofs.Waits.{drop_none}
 use Rattle.scope_laws.specs.Order.{IsOrdered, named_in}
 use Rattle.ready_laws.proofs.Moves.{instruction_owned}
@@ -128,8 +128,8 @@ ended_fact x borrower facts name has root = elim (Has-append_cases (filter (λ f
 
 -- ---- paths
 
--- What is called is a procedure whose formals are of mode `in` and of scalar types, and the actuals
--- stay within what they name.
+-- What is called is a procedure whose formals are of scalar types, and the actuals stay within what
+-- they name.
 pub record IsPlainCall (program : FlowProgram) (owns : OwnsByShape (flow_typing program).table) (n : ℕ) (actuals : TypedTree) : Type 0 where
   pub result : (sub_of program n).result ≡ None
   pub formals : ArePlain (flow_typing program) owns (sub_of program n).formals
@@ -195,13 +195,13 @@ module _ (table : Table) (typed : TypedProgram) (effects : Effects) (class : IsP
       abbrev whole_acts : Instruction → List Placed
       whole_acts i = acts_here i ++ called_acts program effects p.pos i
 
-      -- a call reads what its actuals name
-      call_reads_there : (n : ℕ) (actuals : TypedTree) → p.instr ≡ Call n actuals None → AreReads (acts_here p.instr)
-      call_reads_there n actuals e =
+      -- the acts of a call add no fact
+      call_adds_there : (n : ℕ) (actuals : TypedTree) → p.instr ≡ Call n actuals None → AddNone (acts_here p.instr)
+      call_adds_there n actuals e =
           let plain = plainly (flow_sub own named) in_program (flow_at own named p) in_sub n actuals None e in
-          subst AreReads
+          subst AddNone
           (sym (ap acts_here e ∙ ap (λ ways. flow.actual_values s ways actuals ++ flow.actual_acts ways actuals) (passed_to program owns n plain.result plain.formals)))
-          (call_reads s owns (sub_of program n).formals actuals plain.actuals_stay)
+          (call_adds s owns (sub_of program n).formals actuals plain.actuals_stay)
 
       -- what the acts of the point move
       own_known : (a : Placed) → Has (acts_here p.instr) a → (name : PlaceName) → Has (adds a.act) (Moved name) → Known p name.root
@@ -209,7 +209,7 @@ module _ (table : Table) (typed : TypedProgram) (effects : Effects) (class : IsP
         | inl calls ↦ (
             let found = instruction_owned s owns class.all_named named.sub.result kept p.pos p.instr fine_there calls a has name moved in
             (found.1, seen p there name.root found.0 found.1))
-        | inr call ↦ absurd (read_adds_none a (call_reads_there call.0 call.1 call.2 a has) (Moved name) moved)
+        | inr call ↦ absurd (call_adds_there call.0 call.1 call.2 a has (Moved name) moved)
       ]
 
       moves_known : (a : Act) → Has (acts (whole_acts p.instr)) a → (name : PlaceName) → Has (adds a) (Moved name) → Known p name.root

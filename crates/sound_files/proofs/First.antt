@@ -1,14 +1,17 @@
 -- A text without anonymous access types and formals, without calls, is a program of the first class.
-use Rattle.std.proofs.Common.{◌≡◌, subst, sym, ◌∙◌, ℕ, true, false, List, get_or}
+use Rattle.std.proofs.Common.{◌≡◌, refl, subst, sym, ◌∙◌, inl, ℕ, true, false, List, [], ◌∷◌, get_or}
+use Rattle.spark_base.specs.Lists.{Has}
 use Rattle.resolved_tree.specs.Trees.{Program}
 use Rattle.type_definitions.specs.declared.table.Shape.TheVariants as shape
 use Rattle.type_definitions.specs.Types.{Table, shape_of}
 use Rattle.type_definitions.specs.Whole.{known_of}
 use Rattle.typed_tree.specs.declared.object.Object.{Object}
+use Rattle.typed_tree.specs.Trees.{TypedTree}
 use Rattle.typed_tree.specs.Programs.{text_io}
 use Rattle.flow_paths.specs.Objects.{is_formal, is_formal_kind}
 use Rattle.flow_paths.specs.Laid.{FlowProgram, flow_typing, flow_program}
-use Rattle.soundness.specs.Sound.{IsFirstClass, IsProcedureClass}
+use Rattle.machine.specs.States.{sub_of}
+use Rattle.soundness.specs.Sound.{IsFirstClass, AreCopied, IsProcedureClass}
 use Rattle.soundness.proofs.Points.{flow_table}
 use Rattle.ready_laws.proofs.Temporaries.{few_temporaries, no_temporaries}
 use Rattle.order_laws.specs.Orderly.{typed_of}
@@ -43,4 +46,9 @@ module _ (p : Program) where
         access_named p text.named t d constant named (subst (λ (rows : Table). shape_of rows t ≡ shape.Access d constant named) (flow_table table (typed_of p)) is);
     calls = calls;
     formals = λ x is. (let no : true ≡ false = sym is ∙ formless_class text calls x in cc);
+    copied = λ sub has q there n actuals result is known. none_copied (sub_of flow n).formals actuals known;
   }
+    where
+      none_copied : (formals : List ℕ) (actuals : TypedTree) → ((x : ℕ) → Has formals x → is_formal (flow_typing flow) x ≡ true) → AreCopied (flow_typing flow) formals actuals
+      none_copied [] actuals known = tt
+      none_copied (x ∷ formals) actuals known = absurd (let no : true ≡ false = sym (known x (inl refl)) ∙ formless_class text calls x in cc)

@@ -111,7 +111,7 @@ module _ (table : Table) (typed : TypedProgram) (effects : Effects) (ready : IsR
     top = stage 0 0;
     older = [];
     stages = (refl, refl, tt);
-    running = (refl, (refl, refl, refl));
+    running = (refl, (refl, (λ r has. absurd has), refl));
     path = begins (first_point 0 ready.packages ready.stands p rest is);
     sound = empty_sound (flow_typing program) (home (flow_typing program) 0) (Elsewhere program effects []) [];
     kept = empty_kept (flow_typing program);
@@ -128,7 +128,7 @@ module _ (table : Table) (typed : TypedProgram) (effects : Effects) (ready : IsR
     top = stage ready.main 1;
     older = stage 0 0 ∷ [];
     stages = (refl, refl, (refl, refl, tt));
-    running = (ready.main_there, (refl, refl, refl), (refl, (refl, refl, refl)));
+    running = (ready.main_there, (refl, (λ r has. absurd has), refl), (refl, (refl, (λ r has. absurd has), refl)));
     path = begins (first_point ready.main ready.main_there.named ready.main_there.stands ready.main_there.point ready.main_there.points ready.main_there.begins);
     sound = empty_sound (flow_typing program) (home (flow_typing program) 1) (Elsewhere program effects (stage 0 0 ∷ [])) [];
     kept = empty_kept (flow_typing program);

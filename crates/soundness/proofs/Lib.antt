@@ -46,6 +46,7 @@ pub mod Inherited
 pub mod Opened
 pub mod Used
 pub mod Around
+pub mod Fixed
 pub mod Passing
 pub mod Returning
 -- the state before the first step; each step; the run

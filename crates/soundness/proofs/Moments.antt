@@ -52,7 +52,7 @@ name_part : (w : Way) (p : List Step) → name_of (along w p) ≡ extend (name_o
 name_part w p = (λ j. record { root = number_part w p j; sels = sels_part w p j })
 
 -- no way of a hand is one of a frame
-no_hand_named : (at_home : ℕ → ℕ) (w : Way) (h : ℕ) → Named at_home w → base_of w ≡ hand h → ⊥
+pub no_hand_named : (at_home : ℕ → ℕ) (w : Way) (h : ℕ) → Named at_home w → base_of w ≡ hand h → ⊥
 no_hand_named at_home (Object (OfVariable f x)) h n e = cc
 no_hand_named at_home (Object (OfHand k)) h n e = n
 no_hand_named at_home (Lost c) h n e = n

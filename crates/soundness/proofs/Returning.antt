@@ -1,25 +1,30 @@
 -- The end of a call: the variables of its frame are removed, and what ways find gone then is moved
 -- by facts of the frames that are left.
-use Rattle.std.proofs.Common.{◌≡◌, refl, sym, ap, ◌∙◌, subst, ◌⊎◌, inl, inr, ℕ, true, false, not, List, [], ◌∷◌, ◌++◌, length, get_or, if◌then◌else◌}
+use Rattle.std.proofs.Common.{◌≡◌, refl, sym, ap, ◌∙◌, subst, ◌⊎◌, inl, inr, ℕ, Bool, true, false, not, List, [], ◌∷◌, ◌++◌, length, get_or, if◌then◌else◌}
 use Rattle.std.specs.Prelude.{flat_map}
 use Rattle.std.proofs.lemmas.List.{length-map}
 use Rattle.spark_base.specs.Lists.{Has}
 use Rattle.place_names.specs.declared.fact.Fact.{Fact}
 use Rattle.place_names.specs.declared.fact.Fact.TheVariants.{Moved}
 use Rattle.place_names.specs.Names.{Name}
+use Rattle.type_definitions.specs.Types.{full, is_scalar}
 use Rattle.flow_paths.specs.declared.report.Effects.{Effects}
 use Rattle.flow_paths.specs.Objects.{Typing, object_at, is_package_object}
 use Rattle.flow_paths.specs.Laid.{FlowProgram, flow_typing}
-use Rattle.machine.specs.Words.{default}
-use Rattle.machine.specs.Memory.{Memory, Slot, no_slot, variable_slots, without_frame}
-use Rattle.machine.specs.States.{Waiting, Frame, Leak, State, Normal, Goes, Ends}
-use Rattle.machine.specs.Step.{Turn, counted, finish}
+use Rattle.machine.specs.Words.{default, fits_type}
+use Rattle.machine.specs.Words as machine
+use Rattle.machine.specs.Memory.{Memory, Place, Slot, no_slot, variable_slots, words_of, stored, moved_out, without_frame}
+use Rattle.machine.specs.Evaluate.{Now, Exception, ConstraintError, Evaluated, Done, Raises, Traps, followed_by, checked, variable_place}
+use Rattle.machine.specs.States.{Waiting, Return, Frame, Leak, State, Normal, Outcome, Goes, Ends}
+use Rattle.machine.specs.Step.{Turn, typing, here, start, counted, raised, copied_back, finish}
+use Rattle.machine.specs.Step as steps
 use Rattle.machine.specs.Owners.{waiting_in, WellOwned}
 use Rattle.owned_ways.specs.Ways.{Step, OfVariable, OfHand, Loc, OfRoot, OfCell, Inside, Way, Object, Lost, Into, All, Empty, Gone, Held, View, Reaches, Named, Owned, Covered, Sound, base_of, number_of, name_of}
 use Rattle.part_offsets.specs.Parts.{offset_in, IsSettled}
 use Rattle.soundness.specs.Seen.{content, trunk, steps_in, word_in, seen, home, is_view_formal}
-use Rattle.soundness.specs.Typed.{OwnsByShape, Points, Kept}
-use Rattle.soundness.specs.Sound.{Stage, facts_of, Elsewhere}
+use Rattle.soundness.specs.Typed.{OwnsByShape, Points, Kept, IsFixed}
+use Rattle.soundness.specs.Sound.{Stage, facts_of, Elsewhere, IsCopied}
+use Rattle.soundness.proofs.Fixed.{fixed_one, Good, LeadsTo, moved_good, stored_good, leads_on}
 use Rattle.soundness.proofs.Joined.{trunk_trunk, not_inside}
 use Rattle.soundness.proofs.Contents.{bool_cases}
 use Rattle.soundness.proofs.Defaults.{none_default, blank_word}
@@ -150,8 +155,94 @@ module _ (s : Typing) (m : Memory) (f : ℕ) (hands : List Waiting) (leaks : Lis
     | inr ne ↦ (ne, ap (λ z. word_in s.table (record { of = (object_at s y).of; slots = z; owns = not (is_view_formal s y) }) p) (sym (frame_other s f g y ne m.variables)) ∙ held)
   ]
 
--- ---- the outcomes
+-- ---- formals are copied back
 
+abbrev pub Backs : (Memory → Type 0) → Evaluated Memory → Type 0
+Backs Q (Done m n) = Q m
+Backs Q (Raises e n) = Unit {0}
+Backs Q (Traps trap n) = ⊥
+
+backs_on : (Q R : Memory → Type 0) → ((m : Memory) → Q m → R m) → (y : Evaluated Memory) → Backs Q y → Backs R y
+backs_on Q R on (Done m n) q = on m q
+backs_on Q R on (Raises e n) q = tt
+backs_on Q R on (Traps trap n) never = never
+
+if_back : (Q : Memory → Type 0) (b : Bool) (ws : List machine.Word) (begun : Now) (f : List machine.Word → Now → Evaluated Memory)
+    → Backs Q (f ws begun) → Backs Q (followed_by (if b then Done ws begun else Raises ConstraintError begun) f)
+if_back Q true ws begun f q = q
+if_back Q false ws begun f q = tt
+
+module _ (t : Turn) where
+  -- A place in a variable is there.
+  pub copied_is : (r : Return) (rest : List Return) (begun : Now) → IsFixed (typing t) r.to → copied_back t (r ∷ rest) begun
+      ≡ followed_by (checked (here t) r.to.of (words_of (typing t) begun.memory (variable_place (here t) r.formal)) begun)
+      (λ ws n. copied_back t rest (record n { memory = stored (typing t) r.to ws (moved_out (typing t) (variable_place (here t) r.formal) n.memory) }))
+  copied_is r rest begun fixed = rw fixed.base refl
+
+  pub formal_fixed : (x : ℕ) → is_scalar (full (typing t).table (object_at (typing t) x).of) ≡ true → IsFixed (typing t) (variable_place (here t) x)
+  formal_fixed x plain = record {
+    frame = home (typing t) (length t.outer) x;
+    object = x;
+    steps = [];
+    base = refl;
+    there = refl;
+    at = refl;
+    of = inl refl;
+    scalar = plain;
+  }
+
+  module _ (settled : IsSettled (typing t).table) (own_law : OwnsByShape (typing t).table) (hands : List Waiting) (leaks : List Leak) (at_home : ℕ → ℕ)
+      (other : Way → Type 0) (facts : List Fact) where
+    abbrev Onward : Memory → Memory → Type 0
+    Onward m n = LeadsTo (typing t) settled own_law hands leaks at_home other facts m n
+
+    onward : (a b c : Memory) → Onward a b → Onward b c → Onward a c
+    onward a b c first second = leads_on (typing t) settled own_law hands leaks at_home other facts a b c first second
+
+    -- Owners see nothing of it.
+    pub back : (returns : List Return) → ((r : Return) → Has returns r → IsCopied (typing t) r) → (begun : Now)
+        → Good (typing t) settled own_law hands leaks at_home other facts begun.memory → Backs (λ m. Onward begun.memory m) (copied_back t returns begun)
+    back [] copied begun good = (good, λ g y p. refl)
+    back (r ∷ rest) copied begun good =
+        let is : IsCopied (typing t) r = copied r (inl refl) in
+        let formal : Place = variable_place (here t) r.formal in
+        let ws : List machine.Word = words_of (typing t) begun.memory formal in
+        let fixed : IsFixed (typing t) formal = formal_fixed r.formal is.0 in
+        let mid : Memory = moved_out (typing t) formal begun.memory in
+        let next : Memory = stored (typing t) r.to ws mid in
+        let first = moved_good (typing t) settled own_law hands leaks at_home other facts formal fixed begun.memory good in
+        let second = stored_good (typing t) settled own_law hands leaks at_home other facts r.to is.1 ws
+        (fixed_one (typing t) settled formal fixed begun.memory hands good.1) mid first.0 in
+        subst (Backs (λ m. Onward begun.memory m)) (sym (copied_is r rest begun is.1))
+        (if_back (λ m. Onward begun.memory m) (fits_type (typing t).table r.to.of ws) ws begun
+        (λ us n. copied_back t rest (record n { memory = stored (typing t) r.to us (moved_out (typing t) formal n.memory) }))
+        (backs_on (λ m. Onward next m) (λ m. Onward begun.memory m) (λ m on. onward begun.memory next m (onward begun.memory mid next first second) on)
+        (copied_back t rest (record begun { memory = next })) (back rest (λ q has. copied q (inr has)) (record begun { memory = next }) second.0)))
+
+  -- ---- the outcomes
+
+  module _ (P : Outcome → Type 0) (Q : Memory → Type 0) (raises : (e : Exception) (m : Memory) → P (raised t e m)) where
+    finish_from : (f : Memory → Memory → Outcome) (out : Memory → Outcome) → ((m n : Memory) → f m n ≡ out m) → ((m : Memory) → Q m → P (out m))
+        → (y : Evaluated Memory) → Backs Q y → P (steps.evaluated t y f)
+    finish_from f out is on (Done m n) q = subst P (sym (is m n.memory)) (on m q)
+    finish_from f out is on (Raises e n) q = raises e n.memory
+    finish_from f out is on (Traps trap n) never = absurd never
+
+    pub returns_lead : (g h : Frame) (rest : List Frame) → t.outer ≡ g ∷ (h ∷ rest)
+        → ((m : Memory) → Q m → P (Goes (counted (record t.state { frames = t.outer; memory = without_frame (length t.outer) m }))))
+        → Backs Q (copied_back t t.frame.returns (start t)) → P (finish t)
+    returns_lead g h rest outer on back_there =
+        finish_from _ (λ m. Goes (counted (record t.state { frames = t.outer; memory = without_frame (length t.outer) m }))) (λ m n. rw outer refl) on
+        (copied_back t t.frame.returns (start t)) back_there
+
+    pub ends_lead : (g : Frame) → t.outer ≡ g ∷ []
+        → ((m : Memory) → Q m → P (Ends Normal (counted (record t.state { frames = t.outer; memory = without_frame (length t.outer) m }))))
+        → Backs Q (copied_back t t.frame.returns (start t)) → P (finish t)
+    ends_lead g outer on back_there =
+        finish_from _ (λ m. Ends Normal (counted (record t.state { frames = t.outer; memory = without_frame (length t.outer) m }))) (λ m n. rw outer refl) on
+        (copied_back t t.frame.returns (start t)) back_there
+
+-- where nothing is copied back
 pub finish_returns : (t : Turn) (g h : Frame) (rest : List Frame) → t.outer ≡ g ∷ (h ∷ rest) → t.frame.returns ≡ []
     → finish t ≡ Goes (counted (record t.state { frames = t.outer; memory = without_frame (length t.outer) t.state.memory }))
 finish_returns t g h rest outer none = rw (none, outer) refl

@@ -2,7 +2,7 @@
 use Rattle.std.proofs.Common.{◌≡◌, refl, sym, ap, ◌∙◌, subst, ◌⊎◌, inl, inr, ℕ, zero, suc, ◌<◌, Bool, true, false, not, ◌&&◌, ◌||◌, ◌==◌, eq-eqb, List, [], ◌∷◌, ◌++◌, drop, map, length, get_or, arith, append-nil, Some, None, if◌then◌else◌}
 use Rattle.spark_base.specs.Lists.{Has}
 use Rattle.spark_base.specs.declared.position.Pos.{Pos}
-use Rattle.spark_base.proofs.Lists.{Has-append_cases, Has-map_from}
+use Rattle.spark_base.proofs.Lists.{Has-append_cases, Has-map_from, Has-append_left}
 use Rattle.place_names.specs.declared.act.Act.{Act}
 use Rattle.place_names.specs.declared.act.Act.TheVariants as act
 use Rattle.place_names.specs.declared.act.Placed.{Placed}
@@ -17,7 +17,7 @@ use Rattle.typed_tree.specs.Trees.{TypedTree, Name, NoMore, More}
 use Rattle.typed_tree.specs.Programs.{TypedProgram}
 use Rattle.flow_paths.specs.declared.report.Effects.{Effects}
 use Rattle.flow_paths.specs.Instructions.{Instruction, Skip, Declare, Assign, Call, Output, Input, Release, Test, Choose, Start, Next, Evaluate, LeaveLoop, Hold, EndScope, Finish, Fall}
-use Rattle.flow_paths.specs.Objects.{Typing, object_at, sub_at, is_formal, is_package_object, is_borrower, passings}
+use Rattle.flow_paths.specs.Objects.{Typing, object_at, sub_at, is_formal, is_package_object, is_borrower, passings, Passing}
 use Rattle.flow_paths.specs.Names.{has_call}
 use Rattle.flow_paths.specs.Acts as flow
 use Rattle.flow_paths.specs.Acts.{acts_of, acts_in}
@@ -27,21 +27,21 @@ use Rattle.flow_paths.specs.Paths.{PathPoint, path_point, ControlPath, begins, g
 use Rattle.flow_paths.specs.Effects.{act_writes, act_reads, flow_sub_at, path_points, globals_of, called_acts}
 use Rattle.flow_paths.specs.Scopes.{taken, brought, scope_behind, is_within, is_last, is_ready, Leads}
 use Rattle.machine.specs.Memory.{Memory, without_frame}
-use Rattle.machine.specs.Evaluate.{Now}
+use Rattle.machine.specs.Evaluate.{Now, Exception}
 use Rattle.machine.specs.States.{Loop, Frame, State, Outcome, Goes, Ends, sub_of, frame_at_start}
-use Rattle.machine.specs.Step.{Turn, turn, waiting, counted, behind, led, leaking, successor, main_frame}
+use Rattle.machine.specs.Step.{Turn, turn, waiting, counted, behind, led, leaking, successor, main_frame, start}
 use Rattle.machine.specs.Step as steps
 use Rattle.machine.specs.Typed.{successors}
-use Rattle.machine.specs.Calls.{Passed, all_passed, with_formals}
+use Rattle.machine.specs.Calls.{Passed, all_passed, with_formals, returns_of}
 use Rattle.machine.specs.Owners.{is_in, is_in_formal, waiting_in}
 use Rattle.machine.specs.Run.{no_point, stepped, step}
 use Rattle.owned_ways.specs.Ways.{Step, OfVariable, OfRoot, Way, Empty, Held, Named, Sound, after, AllowsAll, along}
 use Rattle.owned_ways.specs.Ways as ways
 use Rattle.owned_ways.proofs.Locations.{reaches_along, named_along as rooted_along}
-use Rattle.soundness.specs.Seen.{content, word_in, seen, home, IsNear, is_view_formal}
+use Rattle.soundness.specs.Seen.{content, word_in, seen, home, IsNear, is_view_formal, trunk}
 use Rattle.soundness.specs.Typed.{Kept}
 use Rattle.typed_laws.specs.Needed.{IsFine, Source, FirstSource, FirstWrites, FirstStays}
-use Rattle.soundness.specs.Sound.{calls_nothing, calls_procedures, Stage, facts_of, Elsewhere, AreStages, Uses, IsCaller, AreCallers, AreRunning, InScope, IsNamedSub, IsAtPoint, view_of, IsSound, LeadsOn, StepsLeadOn}
+use Rattle.soundness.specs.Sound.{calls_nothing, calls_procedures, Stage, facts_of, Elsewhere, AreStages, Uses, IsCaller, AreCallers, AreRunning, InScope, IsNamedSub, IsAtPoint, view_of, IsSound, LeadsOn, StepsLeadOn, AreCopied}
 use Rattle.soundness.specs.Ready.{stored_at, IsCalled, IsReady}
 use Rattle.soundness.proofs.Contents.{bool_cases, word_no, word_root}
 use Rattle.soundness.proofs.Steps.{no_leaf}
@@ -49,7 +49,8 @@ use Rattle.soundness.proofs.Stays.{Quiet}
 use Rattle.soundness.proofs.Numbers.{index_law}
 use Rattle.soundness.proofs.Lasting.{keeps}
 use Rattle.soundness.proofs.Evaluated.{live_trunk}
-use Rattle.soundness.proofs.Passing.{plain_type, ArePlain, by_value, AreReads, reads_keep, read_open, values_read, values_alone, AreValues, formals_held, formals_good, all_quiet, entered, call_leads, passed_to}
+use Rattle.soundness.proofs.Fixed.{LeadsTo}
+use Rattle.soundness.proofs.Passing.{plain_type, ArePlain, way_of, AreReads, reads_keep, read_open, values_read, AreLaid, returns_copied, formals_good, AreGiven, all_given, all_laid as all_laid_out, all_acted, entered, call_leads, passed_to}
 use Rattle.soundness.proofs.Moments.{number_part}
 use Rattle.soundness.proofs.Scalars.{acts, acts_append, after_append, allows_both}
 use Rattle.soundness.proofs.Paths.{accepted_point, facts_next}
@@ -60,7 +61,7 @@ use Rattle.soundness.proofs.Inherited.{Splits, after_splits, allowed_beside, Are
 use Rattle.soundness.proofs.Opened.{instruction_open}
 use Rattle.soundness.proofs.Used.{writes_used, reads_used, called_used, used_global, called_are, globals_are, path_acts, returns_whole}
 use Rattle.soundness.proofs.Around.{same_or_not, IsFar, far_alone, is_inherited, inherited, inherited_from, IsBetween, beside, apart_again, unused_there, all_between, AreStill, callers_kept}
-use Rattle.soundness.proofs.Returning.{returned_sound, returned_kept, left_held, finish_returns, finish_ends, left_waits, ended_owned}
+use Rattle.soundness.proofs.Returning.{returned_sound, returned_kept, left_held, back, returns_lead, ends_lead, left_waits, ended_owned}
 use Rattle.soundness.proofs.Following.{Each, GoesOn, Declares, declare_on, declare_follows, assign_follows, release_follows, input_follows, test_follows, choose_follows, stays_follows, output_follows, start_follows, next_follows, end_scope_follows}
 use Rattle.soundness.proofs.Waits.{drop_none, or_both}
 use Rattle.soundness.proofs.Successors.{not_true, both_not, calls_cases, procedures_take_none, finish_or, below_one, below_two, successor_there, successor_cases, unmoved_after}
@@ -103,7 +104,7 @@ module _ (table : Table) (typed : TypedProgram) (effects : Effects) (input : Lis
 
   no_in_formals : (x : ℕ) → is_view_formal s x ≡ false
   no_in_formals x = elim (bool_cases (is_formal s x)) [
-    | inl e ↦ no_second (is_in_formal s x) (is_owning s.table (object_at s x).of) (plain_type s ready.owns (object_at s x).of (ready.class.formals x e).1)
+    | inl e ↦ no_second (is_in_formal s x) (is_owning s.table (object_at s x).of) (plain_type s ready.owns (object_at s x).of (ready.class.formals x e))
     | inr e ↦ ap (λ b. (b && is_in (object_at s x).mode) && is_owning s.table (object_at s x).of) e
   ]
 
@@ -438,7 +439,7 @@ module _ (table : Table) (typed : TypedProgram) (effects : Effects) (input : Lis
               top = stage table typed effects ready ready.main 1;
               older = below ∷ [];
               stages = subst (AreStages (stage table typed effects ready ready.main 1 ∷ (below ∷ []))) (sym begins_main) (refl, refl, (refl, refl, tt));
-              running = (ready.main_there, (refl, refl, refl), (first.0, (refl, first.1.1, refl)));
+              running = (ready.main_there, (refl, (λ r has. absurd has), refl), (first.0, (refl, first.1.1, refl)));
               path = begins (first_point table typed effects ready ready.main ready.main_there.named ready.main_there.stands
                   ready.main_there.point ready.main_there.points ready.main_there.begins);
               sound = main_begins s (Elsewhere program effects []) (Elsewhere program effects (below ∷ [])) (view_of s after_step) (after (acts_there p.instr) facts_there)
@@ -801,7 +802,7 @@ module _ (table : Table) (typed : TypedProgram) (effects : Effects) (input : Lis
       | inl less ↦ omega (arith, less)
       | inr mine ↦ (
           let formal = ready.scoped.finishes named named_in p point_in_named is x mine.1 in
-          let plain_there = (ready.class.formals x formal).1 in
+          let plain_there = ready.class.formals x formal in
           let none = word_no s.table (content s state.memory (waiting_in state) (OfRoot (OfVariable depth x))) q
           (no_leaf s.table ready.accepted.settled (object_at s x).of plain_there q) in
           let no_number : Empty ≡ Held n = sym none ∙ held in cc)
@@ -815,56 +816,74 @@ module _ (table : Table) (typed : TypedProgram) (effects : Effects) (input : Lis
         returns_whole program effects ready.accepted.effects_are own named top.before finishing.0 name has
         (sym (ap (λ z. is_package_object z name.root) same) ∙ shared)
 
-    abbrev left_memory : Memory
-    left_memory = without_frame depth state.memory
+    -- with another memory after copying back, which owners see as that before
+    module _ (h : Stage) (others : List Stage) (after_copies : Memory)
+        (same_owners : LeadsTo s ready.accepted.settled ready.owns (waiting_in state) state.leaks (home s depth) (Elsewhere program effects (below ∷ (h ∷ others))) own_facts
+        state.memory after_copies) where
+      abbrev left_memory : Memory
+      left_memory = without_frame depth after_copies
 
-    abbrev left_state : State
-    left_state = counted (record state { frames = below.frame ∷ rest; memory = without_frame depth state.memory })
+      abbrev left_state : State
+      left_state = counted (record state { frames = below.frame ∷ rest; memory = without_frame depth after_copies })
 
-    -- the frame below goes on
-    returns_to : (h : Stage) (others : List Stage) → p.instr ≡ Finish → AreStages (below ∷ (h ∷ others)) (below.frame ∷ rest)
-        → AreCallers table typed effects state.memory top.frame.sub (below ∷ (h ∷ others))
-        → Sound (home s depth) (Elsewhere program effects (below ∷ (h ∷ others))) (view_of s state) own_facts → IsSound table typed effects left_state
-    returns_to h others is stages_there callers well =
-        let caller = callers.0 in
-        let hands : waiting_in left_state ≡ waiting_in state = left_waits state top.frame outer left_memory frames plain in
-        record {
-          top = below;
-          older = h ∷ others;
-          stages = stages_there;
-          running = (
-            caller.procedure,
-            caller.plain,
-            callers_kept table typed effects unmoved_stage state.memory left_memory below.frame.sub depth (h ∷ others) rest stages_there.2 (omega arith) still_left callers.1,
-          );
-          path = caller.path;
-          sound = subst (λ z. Sound (home s below.depth) (Elsewhere program effects (h ∷ others)) (seen s left_memory z state.leaks) (facts_of program effects below)) (sym hands)
-              (returned_sound s state.memory depth (waiting_in state) state.leaks (nothing_left is) program effects below (h ∷ others) own_facts caller.plain.2
-              well (whole_packages is) refl);
-          kept = subst (Kept s left_memory) (sym hands) (returned_kept s state.memory depth (waiting_in state) state.leaks (nothing_left is) kept);
-          named = caller.named;
-          of_sub = caller.of_sub;
-          point = caller.point;
-          at_point = caller.at_point;
-          scope = λ f x q n held. scope_left caller f x q n (left_held s state.memory depth (waiting_in state) state.leaks (nothing_left is) f x q n held);
-        }
-      where
-        still_left : AreStill table typed effects unmoved_stage state.memory left_memory depth
-        still_left f x q n some less held = (q, n, (left_held s state.memory depth (waiting_in state) state.leaks (nothing_left is) f x q n held).1)
+      nothing_then : p.instr ≡ Finish → (x : ℕ) (q : List Step) (n : ℕ)
+          → word_in s.table (content s after_copies (waiting_in state) (OfRoot (OfVariable depth x))) q ≡ Held n → ⊥
+      nothing_then is x q n held = nothing_left is x q n (sym (same_owners.1 depth x q) ∙ held)
 
-        scope_left : (caller : IsCaller table typed effects state.memory top.frame.sub below) → (f x : ℕ) (q : List Step) (n : ℕ)
-            → (f ≡ depth → ⊥) × (word_in s.table (content s state.memory [] (OfRoot (OfVariable f x))) q ≡ Held n)
-            → (f < below.depth) ⊎ ((f ≡ below.depth) × (is_within x (caller.point).scope ≡ true))
-        scope_left caller f x q n (other_frame, held) = elim (same_or_not f below.depth) [
-          | inl e ↦ inr (e, caller.scope x q n (subst (λ z. word_in s.table (content s state.memory [] (OfRoot (OfVariable z x))) q ≡ Held n) e held))
-          | inr other_depth ↦ inl (elim (scope f x q n held) [
-            | inr mine ↦ absurd (other_frame mine.0)
-            | inl less ↦ smaller f (length rest) less (λ e. other_depth (e ∙ sym stages.1)) stages.1
-          ])
-        ]
-          where
-            smaller : (a b : ℕ) → a < suc b → (a ≡ b → ⊥) → below.depth ≡ b → a < below.depth
-            smaller a b less ne is = subst (λ z. a < z) (sym is) (below_other a b less ne)
+      -- what is in a variable of another frame was there before
+      held_before_end : p.instr ≡ Finish → (f x : ℕ) (q : List Step) (n : ℕ)
+          → word_in s.table (content s left_memory [] (OfRoot (OfVariable f x))) q ≡ Held n
+          → (f ≡ depth → ⊥) × (word_in s.table (content s state.memory [] (OfRoot (OfVariable f x))) q ≡ Held n)
+      held_before_end is f x q n held =
+          let was = left_held s after_copies depth (waiting_in state) state.leaks (nothing_then is) f x q n held in
+          (was.0, sym (same_owners.1 f x q) ∙ was.1)
+
+      still_left : p.instr ≡ Finish → AreStill table typed effects unmoved_stage state.memory left_memory depth
+      still_left is f x q n some less held = (q, n, (held_before_end is f x q n held).1)
+
+      scope_left : (caller : IsCaller table typed effects state.memory top.frame.sub below) → below.depth ≡ length rest → (f x : ℕ) (q : List Step) (n : ℕ)
+          → (f ≡ depth → ⊥) × (word_in s.table (content s state.memory [] (OfRoot (OfVariable f x))) q ≡ Held n)
+          → (f < below.depth) ⊎ ((f ≡ below.depth) × (is_within x (caller.point).scope ≡ true))
+      scope_left caller deep_below f x q n (other_frame, held) = elim (same_or_not f below.depth) [
+        | inl e ↦ inr (e, caller.scope x q n (subst (λ z. word_in s.table (content s state.memory [] (OfRoot (OfVariable z x))) q ≡ Held n) e held))
+        | inr other_depth ↦ inl (elim (scope f x q n held) [
+          | inr mine ↦ absurd (other_frame mine.0)
+          | inl less ↦ smaller f (length rest) less (λ e. other_depth (e ∙ sym deep_below)) deep_below
+        ])
+      ]
+        where
+          smaller : (a b : ℕ) → a < suc b → (a ≡ b → ⊥) → below.depth ≡ b → a < below.depth
+          smaller a b less ne is = subst (λ z. a < z) (sym is) (below_other a b less ne)
+
+      -- the frame below goes on
+      returns_to : p.instr ≡ Finish → AreStages (below ∷ (h ∷ others)) (below.frame ∷ rest)
+          → AreCallers table typed effects state.memory top.frame.sub (below ∷ (h ∷ others)) → IsSound table typed effects left_state
+      returns_to is stages_there callers =
+          let caller = callers.0 in
+          let hands : waiting_in left_state ≡ waiting_in state = left_waits state top.frame outer left_memory frames plain in
+          record {
+            top = below;
+            older = h ∷ others;
+            stages = stages_there;
+            running = (
+              caller.procedure,
+              caller.plain,
+              callers_kept table typed effects unmoved_stage state.memory left_memory below.frame.sub depth (h ∷ others) rest stages_there.2 (omega arith) (still_left is) callers.1,
+            );
+            path = caller.path;
+            sound = subst (λ z. Sound (home s below.depth) (Elsewhere program effects (h ∷ others)) (seen s left_memory z state.leaks) (facts_of program effects below)) (sym hands)
+                (returned_sound s after_copies depth (waiting_in state) state.leaks (nothing_then is) program effects below (h ∷ others) own_facts caller.plain.2
+                same_owners.0.0 (whole_packages is) refl);
+            kept = subst (Kept s left_memory) (sym hands) (returned_kept s after_copies depth (waiting_in state) state.leaks (nothing_then is) same_owners.0.1);
+            named = caller.named;
+            of_sub = caller.of_sub;
+            point = caller.point;
+            at_point = caller.at_point;
+            scope = λ f x q n held. scope_left caller stages_there.1 f x q n (held_before_end is f x q n held);
+          }
+
+    ends_well : (how : Exception) (m : Memory) → LeadsOn table typed effects (steps.raised main_turn how m)
+    ends_well how m = ((λ trap. trap), raises main_turn ready.accepted.settled ready.owns other alone no_in_formals ready.class.all_named frames facts_now held_now m)
 
     ends_call : p.instr ≡ Finish → LeadsOn table typed effects (turn main_turn Finish)
     ends_call is = by_rest rest more refl stages running.2 sound_own
@@ -873,13 +892,25 @@ module _ (table : Table) (typed : TypedProgram) (effects : Effects) (input : Lis
             → AreCallers table typed effects state.memory top.frame.sub (below ∷ m)
             → Sound (home s depth) (Elsewhere program effects (below ∷ m)) (view_of s state) own_facts → LeadsOn table typed effects (turn main_turn Finish)
         by_rest [] [] same_rest stages_there callers well =
-            subst (LeadsOn table typed effects) (sym (finish_ends main_turn below.frame (ap (λ z. below.frame ∷ z) same_rest) running.1.1))
-            ((λ trap. trap), ended_owned s ready.accepted.settled ready.owns state top.frame outer depth frames plain (nothing_left is) well.owned well.covered)
+            ends_lead main_turn (LeadsOn table typed effects)
+            (LeadsTo s ready.accepted.settled ready.owns (waiting_in state) state.leaks (home s depth) (Elsewhere program effects (below ∷ [])) own_facts state.memory)
+            ends_well below.frame (ap (λ z. below.frame ∷ z) same_rest)
+            (λ m on. (
+              (λ trap. trap),
+              ended_owned s ready.accepted.settled ready.owns (record state { memory = m }) top.frame outer depth frames plain
+                  (λ x q n held. nothing_left is x q n (sym (on.1 depth x q) ∙ held)) on.0.0.owned on.0.0.covered,
+            ))
+            (back main_turn ready.accepted.settled ready.owns (waiting_in state) state.leaks (home s depth) (Elsewhere program effects (below ∷ [])) own_facts
+            top.frame.returns running.1.1 (start main_turn) (well, kept))
         by_rest [] (h ∷ m) same_rest stages_there callers well = absurd stages_there.2
         by_rest (k ∷ r) [] same_rest stages_there callers well = absurd stages_there.2
         by_rest (k ∷ r) (h ∷ m) same_rest stages_there callers well =
-            subst (LeadsOn table typed effects) (sym (finish_returns main_turn below.frame k r (ap (λ z. below.frame ∷ z) same_rest) running.1.1))
-            (returns_to h m is (subst (λ z. AreStages (below ∷ (h ∷ m)) (below.frame ∷ z)) (sym same_rest) stages_there) callers well)
+            returns_lead main_turn (LeadsOn table typed effects)
+            (LeadsTo s ready.accepted.settled ready.owns (waiting_in state) state.leaks (home s depth) (Elsewhere program effects (below ∷ (h ∷ m))) own_facts state.memory)
+            ends_well below.frame k r (ap (λ z. below.frame ∷ z) same_rest)
+            (λ after_copies on. returns_to h m after_copies on is (subst (λ z. AreStages (below ∷ (h ∷ m)) (below.frame ∷ z)) (sym same_rest) stages_there) callers)
+            (back main_turn ready.accepted.settled ready.owns (waiting_in state) state.leaks (home s depth) (Elsewhere program effects (below ∷ (h ∷ m))) own_facts
+            top.frame.returns running.1.1 (start main_turn) (well, kept))
 
     -- ---- a call
 
@@ -890,66 +921,104 @@ module _ (table : Table) (typed : TypedProgram) (effects : Effects) (input : Lis
       abbrev formals : List ℕ
       formals = (sub_of program n).formals
 
-      plain_formals : ArePlain s ready.owns formals
-      plain_formals x has = ready.class.formals x (called.formals x has)
-
-      scalar_formals : (x : ℕ) → Has formals x → is_scalar (full s.table (object_at s x).of) ≡ true
-      scalar_formals x has = (plain_formals x has).1
+      scalar_formals : ArePlain s ready.owns formals
+      scalar_formals x has = ready.class.formals x (called.formals x has)
 
       no_callee_result : (sub_of program n).result ≡ None
       no_callee_result =
           ap (λ (z : FlowSub). z.result) (sub_there table typed n called.procedure.named called.procedure.stands)
           ∙ called.procedure.procedure called.procedure.named called.procedure.stands
 
-      ways_are : passings s (sub_at s n) ≡ map (by_value s ready.owns) formals
-      ways_are = passed_to program ready.owns n no_callee_result plain_formals
+      abbrev ways_there : List Passing
+      ways_there = map (way_of s ready.owns) formals
 
-      -- the acts: the actuals are read, and then come those on package objects
+      ways_are : passings s (sub_at s n) ≡ ways_there
+      ways_are = passed_to program ready.owns n no_callee_result scalar_formals
+
+      copied_there : AreCopied s formals actuals
+      copied_there =
+          ready.class.copied (flow_sub own named) (in_program state top older outer named p frames of_sub at_point) main_turn.point in_main n actuals None e called.formals
+
+      -- the acts: actuals are read, or their indexes are; then come those of what is copied back, and
+      -- those on package objects
       abbrev values : List Placed
-      values = flow.actual_values s (map (by_value s ready.owns) formals) actuals
+      values = flow.actual_values s ways_there actuals
 
-      values_are : acts_by state top older outer named p frames of_sub at_point s p.instr ≡ values
+      abbrev copies : List Placed
+      copies = flow.actual_acts ways_there actuals
+
+      values_are : acts_by state top older outer named p frames of_sub at_point s p.instr ≡ values ++ copies
       values_are =
           ap (acts_by state top older outer named p frames of_sub at_point s) e
           ∙ ap (λ z. flow.actual_values s z actuals ++ flow.actual_acts z actuals) ways_are
-          ∙ values_alone s ready.owns formals actuals
 
       reads_there : AreReads values
       reads_there = values_read s ready.owns formals actuals called.actuals_stay
 
-      call_acts : whole_acts state top older outer named p frames of_sub at_point p.instr ≡ acts values ++ globals_of program effects n
+      call_acts : whole_acts state top older outer named p frames of_sub at_point p.instr ≡ acts (values ++ copies) ++ globals_of program effects n
       call_acts =
           ap (λ z. acts (z ++ called_acts program effects p.pos p.instr)) values_are
-          ∙ acts_append values (called_acts program effects p.pos p.instr)
-          ∙ ap (λ i. acts values ++ acts (called_acts program effects p.pos i)) e
-          ∙ ap (λ z. acts values ++ z) (called_are program effects ready.accepted.effects_are p.pos n actuals None)
+          ∙ acts_append (values ++ copies) (called_acts program effects p.pos p.instr)
+          ∙ ap (λ i. acts (values ++ copies) ++ acts (called_acts program effects p.pos i)) e
+          ∙ ap (λ z. acts (values ++ copies) ++ z) (called_are program effects ready.accepted.effects_are p.pos n actuals None)
 
-      each_allowed : AllowsAll own_facts (acts values) × AllowsAll (after (acts values) own_facts) (globals_of program effects n)
+      abbrev facts_called : List Fact
+      facts_called = after (acts (values ++ copies)) own_facts
+
+      each_allowed : AllowsAll own_facts (acts (values ++ copies)) × AllowsAll facts_called (globals_of program effects n)
       each_allowed =
-          allows_both own_facts (acts values) (globals_of program effects n)
+          allows_both own_facts (acts (values ++ copies)) (globals_of program effects n)
           (subst (AllowsAll own_facts) call_acts (allowed_whole state top older outer named p frames of_sub at_point path))
 
-      call_allowed : AllowsAll own_facts (globals_of program effects n)
-      call_allowed = subst (λ z. AllowsAll z (globals_of program effects n)) (reads_keep values reads_there own_facts) each_allowed.1
+      values_allowed_own : AllowsAll own_facts (acts values)
+      values_allowed_own = (allows_both own_facts (acts values) (acts copies) (subst (AllowsAll own_facts) (acts_append values copies) each_allowed.0)).0
 
       values_apart : (a : Act) → Has (acts values) a → (f : Fact) → Has (inherited program effects older) f → forbids a f ≡ None
       values_apart a has f there =
           let from = Has-map_from (λ (z : Placed). z.act) values a has in
           ap (λ z. forbids z f) (sym from.2)
-          ∙ one_apart from.0 (subst (λ zs. Has zs from.0) (sym values_are) from.1) (read_open from.0 (reads_there from.0 from.1)) f there
+          ∙ one_apart from.0 (subst (λ zs. Has zs from.0) (sym values_are) (Has-append_left values copies from.0 from.1)) (read_open from.0 (reads_there from.0 from.1)) f there
 
       values_allowed : AllowsAll facts_now (acts values)
-      values_allowed = allowed_beside (acts values) facts_now own_facts (inherited program effects older) from_both each_allowed.0 values_apart
+      values_allowed = allowed_beside (acts values) facts_now own_facts (inherited program effects older) from_both values_allowed_own values_apart
 
       abbrev now : Now
       now = record { memory = state.memory; waits = [] }
 
-      passed_quiet : Quiet now AreValues (all_passed (steps.here main_turn) (map (by_value s ready.owns) formals) formals actuals now)
+      live_now : (w : Way) (l : ways.Loc) → ways.IsRooted w → ways.Reaches (seen s state.memory (waiting_in state) state.leaks) w l
+          → (content s state.memory (waiting_in state) (trunk l)).owns ≡ true
+      live_now =
+          live_trunk (steps.here main_turn) ready.accepted.settled state.leaks [] other alone (keeps s ready.accepted.settled ready.owns) no_in_formals index_law
+          ready.owns ready.class.all_named state.memory (waiting_in state) sound.owned
+
+      abbrev Given : List Passed → Type 0
+      Given passed =
+          AreGiven (steps.here main_turn) ready.accepted.settled (waiting_in state) state.leaks state.memory [] other facts_now kept sound alone live_now
+          index_law ready.owns ready.class.all_named formals actuals passed
+
+      passed_quiet : Quiet now Given (all_passed (steps.here main_turn) ways_there formals actuals now)
       passed_quiet =
-          all_quiet (steps.here main_turn) ready.accepted.settled (waiting_in state) state.leaks state.memory [] other facts_now kept sound alone
-          (live_trunk (steps.here main_turn) ready.accepted.settled state.leaks [] other alone (keeps s ready.accepted.settled ready.owns) no_in_formals index_law
-          ready.owns ready.class.all_named state.memory (waiting_in state) sound.owned)
-          index_law ready.owns ready.class.all_named formals actuals called.actuals_stay no_call values_allowed
+          all_given (steps.here main_turn) ready.accepted.settled (waiting_in state) state.leaks state.memory [] other facts_now kept sound alone live_now
+          index_law ready.owns ready.class.all_named formals actuals called.actuals_stay copied_there no_call values_allowed
+
+      given_laid : (passed : List Passed) → Given passed → AreLaid s passed
+      given_laid passed given =
+          all_laid_out (steps.here main_turn) ready.accepted.settled (waiting_in state) state.leaks state.memory [] other facts_now kept sound alone live_now
+          index_law ready.owns ready.class.all_named formals actuals passed given
+
+      -- the state is sound under the facts after the acts
+      acted_now : (passed : List Passed) → Given passed → Sound (home s depth) other (view_of s state) (after (acts (values ++ copies)) facts_now)
+      acted_now passed given =
+          subst (Sound (home s depth) other (view_of s state))
+          (sym (ap (λ z. after z facts_now) (acts_append values copies) ∙ after_append (acts values) (acts copies) facts_now
+          ∙ ap (after (acts copies)) (reads_keep values reads_there facts_now)))
+          (all_acted (steps.here main_turn) ready.accepted.settled (waiting_in state) state.leaks state.memory [] other facts_now kept sound alone live_now
+          index_law ready.owns ready.class.all_named formals actuals passed facts_now given sound)
+
+      sound_called : (passed : List Passed) → Given passed → Sound (home s depth) (Elsewhere program effects older) (view_of s state) facts_called
+      sound_called passed given =
+          apart_again program effects older depth between (view_of s state) (after (acts (values ++ copies)) facts_now) facts_called
+          (after_splits (acts (values ++ copies)) facts_now own_facts (inherited program effects older) from_both) (acted_now passed given)
 
       globals : AreGlobal (globals_of program effects n)
       globals = globals_are program effects ready.accepted.effects_are n
@@ -966,20 +1035,19 @@ module _ (table : Table) (typed : TypedProgram) (effects : Effects) (input : Lis
         returns = top.returns;
       }
 
-      facts_there : facts_of program effects waits_there ≡ own_facts
+      facts_there : facts_of program effects waits_there ≡ facts_called
       facts_there =
           ap (λ (z : FlowSub). facts_before (path_points program effects z) (top.frame.next ∷ top.before)) (sub_is state top older outer named p frames of_sub at_point)
           ∙ facts_whole state top older outer named p frames of_sub at_point path
-          ∙ ap (λ z. after z own_facts) call_acts ∙ after_append (acts values) (globals_of program effects n) own_facts
-          ∙ ap (after (globals_of program effects n)) (reads_keep values reads_there own_facts)
-          ∙ global_after (globals_of program effects n) own_facts globals
+          ∙ ap (λ z. after z own_facts) call_acts ∙ after_append (acts (values ++ copies)) (globals_of program effects n) own_facts
+          ∙ global_after (globals_of program effects n) facts_called globals
 
       -- what the callee uses isn't moved
-      spares : (name : PlaceName) → Has own_facts (Moved name) → is_package_object s name.root ≡ true → Uses effects n name.root → ⊥
+      spares : (name : PlaceName) → Has facts_called (Moved name) → is_package_object s name.root ≡ true → Uses effects n name.root → ⊥
       spares name has shared uses =
           let there = used_global program effects ready.accepted.effects_are n name.root called.text_io shared uses in
           global_apart name name.root refl there.0
-          (global_allowed (globals_of program effects n) own_facts globals call_allowed (act.Global name.root there.0) there.1 (Moved name) has)
+          (global_allowed (globals_of program effects n) facts_called globals each_allowed.1 (act.Global name.root there.0) there.1 (Moved name) has)
 
       callee_less : n < length program.subs
       callee_less = sub_in_range table typed n called.procedure.named called.procedure.stands
@@ -1004,25 +1072,53 @@ module _ (table : Table) (typed : TypedProgram) (effects : Effects) (input : Lis
 
       -- ---- what is passed
 
-      module _ (passed : List Passed) (are_values : AreValues passed) where
+      module _ (passed : List Passed) (given : Given passed) where
         abbrev with_all : Memory
         with_all = with_formals s (suc depth) formals passed state.memory
 
         abbrev after_call : State
-        after_call = leaking [] (entered main_turn n actuals passed)
+        after_call = leaking [] (entered main_turn ready.accepted.settled n actuals passed)
 
-        -- no formal owns
+        abbrev called_stage : Stage
+        called_stage = record { frame = frame_at_start n (returns_of formals passed); depth = suc depth; before = []; returns = [] }
+
+        elsewhere : (w : Way) → ways.Excused (home s depth) (Elsewhere program effects older) facts_called w → Elsewhere program effects (waits_there ∷ older) w
+        elsewhere w (inr (g, has, what)) = (g, inr has, what)
+        elsewhere w (inl moved) = (
+          waits_there,
+          inl refl,
+          inl (
+            subst (λ d. Named (home s d) w) (sym deep) moved.0,
+            subst (λ z. Has z (Moved (ways.name_of w))) (sym facts_there) moved.1,
+          ),
+        )
+
+        -- owners see nothing of the formals
+        same_owners : LeadsTo s ready.accepted.settled ready.owns (waiting_in state) state.leaks (home s (suc depth)) (Elsewhere program effects (waits_there ∷ older)) []
+            state.memory with_all
+        same_owners =
+            let before = sound_called passed given in
+            formals_good s ready.accepted.settled ready.owns (suc depth) (waiting_in state) state.leaks (home s (suc depth)) (Elsewhere program effects (waits_there ∷ older)) []
+            formals passed state.memory scalar_formals (given_laid passed given) (
+              record {
+                owned = before.owned;
+                covered = before.covered;
+                known = λ w l rooted r gone. inr (elsewhere w (before.known w l rooted r gone));
+              },
+              kept,
+            )
+
         held_before : (g y : ℕ) (q : List Step) → word_in s.table (content s with_all [] (OfRoot (OfVariable g y))) q
             ≡ word_in s.table (content s state.memory [] (OfRoot (OfVariable g y))) q
-        held_before = formals_held s ready.accepted.settled (suc depth) formals passed state.memory scalar_formals are_values
+        held_before = same_owners.1
 
         still_called : AreStill table typed effects unmoved_stage state.memory with_all depth
         still_called f x q k some less held = (q, k, sym (held_before f x q) ∙ held)
 
-        frames_there : after_call.frames ≡ frame_at_start n [] ∷ (waits_there.frame ∷ outer)
+        frames_there : after_call.frames ≡ frame_at_start n (returns_of formals passed) ∷ (waits_there.frame ∷ outer)
         frames_there =
-            ap (λ z. frame_at_start n [] ∷ led main_turn (record top.frame { waits = waiting main_turn }) z) next_point.1
-            ∙ ap (λ z. frame_at_start n [] ∷ (record top.frame { waits = z; next = next_point.0 } ∷ outer)) no_waiting
+            ap (λ z. frame_at_start n (returns_of formals passed) ∷ led main_turn (record top.frame { waits = waiting main_turn }) z) next_point.1
+            ∙ ap (λ z. frame_at_start n (returns_of formals passed) ∷ (record top.frame { waits = z; next = next_point.0 } ∷ outer)) no_waiting
 
         hands_there : waiting_in after_call ≡ waiting_in state
         hands_there = hands_behind main_turn ready.accepted.settled ready.owns other alone no_in_formals ready.class.all_named frames none_takes state.memory 0
@@ -1048,38 +1144,14 @@ module _ (table : Table) (typed : TypedProgram) (effects : Effects) (input : Lis
               main_turn.point in_main actuals None e x uses;
         }
 
-        elsewhere : (w : Way) → ways.Excused (home s depth) (Elsewhere program effects older) own_facts w → Elsewhere program effects (waits_there ∷ older) w
-        elsewhere w (inr (g, has, what)) = (g, inr has, what)
-        elsewhere w (inl moved) = (
-          waits_there,
-          inl refl,
-          inl (
-            subst (λ d. Named (home s d) w) (sym deep) moved.0,
-            subst (λ z. Has z (Moved (ways.name_of w))) (sym facts_there) moved.1,
-          ),
-        )
-
-        good : Sound (home s (suc depth)) (Elsewhere program effects (waits_there ∷ older)) (seen s with_all (waiting_in state) state.leaks) []
-            × Kept s with_all (waiting_in state)
-        good =
-            formals_good s ready.accepted.settled (suc depth) (waiting_in state) state.leaks (home s (suc depth)) (Elsewhere program effects (waits_there ∷ older)) []
-            formals passed state.memory scalar_formals are_values (
-              record {
-                owned = sound_own.owned;
-                covered = sound_own.covered;
-                known = λ w l rooted r gone. inr (elsewhere w (sound_own.known w l rooted r gone));
-              },
-              kept,
-            )
-
         entered_sound : IsSound table typed effects after_call
         entered_sound = record {
-          top = stage table typed effects ready n (suc depth);
+          top = called_stage;
           older = waits_there ∷ older;
-          stages = subst (AreStages (stage table typed effects ready n (suc depth) ∷ (waits_there ∷ older))) (sym frames_there) (refl, refl, (refl, deep, stages));
+          stages = subst (AreStages (called_stage ∷ (waits_there ∷ older))) (sym frames_there) (refl, refl, (refl, deep, stages));
           running = (
             called.procedure,
-            (refl, refl, refl),
+            (refl, returns_copied s ready.accepted.settled formals passed scalar_formals (given_laid passed given), refl),
             (
               waits_as_caller,
               callers_kept table typed effects unmoved_stage state.memory with_all top.frame.sub depth older outer stages (omega arith) still_called running.2,
@@ -1089,8 +1161,8 @@ module _ (table : Table) (typed : TypedProgram) (effects : Effects) (input : Lis
               called.procedure.point called.procedure.points called.procedure.begins);
           sound = subst (λ z. Sound (home s (suc depth)) (Elsewhere program effects (waits_there ∷ older)) (seen s with_all z (state.leaks ++ [])) []) (sym hands_there)
               (subst (λ z. Sound (home s (suc depth)) (Elsewhere program effects (waits_there ∷ older)) (seen s with_all (waiting_in state) z) []) (sym (append-nil state.leaks))
-              good.0);
-          kept = subst (Kept s with_all) (sym hands_there) good.1;
+              same_owners.0.0);
+          kept = subst (Kept s with_all) (sym hands_there) same_owners.0.1;
           named = called.procedure.named;
           of_sub = called.procedure.stands;
           point = called.procedure.point;
@@ -1103,9 +1175,7 @@ module _ (table : Table) (typed : TypedProgram) (effects : Effects) (input : Lis
 
       pub calls_it : LeadsOn table typed effects (turn main_turn (Call n actuals None))
       calls_it =
-          call_leads main_turn n actuals (LeadsOn table typed effects)
-          (λ how m. ((λ trap. trap), raises main_turn ready.accepted.settled ready.owns other alone no_in_formals ready.class.all_named frames facts_now held_now m))
-          entered_sound (map (by_value s ready.owns) formals) ways_are now
+          call_leads main_turn ready.accepted.settled n actuals (LeadsOn table typed effects) ends_well Given given_laid entered_sound ways_there ways_are now
           (start_is main_turn ready.accepted.settled ready.owns other alone no_in_formals ready.class.all_named frames none_takes) refl passed_quiet
 
     -- ---- an instruction that calls nothing

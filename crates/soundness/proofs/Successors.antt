@@ -85,6 +85,7 @@ second_class program class = record {
   all_named = class.all_named;
   calls = λ sub has p there. nothing_procedures p.instr (class.no_calls sub has p there);
   formals = λ x is. (let no : true ≡ false = sym is ∙ class.no_formals x in cc);
+  copied = λ sub has p there n actuals result is known. (let no : false ≡ true = sym (ap calls_nothing is) ∙ class.no_calls sub has p there in cc);
 }
 
 pub finish_or : (i : Instruction) → (i ≡ Finish) ⊎ (i ≡ Finish → ⊥)

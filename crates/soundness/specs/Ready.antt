@@ -2,16 +2,18 @@
 -- rules see to. Nothing here speaks of a run.
 use Rattle.std.specs.Prelude.{◌≡◌, ◌⊎◌, ℕ, true, false, List, [], ◌∷◌, get_or, Option, Some}
 use Rattle.spark_base.specs.Lists.{Has}
+use Rattle.place_names.specs.declared.act.Mode.{Mode}
+use Rattle.place_names.specs.declared.act.Mode.TheVariants as mode
 use Rattle.place_names.specs.declared.act.Placed.{Placed}
 use Rattle.place_names.specs.declared.fact.Fact.TheVariants.{Moved}
 use Rattle.place_names.specs.Facts.{adds}
 use Rattle.place_names.specs.Names.{Name as PlaceName}
-use Rattle.type_definitions.specs.Types.{Table}
+use Rattle.type_definitions.specs.Types.{Table, full, is_scalar}
 use Rattle.typed_tree.specs.Trees.{TypedTree, Name, More}
 use Rattle.typed_tree.specs.Programs.{TypedSub, TypedProgram}
 use Rattle.flow_paths.specs.declared.report.Effects.{Effects}
 use Rattle.flow_paths.specs.Instructions.{Instruction, Declare, Assign, Call, Input, Release, EndScope, Finish}
-use Rattle.flow_paths.specs.Objects.{Typing, is_formal, is_package_object}
+use Rattle.flow_paths.specs.Objects.{Typing, object_at, is_formal, is_package_object}
 use Rattle.flow_paths.specs.Points.{NamedPoint, FlowPoint}
 use Rattle.flow_paths.specs.Laid.{FlowSub, FlowProgram, NamedSub, typing_of, flow_typing, flow_program, flow_named}
 use Rattle.flow_paths.specs.Paths.{ControlPath, facts_before}
@@ -19,7 +21,7 @@ use Rattle.flow_paths.specs.Effects.{path_points}
 use Rattle.flow_paths.specs.Scopes.{is_ready, is_within, is_settled}
 use Rattle.machine.specs.States.{sub_of}
 use Rattle.machine.specs.Run.{no_point}
-use Rattle.typed_laws.specs.Needed.{Stays}
+use Rattle.typed_laws.specs.Needed.{Stays, IsPlace}
 use Rattle.soundness.specs.Typed.{OwnsByShape}
 use Rattle.soundness.specs.Sound.{Accepted, IsProcedureClass, IsNamedSub, IsProcedure}
 
@@ -71,9 +73,14 @@ pub record AreElaborated (program : FlowProgram) : Type 0 where
 
 -- ---- calls
 
--- Each actual that there is a formal for stays within what it names.
+-- An actual of a scalar type stays within what it names; one that is copied back to is a name.
+abbrev pub IsActualBy : Typing → Mode → TypedTree → Type 0
+IsActualBy s mode.In e = Stays s e
+IsActualBy s m e = (t : ℕ) × IsPlace s e t × (is_scalar (full s.table t) ≡ true)
+
+-- So is each that there is a formal for.
 abbrev pub AreActuals : Typing → List ℕ → TypedTree → Type 0
-AreActuals s (x ∷ formals) (More e rest) = Stays s e × AreActuals s formals rest
+AreActuals s (x ∷ formals) (More e rest) = IsActualBy s (object_at s x).mode e × AreActuals s formals rest
 AreActuals s formals actuals = Unit {0}
 
 -- A subprogram that is called is a procedure. (Where none is called, nothing is asked of object 0,

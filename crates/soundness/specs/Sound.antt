@@ -6,6 +6,7 @@ use Rattle.place_names.specs.declared.fact.Fact.TheVariants.{Moved}
 use Rattle.place_names.specs.Names.{Name as PlaceName, has_elem}
 use Rattle.type_definitions.specs.declared.table.Shape.TheVariants as shape
 use Rattle.type_definitions.specs.Types.{Table, shape_of, full, is_scalar}
+use Rattle.typed_tree.specs.Trees.{TypedTree, Name, Component, Designated, Element, More}
 use Rattle.typed_tree.specs.Programs.{TypedProgram}
 use Rattle.flow_paths.specs.declared.report.Effects.{Effects}
 use Rattle.flow_paths.specs.Instructions.{Instruction, Declare, Assign, Call, Output, Input, Release, Test, Choose, Start, Evaluate, LeaveLoop, Hold}
@@ -18,7 +19,7 @@ use Rattle.flow_paths.specs.Effects.{path_points, read_by, written_by, AreEffect
 use Rattle.flow_paths.specs.Reports.{AreReports}
 use Rattle.flow_paths.specs.Scopes.{is_within}
 use Rattle.machine.specs.Memory.{Memory}
-use Rattle.machine.specs.States.{Frame, State, Ending, Trapped, Outcome, Goes, Ends, sub_of}
+use Rattle.machine.specs.States.{Return, Frame, State, Ending, Trapped, Outcome, Goes, Ends, sub_of}
 use Rattle.machine.specs.Typed.{successors}
 use Rattle.machine.specs.Owners.{is_in, WellOwned, waiting_in}
 use Rattle.machine.specs.Run.{step, main_of, run_of, moment}
@@ -26,7 +27,7 @@ use Rattle.owned_ways.specs.Ways.{OfRoot, Way, Held, View, Told, IsMoved, along,
 use Rattle.owned_ways.specs.Ways as ways
 use Rattle.part_offsets.specs.Parts.{IsSettled}
 use Rattle.soundness.specs.Seen.{content, word_in, seen, home}
-use Rattle.soundness.specs.Typed.{Kept}
+use Rattle.soundness.specs.Typed.{Kept, IsFixed}
 use Rattle.typed_laws.specs.Needed.{AreFine}
 
 -- ---- the program
@@ -61,7 +62,21 @@ pub record IsFirstClass (program : FlowProgram) : Type 0 where
   pub no_calls : (sub : FlowSub) → Has program.subs sub → (p : FlowPoint) → Has sub.points p → calls_nothing p.instr ≡ true
   pub no_formals : (x : ℕ) → is_formal (flow_typing program) x ≡ false
 
--- The second class: procedures are called, too. Their formals are of mode `in` and of scalar types.
+-- A name that goes through no access value.
+unfoldable pub goes_through_none : TypedTree → Bool
+goes_through_none (Name p x path t) = goes_through_none path
+goes_through_none (Component i rest) = goes_through_none rest
+goes_through_none (Element index low high rest) = goes_through_none rest
+goes_through_none (Designated rest) = false
+goes_through_none _ = true
+
+-- Actuals that are copied back to are such names.
+abbrev pub AreCopied : Typing → List ℕ → TypedTree → Type 0
+AreCopied s (x ∷ formals) (More e rest) = (is_in (object_at s x).mode ≡ false → goes_through_none e ≡ true) × AreCopied s formals rest
+AreCopied s formals actuals = Unit {0}
+
+-- The second class: procedures are called, too. Their formals are of scalar types, and actuals that
+-- are copied back to go through no access value.
 abbrev pub calls_procedures : Instruction → Bool
 calls_procedures (Call sub actuals None) = not (has_call actuals)
 calls_procedures i = calls_nothing i
@@ -69,8 +84,10 @@ calls_procedures i = calls_nothing i
 pub record IsProcedureClass (program : FlowProgram) : Type 0 where
   pub all_named : (t d : ℕ) (constant named : Bool) → shape_of program.table t ≡ shape.Access d constant named → named ≡ true
   pub calls : (sub : FlowSub) → Has program.subs sub → (p : FlowPoint) → Has sub.points p → calls_procedures p.instr ≡ true
-  pub formals : (x : ℕ) → is_formal (flow_typing program) x ≡ true
-      → (is_in (object_at (flow_typing program) x).mode ≡ true) × (is_scalar (full program.table (object_at (flow_typing program) x).of) ≡ true)
+  pub formals : (x : ℕ) → is_formal (flow_typing program) x ≡ true → is_scalar (full program.table (object_at (flow_typing program) x).of) ≡ true
+  pub copied : (sub : FlowSub) → Has program.subs sub → (p : FlowPoint) → Has sub.points p → (n : ℕ) (actuals : TypedTree) (result : Option ℕ)
+      → p.instr ≡ Call n actuals result → ((x : ℕ) → Has (sub_of program n).formals x → is_formal (flow_typing program) x ≡ true)
+      → AreCopied (flow_typing program) (sub_of program n).formals actuals
 
 -- The subprogram of the layout with a number, and the point there with a number.
 abbrev pub IsNamedSub : List NamedSub → ℕ → NamedSub → Type 0
@@ -116,9 +133,17 @@ AreStages [] [] = Unit {0}
 AreStages (g ∷ older) (f ∷ outer) = (g.frame ≡ f) × (g.depth ≡ length outer) × AreStages older outer
 AreStages _ _ = ⊥
 
--- Nothing waits in a frame between two steps, and nothing is copied back.
+-- A formal of a scalar type is copied back to a place in a variable.
+abbrev pub IsCopied : Typing → Return → Type 0
+IsCopied s r = (is_scalar (full s.table (object_at s r.formal).of) ≡ true) × IsFixed s r.to
+
+-- Nothing waits in a frame, and nothing is copied back.
 abbrev pub IsPlain : Stage → Type 0
 IsPlain g = (g.frame.waits ≡ []) × (g.frame.returns ≡ []) × (g.returns ≡ [])
+
+-- Nothing waits in a frame between two steps, and nothing that owns is copied back.
+abbrev pub IsResting : Typing → Stage → Type 0
+IsResting s g = (g.frame.waits ≡ []) × ((r : Return) → Has g.frame.returns r → IsCopied s r) × (g.returns ≡ [])
 
 -- A subprogram reads or writes a package object, itself or by what it calls.
 abbrev pub Uses : Effects → ℕ → ℕ → Type 0
@@ -129,7 +154,7 @@ Uses effects n x = Has (read_by effects n) x ⊎ Has (written_by effects n) x
 -- the frame says was moved is used by the callee, and what the callee uses, its caller uses.
 pub record IsCaller (table : Table) (typed : TypedProgram) (effects : Effects) (m : Memory) (callee : ℕ) (g : Stage) : Type 0 where
   pub procedure : IsProcedure table typed g.frame.sub
-  pub plain : IsPlain g
+  pub plain : IsResting (flow_typing (flow_program table typed)) g
   pub path : ControlPath (path_points (flow_program table typed) effects (sub_of (flow_program table typed) g.frame.sub)) g.before g.frame.next
   pub named : NamedSub
   pub of_sub : IsNamedSub (flow_named table typed) g.frame.sub named
@@ -145,7 +170,7 @@ pub record IsCaller (table : Table) (typed : TypedProgram) (effects : Effects) (
 -- The frames around one that runs a procedure: callers, and the frame of the package objects.
 abbrev pub AreCallers : Table → TypedProgram → Effects → Memory → ℕ → List Stage → Type 0
 AreCallers table typed effects m callee [] = ⊥
-AreCallers table typed effects m callee (e ∷ []) = (e.frame.sub ≡ 0) × IsPlain e
+AreCallers table typed effects m callee (e ∷ []) = (e.frame.sub ≡ 0) × IsResting (flow_typing (flow_program table typed)) e
 AreCallers table typed effects m callee (g ∷ (h ∷ older)) =
     IsCaller table typed effects m callee g × AreCallers table typed effects m g.frame.sub (h ∷ older)
 
@@ -153,9 +178,9 @@ AreCallers table typed effects m callee (g ∷ (h ∷ older)) =
 -- procedure with those around it.
 abbrev pub AreRunning : Table → TypedProgram → Effects → Memory → List Stage → Type 0
 AreRunning table typed effects m [] = ⊥
-AreRunning table typed effects m (e ∷ []) = (e.frame.sub ≡ 0) × IsPlain e
+AreRunning table typed effects m (e ∷ []) = (e.frame.sub ≡ 0) × IsResting (flow_typing (flow_program table typed)) e
 AreRunning table typed effects m (top ∷ (g ∷ older)) =
-    IsProcedure table typed top.frame.sub × IsPlain top × AreCallers table typed effects m top.frame.sub (g ∷ older)
+    IsProcedure table typed top.frame.sub × IsResting (flow_typing (flow_program table typed)) top × AreCallers table typed effects m top.frame.sub (g ∷ older)
 
 -- ---- what holds
 

@@ -1,7 +1,7 @@
 -- What a memory keeps, and where a place of the machine stands.
 use Rattle.std.specs.Prelude.{◌≡◌, ℕ, ◌≤◌, Bool, true, List, length, get_or}
 use Rattle.type_definitions.specs.declared.table.Shape.TheVariants as shape
-use Rattle.type_definitions.specs.Types.{Table, shape_of, words, is_owning, owns_of}
+use Rattle.type_definitions.specs.Types.{Table, shape_of, words, full, is_scalar, is_owning, owns_of}
 use Rattle.flow_paths.specs.Objects.{Typing, object_at}
 use Rattle.machine.specs.Words as machine
 use Rattle.machine.specs.Memory.{Memory, Base, OfVariable, OfCell, Place, variable_slots, cell, no_slot}
@@ -48,3 +48,14 @@ pub record Spot (s : Typing) (m : Memory) (hands : List Waiting) (k : Place) (l 
   pub at : k.at ≡ offset_in s.table (content s m hands (trunk l)).of (steps_in l)
   pub there : has_part s.table (content s m hands (trunk l)).of (steps_in l) ≡ true
   pub of : Matches s.table k.of (type_in s.table (content s m hands (trunk l)).of (steps_in l))
+
+-- A place in a variable, and of a scalar type. Where it stands doesn't go by what is in memory.
+pub record IsFixed (s : Typing) (k : Place) : Type 0 where
+  pub frame : ℕ
+  pub object : ℕ
+  pub steps : List Step
+  pub base : k.base ≡ OfVariable frame object
+  pub there : has_part s.table (object_at s object).of steps ≡ true
+  pub at : k.at ≡ offset_in s.table (object_at s object).of steps
+  pub of : Matches s.table k.of (type_in s.table (object_at s object).of steps)
+  pub scalar : is_scalar (full s.table k.of) ≡ true

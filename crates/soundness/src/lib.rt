@@ -13,8 +13,9 @@
 //! `Loops`, `Operands`, `Endings`), and go on at successors with what owns in scope (`Following`).
 //! Sound states are well owned (`Owners`). What frames around the innermost one have moved stands
 //! beside its facts (`Around`, `Inherited`), since it uses none of these package objects (`Used`);
-//! actuals and formals of scalar types change no owner (`Passing`); and where a call ends, the frames
-//! that are left know what is gone (`Returning`). Of a program that is ready
+//! owners see nothing of actuals and formals of scalar types (`Fixed`, `Passing`); and where a call
+//! ends, they are copied back, and the frames that are left know what is gone (`Returning`). Of a
+//! program that is ready
 //! (`specs/Ready.antt`), the state at the start is sound (`Beginning`), each step leads on
 //! (`Stepping`), and so does the run (`Main`). Which accepted programs are ready, the crate
 //! `ready_laws` says; docs/SOUNDNESS.md has what is open.
