@@ -1,5 +1,5 @@
 -- Actuals: each is a value for its formal, or a place of its type.
-use Rattle.std.proofs.Common.{◌≡◌, refl, sym, ap, ◌∙◌, subst, inl, inr, ℕ, suc, ◌+◌, ◌<◌, Bool, true, false, not, ◌||◌, List, [], ◌∷◌, ◌++◌, map, length, get_or, nat_eq, Some, None, if◌then◌else◌, arith}
+use Rattle.std.proofs.Common.{◌≡◌, ◌⊎◌, refl, sym, ap, ◌∙◌, subst, inl, inr, ℕ, suc, ◌+◌, ◌<◌, Bool, true, false, not, ◌||◌, List, [], ◌∷◌, ◌++◌, map, length, get_or, nat_eq, Some, None, if◌then◌else◌, arith}
 use Rattle.std.proofs.lemmas.Bool.{eqb-true}
 use Rattle.spark_base.specs.declared.position.Pos.{Pos}
 use Rattle.place_names.specs.declared.act.Mode.{Mode}
@@ -20,11 +20,12 @@ use Rattle.type_definitions.specs.Names.{Context, reading_of}
 use Rattle.type_definitions.specs.Names.{seen}
 use Rattle.type_definitions.specs.Expressions.{own_of, around, inside, reading_faults, call_arguments, around_variable, around_formal, around_traversed, traversed_anonymous, traversed_name, traversed_value, traverses, is_of, is_variable, is_in, is_access, is_anonymous, is_object_name, designated, arguments, formal, no_formal, formal_names, profile_of, associates, all_by_position, each_once, count_of, given_names}
 use Rattle.typed_tree.specs.Trees.{TypedTree, Name, typed_list}
+use Rattle.typed_tree.specs.Trees as typed
 use Rattle.typed_tree.specs.declared.object.Object.{Object}
 use Rattle.typed_tree.specs.Expressions.{Site, sub_number, typed_expression, typed_values, named_value, arguments_given}
 use Rattle.flow_paths.specs.Objects.{Typing, Signature, object_at, sub_at}
 use Rattle.typed_laws.specs.Fine.{Agree, Has, Laws, IsMeant, AreArguments}
-use Rattle.typed_laws.proofs.Agreeing.{of_known, holds, nil_left, nil_right, and_left, and_right}
+use Rattle.typed_laws.proofs.Agreeing.{of_known, holds, nil_left, nil_right, and_left, and_right, agree_trans, agree_access, retyped}
 use Rattle.typed_laws.proofs.Assigns as assigns
 use Rattle.typed_laws.proofs.Main.{has_type}
 use Rattle.type_definitions.specs.declared.table.Shape.{Shape}
@@ -39,9 +40,9 @@ use Rattle.typed_laws.proofs.Named.{named_has}
 use Rattle.typed_laws.proofs.Cases.{is_access_view, one_base}
 use Rattle.typed_laws.proofs.Main.{fine_suffixes}
 use Rattle.typed_points.proofs.Sources.{anonymous_shape}
-use Rattle.typed_steps.specs.Steps.{IsViewed}
+use Rattle.typed_steps.specs.Steps.{IsViewed, Views}
 use Rattle.typed_steps.specs.Steps.{Taken, IsPlaceOf, IsActual, ActualsTaken, IsCall}
-use Rattle.typed_runs.specs.Formals.{AreFormals, formals_of, IsProfiled}
+use Rattle.typed_runs.specs.Formals.{AreSameViews, IsFormal, AreFormals, formals_of, IsProfiled}
 
 refused : (p : Pos) (b : Bool) → demand 1 p b ++ demand 2 p false ≡ [] → ⊥
 refused p true e = cc
@@ -180,53 +181,100 @@ module _ (s : Site) (objects : List Object) (subs : List Signature) (made : ℕ 
       let f = nil_right (demand 5 p (not (own_owning c.known o))) (K6 p) (nil_right (demand 1 p (reading_access c o)) _ e) in
       cc
 
+  -- where the formal is of an anonymous access type
+  anonymous_viewed : (e : Tree) (want : ℕ) → IsMeant s y e → made want → is_anonymous (full table want) ≡ true → traversed_anonymous c want e ≡ [] → inside c true want e ≡ []
+      → IsViewed y want (typed_expression s want e)
+  anonymous_viewed (Named p d rest) want meant m anonymous h within = on (reading_of c d rest) refl h
+    where
+      on : (r : Reading) → reading_of c d rest ≡ r → traversed_name c want p r ≡ [] → IsViewed y want (typed_expression s want (Named p d rest))
+      on (reading.Place t) is g =
+          let defined = anonymous_shape (shape_of table want) anonymous in
+          traversed_place p d t want defined.0 defined.1 defined.2 rest meant m defined.3 is g within
+      on reading.Off is g = absurd (off_read p d want rest is within)
+      on (reading.Value u v) is g = absurd (no_name p (own_of c.known (reading.Value u v)) g)
+      on (reading.Call f) is g = absurd (no_name p (own_of c.known (reading.Call f)) g)
+      on (reading.Image u) is g = absurd (no_name p (own_of c.known (reading.Image u)) g)
+      on reading.EndOfFile is g = absurd (no_name p (own_of c.known reading.EndOfFile) g)
+  anonymous_viewed e want meant m anonymous h within =
+      absurd (let f = nil_right (demand 1 (position e) (traversed_fits c want e)) (K6 (position e)) h in cc)
+
   traversed : (e : Tree) (want : ℕ) → IsMeant s y e → made want → around_traversed c want e ≡ [] → inside c true want e ≡ [] → Taken y want (typed_expression s want e)
   traversed e want meant m demands within = by (is_anonymous (full table want)) refl demands
     where
-      at : (e : Tree) (b : Bool) → IsMeant s y e → is_anonymous (full table want) ≡ true → traversed_anonymous c want e ≡ [] → inside c true want e ≡ [] → Taken y want (typed_expression s want e)
-      at (Named p d rest) b meant anonymous h within = on (reading_of c d rest) refl h
-        where
-          on : (r : Reading) → reading_of c d rest ≡ r → traversed_name c want p r ≡ [] → Taken y want (typed_expression s want (Named p d rest))
-          on (reading.Place t) is g =
-              let defined = anonymous_shape (shape_of table want) anonymous in
-              inr (traversed_place p d t want defined.0 defined.1 defined.2 rest meant m defined.3 is g within)
-          on reading.Off is g = absurd (off_read p d want rest is within)
-          on (reading.Value u v) is g = absurd (no_name p (own_of c.known (reading.Value u v)) g)
-          on (reading.Call f) is g = absurd (no_name p (own_of c.known (reading.Call f)) g)
-          on (reading.Image u) is g = absurd (no_name p (own_of c.known (reading.Image u)) g)
-          on reading.EndOfFile is g = absurd (no_name p (own_of c.known reading.EndOfFile) g)
-      at e b meant anonymous h within = absurd (let f = nil_right (demand 1 (position e) (traversed_fits c want e)) (K6 (position e)) h in cc)
-
       by : (b : Bool) → is_anonymous (full table want) ≡ b
           → (if b then traversed_anonymous c want e else around c stands.Actual want e ++ demand 6 (position e) (is_object_name c e)) ≡ [] → Taken y want (typed_expression s want e)
-      by true is h = at e true meant is h within
+      by true is h = inr (anonymous_viewed e want meant m is h within)
       by false is h = inl (has_type s objects subs made laws e stands.Actual want meant m (nil_left (around c stands.Actual want e) _ h) (tight e want (holds 6 (position e) (is_object_name c e) (nil_right (around c stands.Actual want e) _ h)) within))
+
+  -- ---- types of formals
+
+  target : (z w : Shape) (d k : ℕ) (c n e m : Bool) → z ≡ w → z ≡ shape.Access d c n → w ≡ shape.Access k e m → d ≡ k
+  target z w d k c n e m same is at =
+      let one : shape.Access d c n ≡ shape.Access k e m = sym is ∙ same ∙ at in ap (λ s. designated (view_of s)) one
+
+  views_as : (of t u : ℕ) → AreSameViews table t u → Views y t of → Views y u of
+  views_as of t u same h =
+      let one : h.1 ≡ same.0 = target (shape_of table t) (shape_of table t) h.1 same.0 h.4 h.5 same.2 same.3 refl h.7 same.6 in
+      (h.0, same.1, h.2, h.3, same.4, same.5, h.6, same.7, agree_trans table h.0 h.1 same.1 h.8 (subst (λ z. Agree table z same.1) (sym one) same.8))
+
+  -- What is looked at for one type is looked at for another one that designates the same.
+  viewed_as : (e : TypedTree) (t u : ℕ) → AreSameViews table t u → IsViewed y t e → IsViewed y u e
+  viewed_as (Name p x steps of) t u same h = (h.0, views_as of t u same h.1)
+  viewed_as (typed.Call p sub actuals) t u same h = (h.0, h.1, views_as h.0 t u same h.2)
+  viewed_as (typed.Parens e) t u same h = viewed_as e t u same h
+  viewed_as e t u same h = absurd h
 
   -- ---- one actual
 
-  -- The type and the mode of a formal are those of an object.
-  actual_given : (f : FormalInfo) (x : ℕ) (e : Tree) → (object_at y x).of ≡ f.of → (object_at y x).mode ≡ f.mode → made f.of → IsMeant s y e
+  -- Two types that agree are access types alike.
+  agreeing_views : (t u : ℕ) → Agree table t u → (e : TypedTree) → IsViewed y t e → IsViewed y u e
+  agreeing_views t u agree (Name p x steps of) h =
+      let v = h.1 in (h.0, (v.0, v.1, v.2, v.3, v.4, v.5, v.6, agree_access table t u v.1 v.4 v.5 agree v.7, v.8))
+  agreeing_views t u agree (typed.Call p sub actuals) h =
+      let v = h.2 in (h.0, h.1, (v.0, v.1, v.2, v.3, v.4, v.5, v.6, agree_access table t u v.1 v.4 v.5 agree v.7, v.8))
+  agreeing_views t u agree (typed.Parens e) h = agreeing_views t u agree e h
+  agreeing_views t u agree e h = absurd h
+
+  retaken : (e : TypedTree) (t u : ℕ) → Agree table t u → Taken y t e → Taken y u e
+  retaken e t u agree (inl has) = inl (retyped y laws.owns e t u agree has)
+  retaken e t u agree (inr viewed) = inr (agreeing_views t u agree e viewed)
+
+  -- The object of a formal takes what the formal takes.
+  actual_given : (f : FormalInfo) (x : ℕ) (e : Tree) → IsFormal y x f → made f.of → IsMeant s y e
       → around_formal c f e ≡ [] → inside c f.traversed f.of e ≡ [] → IsActual y x (typed_expression s f.of e)
-  actual_given f x e of is m meant demands within = by f.mode is demands
+  actual_given f x e is m meant demands within = by f.mode refl is.0 demands
     where
-      value : (if f.traversed then around_traversed c f.of e else around c stands.Actual f.of e) ≡ [] → Taken y f.of (typed_expression s f.of e)
-      value h = on f.traversed h within
-        where
-          on : (b : Bool) → (if b then around_traversed c f.of e else around c stands.Actual f.of e) ≡ [] → inside c b f.of e ≡ [] → Taken y f.of (typed_expression s f.of e)
-          on true g w = traversed e f.of meant m g w
-          on false g w = inl (has_type s objects subs made laws e stands.Actual f.of meant m g w)
+      o : ℕ
+      o = (object_at y x).of
 
-      placed : around_variable c f.of e ≡ [] → (u : ℕ) × IsPlaceOf y u (typed_expression s f.of e) × Agree table u (object_at y x).of
-      placed h =
+      Formed : Type 0
+      Formed =
+          Agree table f.of o ⊎ ((f.traversed ≡ true) × (f.mode ≡ mode.In) × (is_anonymous (full table f.of) ≡ true) × AreSameViews table f.of o)
+
+      plain : (b : Bool) → (if b then around_traversed c f.of e else around c stands.Actual f.of e) ≡ [] → inside c b f.of e ≡ [] → Taken y f.of (typed_expression s f.of e)
+      plain true g w = traversed e f.of meant m g w
+      plain false g w = inl (has_type s objects subs made laws e stands.Actual f.of meant m g w)
+
+      value : Formed → (if f.traversed then around_traversed c f.of e else around c stands.Actual f.of e) ≡ [] → Taken y o (typed_expression s f.of e)
+      value (inl agree) h = retaken (typed_expression s f.of e) f.of o agree (plain f.traversed h within)
+      value (inr v) h =
+          let g : around_traversed c f.of e ≡ [] = subst (λ b. (if b then around_traversed c f.of e else around c stands.Actual f.of e) ≡ []) v.0 h in
+          let k : traversed_anonymous c f.of e ≡ []
+          = subst (λ b. (if b then traversed_anonymous c f.of e else around c stands.Actual f.of e ++ demand 6 (position e) (is_object_name c e)) ≡ []) v.2 g in
+          inr (viewed_as (typed_expression s f.of e) f.of o v.3 (anonymous_viewed e f.of meant m v.2 k (subst (λ b. inside c b f.of e ≡ []) v.0 within)))
+
+      placed : (k : Mode) → f.mode ≡ k → (k ≡ mode.In → ⊥) → Formed → around_variable c f.of e ≡ [] → (u : ℕ) × IsPlaceOf y u (typed_expression s f.of e) × Agree table u o
+      placed k has other (inl agree) h =
           let found = variable_at e f.of f.traversed meant m h within in
-          (found.0, found.1, subst (λ z. Agree table found.0 z) (sym of) (agree_back table f.of found.0 found.2))
+          (found.0, found.1, agree_trans table found.0 f.of o (agree_back table f.of found.0 found.2) agree)
+      placed k has other (inr v) h = absurd (other (sym has ∙ v.1))
 
-      by : (k : Mode) → (object_at y x).mode ≡ k
+      by : (k : Mode) → f.mode ≡ k → (object_at y x).mode ≡ k
           → (if not (is_in k) then around_variable c f.of e else if f.traversed then around_traversed c f.of e else around c stands.Actual f.of e) ≡ []
           → IsActual y x (typed_expression s f.of e)
-      by mode.In k h = rw k (subst (λ z. Taken y z (typed_expression s f.of e)) (sym of) (value h))
-      by mode.Out k h = rw k (placed h)
-      by mode.InOut k h = rw k (placed h)
+      by mode.In has k h = rw k (value is.1 h)
+      by mode.Out has k h = rw k (placed mode.Out has (λ e. cc) is.1 h)
+      by mode.InOut has k h = rw k (placed mode.InOut has (λ e. cc) is.1 h)
 
   -- ---- all actuals of a call
 
@@ -246,9 +294,9 @@ module _ (s : Site) (objects : List Object) (subs : List Signature) (made : ℕ 
         let info = formal c f i None in
         let here : info ≡ k = ap (λ n. get_or fs n no_formal) (let z : i ≡ i + 0 = omega arith in z) ∙ same 0 in
         let later = nil_right (around_formal c info e) _ none in (
-          actual_given info x e (are.0 ∙ ap (λ (z : FormalInfo). z.of) (sym here)) (are.1 ∙ ap (λ (z : FormalInfo). z.mode) (sym here)) (profiled.types i) meant.0
+          actual_given info x e (subst (IsFormal y x) (sym here) are.0) (profiled.types i) meant.0
               (nil_left (around_formal c info e) _ none) (nil_left (inside c info.traversed info.of e) _ later),
-          by_position more (i + 1) xs rest are.2 (λ j. ap (λ n. get_or fs n no_formal) (let z : i + 1 + j ≡ i + suc j = omega arith in z) ∙ same (suc j))
+          by_position more (i + 1) xs rest are.1 (λ j. ap (λ n. get_or fs n no_formal) (let z : i + 1 + j ≡ i + suc j = omega arith in z) ∙ same (suc j))
               (let n = count in omega (arith, n)) all meant.1 (nil_right (inside c info.traversed info.of e) _ later),
         )
     by_position (Argument (Some w) e more) i xs rest are same count all meant none = cc
@@ -261,28 +309,28 @@ module _ (s : Site) (objects : List Object) (subs : List Signature) (made : ℕ 
     by_position args i (x ∷ xs) (k ∷ rest) are same count all meant none = cc
 
     -- The value that is given by a name.
-    value_given : (args : Tree) (i x : ℕ) (k : FormalInfo) (w : List ℕ) → (object_at y x).of ≡ k.of → (object_at y x).mode ≡ k.mode → made k.of
+    value_given : (args : Tree) (i x : ℕ) (k : FormalInfo) (w : List ℕ) → IsFormal y x k → made k.of
         → ((v : List ℕ) → same_word w v ≡ true → formal c f 0 (Some v) ≡ k) → (count_of w (given_names args) ≡ 0 → ⊥) → AreArguments s y args
         → arguments c (role.Actuals f) i args ≡ [] → IsActual y x (named_value w (given_names args) (values i args))
     unfolding arguments typed_values AreArguments
-    value_given (Argument None e more) i x k w of is m here there meant none =
+    value_given (Argument None e more) i x k w is m here there meant none =
         let info = formal c f i None in
-        value_given more (i + 1) x k w of is m here there meant.1 (nil_right (inside c info.traversed info.of e) _ (nil_right (around_formal c info e) _ none))
-    value_given (Argument (Some v) e more) i x k w of is m here there meant none =
+        value_given more (i + 1) x k w is m here there meant.1 (nil_right (inside c info.traversed info.of e) _ (nil_right (around_formal c info e) _ none))
+    value_given (Argument (Some v) e more) i x k w is m here there meant none =
         let info = formal c f i (Some v) in
         let later = nil_right (around_formal c info e) _ none in
         by (same_word w v) refl (nil_left (around_formal c info e) _ none) (nil_left (inside c info.traversed info.of e) _ later)
-        (λ gone. value_given more (i + 1) x k w of is m here gone meant.1 (nil_right (inside c info.traversed info.of e) _ later))
+        (λ gone. value_given more (i + 1) x k w is m here gone meant.1 (nil_right (inside c info.traversed info.of e) _ later))
       where
         by : (b : Bool) → same_word w v ≡ b → around_formal c (formal c f i (Some v)) e ≡ [] → inside c (formal c f i (Some v)).traversed (formal c f i (Some v)).of e ≡ []
             → ((count_of w (given_names more) ≡ 0 → ⊥) → IsActual y x (named_value w (given_names more) (values (i + 1) more)))
             → IsActual y x (if same_word w v then typed_expression s (formal c f i (Some v)).of e else named_value w (given_names more) (values (i + 1) more))
         by true same around within on =
             let one : formal c f i (Some v) ≡ k = here v same in
-            rw same (actual_given (formal c f i (Some v)) x e (of ∙ ap (λ (z : FormalInfo). z.of) (sym one)) (is ∙ ap (λ (z : FormalInfo). z.mode) (sym one))
+            rw same (actual_given (formal c f i (Some v)) x e (subst (IsFormal y x) (sym one) is)
             (subst made (ap (λ (z : FormalInfo). z.of) (sym one)) m) meant.0 around within)
         by false same around within on = rw same (on (λ zero. there (rw same zero)))
-    value_given args i x k w of is m here there meant none = absurd (there refl)
+    value_given args i x k w is m here there meant none = absurd (there refl)
 
     -- By name, in the order in which the formals are declared.
     by_names : (args : Tree) (n : ℕ) (xs : List ℕ) (rest : List FormalInfo) → AreFormals y xs rest → ((j : ℕ) → get_or fs (n + j) no_formal ≡ get_or rest j no_formal)
@@ -293,10 +341,10 @@ module _ (s : Site) (objects : List Object) (subs : List Signature) (made : ℕ 
     by_names args n (x ∷ xs) (k ∷ rest) are same count once meant none =
         let at : get_or fs n no_formal ≡ k = ap (λ z. get_or fs z no_formal) (let z : n ≡ n + 0 = omega arith in z) ∙ same 0 in
         let within : n < length fs = (let z = count in omega (arith, z)) in (
-          value_given args 0 x k k.name are.0 are.1 (subst made (ap (λ (z : FormalInfo). z.of) at) (profiled.types n))
+          value_given args 0 x k k.name are.0 (subst made (ap (λ (z : FormalInfo). z.of) at) (profiled.types n))
               (λ v is. profiled.names n v within (subst (λ (z : FormalInfo). same_word z.name v ≡ true) (sym at) is) ∙ at)
               (not_zero (count_of k.name (given_names args)) (and_left _ _ once)) meant none,
-          by_names args (suc n) xs rest are.2 (λ j. ap (λ z. get_or fs z no_formal) (let z : suc n + j ≡ n + suc j = omega arith in z) ∙ same (suc j))
+          by_names args (suc n) xs rest are.1 (λ j. ap (λ z. get_or fs z no_formal) (let z : suc n + j ≡ n + suc j = omega arith in z) ∙ same (suc j))
               (let z = count in omega (arith, z)) (and_right (nat_eq (count_of k.name (given_names args)) 1) _ once) meant none,
         )
     by_names args n (x ∷ xs) [] are same count once meant none = absurd are

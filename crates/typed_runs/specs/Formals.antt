@@ -1,19 +1,36 @@
 -- The formals of subprograms, by their numbers and by their profiles.
-use Rattle.std.specs.Prelude.{◌≡◌, ◌<◌, ◌+◌, ℕ, true, List, [], ◌∷◌, length, get_or, nat_eq}
+use Rattle.std.specs.Prelude.{◌≡◌, ◌⊎◌, ◌<◌, ◌+◌, ℕ, Bool, true, List, [], ◌∷◌, length, get_or, nat_eq}
 use Rattle.std.specs.List.{position_or_len}
 use Rattle.type_definitions.specs.declared.table.Entry.TheVariants as entry
 use Rattle.type_definitions.specs.declared.table.FormalInfo.{FormalInfo}
 use Rattle.type_definitions.specs.declared.table.Known.{Known}
+use Rattle.type_definitions.specs.declared.table.Shape.TheVariants as shape
+use Rattle.place_names.specs.declared.act.Mode.TheVariants as mode
+use Rattle.type_definitions.specs.Types.{Table, shape_of, full}
 use Rattle.type_definitions.specs.declared.table.Profile.{Profile}
 use Rattle.type_definitions.specs.Entries.{entry_of, same_word}
-use Rattle.type_definitions.specs.Expressions.{by_name, no_formal, profile_of}
+use Rattle.type_definitions.specs.Expressions.{is_anonymous, by_name, no_formal, profile_of}
 use Rattle.flow_paths.specs.Objects.{Typing, object_at, sub_at}
+use Rattle.typed_laws.specs.Fine.{Agree}
 use Rattle.typed_steps.specs.Steps.{GoesThrough}
 
--- Objects have the types and the modes of these formals.
+-- Two access types that designate one type.
+abbrev pub AreSameViews : Table → ℕ → ℕ → Type 0
+AreSameViews table t u =
+    (d : ℕ) × (k : ℕ) × (c : Bool) × (n : Bool) × (e : Bool) × (m : Bool)
+    × (shape_of table t ≡ shape.Access d c n) × (shape_of table u ≡ shape.Access k e m) × Agree table d k
+
+-- The object of a formal has its mode, and a type that agrees with that of the profile; where a traversal goes through
+-- it, the body may have an anonymous access type of its own.
+abbrev pub IsFormal : Typing → ℕ → FormalInfo → Type 0
+IsFormal y x f =
+    ((object_at y x).mode ≡ f.mode)
+    × (Agree y.table f.of (object_at y x).of
+    ⊎ ((f.traversed ≡ true) × (f.mode ≡ mode.In) × (is_anonymous (full y.table f.of) ≡ true) × AreSameViews y.table f.of (object_at y x).of))
+
 abbrev pub AreFormals : Typing → List ℕ → List FormalInfo → Type 0
 AreFormals y [] [] = Unit {0}
-AreFormals y (x ∷ xs) (f ∷ fs) = ((object_at y x).of ≡ f.of) × ((object_at y x).mode ≡ f.mode) × AreFormals y xs fs
+AreFormals y (x ∷ xs) (f ∷ fs) = IsFormal y x f × AreFormals y xs fs
 AreFormals y xs fs = ⊥
 
 abbrev pub formals_of : Known → ℕ → List FormalInfo
