@@ -1,7 +1,8 @@
 -- Types that are based on one type have one definition, or are scalar of one kind, after both turns.
-use Rattle.std.proofs.Common.{◌≡◌, inl, inr, ℕ, zero, suc, ◌-◌, ◌<◌, ◌≤◌, true, false, List, [], ◌∷◌, replicate, refl, sym, ap, ◌∙◌, arith, subst, true≢false}
+use Rattle.std.proofs.Common.{◌≡◌, inl, inr, ℕ, zero, suc, ◌-◌, ◌<◌, ◌≤◌, true, false, List, [], ◌∷◌, ◌++◌, flat_map, replicate, refl, sym, ap, ◌∙◌, arith, subst, true≢false}
 use Rattle.std.specs.Prelude.{slice_get}
 use Rattle.spark_base.specs.Lists.{Has}
+use Rattle.spark_base.proofs.Lists.{Has-append_left, Has-append_right}
 use Rattle.resolved_tree.specs.Trees.{Code, More, Enumeration, Record, Array, Access, TypeDecl, ConstrainedSubtype, SubBody, Package, PackageBody, If, Branch, Case, When, Loop, While, For, Block, Program}
 use Rattle.type_definitions.specs.declared.table.Known.{Known}
 use Rattle.type_definitions.specs.declared.table.Shape.{Shape}
@@ -17,12 +18,12 @@ use Rattle.settled_types.proofs.Homes.{AtHome, homes}
 use Rattle.settled_types.proofs.Turns.{Turn}
 use Rattle.settled_types.proofs.Main.{first_table, begin, begin_rows, units_turn, end, first, begins_first, unlike_first, rows_first, second, begins_second, first_rows}
 use Rattle.gathered_laws.specs.DefinitionKinds.{kind, kind_defined, Kinds}
-use Rattle.gathered_laws.specs.Named.{IsNamed}
+use Rattle.gathered_laws.specs.Views.{view_numbers, named_numbers, AreViewsApart}
 use Rattle.gathered_laws.specs.Based.{IsOne, Agrees, AreBased}
 use Rattle.gathered_laws.specs.Faultless.{IsFaultless}
 use Rattle.gathered_laws.proofs.Nodes.{Node, rows_after}
 use Rattle.gathered_laws.proofs.DefinedKinds.{kinds, defined_kind}
-use Rattle.gathered_laws.proofs.Walk.{Allows, Bounded, walks}
+use Rattle.gathered_laws.proofs.Walk.{Allows, IsParted, Bounded, walks}
 use Rattle.gathered_laws.proofs.Bounded.{ArePredefined, low, base_low, meant_low, written_low, bounded}
 
 -- ---- what both turns ask of the code
@@ -81,14 +82,14 @@ module _ (final : Known) (count : ℕ) (all : List ℕ) (start : Table)
 
   module _ (rule : ℕ → Shape → Type 0) (Final : Type 0) (steady : Final → (d : ℕ) (s u : Shape) → rule d s → rule d u → kind s ≡ kind u)
       (plain : (d : ℕ) (s : Shape) → rule d s → kind s ≡ 3 → ⊥) (starts : (d : ℕ) → 15 ≤ d → Has all d → rule d (written start d))
-      (bound : Bounded final count all start unlike rule Final steady plain starts) where
+      (views : ℕ → Type 0) (bound : Bounded final count all start unlike rule Final steady plain starts views) where
     units_based : (us : List Code) (p : Past) (c : Context) → AllOrderly count p us → AllOpen final us → AtHome p c
-        → ((d : ℕ) → Has (past_units us p).awaited d → Has all d) → AreRows count start p c.known → ((u : Code) → Has us u → IsNamed u)
+        → ((d : ℕ) → Has (past_units us p).awaited d → Has all d) → AreRows count start p c.known → ((u : Code) → Has us u → IsParted views u)
         → ((u : Code) → Has us u → Allows rule final u) → (Final → LeadsTo final (past_units us p) (gather_units us c).known)
-        → AreBased rule Final start p.awaited p.defined c.known.table
-        → AreBased rule Final start (past_units us p).awaited (past_units us p).defined (gather_units us c).known.table
-    units_based [] p c orderly opens home within_all rows named allowed later b = b
-    units_based (v ∷ rest) p c orderly opens home within_all rows named allowed later b =
+        → AreBased rule Final views start p.awaited p.defined c.known.table
+        → AreBased rule Final views start (past_units us p).awaited (past_units us p).defined (gather_units us c).known.table
+    units_based [] p c orderly opens home within_all rows parted allowed later b = b
+    units_based (v ∷ rest) p c orderly opens home within_all rows parted allowed later b =
         let n = units v rest p c orderly opens home within_all rows in
         let q : Past = past_after v p in
         let middle : Context = gather v c in
@@ -97,8 +98,8 @@ module _ (final : Known) (count : ℕ) (all : List ℕ) (start : Table)
           keeps = λ x is. l.keeps x ((n.on.goes within_all n.rows).keeps x is);
           fixed = λ t is. l.fixed t (n.on.fixes t is) ∙ (n.on.goes within_all n.rows).stays t is;
         } in
-        units_based rest q middle orderly.1 opens.1 (homes v p c home) within_all n.rows (λ u has. named u (inr has)) (λ u has. allowed u (inr has)) later
-        (walks final count all start unlike rule Final steady plain starts bound v p c n.first_node (named v (inl refl)) (allowed v (inl refl)) leads b)
+        units_based rest q middle orderly.1 opens.1 (homes v p c home) within_all n.rows (λ u has. parted u (inr has)) (λ u has. allowed u (inr has)) later
+        (walks final count all start unlike rule Final steady plain starts views bound v p c n.first_node (parted v (inl refl)) (allowed v (inl refl)) leads b)
 
 -- ---- where a turn begins
 
@@ -108,8 +109,8 @@ low_one t (inr (inl is)) = absurd is
 low_one t (inr (inr (inl same))) = omega (arith, same)
 low_one t (inr (inr (inr is))) = absurd is
 
-begin_based : (rule : ℕ → Shape → Type 0) (Final : Type 0) (table : Table) → ArePredefined table → AreBased rule Final table [] (4 ∷ []) table
-begin_based rule Final table rows = record {
+begin_based : (rule : ℕ → Shape → Type 0) (Final : Type 0) (views : ℕ → Type 0) (table : Table) → ArePredefined table → AreBased rule Final views table [] (4 ∷ []) table
+begin_based rule Final views table rows = record {
   based = λ t is. let less = low_one t is in inl (subst (λ n. n < 5) (sym (base_low table rows t less))
       (low (λ t. base (predefined_types false) t < 5) (omega arith) (omega arith) (omega arith) (omega arith) (omega arith) t less));
   bases = λ t is. let less = low_one t is in
@@ -121,7 +122,7 @@ begin_based rule Final table rows = record {
       (low (λ t. meant_type (predefined_types false) t < 5) (omega arith) (omega arith) (omega arith) (omega arith) (omega arith) t less));
   own = λ t is high own. absurd (let less = low_one t is in omega (arith, less, high));
   waits = λ t is. absurd is;
-  fresh = λ t high none. refl;
+  fresh = λ t high none other. refl;
   agrees = λ f t is. let less = low_one t is in low (Agrees table)
       (inl (meant_low table rows 0 (omega arith) ∙ sym (base_low table rows 0 (omega arith)))) (range 1 (omega arith) refl refl refl) (range 2 (omega arith) refl refl refl)
       (inl (meant_low table rows 3 (omega arith) ∙ sym (base_low table rows 3 (omega arith)))) (inl (meant_low table rows 4 (omega arith) ∙ sym (base_low table rows 4 (omega arith)))) t less;
@@ -137,11 +138,11 @@ begin_based rule Final table rows = record {
 
 -- ---- what own types are in both turns
 
--- The definition of an access type with a name is of variables.
+-- The definition of an access type with a name is of variables, and named.
 abbrev pub IsOwn : Shape → Type 0
 IsOwn (shape.Whole a b) = ⊥
 IsOwn (shape.Same of) = ⊥
-IsOwn (shape.Access d constant named) = constant ≡ false
+IsOwn (shape.Access d constant named) = (constant ≡ false) × (named ≡ true)
 IsOwn _ = Unit {0}
 
 abbrev pub FirstRule : ℕ → Shape → Type 0
@@ -162,7 +163,7 @@ defined_own : (c : Context) (def : Code) → IsOwn (defined c def)
 defined_own c (Enumeration literals) = tt
 defined_own c (Record components) = tt
 defined_own c (Array range m) = tt
-defined_own c (Access m) = refl
+defined_own c (Access m) = (refl, refl)
 defined_own c def = tt
 
 none_own : (n t : ℕ) → IsOwn (written (replicate n no_type) t)
@@ -178,12 +179,27 @@ first_own count (suc (suc (suc zero))) high = absurd (omega (arith, high))
 first_own count (suc (suc (suc (suc zero)))) high = absurd (omega (arith, high))
 first_own count (suc (suc (suc (suc (suc d))))) high = none_own (count - 5) d
 
+in_units : (f : Code → List ℕ) (units : List Code) (u : Code) (d : ℕ) → Has units u → Has (f u) d → Has (flat_map f units) d
+in_units f [] u d has there = absurd has
+in_units f (v ∷ rest) u d (inl same) there = Has-append_left (f v) (flat_map f rest) d (subst (λ w. Has (f w) d) (sym same) there)
+in_units f (v ∷ rest) u d (inr has) there = Has-append_right (f v) (flat_map f rest) d (in_units f rest u d has there)
+
 -- ---- both turns
 
-module _ (p : Program) (are : IsOrderly p) (opens : AllOpen (known_of p) p.units) (named : (u : Code) → Has p.units u → IsNamed u)
+module _ (p : Program) (are : IsOrderly p) (opens : AllOpen (known_of p) p.units) (apart : AreViewsApart p.units)
     (faultless : (u : Code) → Has p.units u → IsFaultless (known_of p) u) where
   abbrev last : Past
   last = end p are opens
+
+  -- the numbers of anonymous access types
+  abbrev pub IsView : ℕ → Type 0
+  IsView = Has (flat_map view_numbers p.units)
+
+  parted : (u : Code) → Has p.units u → IsParted IsView u
+  parted u has = (
+    λ d there. in_units view_numbers p.units u d has there,
+    λ d there view. apart d view (in_units named_numbers p.units u d has there),
+  )
 
   abbrev after_first : Table
   after_first = second p are opens
@@ -196,13 +212,13 @@ module _ (p : Program) (are : IsOrderly p) (opens : AllOpen (known_of p) p.units
       units_kinds (known_of p) p.count last.awaited (first p are opens) (unlike_first p are opens) after_first p.units at_start (outside (begin p.count (first p are opens)))
       are opens (λ is. absurd (true≢false (sym is))) (λ d is. is) (begin_rows p.count (first p are opens) (begins_first p are opens)) (λ t is. refl)
 
-  based_first : AreBased FirstRule ⊥ (first p are opens) last.awaited last.defined after_first
+  based_first : AreBased FirstRule ⊥ IsView (first p are opens) last.awaited last.defined after_first
   based_first =
       units_based (known_of p) p.count last.awaited (first p are opens) (unlike_first p are opens) FirstRule ⊥ (λ f. absurd f) (λ d s. own_plain s)
-      (λ d high is. first_own p.count d (omega (arith, high))) (λ f. absurd f) p.units at_start (outside (begin p.count (first p are opens)))
-      are opens (λ is. absurd (true≢false (sym is))) (λ d is. is) (begin_rows p.count (first p are opens) (begins_first p are opens)) named
+      (λ d high is. first_own p.count d (omega (arith, high))) IsView (λ f. absurd f) p.units at_start (outside (begin p.count (first p are opens)))
+      are opens (λ is. absurd (true≢false (sym is))) (λ d is. is) (begin_rows p.count (first p are opens) (begins_first p are opens)) parted
       (λ u has. allows FirstRule (known_of p) after_first (λ n def k c. defined_own c def) u (kinds_first u has) (faultless u has))
-      (λ f. absurd f) (begin_based FirstRule ⊥ (first p are opens) (first_rows p.count))
+      (λ f. absurd f) (begin_based FirstRule ⊥ IsView (first p are opens) (first_rows p.count))
 
   abbrev pub Rule : ℕ → Shape → Type 0
   Rule = SecondRule after_first
@@ -219,22 +235,22 @@ module _ (p : Program) (are : IsOrderly p) (opens : AllOpen (known_of p) p.units
   steady_second : (d : ℕ) (s u : Shape) → Rule d s → Rule d u → kind s ≡ kind u
   steady_second d s u a b = a.1 ∙ sym b.1
 
-  based_second : AreBased Rule AtEnd after_first last.awaited last.defined (known_from p after_first).table
+  based_second : AreBased Rule AtEnd IsView after_first last.awaited last.defined (known_from p after_first).table
   unfolding known_of
   based_second =
-      units_based (known_of p) p.count last.awaited after_first unlike_second Rule AtEnd (λ f. steady_second) (λ d s r. own_plain s r.0) starts_second
+      units_based (known_of p) p.count last.awaited after_first unlike_second Rule AtEnd (λ f. steady_second) (λ d s r. own_plain s r.0) starts_second IsView
       (λ ends q known m rows within_all leads b scalar same.
-      bounded (known_of p) p.count last.awaited after_first Rule AtEnd steady_second (λ d s r. own_plain s r.0) ends q known rows within_all leads b m scalar same)
-      p.units at_start (outside (begin p.count after_first)) are opens begin_home (λ d is. is) (begin_rows p.count after_first (begins_second p are opens)) named
+      bounded (known_of p) p.count last.awaited after_first Rule AtEnd steady_second (λ d s r. own_plain s r.0) ends q known rows within_all leads IsView b m scalar same)
+      p.units at_start (outside (begin p.count after_first)) are opens begin_home (λ d is. is) (begin_rows p.count after_first (begins_second p are opens)) parted
       (λ u has. allows Rule (known_of p) after_first (λ n def k c. (defined_own c def, defined_kind c def ∙ sym k)) u (kinds_first u has) (faultless u has))
-      (λ f. record { keeps = λ v is. is; fixed = λ t is. refl }) (begin_based Rule AtEnd after_first (begins_second p are opens).predefined)
+      (λ f. record { keeps = λ v is. is; fixed = λ t is. refl }) (begin_based Rule AtEnd IsView after_first (begins_second p are opens).predefined)
 
   at_end : AtEnd
   unfolding known_of
   at_end t is = based_second.own t (inr (inl is)) (based_second.waits t is).1 (based_second.waits t is).0
 
   -- how types are based on others after both turns
-  pub based : AreBased Rule AtEnd after_first last.awaited last.defined (known_of p).table
+  pub based : AreBased Rule AtEnd IsView after_first last.awaited last.defined (known_of p).table
   unfolding known_of
   based = based_second
 

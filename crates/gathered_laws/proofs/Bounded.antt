@@ -73,7 +73,7 @@ scalar_kind (shape.Elements a b of) e = absurd (true≢false (sym e))
 module _ (final : Known) (count : ℕ) (all : List ℕ) (start : Table) (rule : ℕ → Shape → Type 0) (Final : Type 0)
     (steady : (d : ℕ) (s u : Shape) → rule d s → rule d u → kind s ≡ kind u) (plain : (d : ℕ) (s : Shape) → rule d s → kind s ≡ 3 → ⊥)
     (ends : (t : ℕ) → Has all t → rule t (written final.table t)) (p : Past) (known : Known) (rows : AreRows count start p known)
-    (within_all : (d : ℕ) → Has p.awaited d → Has all d) (leads : LeadsTo final p known) (b : AreBased rule Final start p.awaited p.defined known.table) where
+    (within_all : (d : ℕ) → Has p.awaited d → Has all d) (leads : LeadsTo final p known) (views : ℕ → Type 0) (b : AreBased rule Final views start p.awaited p.defined known.table) where
   -- a type that isn't completed later is fixed
   fixed : (t : ℕ) → Has p.defined t → (Has p.awaited t → ⊥) → IsFixed p t
   fixed t is none = (is, (λ hidden. none (rows.private t hidden).0), (λ late. none (rows.incomplete t late).0))

@@ -13,6 +13,8 @@ use Rattle.type_definitions.specs.declared.table.Info.{Info}
 use Rattle.type_definitions.specs.declared.table.InitialValue.{InitialValue}
 use Rattle.type_definitions.specs.declared.table.Shape.{Shape}
 use Rattle.type_definitions.specs.declared.table.Shape.TheVariants as shape
+use Rattle.place_names.specs.declared.act.Mode.{Mode}
+use Rattle.type_definitions.specs.declared.table.FormalInfo.{FormalInfo}
 use Rattle.type_definitions.specs.declared.table.Entry.{Entry}
 use Rattle.type_definitions.specs.declared.table.Entry.TheVariants as entry
 use Rattle.type_definitions.specs.declared.table.Known.{Known}
@@ -25,19 +27,19 @@ use Rattle.type_definitions.specs.Names.{Context}
 use Rattle.type_definitions.specs.Expressions.{own_type}
 use Rattle.type_definitions.specs.Statements.{type_or_integer}
 use Rattle.type_definitions.specs.Whole.{predefined_types}
-use Rattle.type_definitions.specs.Gathered.{gather, each, declared_number, declared_pos, with_entry, with_info, with_type, own_info, indicated, with_indication, awaited_info, component_group, component_list, component_groups, defined, is_asked, is_bounded_range, are_static_bounds, bound_pair, has_bounds, with_literals, with_definition, full_info, constrained_shape, subtype_info, meant_by, with_object, object_info, constant_value, with_number, number_info, initial_value, plain_object, with_formal, with_formal_group, with_formals, with_result, with_front, with_body_front, profile, result_indicated, is_subprogram, front_number, parameter_type, in_subprogram, in_visible, in_hidden, instance_type}
+use Rattle.type_definitions.specs.Gathered.{gather, each, declared_number, declared_pos, with_entry, with_info, with_type, own_info, indicated, with_indication, awaited_info, component_group, component_list, component_groups, defined, is_asked, is_bounded_range, are_static_bounds, bound_pair, has_bounds, with_literals, with_definition, full_info, constrained_shape, subtype_info, meant_by, with_object, object_info, constant_value, with_number, number_info, initial_value, plain_object, with_formal, with_formal_group, with_formals, with_result, with_front, with_body_front, profile, formal_group, formal_groups, formal_infos, anonymous_result, result_indicated, is_subprogram, front_number, parameter_type, in_subprogram, in_visible, in_hidden, instance_type}
 use Rattle.gathered_laws.specs.Made.{indicated_numbers, all_numbers, group_numbers, result_numbers, front_numbers, type_numbers, IsMadeOf, SpeaksOf, AreTypes}
 
 -- ---- lists
 
-row_after : {A : Type 0} (xs : List A) (d t : ℕ) (x : A) (Q : Option A → Type 0) → (t ≡ d → Q (Some x)) → Q (slice_get xs t) → Q (slice_get (set xs d x) t)
+pub row_after : {A : Type 0} (xs : List A) (d t : ℕ) (x : A) (Q : Option A → Type 0) → (t ≡ d → Q (Some x)) → Q (slice_get xs t) → Q (slice_get (set xs d x) t)
 row_after [] d t x Q new old = old
 row_after (y ∷ xs) zero zero x Q new old = new refl
 row_after (y ∷ xs) zero (suc t) x Q new old = old
 row_after (y ∷ xs) (suc d) zero x Q new old = old
 row_after (y ∷ xs) (suc d) (suc t) x Q new old = row_after xs d t x Q (λ e. new (ap suc e)) old
 
-entry_after : {A : Type 0} (xs : List A) (d t : ℕ) (x fallback : A) (Q : A → Type 0) → (t ≡ d → Q x) → Q (get_or xs t fallback) → Q (get_or (set xs d x) t fallback)
+pub entry_after : {A : Type 0} (xs : List A) (d t : ℕ) (x fallback : A) (Q : A → Type 0) → (t ≡ d → Q x) → Q (get_or xs t fallback) → Q (get_or (set xs d x) t fallback)
 entry_after [] d t x fallback Q new old = old
 entry_after (y ∷ xs) zero zero x fallback Q new old = new refl
 entry_after (y ∷ xs) zero (suc t) x fallback Q new old = old
@@ -226,13 +228,45 @@ module _ (is : ℕ → Type 0) (low : (t : ℕ) → t < 5 → is t) where
   result_made known d (More i rest) new are t e = let same : indicated known d i ≡ t = cc in subst is same (indicated_made known d i new are)
   result_made known d result new are t e = cc
 
+  -- the formals of a profile
+  formals_both : (xs ys : List FormalInfo) → AllByRecursion (λ (f : FormalInfo). is f.of) xs → AllByRecursion (λ (f : FormalInfo). is f.of) ys
+      → AllByRecursion (λ (f : FormalInfo). is f.of) (xs ++ ys)
+  formals_both [] ys h g = g
+  formals_both (x ∷ xs) ys h g = (h.0, formals_both xs ys h.1 g)
+
+  other_new : (i : Code) (n : ℕ) (ns : List ℕ) → AllNew (indicated_numbers i (n ∷ ns)) → AllNew (indicated_numbers i ns)
+  other_new (Anonymous p constant m) n ns new d has = new d (inr has)
+  other_new i n ns new d has = absurd has
+
+  infos_made : (known : Known) (first : Bool) (m : Mode) (of ids : Code) → AllNew (indicated_numbers of (all_numbers ids)) → AreTypes is known
+      → AllByRecursion (λ (f : FormalInfo). is f.of) (formal_group known first m of ids)
+  infos_made known first m of (More d rest) new are = (
+    indicated_made known (declared_number d) of (one_new of (More d rest) d new (inl refl)) are,
+    infos_made known false m of rest (other_new of (declared_number d) (all_numbers rest) new) are,
+  )
+  infos_made known first m of ids new are = tt
+
+  group_infos_made : (known : Known) (first : Bool) (group : Code) → AllNew (group_numbers group) → AreTypes is known
+      → AllByRecursion (λ (f : FormalInfo). is f.of) (formal_groups known first group)
+  group_infos_made known first (Formals names m of) new are = infos_made known first m of names new are
+  group_infos_made known first group new are = tt
+
+  formals_made : (known : Known) (first : Bool) (formals : Code) → AllNew (flat_map group_numbers (code_items formals)) → AreTypes is known
+      → AllByRecursion (λ (f : FormalInfo). is f.of) (formal_infos known first formals)
+  formals_made known first (More group rest) new are =
+      formals_both (formal_groups known first group) (formal_infos known false rest)
+      (group_infos_made known first group (first_new (group_numbers group) (flat_map group_numbers (code_items rest)) new) are)
+      (formals_made known false rest (rest_new (group_numbers group) (flat_map group_numbers (code_items rest)) new) are)
+  formals_made known first formals new are = tt
+
   front_kept : (front : Code) → AllNew (front_numbers front) → (c : Context) → Good c → Good (with_front front c)
   front_kept (Front d formals result) new c are =
       let n = declared_number d in
       let results = first_new (result_numbers n result) _ new in
       let inner = each with_formal_group formals (with_result n result c) in
       let good = groups_kept formals (rest_new (result_numbers n result) _ new) (with_result n result c) (result_kept n result results c are) in
-      entry_kept inner n (entry.Subprogram (profile inner.known (Front d formals result))) (result_made inner.known n result results good) good
+      entry_kept inner n (entry.Subprogram (profile inner.known (Front d formals result)))
+      (result_made inner.known n result results good, formals_made inner.known (anonymous_result result) formals (rest_new (result_numbers n result) _ new) good) good
   front_kept front new c are = are
 
   formals_kept : (front : Code) → AllNew (front_numbers front) → (c : Context) → Good c → Good (with_formals front c)

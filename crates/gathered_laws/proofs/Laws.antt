@@ -1,5 +1,5 @@
--- What typed expressions ask of tables holds of programs without anonymous access types, where components
--- have names of their own.
+-- What typed expressions ask of tables holds of programs where components have names of their own, and anonymous
+-- access types numbers of their own.
 use Rattle.std.proofs.Common.{◌≡◌, inl, ℕ, ◌<◌, arith, IsTrue, None}
 use Rattle.spark_base.specs.Lists.{Has}
 use Rattle.resolved_tree.specs.Trees.{Code, Program}
@@ -12,16 +12,16 @@ use Rattle.settled_types.proofs.Faultless.{program_open}
 use Rattle.settled_types.proofs.Main.{whole as whole_types}
 use Rattle.typed_laws.specs.Fine.{Laws}
 use Rattle.gathered_laws.specs.Left.{Left}
-use Rattle.gathered_laws.specs.Named.{IsNamed}
+use Rattle.gathered_laws.specs.Views.{AreViews}
 use Rattle.gathered_laws.specs.Made.{IsMade, AreTypes}
 use Rattle.gathered_laws.specs.Faultless.{IsFaultless}
 use Rattle.gathered_laws.proofs.Main.{are_types, certain, bounded, element, target, object, literal, typed, result, component, whole, listed}
 use Rattle.gathered_laws.proofs.Faultless.{program_faultless}
 use Rattle.gathered_laws.proofs.Sentences as sentences
 
-pub program_laws : (p : Program) → IsTrue (all_formed p.units) → IsOrderly p → type_fault p ≡ None → ((u : Code) → Has p.units u → IsNamed u)
+pub program_laws : (p : Program) → IsTrue (all_formed p.units) → IsOrderly p → type_fault p ≡ None → AreViews p.units (known_of p).table
     → Left (known_of p) → Laws (known_of p) (IsMade p.units)
-program_laws p formed orderly none named left =
+program_laws p formed orderly none views left =
     let is = IsMade p.units in
     let low : (t : ℕ) → t < 5 → is t = λ t less. inl less in
     let known : Known = known_of p in
@@ -29,24 +29,24 @@ program_laws p formed orderly none named left =
     let opens : AllOpen known p.units = program_open p formed none in
     let faultless : (u : Code) → Has p.units u → IsFaultless known u = program_faultless p formed none in
     let wholes = whole_types p formed orderly none in record {
-      same = sentences.same p orderly opens named faultless;
+      same = sentences.same p orderly opens views faultless;
       owns = wholes.own_law;
       plain = wholes.plain;
       word_law = wholes.word_law;
       based = λ t m. are.bases t;
-      base_of = sentences.base_of p orderly opens named faultless;
+      base_of = sentences.base_of p orderly opens views faultless;
       whole = whole is low known are;
       listed = listed is low known are;
       integers = inl (omega arith);
       booleans = inl (omega arith);
-      numeric = sentences.numeric p orderly opens named faultless;
+      numeric = sentences.numeric p orderly opens views faultless;
       component = λ t i m. component is low known are t i;
       element = λ t of a b m e. element is low known are t of a b e;
       target = λ t d constant named m e. target is low known are t d constant named e;
       object = object is low known are;
-      literal = λ d t n e. (literal is low known are d t n e, sentences.literal p orderly opens named faultless d t n e);
+      literal = λ d t n e. (literal is low known are d t n e, sentences.literal p orderly opens views faultless d t n e);
       typed = typed is low known are;
-      freed = sentences.freed p orderly opens named faultless;
+      freed = sentences.freed p orderly opens views faultless;
       certain = λ t m. certain is low known are t;
       bounded = λ t m. bounded is low known are t;
       result = result is low known are;

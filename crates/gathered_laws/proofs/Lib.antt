@@ -4,6 +4,7 @@ pub mod Main
 pub mod Nodes
 pub mod DefinedKinds
 pub mod Plain
+pub mod Views
 pub mod Put
 pub mod Walk
 pub mod Bounded

@@ -12,13 +12,14 @@ use Rattle.type_definitions.specs.declared.table.Info.{Info}
 use Rattle.type_definitions.specs.declared.table.ObjectInfo.{ObjectInfo}
 use Rattle.type_definitions.specs.declared.table.Shape.{Shape}
 use Rattle.type_definitions.specs.declared.table.Shape.TheVariants as shape
+use Rattle.type_definitions.specs.declared.table.FormalInfo.{FormalInfo}
 use Rattle.type_definitions.specs.declared.table.Entry.{Entry}
 use Rattle.type_definitions.specs.declared.table.Entry.TheVariants as entry
 use Rattle.type_definitions.specs.declared.table.Known.{Known}
 use Rattle.type_definitions.specs.Types.{Table, info, info_found, base, shape_of, shape_found, meant_type, meant_type_found, components_of, is_untyped, is_bounded, no_type}
 use Rattle.type_definitions.specs.Entries.{entry_of, integer, boolean}
 use Rattle.type_definitions.specs.Names.{Context}
-use Rattle.type_definitions.specs.Expressions.{profile_of}
+use Rattle.type_definitions.specs.Expressions.{no_formal, profile_of}
 use Rattle.type_definitions.specs.Gathered.{gather}
 use Rattle.type_definitions.specs.Whole.{predefined_types, predefined_entries, at_first, outside, gather_units, known_from, known_of}
 use Rattle.settled_types.specs.Orderly.{IsOrderly}
@@ -146,7 +147,7 @@ module _ (is : ℕ → Type 0) (low : (t : ℕ) → t < 5 → is t) where
       })
 
 pub are_types : (p : Program) → IsOrderly p → AreTypes (IsMade p.units) (known_of p)
-are_types p orderly = both_turns (IsMade p.units) (λ t less. inl less) p (λ d has. (inr has, program_high p orderly d has))
+are_types p orderly = both_turns (IsMade p.units) (λ t less. inl less) p (λ d has. (inr has, (program_high p orderly d has).0))
 
 -- ---- what typed expressions ask of tables
 
@@ -192,8 +193,21 @@ module _ (is : ℕ → Type 0) (low : (t : ℕ) → t < 5 → is t) (known : Kno
   result d t e = by (entry_of known d) (are.entries d) e
     where
       by : (x : Entry) → SpeaksOf is d x → (profile_of x).result ≡ Some t → is t
-      by (entry.Subprogram p) speaks f = speaks t f
+      by (entry.Subprogram p) speaks f = speaks.0 t f
       by x speaks f = cc
+
+  listed_formal : (fs : List FormalInfo) (i : ℕ) → AllByRecursion (λ (f : FormalInfo). is f.of) fs → is (get_or fs i no_formal).of
+  listed_formal [] i all = low 0 (omega arith)
+  listed_formal (f ∷ fs) zero all = all.0
+  listed_formal (f ∷ fs) (suc i) all = listed_formal fs i all.1
+
+  -- The formals of a profile are of types.
+  pub formal : (d i : ℕ) → is (get_or (profile_of (entry_of known d)).formals i no_formal).of
+  formal d i = by (entry_of known d) (are.entries d)
+    where
+      by : (x : Entry) → SpeaksOf is d x → is (get_or (profile_of x).formals i no_formal).of
+      by (entry.Subprogram p) speaks = listed_formal p.formals i speaks.1
+      by x speaks = low 0 (omega arith)
 
   pub component : (t i : ℕ) → is (component_type known.table t i)
   component t i = by (shape_of known.table t) (parts t)

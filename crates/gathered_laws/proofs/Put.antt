@@ -11,7 +11,7 @@ use Rattle.settled_types.proofs.Rows.{slice_in}
 use Rattle.gathered_laws.specs.DefinitionKinds.{kind}
 use Rattle.gathered_laws.specs.Based.{IsOne, Agrees, AreBased}
 
-slice_off : {A : Type 0} (xs : List A) (d t : ℕ) (x : A) → (t ≡ d → ⊥) → slice_get (set xs d x) t ≡ slice_get xs t
+pub slice_off : {A : Type 0} (xs : List A) (d t : ℕ) (x : A) → (t ≡ d → ⊥) → slice_get (set xs d x) t ≡ slice_get xs t
 slice_off [] d t x ne = refl
 slice_off (y ∷ rest) zero zero x ne = absurd (ne refl)
 slice_off (y ∷ rest) zero (suc t) x ne = refl
@@ -63,8 +63,8 @@ pub record Puts (rule : ℕ → Shape → Type 0) (Final : Type 0) (a e more_a m
   pub awaits : (t : ℕ) → Has more_a t → Has a t ⊎ ((t ≡ d) × (i.base ≡ d))
   pub agree : Final → Agrees (set table d i) d
 
-module _ (rule : ℕ → Shape → Type 0) (Final : Type 0) (steady : Final → (d : ℕ) (s u : Shape) → rule d s → rule d u → kind s ≡ kind u) (start : Table)
-    (a e more_a more_e : List ℕ) (table : Table) (d : ℕ) (i : Info) (b : AreBased rule Final start a e table)
+module _ (rule : ℕ → Shape → Type 0) (Final : Type 0) (steady : Final → (d : ℕ) (s u : Shape) → rule d s → rule d u → kind s ≡ kind u) (views : ℕ → Type 0) (start : Table)
+    (a e more_a more_e : List ℕ) (table : Table) (d : ℕ) (i : Info) (b : AreBased rule Final views start a e table)
     (puts : Puts rule Final a e more_a more_e table d i) where
   abbrev new : Table
   new = set table d i
@@ -131,10 +131,10 @@ module _ (rule : ℕ → Shape → Type 0) (Final : Type 0) (steady : Final → 
     ]
   ]
 
-  put_fresh : (t : ℕ) → 5 ≤ t → (IsOne more_a more_e t → ⊥) → slice_get new t ≡ slice_get start t
-  put_fresh t high none =
+  put_fresh : (t : ℕ) → 5 ≤ t → (IsOne more_a more_e t → ⊥) → (views t → ⊥) → slice_get new t ≡ slice_get start t
+  put_fresh t high none other =
       slice_off table d t i (λ same. none (subst (IsOne more_a more_e) (sym same) puts.here))
-      ∙ b.fresh t high (λ is. none (puts.more t is))
+      ∙ b.fresh t high (λ is. none (puts.more t is)) other
 
   -- kinds stay
   kept : Final → (u : ℕ) → IsOne a e u → kind (written new u) ≡ kind (written table u)
@@ -163,7 +163,7 @@ module _ (rule : ℕ → Shape → Type 0) (Final : Type 0) (steady : Final → 
         ]
   ]
 
-  pub put : AreBased rule Final start more_a more_e new
+  pub put : AreBased rule Final views start more_a more_e new
   put = record {
     based = put_based;
     bases = put_bases;
@@ -172,4 +172,41 @@ module _ (rule : ℕ → Shape → Type 0) (Final : Type 0) (steady : Final → 
     waits = put_waits;
     fresh = put_fresh;
     agrees = put_agrees;
+  }
+
+-- ---- the row of an anonymous access type
+
+module _ (rule : ℕ → Shape → Type 0) (Final : Type 0) (views : ℕ → Type 0) (start : Table) (a e : List ℕ) (table : Table) (d : ℕ) (i : Info)
+    (b : AreBased rule Final views start a e table) (none : IsOne a e d → ⊥) (view : views d) where
+  off : (t : ℕ) → IsOne a e t → t ≡ d → ⊥
+  off t is same = none (subst (IsOne a e) same is)
+
+  abbrev with_view : Table
+  with_view = set table d i
+
+  kind_off : (t : ℕ) → IsOne a e t → kind (written with_view t) ≡ kind (written table t)
+  kind_off t is = ap kind (written_off table d i t (off t is))
+
+  view_agrees : Final → (t : ℕ) → IsOne a e t → Agrees with_view t
+  view_agrees f t is = elim (b.agrees f t is) [
+    | inl same ↦ inl (meant_off table d i t (off t is) ∙ same ∙ sym (base_off table d i t (off t is)))
+    | inr like ↦
+        let shape_kept : kind (shape_of with_view t) ≡ kind (shape_of table t)
+        = ap (λ u. kind (written with_view u)) (meant_off table d i t (off t is)) ∙ kind_off (meant_type table t) (b.meant t is) in
+        let base_kept : kind (written with_view (base with_view t)) ≡ kind (written table (base table t))
+        = ap (λ u. kind (written with_view u)) (base_off table d i t (off t is)) ∙ kind_off (base table t) (b.based t is) in
+        inr (shape_kept ∙ like.0 ∙ sym base_kept, subst (λ k. k < 2) (sym shape_kept) like.1)
+  ]
+
+  pub view_put : AreBased rule Final views start a e with_view
+  view_put = record {
+    based = λ t is. subst (IsOne a e) (sym (base_off table d i t (off t is))) (b.based t is);
+    bases = λ t is.
+        let up : base with_view t ≡ base table t = base_off table d i t (off t is) in
+        ap (base with_view) up ∙ (base_off table d i (base table t) (off (base table t) (b.based t is)) ∙ b.bases t is) ∙ sym up;
+    meant = λ t is. subst (IsOne a e) (sym (meant_off table d i t (off t is))) (b.meant t is);
+    own = λ t is high own. subst (rule t) (sym (written_off table d i t (off t is))) (b.own t is high (sym (base_off table d i t (off t is)) ∙ own));
+    waits = λ t has. let w = b.waits t has in (base_off table d i t (off t (inr (inl has))) ∙ w.0, w.1);
+    fresh = λ t high one other. slice_off table d t i (λ same. other (subst views (sym same) view)) ∙ b.fresh t high one other;
+    agrees = view_agrees;
   }

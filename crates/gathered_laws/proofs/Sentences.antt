@@ -1,6 +1,6 @@
 -- Five of the sentences on the table of types that typed expressions ask for: on types with one base, ranges
 -- of Integer, literals and instances.
-use Rattle.std.proofs.Common.{◌≡◌, ◌⊎◌, inl, inr, ℕ, zero, suc, ◌+◌, ◌-◌, ◌<◌, Bool, true, false, ◌&&◌, List, [], ◌∷◌, ◌++◌, get_or, replicate, refl, sym, ap, ◌∙◌, arith, subst, Option, Some, None, true≢false, if◌then◌else◌}
+use Rattle.std.proofs.Common.{◌≡◌, ◌⊎◌, inl, inr, ℕ, zero, suc, ◌+◌, ◌-◌, ◌<◌, ◌≤◌, Bool, true, false, ◌&&◌, List, [], ◌∷◌, ◌++◌, flat_map, length, get_or, replicate, refl, sym, ap, ◌∙◌, arith, subst, Option, Some, None, true≢false, if◌then◌else◌}
 use Rattle.std.specs.Prelude.{slice_get}
 use Rattle.std.proofs.lemmas.Bool.{cases_lt}
 use Rattle.spark_base.specs.Lists.{Has}
@@ -22,16 +22,18 @@ use Rattle.typed_laws.specs.Fine.{Agree, counts, lists}
 use Rattle.settled_types.specs.Wholes.{written}
 use Rattle.settled_types.specs.Orderly.{Past, at_start, IsOrderly}
 use Rattle.settled_types.specs.Stamped.{AllOpen}
-use Rattle.settled_types.proofs.Main.{begin, end, second}
+use Rattle.settled_types.proofs.Main.{begin, end, second, begins_second}
 use Rattle.gathered_laws.specs.DefinitionKinds.{kind, kind_defined, Kinds}
-use Rattle.gathered_laws.specs.Named.{IsNamed}
+use Rattle.gathered_laws.specs.Views.{own_numbers, IsViewRow, AreViews}
 use Rattle.gathered_laws.specs.Based.{IsOne, Agrees}
 use Rattle.gathered_laws.specs.Faultless.{IsFaultless}
-use Rattle.gathered_laws.specs.Made.{IsMade}
+use Rattle.gathered_laws.specs.Made.{type_numbers, IsMade}
 use Rattle.gathered_laws.specs.Says.{Says, SaysDefined, SaysAll}
 use Rattle.gathered_laws.proofs.Walk.{same_own}
 use Rattle.gathered_laws.proofs.Bounded.{ArePredefined, low, base_low, written_low, own_low}
-use Rattle.gathered_laws.proofs.Declared.{made_type}
+use Rattle.gathered_laws.proofs.Declared.{units_declare, units_told, units_own_viewed}
+use Rattle.gathered_laws.proofs.Numbered.{program_high}
+use Rattle.gathered_laws.proofs.Views.{view_row}
 use Rattle.gathered_laws.proofs.Entries.{AreSaid, all_said}
 use Rattle.gathered_laws.proofs.Agreed.{IsOwn, based, agrees, kinds_last}
 use Rattle.gathered_laws.proofs.Main.{are_types, typed}
@@ -78,7 +80,7 @@ own_kind (shape.Elements a b of) own e = omega (arith, e)
 
 -- a named access type
 own_access : (s : Shape) → IsOwn s ⊎ (kind s < 2) → is_named_access (view_of s) ≡ true → (to : ℕ) × (s ≡ shape.Access to false true)
-own_access (shape.Access d constant named) (inl own) is = (d, ap (λ c. shape.Access d c named) own ∙ ap (λ n. shape.Access d false n) is)
+own_access (shape.Access d constant named) (inl own) is = (d, ap (λ c. shape.Access d c named) own.0 ∙ ap (λ n. shape.Access d false n) own.1)
 own_access (shape.Access d constant named) (inr less) is = absurd (omega (arith, less))
 own_access (shape.Whole a b) own is = absurd (true≢false (sym is))
 own_access (shape.Listed l a b) own is = absurd (true≢false (sym is))
@@ -151,7 +153,7 @@ first_said literal instance n (suc (suc (suc (suc (suc (suc (suc (suc (suc (suc 
 
 -- ---- the program
 
-module _ (p : Program) (are : IsOrderly p) (opens : AllOpen (known_of p) p.units) (named : (u : Code) → Has p.units u → IsNamed u)
+module _ (p : Program) (are : IsOrderly p) (opens : AllOpen (known_of p) p.units) (views : AreViews p.units (known_of p).table)
     (faultless : (u : Code) → Has p.units u → IsFaultless (known_of p) u) where
   abbrev table : Table
   table = (known_of p).table
@@ -159,14 +161,45 @@ module _ (p : Program) (are : IsOrderly p) (opens : AllOpen (known_of p) p.units
   abbrev last : Past
   last = end p are opens
 
-  one : (t : ℕ) → IsMade p.units t → IsOne last.awaited last.defined t
-  one t made = made_type p.units at_start t named made
+  found_own : (t : ℕ) (o : Option Info) → (kind (shape_found o) ≡ 3 → ⊥) → meant_type_found t o ≡ t
+  found_own t None none = refl
+  found_own t (Some i) none = same_own t i.shape none
 
-  agreed : (t : ℕ) → IsMade p.units t → Agrees table t
-  agreed t made = agrees p are opens named faultless t (one t made)
+  abbrev second_table : Table
+  second_table = second p are opens
 
   predefined : ArePredefined table
   predefined = (are_types p are).predefined
+
+  long : p.count ≤ length second_table
+  long = (begins_second p are opens).long
+
+  own_row : (t : ℕ) → Has (flat_map own_numbers p.units) t → Has (flat_map type_numbers p.units) t → IsViewRow table t
+  unfolding known_of
+  own_row t has made =
+      let less = (program_high p are t made).1 in
+      let enough = long in
+      view_row t p.units (outside (begin p.count second_table)) (omega (arith, less, enough)) (views.apart t (units_own_viewed p.units t has)) has
+
+  -- A type with a name, or an anonymous access type.
+  one : (t : ℕ) → IsMade p.units t → IsOne last.awaited last.defined t ⊎ IsViewRow table t
+  one t (inl low) = inl (inl low)
+  one t (inr has) = elim (units_told p.units t has) [
+    | inl name ↦ inl (units_declare p.units at_start t name)
+    | inr view ↦ elim view [
+      | inl own ↦ inr (own_row t own has)
+      | inr result ↦ inr (views.results t result)
+    ]
+  ]
+
+  view_meant : (t : ℕ) → IsViewRow table t → meant_type table t ≡ t
+  view_meant t view = found_own t (slice_get table t) (λ e. let a = ap kind (sym view.3) ∙ e in omega (arith, a))
+
+  agreed : (t : ℕ) → IsMade p.units t → Agrees table t
+  agreed t made = elim (one t made) [
+    | inl is ↦ agrees p are opens views.apart faultless t is
+    | inr view ↦ inl (view_meant t view ∙ sym view.0)
+  ]
 
   like_base : (t : ℕ) → Agrees table t → kind (shape_of table t) ≡ kind (written table (base table t))
   like_base t (inl same) = ap (λ u. kind (written table u)) same
@@ -184,25 +217,41 @@ module _ (p : Program) (are : IsOrderly p) (opens : AllOpen (known_of p) p.units
       by (inr a) b = inr (alike (shape_of table t) (shape_of table u) kinds (subst (λ k. k < 2) kinds a.1))
 
   pub base_of : (t : ℕ) → IsMade p.units t → base table (base table t) ≡ base table t
-  base_of t made = (based p are opens named faultless).bases t (one t made)
+  base_of t made = elim (one t made) [
+    | inl is ↦ (based p are opens views.apart faultless).bases t is
+    | inr view ↦ ap (base table) view.0
+  ]
 
   -- a type that is based on itself
   own_shape : (t : ℕ) → IsOne last.awaited last.defined t → base table t ≡ t → IsOwn (written table t) ⊎ (t < 5)
   own_shape t is own = elim (cases_lt t 5) [
     | inl less ↦ inr less
-    | inr more ↦ inl ((based p are opens named faultless).own t is more own).0
+    | inr more ↦ inl ((based p are opens views.apart faultless).own t is more own).0
   ]
+
+  -- what a type is based on
+  base_shape : (t : ℕ) → IsMade p.units t → (IsOwn (written table (base table t)) ⊎ (base table t < 5)) ⊎ IsViewRow table t
+  base_shape t made = elim (one t made) [
+    | inl is ↦ inl (own_shape (base table t) ((based p are opens views.apart faultless).based t is) (base_of t made))
+    | inr view ↦ inr view
+  ]
+
+  view_kind : (t : ℕ) → IsViewRow table t → kind (written table (base table t)) ≡ 2
+  view_kind t view = ap (λ u. kind (written table u)) view.0 ∙ ap kind view.3
 
   pub numeric : (t : ℕ) → IsMade p.units t → counts (shape_of table t) ≡ true → base table t ≡ integer
   numeric t made whole =
       let b : ℕ = base table t in
       let own : base table b ≡ b = base_of t made in
       let zero_kind : kind (written table b) ≡ 0 = sym (like_base t (agreed t made)) ∙ count_kind (shape_of table t) whole in
-      elim (own_shape b ((based p are opens named faultless).based t (one t made)) own) [
-        | inl ruled ↦ absurd (own_kind (written table b) ruled zero_kind)
-        | inr less ↦ low (λ b. base (predefined_types false) b ≡ b → kind (written (predefined_types false) b) ≡ 0 → b ≡ integer)
-            (λ e k. refl) (λ e k. absurd (omega (arith, e))) (λ e k. absurd (omega (arith, e))) (λ e k. absurd (omega (arith, k))) (λ e k. absurd (omega (arith, e)))
-            b less (sym (base_low table predefined b less) ∙ own) (ap kind (sym (written_low table predefined b less)) ∙ zero_kind)
+      elim (base_shape t made) [
+        | inr view ↦ absurd (let a = sym (view_kind t view) ∙ zero_kind in omega (arith, a))
+        | inl found ↦ elim found [
+          | inl ruled ↦ absurd (own_kind (written table b) ruled zero_kind)
+          | inr less ↦ low (λ b. base (predefined_types false) b ≡ b → kind (written (predefined_types false) b) ≡ 0 → b ≡ integer)
+              (λ e k. refl) (λ e k. absurd (omega (arith, e))) (λ e k. absurd (omega (arith, e))) (λ e k. absurd (omega (arith, k))) (λ e k. absurd (omega (arith, e)))
+              b less (sym (base_low table predefined b less) ∙ own) (ap kind (sym (written_low table predefined b less)) ∙ zero_kind)
+        ]
       ]
 
   -- ---- literals and instances
@@ -212,10 +261,6 @@ module _ (p : Program) (are : IsOrderly p) (opens : AllOpen (known_of p) p.units
 
   abbrev IsInstance : ℕ → Type 0
   IsInstance t = IsMade p.units t × (to : ℕ) × (shape_of table t ≡ shape.Access to false true)
-
-  found_own : (t : ℕ) (o : Option Info) → (kind (shape_found o) ≡ 3 → ⊥) → meant_type_found t o ≡ t
-  found_own t None none = refl
-  found_own t (Some i) none = same_own t i.shape none
 
   listed_literal : (n : ℕ) → kind (written table n) ≡ 1 → IsLiteral n
   listed_literal n is =
@@ -242,6 +287,11 @@ module _ (p : Program) (are : IsOrderly p) (opens : AllOpen (known_of p) p.units
       by on false = on
   actual_made args i all = inl (omega arith)
 
+  never_named : (t : ℕ) → IsViewRow table t → is_named_access (full table t) ≡ true → ⊥
+  never_named t view is =
+      let shape : shape_of table t ≡ shape.Access view.1 view.2 false = ap (written table) (view_meant t view) ∙ view.3 in
+      true≢false (sym is ∙ ap (λ z. is_named_access (view_of z)) shape)
+
   access_shape : (t : ℕ) → IsMade p.units t → is_named_access (full table t) ≡ true → (to : ℕ) × (shape_of table t ≡ shape.Access to false true)
   access_shape t made is = own_access (shape_of table t) (by (agreed t made)) is
     where
@@ -249,9 +299,12 @@ module _ (p : Program) (are : IsOrderly p) (opens : AllOpen (known_of p) p.units
       by (inr like) = inr like.1
       by (inl same) =
           let b : ℕ = base table t in
-          elim (own_shape b ((based p are opens named faultless).based t (one t made)) (base_of t made)) [
-            | inl ruled ↦ inl (subst (λ u. IsOwn (written table u)) (sym same) ruled)
-            | inr less ↦ inr (subst (λ u. kind (written table u) < 2) (sym same) (own_low table predefined b less (base_of t made)))
+          elim (base_shape t made) [
+            | inr view ↦ absurd (never_named t view is)
+            | inl found ↦ elim found [
+              | inl ruled ↦ inl (subst (λ u. IsOwn (written table u)) (sym same) ruled)
+              | inr less ↦ inr (subst (λ u. kind (written table u) < 2) (sym same) (own_low table predefined b less (base_of t made)))
+            ]
           ]
 
   freed_instance : (args : Tree) → all_types (known_of p) args ≡ true → is_named_access (full table (instance_type args)) ≡ true → IsInstance (instance_type args)
@@ -264,7 +317,7 @@ module _ (p : Program) (are : IsOrderly p) (opens : AllOpen (known_of p) p.units
   unfolding known_of
   said =
       units_said IsLiteral IsInstance p.units (outside (begin p.count (second p are opens)))
-      (λ u has. says IsLiteral IsInstance table (known_of p) listed_literal freed_instance u (kinds_last p are opens named faultless u has) (faultless u has))
+      (λ u has. says IsLiteral IsInstance table (known_of p) listed_literal freed_instance u (kinds_last p are opens views.apart faultless u has) (faultless u has))
       (λ d. first_said IsLiteral IsInstance (p.count - 15) d boolean_literal)
 
   pub literal : (d t n : ℕ) → entry_of (known_of p) d ≡ entry.Literal t n → lists (shape_of table t) ≡ true

@@ -1,5 +1,7 @@
 -- numbers of types, and what is known that speaks of these
 pub mod Made
+-- types with names and anonymous access types
+pub mod Views
 -- code without anonymous access types, and what typing says of subtypes and instances
 pub mod Named
 pub mod Faultless

@@ -6,6 +6,7 @@ use Rattle.resolved_tree.specs.Trees.{More, Code, Anonymous, Incomplete, Private
 use Rattle.type_definitions.specs.declared.table.Component.{Component}
 use Rattle.type_definitions.specs.declared.table.Shape.{Shape}
 use Rattle.type_definitions.specs.declared.table.Shape.TheVariants as shape
+use Rattle.type_definitions.specs.declared.table.FormalInfo.{FormalInfo}
 use Rattle.type_definitions.specs.declared.table.Entry.{Entry}
 use Rattle.type_definitions.specs.declared.table.Entry.TheVariants as entry
 use Rattle.type_definitions.specs.declared.table.Known.{Known}
@@ -76,7 +77,7 @@ abbrev pub SpeaksOf : (ℕ → Type 0) → ℕ → Entry → Type 0
 SpeaksOf is d entry.Type = is d
 SpeaksOf is d (entry.Object o) = is o.of
 SpeaksOf is d (entry.Literal t n) = is t
-SpeaksOf is d (entry.Subprogram p) = (t : ℕ) → p.result ≡ Some t → is t
+SpeaksOf is d (entry.Subprogram p) = ((t : ℕ) → p.result ≡ Some t → is t) × AllByRecursion (λ (f : FormalInfo). is f.of) p.formals
 SpeaksOf is d e = Unit {0}
 
 -- Types are made of types and based on types, and their bounds are known; none is based on one that

@@ -5,11 +5,12 @@
 //! in both turns of gathering. After both of them each row of the table and each entry speaks of such
 //! numbers (`proofs/Gathered.antt`), where the program declares in order (`Numbered`).
 //!
-//! Where there are no anonymous access types (`specs/Named.antt`), types that are based on one type
-//! agree: `proofs/Put.antt` has one more row, `Walk` the code of a turn, and `Agreed` both turns. The
-//! kinds of full types are known before the second turn (`Nodes`, `DefinedKinds`), so that a subtype
-//! with bounds is of a scalar type there (`Bounded`, `Faultless`). With it, and with what is said of
-//! literals and instances (`Entries`), follow the sentences of `Sentences`. Types have components with
-//! names of their own, if records have (`Components`). So the table is as `typed_laws` asks (`Laws`).
-//! Nothing here runs.
+//! Types that are based on one type agree: `proofs/Put.antt` has one more row, `Walk` the code of a
+//! turn, and `Agreed` both turns. Anonymous access types are based on themselves alone
+//! (`proofs/Views.antt`), if they have numbers of their own (`specs/Views.antt`); code without them
+//! (`specs/Named.antt`) meets that. The kinds of full types are known before the second turn (`Nodes`,
+//! `DefinedKinds`), so that a subtype with bounds is of a scalar type there (`Bounded`, `Faultless`).
+//! With it, and with what is said of literals and instances (`Entries`), follow the sentences of
+//! `Sentences`. Types have components with names of their own, if records have (`Components`). So the
+//! table is as `typed_laws` asks (`Laws`). Nothing here runs.
 #![tactic(auto)]

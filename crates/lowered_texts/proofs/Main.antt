@@ -1,4 +1,4 @@
--- The law: a text without anonymous access types that has no fault of typing and is meant is lowered.
+-- The law: a text that has no fault of typing and is meant is lowered.
 use Rattle.std.proofs.Common.{◌≡◌, ℕ, ◌≤◌, true, List, map, None}
 use Rattle.spark_base.specs.Lists.{Has}
 use Rattle.resolved_tree.specs.Trees.{Program}
@@ -21,7 +21,7 @@ use Rattle.lowered_files.proofs.Programs.{code_lowered}
 
 module _ (p : Program) (none : type_fault p ≡ None) (text : IsMeant p) where
   laws : Laws (known_of p) (IsMade p.units)
-  laws = program_laws p text.formed text.orderly none text.named text.apart
+  laws = program_laws p text.formed text.orderly none text.views text.apart
 
   -- No two declarations of objects have one number, names are in scope, initial values of package
   -- objects call no function, and literals are words.

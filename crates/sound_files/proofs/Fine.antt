@@ -23,6 +23,7 @@ use Rattle.orderly_files.proofs.Main.{files_in_order}
 use Rattle.file_positions.specs.Order.{Ascends, event_positions}
 use Rattle.gathered_laws.specs.Made.{IsMade}
 use Rattle.gathered_laws.proofs.Components.{components_left}
+use Rattle.gathered_laws.proofs.Declared.{named_views}
 use Rattle.gathered_laws.proofs.Laws.{program_laws}
 use Rattle.named_files.proofs.Records.{records_apart}
 use Rattle.meant_files.proofs.Main.{files_meant}
@@ -64,7 +65,7 @@ module _ (files : List (List SourceUnit)) where
   procedures_fine apart ended up named none text calls =
       let formed : IsTrue (all_formed p.units) = files_formed (identified files) files in
       let orderly : IsInOrder p = files_in_order files apart ended in
-      let laws : Laws (known_of p) (IsMade p.units) = program_laws p formed orderly none text.named (components_left p (records_apart (identified files) files named)) in
+      let laws : Laws (known_of p) (IsMade p.units) = program_laws p formed orderly none (named_views p.units (known_of p).table text.named) (components_left p (records_apart (identified files) files named)) in
       let opens : AllOpen (known_of p) p.units = program_open p formed none in
       let flat : (u : Code) → Has p.units u → IsFlatUnit u
       = λ u has. unit_flat u (files_written (identified files) (outside (known_of p)) files (procedures files named) u has (units_faultless p none u has)) in

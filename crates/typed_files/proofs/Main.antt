@@ -17,6 +17,7 @@ use Rattle.orderly_files.proofs.Main.{files_in_order}
 use Rattle.file_positions.specs.Order.{Ascends, event_positions}
 use Rattle.gathered_laws.specs.Made.{IsMade}
 use Rattle.gathered_laws.proofs.Components.{components_left}
+use Rattle.gathered_laws.proofs.Declared.{named_views}
 use Rattle.named_files.proofs.Library.{procedures}
 use Rattle.named_files.proofs.Records.{records_apart}
 use Rattle.machine.specs.Typed.{is_typed}
@@ -63,7 +64,7 @@ module _ (files : List (List SourceUnit)) where
           formed = files_formed (identified files) files;
           orderly = files_in_order files apart ended;
           written = written;
-          named = text.named;
+          views = named_views p.units (known_of p).table text.named;
           apart = components_left p (records_apart (identified files) files named);
           profiled = are_profiled p text.formless (IsMade p.units) (inl (omega arith));
           bodies = λ u has. (all u has).0;

@@ -1,4 +1,4 @@
--- The law: a text without anonymous access types that has no fault of typing and is meant is typed.
+-- The law: a text that has no fault of typing and is meant is typed.
 use Rattle.std.proofs.Common.{◌≡◌, ◌≤◌, refl, sym, subst, inl, ℕ, true, false, None}
 use Rattle.resolved_tree.specs.Trees.{Program}
 use Rattle.type_definitions.specs.declared.table.Shape.{Shape}
@@ -44,7 +44,7 @@ module _ (p : Program) (none : type_fault p ≡ None) (text : IsMeant p) where
   table = (known_of p).table
 
   laws : Laws (known_of p) (IsMade p.units)
-  laws = program_laws p text.formed text.orderly none text.named text.apart
+  laws = program_laws p text.formed text.orderly none text.views text.apart
 
   each_certain : (t : ℕ) → is_untyped table t ≡ false
   each_certain t = certain (IsMade p.units) (λ u less. inl less) (known_of p) (are_types p text.orderly) t

@@ -1,5 +1,5 @@
--- What is asked of resolved code without a fault of typing: it is as the grammar has it, declares in order, has no
--- anonymous access types, and its identifiers denote what the program declares.
+-- What is asked of resolved code without a fault of typing: it is as the grammar has it, declares in order, its
+-- anonymous access types have numbers of their own, and its identifiers denote what the program declares.
 use Rattle.std.specs.Prelude.{◌≡◌, true}
 use Rattle.std.proofs.Common.{IsTrue}
 use Rattle.spark_base.specs.Lists.{Has}
@@ -9,7 +9,7 @@ use Rattle.type_sizes.specs.Formed.{all_formed}
 use Rattle.settled_types.specs.Orderly.{IsOrderly}
 use Rattle.gathered_laws.specs.Left.{Left}
 use Rattle.gathered_laws.specs.Made.{IsMade}
-use Rattle.gathered_laws.specs.Named.{IsNamed}
+use Rattle.gathered_laws.specs.Views.{AreViews}
 use Rattle.order_laws.specs.Written.{is_unit}
 use Rattle.typed_points.specs.Meant.{AreMeantBodies, AreMeantObjects}
 use Rattle.typed_runs.specs.Formals.{AreProfiled}
@@ -19,7 +19,8 @@ pub record IsMeant (p : Program) : Type 0 where
   pub formed : IsTrue (all_formed p.units)
   pub orderly : IsOrderly p
   pub written : (u : Code) → Has p.units u → is_unit u ≡ true
-  pub named : (u : Code) → Has p.units u → IsNamed u
+  -- anonymous access types have numbers of their own
+  pub views : AreViews p.units (known_of p).table
   -- no two components of a record have one name
   pub apart : Left (known_of p)
   pub profiled : AreProfiled (known_of p) (site_in p).bodies (typing_laid p) (IsMade p.units)
