@@ -150,7 +150,7 @@ module _ (P : ℕ → Type 0) (less : (m n : ℕ) → m ≤ n → P n → P m) (
   literals_kept t n ids c few are = are
 
   definition_kept : (t : ℕ) (def : Code) (c : Context) → P (defined_count def) → Good c → Good (with_definition t def c)
-  definition_kept t (Enumeration literals) c few are = literals_kept t 0 literals c few are
+  definition_kept t (Enumeration literals) c few are = literals_kept t 0 literals c (less (0 + id_count literals) (id_count literals) (omega arith) few) are
   definition_kept t def c few are = are
 
   -- ---- objects
@@ -299,11 +299,10 @@ module _ (P : ℕ → Type 0) (less : (m n : ℕ) → m ≤ n → P n → P m) (
   plain = (tt, tt)
 
   first_kept : AreKept predefined_entries
-  first_kept = (
-    plain, plain, plain, plain,
-    (tt, less (suc zero) 2147483648 (omega arith) integers), (tt, less (suc (suc zero)) 2147483648 (omega arith) integers),
-    plain, plain, plain, plain, plain, plain, plain, plain, plain, tt,
-  )
+  first_kept =
+      let first : P (suc zero) = less (suc zero) 2147483648 (omega arith) integers in
+      let second : P (suc (suc zero)) = less (suc (suc zero)) 2147483648 (omega arith) integers in
+      (plain, (plain, (plain, (plain, ((tt, first), ((tt, second), (plain, (plain, (plain, (plain, (plain, (plain, (plain, (plain, (plain, tt)))))))))))))))
 
   first_bounded : (count : ℕ) → AreBounded (at_first false count)
   first_bounded count = record {
