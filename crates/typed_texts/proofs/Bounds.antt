@@ -332,6 +332,7 @@ module _ (P : ℕ → Type 0) (less : (m n : ℕ) → m ≤ n → P n → P m) (
 
   pub positions_kept : (p : Program) → AreFew p.units → (d : ℕ) → IsPosition (entry_of (known_of p) d)
   positions_kept p few d = ((all_bounded p few).entries d).1
+
 -- ---- the bounds of types
 
 module _ (p : Program) where
