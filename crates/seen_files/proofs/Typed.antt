@@ -17,13 +17,13 @@ use Rattle.type_definitions.specs.Entries.{entry_of, integer, boolean, marked}
 use Rattle.type_definitions.specs.Names.{reading_of}
 use Rattle.type_definitions.specs.Expressions.{call_arguments}
 use Rattle.type_definitions.specs.Statements.{target_reading}
-use Rattle.type_definitions.specs.Gathered.{indicated, declared_number, in_hidden, in_subprogram}
+use Rattle.type_definitions.specs.Gathered.{indicated, declared_number, in_visible, in_hidden, in_subprogram}
 use Rattle.type_definitions.specs.Declarations.{first_number}
 use Rattle.typed_tree.specs.Trees.{TypedTree, TypedCode, typed_code_list}
 use Rattle.typed_tree.specs.Trees as typed
 use Rattle.typed_tree.specs.Expressions.{Site, object_number, typed_expression, typed_first, typed_optional}
 use Rattle.typed_tree.specs.Statements.{scope_count, statements, typed_object, typed_text, predefined_call, call_of, typed_call, type_read, returned_type, bounds_seen, array_seen, typed_range, typed_choices, typed_body}
-use Rattle.typed_tree.specs.Programs.{TypedSub, placed, formal_numbers, front_formals, subs_in, over_units}
+use Rattle.typed_tree.specs.Programs.{TypedSub, placed, formal_numbers, front_formals, subs_in, elaborated, elaboration, over_units}
 use Rattle.flow_paths.specs.Scopes.{is_within}
 use Rattle.flow_paths.specs.Layout.{declared}
 use Rattle.scope_laws.specs.Code.{roots, are_seen, is_seen, is_each_seen, body_seen}
@@ -429,3 +429,37 @@ module _ (outer : ℕ → Bool) where
         | inl here ↦ unit_seen s object known n u scope (λ d old. outside d (units_after_has rest (unit_scope u scope) d old)) fits.0 sub here
         | inr later ↦ units_seen s object known (n + scope_count u) rest (unit_scope u scope) outside fits.1 sub later
       ]
+
+  -- ---- the objects of packages
+
+  covered : (s : Site) (scope sc : List ℕ) → IsOutside s scope → (d : ℕ) → Has scope d → (is_within (object_number s d) sc || outer (object_number s d)) ≡ true
+  covered s scope sc outside d has = or_second (is_within (object_number s d) sc) (outer (object_number s d)) (outside d has)
+
+  unit_values : (s : Site) (object : ℕ → Type 0) → IsKnown s object → (n : ℕ) (u : Code) (scope sc : List ℕ) → IsOutside s scope
+      → UnitFits object scope u → ListSeen sc (elaborated s n u)
+  unfolding UnitFits is_seen
+  unit_values s object known n (Package d visible hidden) scope sc outside fits =
+      let first : Site = placed (in_visible (declared_number d)) s in
+      let second : Site = placed (in_hidden (declared_number d)) s in
+      let xs : List TypedCode = statements first n visible in
+      let ys : List TypedCode = statements second (n + scope_count visible) hidden in
+      let one = code_seen first object known visible n scope sc (covered s scope sc outside) fits.0 in
+      let two = code_seen second object known hidden (n + scope_count visible) (scope_after visible scope) (after_list xs sc) one.1 fits.1 in
+      list_both xs ys sc one.0 two.0
+  unit_values s object known n (PackageBody d parts) scope sc outside fits =
+      (code_seen (placed (in_hidden (declared_number d)) s) object known parts n scope sc (covered s scope sc outside) fits).0
+  unit_values s object known n (SubBody front items stmts end) scope sc outside fits = refl
+  unit_values s object known n u scope sc outside fits = absurd fits
+
+  units_values : (s : Site) (object : ℕ → Type 0) → IsKnown s object → (n : ℕ) (us : List Code) (scope sc : List ℕ) → IsOutside s (units_scope us scope)
+      → AllFit object scope us → ListSeen sc (over_units (elaborated s) n us)
+  unfolding is_seen
+  units_values s object known n [] scope sc outside fits = refl
+  units_values s object known n (u ∷ rest) scope sc outside fits =
+      list_both (elaborated s n u) (over_units (elaborated s) (n + scope_count u) rest) sc
+      (unit_values s object known n u scope sc (λ d old. outside d (units_after_has rest (unit_scope u scope) d (unit_after_has u scope d old))) fits.0)
+      (units_values s object known (n + scope_count u) rest (unit_scope u scope) (after_list (elaborated s n u) sc) outside fits.1)
+
+  pub values_seen : (s : Site) (object : ℕ → Type 0) → IsKnown s object → (us : List Code) → IsOutside s (units_scope us [])
+      → AllFit object [] us → body_seen outer (elaboration s us) ≡ true
+  values_seen s object known us outside fits = units_values s object known 1 us [] [] outside fits

@@ -2,7 +2,7 @@
 -- identifiers denote what the program declares.
 use Rattle.std.specs.Prelude.{◌≡◌, ℕ, false, List}
 use Rattle.spark_base.specs.Lists.{Has}
-use Rattle.resolved_tree.specs.Trees.{Tree, NoMore, More, Code, Anonymous, Bounds, Constrained, Objects, Numbers, Assign, Call, Exit, Return, If, Branch, Case, When, Loop, While, For, Block, SubBody, Package, PackageBody}
+use Rattle.resolved_tree.specs.Trees.{Tree, NoMore, More, Code, Anonymous, Bounds, Marked, Constrained, RangeOf, Objects, Numbers, Assign, Call, Exit, Return, If, Branch, Case, When, Loop, While, For, Block, SubBody, Package, PackageBody}
 use Rattle.type_definitions.specs.declared.table.Known.{Known}
 use Rattle.type_definitions.specs.declared.table.Shape.TheVariants as shape
 use Rattle.type_definitions.specs.Types.{shape_of}
@@ -41,10 +41,13 @@ AreNumbers s y ids = Unit {0}
 abbrev pub IsParameter : Site → Typing → Code → Code → Type 0
 IsParameter s y d range = (object_at y (object_number s (declared_number d))).of ≡ parameter_type s.context range
 
+-- The ranges of the grammar.
 abbrev pub IsMeantRange : Site → Typing → Code → Type 0
 IsMeantRange s y (Bounds low high) = IsMeant s y low × IsMeant s y high
+IsMeantRange s y (Marked m) = Unit {0}
 IsMeantRange s y (Constrained m low high) = IsMeant s y low × IsMeant s y high
-IsMeantRange s y range = Unit {0}
+IsMeantRange s y (RangeOf e) = Unit {0}
+IsMeantRange s y range = ⊥
 
 unfoldable mutual
   pub IsMeantCode : Site → Typing → (ℕ → Type 0) → Code → Type 0

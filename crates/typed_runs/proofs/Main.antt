@@ -22,7 +22,7 @@ use Rattle.typed_points.specs.Meant.{AreMeantBodies, AreMeantObjects}
 use Rattle.typed_steps.specs.Steps.{AreTyped, IsTypedStep}
 use Rattle.typed_runs.specs.Code.{IsTypedCode}
 use Rattle.typed_runs.specs.Formals.{AreProfiled}
-use Rattle.typed_runs.specs.Loops.{HaveBounds, AreLoopBodies, AreLoopObjects}
+use Rattle.typed_runs.specs.Bounds.{HaveBounds}
 use Rattle.typed_runs.specs.Meant.{typed_in, laid_in, site_in, typing_laid, IsMeantText}
 use Rattle.typed_runs.proofs.Bodies.{code_typed, body_typed, listed}
 use Rattle.typed_runs.proofs.Laid.{laid_typing, laid_typed}
@@ -90,44 +90,43 @@ about s objects subs = record { table = s.context.known.table; objects = objects
 
 bodies_typed : (s : Site) (objects : List Object) (subs : List Signature) (made : ℕ → Type 0) → Laws s.context.known made
     → AreProfiled s.context.known s.bodies (about s objects subs) made → HaveBounds s.context.known.table → (n : ℕ) (u : Code)
-    → AreMeantBodies s (about s objects subs) made u → AreLoopBodies s (about s objects subs) u → code_faults s.context u ≡ []
+    → AreMeantBodies s (about s objects subs) made u → code_faults s.context u ≡ []
     → AllByRecursion (IsTypedBody (about s objects subs)) (subs_in s n u)
-unfolding subs_in code_faults AreMeantBodies AreLoopBodies
-bodies_typed s objects subs made laws profiled bounds n (SubBody front items stmts end) meant loops none =
+unfolding subs_in code_faults AreMeantBodies
+bodies_typed s objects subs made laws profiled bounds n (SubBody front items stmts end) meant none =
     let inner : Site = placed (in_subprogram front) s in
     let more = nil_right (body_faults s.context front) _ none in (
-      body_typed inner objects subs made laws profiled bounds false (n + 1) items stmts meant.0 meant.1 loops.0 loops.1
+      body_typed inner objects subs made laws profiled bounds false (n + 1) items stmts meant.0 meant.1
           (nil_left (code_faults (in_body front s.context) items) _ more) (nil_right (code_faults (in_body front s.context) items) _ more),
       tt,
     )
-bodies_typed s objects subs made laws profiled bounds n (PackageBody d parts) meant loops none =
-    bodies_typed (placed (in_hidden (declared_number d)) s) objects subs made laws profiled bounds n parts meant loops none
-bodies_typed s objects subs made laws profiled bounds n (More a rest) meant loops none =
+bodies_typed s objects subs made laws profiled bounds n (PackageBody d parts) meant none =
+    bodies_typed (placed (in_hidden (declared_number d)) s) objects subs made laws profiled bounds n parts meant none
+bodies_typed s objects subs made laws profiled bounds n (More a rest) meant none =
     both (IsTypedBody (about s objects subs)) (subs_in s n a) (subs_in s (n + scope_count a) rest)
-    (bodies_typed s objects subs made laws profiled bounds n a meant.0 loops.0 (nil_left (code_faults s.context a) _ none))
-    (bodies_typed s objects subs made laws profiled bounds (n + scope_count a) rest meant.1 loops.1 (nil_right (code_faults s.context a) _ none))
-bodies_typed s objects subs made laws profiled bounds n u meant loops none = tt
+    (bodies_typed s objects subs made laws profiled bounds n a meant.0 (nil_left (code_faults s.context a) _ none))
+    (bodies_typed s objects subs made laws profiled bounds (n + scope_count a) rest meant.1 (nil_right (code_faults s.context a) _ none))
+bodies_typed s objects subs made laws profiled bounds n u meant none = tt
 
 -- ---- package objects
 
 objects_typed : (known : Known) (numbers bodies : List ℕ) (objects : List Object) (subs : List Signature) (made : ℕ → Type 0) → Laws known made
     → AreProfiled known bodies (record { table = known.table; objects = objects; subs = subs }) made → HaveBounds known.table → (n : ℕ) (u : Code)
     → AreMeantObjects (record { context = outside known; objects = numbers; bodies = bodies }) (record { table = known.table; objects = objects; subs = subs }) made u
-    → AreLoopObjects (record { context = outside known; objects = numbers; bodies = bodies }) (record { table = known.table; objects = objects; subs = subs }) u
     → code_faults (outside known) u ≡ []
     → AllByRecursion (IsTypedCode (record { table = known.table; objects = objects; subs = subs }) None) (programs.elaborated (record { context = outside known; objects = numbers; bodies = bodies }) n u)
 unfolding code_faults
-objects_typed known numbers bodies objects subs made laws profiled bounds n (Package d visible hidden) meant loops none =
+objects_typed known numbers bodies objects subs made laws profiled bounds n (Package d visible hidden) meant none =
     let s : Site = record { context = outside known; objects = numbers; bodies = bodies } in
     let outer : Site = placed (in_visible (declared_number d)) s in
     let inner : Site = placed (in_hidden (declared_number d)) s in
     both (IsTypedCode (record { table = known.table; objects = objects; subs = subs }) None) (statements outer n visible) (statements inner (n + scope_count visible) hidden)
-    (code_typed outer objects subs made laws profiled bounds false n visible meant.0 loops.0 (nil_left (code_faults outer.context visible) _ none))
-    (code_typed inner objects subs made laws profiled bounds false (n + scope_count visible) hidden meant.1 loops.1 (nil_right (code_faults outer.context visible) _ none))
-objects_typed known numbers bodies objects subs made laws profiled bounds n (PackageBody d parts) meant loops none =
+    (code_typed outer objects subs made laws profiled bounds false n visible meant.0 (nil_left (code_faults outer.context visible) _ none))
+    (code_typed inner objects subs made laws profiled bounds false (n + scope_count visible) hidden meant.1 (nil_right (code_faults outer.context visible) _ none))
+objects_typed known numbers bodies objects subs made laws profiled bounds n (PackageBody d parts) meant none =
     let s : Site = record { context = outside known; objects = numbers; bodies = bodies } in
-    code_typed (placed (in_hidden (declared_number d)) s) objects subs made laws profiled bounds false n parts meant loops none
-objects_typed known numbers bodies objects subs made laws profiled bounds n u meant loops none = tt
+    code_typed (placed (in_hidden (declared_number d)) s) objects subs made laws profiled bounds false n parts meant none
+objects_typed known numbers bodies objects subs made laws profiled bounds n u meant none = tt
 
 -- ---- programs
 
@@ -141,10 +140,10 @@ program_typed p made laws text none sub has =
       | inl is ↦ subst (IsTypedBody y) is
           (listed s y.objects y.subs made laws text.profiled text.bounds (over_units (programs.elaborated s) 1 p.units)
           (over_all (IsTypedCode y None) (programs.elaborated s) 1 p.units
-          (λ n u there. objects_typed (known_of p) s.objects s.bodies y.objects y.subs made laws text.profiled text.bounds n u (text.objects u there) (text.loops u there).1 (none u there))))
+          (λ n u there. objects_typed (known_of p) s.objects s.bodies y.objects y.subs made laws text.profiled text.bounds n u (text.objects u there) (none u there))))
       | inr more ↦ all_has (IsTypedBody y) (over_units (subs_in s) 1 p.units) sub
           (over_all (IsTypedBody y) (subs_in s) 1 p.units
-          (λ n u there. bodies_typed s y.objects y.subs made laws text.profiled text.bounds n u (text.bodies u there) (text.loops u there).0 (none u there))) more
+          (λ n u there. bodies_typed s y.objects y.subs made laws text.profiled text.bounds n u (text.bodies u there) (none u there))) more
     ]
 
 -- The law. `made` says of which numbers stand for types.

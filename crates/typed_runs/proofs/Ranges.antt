@@ -12,7 +12,7 @@ use Rattle.type_definitions.specs.declared.judgement.View.TheVariants as view
 use Rattle.type_definitions.specs.declared.judgement.Reading.{Reading}
 use Rattle.type_definitions.specs.declared.judgement.Reading.TheVariants as reading
 use Rattle.type_definitions.specs.declared.judgement.Where.TheVariants as stands
-use Rattle.type_definitions.specs.Types.{Table, full, shape_of, view_of, is_scalar, is_untyped}
+use Rattle.type_definitions.specs.Types.{Table, base, full, shape_of, view_of, is_scalar, is_untyped}
 use Rattle.type_definitions.specs.Entries.{entry_of, integer, marked, denotes_type, is_complete, is_type}
 use Rattle.type_definitions.specs.Faults.{demand}
 use Rattle.type_definitions.specs.Names.{Context, seen, reading_of}
@@ -29,13 +29,13 @@ use Rattle.typed_laws.specs.Fine.{Agree, Has, Laws, counts, lists}
 use Rattle.machine.specs.Typed.{same_kind}
 use Rattle.typed_laws.proofs.Agreeing.{of_known, holds, and_left, nil_left, nil_right, one_shape, retyped}
 use Rattle.typed_laws.proofs.Steps.{seen_elements}
-use Rattle.typed_points.specs.Meant.{IsMeantRange}
+use Rattle.typed_points.specs.Meant.{IsParameter, IsMeantRange}
 use Rattle.typed_points.proofs.Flags.{flagged, reading_same, own_same}
 use Rattle.typed_points.proofs.Values.{seen_full, numbers, scalar_at}
 use Rattle.typed_points.proofs.Statements.{marked_made}
 use Rattle.typed_runs.specs.Code.{Within}
 use Rattle.typed_runs.specs.Formals.{AreProfiled}
-use Rattle.typed_runs.specs.Loops.{IsLoop, HaveBounds}
+use Rattle.typed_runs.specs.Bounds.{HaveBounds}
 use Rattle.typed_runs.proofs.Sources.{inner, bound_had}
 
 elements_view : (v : View) → is_array v ≡ true → (low : ℤ) × (high : ℤ) × (of : ℕ) × (v ≡ view.Elements low high of)
@@ -143,17 +143,15 @@ module _ (s : Site) (objects : List Object) (subs : List Signature) (made : ℕ 
         unflagged e d r h = cc
     range_of_bounds e none = cc
 
-    -- The parameter has the type of its range, where that isn't given by bounds.
-    abbrev pub IsParameterType : Code → Code → Type 0
-    IsParameterType d (Bounds low high) = Unit {0}
-    IsParameterType d range = (object_at y (object_number s (declared_number d))).of ≡ parameter_type s.context range
+    -- A type is one with that which it is based on.
+    based_agree : (t : ℕ) → made t → Agree table t (base table t)
+    based_agree t is = laws.same t (base table t) is (laws.based t is) (sym (laws.base_of t is))
 
     -- The bounds of a loop have the type of its parameter.
-    pub range_typed : (d range : Code) → IsMeantRange s y range → IsLoop s y d range
-        → IsParameterType d range → range_faults c range ≡ []
+    pub range_typed : (d range : Code) → IsMeantRange s y range → IsParameter s y d range → range_faults c range ≡ []
         → AreBounds (object_at y (object_number s (declared_number d))).of (typed_range s range)
     unfolding range_faults
-    range_typed d (Bounds low high) meant loop parameter none =
+    range_typed d (Bounds low high) meant is none =
         let own = holds 1 (position low) (scalar_own c (own_type c low)) (nil_left _ _ none) in
         let more = nil_right (demand 1 (position low) (scalar_own c (own_type c low))) _ none in
         let into = nil_left (inside c false integer low) _ more in
@@ -162,17 +160,20 @@ module _ (s : Site) (objects : List Object) (subs : List Signature) (made : ℕ 
         subst (λ x. faults c stands.Elsewhere (type_or_integer x) high ≡ []) found.1 (nil_right (inside c false integer low) _ more) in
         let scalar = seen_full s objects subs made laws c found.0 refl found.3 in
         let last = bound_had s objects subs made laws profiled looped starts high found.0 meant.1 found.2 scalar behind_low in
-        agreed found.0 (object_at y (object_number s (declared_number d))).of (typed_range s (Bounds low high)) (loop found.0 (sym (own_same looped starts s.context low) ∙ found.1))
+        let of_low : (object_at y (object_number s (declared_number d))).of ≡ base table found.0
+        = is ∙ ap (λ o. base table (type_or_integer o)) (sym (own_same looped starts s.context low) ∙ found.1) in
+        agreed found.0 (object_at y (object_number s (declared_number d))).of (typed_range s (Bounds low high))
+        (subst (Agree table found.0) (sym of_low) (based_agree found.0 found.2))
         (scalar, found.4, last.0, inner s objects subs made laws profiled looped starts low false integer meant.0 laws.integers into, last.1)
-    range_typed d (Marked m) meant loop is none =
+    range_typed d (Marked m) meant is none =
         let scalar = (mark_scalar m none).1 in
         subst (λ t. AreBounds t (bounds_seen (full table (marked known m)))) (sym is) (type_bounds (marked known m) scalar)
-    range_typed d (Constrained m low high) meant loop is none =
+    range_typed d (Constrained m low high) meant is none =
         let found = mark_scalar m (nil_left (scalar_mark c m) _ none) in
         let t = marked known m in
         let more = nil_right (scalar_mark c m) _ none in
         let first = bound_had s objects subs made laws profiled looped starts low t meant.0 found.0 found.1 (nil_left (faults c stands.Elsewhere t low) _ more) in
         let last = bound_had s objects subs made laws profiled looped starts high t meant.1 found.0 found.1 (nil_right (faults c stands.Elsewhere t low) _ more) in
         subst (λ u. AreBounds u (typed_range s (Constrained m low high))) (sym is) (found.1, first.0, last.0, first.1, last.1)
-    range_typed d (RangeOf e) meant loop is none = subst (λ t. AreBounds t (range_of s.context e)) (sym is) (range_of_bounds e none)
-    range_typed d range meant loop parameter none = absurd loop
+    range_typed d (RangeOf e) meant is none = subst (λ t. AreBounds t (range_of s.context e)) (sym is) (range_of_bounds e none)
+    range_typed d range meant is none = absurd meant

@@ -2,7 +2,7 @@
 pub mod Code
 -- formals of subprograms
 pub mod Formals
--- the ranges of loops
-pub mod Loops
+-- the bounds of types
+pub mod Bounds
 -- what is asked of a text
 pub mod Meant

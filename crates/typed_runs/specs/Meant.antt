@@ -10,7 +10,7 @@ use Rattle.flow_paths.specs.Objects.{Typing}
 use Rattle.flow_paths.specs.Laid.{FlowProgram, signature, flow_program}
 use Rattle.typed_points.specs.Meant.{AreMeantBodies, AreMeantObjects}
 use Rattle.typed_runs.specs.Formals.{AreProfiled}
-use Rattle.typed_runs.specs.Loops.{HaveBounds, AreLoopBodies, AreLoopObjects}
+use Rattle.typed_runs.specs.Bounds.{HaveBounds}
 
 abbrev pub typed_in : Program → TypedProgram
 typed_in p = typed_program (known_of p) p.units
@@ -31,4 +31,3 @@ pub record IsMeantText (p : Program) (made : ℕ → Type 0) : Type 0 where
   pub profiled : AreProfiled (known_of p) (site_in p).bodies (typing_laid p) made
   pub bodies : (u : Code) → Has p.units u → AreMeantBodies (site_in p) (typing_laid p) made u
   pub objects : (u : Code) → Has p.units u → AreMeantObjects (site_in p) (typing_laid p) made u
-  pub loops : (u : Code) → Has p.units u → AreLoopBodies (site_in p) (typing_laid p) u × AreLoopObjects (site_in p) (typing_laid p) u

@@ -62,7 +62,6 @@ module _ (p : Program) (none : type_fault p ≡ None) (text : IsMeant p) where
     profiled = text.profiled;
     bodies = text.bodies;
     objects = text.objects;
-    loops = text.loops;
   }
 
   -- Each step has expressions of the types of their places.

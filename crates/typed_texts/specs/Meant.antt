@@ -13,7 +13,6 @@ use Rattle.gathered_laws.specs.Views.{AreViews}
 use Rattle.order_laws.specs.Written.{is_unit}
 use Rattle.typed_points.specs.Meant.{AreMeantBodies, AreMeantObjects}
 use Rattle.typed_runs.specs.Formals.{AreProfiled}
-use Rattle.typed_runs.specs.Loops.{AreLoopBodies, AreLoopObjects}
 use Rattle.typed_runs.specs.Meant.{site_in, typing_laid}
 
 pub record IsMeant (p : Program) : Type 0 where
@@ -27,4 +26,3 @@ pub record IsMeant (p : Program) : Type 0 where
   pub profiled : AreProfiled (known_of p) (site_in p).bodies (typing_laid p) (IsMade p.units)
   pub bodies : (u : Code) → Has p.units u → AreMeantBodies (site_in p) (typing_laid p) (IsMade p.units) u
   pub objects : (u : Code) → Has p.units u → AreMeantObjects (site_in p) (typing_laid p) (IsMade p.units) u
-  pub loops : (u : Code) → Has p.units u → AreLoopBodies (site_in p) (typing_laid p) u × AreLoopObjects (site_in p) (typing_laid p) u

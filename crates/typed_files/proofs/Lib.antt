@@ -1,0 +1,6 @@
+-- formals and names
+pub mod Profiles
+pub mod Called
+pub mod Denoted
+-- the law
+pub mod Main

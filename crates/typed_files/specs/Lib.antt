@@ -1,0 +1,2 @@
+-- the class of texts
+pub mod Class
