@@ -14,6 +14,8 @@ pub mod Moments
 pub mod Near
 pub mod Walks
 pub mod Scalars
+pub mod Waits
+pub mod Taking
 pub mod Stays
 pub mod Numbers
 pub mod Joining
@@ -30,11 +32,11 @@ pub mod Lasting
 pub mod Paths
 -- sound states are well owned; instructions
 pub mod Owners
-pub mod Waits
 pub mod Freeing
 pub mod Instructions
 pub mod Loops
 pub mod Operands
+pub mod Eased
 pub mod Endings
 -- where steps go on, with which variables; points by number
 pub mod Scoped
