@@ -40,8 +40,10 @@ pub mod Eased
 pub mod Endings
 -- where steps go on, with which variables; points by number
 pub mod Scoped
+pub mod Onward
 pub mod Following
 pub mod Points
+pub mod Typings
 pub mod Successors
 -- calls: facts of the frames around, acts on package objects, formals, the ends of calls
 pub mod Inherited
