@@ -239,7 +239,43 @@ abbrev pub LeadsOn : Table → TypedProgram → Effects → Outcome → Type 0
 LeadsOn table typed effects (Goes state) = IsSound table typed effects state
 LeadsOn table typed effects (Ends e state) = (IsTrap e → ⊥) × WellOwned (flow_typing (flow_program table typed)) state
 
--- So does each step.
+-- ---- where the frames come from
+
+-- A frame after one more point.
+abbrev pub IsOnward : Stage → Stage → Type 0
+IsOnward g h = (h.frame.sub ≡ g.frame.sub) × (h.depth ≡ g.depth) × (h.before ≡ g.frame.next ∷ g.before)
+
+-- Owners see the same in the variables of these frames, and in all cells.
+abbrev pub AreSameWords : Typing → (ℕ → Type 0) → Memory → Memory → Type 0
+AreSameWords s these m n =
+    ((f x : ℕ) (p : List Step) → these f
+    → word_in s.table (content s n [] (OfRoot (ways.OfVariable f x))) p ≡ word_in s.table (content s m [] (OfRoot (ways.OfVariable f x))) p)
+    × ((c : ℕ) (p : List Step) → word_in s.table (content s n [] (ways.OfCell c)) p ≡ word_in s.table (content s m [] (ways.OfCell c)) p)
+
+-- How the frames after a step come from those before it, of which `top` is the innermost one: it goes
+-- on; after the last package object the main procedure begins; a procedure is called, which has
+-- executed nothing yet; or a call has ended. A call, and the end of one, changes nothing that owners
+-- see in the frames that are left.
+pub data Follows (s : Typing) (i : Instruction) (m : Memory) (top : Stage) (older : List Stage) (n : Memory) (next : Stage) (around : List Stage) : Type 0 where
+  steps_on : calls_nothing i ≡ true → IsOnward top next → around ≡ older → Follows s i m top older n next around
+  begins_main : (below : Stage) → older ≡ [] → around ≡ below ∷ [] → IsOnward top below → next.before ≡ [] → Follows s i m top older n next around
+  calls_one : (waits : Stage) → around ≡ waits ∷ older → IsOnward top waits → next.before ≡ [] → AreSameWords s (λ f. Unit {0}) m n
+      → Follows s i m top older n next around
+  ends_one : older ≡ next ∷ around → AreSameWords s (λ f. f ≡ top.depth → ⊥) m n → Follows s i m top older n next around
+
+-- What a step leads to, with where its frames come from.
+abbrev pub LeadsAlong : Table → TypedProgram → Effects → Instruction → Memory → Stage → List Stage → Outcome → Type 0
+LeadsAlong table typed effects i m top older (Goes state) =
+    (next : IsSound table typed effects state) × Follows (flow_typing (flow_program table typed)) i m top older state.memory next.top next.older
+LeadsAlong table typed effects i m top older (Ends e state) = (IsTrap e → ⊥) × WellOwned (flow_typing (flow_program table typed)) state
+
+-- So it is of each step.
+abbrev pub StepsLeadAlong : Table → TypedProgram → Effects → List ℕ → Type 0
+StepsLeadAlong table typed effects input =
+    (state : State) (sound : IsSound table typed effects state)
+    → LeadsAlong table typed effects sound.point.instr state.memory sound.top sound.older (step (flow_program table typed) input state)
+
+-- Each step leads on.
 abbrev pub StepsLeadOn : Table → TypedProgram → Effects → List ℕ → Type 0
 StepsLeadOn table typed effects input =
     (state : State) → IsSound table typed effects state → LeadsOn table typed effects (step (flow_program table typed) input state)
