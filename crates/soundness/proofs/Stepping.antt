@@ -50,7 +50,7 @@ use Rattle.soundness.proofs.Numbers.{index_law}
 use Rattle.soundness.proofs.Lasting.{keeps}
 use Rattle.soundness.proofs.Evaluated.{live_trunk}
 use Rattle.soundness.proofs.Fixed.{LeadsTo}
-use Rattle.soundness.proofs.Passing.{plain_type, ArePlain, way_of, AreReads, reads_keep, read_open, values_read, AreLaid, returns_copied, formals_good, AreGiven, all_given, all_laid as all_laid_out, all_acted, entered, call_leads, passed_to}
+use Rattle.soundness.proofs.Passing.{plain_type, ArePlain, way_of, AreReads, reads_keep, read_open, values_read, call_adds, AreLaid, returns_copied, formals_good, AreGiven, all_given, all_laid as all_laid_out, all_acted, entered, call_leads, passed_to}
 use Rattle.soundness.proofs.Moments.{number_part}
 use Rattle.soundness.proofs.Scalars.{acts, acts_append, after_append, allows_both}
 use Rattle.soundness.proofs.Paths.{accepted_point, facts_next}
@@ -59,7 +59,7 @@ use Rattle.soundness.proofs.Scoped.{MayHold, Inside}
 use Rattle.soundness.proofs.Near.{near_along}
 use Rattle.soundness.proofs.Inherited.{Splits, after_splits, allowed_beside, AreGlobal, global_after, global_allowed, is_open, apart_allows, global_apart}
 use Rattle.soundness.proofs.Opened.{instruction_open}
-use Rattle.soundness.proofs.Used.{writes_used, reads_used, called_used, used_global, called_are, globals_are, path_acts, returns_whole}
+use Rattle.soundness.proofs.Used.{writes_used, reads_used, called_used, added_after, used_global, called_are, globals_are, path_acts, returns_whole}
 use Rattle.soundness.proofs.Around.{same_or_not, IsFar, far_alone, is_inherited, inherited, inherited_from, IsBetween, beside, apart_again, unused_there, all_between, AreStill, callers_kept}
 use Rattle.soundness.proofs.Returning.{returned_sound, returned_kept, left_same, left_held, back, returns_lead, ends_lead, left_waits, ended_owned}
 use Rattle.soundness.proofs.Following.{Each, GoesOn, Declares, declare_on, declare_follows, assign_follows, release_follows, input_follows, test_follows, choose_follows, stays_follows, output_follows, start_follows, next_follows, end_scope_follows}
@@ -99,10 +99,10 @@ module _ (table : Table) (typed : TypedProgram) (effects : Effects) (input : Lis
   abbrev own : Typing
   own = typing_of table typed
 
-  same : s ≡ own
+  pub same : s ≡ own
   same = typing_same table typed ready.scoped.objects
 
-  no_in_formals : (x : ℕ) → is_view_formal s x ≡ false
+  pub no_in_formals : (x : ℕ) → is_view_formal s x ≡ false
   no_in_formals x = elim (bool_cases (is_formal s x)) [
     | inl e ↦ no_second (is_in_formal s x) (is_owning s.table (object_at s x).of) (plain_type s ready.owns (object_at s x).of (ready.class.formals x e))
     | inr e ↦ ap (λ b. (b && is_in (object_at s x).mode) && is_owning s.table (object_at s x).of) e
@@ -129,13 +129,13 @@ module _ (table : Table) (typed : TypedProgram) (effects : Effects) (input : Lis
     abbrev points : List PathPoint
     points = path_points program effects sub
 
-    sub_is : sub_of program top.frame.sub ≡ sub
+    pub sub_is : sub_of program top.frame.sub ≡ sub
     sub_is = sub_there table typed top.frame.sub named of_sub
 
-    in_program : Has program.subs sub
+    pub in_program : Has program.subs sub
     in_program = sub_has table typed top.frame.sub named of_sub
 
-    in_sub : Has sub.points here
+    pub in_sub : Has sub.points here
     in_sub = point_in own named top.frame.next p at_point
 
     pub step_is : step program input state ≡ turn t p.instr
@@ -228,13 +228,13 @@ module _ (table : Table) (typed : TypedProgram) (effects : Effects) (input : Lis
         returns = top.returns;
       }
 
-      pub goes_to_next : calls_nothing p.instr ≡ true → (after_step : State) (loops : List Loop) (n : ℕ) → Has here.next n
+      pub goes_to_next : calls_nothing p.instr ≡ true → (p.instr ≡ Finish → ⊥) → (after_step : State) (loops : List Loop) (n : ℕ) → Has here.next n
           → after_step.frames ≡ record top.frame { waits = []; loops = loops; next = n } ∷ outer
           → top.depth ≡ length outer → AreStages older outer → AreRunning table typed effects after_step.memory (at_next loops n ∷ older)
           → Sound (home s (length outer)) (Elsewhere program effects older) (view_of s after_step) (after (acts (acts_by s p.instr)) facts)
           → Kept s after_step.memory (waiting_in after_step)
           → InScope s after_step.memory (length outer) (scope_behind p) → LeadsAlong table typed effects p.instr state.memory top older (Goes after_step)
-      goes_to_next plain after_step loops n next is deep stages running sound kept scope =
+      goes_to_next plain going after_step loops n next is deep stages running sound kept scope =
           let successor_point = next_there own named (laid named (named_has (flow_named table typed) top.frame.sub named of_sub)) p
           (point_has named.points top.frame.next p at_point) n next in
           let q : NamedPoint = successor_point.0 in
@@ -258,7 +258,7 @@ module _ (table : Table) (typed : TypedProgram) (effects : Effects) (input : Lis
               at_point = successor_point.1;
               scope = subst (λ d. InScope s after_step.memory d q.scope) (sym deep) (by_typing after_step.memory q successor_point.2 scope);
             },
-            steps_on plain (refl, refl, refl) refl,
+            steps_on plain going (refl, refl, refl) refl,
           )
         where
           by_typing : (m : Memory) (q : NamedPoint) → Leads own (scope_behind p) q.scope → InScope s m (length outer) (scope_behind p) → InScope s m (length outer) q.scope
@@ -290,7 +290,7 @@ module _ (table : Table) (typed : TypedProgram) (effects : Effects) (input : Lis
       unmoved_after (acts_at first_points n) (facts_before first_points before) (unmoved_along before) (nothing_added n) name
       (subst (λ z. Has z (Moved name)) (facts_next first_points before n) has)
 
-  unmoved_stage : (e : Stage) → e.frame.sub ≡ 0 → (name : PlaceName) → Has (facts_of program effects e) (Moved name) → ⊥
+  pub unmoved_stage : (e : Stage) → e.frame.sub ≡ 0 → (name : PlaceName) → Has (facts_of program effects e) (Moved name) → ⊥
   unmoved_stage e is name has =
       unmoved_along e.before name (subst (λ n. Has (facts_before (path_points program effects (sub_of program n)) e.before) (Moved name)) is has)
 
@@ -429,7 +429,7 @@ module _ (table : Table) (typed : TypedProgram) (effects : Effects) (input : Lis
           → Each (Declares at_turn first.1.0 (λ f y. f < 0) p.scope (x ∷ p.scope) scope) outcome → Along outcome
       moment_leads x v e (Ends how after_step) holds on = holds
       moment_leads x v e (Goes after_step) holds on = elim (successor_cases at_turn 0) [
-        | inl found ↦ goes_to_next state top [] [] named p frames of_sub at_point path (plain_there x v e) after_step top.frame.loops found.0 found.2
+        | inl found ↦ goes_to_next state top [] [] named p frames of_sub at_point path (plain_there x v e) (λ is. (let no : Declare x v ≡ Finish = sym e ∙ is in cc)) after_step top.frame.loops found.0 found.2
             (on.frames ∙ ap (led at_turn (record top.frame { waits = [] })) found.1) deep tt
             (first.0, (refl, first.1.1, first.1.2)) holds.0 holds.1 (subst (InScope s after_step.memory 0) (sym (scope_there x v e)) on.inside)
         | inr none ↦ (
@@ -506,7 +506,7 @@ module _ (table : Table) (typed : TypedProgram) (effects : Effects) (input : Lis
     abbrev depth : ℕ
     depth = suc (length rest)
 
-    abbrev other : Way → Type 0
+    abbrev pub other : Way → Type 0
     other = IsFar (suc (length rest)) (Elsewhere program effects (below ∷ more))
 
     alone : (w : Way) → IsNear (suc (length rest)) w → IsFar (suc (length rest)) (Elsewhere program effects (below ∷ more)) w → ⊥
@@ -515,36 +515,36 @@ module _ (table : Table) (typed : TypedProgram) (effects : Effects) (input : Lis
     plain : top.frame.waits ≡ []
     plain = running.1.0
 
-    abbrev main_turn : Turn
+    abbrev pub main_turn : Turn
     main_turn = t state top older outer named p frames of_sub at_point
 
-    abbrev own_facts : List Fact
+    abbrev pub own_facts : List Fact
     own_facts = facts state top older outer named p frames of_sub at_point path
 
     sound_own : Sound (home s depth) (Elsewhere program effects older) (view_of s state) own_facts
     sound_own = subst (Sound (home s depth) (Elsewhere program effects older) (view_of s state)) (facts_are state top older outer named p frames of_sub at_point path) sound_before
 
     -- with the facts of the frames around on package objects
-    abbrev facts_now : List Fact
+    abbrev pub facts_now : List Fact
     facts_now = own_facts ++ inherited program effects older
 
-    between : (g : Stage) → Has older g → IsBetween program effects depth g
+    pub between : (g : Stage) → Has older g → IsBetween program effects depth g
     between g has =
         all_between table typed effects unmoved_stage state.memory top.frame.sub depth older outer stages (omega arith) running.2 g has
 
-    sound : Sound (home s depth) other (view_of s state) facts_now
+    pub sound : Sound (home s depth) other (view_of s state) facts_now
     sound = beside program effects older depth between (view_of s state) own_facts sound_own
 
-    from_both : Splits facts_now own_facts (inherited program effects older)
+    pub from_both : Splits facts_now own_facts (inherited program effects older)
     from_both f has = Has-append_cases own_facts (inherited program effects older) f has
 
-    abbrev acts_of_main : Instruction → List Act
+    abbrev pub acts_of_main : Instruction → List Act
     acts_of_main i = acts (acts_by state top older outer named p frames of_sub at_point s i)
 
     none_takes : taken main_turn.point.instr ≡ 0
     none_takes = takes state top older outer named p frames of_sub at_point
 
-    no_result : named.sub.result ≡ None
+    pub no_result : named.sub.result ≡ None
     no_result = (running.0).procedure named of_sub
 
     point_in_named : Has named.points p
@@ -570,7 +570,7 @@ module _ (table : Table) (typed : TypedProgram) (effects : Effects) (input : Lis
     sub_less = sub_in_range table typed top.frame.sub named of_sub
 
     -- none that a frame around has moved
-    unused : (f : Fact) → Has (inherited program effects older) f
+    pub unused : (f : Fact) → Has (inherited program effects older) f
         → (name : PlaceName) × (f ≡ Moved name) × (is_package_object s name.root ≡ true) × (Uses effects top.frame.sub name.root → ⊥)
     unused f has =
         let found = inherited_from program effects older f has in
@@ -612,7 +612,7 @@ module _ (table : Table) (typed : TypedProgram) (effects : Effects) (input : Lis
         instruction_open s ready.class.all_named named.sub.result (roots state top older outer named p frames of_sub at_point) p.pos p.instr calls going from.0 from.1 in
         ap (λ z. forbids z f) (sym from.2) ∙ one_apart from.0 from.1 opens f there
 
-    allowed_now : calls_nothing p.instr ≡ true → (p.instr ≡ Finish → ⊥) → AllowsAll facts_now (acts_of_main p.instr)
+    pub allowed_now : calls_nothing p.instr ≡ true → (p.instr ≡ Finish → ⊥) → AllowsAll facts_now (acts_of_main p.instr)
     allowed_now calls going =
         allowed_beside (acts_of_main p.instr) facts_now own_facts (inherited program effects older) from_both
         (allowed state top older outer named p frames of_sub at_point path calls) (acts_apart calls going)
@@ -641,7 +641,7 @@ module _ (table : Table) (typed : TypedProgram) (effects : Effects) (input : Lis
       | inl (below_it, inr before) ↦ before
     ]
 
-    home_frame : (x : ℕ) → is_package_object s x ≡ false → home s depth x ≡ depth
+    pub home_frame : (x : ℕ) → is_package_object s x ≡ false → home s depth x ≡ depth
     home_frame x own_frame = ap (λ b. if b then 0 else depth) own_frame
 
     package_old : (x : ℕ) → is_package_object s x ≡ true → IsOld (home s depth x) x
@@ -1062,6 +1062,17 @@ module _ (table : Table) (typed : TypedProgram) (effects : Effects) (input : Lis
           ∙ ap (λ z. after z own_facts) call_acts ∙ after_append (acts (values ++ copies)) (globals_of program effects n) own_facts
           ∙ global_after (globals_of program effects n) facts_called globals
 
+      -- nothing is moved by the call
+      none_new : (f : Fact) → Has (facts_of program effects waits_there) f → Has (facts_of program effects top) f
+      none_new f has =
+          subst (λ z. Has z f) (sym (facts_are state top older outer named p frames of_sub at_point path))
+          (elim (added_after program effects ready.accepted.effects_are (acts (values ++ copies)) own_facts f (subst (λ z. Has z f) facts_there has)) [
+            | inl was ↦ was
+            | inr (a, there, new) ↦ (
+                let from = Has-map_from (λ (z : Placed). z.act) (values ++ copies) a there in
+                absurd (call_adds s ready.owns formals actuals called.actuals_stay from.0 from.1 f (subst (λ z. Has (adds z) f) (sym from.2) new)))
+          ])
+
       -- what the callee uses isn't moved
       spares : (name : PlaceName) → Has facts_called (Moved name) → is_package_object s name.root ≡ true → Uses effects n name.root → ⊥
       spares name has shared uses =
@@ -1191,7 +1202,7 @@ module _ (table : Table) (typed : TypedProgram) (effects : Effects) (input : Lis
             | inl less ↦ inl (omega (arith, less))
             | inr mine ↦ (let is = mine.0 in inl (omega (arith, is)))
           ];
-        }, calls_one waits_there refl (refl, refl, refl) refl same_owners.1)
+        }, calls_one waits_there refl (refl, refl, refl) refl none_new same_owners.1)
 
       pub calls_it : Along (turn main_turn (Call n actuals None))
       calls_it =
@@ -1247,13 +1258,13 @@ module _ (table : Table) (typed : TypedProgram) (effects : Effects) (input : Lis
     scope_is : scope_behind p ≡ brought p.instr p.scope
     scope_is = ap (λ n. brought p.instr (drop n p.scope)) none_takes ∙ ap (brought p.instr) (drop_none p.scope)
 
-    then_on : calls_nothing p.instr ≡ true → (outcome : Outcome) → LeadsFrom p.instr outcome → GoesFrom p.instr outcome → Along outcome
-    then_on calls (Ends how after_step) leads on = leads
-    then_on calls (Goes after_step) leads on =
+    then_on : calls_nothing p.instr ≡ true → (p.instr ≡ Finish → ⊥) → (outcome : Outcome) → LeadsFrom p.instr outcome → GoesFrom p.instr outcome → Along outcome
+    then_on calls going (Ends how after_step) leads on = leads
+    then_on calls going (Goes after_step) leads on =
         let next = successor_there main_turn on.k (subst (λ z. on.k < z) (sym successors_there) on.less) in
         let well = apart_again program effects older depth between (view_of s after_step) (after (acts_of_main p.instr) facts_now) (after (acts_of_main p.instr) own_facts)
         (after_splits (acts_of_main p.instr) facts_now own_facts (inherited program effects older) from_both) leads.0 in
-        goes_to_next state top older outer named p frames of_sub at_point path calls after_step on.loops next.0 next.2 (on.frames next.0 next.1)
+        goes_to_next state top older outer named p frames of_sub at_point path calls going after_step on.loops next.0 next.2 (on.frames next.0 next.1)
         deep stages (
           running.0,
           (refl, running.1.1, running.1.2),
@@ -1266,7 +1277,7 @@ module _ (table : Table) (typed : TypedProgram) (effects : Effects) (input : Lis
     goes_plainly calls going =
         let text = subst (λ r. IsFine s r p.instr) no_result (fine state top older outer named p frames of_sub at_point) in
         let both = each_instruction p.instr refl going text calls (allowed_now calls going) in
-        then_on calls (turn main_turn p.instr) both.0 both.1
+        then_on calls going (turn main_turn p.instr) both.0 both.1
 
     pub main_step : Along (step program input state)
     main_step =
