@@ -271,9 +271,6 @@ module _ (home : ℕ → ℕ) (other : Way → Type 0) (clear : (v w : Way) → 
       → Told s (IsDefiniteBy home other facts) → Told t (IsDefiniteBy home other (effect (EndScope x borrower) facts))
   told_dropped s t x borrower facts owned step told = by
     where
-      abbrev whole : Way
-      whole = Object (OfVariable (home x) x)
-
       was : (l : Loc) (c : ℕ) → IsPlaced l → t.word l ≡ Held c → s.word l ≡ Held c
       was l c placed h = sym (step.off l (λ b. (let is : Held c ≡ Empty = sym h ∙ ap t.word b.1 ∙ step.empty b.0 in cc))) ∙ h
 
@@ -281,18 +278,18 @@ module _ (home : ℕ → ℕ) (other : Way → Type 0) (clear : (v w : Way) → 
       apart w l is off r =
           let before = was_there s t facts (keeps_placed s t was) w l is r in
           step.off l (λ b. (
-          let there : Reaches s (along whole b.0) (part (OfRoot (OfVariable (home x) x)) b.0) = reaches_along s whole (OfRoot (OfVariable (home x) x)) b.0 refl in
-          let same : w ≡ along whole b.0 = one_way s owned w (along whole b.0) l before (subst (Reaches s (along whole b.0)) (sym b.1) there) in
-          off (subst (Under whole) (sym same) (under_along whole whole b.0 (under_itself whole)))))
+          let there : Reaches s (along (Object (OfVariable (home x) x)) b.0) (part (OfRoot (OfVariable (home x) x)) b.0) = reaches_along s (Object (OfVariable (home x) x)) (OfRoot (OfVariable (home x) x)) b.0 refl in
+          let same : w ≡ along (Object (OfVariable (home x) x)) b.0 = one_way s owned w (along (Object (OfVariable (home x) x)) b.0) l before (subst (Reaches s (along (Object (OfVariable (home x) x)) b.0)) (sym b.1) there) in
+          off (subst (Under (Object (OfVariable (home x) x))) (sym same) (under_along (Object (OfVariable (home x) x)) (Object (OfVariable (home x) x)) b.0 (under_itself (Object (OfVariable (home x) x)))))))
           ∙ told w l is before
 
       by : Told t (IsDefiniteBy home other (effect (EndScope x borrower) facts))
-      by w l (inr elsewhere) r = apart w l (inr elsewhere) (λ u. clear whole w u refl elsewhere.1) r
+      by w l (inr elsewhere) r = apart w l (inr elsewhere) (λ u. clear (Object (OfVariable (home x) x)) w u refl elsewhere.1) r
       by w l (inl d) r = elim (fact_before (EndScope x borrower) facts (Moved (name_of w)) d.0.1) [
         | inr none ↦ absurd none
         | inl old ↦ apart w l (inl ((d.0.0, old.0), d.1))
             (λ u. (
-            let number : number_of w ≡ x = (longer whole w u).root in
+            let number : number_of w ≡ x = (longer (Object (OfVariable (home x) x)) w u).root in
             let ends = eq-eqb (number_of w) x number in
             let kept = old.1 in cc)) r
       ]

@@ -41,7 +41,7 @@ use Rattle.owned_ways.proofs.Locations.{reaches_along, named_along as rooted_alo
 use Rattle.soundness.specs.Seen.{content, word_in, seen, home, IsNear, is_view_formal, trunk}
 use Rattle.soundness.specs.Typed.{Kept}
 use Rattle.typed_laws.specs.Needed.{IsFine, Source, FirstSource, FirstWrites, FirstStays}
-use Rattle.soundness.specs.Sound.{calls_nothing, calls_procedures, Stage, facts_of, Elsewhere, AreStages, Uses, IsCaller, AreCallers, AreRunning, InScope, IsNamedSub, IsAtPoint, view_of, IsSound, LeadsOn, StepsLeadOn, steps_on, begins_main, calls_one, ends_one, AreSameWords, LeadsAlong, StepsLeadAlong, AreCopied}
+use Rattle.soundness.specs.Sound.{calls_nothing, calls_procedures, Stage, facts_of, Elsewhere, AreStages, Uses, IsCaller, AreCallers, AreRunning, InScope, IsNamedSub, IsAtPoint, view_of, LeadsOn, StepsLeadOn, steps_on, begins_main, calls_one, ends_one, AreSameWords, LeadsAlong, StepsLeadAlong, AreCopied}
 use Rattle.soundness.specs.Ready.{stored_at, IsCalled, IsReady}
 use Rattle.soundness.proofs.Contents.{bool_cases, word_no, word_root}
 use Rattle.soundness.proofs.Steps.{no_leaf}
@@ -387,12 +387,9 @@ module _ (table : Table) (typed : TypedProgram) (effects : Effects) (input : Lis
       (sym (sub_is state top [] [] named p frames of_sub at_point) ∙ ap (sub_of program) first.0)
       (in_sub state top [] [] named p frames of_sub at_point) in
       let declares = ready.elaborated.declared here_point first_sub in
-      subst Along (sym (step_is state top [] [] named p frames of_sub at_point))
+      subst (LeadsAlong table typed effects p.instr state.memory top []) (sym (step_is state top [] [] named p frames of_sub at_point))
       (by_declare declares.0 declares.1 declares.2)
     where
-      abbrev Along : Outcome → Type 0
-      Along outcome = LeadsAlong table typed effects p.instr state.memory top [] outcome
-
       alone : (w : Way) → IsNear 0 w → Elsewhere program effects [] w → ⊥
       alone w near (g, has, what) = has
 
@@ -426,7 +423,7 @@ module _ (table : Table) (typed : TypedProgram) (effects : Effects) (input : Lis
       moment_leads : (x : ℕ) (v : TypedTree) → p.instr ≡ Declare x v → (outcome : Outcome)
           → Leads_on at_turn ready.accepted.settled ready.owns (Elsewhere program effects []) alone no_in_formals ready.class.all_named frames
           (after (acts_there p.instr) facts_there) outcome
-          → Each (Declares at_turn first.1.0 (λ f y. f < 0) p.scope (x ∷ p.scope) scope) outcome → Along outcome
+          → Each (Declares at_turn first.1.0 (λ f y. f < 0) p.scope (x ∷ p.scope) scope) outcome → LeadsAlong table typed effects p.instr state.memory top [] outcome
       moment_leads x v e (Ends how after_step) holds on = holds
       moment_leads x v e (Goes after_step) holds on = elim (successor_cases at_turn 0) [
         | inl found ↦ goes_to_next state top [] [] named p frames of_sub at_point path (plain_there x v e) (λ is. (let no : Declare x v ≡ Finish = sym e ∙ is in cc)) after_step top.frame.loops found.0 found.2
@@ -463,7 +460,7 @@ module _ (table : Table) (typed : TypedProgram) (effects : Effects) (input : Lis
             ))
       ]
 
-      by_declare : (x : ℕ) (v : TypedTree) → p.instr ≡ Declare x v → Along (turn at_turn p.instr)
+      by_declare : (x : ℕ) (v : TypedTree) → p.instr ≡ Declare x v → LeadsAlong table typed effects p.instr state.memory top [] (turn at_turn p.instr)
       by_declare x v e =
           let text = subst (IsFine s named.sub.result) e (fine state top [] [] named p frames of_sub at_point) in
           let plain = plain_there x v e in
