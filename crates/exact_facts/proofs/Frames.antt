@@ -1,10 +1,9 @@
 -- Facts of all frames, as the innermost one has them: its own, those of the frames around on package
 -- objects beside them, and what those frames have moved of their own.
-use Rattle.std.proofs.Common.{◌≡◌, refl, sym, ap, ◌∙◌, subst, ◌⊎◌, inl, inr, ℕ, Bool, true, false, not, ◌&&◌, ◌==◌, eq-eqb, eqb-true, List, [], ◌∷◌, ◌++◌, if◌then◌else◌}
+use Rattle.std.proofs.Common.{◌≡◌, refl, sym, ap, ◌∙◌, subst, ◌⊎◌, inl, inr, ℕ, Bool, true, false, not, ◌&&◌, ◌==◌, eqb-true, List, [], ◌∷◌, ◌++◌, if◌then◌else◌}
 use Rattle.std.specs.List.{filter}
 use Rattle.spark_base.specs.Lists.{Has}
 use Rattle.spark_base.proofs.Lists.{Has-append_left, Has-append_right, Has-append_cases, Has-filter, Has-filter_passes}
-use Rattle.place_names.specs.declared.selector.Sel.{Sel}
 use Rattle.place_names.specs.declared.act.Mode.TheVariants as mode
 use Rattle.place_names.specs.declared.act.Act.{Act}
 use Rattle.place_names.specs.declared.act.Act.TheVariants as act
@@ -13,13 +12,13 @@ use Rattle.place_names.specs.declared.fact.Fact.TheVariants.{Moved}
 use Rattle.place_names.specs.Names.{Name as PlaceName, begins, has_elem, covers}
 use Rattle.place_names.specs.Facts.{adds, removes, effect}
 use Rattle.flow_paths.specs.declared.report.Effects.{Effects}
-use Rattle.flow_paths.specs.Effects.{act_reads, act_writes}
+use Rattle.flow_paths.specs.Effects.{act_writes}
 use Rattle.flow_paths.specs.Objects.{Typing, is_package_object}
 use Rattle.flow_paths.specs.Laid.{FlowProgram, flow_typing}
 use Rattle.machine.specs.Memory.{Memory}
-use Rattle.owned_ways.specs.Ways.{OfVariable, OfHand, Loc, OfRoot, OfCell, Inside, Way, Object, Lost, Into, All, Gone, View, Told, Named, after, name_of}
+use Rattle.owned_ways.specs.Ways.{Step, OfVariable, OfHand, Loc, OfRoot, OfCell, Inside, Way, Object, Lost, Into, All, View, Told, Named, after, name_of}
 use Rattle.soundness.specs.Seen.{content, trunk, steps_in, word_in, seen, home}
-use Rattle.soundness.specs.Sound.{Stage, facts_of, Elsewhere, IsDefinite, IsDefiniteOf, AreSameWords}
+use Rattle.soundness.specs.Sound.{Stage, Elsewhere, IsDefinite, IsDefiniteOf, AreSameWords}
 use Rattle.soundness.proofs.Joined.{trunk_trunk, not_inside}
 use Rattle.soundness.proofs.Inherited.{is_open}
 use Rattle.soundness.proofs.Around.{near_or_far, package_named, near_package, IsFar, inherited, inherited_has, inherited_from, IsBetween}
@@ -109,7 +108,7 @@ module _ (program : FlowProgram) (effects : Effects) where
               inr (found.0, found.1, ((package_named s depth (found.0).depth w found.3 named, found.2), plain)))
         ]
         by (inr (begins_there, (far, (g, has, inl moved)), plain)) = inr (g, has, (moved, plain))
-        by (inr (begins_there, (far, (g, has, inr (to, returned, rest))), plain)) = absurd (subst (λ z. Has z to) (between g has).returns returned)
+        by (inr (begins_there, (far, (g, has, inr (to, returned, q, is_along))), plain)) = absurd (subst (λ z. Has z to) (between g has).returns returned)
 
     pub apart_told : (view : View) (all own : List Fact) → ((f : Fact) → Has own f → Has all f)
         → ((f : Fact) → Has (inherited program effects older) f → Has all f)
@@ -125,10 +124,13 @@ module _ (program : FlowProgram) (effects : Effects) where
             | inr none ↦ absurd (none (name_of w) fact)
             | inl (some, less) ↦ (
                 let shared = near_package s g.depth depth some less w named near in
-                inl ((
-                  package_named s g.depth depth w shared named,
-                  around (Moved (name_of w)) (inherited_has program effects older g has (Moved (name_of w)) fact shared),
-                ), plain))
+                inl (
+                  (
+                    package_named s g.depth depth w shared named,
+                    around (Moved (name_of w)) (inherited_has program effects older g has (Moved (name_of w)) fact shared),
+                  ),
+                  plain,
+                ))
           ]
         ]
 

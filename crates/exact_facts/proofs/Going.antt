@@ -1,6 +1,6 @@
 -- Each step of a sound state whose facts are exact leads to such a state, in a program that is
 -- ready.
-use Rattle.std.proofs.Common.{◌≡◌, refl, sym, ap, ◌∙◌, subst, ◌⊎◌, inl, inr, ℕ, suc, ◌<◌, ◌≤◌, true, false, List, [], ◌∷◌, ◌++◌, length, arith}
+use Rattle.std.proofs.Common.{◌≡◌, refl, sym, ◌∙◌, subst, inl, inr, ℕ, suc, true, List, [], ◌∷◌, length, arith}
 use Rattle.spark_base.specs.Lists.{Has}
 use Rattle.place_names.specs.declared.fact.Fact.{Fact}
 use Rattle.place_names.specs.declared.fact.Fact.TheVariants.{Moved}
@@ -20,12 +20,12 @@ use Rattle.machine.specs.Run.{step}
 use Rattle.owned_ways.specs.Ways.{Way, Sound, Told, name_of}
 use Rattle.soundness.specs.Seen.{seen, home}
 use Rattle.soundness.specs.Typed.{Kept}
-use Rattle.soundness.specs.Sound.{calls_nothing, Stage, facts_of, Elsewhere, AreStages, AreRunning, InScope, IsNamedSub, IsAtPoint, view_of, IsDefinite, IsDefiniteOf, IsSound, IsOnward, AreSameWords, Follows, steps_on, begins_main, calls_one, ends_one, LeadsAlong}
+use Rattle.soundness.specs.Sound.{calls_nothing, Stage, facts_of, Elsewhere, AreStages, AreRunning, InScope, IsNamedSub, IsAtPoint, view_of, IsDefinite, IsDefiniteOf, IsOnward, AreSameWords, Follows, steps_on, begins_main, calls_one, ends_one, LeadsAlong}
 use Rattle.soundness.specs.Ready.{IsReady}
 use Rattle.soundness.proofs.Points.{sub_there}
 use Rattle.soundness.proofs.Around.{IsBetween, all_between}
 use Rattle.soundness.proofs.Stepping.{unmoved_stage, sound_along}
-use Rattle.exact_facts.specs.Exact.{IsExactly, LeadsExactly, StepsLeadExactly}
+use Rattle.exact_facts.specs.Exact.{LeadsExactly, StepsLeadExactly}
 use Rattle.exact_facts.proofs.Steps.{Begins, named_variable}
 use Rattle.exact_facts.proofs.Memories.{same_told}
 use Rattle.exact_facts.proofs.Frames.{IsDefiniteHere, IsOn, words_told, named_begins}
@@ -150,6 +150,11 @@ module _ (table : Table) (typed : TypedProgram) (effects : Effects) (input : Lis
       all_between table typed effects (unmoved_stage table typed effects input ready) m top.frame.sub top.depth (below ∷ more) outer stages.2
       (let deep = stages.1 in omega (arith, deep)) running.2 g has
 
+  none_then : (top : Stage) → top.frame.sub ≡ 0 → (w : Way) → IsDefiniteHere program effects top.depth (facts_then top) [] w → ⊥
+  none_then top first w (inr (g, has, definite)) = has
+  none_then top first w (inl definite) =
+      unmoved (record { frame = top.frame; depth = top.depth; before = top.frame.next ∷ top.before; returns = top.returns }) first w definite
+
   step_told : (state : State) (top : Stage) (older : List Stage) (fs : List Frame) → state.frames ≡ fs → AreStages (top ∷ older) fs
       → AreRunning table typed effects state.memory (top ∷ older)
       → ControlPath (path_points program effects (sub_of program top.frame.sub)) top.before top.frame.next
@@ -158,9 +163,8 @@ module _ (table : Table) (typed : TypedProgram) (effects : Effects) (input : Lis
       → InScope s state.memory top.depth p.scope → Told (view_of s state) (IsDefiniteOf program effects (top ∷ older))
       → (next : State) → step program input state ≡ Goes next → calls_nothing p.instr ≡ true → (p.instr ≡ Finish → ⊥)
       → Told (view_of s next) (IsDefiniteHere program effects top.depth (facts_then top) older)
-  step_told state top [] fs is stages running path well kept named of_sub p at_point scope told next goes calls going w l (inr (g, has, definite)) reaches = absurd has
-  step_told state top [] fs is stages running path well kept named of_sub p at_point scope told next goes calls going w l (inl definite) reaches =
-      absurd (unmoved (record { frame = top.frame; depth = top.depth; before = top.frame.next ∷ top.before; returns = top.returns }) running.0 w definite)
+  step_told state top [] fs is stages running path well kept named of_sub p at_point scope told next goes calls going =
+      λ w l definite reaches. absurd (none_then top running.0 w definite)
   step_told state top (below ∷ more) (f ∷ (g ∷ rest)) is (frame, deep, (caller, deeper, others)) running path well kept named of_sub p at_point scope told next goes calls going =
       subst (λ d. Told (view_of s next) (IsDefiniteHere program effects d (facts_then top) (below ∷ more))) (sym deep)
       (subst (λ (z : FlowSub). Told (view_of s next) (IsDefiniteHere program effects (suc (length rest)) (facts_before (path_points program effects z) (top.frame.next ∷ top.before)) (below ∷ more)))
@@ -168,8 +172,8 @@ module _ (table : Table) (typed : TypedProgram) (effects : Effects) (input : Lis
       (told_next table typed effects input ready state top below more rest named p (is ∙ (λ j. sym frame j ∷ (sym caller j ∷ rest))) deep (refl, deeper, others) running
       of_sub at_point path (subst (λ d. Sound (home s d) (Elsewhere program effects (below ∷ more)) (view_of s state) (facts_of program effects top)) deep well) kept
       (subst (λ d. InScope s state.memory d p.scope) deep scope) told calls going next goes))
-  step_told state top (below ∷ more) [] is stages running path well kept named of_sub p at_point scope told = absurd stages
-  step_told state top (below ∷ more) (f ∷ []) is stages running path well kept named of_sub p at_point scope told = absurd stages.2
+  step_told state top (below ∷ more) [] is stages running path well kept named of_sub p at_point scope told next goes calls going = absurd stages
+  step_told state top (below ∷ more) (f ∷ []) is stages running path well kept named of_sub p at_point scope told next goes calls going = absurd stages.2
 
   pub exactly_step : StepsLeadExactly table typed effects input
   exactly_step state (sound, exact) = by (step program input state) refl (sound_along table typed effects input ready state sound)

@@ -1,6 +1,6 @@
 -- In each sound state of a program that is ready whose facts are exact, no leak check of the step
 -- fails that is excused.
-use Rattle.std.proofs.Common.{◌≡◌, refl, sym, ap, ◌∙◌, subst, inl, inr, ℕ, suc, List, [], ◌∷◌, ◌++◌, length, get_or, None}
+use Rattle.std.proofs.Common.{◌≡◌, refl, sym, ap, ◌∙◌, subst, inl, inr, ℕ, List, [], ◌∷◌, length, get_or, None}
 use Rattle.spark_base.specs.Lists.{Has}
 use Rattle.type_definitions.specs.Types.{Table}
 use Rattle.typed_tree.specs.Trees.{TypedTree}
@@ -14,7 +14,7 @@ use Rattle.flow_paths.specs.Laid.{FlowSub, FlowProgram, NamedSub, flow_sub, kept
 use Rattle.flow_paths.specs.Paths.{ControlPath}
 use Rattle.flow_paths.specs.Effects.{path_points}
 use Rattle.flow_paths.specs.LeakPlan.{IsExcused}
-use Rattle.machine.specs.States.{Frame, State, Outcome, Goes, Ends, sub_of}
+use Rattle.machine.specs.States.{Frame, State, sub_of}
 use Rattle.machine.specs.Owners.{waiting_in}
 use Rattle.machine.specs.Run.{no_point, step}
 use Rattle.owned_ways.specs.Ways.{Sound, Told}

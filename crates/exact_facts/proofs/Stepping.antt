@@ -1,6 +1,6 @@
 -- In a step of a procedure that calls nothing, of a program that is ready: facts of all frames stay
 -- exact, and no leak check fails that is excused.
-use Rattle.std.proofs.Common.{◌≡◌, refl, sym, ap, ◌∙◌, subst, inl, inr, ℕ, suc, arith, Bool, true, false, not, ◌&&◌, ◌||◌, IsTrue, List, [], ◌∷◌, ◌++◌, take, length, get_or, append_assoc, Some, None, if◌then◌else◌}
+use Rattle.std.proofs.Common.{◌≡◌, refl, sym, ap, ◌∙◌, subst, inl, inr, ℕ, suc, arith, Bool, true, false, not, ◌||◌, IsTrue, List, [], ◌∷◌, ◌++◌, take, length, append_assoc, None, if◌then◌else◌}
 use Rattle.spark_base.specs.Lists.{Has}
 use Rattle.spark_base.proofs.Lists.{Has-append_left, Has-append_right, Has-append_cases, Has-map_from}
 use Rattle.spark_base.specs.declared.position.Pos.{Pos}
@@ -14,7 +14,7 @@ use Rattle.place_names.specs.declared.fact.Fact.TheVariants.{Moved}
 use Rattle.place_names.specs.Names.{Name as PlaceName, object, extend, has_elem}
 use Rattle.place_names.specs.Facts.{removes, effect, facts_behind}
 use Rattle.place_names.proofs.Facts.{facts_behind-append}
-use Rattle.type_definitions.specs.Types.{is_owning, Table, is_scalar, full, shape_of, parts}
+use Rattle.type_definitions.specs.Types.{Table, is_scalar, full, shape_of, parts}
 use Rattle.type_definitions.specs.declared.table.Shape.TheVariants as shape
 use Rattle.typed_tree.specs.Trees.{TypedTree, Name, NoMore, More}
 use Rattle.typed_tree.specs.Programs.{TypedProgram}
@@ -25,8 +25,7 @@ use Rattle.flow_paths.specs.Objects.{Typing, object_at, is_package_object, is_bo
 use Rattle.flow_paths.specs.Names.{has_call, name_of, whole}
 use Rattle.flow_paths.specs.Acts as flow
 use Rattle.flow_paths.specs.Acts.{acts_of, acts_in, leaks_of, spot, stored_acts}
-use Rattle.flow_paths.specs.Points.{NamedPoint, FlowPoint}
-use Rattle.machine.specs.Memory.{Memory}
+use Rattle.flow_paths.specs.Points.{NamedPoint}
 use Rattle.flow_paths.specs.Laid.{FlowProgram, NamedSub, flow_sub, kept_roots, sub_facts, typing_of, flow_typing, flow_program, flow_named}
 use Rattle.flow_paths.specs.Paths.{PathPoint, path_point, ControlPath, acts_along, facts_before, facts_within}
 use Rattle.flow_paths.specs.Effects.{act_writes, path_points, called_acts}

@@ -116,7 +116,7 @@ module _ (ok : Act → Bool) (of : IsOpenTest ok) where
           otherwise (traverses s.table (Some t)) (source_acts s (first v) (λ m. act.Give m (gives_variable s (Some t)))) (acts_in s v) (not_anonymous s all_named t) (acts_open v)
 
       pub instruction_acts : (result : Option ℕ) (kept : List ℕ) (pos : Pos) (i : Instruction) → calls_nothing i ≡ true → (i ≡ Finish → ⊥)
-              → ((x : ℕ) → i ≡ EndScope x → ok (act.EndScope x (is_borrower s x)) ≡ true)
+          → ((x : ℕ) → i ≡ EndScope x → ok (act.EndScope x (is_borrower s x)) ≡ true)
           → AreOpen ok (acts_of (record { typing = s; result = result; roots = kept }) pos i)
       instruction_acts result kept pos Skip calls other ends = none_open
       instruction_acts result kept pos (Declare x v) calls other ends = declared_open x v

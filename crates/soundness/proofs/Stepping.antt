@@ -876,27 +876,27 @@ module _ (table : Table) (typed : TypedProgram) (effects : Effects) (input : Lis
       returns_to is same_more stages_there callers =
           let caller = callers.0 in
           let hands : waiting_in left_state ≡ waiting_in state = left_waits state top.frame outer left_memory frames plain in (
-          record {
-            top = below;
-            older = h ∷ others;
-            stages = stages_there;
-            running = (
-              caller.procedure,
-              caller.plain,
-              callers_kept table typed effects unmoved_stage state.memory left_memory below.frame.sub depth (h ∷ others) rest stages_there.2 (omega arith) (still_left is) callers.1,
-            );
-            path = caller.path;
-            sound = subst (λ z. Sound (home s below.depth) (Elsewhere program effects (h ∷ others)) (seen s left_memory z state.leaks) (facts_of program effects below)) (sym hands)
-                (returned_sound s after_copies depth (waiting_in state) state.leaks (nothing_then is) program effects below (h ∷ others) own_facts caller.plain.2
-                same_owners.0.0 (whole_packages is) refl);
-            kept = subst (Kept s left_memory) (sym hands) (returned_kept s after_copies depth (waiting_in state) state.leaks (nothing_then is) same_owners.0.1);
-            named = caller.named;
-            of_sub = caller.of_sub;
-            point = caller.point;
-            at_point = caller.at_point;
-            scope = λ f x q n held. scope_left caller stages_there.1 f x q n (held_before_end is f x q n held);
-          },
-          ends_one (ap (λ z. below ∷ z) same_more) (left_words is),
+            record {
+              top = below;
+              older = h ∷ others;
+              stages = stages_there;
+              running = (
+                caller.procedure,
+                caller.plain,
+                callers_kept table typed effects unmoved_stage state.memory left_memory below.frame.sub depth (h ∷ others) rest stages_there.2 (omega arith) (still_left is) callers.1,
+              );
+              path = caller.path;
+              sound = subst (λ z. Sound (home s below.depth) (Elsewhere program effects (h ∷ others)) (seen s left_memory z state.leaks) (facts_of program effects below)) (sym hands)
+                  (returned_sound s after_copies depth (waiting_in state) state.leaks (nothing_then is) program effects below (h ∷ others) own_facts caller.plain.2
+                  same_owners.0.0 (whole_packages is) refl);
+              kept = subst (Kept s left_memory) (sym hands) (returned_kept s after_copies depth (waiting_in state) state.leaks (nothing_then is) same_owners.0.1);
+              named = caller.named;
+              of_sub = caller.of_sub;
+              point = caller.point;
+              at_point = caller.at_point;
+              scope = λ f x q n held. scope_left caller stages_there.1 f x q n (held_before_end is f x q n held);
+            },
+            ends_one (ap (λ z. below ∷ z) same_more) (left_words is),
           )
 
     ends_well : (how : Exception) (m : Memory) → Along (steps.raised main_turn how m)
@@ -1173,33 +1173,36 @@ module _ (table : Table) (typed : TypedProgram) (effects : Effects) (input : Lis
         }
 
         entered_sound : Along (Goes after_call)
-        entered_sound = (record {
-          top = called_stage;
-          older = waits_there ∷ older;
-          stages = subst (AreStages (called_stage ∷ (waits_there ∷ older))) (sym frames_there) (refl, refl, (refl, deep, stages));
-          running = (
-            called.procedure,
-            (refl, returns_copied s ready.accepted.settled formals passed scalar_formals (given_laid passed given), refl),
-            (
-              waits_as_caller,
-              callers_kept table typed effects unmoved_stage state.memory with_all top.frame.sub depth older outer stages (omega arith) still_called running.2,
-            ),
-          );
-          path = begins (first_point table typed effects ready n called.procedure.named called.procedure.stands
-              called.procedure.point called.procedure.points called.procedure.begins);
-          sound = subst (λ z. Sound (home s (suc depth)) (Elsewhere program effects (waits_there ∷ older)) (seen s with_all z (state.leaks ++ [])) []) (sym hands_there)
-              (subst (λ z. Sound (home s (suc depth)) (Elsewhere program effects (waits_there ∷ older)) (seen s with_all (waiting_in state) z) []) (sym (append-nil state.leaks))
-              same_owners.0.0);
-          kept = subst (Kept s with_all) (sym hands_there) same_owners.0.1;
-          named = called.procedure.named;
-          of_sub = called.procedure.stands;
-          point = called.procedure.point;
-          at_point = ([], called.procedure.points, called.procedure.begins, refl);
-          scope = λ f x q k held. elim (scope f x q k (sym (held_before f x q) ∙ held)) [
-            | inl less ↦ inl (omega (arith, less))
-            | inr mine ↦ (let is = mine.0 in inl (omega (arith, is)))
-          ];
-        }, calls_one waits_there refl (refl, refl, refl) refl none_new same_owners.1)
+        entered_sound = (
+          record {
+            top = called_stage;
+            older = waits_there ∷ older;
+            stages = subst (AreStages (called_stage ∷ (waits_there ∷ older))) (sym frames_there) (refl, refl, (refl, deep, stages));
+            running = (
+              called.procedure,
+              (refl, returns_copied s ready.accepted.settled formals passed scalar_formals (given_laid passed given), refl),
+              (
+                waits_as_caller,
+                callers_kept table typed effects unmoved_stage state.memory with_all top.frame.sub depth older outer stages (omega arith) still_called running.2,
+              ),
+            );
+            path = begins (first_point table typed effects ready n called.procedure.named called.procedure.stands
+                called.procedure.point called.procedure.points called.procedure.begins);
+            sound = subst (λ z. Sound (home s (suc depth)) (Elsewhere program effects (waits_there ∷ older)) (seen s with_all z (state.leaks ++ [])) []) (sym hands_there)
+                (subst (λ z. Sound (home s (suc depth)) (Elsewhere program effects (waits_there ∷ older)) (seen s with_all (waiting_in state) z) []) (sym (append-nil state.leaks))
+                same_owners.0.0);
+            kept = subst (Kept s with_all) (sym hands_there) same_owners.0.1;
+            named = called.procedure.named;
+            of_sub = called.procedure.stands;
+            point = called.procedure.point;
+            at_point = ([], called.procedure.points, called.procedure.begins, refl);
+            scope = λ f x q k held. elim (scope f x q k (sym (held_before f x q) ∙ held)) [
+              | inl less ↦ inl (omega (arith, less))
+              | inr mine ↦ (let is = mine.0 in inl (omega (arith, is)))
+            ];
+          },
+          calls_one waits_there refl (refl, refl, refl) refl none_new same_owners.1,
+        )
 
       pub calls_it : Along (turn main_turn (Call n actuals None))
       calls_it =
