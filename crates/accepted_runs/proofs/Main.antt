@@ -1,5 +1,5 @@
--- The runs of the programs of both classes that `check` accepts are sound, and in those of the first
--- class no excused leak check fails.
+-- The runs of the programs of both classes that `check` accepts are sound, and no excused leak check
+-- fails in them.
 use Rattle.std.proofs.Common.{◌≡◌, ℕ, List, Some}
 use Rattle.spark_base.specs.declared.limits.TheConstants.{TOKENS, SOURCE_BYTES}
 use Rattle.ada_tree.specs.declared.unit.SourceUnit.{SourceUnit}
@@ -13,7 +13,9 @@ use Rattle.sound_files.specs.Class.{IsPlainText, CallsNothing, CallsProcedures, 
 use Rattle.sound_files.proofs.Main.{parsed_sound}
 use Rattle.sound_files.proofs.Procedures.{parsed_procedures_sound}
 use Rattle.exact_facts.specs.Exact.{RunHolds}
-use Rattle.excused_runs.proofs.Files.{parsed_hold}
+use Rattle.excused_runs.proofs.Files.{parsed_hold, parsed_procedures_hold}
+use Rattle.null_places.specs.Cleared.{RunsWithNull}
+use Rattle.null_runs.proofs.Files.{parsed_with_null, parsed_procedures_with_null}
 use Rattle.command_words.specs.Words.{Check}
 use Rattle.run_command.specs.Answers.{Answer}
 use Rattle.spark_tool.specs.Commands.{command_of}
@@ -69,10 +71,44 @@ passed_procedures_sound texts trees effects passes class input =
     parsed_procedures_sound trees passes.cuts (are_parsed texts 0 TOKENS passes.cuts trees passes.cut passes.parsed) passes.named passes.typed class.text
     class.procedures effects passes.effects_are passes.none class.calls input
 
--- If the tool answers a check with status 0, and the program is in this class, its runs are sound.
+pub passed_procedures_hold : (texts : List (List ℕ)) (trees : List (List SourceUnit)) (effects : Effects) → Passes texts trees effects → AreInSecondClass trees
+    → RunsHold trees effects
+passed_procedures_hold texts trees effects passes class input =
+    parsed_procedures_hold trees passes.cuts (are_parsed texts 0 TOKENS passes.cuts trees passes.cut passes.parsed) passes.named passes.typed class.text
+    class.procedures effects passes.effects_are passes.none class.calls input
+
+-- If the tool answers a check with status 0, and the program is in this class, its runs are sound, and
+-- no excused leak check fails in them.
 pub accepted_procedures_sound : (stored : List (List ℕ × List ℕ)) (input : List ℕ) (words names : List (List ℕ)) (answer : Answer)
     → command_of words ≡ Some (Check names) → Product stored input words answer → answer.status ≡ 0
-    → (is : Passed (sources stored 0 SOURCE_BYTES names)) × (AreInSecondClass is.trees → RunsAreSound is.trees)
+    → (is : Passed (sources stored 0 SOURCE_BYTES names)) × (AreInSecondClass is.trees → RunsAreSound is.trees × RunsHold is.trees is.effects)
 accepted_procedures_sound stored input words names answer command product zero =
     let is : Passed (sources stored 0 SOURCE_BYTES names) = product_passed stored input words names answer command product zero in
-    (is, passed_procedures_sound is.texts is.trees is.effects is.passes)
+    (is, λ class. (passed_procedures_sound is.texts is.trees is.effects is.passes class, passed_procedures_hold is.texts is.trees is.effects is.passes class))
+
+-- ---- null in moved places
+
+-- With each budget a run gives the same with null in moved places.
+abbrev pub RunsAreWithNull : List (List SourceUnit) → Type 0
+RunsAreWithNull trees = (input : List ℕ) → RunsWithNull (flow_of trees) input
+
+pub passed_with_null : (texts : List (List ℕ)) (trees : List (List SourceUnit)) (effects : Effects) → Passes texts trees effects → AreInClass trees
+    → RunsAreWithNull trees
+passed_with_null texts trees effects passes class input =
+    parsed_with_null trees passes.cuts (are_parsed texts 0 TOKENS passes.cuts trees passes.cut passes.parsed) passes.named passes.typed class.text
+    effects passes.effects_are passes.none class.calls input
+
+pub passed_procedures_with_null : (texts : List (List ℕ)) (trees : List (List SourceUnit)) (effects : Effects) → Passes texts trees effects → AreInSecondClass trees
+    → RunsAreWithNull trees
+passed_procedures_with_null texts trees effects passes class input =
+    parsed_procedures_with_null trees passes.cuts (are_parsed texts 0 TOKENS passes.cuts trees passes.cut passes.parsed) passes.named passes.typed class.text
+    class.procedures effects passes.effects_are passes.none class.calls input
+
+-- If the tool answers a check with status 0, and the program is in one of the classes, so it is.
+pub accepted_with_null : (stored : List (List ℕ × List ℕ)) (input : List ℕ) (words names : List (List ℕ)) (answer : Answer)
+    → command_of words ≡ Some (Check names) → Product stored input words answer → answer.status ≡ 0
+    → (is : Passed (sources stored 0 SOURCE_BYTES names))
+    × (AreInClass is.trees → RunsAreWithNull is.trees) × (AreInSecondClass is.trees → RunsAreWithNull is.trees)
+accepted_with_null stored input words names answer command product zero =
+    let is : Passed (sources stored 0 SOURCE_BYTES names) = product_passed stored input words names answer command product zero in
+    (is, passed_with_null is.texts is.trees is.effects is.passes, passed_procedures_with_null is.texts is.trees is.effects is.passes)

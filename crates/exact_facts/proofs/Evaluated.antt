@@ -47,7 +47,7 @@ module _ (h : Here) (settled : IsSettled h.typing.table) (leaks : List Leak) (wa
 
   -- Facts are exact where an evaluation is done.
   abbrev pub ExactTo : {A : Type 0} → List Fact → Evaluated A → Type 0
-  ExactTo facts (Done a n) = IsExact h.typing h.frame n.memory facts
+  ExactTo facts (Done a n) = IsExact h.typing h.frame other n.memory facts
   ExactTo facts (Raises e n) = Unit {0}
   ExactTo facts (Traps t n) = Unit {0}
 
@@ -59,9 +59,9 @@ module _ (h : Here) (settled : IsSettled h.typing.table) (leaks : List Leak) (wa
 
   -- what changes no memory
   pub quiet_exact : (m : Memory) (P : List machine.Word → Type 0) (facts facts' : List Fact) (x : Evaluated (List machine.Word))
-      → Quiet (record { memory = m; waits = waits }) P x → facts' ≡ facts → IsExact h.typing h.frame m facts → ExactTo facts' x
+      → Quiet (record { memory = m; waits = waits }) P x → facts' ≡ facts → IsExact h.typing h.frame other m facts → ExactTo facts' x
   quiet_exact m P facts facts' (Done a n) (same, p) less exact =
-      subst (λ (z : Now). IsExact h.typing h.frame z.memory facts') (sym same) (subst (IsExact h.typing h.frame m) (sym less) exact)
+      subst (λ (z : Now). IsExact h.typing h.frame other z.memory facts') (sym same) (subst (IsExact h.typing h.frame other m) (sym less) exact)
   quiet_exact m P facts facts' (Raises e n) is less exact = tt
   quiet_exact m P facts facts' (Traps t n) none less exact = tt
 
@@ -82,7 +82,7 @@ module _ (h : Here) (settled : IsSettled h.typing.table) (leaks : List Leak) (wa
   -- ---- names
 
   -- what a place has is taken, where its type owns
-  owner_exact : (m : Memory) (hands : List Waiting) (facts : List Fact) (w : Way) (t : ℕ) → ReadyIn m hands facts → IsExact h.typing h.frame m facts
+  owner_exact : (m : Memory) (hands : List Waiting) (facts : List Fact) (w : Way) (t : ℕ) → ReadyIn m hands facts → IsExact h.typing h.frame other m facts
       → Named (home h.typing h.frame) w → is_owning h.typing.table t ≡ true → Allows facts (act.Move (ways.name_of w) (parts h.typing.table t))
       → (x : Evaluated Place) → Walked h.typing settled hands leaks m waits w t x
       → ExactTo (effect (act.Move (ways.name_of w) (parts h.typing.table t)) facts) (followed_by x (held_or_taken h AsValue))
@@ -91,8 +91,8 @@ module _ (h : Here) (settled : IsSettled h.typing.table) (leaks : List Leak) (wa
       (subst (λ b. ExactTo (effect (act.Move (ways.name_of w) (parts h.typing.table t)) facts)
       (Done (words_of h.typing m k) (if b then record { memory = moved_out h.typing k m; waits = waits } else record { memory = m; waits = waits })))
       (sym (ap (is_owning h.typing.table) of ∙ owns))
-      (subst (λ u. IsExact h.typing h.frame (moved_out h.typing k m) (effect (act.Move (ways.name_of w) (parts h.typing.table u)) facts)) of
-      (taken_exact h.typing settled h.frame other m hands leaks facts k l w ready.sound (λ v u o. alone v (near_under h.frame w v u (named_near h.typing h.frame w named)) o) ready.kept spot named reaches
+      (subst (λ u. IsExact h.typing h.frame other (moved_out h.typing k m) (effect (act.Move (ways.name_of w) (parts h.typing.table u)) facts)) of
+      (taken_exact h.typing settled h.frame other alone m hands leaks facts k l w ready.sound (λ v u o. alone v (near_under h.frame w v u (named_near h.typing h.frame w named)) o) ready.kept spot named reaches
       (live_trunk h settled leaks waits other alone keeps no_formals index_law own_law all_named m hands ready.sound.owned w l
       (named_rooted (home h.typing h.frame) w named) reaches)
       (subst (λ u. Allows facts (act.Move (ways.name_of w) (parts h.typing.table u))) (sym of) allowed) exact)))
@@ -100,7 +100,7 @@ module _ (h : Here) (settled : IsSettled h.typing.table) (leaks : List Leak) (wa
   owner_exact m hands facts w t ready exact named owns allowed (Traps e n) none = tt
 
   -- a copy of what doesn't own
-  copy_exact : (m : Memory) (hands : List Waiting) (facts : List Fact) (w : Way) (t : ℕ) → IsExact h.typing h.frame m facts
+  copy_exact : (m : Memory) (hands : List Waiting) (facts : List Fact) (w : Way) (t : ℕ) → IsExact h.typing h.frame other m facts
       → is_owning h.typing.table t ≡ false → (x : Evaluated Place) → Walked h.typing settled hands leaks m waits w t x
       → ExactTo facts (followed_by x (held_or_taken h AsValue))
   copy_exact m hands facts w t exact none (Done k n) (l, same, spot, reaches, of) =
@@ -112,7 +112,7 @@ module _ (h : Here) (settled : IsSettled h.typing.table) (leaks : List Leak) (wa
 
   -- a name that is moved, or read
   name_exact : (x : ℕ) (steps : TypedTree) (t : ℕ) (m : Memory) (hands : List Waiting) (facts : List Fact) (ready : ReadyIn m hands facts)
-      → IsExact h.typing h.frame m facts → Allows facts (used h.typing (name_of x steps) t)
+      → IsExact h.typing h.frame other m facts → Allows facts (used h.typing (name_of x steps) t)
       → (way : List run.Step) → Goes h.typing.table (object_at h.typing x).of t steps way
       → (b : Bool) → is_owning h.typing.table t ≡ b
       → ExactTo (effect (used h.typing (name_of x steps) t) facts)
@@ -156,7 +156,7 @@ module _ (h : Here) (settled : IsSettled h.typing.table) (leaks : List Leak) (wa
     where
       by_test : (b : Bool) → ExactTo facts
           (if b then Done (machine.Cell (suc (length k.memory.cells)) ∷ []) (record k { memory = with_new_cell t ws k.memory }) else Raises StorageError k)
-      by_test true = made_exact h.typing settled h.frame k.memory (record { of = t; words = ws } ∷ hands) leaks t ws facts ready.sound.owned exact
+      by_test true = made_exact h.typing settled h.frame other alone k.memory (record { of = t; words = ws } ∷ hands) leaks t ws facts ready.sound.owned exact
       by_test false = tt
   allocated_exact t hands facts (Raises e k) given exact = tt
   allocated_exact t hands facts (Traps e k) given exact = tt
@@ -165,7 +165,7 @@ module _ (h : Here) (settled : IsSettled h.typing.table) (leaks : List Leak) (wa
 
   then_parts : (u : ℕ) (hands : List Waiting) (facts facts' : List Fact) (x : Evaluated (List machine.Word))
       (f : List machine.Word → Now → Evaluated (List machine.Word)) → GivenIn u hands facts x → ExactTo facts x
-      → ((ws : List machine.Word) (n : Now) → GivenIn u hands facts (Done ws n) → IsExact h.typing h.frame n.memory facts → ExactTo facts' (f ws n))
+      → ((ws : List machine.Word) (n : Now) → GivenIn u hands facts (Done ws n) → IsExact h.typing h.frame other n.memory facts → ExactTo facts' (f ws n))
       → ExactTo facts' (followed_by x f)
   then_parts u hands facts facts' (Done ws n) f given exact next = next ws n given exact
   then_parts u hands facts facts' (Raises e n) f given exact next = tt
@@ -173,7 +173,7 @@ module _ (h : Here) (settled : IsSettled h.typing.table) (leaks : List Leak) (wa
 
   -- a scalar expression
   scalar_exact : (e : TypedTree) → Stays h.typing e → has_call e ≡ false → (m : Memory) (hands : List Waiting) (facts : List Fact) → ReadyIn m hands facts
-      → AllowsAll facts (acts (acts_in h.typing e)) → IsExact h.typing h.frame m facts
+      → AllowsAll facts (acts (acts_in h.typing e)) → IsExact h.typing h.frame other m facts
       → ExactTo (after (acts (acts_in h.typing e)) facts) (evaluate h AsValue e (record { memory = m; waits = waits }))
   scalar_exact e stays calls m hands facts ready allowed exact =
       let live = live_trunk h settled leaks waits other alone keeps no_formals index_law own_law all_named m hands ready.sound.owned in
@@ -184,7 +184,7 @@ module _ (h : Here) (settled : IsSettled h.typing.table) (leaks : List Leak) (wa
     unfolding Gives GivesParts GivesFirst Stays evaluate initial parts_of acts_in has_call
 
     pub exact_after : (e : TypedTree) (want : ℕ) → Gives h.typing want e → has_call e ≡ false → (m : Memory) (hands : List Waiting) (facts : List Fact)
-        → ReadyIn m hands facts → AllowsAll facts (acts (acts_in h.typing e)) → IsExact h.typing h.frame m facts
+        → ReadyIn m hands facts → AllowsAll facts (acts (acts_in h.typing e)) → IsExact h.typing h.frame other m facts
         → ExactTo (after (acts (acts_in h.typing e)) facts) (evaluate h AsValue e (record { memory = m; waits = waits }))
     exact_after (Number v) want scalar calls m hands facts ready allowed exact = exact
     exact_after (Literal v) want scalar calls m hands facts ready allowed exact = exact
@@ -246,7 +246,7 @@ module _ (h : Here) (settled : IsSettled h.typing.table) (leaks : List Leak) (wa
 
     -- the parts of an aggregate from the i-th on
     parts_exact : (es : TypedTree) (t i : ℕ) → GivesParts h.typing t i es → has_call es ≡ false → (m : Memory) (hands : List Waiting) (facts : List Fact)
-        → ReadyIn m hands facts → AllowsAll facts (acts (acts_in h.typing es)) → IsExact h.typing h.frame m facts
+        → ReadyIn m hands facts → AllowsAll facts (acts (acts_in h.typing es)) → IsExact h.typing h.frame other m facts
         → ExactTo (after (acts (acts_in h.typing es)) facts) (parts_of h t i es (record { memory = m; waits = waits }))
     parts_exact (More e rest) t i gives calls m hands facts ready allowed exact =
         let now : Now = record { memory = m; waits = waits } in

@@ -1,11 +1,9 @@
 -- Facts without an element stay exact in instructions, and excused leak checks don't fail:
 -- declarations, assignments, the ends of scopes, releases, and what changes nothing.
 use Rattle.std.proofs.Common.{◌≡◌, refl, sym, ap, ◌∙◌, subst, inl, inr, ℕ, Bool, true, false, not, List, [], ◌∷◌, ◌++◌, map, length, nat_lt, append-nil, Option, Some, None, if◌then◌else◌}
-use Rattle.spark_base.specs.Lists.{Has}
 use Rattle.spark_base.specs.declared.position.Pos.{Pos}
 use Rattle.place_names.specs.declared.act.Act.TheVariants as act
 use Rattle.place_names.specs.declared.fact.Fact.{Fact}
-use Rattle.place_names.specs.declared.fact.Fact.TheVariants.{Moved}
 use Rattle.place_names.specs.Names.{Name as PlaceName, object}
 use Rattle.place_names.specs.Facts.{effect}
 use Rattle.type_definitions.specs.declared.table.Shape.TheVariants as shape
@@ -27,8 +25,7 @@ use Rattle.machine.specs.States.{Waiting, State, Outcome, Goes, Ends}
 use Rattle.machine.specs.Step.{Turn, typing, here, start, Stored, first_value, taken_by, declare, assign, end_scope, goes, leaking_goes, target_pos}
 use Rattle.machine.specs.Step as steps
 use Rattle.machine.specs.Owners.{waiting_in}
-use Rattle.owned_ways.specs.Ways.{OfVariable, OfRoot, Way, Object, after, AllowsAll, name_of as way_name}
-use Rattle.owned_ways.proofs.Named.{longer}
+use Rattle.owned_ways.specs.Ways.{OfVariable, OfRoot, Way, Object, Under, IsMoved, after, AllowsAll}
 use Rattle.part_offsets.specs.Parts.{IsSettled}
 use Rattle.soundness.specs.Seen.{content, home, IsNear, is_view_formal}
 use Rattle.soundness.specs.Typed.{OwnsByShape}
@@ -37,6 +34,7 @@ use Rattle.soundness.proofs.Contents.{checks_made}
 use Rattle.soundness.proofs.Steps.{alike}
 use Rattle.soundness.proofs.Scalars.{acts}
 use Rattle.soundness.proofs.Stays.{Quiet, One, quiet}
+use Rattle.soundness.proofs.Near.{near_under}
 use Rattle.soundness.proofs.Numbers.{index_law}
 use Rattle.soundness.proofs.Defaults.{none_default}
 use Rattle.soundness.proofs.Lasting.{keeps, lengths}
@@ -72,7 +70,7 @@ module _ (t : Turn) (settled : IsSettled (typing t).table) (own_law : OwnsByShap
 
   -- Facts are exact where the step goes on, and of these leak checks none fails that is excused.
   abbrev pub ExactOn : List Fact → List LeakSpot → Outcome → Type 0
-  ExactOn facts spots (Goes state) = IsExact s depth state.memory facts × NoneFails Excused spots state.checks
+  ExactOn facts spots (Goes state) = IsExact s depth other state.memory facts × NoneFails Excused spots state.checks
   ExactOn facts spots (Ends e state) = NoneFails Excused spots state.checks
 
   abbrev ExactIn : {A : Type 0} → List Fact → Evaluated A → Type 0
@@ -88,7 +86,7 @@ module _ (t : Turn) (settled : IsSettled (typing t).table) (own_law : OwnsByShap
     -- ---- declarations
 
     source_exact : (u : ℕ) (e : TypedTree) → Source s u e → has_call e ≡ false → (facts : List Fact)
-        → HoldsHere facts t.state → AllowsAll facts (acts (acts_in s e)) → IsExact s depth t.state.memory facts
+        → HoldsHere facts t.state → AllowsAll facts (acts (acts_in s e)) → IsExact s depth other t.state.memory facts
         → ExactIn (after (acts (acts_in s e)) facts) (taken_by t u e now)
     source_exact u e (inl (view, is)) calls facts holds allowed exact = (let no : true ≡ false = sym view ∙ not_anonymous s all_named u in cc)
     source_exact u e (inr gives) calls facts holds allowed exact =
@@ -100,7 +98,7 @@ module _ (t : Turn) (settled : IsSettled (typing t).table) (own_law : OwnsByShap
         t.state.memory hands facts (record { sound = holds.0; kept = holds.1 }) allowed exact))
 
     first_exact : (u : ℕ) (v : TypedTree) → FirstSource s u v → has_call v ≡ false → (facts : List Fact) → HoldsHere facts t.state
-        → AllowsAll facts (acts (acts_in s v)) → IsExact s depth t.state.memory facts → ExactIn (after (acts (acts_in s v)) facts) (first_value t u v now)
+        → AllowsAll facts (acts (acts_in s v)) → IsExact s depth other t.state.memory facts → ExactIn (after (acts (acts_in s v)) facts) (first_value t u v now)
     unfolding acts_in has_call initial
     first_exact u (More e rest) (last, gives) calls facts holds allowed exact =
         let same : acts_in s e ++ acts_in s rest ≡ acts_in s e = ap (λ z. acts_in s e ++ acts_in s z) last ∙ append-nil (acts_in s e) in
@@ -126,14 +124,21 @@ module _ (t : Turn) (settled : IsSettled (typing t).table) (own_law : OwnsByShap
     )
     first_given u v gives calls facts holds allowed = absurd gives
 
+    -- no fact speaks of a part of the variable
+    abbrev pub IsUnmoved : ℕ → List Fact → Type 0
+    IsUnmoved x facts = (w : Way) → Under (Object (OfVariable (length t.outer) x)) w → IsMoved (home (typing t) (length t.outer)) facts w → ⊥
+
     then_declared : (x : ℕ) (facts : List Fact) (y : Evaluated (List machine.Word))
         → Given_here t settled own_law other alone no_formals all_named frames (object_at s x).of facts y
-        → ExactIn facts y → ((name : PlaceName) → Has facts (Moved name) → name.root ≡ x → ⊥)
+        → ExactIn facts y → IsUnmoved x facts
         → ExactOn facts [] (steps.evaluated t y (λ ws m. goes t (declared depth x ws m) 0))
     then_declared x facts (Done ws n) (ready, long, same) exact no_fact = (
-      declared_exact s settled depth other n.memory (record { of = (object_at s x).of; words = ws }) hands t.state.leaks facts depth x t.point.pos
+      declared_exact s settled depth other alone n.memory (record { of = (object_at s x).of; words = ws }) hands t.state.leaks facts depth x t.point.pos
           ready.sound ready.kept (no_formals x) long (alike s.table settled (object_at s x).of (object_at s x).of (inl refl))
-          (λ w definite u. no_fact (way_name w) definite.0.1 (longer (Object (OfVariable depth x)) w u).root) exact,
+          (λ w definite u. elim definite [
+            | inl mine ↦ no_fact w u mine.0
+            | inr elsewhere ↦ alone w (near_under depth (Object (OfVariable depth x)) w u (inr refl)) elsewhere.1
+          ]) exact,
       tt,
     )
     then_declared x facts (Raises e n) given exact no_fact = tt
@@ -142,8 +147,8 @@ module _ (t : Turn) (settled : IsSettled (typing t).table) (own_law : OwnsByShap
     pub declare_exact : (x : ℕ) (v : TypedTree) → FirstSource s (object_at s x).of v → has_call v ≡ false
         → (facts : List Fact) → HoldsHere facts t.state
         → AllowsAll facts (acts (declared_acts s x v))
-        → ((name : PlaceName) → Has (after (acts (declared_acts s x v)) facts) (Moved name) → name.root ≡ x → ⊥)
-        → IsExact s depth t.state.memory facts
+        → IsUnmoved x (after (acts (declared_acts s x v)) facts)
+        → IsExact s depth other t.state.memory facts
         → ExactOn (after (acts (declared_acts s x v)) facts) [] (declare t x v)
     declare_exact x v gives calls facts holds allowed no_fact exact =
         let same : declared_acts s x v ≡ acts_in s v =
@@ -155,7 +160,7 @@ module _ (t : Turn) (settled : IsSettled (typing t).table) (own_law : OwnsByShap
         (then_declared x (after (acts (acts_in s v)) facts) (first_value t (object_at s x).of v now)
         (first_given (object_at s x).of v gives calls facts holds (subst (λ z. AllowsAll facts (acts z)) same allowed))
         (first_exact (object_at s x).of v gives calls facts holds (subst (λ z. AllowsAll facts (acts z)) same allowed) exact)
-        (λ name has. no_fact name (subst (λ z. Has (after (acts z) facts) (Moved name)) (sym same) has))))
+        (subst (λ z. IsUnmoved x (after (acts z) facts)) same no_fact)))
 
     -- ---- assignments
 
@@ -178,7 +183,7 @@ module _ (t : Turn) (settled : IsSettled (typing t).table) (own_law : OwnsByShap
     pub assign_exact : (pos p : Pos) (x u : ℕ) (path e : TypedTree) → Source s u e → Leads s (object_at s x).of path u
         → has_call e ≡ false → has_call path ≡ false → (facts : List Fact) → HoldsHere facts t.state
         → AllowsAll facts (acts (assigned_to s pos (whole (Name p x path u)) (Name p x path u) e))
-        → IsExact s depth t.state.memory facts
+        → IsExact s depth other t.state.memory facts
         → (count : ℕ) → Knows Excused p (name_of x path) count (after (acts (acts_in s e ++ acts_in s path)) facts) (parts s.table u)
         → ExactOn (after (acts (assigned_to s pos (whole (Name p x path u)) (Name p x path u) e)) facts)
         (map (spot p (name_of x path) count) (parts s.table u)) (assign t (Name p x path u) e)
@@ -205,22 +210,22 @@ module _ (t : Turn) (settled : IsSettled (typing t).table) (own_law : OwnsByShap
 
     -- `mine`: the object is one of the frame
     pub end_scope_exact : (x : ℕ) (borrower : Bool) → home s depth x ≡ depth → (facts : List Fact) → HoldsHere facts t.state
-        → IsExact s depth t.state.memory facts
+        → IsExact s depth other t.state.memory facts
         → (pos : Pos) (count : ℕ) → Knows Excused pos (object x) count facts (parts s.table (object_at s x).of)
         → ExactOn (effect (act.EndScope x borrower) facts) (map (spot pos (object x) count) (parts s.table (object_at s x).of)) (end_scope t x)
     end_scope_exact x borrower mine facts holds exact pos count known =
         let m : Memory = t.state.memory in
         let checks = checks_made s.table settled (content s m hands (OfRoot (OfVariable (home s depth x) x))) [] (object_at s x).of t.point.pos t.state.leaks refl
         (ap not (no_formals x)) (alike s.table settled (object_at s x).of (object_at s x).of (inl refl)) in (
-          subst (λ f. IsExact s depth (undeclared f x m) (effect (act.EndScope x borrower) facts)) mine
-              (ended_exact s settled depth m hands t.state.leaks _ facts x borrower holds.0.owned checks exact),
-          place_holds s settled depth m hands t.state.leaks facts exact (variable_place (here t) x) (OfRoot (OfVariable (home s depth x) x)) (Object (OfVariable (home s depth x) x))
+          subst (λ f. IsExact s depth other (undeclared f x m) (effect (act.EndScope x borrower) facts)) mine
+              (ended_exact s settled depth other alone m hands t.state.leaks _ facts x borrower holds.0.owned checks exact),
+          place_holds s settled depth other m hands t.state.leaks facts exact (variable_place (here t) x) (OfRoot (OfVariable (home s depth x) x)) (Object (OfVariable (home s depth x) x))
               (record { base = refl; made = tt; at = refl; there = refl; of = inl refl }) refl refl Excused t.point.pos pos count known,
         )
 
     -- ---- what changes nothing
 
-    quiet_on : {A : Type 0} (P : A → Type 0) (facts : List Fact) → IsExact s depth t.state.memory facts → (y : Evaluated A) → Quiet now P y → (f : A → Memory → Outcome)
+    quiet_on : {A : Type 0} (P : A → Type 0) (facts : List Fact) → IsExact s depth other t.state.memory facts → (y : Evaluated A) → Quiet now P y → (f : A → Memory → Outcome)
         → ((a : A) → P a → ExactOn facts [] (f a t.state.memory)) → ExactOn facts [] (steps.evaluated t y f)
     quiet_on P facts exact (Done a n) (same, p) f next = subst (λ (z : Now). ExactOn facts [] (f a z.memory)) (sym same) (next a p)
     quiet_on P facts exact (Raises e n) is f next = tt
@@ -228,7 +233,7 @@ module _ (t : Turn) (settled : IsSettled (typing t).table) (own_law : OwnsByShap
 
     -- a scalar expression, and what is done with its value
     pub value_exact : (e : TypedTree) → Stays s e → has_call e ≡ false → (facts : List Fact) → HoldsHere facts t.state → AllowsAll facts (acts (acts_in s e))
-        → IsExact s depth t.state.memory facts → (f : List machine.Word → Memory → Outcome) → ((ws : List machine.Word) → ExactOn facts [] (f ws t.state.memory))
+        → IsExact s depth other t.state.memory facts → (f : List machine.Word → Memory → Outcome) → ((ws : List machine.Word) → ExactOn facts [] (f ws t.state.memory))
         → ExactOn (after (acts (acts_in s e)) facts) [] (steps.evaluated t (value (here t) e (start t)) f)
     value_exact e stays calls facts holds allowed exact f next =
         let q = quiet (here t) settled hands t.state.leaks t.state.memory [] other facts holds.1 holds.0 alone
@@ -239,12 +244,12 @@ module _ (t : Turn) (settled : IsSettled (typing t).table) (own_law : OwnsByShap
         (quiet_on One facts exact (value (here t) e now) q.0 f (λ ws one. next ws)))
 
     pub test_exact : (e : TypedTree) → Stays s e → has_call e ≡ false → (facts : List Fact) → HoldsHere facts t.state → AllowsAll facts (acts (acts_in s e))
-        → IsExact s depth t.state.memory facts → ExactOn (after (acts (acts_in s e)) facts) [] (steps.test t e 0 1)
+        → IsExact s depth other t.state.memory facts → ExactOn (after (acts (acts_in s e)) facts) [] (steps.test t e 0 1)
     test_exact e stays calls facts holds allowed exact =
         value_exact e stays calls facts holds allowed exact (λ ws m. goes t m (if run.is_true ws then 0 else 1)) (λ ws. (exact, tt))
 
     pub choose_exact : (e : TypedTree) (choices : List TypedCode) → Stays s e → has_call e ≡ false → (facts : List Fact) → HoldsHere facts t.state
-        → AllowsAll facts (acts (acts_in s e)) → IsExact s depth t.state.memory facts → ExactOn (after (acts (acts_in s e)) facts) [] (steps.choose t e choices)
+        → AllowsAll facts (acts (acts_in s e)) → IsExact s depth other t.state.memory facts → ExactOn (after (acts (acts_in s e)) facts) [] (steps.choose t e choices)
     choose_exact e choices stays calls facts holds allowed exact =
         value_exact e stays calls facts holds allowed exact (λ ws m. steps.chosen t (length choices) (steps.choice choices ws) m)
         (λ ws. by_test (steps.choice choices ws) (nat_lt (steps.choice choices ws) (length choices)))
@@ -254,7 +259,7 @@ module _ (t : Turn) (settled : IsSettled (typing t).table) (own_law : OwnsByShap
         by_test k false = tt
 
     pub leave_loop_exact : (e rest : TypedTree) → rest ≡ NoMore → Stays s e → has_call e ≡ false → (facts : List Fact) → HoldsHere facts t.state
-        → AllowsAll facts (acts (acts_in s (More e rest))) → IsExact s depth t.state.memory facts
+        → AllowsAll facts (acts (acts_in s (More e rest))) → IsExact s depth other t.state.memory facts
         → ExactOn (after (acts (acts_in s (More e rest))) facts) [] (steps.leave_loop t (More e rest))
     unfolding acts_in
     leave_loop_exact e rest last stays calls facts holds allowed exact =
@@ -262,5 +267,5 @@ module _ (t : Turn) (settled : IsSettled (typing t).table) (own_law : OwnsByShap
         subst (λ z. ExactOn (after (acts z) facts) [] (steps.test t e 0 1)) (sym same)
         (test_exact e stays calls facts holds (subst (λ z. AllowsAll facts (acts z)) same allowed) exact)
 
-    pub skip_exact : (facts : List Fact) → IsExact s depth t.state.memory facts → ExactOn facts [] (steps.turn t Skip)
+    pub skip_exact : (facts : List Fact) → IsExact s depth other t.state.memory facts → ExactOn facts [] (steps.turn t Skip)
     skip_exact facts exact = (exact, tt)

@@ -52,7 +52,7 @@ use Rattle.soundness.proofs.Instructions.{Holds, Gets, start_is}
 use Rattle.soundness.proofs.Loops.{Starts, scalar_same}
 use Rattle.exact_facts.specs.Exact.{IsExact}
 use Rattle.exact_facts.proofs.Steps.{IsPlaced, keeps_placed, told_still}
-use Rattle.exact_facts.proofs.Memories.{told_seen, exact_from, stored_exact}
+use Rattle.exact_facts.proofs.Memories.{clear_names, told_seen, exact_from, stored_exact}
 use Rattle.exact_facts.proofs.Instructions.{ExactOn}
 
 module _ (t : Turn) (settled : IsSettled (typing t).table) (own_law : OwnsByShape (typing t).table) (other : Way → Type 0)
@@ -77,17 +77,17 @@ module _ (t : Turn) (settled : IsSettled (typing t).table) (own_law : OwnsByShap
   abbrev ExactHere : List Fact → Outcome → Type 0
   ExactHere facts outcome = ExactOn t settled own_law other alone no_formals all_named frames Excused facts [] outcome
 
-  same_exact : (next : Memory) (facts : List Fact) → IsSame (seen s m hands t.state.leaks) (seen s next hands t.state.leaks) → IsExact s depth m facts
-      → IsExact s depth next facts
+  same_exact : (next : Memory) (facts : List Fact) → IsSame (seen s m hands t.state.leaks) (seen s next hands t.state.leaks) → IsExact s depth other m facts
+      → IsExact s depth other next facts
   same_exact next facts same exact =
-      exact_from s depth (seen s next hands t.state.leaks) next hands facts (λ l. refl)
-      (told_still (home s depth) (seen s m hands t.state.leaks) (seen s next hands t.state.leaks) IsPlaced facts
+      exact_from s depth other (seen s next hands t.state.leaks) next hands facts (λ l. refl)
+      (told_still (home s depth) other (clear_names s depth other alone) (seen s m hands t.state.leaks) (seen s next hands t.state.leaks) IsPlaced facts (λ f x. tt)
       (keeps_placed (seen s m hands t.state.leaks) (seen s next hands t.state.leaks) (λ l n p h. sym (same.word l) ∙ h))
-      (λ l p gone. same.word l ∙ gone) (told_seen s depth m hands t.state.leaks facts exact))
+      (λ l p gone. same.word l ∙ gone) (told_seen s depth other m hands t.state.leaks facts exact))
 
   -- ---- iterations
 
-  next_by : (x : ℕ) → is_scalar (full s.table (object_at s x).of) ≡ true → (facts : List Fact) → IsExact s depth m facts
+  next_by : (x : ℕ) → is_scalar (full s.table (object_at s x).of) ≡ true → (facts : List Fact) → IsExact s depth other m facts
       → (ws : List machine.Word) (v : Option ℤ) → ExactHere facts (steps.turned_to t x (variable_place (here t) x) ws v)
   next_by x scalar facts exact ws (Some v) =
       let k : Place = variable_place (here t) x in
@@ -105,7 +105,7 @@ module _ (t : Turn) (settled : IsSettled (typing t).table) (own_law : OwnsByShap
         tt,
       )
 
-  pub next_exact : (x : ℕ) (reversed : Bool) → is_scalar (full s.table (object_at s x).of) ≡ true → (facts : List Fact) → IsExact s depth m facts
+  pub next_exact : (x : ℕ) (reversed : Bool) → is_scalar (full s.table (object_at s x).of) ≡ true → (facts : List Fact) → IsExact s depth other m facts
       → ExactHere facts (steps.next_turn t x reversed)
   next_exact x reversed scalar facts exact =
       let ws : List machine.Word = words_of s m (variable_place (here t) x) in
@@ -122,7 +122,7 @@ module _ (t : Turn) (settled : IsSettled (typing t).table) (own_law : OwnsByShap
     Both b = One b.low × One b.high
 
     then_started : (x : ℕ) (f : steps.Bounds → Memory → Outcome) → Starts t settled own_law other alone no_formals all_named frames none x f
-        → is_scalar (full s.table (object_at s x).of) ≡ true → (facts : List Fact) → IsExact s depth m facts
+        → is_scalar (full s.table (object_at s x).of) ≡ true → (facts : List Fact) → IsExact s depth other m facts
         → (y : Evaluated steps.Bounds) → Quiet now Both y → ExactHere facts (steps.evaluated t y f)
     then_started x f starts scalar facts exact (Done b n) (same, both) =
         let next : Memory = declared depth x b.low m in
@@ -139,7 +139,7 @@ module _ (t : Turn) (settled : IsSettled (typing t).table) (own_law : OwnsByShap
     started_by : (x : ℕ) (f : steps.Bounds → Memory → Outcome) (low high : TypedTree) → Starts t settled own_law other alone no_formals all_named frames none x f
         → is_scalar (full s.table (object_at s x).of) ≡ true
         → Stays s low → Stays s high → has_call low ≡ false → has_call high ≡ false → (facts : List Fact) → HoldsHere facts t.state
-        → AllowsAll facts (acts (acts_in s low ++ acts_in s high)) → IsExact s depth m facts
+        → AllowsAll facts (acts (acts_in s low ++ acts_in s high)) → IsExact s depth other m facts
         → ExactHere (after (acts (acts_in s low ++ acts_in s high)) facts) (steps.evaluated t (steps.bounds t low high (start t)) f)
     started_by x f low high starts scalar stays stays' calls calls' facts holds allowed exact =
         let each = allows_both facts (acts (acts_in s low)) (acts (acts_in s high)) (subst (AllowsAll facts) (acts_append (acts_in s low) (acts_in s high)) allowed) in
@@ -159,7 +159,7 @@ module _ (t : Turn) (settled : IsSettled (typing t).table) (own_law : OwnsByShap
 
     pub start_exact : (x : ℕ) (low high : TypedTree) → is_scalar (full s.table (object_at s x).of) ≡ true
         → Stays s low → Stays s high → has_call low ≡ false → has_call high ≡ false → (facts : List Fact) → HoldsHere facts t.state
-        → AllowsAll facts (acts (acts_in s low ++ acts_in s high)) → IsExact s depth m facts
+        → AllowsAll facts (acts (acts_in s low ++ acts_in s high)) → IsExact s depth other m facts
         → ExactHere (after (acts (acts_in s low ++ acts_in s high)) facts) (steps.start_loop t x low high)
     start_exact x low high scalar stays stays' calls calls' facts holds allowed exact =
         started_by x _ low high (record {
@@ -194,16 +194,16 @@ module _ (t : Turn) (settled : IsSettled (typing t).table) (own_law : OwnsByShap
         )
     text_quiet e writes calls facts holds allowed = absurd writes
 
-    then_written : (facts : List Fact) → IsExact s depth m facts → (line : Bool) (y : Evaluated (List ℕ)) → Quiet now (Any {A = List ℕ}) y
+    then_written : (facts : List Fact) → IsExact s depth other m facts → (line : Bool) (y : Evaluated (List ℕ)) → Quiet now (Any {A = List ℕ}) y
         → ExactHere facts (steps.evaluated t y (λ bytes m. Goes (record (behind t (waiting t) m 0) {
           output = t.state.output ++ bytes ++ (if line then 10 ∷ [] else []);
         })))
-    then_written facts exact line (Done a n) (same, p) = (subst (λ (z : Now). IsExact s depth z.memory facts) (sym same) exact, tt)
+    then_written facts exact line (Done a n) (same, p) = (subst (λ (z : Now). IsExact s depth other z.memory facts) (sym same) exact, tt)
     then_written facts exact line (Raises e n) is = tt
     then_written facts exact line (Traps e n) never = tt
 
     pub output_exact : (e rest : TypedTree) (line : Bool) → rest ≡ NoMore → Writes s e → has_call e ≡ false → (facts : List Fact) → HoldsHere facts t.state
-        → AllowsAll facts (acts (acts_in s (More e rest))) → IsExact s depth m facts
+        → AllowsAll facts (acts (acts_in s (More e rest))) → IsExact s depth other m facts
         → ExactHere (after (acts (acts_in s (More e rest))) facts) (steps.output t (More e rest) line)
     unfolding acts_in
     output_exact e rest line last writes calls facts holds allowed exact =
@@ -215,7 +215,7 @@ module _ (t : Turn) (settled : IsSettled (typing t).table) (own_law : OwnsByShap
         })))) (sym started) (then_written facts exact line (text_of (here t) e now) q.0))
 
     -- a line that ends without a text
-    pub line_exact : (line : Bool) (facts : List Fact) → IsExact s depth m facts → ExactHere facts (steps.output t NoMore line)
+    pub line_exact : (line : Bool) (facts : List Fact) → IsExact s depth other m facts → ExactHere facts (steps.output t NoMore line)
     unfolding text_of
     line_exact line facts exact = then_written facts exact line (Done [] (start t)) (started, tt)
 
@@ -228,7 +228,7 @@ module _ (t : Turn) (settled : IsSettled (typing t).table) (own_law : OwnsByShap
     ReadyIn memory held facts = Ready (here t) settled t.state.leaks [] other alone (keeps s settled own_law) no_formals index_law own_law all_named memory held facts
 
     module _ (f : Place → Memory → Outcome) (gets : Gets t settled own_law other alone no_formals all_named frames none f) (facts : List Fact)
-        (holds : HoldsHere facts t.state) (exact : IsExact s depth m facts) (u : ℕ) (scalar : is_scalar (full s.table u) ≡ true) (v : ℤ) where
+        (holds : HoldsHere facts t.state) (exact : IsExact s depth other m facts) (u : ℕ) (scalar : is_scalar (full s.table u) ≡ true) (v : ℤ) where
       ready_in : ReadyIn t.state.memory (value_in v u ∷ hands) facts
       ready_in = blank_ready (here t) settled t.state.leaks [] other alone (keeps s settled own_law) no_formals index_law own_law all_named
           t.state.memory hands facts u (machine.Int v ∷ []) (λ k has. elim has [ inl e ↦ cc | inr e ↦ e ]) (record { sound = holds.0; kept = holds.1 })
@@ -247,7 +247,7 @@ module _ (t : Turn) (settled : IsSettled (typing t).table) (own_law : OwnsByShap
                 let owns = live_trunk (here t) settled t.state.leaks [] other alone (keeps s settled own_law) no_formals index_law own_law all_named m (value_in v u ∷ hands)
                 ready_in.sound.owned w l (named_rooted (home s depth) w named) reaches in
                 subst (ExactHere (effect (act.Write (ways.name_of w)) facts)) (sym (gets.at_number k t.state.memory v end next fits)) (
-                  stored_exact s settled depth other m (value_in v u) hands t.state.leaks facts k l w t.point.pos ready_in.sound ready_in.kept place named reaches owns long
+                  stored_exact s settled depth other alone m (value_in v u) hands t.state.leaks facts k l w t.point.pos ready_in.sound ready_in.kept place named reaches owns long
                       (inl (ap (shape_of s.table) (sym of))) exact,
                   tt,
                 ))
@@ -289,7 +289,7 @@ module _ (t : Turn) (settled : IsSettled (typing t).table) (own_law : OwnsByShap
 
     got_by : (f : Place → Memory → Outcome) (p : Pos) (x u : ℕ) (path : TypedTree) → Gets t settled own_law other alone no_formals all_named frames none f
         → is_scalar (full s.table u) ≡ true → Leads s (object_at s x).of path u → has_call path ≡ false → (facts : List Fact) → HoldsHere facts t.state
-        → AllowsAll facts (acts (source_acts s (Name p x path u) out_act)) → IsExact s depth m facts
+        → AllowsAll facts (acts (source_acts s (Name p x path u) out_act)) → IsExact s depth other m facts
         → ExactHere (after (acts (source_acts s (Name p x path u) out_act)) facts) (steps.evaluated t (place_of (here t) (Name p x path u) (start t)) f)
     got_by f p x u path gets scalar lead calls facts holds allowed exact =
         let b : List Act = acts (acts_in s path) in
@@ -321,7 +321,7 @@ module _ (t : Turn) (settled : IsSettled (typing t).table) (own_law : OwnsByShap
             then_got f gets facts holds exact u scalar v (λ w named y is. got_at f gets facts holds exact u scalar v w named y is end e) x path writes (steps_of (here t) path now) q
 
     pub input_exact : (p : Pos) (x u : ℕ) (path : TypedTree) → is_scalar (full s.table u) ≡ true → Leads s (object_at s x).of path u → has_call path ≡ false
-        → (facts : List Fact) → HoldsHere facts t.state → AllowsAll facts (acts (source_acts s (Name p x path u) out_act)) → IsExact s depth m facts
+        → (facts : List Fact) → HoldsHere facts t.state → AllowsAll facts (acts (source_acts s (Name p x path u) out_act)) → IsExact s depth other m facts
         → ExactHere (after (acts (source_acts s (Name p x path u) out_act)) facts) (steps.input t (Name p x path u))
     input_exact p x u path scalar lead calls facts holds allowed exact =
         got_by _ p x u path (record {

@@ -49,7 +49,7 @@ use Rattle.soundness.proofs.Instructions.{Holds, Releases, start_is}
 use Rattle.soundness.proofs.Freeing.{free_way}
 use Rattle.exact_facts.specs.Exact.{IsExact, Knows}
 use Rattle.exact_facts.proofs.Steps.{told_released, told_unfreed}
-use Rattle.exact_facts.proofs.Memories.{told_seen, exact_from}
+use Rattle.exact_facts.proofs.Memories.{clear_names, told_seen, exact_from}
 use Rattle.exact_facts.proofs.Checks.{place_holds}
 use Rattle.exact_facts.proofs.Instructions.{none_made, ExactOn}
 
@@ -79,7 +79,7 @@ module _ (t : Turn) (settled : IsSettled (typing t).table) (own_law : OwnsByShap
   spots_of name pos count u = map (spot pos (extend name (sel.Deref ∷ [])) count) (parts s.table (designated s.table u))
 
   module _ (f : Place → Memory → Outcome) (pos : Pos) (frees_it : Releases t settled own_law other alone no_formals all_named frames none f pos) (facts : List Fact)
-      (holds : HoldsHere facts t.state) (exact : IsExact s depth m facts) (pos' : Pos) (count : ℕ)
+      (holds : HoldsHere facts t.state) (exact : IsExact s depth other m facts) (pos' : Pos) (count : ℕ)
       (u d : ℕ) (access : shape_of s.table u ≡ shape.Access d false true) where
     abbrev seen_here : View
     seen_here = seen s m hands t.state.leaks
@@ -119,7 +119,7 @@ module _ (t : Turn) (settled : IsSettled (typing t).table) (own_law : OwnsByShap
       where
         nothing : (v : ℕ) → ExactHere (effect (act.Free (ways.name_of w)) facts) (spots_of (ways.name_of w) pos' count v) (steps.goes t m 0)
         nothing v = (
-          told_unfreed (home s depth) (seen s m [] []) (act.Free (ways.name_of w)) facts refl exact,
+          told_unfreed (home s depth) other (clear_names s depth other alone) (seen s m [] []) (act.Free (ways.name_of w)) facts refl exact,
           none_made Excused (spots_of (ways.name_of w) pos' count v),
         )
 
@@ -151,10 +151,10 @@ module _ (t : Turn) (settled : IsSettled (typing t).table) (own_law : OwnsByShap
             let freed_there = releases s settled m hands t.state.leaks (t.state.leaks ++ leaks) n k l holds.1 place there.made.0 there.made.1 leaf (live w l rooted reaches) off checks in
             let next : Memory = stored s k (machine.Null ∷ []) (freed n m) in
             subst (ExactHere (effect (act.Free (ways.name_of w)) facts) (spots_of (ways.name_of w) pos' count k.of)) (sym (frees_it.at_cell k m n (word ∙ ap (λ z. z ∷ []) e) alive)) (
-              exact_from s depth (seen s next hands (t.state.leaks ++ leaks)) next hands (effect (act.Free (ways.name_of w)) facts) (λ z. refl)
-                  (told_released (home s depth) seen_here (seen s next hands (t.state.leaks ++ leaks)) w l n facts holds.0.owned freed_there reaches held
-                  (told_seen s depth m hands t.state.leaks facts exact)),
-              place_holds s settled depth m hands t.state.leaks facts exact (cell_place v n) (OfCell n) (All w) in_cell named (l, n, reaches, held, refl) Excused pos pos' count known,
+              exact_from s depth other (seen s next hands (t.state.leaks ++ leaks)) next hands (effect (act.Free (ways.name_of w)) facts) (λ z. refl)
+                  (told_released (home s depth) other (clear_names s depth other alone) seen_here (seen s next hands (t.state.leaks ++ leaks)) w l n facts named holds.0.owned freed_there reaches held
+                  (told_seen s depth other m hands t.state.leaks facts exact)),
+              place_holds s settled depth other m hands t.state.leaks facts exact (cell_place v n) (OfCell n) (All w) in_cell named (l, n, reaches, held, refl) Excused pos pos' count known,
             )
     released_at w named clean known (Raises e n) is = none_made Excused (spots_of (ways.name_of w) pos' count u)
     released_at w named clean known (Traps e n) never = none_made Excused (spots_of (ways.name_of w) pos' count u)
@@ -186,7 +186,7 @@ module _ (t : Turn) (settled : IsSettled (typing t).table) (own_law : OwnsByShap
 
   released_by : (f : Place → Memory → Outcome) (pos p : Pos) (x u d : ℕ) (path : TypedTree) → Releases t settled own_law other alone no_formals all_named frames none f pos
       → shape_of s.table u ≡ shape.Access d false true → Leads s (object_at s x).of path u → has_call path ≡ false → (facts : List Fact) → HoldsHere facts t.state
-      → AllowsAll facts (acts (source_acts s (Name p x path u) act.Free)) → IsExact s depth m facts
+      → AllowsAll facts (acts (source_acts s (Name p x path u) act.Free)) → IsExact s depth other m facts
       → (pos' : Pos) (count : ℕ) → Knows Excused pos' (extend (name_of x path) (sel.Deref ∷ [])) count (after (acts (acts_in s path)) facts) (parts s.table (designated s.table u))
       → ExactHere (after (acts (source_acts s (Name p x path u) act.Free)) facts) (spots_of (name_of x path) pos' count u)
       (steps.evaluated t (place_of (here t) (Name p x path u) (start t)) f)
@@ -209,7 +209,7 @@ module _ (t : Turn) (settled : IsSettled (typing t).table) (own_law : OwnsByShap
 
   pub release_exact : (p : Pos) (x u d : ℕ) (path : TypedTree) → shape_of s.table u ≡ shape.Access d false true → Leads s (object_at s x).of path u
       → has_call path ≡ false → (facts : List Fact) → HoldsHere facts t.state → AllowsAll facts (acts (source_acts s (Name p x path u) act.Free))
-      → IsExact s depth m facts
+      → IsExact s depth other m facts
       → (pos' : Pos) (count : ℕ) → Knows Excused pos' (extend (name_of x path) (sel.Deref ∷ [])) count (after (acts (acts_in s path)) facts) (parts s.table (designated s.table u))
       → ExactHere (after (acts (source_acts s (Name p x path u) act.Free)) facts) (spots_of (name_of x path) pos' count u) (release t (Name p x path u))
   release_exact p x u d path access lead calls facts holds allowed exact pos' count known =

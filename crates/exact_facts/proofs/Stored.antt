@@ -45,7 +45,7 @@ module _ (h : Here) (settled : IsSettled h.typing.table) (leaks : List Leak) (wa
   -- is excused by the facts before.
   abbrev pub StoresExact : PlaceName → ℕ → List Fact → List Fact → Evaluated Stored → Type 0
   StoresExact name t before behind (Done st n) =
-      IsExact h.typing h.frame (stored h.typing st.place st.words n.memory) behind
+      IsExact h.typing h.frame other (stored h.typing st.place st.words n.memory) behind
       × ((pos pos' : Pos) (count : ℕ) → Knows Excused pos' name count before (parts h.typing.table t)
       → NoneFails Excused (map (spot pos' name count) (parts h.typing.table t)) (checks_at h.typing pos n.memory st.place))
   StoresExact name t before behind (Raises e n) = Unit {0}
@@ -54,20 +54,20 @@ module _ (h : Here) (settled : IsSettled h.typing.table) (leaks : List Leak) (wa
   -- the place is found, with the value in hand
   found_exact : (p : Pos) (m : Memory) (hands : List Waiting) (facts : List Fact) (x t : ℕ) (steps : TypedTree) (ws : List machine.Word)
       → Ready h settled leaks waits other alone keeps no_formals index_law own_law all_named m (record { of = t; words = ws } ∷ hands) facts
-      → IsExact h.typing h.frame m facts → length ws ≡ words h.typing.table t
+      → IsExact h.typing h.frame other m facts → length ws ≡ words h.typing.table t
       → (way : List run.Step) → Goes h.typing.table (object_at h.typing x).of t steps way
       → (y : Evaluated Place) → Walked h.typing settled (record { of = t; words = ws } ∷ hands) leaks m waits (way_along way (Object (OfVariable (home h.typing h.frame x) x))) t y
       → StoresExact (name_of x steps) t facts (effect (act.Write (name_of x steps)) facts) (followed_by y (λ k now. Done (record { words = ws; place = k }) now))
   found_exact p m hands facts x t steps ws ready exact long way goes (Done k n) (l, same, place, reaches, of) =
       subst (λ (z : Now). StoresExact (name_of x steps) t facts (effect (act.Write (name_of x steps)) facts) (Done (record { words = ws; place = k }) z)) (sym same)
       (subst (λ z. StoresExact z t facts (effect (act.Write z) facts) (Done (record { words = ws; place = k }) (record { memory = m; waits = waits }))) called (
-        stored_exact h.typing settled h.frame other m (record { of = t; words = ws }) hands leaks facts k l w p ready.sound ready.kept place named reaches
+        stored_exact h.typing settled h.frame other alone m (record { of = t; words = ws }) hands leaks facts k l w p ready.sound ready.kept place named reaches
             (live_trunk h settled leaks waits other alone keeps no_formals index_law own_law all_named m (record { of = t; words = ws } ∷ hands) ready.sound.owned w l
             (named_rooted (home h.typing h.frame) w named) reaches)
             (long ∙ ap (words h.typing.table) (sym of)) (inl (ap (shape_of h.typing.table) (sym of))) exact,
         λ pos pos' count known.
             subst (λ z. NoneFails Excused (map (spot pos' (ways.name_of w) count) (parts h.typing.table z)) (checks_at h.typing pos m k)) of
-            (place_holds h.typing settled h.frame m (record { of = t; words = ws } ∷ hands) leaks facts exact k l w place named reaches Excused pos pos' count
+            (place_holds h.typing settled h.frame other m (record { of = t; words = ws } ∷ hands) leaks facts exact k l w place named reaches Excused pos pos' count
             (λ q has. known q (subst (λ z. Has (parts h.typing.table z) q) of has))),
       ))
     where
@@ -124,7 +124,7 @@ module _ (h : Here) (settled : IsSettled h.typing.table) (leaks : List Leak) (wa
   pub assigned_exact : (p : Pos) (x t : ℕ) (steps e : TypedTree) → Gives h.typing t e → Leads h.typing (object_at h.typing x).of steps t
       → has_call e ≡ false → has_call steps ≡ false → (m : Memory) (hands : List Waiting) (facts : List Fact)
       → Ready h settled leaks waits other alone keeps no_formals index_law own_law all_named m hands facts
-      → AllowsAll facts (acts (stored_acts h.typing (Name p x steps t) e)) → IsExact h.typing h.frame m facts
+      → AllowsAll facts (acts (stored_acts h.typing (Name p x steps t) e)) → IsExact h.typing h.frame other m facts
       → StoresExact (name_of x steps) t (after (acts (acts_in h.typing e ++ acts_in h.typing steps)) facts) (after (acts (stored_acts h.typing (Name p x steps t) e)) facts)
       (followed_by (followed_by (evaluate h AsValue e (record { memory = m; waits = waits })) (checked h t))
       (λ ws now. followed_by (place_of h (Name p x steps t) now) (λ k now. Done (record { words = ws; place = k }) now)))

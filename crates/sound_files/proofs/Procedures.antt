@@ -37,11 +37,13 @@ use Rattle.called_subs.specs.Called.{HaveBodies}
 use Rattle.called_subs.proofs.Main.{calls_within}
 use Rattle.soundness.specs.Typed.{OwnsByShape}
 use Rattle.soundness.specs.Sound.{RunIsSound}
+use Rattle.soundness.specs.Ready.{IsReady}
+use Rattle.soundness.proofs.Main.{ready_sound}
 use Rattle.soundness.proofs.Points.{flow_table}
 use Rattle.ready_laws.specs.InOrder.{IsSub, AreCallees}
 use Rattle.ready_laws.proofs.Actuals.{formless_passed}
 use Rattle.order_laws.specs.Orderly.{typed_of, bodies_of}
-use Rattle.order_laws.proofs.Accepted.{procedures_sound}
+use Rattle.order_laws.proofs.Accepted.{procedures_ready}
 use Rattle.sound_files.specs.Class.{IsPlainText, CallsProcedures, HasNoFunction}
 use Rattle.sound_files.proofs.First.{formless_class, procedure_class}
 use Rattle.sound_files.proofs.Fine.{procedures_fine}
@@ -120,13 +122,12 @@ module _ (files : List (List SourceUnit)) where
   unfolding name_fault
   files_bodies up named d has = files_have_bodies files (identified files) (files_followed files up named) named d has
 
-  -- Where there are no reports, each moment of each run is well owned, and none is a trap.
-  pub files_procedures_sound : (apart : AreApart (identified files)) (ended : AllEnded at_start p.units) (up : Ascends (event_positions (source_events files)))
+  -- Where there are no reports, the program is ready.
+  pub files_procedures_ready : (apart : AreApart (identified files)) (ended : AllEnded at_start p.units) (up : Ascends (event_positions (source_events files)))
       (named : name_fault files ≡ None) (no_fault : type_fault p ≡ None) → IsPlainText p → HasNoFunction p
-      → (effects : Effects) → AreEffects flow effects → AreReports flow effects [] → CallsProcedures flow
-      → (input : List ℕ) → RunIsSound table (typed_of p) input
-  files_procedures_sound apart ended up named no_fault text procedures effects are none calls input =
-      procedures_sound p effects no_fault
+      → (effects : Effects) → AreEffects flow effects → AreReports flow effects [] → CallsProcedures flow → IsReady table (typed_of p) effects
+  files_procedures_ready apart ended up named no_fault text procedures effects are none calls =
+      procedures_ready p effects no_fault
       (record {
         no_reports = none;
         effects_are = are;
@@ -135,9 +136,23 @@ module _ (files : List (List SourceUnit)) where
       })
       (subst OwnsByShape (flow_table table (typed_of p)) (files_own files apart ended no_fault (typed_of p))) (procedure_class p text calls)
       (files_orderly files apart ended up named no_fault text) (callees p (files_bodies up named) procedures)
-      (formless_passed flow (formless_class p text calls)) input
+      (formless_passed flow (formless_class p text calls))
+
+  -- So each moment of each run is well owned, and none is a trap.
+  pub files_procedures_sound : (apart : AreApart (identified files)) (ended : AllEnded at_start p.units) (up : Ascends (event_positions (source_events files)))
+      (named : name_fault files ≡ None) (no_fault : type_fault p ≡ None) → IsPlainText p → HasNoFunction p
+      → (effects : Effects) → AreEffects flow effects → AreReports flow effects [] → CallsProcedures flow
+      → (input : List ℕ) → RunIsSound table (typed_of p) input
+  files_procedures_sound apart ended up named no_fault text procedures effects are none calls input =
+      ready_sound table (typed_of p) effects input (files_procedures_ready apart ended up named no_fault text procedures effects are none calls)
 
   -- So it is if the files are parsed from texts: then their positions are as in a text.
+  pub parsed_procedures_ready : (texts : List (List Cut)) → AreParsed 0 texts files → name_fault files ≡ None → type_fault p ≡ None
+      → IsPlainText p → HasNoFunction p → (effects : Effects) → AreEffects flow effects → AreReports flow effects [] → CallsProcedures flow
+      → IsReady table (typed_of p) effects
+  parsed_procedures_ready texts parsed named no_fault =
+      files_procedures_ready (files_apart texts files parsed) (files_ended (identified files) texts files parsed) (events_ascend texts files parsed) named no_fault
+
   pub parsed_procedures_sound : (texts : List (List Cut)) → AreParsed 0 texts files → name_fault files ≡ None → type_fault p ≡ None
       → IsPlainText p → HasNoFunction p → (effects : Effects) → AreEffects flow effects → AreReports flow effects [] → CallsProcedures flow
       → (input : List ℕ) → RunIsSound table (typed_of p) input

@@ -329,7 +329,10 @@ module _ (s : Typing) (settled : IsSettled s.table) (own_law : OwnsByShape s.tab
               (scalar_same s settled m hands leaks f x plain (declared f x ws m).variables others) good.0,
           declared_kept s settled m f x v hands (scalar s settled m v hands plain good.1) long (inl refl),
         ),
-        λ g y p. same_word s settled m [] [] f x plain (declared f x ws m).variables others (OfRoot (OfVariable g y)) p refl,
+        (
+          λ g y p any. same_word s settled m [] [] f x plain (declared f x ws m).variables others (OfRoot (OfVariable g y)) p refl,
+          λ c p. refl,
+        ),
       )
 
   pub with_one : (x : ℕ) (a : Passed) (m : Memory) → Scalar x → IsLaid s a → GoodThere m → Onward m (with_formal s f x a m)
@@ -346,8 +349,8 @@ module _ (s : Typing) (settled : IsSettled s.table) (own_law : OwnsByShape s.tab
 
   pub formals_good : (formals : List ℕ) (passed : List Passed) (m : Memory) → ((x : ℕ) → Has formals x → Scalar x) → AreLaid s passed
       → GoodThere m → Onward m (with_formals s f formals passed m)
-  formals_good [] passed m plain are good = (good, λ g y p. refl)
-  formals_good (x ∷ formals) [] m plain are good = (good, λ g y p. refl)
+  formals_good [] passed m plain are good = (good, (λ g y p any. refl, λ c p. refl))
+  formals_good (x ∷ formals) [] m plain are good = (good, (λ g y p any. refl, λ c p. refl))
   formals_good (x ∷ formals) (a ∷ rest) m plain are good =
       let first = with_one x a m (plain x (inl refl)) are.0 good in
       onward m (with_formal s f x a m) (with_formals s f formals rest (with_formal s f x a m)) first
