@@ -1,2 +1,3 @@
 pub mod Rooms
 pub mod Main
+pub mod Runnable
