@@ -1,7 +1,7 @@
 -- What gathering makes of entries is of the same classes in both turns.
-use Rattle.std.proofs.Common.{◌≡◌, ℕ, zero, suc, ◌+◌, Bool, true, false, List, [], ◌∷◌, ◌++◌, set, get_or, refl, sym, ap, ◌∙◌, Option, Some, None, true≢false, pos, if◌then◌else◌}
+use Rattle.std.proofs.Common.{◌≡◌, ℕ, zero, suc, ◌+◌, Bool, true, false, List, [], ◌∷◌, ◌++◌, set, get_or, refl, sym, ap, ◌∙◌, Option, Some, None, pos}
 use Rattle.resolved_tree.specs.declared.node.Mark.{Mark}
-use Rattle.resolved_tree.specs.Trees.{More, Code, Anonymous, Enumeration, Record, Components, Array, Access, Formals, Front}
+use Rattle.resolved_tree.specs.Trees.{More, Code, Anonymous, Enumeration, Record, Components, Array, Access, Formals}
 use Rattle.type_definitions.specs.declared.table.Info.{Info}
 use Rattle.type_definitions.specs.declared.table.InitialValue.{InitialValue}
 use Rattle.type_definitions.specs.declared.table.Shape.TheVariants as shape
@@ -11,7 +11,7 @@ use Rattle.type_definitions.specs.declared.table.Entry.TheVariants as entry
 use Rattle.type_definitions.specs.Types.{untyped}
 use Rattle.type_definitions.specs.Entries.{entry_of, type_of_entry, type_of_mark, marked}
 use Rattle.type_definitions.specs.Names.{Context}
-use Rattle.type_definitions.specs.Gathered.{each, declared_number, own_info, indicated, with_entry, with_info, with_indication, with_literals, with_definition, with_object, object_info, with_number, number_info, plain_object, with_formal, with_formal_group, with_formals, with_result, with_front, with_body_front, profile, is_subprogram, front_number, component_group, component_groups, component_list, defined}
+use Rattle.type_definitions.specs.Gathered.{each, declared_number, own_info, indicated, with_entry, with_info, with_indication, with_literals, with_definition, with_object, object_info, with_number, number_info, plain_object, with_formal, with_formal_group, with_result, is_subprogram, component_group, component_groups, component_list, defined}
 use Rattle.steady_types.specs.Alike.{outline}
 
 -- ---- classes of entries

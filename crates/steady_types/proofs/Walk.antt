@@ -23,7 +23,7 @@ use Rattle.type_definitions.specs.Names.{Context}
 use Rattle.type_definitions.specs.Gathered.{gather, awaited_info, full_info, subtype_info, meant_by, constrained_shape, bound_pair, is_asked, are_static_bounds, constant_value, initial_value, instance_type, each, own_info, with_object, with_entry, with_type, with_indication, with_formal, with_formal_group, with_formals, with_result, with_front, with_body_front, profile, is_subprogram, front_number, plain_object, parameter_type, declared_number, declared_pos, defined}
 use Rattle.type_definitions.specs.Whole.{predefined_types}
 use Rattle.settled_types.specs.Wholes.{written}
-use Rattle.settled_types.specs.Orderly.{Past, with_defined, definition_marks, within, past_after, IsNew, NewOne, AllNew, NewGroup, NewFormals, NewFront, Orderly}
+use Rattle.settled_types.specs.Orderly.{Past, with_defined, definition_marks, past_after, IsNew, NewOne, AllNew, NewGroup, NewFormals, NewFront, Orderly}
 use Rattle.settled_types.specs.Stamped.{IsType, IsFixed, AreRows}
 use Rattle.settled_types.proofs.Rows.{slice_in}
 use Rattle.settled_types.proofs.Gathered.{without_it}
