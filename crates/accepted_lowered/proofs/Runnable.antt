@@ -1,4 +1,4 @@
--- What `run` takes: a program of which nothing is reported passes the tests before a run.
+-- What `run` takes: a program of which nothing is reported is lowered, and passes the tests before a run.
 use Rattle.std.proofs.Common.{◌≡◌, ℕ, Bool, List, [], ◌∷◌, Option, Some, None, refl, sym, subst}
 use Rattle.spark_base.specs.declared.limits.TheConstants.{TOKENS, SOURCE_BYTES}
 use Rattle.ada_tree.specs.declared.unit.SourceUnit.{SourceUnit}
@@ -9,6 +9,7 @@ use Rattle.flow_paths.specs.Laid.{FlowProgram}
 use Rattle.laid_program.specs.declared.laid.Laid.{Laid}
 use Rattle.laid_program.specs.Programs as laid_programs
 use Rattle.program_check.specs.Sources.{flow_of}
+use Rattle.run_codes.specs.Programs.{lowered_program}
 use Rattle.run_ready.specs.Tests.{IsReady}
 use Rattle.tested_files.proofs.Main.{parsed_ready}
 use Rattle.command_words.specs.Words.{Command, Check, Run, Leaks, Make, Selftest}
@@ -19,7 +20,8 @@ use Rattle.spark_tool.specs.Product.{Finding, Passes as Found, judged, Checks, m
 use Rattle.accepted_runs.specs.Passed.{Passes}
 use Rattle.accepted_runs.proofs.Passing.{Passed}
 use Rattle.accepted_runs.proofs.Parsed.{are_parsed}
-use Rattle.accepted_lowered.specs.Runs.{RunsOn}
+use Rattle.accepted_lowered.specs.Runs.{RunsOn, IsRunnable}
+use Rattle.accepted_lowered.proofs.Main.{passed_lowered}
 
 -- ---- the program that is found is that of texts that pass
 
@@ -69,6 +71,14 @@ found_ready names found finding checks laid e =
     let is : IsOf found (laid_programs.program_of laid) = found_passed names found finding checks (laid_programs.program_of laid) e in
     passed_ready is.0.texts is.0.trees is.0.effects is.0.passes laid (sym is.1)
 
+-- ---- it is lowered
+
+found_lowered : (names : List (List ℕ)) (found : Sources) (finding : Finding) → Checks names found finding → (program : FlowProgram) → finding ≡ Found program
+    → lowered_program program ≡ None → ⊥
+found_lowered names found finding checks program e =
+    let is : IsOf found program = found_passed names found finding checks program e in
+    subst (λ (flow : FlowProgram). lowered_program flow ≡ None → ⊥) is.1 (passed_lowered is.0.texts is.0.trees is.0.effects is.0.passes)
+
 -- ---- what `run` answers
 
 abbrev RunsIf : List (List ℕ × List ℕ) → List ℕ → Option Command → Answer → Type 0
@@ -89,10 +99,11 @@ answers_on stored input _ _ (make n) = tt
 answers_on stored input _ _ (selftest n finding checks) = tt
 
 -- What `run` answers rests on what is found of the files. Where that is a program of which nothing is reported, the
--- program passes the tests before a run, however it is laid out.
+-- program is lowered and passes the tests before a run.
 pub run_tested : (stored : List (List ℕ × List ℕ)) (input : List ℕ) (words names : List (List ℕ)) (budget : ℕ) (stats : Bool) (answer : Answer)
     → command_of words ≡ Some (Run names budget stats) → Product stored input words answer
-    → (on : RunsOn stored input names budget answer) × ((laid : Laid) → on.finding ≡ Found (laid_programs.program_of laid) → IsReady laid)
+    → (on : RunsOn stored input names budget answer) × IsRunnable on.finding
 run_tested stored input words names budget stats answer command product =
     let on : RunsOn stored input names budget answer = subst (λ (c : Option Command). RunsIf stored input c answer) command (answers_on stored input (command_of words) answer product) in
-    (on, found_ready names (sources stored 0 SOURCE_BYTES names) on.finding on.checks)
+    let found : Sources = sources stored 0 SOURCE_BYTES names in
+    (on, record { ready = found_ready names found on.finding on.checks; lowered = found_lowered names found on.finding on.checks })
