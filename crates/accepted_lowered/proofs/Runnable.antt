@@ -79,14 +79,6 @@ found_runnable names found finding checks laid e =
     let is : IsOf found (program_of laid) = found_passed names found finding checks (program_of laid) e in
     passed_runnable is.0.texts is.0.trees is.0.effects is.0.passes laid is.1
 
--- ---- it is lowered
-
-found_lowered : (names : List (List ℕ)) (found : Sources) (finding : Finding) → Checks names found finding → (program : FlowProgram) → finding ≡ Found program
-    → lowered_program program ≡ None → ⊥
-found_lowered names found finding checks program e =
-    let is : IsOf found program = found_passed names found finding checks program e in
-    subst (λ (flow : FlowProgram). lowered_program flow ≡ None → ⊥) is.1 (passed_lowered is.0.texts is.0.trees is.0.effects is.0.passes)
-
 -- ---- what `run` answers
 
 abbrev RunsIf : List (List ℕ × List ℕ) → List ℕ → Option Command → Answer → Type 0

@@ -7,7 +7,7 @@ use Rattle.run_codes.specs.Programs.{lowered_program}
 use Rattle.run_ready.specs.Tests.{IsReady}
 use Rattle.run_command.specs.Answers.{Answer}
 use Rattle.spark_tool.specs.Reading.{sources}
-use Rattle.spark_tool.specs.Product.{Finding, Passes, Checks, run_answer_of}
+use Rattle.spark_tool.specs.Product.{Finding, Checks, run_answer_of}
 
 -- The program that is laid out in rows is lowered, and passes the tests before a run.
 pub record IsRunnable (laid : Laid) : Type 0 where
@@ -19,9 +19,3 @@ pub record RunsOn (stored : List (List ℕ × List ℕ)) (input : List ℕ) (nam
   pub finding : Finding
   pub checks : Checks names (sources stored 0 SOURCE_BYTES names) finding
   pub answered : answer ≡ run_answer_of names budget input finding
-
--- Where a program is found of which nothing is reported, nothing is left to be asked of it before its run.
-pub record IsRunnable (finding : Finding) : Type 0 where
-  -- it passes the tests, however it is laid out
-  pub ready : (laid : Laid) → finding ≡ Passes (laid_programs.program_of laid) → IsReady laid
-  pub lowered : (program : FlowProgram) → finding ≡ Passes program → lowered_program program ≡ None → ⊥
