@@ -13,7 +13,6 @@ use Rattle.flow_paths.specs.Laid.{FlowSub, FlowProgram, NamedSub, number_in, flo
 use Rattle.machine.specs.States.{sub_of}
 use Rattle.machine.specs.Run.{no_point}
 use Rattle.soundness.specs.Sound.{calls_nothing, IsAtPoint, RunIsSound}
-use Rattle.soundness.proofs.Successors.{nothing_procedures}
 use Rattle.viewed_steps.specs.Sound.{IsViewClass}
 use Rattle.viewed_steps.specs.Ready.{AreOrderly, ViewsAreOrderly, AreSpared, IsReady}
 use Rattle.viewed_steps.proofs.Main.{ready_sound}
@@ -35,6 +34,18 @@ there_or_none (x ∷ xs) (suc n) d = elim (there_or_none xs n d) [ inl there ↦
 
 same_object : (i : Instruction) (x y : ℕ) (v e : TypedTree) → i ≡ Declare x v → i ≡ Declare y e → x ≡ y
 same_object i x y v e is other = (let both : Declare x v ≡ Declare y e = sym is ∙ other in cc)
+
+-- Where nothing is called, no call has facts.
+pub uncalled_spared : (program : FlowProgram) (effects : Effects)
+    → ((sub : FlowSub) → Has program.subs sub → (p : FlowPoint) → Has sub.points p → calls_nothing p.instr ≡ true) → AreSpared program effects
+uncalled_spared program effects no_calls sub has before last path n actuals result e = absurd (elim (there_or_none sub.points last no_point) [
+  | inl there ↦ (
+      let no : false ≡ true = sym (ap calls_nothing e) ∙ no_calls sub has (get_or sub.points last no_point) there in cc)
+  | inr none ↦ no_call n actuals result (ap (λ (z : FlowPoint). z.instr) (sym none) ∙ e)
+])
+  where
+    no_call : (n : ℕ) (actuals : TypedTree) (result : Option ℕ) → no_point.instr ≡ Call n actuals result → ⊥
+    no_call n actuals result e = cc
 
 module _ (table : Table) (typed : TypedProgram) (effects : Effects) (given : IsViewProgram table typed effects) where
   abbrev program : FlowProgram
@@ -99,23 +110,9 @@ module _ (table : Table) (typed : TypedProgram) (effects : Effects) (given : IsV
   class : IsViewClass program
   class = record {
     parts_named = given.parts_named;
-    calls = λ sub has p there. nothing_procedures p.instr (given.no_calls sub has p there);
-    formals = λ x is. (let no : true ≡ false = sym is ∙ given.unformed x in cc);
+    calls = given.calls;
+    formals = given.formals;
   }
-
-  -- nothing is called
-  uncalled : (sub : FlowSub) → Has program.subs sub → (p : FlowPoint) → Has sub.points p → (n : ℕ) (actuals : TypedTree) (result : Option ℕ)
-      → p.instr ≡ Call n actuals result → ⊥
-  uncalled sub has p there n actuals result e = (let no : false ≡ true = sym (ap calls_nothing e) ∙ given.no_calls sub has p there in cc)
-
-  spared : AreSpared program effects
-  spared sub has before last path n actuals result e = absurd (elim (there_or_none sub.points last no_point) [
-    | inl there ↦ uncalled sub has (get_or sub.points last no_point) there n actuals result e
-    | inr none ↦ no_call n actuals result (ap (λ (z : FlowPoint). z.instr) (sym none) ∙ e)
-  ])
-    where
-      no_call : (n : ℕ) (actuals : TypedTree) (result : Option ℕ) → no_point.instr ≡ Call n actuals result → ⊥
-      no_call n actuals result e = cc
 
   pub views_ready : IsReady table typed effects
   views_ready = record {
@@ -126,8 +123,8 @@ module _ (table : Table) (typed : TypedProgram) (effects : Effects) (given : IsV
     new = scoped.are_new table typed effects given;
     elaborated = scoped.are_elaborated table typed effects given;
     orderly = views_orderly;
-    called = λ sub has p there n actuals result e. absurd (uncalled sub has p there n actuals result e);
-    spared = spared;
+    called = scoped.are_called table typed effects given;
+    spared = given.spared;
     packages = scoped.packages table typed effects given;
     stands = scoped.packages_stand table typed effects given;
     main = suc given.order.number;
