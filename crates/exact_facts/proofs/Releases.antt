@@ -12,7 +12,7 @@ use Rattle.type_definitions.specs.Types.{shape_of, parts, view_of as view_of_sha
 use Rattle.typed_tree.specs.Trees.{TypedTree, Name}
 use Rattle.flow_paths.specs.declared.point.LeakSpot.{LeakSpot}
 use Rattle.flow_paths.specs.Objects.{Typing, object_at, designated, designated_of}
-use Rattle.flow_paths.specs.Names.{has_call, name_of}
+use Rattle.flow_paths.specs.Names.{has_call, waiting as waits_in, name_of}
 use Rattle.flow_paths.specs.Scopes.{taken}
 use Rattle.flow_paths.specs.Acts.{acts_in, source_acts, spot}
 use Rattle.machine.specs.Words as machine
@@ -41,7 +41,8 @@ use Rattle.soundness.proofs.Frees.{releases}
 use Rattle.soundness.proofs.Owners.{strip}
 use Rattle.soundness.proofs.Steps.{alike}
 use Rattle.soundness.proofs.Scalars.{acts, acts_append, after_append, allows_both, number_along, named_along}
-use Rattle.soundness.proofs.Stays.{Quiet, Goes as GoesAlong, steps_quiet, name_quiet}
+use Rattle.soundness.proofs.Taking.{Takes, no_takes}
+use Rattle.soundness.proofs.Stays.{Quiet, Goes as GoesAlong, steps_taking, name_quiet}
 use Rattle.soundness.proofs.Numbers.{index_law}
 use Rattle.soundness.proofs.Lasting.{keeps}
 use Rattle.soundness.proofs.Evaluated.{live_trunk}
@@ -184,6 +185,27 @@ module _ (t : Turn) (settled : IsSettled (typing t).table) (own_law : OwnsByShap
     then_released x path allowed known (Raises e n) is = none_made Excused (spots_of (name_of x path) pos' count u)
     then_released x path allowed known (Traps e n) never = none_made Excused (spots_of (name_of x path) pos' count u)
 
+  pub released_on : (ws : List (List machine.Word)) (f : Place → Memory → Outcome) (pos p : Pos) (x u d : ℕ) (path : TypedTree) → Releases t settled own_law other alone no_formals all_named frames none f pos
+      → shape_of s.table u ≡ shape.Access d false true → Leads s (object_at s x).of path u → Takes (waits_in path) ws [] → (facts : List Fact) → HoldsHere facts t.state
+      → AllowsAll facts (acts (source_acts s (Name p x path u) act.Free)) → IsExact s depth other m facts
+      → (pos' : Pos) (count : ℕ) → Knows Excused pos' (extend (name_of x path) (sel.Deref ∷ [])) count (after (acts (acts_in s path)) facts) (parts s.table (designated s.table u))
+      → ExactHere (after (acts (source_acts s (Name p x path u) act.Free)) facts) (spots_of (name_of x path) pos' count u)
+      (steps.evaluated t (place_of (here t) (Name p x path u) (record { memory = m; waits = ws })) f)
+  released_on ws f pos p x u d path frees_it access lead takes facts holds allowed exact pos' count known =
+      let b : List Act = acts (acts_in s path) in
+      let whole_acts : acts (source_acts s (Name p x path u) act.Free) ≡ b ++ (act.Free (name_of x path) ∷ []) =
+      acts_append (acts_in s path) (record { pos = p; act = act.Free (name_of x path) } ∷ []) in
+      let each = allows_both facts b (act.Free (name_of x path) ∷ []) (subst (AllowsAll facts) whole_acts allowed) in
+      let inner = steps_taking (here t) settled hands t.state.leaks t.state.memory [] other facts holds.1 holds.0 alone
+      (live_trunk (here t) settled t.state.leaks [] other alone (keeps s settled own_law) no_formals index_law own_law all_named t.state.memory hands holds.0.owned)
+      index_law own_law all_named (object_at s x).of u path lead ws [] takes each.0 in
+      let frees : Allows facts (act.Free (name_of x path)) = subst (λ z. Allows z (act.Free (name_of x path))) inner.1 each.1.0 in
+      let behind_acts : after (acts (source_acts s (Name p x path u) act.Free)) facts ≡ effect (act.Free (name_of x path)) facts =
+      ap (λ z. after z facts) whole_acts ∙ after_append b (act.Free (name_of x path) ∷ []) facts ∙ ap (effect (act.Free (name_of x path))) inner.1 in
+      let knows = subst (λ z. Knows Excused pos' (extend (name_of x path) (sel.Deref ∷ [])) count z (parts s.table (designated s.table u))) inner.1 known in
+      subst (λ z. ExactHere z (spots_of (name_of x path) pos' count u) (steps.evaluated t (place_of (here t) (Name p x path u) (record { memory = m; waits = ws })) f)) (sym behind_acts)
+      (then_released f pos frees_it facts holds exact pos' count u d access x path frees knows (steps_of (here t) path (record { memory = m; waits = ws })) inner.0)
+
   released_by : (f : Place → Memory → Outcome) (pos p : Pos) (x u d : ℕ) (path : TypedTree) → Releases t settled own_law other alone no_formals all_named frames none f pos
       → shape_of s.table u ≡ shape.Access d false true → Leads s (object_at s x).of path u → has_call path ≡ false → (facts : List Fact) → HoldsHere facts t.state
       → AllowsAll facts (acts (source_acts s (Name p x path u) act.Free)) → IsExact s depth other m facts
@@ -191,21 +213,9 @@ module _ (t : Turn) (settled : IsSettled (typing t).table) (own_law : OwnsByShap
       → ExactHere (after (acts (source_acts s (Name p x path u) act.Free)) facts) (spots_of (name_of x path) pos' count u)
       (steps.evaluated t (place_of (here t) (Name p x path u) (start t)) f)
   released_by f pos p x u d path frees_it access lead calls facts holds allowed exact pos' count known =
-      let b : List Act = acts (acts_in s path) in
-      let whole_acts : acts (source_acts s (Name p x path u) act.Free) ≡ b ++ (act.Free (name_of x path) ∷ []) =
-      acts_append (acts_in s path) (record { pos = p; act = act.Free (name_of x path) } ∷ []) in
-      let each = allows_both facts b (act.Free (name_of x path) ∷ []) (subst (AllowsAll facts) whole_acts allowed) in
-      let inner = steps_quiet (here t) settled hands t.state.leaks t.state.memory [] other facts holds.1 holds.0 alone
-      (live_trunk (here t) settled t.state.leaks [] other alone (keeps s settled own_law) no_formals index_law own_law all_named t.state.memory hands holds.0.owned)
-      index_law own_law all_named (object_at s x).of u path lead calls each.0 in
-      let frees : Allows facts (act.Free (name_of x path)) = subst (λ z. Allows z (act.Free (name_of x path))) inner.1 each.1.0 in
-      let behind_acts : after (acts (source_acts s (Name p x path u) act.Free)) facts ≡ effect (act.Free (name_of x path)) facts =
-      ap (λ z. after z facts) whole_acts ∙ after_append b (act.Free (name_of x path) ∷ []) facts ∙ ap (effect (act.Free (name_of x path))) inner.1 in
-      let knows = subst (λ z. Knows Excused pos' (extend (name_of x path) (sel.Deref ∷ [])) count z (parts s.table (designated s.table u))) inner.1 known in
-      subst (λ z. ExactHere z (spots_of (name_of x path) pos' count u) (steps.evaluated t (place_of (here t) (Name p x path u) (start t)) f)) (sym behind_acts)
-      (subst (λ z. ExactHere (effect (act.Free (name_of x path)) facts) (spots_of (name_of x path) pos' count u) (steps.evaluated t (place_of (here t) (Name p x path u) z) f))
-      (sym (start_is t settled own_law other alone no_formals all_named frames none))
-      (then_released f pos frees_it facts holds exact pos' count u d access x path frees knows (steps_of (here t) path (record { memory = m; waits = [] })) inner.0))
+      subst (λ z. ExactHere (after (acts (source_acts s (Name p x path u) act.Free)) facts) (spots_of (name_of x path) pos' count u)
+      (steps.evaluated t (place_of (here t) (Name p x path u) z) f)) (sym (start_is t settled own_law other alone no_formals all_named frames none))
+      (released_on [] f pos p x u d path frees_it access lead (no_takes path calls []) facts holds allowed exact pos' count known)
 
   pub release_exact : (p : Pos) (x u d : ℕ) (path : TypedTree) → shape_of s.table u ≡ shape.Access d false true → Leads s (object_at s x).of path u
       → has_call path ≡ false → (facts : List Fact) → HoldsHere facts t.state → AllowsAll facts (acts (source_acts s (Name p x path u) act.Free))

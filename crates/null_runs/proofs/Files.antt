@@ -3,7 +3,6 @@
 use Rattle.std.proofs.Common.{◌≡◌, ℕ, List, [], None}
 use Rattle.ada_lexer.specs.Tokens.{Cut}
 use Rattle.ada_tree.specs.declared.unit.SourceUnit.{SourceUnit}
-use Rattle.name_events.specs.Outline.{source_events}
 use Rattle.name_events.specs.Identified.{identified}
 use Rattle.name_events.specs.Faults.{name_fault}
 use Rattle.resolved_tree.specs.Trees.{Program}
@@ -14,10 +13,6 @@ use Rattle.flow_paths.specs.declared.report.Effects.{Effects}
 use Rattle.flow_paths.specs.Effects.{AreEffects}
 use Rattle.flow_paths.specs.Laid.{FlowProgram, flow_program}
 use Rattle.flow_paths.specs.Reports.{AreReports}
-use Rattle.settled_types.specs.Orderly.{at_start}
-use Rattle.orderly_files.specs.Apart.{AreApart}
-use Rattle.orderly_files.specs.Ended.{AllEnded}
-use Rattle.file_positions.specs.Order.{Ascends, event_positions}
 use Rattle.file_positions.specs.Texts.{AreParsed}
 use Rattle.file_positions.proofs.Ascending.{events_ascend}
 use Rattle.file_positions.proofs.Main.{files_apart, files_ended}
@@ -27,9 +22,9 @@ use Rattle.null_places.specs.Cleared.{RunsWithNull}
 use Rattle.null_places.proofs.Typed.{typed_compared}
 use Rattle.null_places.proofs.Runs.{ready_runs}
 use Rattle.order_laws.specs.Orderly.{typed_of}
-use Rattle.sound_files.specs.Class.{IsPlainText, CallsNothing, CallsProcedures, HasNoFunction}
-use Rattle.sound_files.proofs.Main.{files_ready}
-use Rattle.sound_files.proofs.Procedures.{files_procedures_ready}
+use Rattle.sound_files.specs.Class.{IsNamedText, IsPlainText, CallsNothing, CallsProcedures, HasNoFunction, HasScalarFormals, CopiesToVariables}
+use Rattle.sound_files.proofs.Main.{parsed_ready}
+use Rattle.sound_files.proofs.Procedures.{parsed_procedures_ready}
 use Rattle.typed_files.proofs.Main.{files_steps}
 
 module _ (files : List (List SourceUnit)) where
@@ -42,34 +37,22 @@ module _ (files : List (List SourceUnit)) where
   abbrev flow : FlowProgram
   flow = flow_program table (typed_of p)
 
-  -- Of a program that is ready, typing is enough.
+  -- Typing is enough, where the program is ready.
   typed_runs : AreTyped flow → (effects : Effects) → IsReady table (typed_of p) effects → (input : List ℕ) → RunsWithNull flow input
   typed_runs typed effects ready input = ready_runs table (typed_of p) effects input ready (typed_compared flow typed)
 
-  module _ (apart : AreApart (identified files)) (ended : AllEnded at_start p.units) (up : Ascends (event_positions (source_events files))) (named : name_fault files ≡ None)
-      (no_fault : type_fault p ≡ None) (text : IsPlainText p) where
-    typed_there : AreTyped flow
-    typed_there = files_steps files apart ended up named no_fault (record { named = text.named; formless = text.formless })
+  module _ (texts : List (List Cut)) (parsed : AreParsed 0 texts files) (named : name_fault files ≡ None) (no_fault : type_fault p ≡ None) where
+    pub parsed_typed : AreTyped flow
+    parsed_typed = files_steps files (files_apart texts files parsed) (files_ended (identified files) texts files parsed) (events_ascend texts files parsed) named no_fault
 
-    pub files_with_null : (effects : Effects) → AreEffects flow effects → AreReports flow effects [] → CallsNothing flow
+    pub parsed_with_null : IsPlainText p → (effects : Effects) → AreEffects flow effects → AreReports flow effects [] → CallsNothing flow
         → (input : List ℕ) → RunsWithNull flow input
-    files_with_null effects are none calls = typed_runs typed_there effects (files_ready files apart ended up named no_fault text effects are none calls)
+    parsed_with_null text effects are none calls input =
+        typed_runs parsed_typed effects (parsed_ready files texts parsed named no_fault text effects are none calls) input
 
     -- So it is where procedures are called.
-    pub files_procedures_with_null : HasNoFunction p → (effects : Effects) → AreEffects flow effects → AreReports flow effects [] → CallsProcedures flow
-        → (input : List ℕ) → RunsWithNull flow input
-    files_procedures_with_null procedures effects are none calls =
-        typed_runs typed_there effects (files_procedures_ready files apart ended up named no_fault text procedures effects are none calls)
-
-  -- So it is if the files are parsed from texts: then their positions are as in a text.
-  pub parsed_with_null : (texts : List (List Cut)) → AreParsed 0 texts files → name_fault files ≡ None → type_fault p ≡ None → IsPlainText p
-      → (effects : Effects) → AreEffects flow effects → AreReports flow effects [] → CallsNothing flow
-      → (input : List ℕ) → RunsWithNull flow input
-  parsed_with_null texts parsed named no_fault text =
-      files_with_null (files_apart texts files parsed) (files_ended (identified files) texts files parsed) (events_ascend texts files parsed) named no_fault text
-
-  pub parsed_procedures_with_null : (texts : List (List Cut)) → AreParsed 0 texts files → name_fault files ≡ None → type_fault p ≡ None
-      → IsPlainText p → HasNoFunction p → (effects : Effects) → AreEffects flow effects → AreReports flow effects [] → CallsProcedures flow
-      → (input : List ℕ) → RunsWithNull flow input
-  parsed_procedures_with_null texts parsed named no_fault text =
-      files_procedures_with_null (files_apart texts files parsed) (files_ended (identified files) texts files parsed) (events_ascend texts files parsed) named no_fault text
+    pub parsed_procedures_with_null : IsNamedText p → HasNoFunction p → (effects : Effects) → AreEffects flow effects → AreReports flow effects []
+        → CallsProcedures flow → HasScalarFormals flow → CopiesToVariables flow → (input : List ℕ) → RunsWithNull flow input
+    parsed_procedures_with_null text procedures effects are none calls formals copied input =
+        typed_runs parsed_typed effects
+        (parsed_procedures_ready files texts parsed named no_fault text procedures effects are none parsed_typed calls formals copied) input

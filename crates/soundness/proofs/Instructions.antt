@@ -642,7 +642,7 @@ module _ (t : Turn) (settled : IsSettled (typing t).table) (own_law : OwnsByShap
 
     -- ---- output
 
-    text_quiet : (before on : List (List machine.Word)) (e : TypedTree) → Writes s e → Takes (waits_in e) before on → (facts : List Fact) → Holds facts t.state
+    pub text_quiet : (before on : List (List machine.Word)) (e : TypedTree) → Writes s e → Takes (waits_in e) before on → (facts : List Fact) → Holds facts t.state
         → AllowsAll facts (acts (acts_in s e))
         → Quiet (at on) (Any {A = List ℕ}) (text_of (here t) e (at before)) × (after (acts (acts_in s e)) facts ≡ facts)
     unfolding Writes text_of acts_in waits_in
