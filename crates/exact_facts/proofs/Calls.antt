@@ -19,7 +19,8 @@ use Rattle.soundness.specs.Typed.{OwnsByShape}
 use Rattle.soundness.specs.Ready.{IsActualBy, AreActuals, IsCalled, IsReady}
 use Rattle.soundness.proofs.Freeing.{plain_parts}
 use Rattle.soundness.proofs.Passing.{way_by, way_of, passed_to}
-use Rattle.soundness.proofs.Points.{sub_there}
+use Rattle.soundness.specs.Sound.{IsProcedureClass}
+use Rattle.soundness.proofs.Second.{called_none}
 
 module _ (s : Typing) (settled : IsSettled s.table) (own_law : OwnsByShape s.table) where
   one_spot : (m : Mode) (e : TypedTree) → IsActualBy s m e → (before : ℕ) → actual_spots s (way_by s own_law m) e before ≡ []
@@ -38,15 +39,15 @@ module _ (s : Typing) (settled : IsSettled s.table) (own_law : OwnsByShape s.tab
       ∙ all_spots formals rest stay.1 (before + length (actual_act (way_of s own_law x) e))
   all_spots (x ∷ formals) actuals stay before = refl
 
-module _ (table : Table) (typed : TypedProgram) (effects : Effects) (ready : IsReady table typed effects) where
+module _ (table : Table) (typed : TypedProgram) (effects : Effects) (ready : IsReady table typed effects)
+    (second : IsProcedureClass (flow_program table typed)) where
   abbrev program : FlowProgram
   program = flow_program table typed
 
   pub no_call_spots : (sub : FlowSub) → Has program.subs sub → (q : FlowPoint) → Has sub.points q → (n : ℕ) (actuals : TypedTree) → q.instr ≡ Call n actuals None
       → (before : ℕ) → call_spots (flow_typing (flow_program table typed)) (passings (flow_typing (flow_program table typed)) (sub_at (flow_typing (flow_program table typed)) n)) actuals before ≡ []
   no_call_spots sub has q there n actuals is before =
-      let called : IsCalled table typed n actuals = ready.called sub has q there n actuals None is in
-      let result = ap (λ (z : FlowSub). z.result) (sub_there table typed n called.procedure.named called.procedure.stands)
-      ∙ called.procedure.procedure called.procedure.named called.procedure.stands in
+      let called : IsCalled table typed n actuals None = ready.called sub has q there n actuals None is in
+      let result = called_none table typed second effects ready n actuals called in
       ap (λ z. call_spots (flow_typing program) z actuals before) (passed_to program ready.owns n result (λ x formal. ready.class.formals x (called.formals x formal)))
       ∙ all_spots (flow_typing program) ready.accepted.settled ready.owns (sub_of program n).formals actuals called.actuals_stay before

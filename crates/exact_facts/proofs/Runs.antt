@@ -16,15 +16,16 @@ use Rattle.machine.specs.Step.{main_frame}
 use Rattle.machine.specs.Run.{frames_at_start, state_at_start, no_point, step, then_on, within, main_of, moment}
 use Rattle.owned_ways.specs.Ways.{Way, name_of}
 use Rattle.soundness.specs.Seen.{home}
-use Rattle.soundness.specs.Sound.{Stage, Elsewhere, AreStages, IsDefiniteOf}
+use Rattle.soundness.specs.Sound.{Stage, Elsewhere, AreStages, IsDefiniteOf, IsProcedureClass}
 use Rattle.soundness.specs.Ready.{IsReady}
 use Rattle.soundness.proofs.Points.{sub_there}
-use Rattle.soundness.proofs.Beginning.{empty_sound, empty_kept, empty_scope, stage, first_point}
+use Rattle.soundness.proofs.Beginning.{empty_sound, empty_kept, empty_scope, stage, first_point, main_runs, first_waits, main_awaits}
 use Rattle.exact_facts.specs.Exact.{NoneFails, checks_of, IsExactly, LeadsExactly, StepHolds, RunHolds}
 use Rattle.exact_facts.proofs.Main.{excused_hold}
 use Rattle.exact_facts.proofs.Going.{exactly_step}
 
-module _ (table : Table) (typed : TypedProgram) (effects : Effects) (ready : IsReady table typed effects) where
+module _ (table : Table) (typed : TypedProgram) (effects : Effects) (ready : IsReady table typed effects)
+    (second : IsProcedureClass (flow_program table typed)) where
   abbrev program : FlowProgram
   program = flow_program table typed
 
@@ -59,7 +60,8 @@ module _ (table : Table) (typed : TypedProgram) (effects : Effects) (ready : IsR
       top = stage table typed effects ready 0 0;
       older = [];
       stages = (refl, refl, tt);
-      running = (refl, (refl, (λ r has. absurd has), refl));
+      running = (refl, ((λ r has. absurd has), refl));
+      waiting = (refl, refl);
       path = begins (first_point table typed effects ready 0 ready.packages ready.stands p rest is);
       sound = empty_sound (flow_typing program) (home (flow_typing program) 0) (Elsewhere program effects []) [];
       kept = empty_kept (flow_typing program);
@@ -78,7 +80,12 @@ module _ (table : Table) (typed : TypedProgram) (effects : Effects) (ready : IsR
       top = stage table typed effects ready ready.main 1;
       older = stage table typed effects ready 0 0 ∷ [];
       stages = (refl, refl, (refl, refl, tt));
-      running = (ready.main_there, (refl, (λ r has. absurd has), refl), (refl, (refl, (λ r has. absurd has), refl)));
+      running = (main_runs table typed effects ready, ((λ r has. absurd has), refl), (refl, ((λ r has. absurd has), refl)));
+      waiting = (
+        first_waits table typed effects ready 1 ready.main ready.main_there.named ready.main_there.stands ready.main_there.point
+            ready.main_there.points ready.main_there.begins,
+        (main_awaits table typed effects ready, refl),
+      );
       path = begins (first_point table typed effects ready ready.main ready.main_there.named ready.main_there.stands ready.main_there.point
           ready.main_there.points ready.main_there.begins);
       sound = empty_sound (flow_typing program) (home (flow_typing program) 1) (Elsewhere program effects (stage table typed effects ready 0 0 ∷ [])) [];
@@ -118,7 +125,7 @@ module _ (table : Table) (typed : TypedProgram) (effects : Effects) (ready : IsR
     going o (suc n) = then_on (going o n) on
 
     go : (o : Outcome) → LeadsExactly table typed effects o → LeadsExactly table typed effects (then_on o on)
-    go (Goes state) exactly = exactly_step table typed effects input ready state exactly
+    go (Goes state) exactly = exactly_step table typed effects input ready second state exactly
     go (Ends e state) exactly = tt
 
     reached : (n : ℕ) → LeadsExactly table typed effects (going (Goes (state_at_start (flow_program table typed))) n)
@@ -136,7 +143,7 @@ module _ (table : Table) (typed : TypedProgram) (effects : Effects) (ready : IsR
 
     step_holds : (state : State) → IsExactly table typed effects state → StepHolds (flow_program table typed) effects state.frames (checks_of (on state))
     step_holds state exactly =
-        by_frames exactly.0.top exactly.0.older state.frames (checks_of (on state)) exactly.0.stages (excused_hold table typed effects input ready state exactly.0 exactly.1)
+        by_frames exactly.0.top exactly.0.older state.frames (checks_of (on state)) exactly.0.stages (excused_hold table typed effects input ready second state exactly.0 exactly.1)
 
     -- ---- a run with a budget takes these steps
 

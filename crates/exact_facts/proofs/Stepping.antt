@@ -41,25 +41,26 @@ use Rattle.owned_ways.proofs.Dropped.{named_base}
 use Rattle.soundness.specs.Seen.{home, IsNear}
 use Rattle.soundness.specs.Typed.{Kept}
 use Rattle.typed_laws.specs.Needed.{IsFine, Source, FirstWrites, FirstStays}
-use Rattle.soundness.specs.Sound.{calls_nothing, Stage, facts_of, Elsewhere, AreStages, AreRunning, InScope, Uses, IsNamedSub, IsAtPoint, view_of, IsDefinite, IsDefiniteOf}
+use Rattle.soundness.specs.Sound.{calls_nothing, Stage, facts_of, Elsewhere, AreStages, AreRunning, InScope, Uses, IsNamedSub, IsAtPoint, view_of, IsDefinite, IsDefiniteOf, IsProcedureClass, AreAwaited}
 use Rattle.soundness.specs.Ready.{IsReady}
 use Rattle.soundness.proofs.Scalars.{acts}
 use Rattle.soundness.proofs.Points.{flow_at, named_has, point_has, sub_at_number, sub_in_range, point_in, path_there}
 use Rattle.soundness.proofs.Waits.{or_both}
-use Rattle.soundness.proofs.Successors.{not_true, both_not}
+use Rattle.soundness.proofs.Successors.{not_true, both_not, nothing_calls}
 use Rattle.soundness.proofs.Instructions.{Holds}
 use Rattle.soundness.proofs.Contents.{bool_cases}
 use Rattle.soundness.proofs.Inherited.{after_splits}
 use Rattle.soundness.proofs.Opened.{instruction_acts}
 use Rattle.soundness.proofs.Used.{writes_used}
 use Rattle.soundness.proofs.Around.{IsFar, far_alone, inherited, inherited_from, IsBetween}
-use Rattle.soundness.proofs.Stepping.{same as typing_is, no_in_formals, step_is, takes, fine, path_here, facts_are, facts_on, new_after, between as sound_between, sound as sound_now, unused, allowed_now}
+use Rattle.soundness.proofs.Stepping.{no_in_formals, step_is, fine, path_here, facts_are, facts_on, new_after, between as sound_between, sound as sound_now, unused, allowed_now}
 use Rattle.exact_facts.specs.Exact.{IsExact, NoneFails, Knows, checks_of}
 use Rattle.exact_facts.proofs.Memories.{told_seen, exact_from}
 use Rattle.exact_facts.proofs.Frames.{after_more, after_keeps, ends_such, apart_keeps, IsDefiniteHere, beside_told, apart_told}
 use Rattle.exact_facts.proofs.Instructions.{ExactOn, assigned_acts, declare_exact, assign_exact, end_scope_exact, test_exact, choose_exact, leave_loop_exact, skip_exact}
 use Rattle.exact_facts.proofs.Releases.{release_exact}
 use Rattle.exact_facts.proofs.Loops.{next_exact, start_exact, output_exact, line_exact, input_exact}
+use Rattle.soundness.proofs.Second.{takes_none_at, second_typing, named_none}
 
 -- ---- lists
 
@@ -89,7 +90,8 @@ excused_knows points n before path front rest split check count excused =
     ∙ sym (after_behind (acts front) (facts_before points before)) in
     (is_plain (has_elem check.name.sels) excused.definite, subst (λ z. Has z (Moved check.name)) facts (excused.moved before path))
 
-module _ (table : Table) (typed : TypedProgram) (effects : Effects) (input : List ℕ) (ready : IsReady table typed effects) where
+module _ (table : Table) (typed : TypedProgram) (effects : Effects) (input : List ℕ) (ready : IsReady table typed effects)
+    (second : IsProcedureClass (flow_program table typed)) where
   abbrev program : FlowProgram
   program = flow_program table typed
 
@@ -103,6 +105,7 @@ module _ (table : Table) (typed : TypedProgram) (effects : Effects) (input : Lis
   module _ (state : State) (top below : Stage) (more : List Stage) (rest : List Frame) (named : NamedSub) (p : NamedPoint)
       (frames : state.frames ≡ top.frame ∷ (below.frame ∷ rest)) (deep : top.depth ≡ suc (length rest))
       (stages : AreStages (below ∷ more) (below.frame ∷ rest)) (running : AreRunning table typed effects state.memory (top ∷ (below ∷ more)))
+      (awaiting : AreAwaited table typed 0 (top ∷ (below ∷ more)))
       (of_sub : IsNamedSub (flow_named table typed) top.frame.sub named) (at_point : IsAtPoint named.points top.frame.next p)
       (path : ControlPath (path_points program effects (sub_of program top.frame.sub)) top.before top.frame.next)
       (sound_before : Sound (home s (suc (length rest))) (Elsewhere program effects (below ∷ more)) (view_of s state) (facts_of program effects top))
@@ -139,10 +142,10 @@ module _ (table : Table) (typed : TypedProgram) (effects : Effects) (input : Lis
     facts_now = facts_before points top.before ++ inherited program effects (below ∷ more)
 
     between : (g : Stage) → Has (below ∷ more) g → IsBetween program effects (suc (length rest)) g
-    between = sound_between table typed effects input ready state top below more rest named p frames deep stages running of_sub at_point path sound_before kept scope
+    between = sound_between table typed effects input ready state top below more rest named p frames deep stages running awaiting of_sub at_point path sound_before kept scope
 
     sound : Sound (home s (suc (length rest))) other (view_of s state) facts_now
-    sound = sound_now table typed effects input ready state top below more rest named p frames deep stages running of_sub at_point path sound_before kept scope
+    sound = sound_now table typed effects input ready state top below more rest named p frames deep stages running awaiting of_sub at_point path sound_before kept scope
 
     -- the facts of the innermost frame, and of those around
     told_here : Told (view_of s state) (IsDefiniteHere program effects (suc (length rest)) (facts_before points top.before) (below ∷ more))
@@ -182,7 +185,7 @@ module _ (table : Table) (typed : TypedProgram) (effects : Effects) (input : Lis
     here_path = path_here table typed effects input ready state top older outer named p frames of_sub at_point path
 
     none_takes : taken at.point.instr ≡ 0
-    none_takes = takes table typed effects input ready state top older outer named p frames of_sub at_point
+    none_takes = takes_none_at table typed second top.frame.sub top.frame.next named of_sub p at_point
 
     holds_now : Holds at ready.accepted.settled ready.owns other alone (no_in_formals table typed effects input ready) ready.class.all_named frames facts_now state
     holds_now = (sound, kept)
@@ -196,7 +199,7 @@ module _ (table : Table) (typed : TypedProgram) (effects : Effects) (input : Lis
         → (path_point points top.frame.next).acts ≡ placed_by i ++ called_acts program effects p.pos p.instr
     split_by i is =
         ap (λ (z : PathPoint). z.acts) (path_there own named top.frame.next p at_point program effects)
-        ∙ ap (λ z. acts_of (frame_by z) p.pos p.instr ++ called_acts program effects p.pos p.instr) (sym (typing_is table typed effects input ready))
+        ∙ ap (λ z. acts_of (frame_by z) p.pos p.instr ++ called_acts program effects p.pos p.instr) (sym (second_typing table typed second))
         ∙ ap (λ j. acts_of (frame_by s) p.pos j ++ called_acts program effects p.pos p.instr) is
 
     -- what spots of a name know, before some acts
@@ -218,7 +221,7 @@ module _ (table : Table) (typed : TypedProgram) (effects : Effects) (input : Lis
     named_in = named_has (flow_named table typed) top.frame.sub named of_sub
 
     no_result : named.sub.result ≡ None
-    no_result = (running.0).procedure named of_sub
+    no_result = named_none table typed second effects ready top.frame.sub running.0 named of_sub
 
     -- ---- each instruction
 
@@ -230,7 +233,7 @@ module _ (table : Table) (typed : TypedProgram) (effects : Effects) (input : Lis
         let at_home : OfRoot (OfVariable (home s depth (number_of w)) (number_of w)) ≡ OfRoot (OfVariable depth x) =
         sym (named_base (home s depth) w moved.0) ∙ begins_there.base in
         elim (after_splits (acts_by (Declare x v)) facts_now own_facts around (λ f has. Has-append_cases own_facts around f has) (Moved (way_name w)) moved.1) [
-          | inl mine ↦ new_after table typed effects input ready state top older outer named p frames of_sub at_point path x v is (ap calls_nothing is ∙ calls)
+          | inl mine ↦ new_after table typed effects input ready state top older outer named p frames of_sub at_point path x v is (nothing_calls p.instr (ap calls_nothing is ∙ calls))
               (way_name w) begins_there.root (subst (λ i. Has (after (acts_by i) own_facts) (Moved (way_name w))) (sym is) mine)
           | inr there ↦ (
               let found = inherited_from program effects older (Moved (way_name w)) there in
@@ -350,9 +353,9 @@ module _ (table : Table) (typed : TypedProgram) (effects : Effects) (input : Lis
     main_exact calls going =
         let text = subst (λ r. IsFine s r p.instr) no_result (fine table typed effects input ready state top older outer named p frames of_sub at_point) in
         let each = each_instruction p.instr refl going text calls
-        (allowed_now table typed effects input ready state top below more rest named p frames deep stages running of_sub at_point path sound_before kept scope calls going) in
+        (allowed_now table typed effects input ready state top below more rest named p frames deep stages running awaiting of_sub at_point path sound_before kept scope (nothing_calls p.instr calls) going) in
         subst (λ z. ExactOn at ready.accepted.settled ready.owns other alone (no_in_formals table typed effects input ready) ready.class.all_named frames Excused
-        (after (acts_by p.instr) facts_now) (leaks_of (frame_by z) p.pos p.instr) (step program input state)) (typing_is table typed effects input ready)
+        (after (acts_by p.instr) facts_now) (leaks_of (frame_by z) p.pos p.instr) (step program input state)) (second_typing table typed second)
         (subst (ExactOn at ready.accepted.settled ready.owns other alone (no_in_formals table typed effects input ready) ready.class.all_named frames Excused
         (after (acts_by p.instr) facts_now) (spots_by p.instr))
         (sym (step_is table typed effects input ready state top older outer named p frames of_sub at_point)) each)
@@ -371,7 +374,7 @@ module _ (table : Table) (typed : TypedProgram) (effects : Effects) (input : Lis
     -- the acts leave what the frames around moved of package objects
     around_kept : calls_nothing p.instr ≡ true → (p.instr ≡ Finish → ⊥) → (f : Fact) → Has around f → Has (after (acts_by p.instr) facts_now) f
     around_kept calls going f has =
-        let found = unused table typed effects input ready state top below more rest named p frames deep stages running of_sub at_point path sound_before kept scope f has in
+        let found = unused table typed effects input ready state top below more rest named p frames deep stages running awaiting of_sub at_point path sound_before kept scope f has in
         after_keeps (acts_by p.instr) facts_now f
         (λ a there. (
         let from = Has-map_from (λ (z : Placed). z.act) (placed_by p.instr) a there in
@@ -383,7 +386,7 @@ module _ (table : Table) (typed : TypedProgram) (effects : Effects) (input : Lis
         opens a has =
             instruction_acts (ends_such (λ x. not (is_package_object s x)))
             (record { reads = λ m. refl; looks = λ m. refl; writes = λ m. refl; moves = λ m qs. refl; frees = λ m. refl; outs = λ m. refl })
-            s ready.class.all_named named.sub.result (kept_roots own 0 own.objects (sub_facts own named.sub named.points)) p.pos p.instr calls going
+            s ready.class.all_named named.sub.result (kept_roots own 0 own.objects (sub_facts own named.sub named.points)) p.pos p.instr (nothing_calls p.instr calls) going
             (λ x is. ap not (ready.scoped.ends named named_in p point_in_named x is)) a has
 
         no_write : (name : PlaceName) → (Uses effects top.frame.sub name.root → ⊥) → is_package_object s name.root ≡ true → (a : Placed) → Has (placed_by p.instr) a
@@ -394,7 +397,7 @@ module _ (table : Table) (typed : TypedProgram) (effects : Effects) (input : Lis
               | inl e ↦ absurd (spared
                   (writes_used program effects ready.accepted.effects_are top.frame.sub (flow_sub own named) (sub_at_number table typed top.frame.sub named of_sub _)
                   (sub_in_range table typed top.frame.sub named of_sub) name.root shared at.point (point_in own named top.frame.next p at_point) a
-                  (subst (λ z. Has (acts_of (frame_by z) p.pos p.instr) a) (typing_is table typed effects input ready) has) e))
+                  (subst (λ z. Has (acts_of (frame_by z) p.pos p.instr) a) (second_typing table typed second) has) e))
             ]
 
     -- They are exact after the step, too.
@@ -403,7 +406,7 @@ module _ (table : Table) (typed : TypedProgram) (effects : Effects) (input : Lis
     told_next calls going next is =
         let exact_there : IsExact s depth other next.memory (after (acts_by p.instr) facts_now) = (goes_exact (step program input state) is (main_exact calls going)) in
         subst (λ z. Told (view_of s next) (IsDefiniteHere program effects depth z older))
-        (sym (facts_on table typed effects input ready state top older outer named p frames of_sub at_point path calls))
+        (sym (facts_on table typed effects input ready state top older outer named p frames of_sub at_point path (nothing_calls p.instr calls)))
         (apart_told program effects older depth between (view_of s next) (after (acts_by p.instr) facts_now) (after (acts_by p.instr) own_facts)
         (after_more (acts_by p.instr) facts_now own_facts own_more) (around_kept calls going)
         (told_seen s depth other next.memory (waiting_in next) next.leaks (after (acts_by p.instr) facts_now) exact_there))

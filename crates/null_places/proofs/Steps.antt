@@ -33,11 +33,11 @@ use Rattle.owned_ways.specs.Ways.{Way, Sound, AllowsAll}
 use Rattle.soundness.specs.Seen.{home, IsNear, is_view_formal}
 use Rattle.soundness.specs.Typed.{Kept}
 use Rattle.typed_laws.specs.Needed.{IsFine, Source, FirstWrites, FirstStays}
-use Rattle.soundness.specs.Sound.{calls_nothing, calls_procedures, Stage, facts_of, Elsewhere, AreStages, Uses, AreRunning, IsNamedSub, IsAtPoint, view_of, IsSound, AreCopied}
+use Rattle.soundness.specs.Sound.{calls_nothing, calls_procedures, Stage, facts_of, Elsewhere, AreStages, Uses, AreRunning, IsNamedSub, IsAtPoint, view_of, IsSound, AreCopied, IsProcedureClass}
 use Rattle.soundness.specs.Ready.{IsCalled, IsReady}
 use Rattle.soundness.proofs.Scalars.{acts, acts_append, allows_both}
 use Rattle.soundness.proofs.Paths.{facts_next}
-use Rattle.soundness.proofs.Points.{flow_at, typing_same, sub_there, sub_at_number, sub_in_range, sub_has, point_in}
+use Rattle.soundness.proofs.Points.{flow_at, sub_there, sub_at_number, sub_in_range, sub_has, point_in}
 use Rattle.soundness.proofs.Inherited.{Splits, allowed_beside, is_open, apart_allows}
 use Rattle.soundness.proofs.Opened.{instruction_open}
 use Rattle.soundness.proofs.Used.{writes_used, reads_used, path_acts}
@@ -45,8 +45,9 @@ use Rattle.soundness.proofs.Around.{IsFar, far_alone, is_inherited, inherited, i
 use Rattle.soundness.proofs.Contents.{bool_cases}
 use Rattle.soundness.proofs.Passing.{plain_type, ArePlain, way_of, AreReads, read_open, values_read, passed_to}
 use Rattle.soundness.proofs.Waits.{or_both}
-use Rattle.soundness.proofs.Successors.{not_true, both_not, calls_cases, finish_or, unmoved_after}
-use Rattle.soundness.proofs.Stepping.{step_is, calls_there, fine, facts_are, allowed_whole, allowed}
+use Rattle.soundness.proofs.Successors.{not_true, both_not, calls_cases, finish_or, unmoved_after, nothing_calls}
+use Rattle.soundness.proofs.Second.{second_typing, calls_at, called_none, named_none}
+use Rattle.soundness.proofs.Stepping.{step_is, fine, facts_are, allowed_whole, allowed}
 use Rattle.null_places.specs.Agrees.{Agrees}
 use Rattle.null_places.specs.Compares.{Compares, ComparesIn, AreCompared}
 use Rattle.null_places.proofs.Only.{OnlyOwners}
@@ -54,7 +55,7 @@ use Rattle.null_places.proofs.Calls.{call_same, finish_same}
 use Rattle.null_places.proofs.Instructions.{SameStepBy, SameStep, twin, both_are, declare_same, assign_same, end_scope_same, release_same, input_same, skip_same, fall_same, test_same, choose_same, leave_loop_same, output_same, line_same, start_same, next_same}
 
 module _ (table : Table) (typed : TypedProgram) (effects : Effects) (input : List ℕ) (ready : IsReady table typed effects)
-    (compared : AreCompared (flow_program table typed)) where
+    (second : IsProcedureClass (flow_program table typed)) (compared : AreCompared (flow_program table typed)) where
   abbrev program : FlowProgram
   program = flow_program table typed
 
@@ -65,7 +66,7 @@ module _ (table : Table) (typed : TypedProgram) (effects : Effects) (input : Lis
   own = typing_of table typed
 
   same : s ≡ own
-  same = typing_same table typed ready.scoped.objects
+  same = second_typing table typed second
 
   no_second : (a b : Bool) → b ≡ false → a && b ≡ false
   no_second true b e = e
@@ -191,12 +192,12 @@ module _ (table : Table) (typed : TypedProgram) (effects : Effects) (input : Lis
       let declares = ready.elaborated.declared here first_sub in
       let is : p.instr ≡ Declare declares.0 declares.1 = declares.2 in
       let plain : calls_nothing p.instr ≡ true =
-      ap calls_nothing is ∙ subst (λ i. calls_procedures i ≡ true) is (calls_there table typed effects input ready state top [] [] named p frames of_sub at_point) in
+      ap calls_nothing is ∙ subst (λ i. calls_procedures i ≡ true) is (calls_at table typed second top.frame.sub top.frame.next named of_sub p at_point) in
       let facts : List Fact = facts_before (path_points program effects (flow_sub own named)) top.before in
       let well : Sound (home s 0) (Elsewhere program effects []) (view_of s state) facts =
       subst (Sound (home s 0) (Elsewhere program effects []) (view_of s state)) (facts_are table typed effects input ready state top [] [] named p frames of_sub at_point path) sound in
       let all : AllowsAll facts (acts (acts_of (record { typing = s; result = named.sub.result; roots = kept_roots own 0 own.objects (sub_facts own named.sub named.points) }) p.pos p.instr)) =
-      allowed table typed effects input ready state top [] [] named p frames of_sub at_point path plain in
+      allowed table typed effects input ready state top [] [] named p frames of_sub at_point path (nothing_calls p.instr plain) in
       let compares : ComparesIn s p.instr = compared (flow_sub own named) (sub_has table typed top.frame.sub named of_sub) here in_sub in
       both_are (t state top.frame [] named p (Elsewhere program effects []) (λ w near o. o.1) facts well kept only n agrees) _ _ _ _
       (step_is table typed effects input ready state top [] [] named p frames of_sub at_point)
@@ -333,13 +334,13 @@ module _ (table : Table) (typed : TypedProgram) (effects : Effects) (input : Lis
     acts_apart calls going a has f there =
         let from = Has-map_from (λ (z : Placed). z.act) (placed_by s p.instr) a has in
         let opens : is_open (from.0).act ≡ true =
-        instruction_open s ready.class.all_named named.sub.result (kept_roots own 0 own.objects (sub_facts own named.sub named.points)) p.pos p.instr calls going from.0 from.1 in
+        instruction_open s ready.class.all_named named.sub.result (kept_roots own 0 own.objects (sub_facts own named.sub named.points)) p.pos p.instr (nothing_calls p.instr calls) going from.0 from.1 in
         ap (λ z. forbids z f) (sym from.2) ∙ one_apart from.0 from.1 opens f there
 
     allowed_now : calls_nothing p.instr ≡ true → (p.instr ≡ Finish → ⊥) → AllowsAll facts_now (acts (placed_by s p.instr))
     allowed_now calls going =
         allowed_beside (acts (placed_by s p.instr)) facts_now own_facts (inherited program effects older) from_both
-        (allowed table typed effects input ready state top older outer named p frames of_sub at_point path calls) (acts_apart calls going)
+        (allowed table typed effects input ready state top older outer named p frames of_sub at_point path (nothing_calls p.instr calls)) (acts_apart calls going)
 
     abbrev turn_here : Turn
     turn_here = record { program = program; input = input; point = here; state = state; frame = top.frame; outer = outer }
@@ -350,13 +351,13 @@ module _ (table : Table) (typed : TypedProgram) (effects : Effects) (input : Lis
     goes_plainly : calls_nothing p.instr ≡ true → (p.instr ≡ Finish → ⊥) → SameStep turn_here (turn turn_here p.instr) (turn (twin turn_here n) p.instr)
     goes_plainly calls going =
         each_same state top.frame outer named p far alone_there facts_now well_now kept only n agrees p.instr going
-        (subst (λ r. IsFine s r p.instr) ((running.0).procedure named of_sub) (fine table typed effects input ready state top older outer named p frames of_sub at_point))
+        (subst (λ r. IsFine s r p.instr) (named_none table typed second effects ready top.frame.sub running.0 named of_sub) (fine table typed effects input ready state top older outer named p frames of_sub at_point))
         calls compares_here (allowed_now calls going)
 
     -- ---- a call
 
     module _ (k : ℕ) (actuals : TypedTree) (e : p.instr ≡ Call k actuals None) (no_call : has_call actuals ≡ false) where
-      called : IsCalled table typed k actuals
+      called : IsCalled table typed k actuals None
       called = ready.called (flow_sub own named) (sub_has table typed top.frame.sub named of_sub) here in_sub k actuals None e
 
       abbrev formals : List ℕ
@@ -366,9 +367,7 @@ module _ (table : Table) (typed : TypedProgram) (effects : Effects) (input : Lis
       scalar_formals x has = ready.class.formals x (called.formals x has)
 
       no_callee_result : (sub_of program k).result ≡ None
-      no_callee_result =
-          ap (λ (z : FlowSub). z.result) (sub_there table typed k called.procedure.named called.procedure.stands)
-          ∙ called.procedure.procedure called.procedure.named called.procedure.stands
+      no_callee_result = called_none table typed second effects ready k actuals called
 
       abbrev ways_there : List Passing
       ways_there = map (way_of s ready.owns) formals
@@ -419,8 +418,8 @@ module _ (table : Table) (typed : TypedProgram) (effects : Effects) (input : Lis
         (step_is table typed effects input ready (record state { memory = n }) top older outer named p frames of_sub at_point)
         (elim (finish_or p.instr) [
           | inl is ↦ subst (λ i. SameStep turn_here (turn turn_here i) (turn (twin turn_here n) i)) (sym is)
-              (finish_same turn_here ready.accepted.settled ready.owns far facts_now n agrees (well_now, kept) only running.1.1 below.frame rest refl)
-          | inr going ↦ elim (calls_cases p.instr (calls_there table typed effects input ready state top older outer named p frames of_sub at_point)) [
+              (finish_same turn_here ready.accepted.settled ready.owns far facts_now n agrees (well_now, kept) only running.1.0 below.frame rest refl)
+          | inr going ↦ elim (calls_cases p.instr (calls_at table typed second top.frame.sub top.frame.next named of_sub p at_point)) [
             | inl calls ↦ goes_plainly calls going
             | inr call ↦ subst (λ i. SameStep turn_here (turn turn_here i) (turn (twin turn_here n) i)) (sym call.2) (calls_it call.0 call.1 call.2 call.3)
           ]
