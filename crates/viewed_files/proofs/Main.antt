@@ -1,0 +1,242 @@
+-- Borrowers and observers of a program without formals are in order, where typing finds no fault.
+use Rattle.std.proofs.Common.{◌≡◌, refl, sym, ap, ◌∙◌, subst, ◌⊎◌, inl, inr, ℕ, zero, suc, ◌+◌, ◌≤◌, ◌<◌, Bool, true, false, not, ◌&&◌, ◌||◌, nat_lt, nat_eq, List, [], ◌∷◌, ◌++◌, map, length, get_or, arith, None, is_some}
+use Rattle.std.specs.Prelude.{reverse, flat_map}
+use Rattle.std.specs.List.{AllByRecursion, list_all, position_or_len}
+use Rattle.spark_base.specs.Lists.{Has}
+use Rattle.resolved_tree.specs.Trees.{Code, Program}
+use Rattle.type_definitions.specs.declared.table.Known.{Known}
+use Rattle.type_definitions.specs.Types.{Table, full}
+use Rattle.type_definitions.specs.Entries.{entry_of, integer}
+use Rattle.type_definitions.specs.Gathered.{in_subprogram}
+use Rattle.type_definitions.specs.Declarations.{code_faults}
+use Rattle.type_definitions.specs.Whole.{outside, known_of}
+use Rattle.typed_tree.specs.declared.object.Object.{Object}
+use Rattle.typed_tree.specs.Trees.{TypedCode, typed_code_list}
+use Rattle.typed_tree.specs.Trees as typed
+use Rattle.typed_tree.specs.Expressions.{Site, object_number}
+use Rattle.typed_tree.specs.Statements.{scope_count, typed_body}
+use Rattle.typed_tree.specs.Programs.{TypedSub, TypedProgram, DeclaredObject, Home, objects_in, scopes_in, formals_of, front_formals, local, placed, elaboration, elaborated, over_units, program_objects, site_of, text_io, typed_program}
+use Rattle.flow_paths.specs.Objects.{Typing, Signature, object_at, is_variable, is_anonymous, is_package_object, is_state, view_of}
+use Rattle.flow_paths.specs.Laid.{declared_within, typing_of}
+use Rattle.flow_paths.specs.Layout.{declared}
+use Rattle.flow_paths.specs.Scopes.{is_within}
+use Rattle.flow_paths.specs.Views.{encloses}
+use Rattle.scope_laws.specs.Code.{Once, roots, are_seen, is_seen, body_seen}
+use Rattle.scope_laws.proofs.Lists.{and_first, and_second, both_true, all_has, within_has}
+use Rattle.typed_laws.specs.Fine.{Laws}
+use Rattle.typed_points.specs.Meant.{AreMeantUnits}
+use Rattle.layered_scopes.specs.Layered.{is_older, are_of_scope, are_apart, is_layered, is_body_layered}
+use Rattle.order_laws.specs.Orderly.{typed_of, typing_in, bodies_of}
+use Rattle.order_laws.specs.Written.{is_unit}
+use Rattle.order_laws.proofs.Bodies.{IsDeclare}
+use Rattle.order_laws.proofs.First.{units_declare}
+use Rattle.order_laws.proofs.Numbers.{numbers, body_same}
+use Rattle.meant_files.specs.Typed.{AreTyped}
+use Rattle.seen_files.specs.Fits.{AllFit}
+use Rattle.view_laws.specs.InOrder.{no_views, names_no_view, fits, AreViewsInOrder}
+use Rattle.view_laws.proofs.Inner.{scopes_inner}
+use Rattle.viewed_files.specs.Places.{AreAt, AreAround}
+use Rattle.viewed_files.specs.Laid.{IsLaidBody}
+use Rattle.viewed_files.specs.Sources.{has_source, all_fit}
+use Rattle.viewed_files.proofs.Joined.{nothing_asked, joined}
+use Rattle.viewed_files.proofs.Layers.{at_left, at_right, around_left, body_goes}
+use Rattle.viewed_files.proofs.Placed.{all_at, all_around}
+use Rattle.viewed_files.proofs.Bodies.{IsKnown, units_laid}
+use Rattle.viewed_files.proofs.Sources as source
+use Rattle.viewed_files.proofs.Sources.{IsLocalView, DeclaresPlain, counts_plain}
+use Rattle.viewed_files.proofs.Units.{units_went}
+
+-- ---- lists of objects
+
+at_site : (s z : Site) (own : Typing) (k : ℕ) (os : List DeclaredObject) → z.objects ≡ s.objects → AreAt s own k os → AreAt z own k os
+at_site s z own k [] same at = tt
+at_site s z own k (o ∷ os) same at = (ap (λ xs. position_or_len (nat_eq o.number) xs + 1) same ∙ at.0, at.1, at_site s z own (suc k) os same at.2)
+
+high : (s : Site) (own : Typing) (k : ℕ) (os : List DeclaredObject) → AreAt s own k os → (x : ℕ) → Has (numbers s os) x → k ≤ x
+high s own k [] at x has = absurd has
+high s own k (o ∷ os) at x (inl same) = (let is = at.0 in omega (arith, is, same))
+high s own k (o ∷ os) at x (inr has) = (let more = high s own (suc k) os at.2 x has in omega (arith, more))
+
+-- ---- the package objects
+
+either : (a b : Bool) → a || b ≡ true → (a ≡ true) ⊎ (b ≡ true)
+either true b e = inl refl
+either false b e = inr e
+
+not_anonymous : (b : Bool) → b ≡ false → not b ≡ true
+not_anonymous true e = cc
+not_anonymous false e = refl
+
+module _ (own : Typing) (outer : ℕ → Bool) (shared : (x : ℕ) → outer x ≡ true → is_anonymous (view_of own x) ≡ false) where
+  abbrev ArePlain : List ℕ → Type 0
+  ArePlain sc = (x : ℕ) → Has sc x → is_anonymous (view_of own x) ≡ false
+
+  values_plain : (sc xs : List ℕ) → ArePlain sc → are_seen outer sc xs ≡ true → no_views own xs ≡ true
+  values_plain sc [] plain seen = refl
+  values_plain sc (x ∷ xs) plain seen =
+      both_true (not (is_anonymous (view_of own x))) (no_views own xs)
+      (not_anonymous (is_anonymous (view_of own x)) (by (either (is_within x sc) (outer x) (and_first (is_within x sc || outer x) (are_seen outer sc xs) seen))))
+      (values_plain sc xs plain (and_second (is_within x sc || outer x) (are_seen outer sc xs) seen))
+    where
+      by : (is_within x sc ≡ true) ⊎ (outer x ≡ true) → is_anonymous (view_of own x) ≡ false
+      by (inl within) = plain x (within_has x sc within)
+      by (inr out) = shared x out
+
+  declarations_plain : (cs : List TypedCode) (sc : List ℕ) → AllByRecursion IsDeclare cs → AllByRecursion (DeclaresPlain own) cs → ArePlain sc
+      → is_seen outer sc (typed_code_list cs) ≡ true → names_no_view own (typed_code_list cs) ≡ true
+  unfolding names_no_view is_seen declared
+  declarations_plain [] sc declare all plain seen = refl
+  declarations_plain (typed.Declare p x v ∷ cs) sc declare all plain seen =
+      both_true (not (is_anonymous (view_of own x)) && no_views own (roots v)) (names_no_view own (typed_code_list cs))
+      (both_true (not (is_anonymous (view_of own x))) (no_views own (roots v)) (not_anonymous (is_anonymous (view_of own x)) all.0)
+      (values_plain sc (roots v) plain (and_first (are_seen outer sc (roots v)) (is_seen outer (x ∷ sc) (typed_code_list cs)) seen)))
+      (declarations_plain cs (x ∷ sc) declare.1 all.1 more (and_second (are_seen outer sc (roots v)) (is_seen outer (x ∷ sc) (typed_code_list cs)) seen))
+    where
+      more : ArePlain (x ∷ sc)
+      more z (inl same) = ap (λ n. is_anonymous (view_of own n)) (sym same) ∙ all.0
+      more z (inr has) = plain z has
+  declarations_plain (_ ∷ cs) sc declare all plain seen = cc
+
+-- ---- which objects are views
+
+abbrev IsLocalObject : Table → Object → Type 0
+IsLocalObject table o = is_anonymous (full table o.of) ≡ true → (is_variable o.kind ≡ true) × (is_some o.«package» && not (is_state o.kind) ≡ false)
+
+module _ (table : Table) (whole : is_anonymous (full table integer) ≡ false) where
+
+  never : is_anonymous (full table integer) ≡ true → ⊥
+  never view = by (is_anonymous (full table integer)) view whole
+    where
+      by : (b : Bool) → b ≡ true → b ≡ false → ⊥
+      by true e f = cc
+      by false e f = cc
+
+  objects_local : (os : List DeclaredObject) → AllByRecursion (IsLocalView table) os → (x : ℕ) → IsLocalObject table (get_or (map (λ (o : DeclaredObject). o.object) os) x text_io)
+  objects_local [] all x view = absurd (never view)
+  objects_local (o ∷ os) all zero view = (let here = all.0 view in (here.0, ap (λ z. is_some z && not (is_state o.object.kind)) here.1))
+  objects_local (o ∷ os) all (suc x) view = objects_local os all.1 x view
+
+  pub all_local : (os : List DeclaredObject) → AllByRecursion (IsLocalView table) os → (x : ℕ) → IsLocalObject table (get_or (text_io ∷ map (λ (o : DeclaredObject). o.object) os) x text_io)
+  all_local os all zero view = absurd (never view)
+  all_local os all (suc x) view = objects_local os all x view
+
+-- ---- programs
+
+module _ (p : Program) (made : ℕ → Type 0) (laws : Laws (known_of p) made) (object : ℕ → Type 0) where
+  abbrev known : Known
+  known = known_of p
+
+  abbrev table : Table
+  table = known.table
+
+  abbrev own : Typing
+  own = typing_in p
+
+  abbrev s : Site
+  s = site_of known p.units
+
+  abbrev all : List DeclaredObject
+  all = program_objects known p.units
+
+  abbrev scopes : List ℕ
+  scopes = (typed_of p).scopes
+
+  abbrev home : Home
+  home = record { known = known; identifier = None }
+
+  -- What is asked: marks and formals are of types with names, the text is meant and without a fault, and what names
+  -- denote is in scope.
+  pub record IsGiven : Type 0 where
+    pub marks : source.AreMarksPlain s own.objects own.subs made laws
+    pub formals : source.AreFormalsPlain s own.objects own.subs made laws
+    pub formless : (sub : TypedSub) → Has (bodies_of p) sub → sub.formals ≡ []
+    pub written : (u : Code) → Has p.units u → is_unit u ≡ true
+    pub once : Once (map (λ (o : DeclaredObject). o.number) all)
+    pub meant : AreMeantUnits known made p.units
+    pub typed : (u : Code) → Has p.units u → AreTyped made (outside known) u
+    pub none : (u : Code) → Has p.units u → code_faults (outside known) u ≡ []
+    pub names : IsKnown s object
+    pub fits : AllFit object [] p.units
+    pub values : body_seen (is_package_object own) (elaboration s p.units) ≡ true
+
+  module _ (given : IsGiven) where
+    objects_are : own.objects ≡ text_io ∷ map (λ (o : DeclaredObject). o.object) all
+    unfolding typed_program
+    objects_are = refl
+
+    scopes_are : 0 ∷ over_units (scopes_in 0) 1 p.units ≡ scopes
+    unfolding typed_program
+    scopes_are = refl
+
+    inner : (b : ℕ) → get_or scopes b b ≤ b
+    inner b = scopes_inner known p.units b
+
+    went : AllByRecursion (λ (sub : TypedSub). all_fit (has_source own) sub.body ≡ true) (bodies_of p) × AllByRecursion (IsLocalView table) all
+        × AllByRecursion (DeclaresPlain own) (over_units (elaborated s) 1 p.units)
+    went = units_went known p.units own.objects own.subs made laws given.marks given.formals home refl 1 1 p.units given.written given.meant given.typed given.none
+
+    pub local_views : (x : ℕ) → is_anonymous (view_of own x) ≡ true → (is_variable (object_at own x).kind ≡ true) × (is_package_object own x ≡ false)
+    local_views x =
+        subst (λ os. IsLocalObject table (get_or os x text_io)) (sym objects_are)
+        (all_local table (counts_plain _ laws.whole) all went.1 x)
+
+    shared_plain : (x : ℕ) → is_package_object own x ≡ true → is_anonymous (view_of own x) ≡ false
+    shared_plain x shared = by (is_anonymous (view_of own x)) refl
+      where
+        no : (b : Bool) → b ≡ true → b ≡ false → ⊥
+        no true e f = cc
+        no false e f = cc
+
+        by : (b : Bool) → is_anonymous (view_of own x) ≡ b → is_anonymous (view_of own x) ≡ false
+        by true view = absurd (no (is_package_object own x) shared (local_views x view).1)
+        by false plain = plain
+
+    pub package_values : names_no_view own (elaboration s p.units).body ≡ true
+    package_values =
+        declarations_plain own (is_package_object own) shared_plain (over_units (elaborated s) 1 p.units) [] (units_declare s 1 p.units given.written) went.2 (λ x has. absurd has) given.values
+
+    laid : (sub : TypedSub) → Has (bodies_of p) sub → IsLaidBody p.units s own scopes sub
+    laid sub has =
+        units_laid p.units s own scopes object given.names home 1 1 p.units [] given.written
+        (all_at s own all refl objects_are given.once) (all_around scopes (over_units (scopes_in 0) 1 p.units) scopes_are) (λ d none. absurd none) given.fits sub has
+
+    body_layered : (sub : TypedSub) → Has (bodies_of p) sub → (n : ℕ) × (is_body_layered own (is_older own scopes) (fits own) n sub ≡ true)
+    unfolding objects_in scopes_in
+    body_layered sub has =
+        let b = laid sub has in
+        let n : ℕ = b.level in
+        let z : Site = placed (in_subprogram b.front) b.site in
+        let h : Home = local b.home in
+        let fs : List DeclaredObject = flat_map (formals_of h n) (front_formals b.front) in
+        let first : List DeclaredObject = objects_in p.units h n (n + 1) b.items in
+        let second : List DeclaredObject = objects_in p.units h n (n + 1 + scope_count b.items) b.stmts in
+        let k : ℕ = b.first + length fs in
+        let body : TypedCode = typed_body z (n + 1) b.items b.stmts in
+        let at : AreAt z own k (first ++ second) = at_site s z own k (first ++ second) b.same (at_right s own b.first fs (first ++ second) (regrouped s b.first fs first second b.objects)) in
+        let around : AreAround scopes (n + 1) (scopes_in n (n + 1) b.items ++ scopes_in n (n + 1 + scope_count b.items) b.stmts)
+        = next_around (suc n) (n + 1) (scopes_in n (n + 1) b.items ++ scopes_in n (n + 1 + scope_count b.items) b.stmts) (omega arith) b.inner.1 in
+        let goes = body_goes own scopes inner z p.units h k n [] b.items b.stmts b.declarations b.statements at around (λ y none. absurd none) in
+        let body_is : body ≡ sub.body = ap (λ (t : TypedSub). t.body) b.is in
+        let none_is : sub.formals ≡ [] = given.formless sub has in
+        let loose : is_layered own (is_older own scopes) nothing_asked [] sub.body ≡ true = subst (λ c. is_layered own (is_older own scopes) nothing_asked [] c ≡ true) body_is goes.1 in
+        let seen : is_seen (λ y. nat_lt y b.first) [] sub.body ≡ true = subst (λ xs. is_seen (λ y. nat_lt y b.first) (reverse xs) sub.body ≡ true) none_is b.seen in
+        let up : (x : ℕ) → Has (declared_within sub.body) x → b.first ≤ x
+        = λ x there. (let more = high z own k (first ++ second) at x (subst (λ xs. Has xs x) (ap declared_within (sym body_is) ∙ body_same z p.units h n (n + 1) (n + 1) b.items b.stmts b.declarations b.statements) there)
+        in omega (arith, more)) in
+        let whole = joined own scopes b.first sub.body [] loose seen (all_has (λ (t : TypedSub). all_fit (has_source own) t.body ≡ true) (bodies_of p) sub went.0 has) up in (
+          n,
+          subst (λ xs. are_of_scope own n (declared sub.body) && (are_apart own n (reverse xs) && is_layered own (is_older own scopes) (fits own) (reverse xs) sub.body) ≡ true) (sym none_is)
+              (both_true (are_of_scope own n (declared sub.body)) (true && is_layered own (is_older own scopes) (fits own) [] sub.body)
+              (subst (λ c. are_of_scope own n (declared c) ≡ true) body_is goes.0) whole),
+        )
+      where
+        next_around : (m j : ℕ) (bs : List ℕ) → m ≡ j → AreAround scopes m bs → AreAround scopes j bs
+        next_around m j bs e h = subst (λ i. AreAround scopes i bs) e h
+
+        regrouped : (t : Site) (j : ℕ) (fs os us : List DeclaredObject) → AreAt t own j ((fs ++ os) ++ us) → AreAt t own j (fs ++ (os ++ us))
+        regrouped t j [] os us h = h
+        regrouped t j (f ∷ fs) os us h = (h.0, h.1, regrouped t (suc j) fs os us h.2)
+
+    -- The views of the program are in order.
+    pub views_in_order : AreViewsInOrder table (typed_of p) (elaboration s p.units) (bodies_of p)
+    views_in_order = record { values = package_values; inner = inner; layered = body_layered; local = local_views }
