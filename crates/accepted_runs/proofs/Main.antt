@@ -9,7 +9,14 @@ use Rattle.flow_paths.specs.declared.report.Effects.{Effects}
 use Rattle.soundness.specs.Sound.{RunIsSound}
 use Rattle.program_check.specs.Sources.{flow_of}
 use Rattle.order_laws.specs.Orderly.{typed_of}
-use Rattle.sound_files.specs.Class.{IsPlainText, CallsNothing, CallsProcedures, HasNoFunction}
+use Rattle.name_events.specs.Identified.{identified}
+use Rattle.file_positions.specs.Texts.{AreParsed}
+use Rattle.file_positions.proofs.Ascending.{events_ascend}
+use Rattle.file_positions.proofs.Main.{files_apart, files_ended}
+use Rattle.typed_steps.specs.Steps.{AreTyped}
+use Rattle.typed_files.proofs.Main.{files_steps}
+use Rattle.sound_files.specs.Class.{IsNamedText, IsPlainText, CallsNothing, CallsProcedures, HasNoFunction, HasScalarFormals, CopiesToVariables}
+use Rattle.sound_files.proofs.First.{named_text, formless_scalar, formless_copies}
 use Rattle.sound_files.proofs.Main.{parsed_sound}
 use Rattle.sound_files.proofs.Procedures.{parsed_procedures_sound}
 use Rattle.exact_facts.specs.Exact.{RunHolds}
@@ -57,17 +64,35 @@ accepted_sound stored input words names answer command product zero =
 
 -- ---- the second class
 
--- What is called is called as a procedure, and is one.
+-- What is called is called as a procedure, and is one. Its formals are of scalar types, and actuals of modes `out`
+-- and `in out` go through no access value.
 pub record AreInSecondClass (trees : List (List SourceUnit)) : Type 0 where
-  pub text : IsPlainText (program_of trees)
+  pub text : IsNamedText (program_of trees)
   pub procedures : HasNoFunction (program_of trees)
   pub calls : CallsProcedures (flow_of trees)
+  pub formals : HasScalarFormals (flow_of trees)
+  pub copied : CopiesToVariables (flow_of trees)
+
+-- So it is where no subprogram has formals.
+pub formless_second : (trees : List (List SourceUnit)) → IsPlainText (program_of trees) → HasNoFunction (program_of trees) → CallsProcedures (flow_of trees)
+    → AreInSecondClass trees
+formless_second trees text procedures calls = record {
+  text = named_text (program_of trees) text;
+  procedures = procedures;
+  calls = calls;
+  formals = formless_scalar (program_of trees) text calls;
+  copied = formless_copies (program_of trees) text;
+}
 
 pub passed_procedures_sound : (texts : List (List ℕ)) (trees : List (List SourceUnit)) (effects : Effects) → Passes texts trees effects → AreInSecondClass trees
     → RunsAreSound trees
 passed_procedures_sound texts trees effects passes class input =
-    parsed_procedures_sound trees passes.cuts (are_parsed texts 0 TOKENS passes.cuts trees passes.cut passes.parsed) passes.named passes.typed class.text
-    class.procedures effects passes.effects_are passes.none class.calls input
+    let parsed : AreParsed 0 passes.cuts trees = are_parsed texts 0 TOKENS passes.cuts trees passes.cut passes.parsed in
+    let typed : AreTyped (flow_of trees)
+    = files_steps trees (files_apart passes.cuts trees parsed) (files_ended (identified trees) passes.cuts trees parsed) (events_ascend passes.cuts trees parsed)
+    passes.named passes.typed in
+    parsed_procedures_sound trees passes.cuts parsed passes.named passes.typed class.text class.procedures effects passes.effects_are passes.none typed class.calls
+    class.formals class.copied input
 
 -- If the tool answers a check with status 0, and the program is in this class, its runs are sound.
 pub accepted_procedures_sound : (stored : List (List ℕ × List ℕ)) (input : List ℕ) (words names : List (List ℕ)) (answer : Answer)

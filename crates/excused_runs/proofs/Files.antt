@@ -27,7 +27,7 @@ use Rattle.soundness.proofs.Points.{flow_table}
 use Rattle.order_laws.specs.Orderly.{typed_of}
 use Rattle.sound_files.specs.Class.{IsPlainText, CallsNothing}
 use Rattle.sound_files.proofs.Fine.{files_fine}
-use Rattle.sound_files.proofs.First.{first_class}
+use Rattle.sound_files.proofs.First.{text_views, first_class}
 use Rattle.sound_files.proofs.Main.{files_orderly}
 use Rattle.excused_runs.proofs.Main.{accepted_holds}
 
@@ -52,10 +52,10 @@ module _ (files : List (List SourceUnit)) where
         no_reports = none;
         effects_are = are;
         settled = files_settled files apart ended no_fault (typed_of p);
-        fine = files_fine files apart ended up named no_fault text calls;
+        fine = files_fine files apart ended up named no_fault (text_views p text.named) calls;
       })
       (subst OwnsByShape (flow_table table (typed_of p)) (files_own files apart ended no_fault (typed_of p))) (first_class p text calls)
-      (files_orderly files apart ended up named no_fault text) input
+      (files_orderly files apart ended up named no_fault (text_views p text.named) text.main text.is_main) input
 
   -- So it is if the files are parsed from texts: then their positions are as in a text.
   pub parsed_hold : (texts : List (List Cut)) → AreParsed 0 texts files → name_fault files ≡ None → type_fault p ≡ None → IsPlainText p

@@ -1,5 +1,5 @@
 -- Parsed files have no more literals of enumerations than tokens.
-use Rattle.std.proofs.Common.{◌≡◌, ◌≤◌, inl, inr, ℕ, suc, ◌+◌, ◌-◌, List, [], ◌∷◌, ◌++◌, map, length, length-append, refl, sym, ap, ◌∙◌, subst, arith}
+use Rattle.std.proofs.Common.{◌≡◌, ◌≤◌, inl, inr, ℕ, suc, ◌+◌, ◌-◌, List, [], ◌∷◌, ◌++◌, map, length, length-append, sym, ap, ◌∙◌, arith}
 use Rattle.std.specs.Prelude.{flat_map}
 use Rattle.std.proofs.lemmas.List.{length-map}
 use Rattle.spark_base.specs.declared.position.Pos.{Pos}
@@ -15,13 +15,13 @@ use Rattle.name_events.specs.declared.event.Event.TheVariants as e
 use Rattle.name_events.specs.declared.declaration.DeclarationForm.{DeclarationForm}
 use Rattle.name_events.specs.declared.declaration.DeclarationForm.TheVariants as form
 use Rattle.name_events.specs.Outline.{source_events}
-use Rattle.resolved_tree.specs.Trees.{More, Code, Enumeration, TypeDecl, SubDecl, SubBody, Package, PackageBody, If, Branch, Case, When, Loop, While, For, Block}
+use Rattle.resolved_tree.specs.Trees.{More, Code, Enumeration, TypeDecl, SubBody, Package, PackageBody, If, Branch, Case, When, Loop, While, For, Block}
 use Rattle.expression_lowering.specs.LoweredExpressions.{Numbers}
 use Rattle.tree_lowering.specs.Lowered.{lowered_files}
 use Rattle.file_positions.specs.Order.{IsLeftOf, token_position, token_positions, spelled_positions, event_position, event_positions}
 use Rattle.file_positions.specs.Texts.{told_cut, AreParsed}
 use Rattle.file_positions.proofs.Ascending.{text_positions, file_positions, events_left}
-use Rattle.meant_files.specs.Declarations.{Declarations, each_as, literals_of, front_declarations, declarations, declared_by}
+use Rattle.meant_files.specs.Declarations.{each_as, literals_of, front_declarations, declarations, declared_by}
 use Rattle.meant_files.proofs.Walk.{files_declared}
 use Rattle.typed_texts.specs.Literals.{id_count, defined_count, literal_count}
 use Rattle.lowered_sources.specs.Tokens.{token_count}

@@ -1,5 +1,5 @@
--- The law: parsed files without formals and anonymous access types that break no rule of names and of types are lowered.
-use Rattle.std.proofs.Common.{◌≡◌, ◌≤◌, ℕ, suc, true, List, ◌∷◌, map, ℤ, pos, negsuc, None, arith}
+-- The law: parsed files that break no rule of names and of types are lowered.
+use Rattle.std.proofs.Common.{◌≡◌, ◌≤◌, ℕ, true, List, ◌∷◌, map, ℤ, pos, negsuc, None, arith}
 use Rattle.spark_base.specs.Lists.{Has}
 use Rattle.ada_lexer.specs.Tokens.{Cut}
 use Rattle.ada_tree.specs.declared.unit.SourceUnit.{SourceUnit}
@@ -34,7 +34,6 @@ use Rattle.typed_runs.specs.Meant.{typed_in, laid_in, site_in}
 use Rattle.typed_texts.specs.Literals.{literal_count}
 use Rattle.typed_texts.specs.Meant.{IsMeant}
 use Rattle.typed_texts.proofs.Bounds.{at_most, HasBoth, IsPosition, bounds_kept, positions_kept}
-use Rattle.typed_files.specs.Class.{IsBareText}
 use Rattle.typed_files.proofs.Main.{are_meant}
 use Rattle.run_codes.specs.Lowered.{max_position}
 use Rattle.run_codes.specs.Programs.{lowered_program}
@@ -99,12 +98,12 @@ module _ (files : List (List SourceUnit)) where
   p = program_of files
 
   module _ (apart : AreApart (identified files)) (ended : AllEnded at_start p.units) (up : Ascends (event_positions (source_events files))) (named : name_fault files ≡ None)
-      (none : type_fault p ≡ None) (text : IsBareText p) (few : (u : Code) → Has p.units u → literal_count u ≤ 2147483648) where
+      (none : type_fault p ≡ None) (few : (u : Code) → Has p.units u → literal_count u ≤ 2147483648) where
     once : Once (map (λ (o : DeclaredObject). o.number) (program_objects (known_of p) p.units))
     once = files_once files apart (known_of p)
 
     meant : IsMeant p
-    meant = are_meant files apart ended up named none text
+    meant = are_meant files apart ended up named none
 
     -- Files with few literals, whose identifiers stand in the order of the text.
     pub files_lowered : lowered_program (laid_in p) ≡ None → ⊥
@@ -114,7 +113,7 @@ module _ (files : List (List SourceUnit)) where
 
   -- The law.
   pub parsed_lowered : (texts : List (List Cut)) → AreParsed 0 texts files → token_count texts ≤ max_position → name_fault files ≡ None → type_fault p ≡ None
-      → IsBareText p → lowered_program (laid_in p) ≡ None → ⊥
-  parsed_lowered texts parsed short named none text =
-      files_lowered (files_apart texts files parsed) (files_ended (identified files) texts files parsed) (events_ascend texts files parsed) named none text
+      → lowered_program (laid_in p) ≡ None → ⊥
+  parsed_lowered texts parsed short named none =
+      files_lowered (files_apart texts files parsed) (files_ended (identified files) texts files parsed) (events_ascend texts files parsed) named none
       (λ u has. (let less = literals_few (identified files) texts files parsed u has in omega (arith, less, short)))

@@ -4,5 +4,5 @@
 //! Of the premises of `lowered_texts`, initial values of package objects call no function
 //! (`proofs/Still.antt`, `Packages`), since a sentence of typing forbids it. The positions of literals
 //! are words (`Readings`, `Trees`, `Statements`), since a text has at most as many literals as tokens
-//! (`Few`). `Main` has the law for the class of `typed_files`. Nothing here runs.
+//! (`Few`). `Main` has the law. Nothing here runs.
 #![tactic(auto)]

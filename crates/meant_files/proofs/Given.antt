@@ -1,9 +1,9 @@
--- What is known of declarations at a place of the text: each that stands before has its kind, and those of objects
--- stay as they are.
-use Rattle.std.proofs.Common.{◌≡◌, ◌⊎◌, inl, inr, ℕ, suc, ◌+◌, ◌<◌, ◌≤◌, Bool, true, false, List, [], ◌∷◌, ◌++◌, length, set, get_or, refl, sym, ap, ◌∙◌, arith, subst, true≢false, if◌then◌else◌}
+-- What is known of declarations at a place of the text: each that stands before has its kind.
+use Rattle.std.proofs.Common.{◌≡◌, ◌⊎◌, inl, inr, ℕ, suc, ◌+◌, ◌<◌, ◌≤◌, Bool, true, false, List, [], ◌∷◌, ◌++◌, length, set, get_or, refl, sym, ap, ◌∙◌, arith, subst, true≢false, append_assoc, if◌then◌else◌}
+use Rattle.std.proofs.lemmas.Bool.{cases_eq}
 use Rattle.spark_base.specs.Lists.{Has}
-use Rattle.spark_base.proofs.Lists.{Has-append_left, Has-append_right}
-use Rattle.resolved_tree.specs.Trees.{NoMore, More, Code, Anonymous, Enumeration, Incomplete, Private, TypeDecl, Subtype, ConstrainedSubtype, Objects, Numbers, Instance, Front, SubDecl, SubBody, Package, PackageBody, If, Branch, Case, When, Loop, While, For, Block}
+use Rattle.spark_base.proofs.Lists.{Has-append_cases, Has-append_left, Has-append_right}
+use Rattle.resolved_tree.specs.Trees.{More, Code, Anonymous, Enumeration, Incomplete, Private, TypeDecl, Subtype, ConstrainedSubtype, Objects, Numbers, Instance, Formals, Front, SubDecl, SubBody, Package, PackageBody, If, Branch, Case, When, Loop, While, For, Block}
 use Rattle.name_events.specs.declared.declaration.DeclarationForm.{DeclarationForm}
 use Rattle.name_events.specs.declared.declaration.DeclarationForm.TheVariants as form
 use Rattle.name_events.specs.declared.declaration.DeclKind.{DeclKind}
@@ -15,11 +15,10 @@ use Rattle.type_definitions.specs.declared.table.Entry.{Entry}
 use Rattle.type_definitions.specs.declared.table.Entry.TheVariants as entry
 use Rattle.type_definitions.specs.Entries.{entry_of}
 use Rattle.type_definitions.specs.Names.{Context}
-use Rattle.type_definitions.specs.Gathered.{gather, each, with_entry, with_type, with_indication, full_info, with_literals, with_definition, with_object, object_info, constant_value, indicated, with_number, number_info, initial_value, with_formal_group, with_formals, with_result, with_front, with_body_front, profile, is_subprogram, front_number, plain_object, parameter_type, in_subprogram, in_visible, in_hidden, instance_type, declared_number}
+use Rattle.type_definitions.specs.Gathered.{gather, each, with_entry, with_type, with_indication, full_info, with_literals, with_definition, with_object, object_info, constant_value, indicated, with_number, number_info, initial_value, with_formal, with_formal_group, with_formals, with_result, with_front, with_body_front, profile, is_subprogram, front_number, plain_object, parameter_type, in_subprogram, in_visible, in_hidden, instance_type, declared_number}
 use Rattle.type_definitions.specs.Whole.{predefined_entries}
 use Rattle.meant_files.proofs.Lists.{entry_put, entry_there, entry_other, set_long, append_nothing, at_most}
-use Rattle.meant_files.specs.Formless.{IsFormlessFront, IsFormless}
-use Rattle.meant_files.specs.Declarations.{Declarations, each_as, literals_of, formal_declarations, front_declarations, body_form, form_of_result, declarations}
+use Rattle.meant_files.specs.Declarations.{Declarations, each_as, literals_of, group_declarations, formal_declarations, front_declarations, body_form, form_of_result, declarations}
 use Rattle.meant_files.specs.Counted.{is_completing, Counts}
 
 -- ---- numbers that are counted
@@ -53,6 +52,7 @@ is_type_kind _ = false
 
 abbrev pub is_object_kind : DeclKind → Bool
 is_object_kind kinds.Object = true
+is_object_kind kinds.Formal = true
 is_object_kind kinds.Parameter = true
 is_object_kind _ = false
 
@@ -60,6 +60,7 @@ is_object_kind _ = false
 abbrev pub kind_class : DeclKind → ℕ
 kind_class kinds.TypeName = 0
 kind_class kinds.Object = 1
+kind_class kinds.Formal = 1
 kind_class kinds.Parameter = 1
 kind_class kinds.Subprogram = 2
 kind_class _ = 3
@@ -91,7 +92,7 @@ module _ (kind_at : ℕ → DeclKind) where
     pub long : limit ≤ length xs
 
   -- What is declared here has the next number, or an earlier one.
-  abbrev Places : ℕ → ℕ → ℕ → Type 0
+  abbrev pub Places : ℕ → ℕ → ℕ → Type 0
   Places k d j = ((d ≡ k) × (j ≡ suc k)) ⊎ ((15 ≤ d) × (d < k) × (j ≡ k))
 
   pub put : (limit : ℕ) (xs : List Entry) (k d j : ℕ) (x : Entry) → 15 ≤ k → j ≤ limit → Places k d j → IsRight d x → is_put x ≡ true → Given limit xs k → Given limit (set xs d x) j
@@ -123,7 +124,91 @@ module _ (kind_at : ℕ → DeclKind) where
           ap is_put (ap (λ m. get_or (set xs d x) m entry.Nothing) same ∙ entry_there xs d x entry.Nothing (let a = given.long in omega (arith, a, within, same, less))) ∙ is
       by n more less (inr low) = entry_put (λ m e. is_put e ≡ true) xs d n x entry.Nothing is (given.covered n more low)
 
-  -- What is known of code without formals.
+  -- The same while the formals of the subprogram with the number `h` are declared, before itself.
+  pub record Opened (limit : ℕ) (xs : List Entry) (h k : ℕ) : Type 0 where
+    pub low : (n : ℕ) → n < 15 → get_or xs n entry.Nothing ≡ get_or predefined_entries n entry.Nothing
+    pub right : (n : ℕ) → 15 ≤ n → IsRight n (get_or xs n entry.Nothing)
+    pub covered : (n : ℕ) → 15 ≤ n → n < k → (n ≡ h → ⊥) → is_put (get_or xs n entry.Nothing) ≡ true
+    pub fresh : (n : ℕ) → 15 ≤ n → k ≤ n → get_or xs n entry.Nothing ≡ entry.Nothing
+    pub long : limit ≤ length xs
+
+  -- the subprogram's number is taken
+  pub opened : (limit : ℕ) (xs : List Entry) (h k j : ℕ) → Places k h j → Given limit xs k → Opened limit xs h j
+  opened limit xs h k j at given = record {
+    low = given.low;
+    right = given.right;
+    covered = λ n more less other. given.covered n more (elim at [
+      | inl next ↦ (let a = next.0 in let b = next.1 in elim (at_most n k (omega (arith, b, less))) [
+        | inl same ↦ absurd (other (same ∙ sym a))
+        | inr under ↦ under
+      ])
+      | inr old ↦ (let b = old.2 in omega (arith, b, less))
+    ]);
+    fresh = λ n more over. given.fresh n more (elim at [
+      | inl next ↦ (let b = next.1 in omega (arith, b, over))
+      | inr old ↦ (let b = old.2 in omega (arith, b, over))
+    ]);
+    long = given.long;
+  }
+
+  pub put_open : (limit : ℕ) (xs : List Entry) (h k d j : ℕ) (x : Entry) → 15 ≤ k → j ≤ limit → Places k d j → IsRight d x → is_put x ≡ true → Opened limit xs h k
+      → Opened limit (set xs d x) h j
+  put_open limit xs h k d j x high within at right is free =
+      let late : 15 ≤ d = elim at [ inl next ↦ (let a = next.0 in omega (arith, a, high)) | inr old ↦ old.0 ] in record {
+        low = λ n less. entry_other xs d n x entry.Nothing (λ same. omega (arith, same, less, late)) ∙ free.low n less;
+        right = λ n more. entry_put IsRight xs d n x entry.Nothing right (free.right n more);
+        covered = λ n more less other. by n more less other (elim at [
+          | inl next ↦ (let a = next.0 in let b = next.1 in elim (at_most n d (omega (arith, a, b, less))) [
+            | inl same ↦ inl same
+            | inr under ↦ inr (omega (arith, under, a))
+          ])
+          | inr old ↦ (let b = old.2 in inr (omega (arith, b, less)))
+        ]);
+        fresh = λ n more over.
+            entry_other xs d n x entry.Nothing (λ same. elim at [
+              | inl next ↦ (let a = next.0 in let b = next.1 in omega (arith, a, b, over, same))
+              | inr old ↦ (let a = old.1 in let b = old.2 in omega (arith, a, b, over, same))
+            ])
+            ∙ free.fresh n more (elim at [
+              | inl next ↦ (let b = next.1 in omega (arith, b, over))
+              | inr old ↦ (let b = old.2 in omega (arith, b, over))
+            ]);
+        long = let a = set_long xs d x in let b = free.long in omega (arith, a, b);
+      }
+    where
+      by : (n : ℕ) → 15 ≤ n → n < j → (n ≡ h → ⊥) → (n ≡ d) ⊎ (n < k) → is_put (get_or (set xs d x) n entry.Nothing) ≡ true
+      by n more less other (inl same) =
+          ap is_put (ap (λ m. get_or (set xs d x) m entry.Nothing) same ∙ entry_there xs d x entry.Nothing (let a = free.long in omega (arith, a, within, same, less))) ∙ is
+      by n more less other (inr low) = entry_put (λ m e. is_put e ≡ true) xs d n x entry.Nothing is (free.covered n more low other)
+
+  -- it is declared already
+  closed : (limit : ℕ) (xs : List Entry) (h k : ℕ) → is_put (get_or xs h entry.Nothing) ≡ true → Opened limit xs h k → Given limit xs k
+  closed limit xs h k is free = record {
+    low = free.low;
+    right = free.right;
+    covered = λ n more less. elim (cases_eq n h) [
+      | inl same ↦ ap (λ m. is_put (get_or xs m entry.Nothing)) same ∙ is
+      | inr other ↦ free.covered n more less other
+    ];
+    fresh = free.fresh;
+    long = free.long;
+  }
+
+  -- or it is declared now
+  put_closed : (limit : ℕ) (xs : List Entry) (h k : ℕ) (x : Entry) → 15 ≤ h → h < k → k ≤ limit → IsRight h x → is_put x ≡ true → Opened limit xs h k
+      → Given limit (set xs h x) k
+  put_closed limit xs h k x high less within right is free =
+      let here : Opened limit (set xs h x) h k = record {
+        low = λ n small. entry_other xs h n x entry.Nothing (λ same. omega (arith, same, small, high)) ∙ free.low n small;
+        right = λ n more. entry_put IsRight xs h n x entry.Nothing right (free.right n more);
+        covered = λ n more small other. entry_put (λ m e. is_put e ≡ true) xs h n x entry.Nothing is (free.covered n more small other);
+        fresh = λ n more over. entry_other xs h n x entry.Nothing (λ same. omega (arith, same, over, less)) ∙ free.fresh n more over;
+        long = let a = set_long xs h x in let b = free.long in omega (arith, a, b);
+      } in
+      let long = free.long in
+      closed limit (set xs h x) h k (ap is_put (entry_there xs h x entry.Nothing (omega (arith, less, within, long))) ∙ is) here
+
+  -- What code declares is counted and has its kinds.
   abbrev pub Goes : ℕ → ℕ → Declarations → ℕ → Type 0
   Goes limit k all j = Counts k all j × AreKinds all × (15 ≤ k) × (j ≤ limit)
 
@@ -213,12 +298,86 @@ module _ (kind_at : ℕ → DeclKind) where
         (class_right form.Object n x refl) refl given (λ m on now. numbers_given v rest (with_number v d c) m j on now)
     numbers_given v ids c k j goes given = done k j c goes given
 
-    result_given : (d : ℕ) (result : Code) (c : Context) (k : ℕ) → At c k → At (with_result d result c) k
+    pub result_given : (d : ℕ) (result : Code) (c : Context) (k : ℕ) → At c k → At (with_result d result c) k
     result_given d (More i rest) c k given = indication_given d i c k given
     result_given d result c k given = given
 
-    groups_given : (formals : Code) (c : Context) (k : ℕ) → formals ≡ NoMore → At c k → At (each with_formal_group formals c) k
-    groups_given formals c k none given = subst (λ list. At (each with_formal_group list c) k) (sym none) given
+    -- the numbers of these are less
+    abbrev pub Below : Declarations → ℕ → Type 0
+    Below front m = (new : DeclarationForm) (n : ℕ) → Has front (new, n) → n < m
+
+    abbrev pub Open : Context → ℕ → ℕ → Type 0
+    Open c h k = Opened limit c.known.entries h k
+
+    -- some formals more
+    pub record Formed (front : Declarations) (h k : ℕ) (L : Declarations) (j : ℕ) (c e : Context) : Type 0 where
+      pub to : ℕ
+      pub below : (new : DeclarationForm) (n : ℕ) → Has front (new, n) → n < to
+      pub more : k ≤ to
+      pub goes : Goes limit to L j
+      pub free : Open e h to
+      pub kept : is_put (entry_of c.known h) ≡ true → is_put (entry_of e.known h) ≡ true
+
+    pub indication_open : (d : ℕ) (i : Code) (c : Context) (h k : ℕ) → Open c h k → Open (with_indication d i c) h k
+    indication_open d (Anonymous p constant m) c h k free = free
+    indication_open d i c h k free = free
+
+    indication_kept : (d : ℕ) (i : Code) (c : Context) (h : ℕ) → is_put (entry_of c.known h) ≡ true → is_put (entry_of (with_indication d i c).known h) ≡ true
+    indication_kept d (Anonymous p constant m) c h is = is
+    indication_kept d i c h is = is
+
+    pub names_given : (h : ℕ) (of ids : Code) (c : Context) (k : ℕ) (L : Declarations) (j : ℕ) → Goes limit k (each_as form.Formal ids ++ L) j → Open c h k
+        → Formed (each_as form.Formal ids) h k L j c (each (with_formal of) ids c)
+    names_given h of (More d rest) c k L j goes free =
+        let n : ℕ = declared_number d in
+        let inner : Context = with_indication n of c in
+        let x : Entry = entry.Object (plain_object (indicated c.known n of) kind.Formal) in
+        let f = first_placed limit k form.Formal n (each_as form.Formal rest ++ L) j goes in
+        let now = put_open limit inner.known.entries h k n f.0 x goes.2 f.4 f.1 (class_right form.Formal n x refl f.3) refl (indication_open n of c h k free) in
+        let g = names_given h of rest (with_formal of d c) f.0 L j f.2 now in
+        let first : k ≤ f.0 = elim f.1 [ inl next ↦ (let a = next.1 in omega (arith, a)) | inr old ↦ (let a = old.2 in omega (arith, a)) ] in
+        let on = g.more in record {
+          to = g.to;
+          below = λ new m has. elim has [
+            | inl same ↦
+                (let a = ap (λ (x : DeclarationForm × ℕ). x.1) same in
+                elim f.1 [
+                  | inl next ↦ (let b = next.0 in let e = next.1 in omega (arith, a, b, e, on))
+                  | inr old ↦ (let b = old.1 in let e = old.2 in omega (arith, a, b, e, on))
+                ])
+            | inr later ↦ g.below new m later
+          ];
+          more = omega (arith, first, on);
+          goes = g.goes;
+          free = g.free;
+          kept = λ is. g.kept (entry_put (λ m e. is_put e ≡ true) inner.known.entries n h x entry.Nothing refl (indication_kept n of c h is));
+        }
+    names_given h of ids c k L j goes free = record { to = k; below = λ new m has. absurd has; more = omega arith; goes = goes; free = free; kept = λ is. is }
+
+    pub group_given : (h : ℕ) (group : Code) (c : Context) (k : ℕ) (L : Declarations) (j : ℕ) → Goes limit k (group_declarations group ++ L) j → Open c h k
+        → Formed (group_declarations group) h k L j c (with_formal_group group c)
+    group_given h (Formals names m of) c k L j goes free = names_given h of names c k L j goes free
+    group_given h group c k L j goes free = record { to = k; below = λ new m has. absurd has; more = omega arith; goes = goes; free = free; kept = λ is. is }
+
+    pub groups_given : (h : ℕ) (formals : Code) (c : Context) (k : ℕ) (L : Declarations) (j : ℕ) → Goes limit k (formal_declarations formals ++ L) j → Open c h k
+        → Formed (formal_declarations formals) h k L j c (each with_formal_group formals c)
+    groups_given h (More group rest) c k L j goes free =
+        let f = group_given h group c k (formal_declarations rest ++ L) j
+        (subst (λ ds. Goes limit k ds j) (append_assoc (group_declarations group) (formal_declarations rest) L) goes) free in
+        let g = groups_given h rest (with_formal_group group c) f.to L j f.goes f.free in
+        let first = f.more in
+        let on = g.more in record {
+          to = g.to;
+          below = λ new m has. elim (Has-append_cases (group_declarations group) (formal_declarations rest) (new, m) has) [
+            | inl here ↦ (let less = f.below new m here in omega (arith, less, on))
+            | inr later ↦ g.below new m later
+          ];
+          more = omega (arith, first, on);
+          goes = g.goes;
+          free = g.free;
+          kept = λ is. g.kept (f.kept is);
+        }
+    groups_given h formals c k L j goes free = record { to = k; below = λ new m has. absurd has; more = omega arith; goes = goes; free = free; kept = λ is. is }
 
     no_front : (k : ℕ) (new : DeclarationForm) (L : Declarations) (j : ℕ) → Goes limit k ((new, 0) ∷ L) j → ⊥
     no_front k new L j goes =
@@ -228,47 +387,41 @@ module _ (kind_at : ℕ → DeclKind) where
           | inr late ↦ (let a = late.0 in absurd (omega (arith, a)))
         ]
 
-    front_given : (new : DeclarationForm) (front : Code) (c : Context) (k : ℕ) (L : Declarations) (j : ℕ) → IsFormlessFront front → kind_class (kind_of new) ≡ 2
+    front_given : (new : DeclarationForm) (front : Code) (c : Context) (k : ℕ) (L : Declarations) (j : ℕ) → kind_class (kind_of new) ≡ 2
         → Goes limit k ((new, front_number front) ∷ (front_declarations front ++ L)) j → At c k
-        → (m : ℕ) × Goes limit m L j × At (with_front front c) m
-    front_given new (Front d formals result) c k L j none never goes given =
+        → (m : ℕ) × Goes limit m L j × At (with_front front c) m × Below (front_declarations front) m
+    front_given new (Front d formals result) c k L j class goes given =
         let n : ℕ = declared_number d in
-        let inner : Context = each with_formal_group formals (with_result n result c) in
+        let first : Context = with_result n result c in
+        let inner : Context = each with_formal_group formals first in
         let x : Entry = entry.Subprogram (profile inner.known (Front d formals result)) in
-        let bare = subst (λ list. Goes limit k ((new, n) ∷ (formal_declarations list ++ L)) j) none goes in
-        one k new n L j x inner ((m : ℕ) × Goes limit m L j × At (with_front (Front d formals result) c) m) bare
-        (class_right new n x never) refl (groups_given formals (with_result n result c) k none (result_given n result c k given))
-        (λ m on now. (m, on, now))
-    front_given new front c k L j none never goes given = absurd (no_front k new (front_declarations front ++ L) j goes)
+        let f = first_placed limit k new n (formal_declarations formals ++ L) j goes in
+        let g = groups_given n formals first f.0 L j f.2 (opened limit first.known.entries n k f.0 f.1 (result_given n result c k given)) in
+        let high = goes.2 in
+        let more = g.more in
+        let grows = counts_grow g.to L j g.goes.0 in
+        let within = goes.3 in
+        let low : 15 ≤ n = elim f.1 [ inl next ↦ (let a = next.0 in omega (arith, a, high)) | inr old ↦ old.0 ] in
+        let less : n < f.0 = elim f.1 [ inl next ↦ (let a = next.0 in let b = next.1 in omega (arith, a, b)) | inr old ↦ (let a = old.1 in let b = old.2 in omega (arith, a, b)) ] in
+        (g.to, g.goes, put_closed limit inner.known.entries n g.to x low (omega (arith, less, more)) (omega (arith, grows, within)) (class_right new n x class f.3) refl g.free, g.below)
+    front_given new front c k L j class goes given = absurd (no_front k new (front_declarations front ++ L) j goes)
 
-    formals_given : (front : Code) (c : Context) (k : ℕ) → IsFormlessFront front → At c k → At (with_formals front c) k
-    formals_given (Front d formals result) c k none given = groups_given formals c k none given
-    formals_given front c k none given = given
-
-    already : (xs : List Entry) (k d m : ℕ) → Places k d m → is_put (get_or xs d entry.Nothing) ≡ true → Given limit xs k → Given limit xs m
-    already xs k d m (inl next) is given = record {
-      low = given.low;
-      right = given.right;
-      covered = λ n more less. by n more (at_most n k (let a = next.1 in omega (arith, a, less)));
-      fresh = λ n more over. given.fresh n more (let a = next.1 in omega (arith, a, over));
-      long = given.long;
-    }
-      where
-        by : (n : ℕ) → 15 ≤ n → (n ≡ k) ⊎ (n < k) → is_put (get_or xs n entry.Nothing) ≡ true
-        by n more (inl same) = ap (λ m. is_put (get_or xs m entry.Nothing)) (same ∙ sym next.0) ∙ is
-        by n more (inr less) = given.covered n more less
-    already xs k d m (inr late) is given = subst (λ n. Given limit xs n) (sym late.2) given
-
-    front_bare : (front : Code) (L : Declarations) → IsFormlessFront front → (k j n : ℕ) (new : DeclarationForm) → Goes limit k ((new, n) ∷ (front_declarations front ++ L)) j
-        → Goes limit k ((new, n) ∷ L) j
-    front_bare (Front d formals result) L none k j n new goes = subst (λ list. Goes limit k ((new, n) ∷ (formal_declarations list ++ L)) j) none goes
-    front_bare front L none k j n new goes = goes
+    -- of a subprogram that is declared already
+    formals_given : (new : DeclarationForm) (front : Code) (c : Context) (k : ℕ) (L : Declarations) (j : ℕ) → is_put (entry_of c.known (front_number front)) ≡ true
+        → Goes limit k ((new, front_number front) ∷ (front_declarations front ++ L)) j → At c k
+        → (m : ℕ) × Goes limit m L j × At (with_formals front c) m × Below (front_declarations front) m
+    formals_given new (Front d formals result) c k L j is goes given =
+        let n : ℕ = declared_number d in
+        let f = first_placed limit k new n (formal_declarations formals ++ L) j goes in
+        let g = groups_given n formals c f.0 L j f.2 (opened limit c.known.entries n k f.0 f.1 given) in
+        (g.to, g.goes, closed limit (each with_formal_group formals c).known.entries n g.to (g.kept is) g.free, g.below)
+    formals_given new front c k L j is goes given = absurd (no_front k new (front_declarations front ++ L) j goes)
 
     sub_put : (e : Entry) → is_subprogram e ≡ true → is_put e ≡ true
     sub_put (entry.Subprogram p) is = refl
     sub_put _ is = absurd (true≢false (sym is))
 
-    body_class : (front : Code) → kind_class (kind_of (body_form front)) ≡ 2
+    pub body_class : (front : Code) → kind_class (kind_of (body_form front)) ≡ 2
     body_class (Front d formals result) = by result
       where
         by : (result : Code) → kind_class (kind_of (form_of_result result)) ≡ 2
@@ -276,77 +429,75 @@ module _ (kind_at : ℕ → DeclKind) where
         by _ = refl
     body_class _ = refl
 
-    pub body_given : (front : Code) (c : Context) (k : ℕ) (L : Declarations) (j : ℕ) → IsFormlessFront front
+    pub body_given : (front : Code) (c : Context) (k : ℕ) (L : Declarations) (j : ℕ)
         → Goes limit k ((body_form front, front_number front) ∷ (front_declarations front ++ L)) j → At c k
-        → (m : ℕ) × Goes limit m L j × At (with_body_front front c) m
-    body_given front c k L j none goes given = by (is_subprogram (entry_of c.known (front_number front))) refl
+        → (m : ℕ) × Goes limit m L j × At (with_body_front front c) m × Below (front_declarations front) m
+    body_given front c k L j goes given = by (is_subprogram (entry_of c.known (front_number front))) refl
       where
         by : (b : Bool) → is_subprogram (entry_of c.known (front_number front)) ≡ b
-            → (m : ℕ) × Goes limit m L j × At (if b then with_formals front c else with_front front c) m
-        by true is =
-            let f = first_placed limit k (body_form front) (front_number front) L j (front_bare front L none k j (front_number front) (body_form front) goes) in
-            (f.0, f.2, formals_given front c f.0 none (already c.known.entries k (front_number front) f.0 f.1 (sub_put (entry_of c.known (front_number front)) is) given))
-        by false is = front_given (body_form front) front c k L j none (body_class front) goes given
+            → (m : ℕ) × Goes limit m L j × At (if b then with_formals front c else with_front front c) m × Below (front_declarations front) m
+        by true is = formals_given (body_form front) front c k L j (sub_put (entry_of c.known (front_number front)) is) goes given
+        by false is = front_given (body_form front) front c k L j (body_class front) goes given
 
     two_given : (x y : Code) (c : Context) (k j : ℕ) → Goes limit k (declarations x ++ declarations y) j
         → ((m : ℕ) → Goes limit k (declarations x) m → At (gather x c) m) → ((m : ℕ) → Goes limit m (declarations y) j → At (gather x c) m → At (gather y (gather x c)) j)
         → At (gather y (gather x c)) j
     two_given x y c k j goes first second = let s = goes_both limit k (declarations x) (declarations y) j goes in second s.0 s.2 (first s.0 s.1)
 
-    pub all_given : (code : Code) (c : Context) (k j : ℕ) → IsFormless code → Goes limit k (declarations code) j → At c k → At (gather code c) j
-    unfolding gather IsFormless
-    all_given (Incomplete d) c k j none goes given =
+    pub all_given : (code : Code) (c : Context) (k j : ℕ) → Goes limit k (declarations code) j → At c k → At (gather code c) j
+    unfolding gather
+    all_given (Incomplete d) c k j goes given =
         one k form.IncompleteType (declared_number d) [] j entry.Type c (At (gather (Incomplete d) c) j) goes (class_right form.IncompleteType (declared_number d) entry.Type refl) refl given
         (λ m on now. done m j (with_entry (declared_number d) entry.Type c) on now)
-    all_given (Private d) c k j none goes given =
+    all_given (Private d) c k j goes given =
         one k form.PrivateType (declared_number d) [] j entry.Type c (At (gather (Private d) c) j) goes (class_right form.PrivateType (declared_number d) entry.Type refl) refl given
         (λ m on now. done m j (with_entry (declared_number d) entry.Type c) on now)
-    all_given (TypeDecl d def end) c k j none goes given =
+    all_given (TypeDecl d def end) c k j goes given =
         let n : ℕ = declared_number d in
         one k form.FullType n (literals_of def) j entry.Type c (At (gather (TypeDecl d def end) c) j) goes (class_right form.FullType n entry.Type refl) refl given
         (λ m on now. definition_given n def (with_type n (full_info c n def end) c) m j on now)
-    all_given (Subtype d m) c k j none goes given =
+    all_given (Subtype d m) c k j goes given =
         one k form.Subtype (declared_number d) [] j entry.Type c (At (gather (Subtype d m) c) j) goes (class_right form.Subtype (declared_number d) entry.Type refl) refl given
         (λ m on now. done m j (with_entry (declared_number d) entry.Type c) on now)
-    all_given (ConstrainedSubtype d m low high) c k j none goes given =
+    all_given (ConstrainedSubtype d m low high) c k j goes given =
         one k form.Subtype (declared_number d) [] j entry.Type c (At (gather (ConstrainedSubtype d m low high) c) j) goes (class_right form.Subtype (declared_number d) entry.Type refl) refl given
         (λ m on now. done m j (with_entry (declared_number d) entry.Type c) on now)
-    all_given (Objects ids constant i v) c k j none goes given = objects_given constant i (constant_value c constant v) ids c k j goes given
-    all_given (Numbers ids e) c k j none goes given = numbers_given (initial_value c e) ids c k j goes given
-    all_given (Instance d m args) c k j none goes given =
+    all_given (Objects ids constant i v) c k j goes given = objects_given constant i (constant_value c constant v) ids c k j goes given
+    all_given (Numbers ids e) c k j goes given = numbers_given (initial_value c e) ids c k j goes given
+    all_given (Instance d m args) c k j goes given =
         let x : Entry = entry.Instance (instance_type args) in
         one k form.Instance (declared_number d) [] j x c (At (gather (Instance d m args) c) j) goes (class_right form.Instance (declared_number d) x refl) refl given
         (λ m on now. done m j (with_entry (declared_number d) x c) on now)
-    all_given (SubDecl front) c k j none goes given =
-        let f = front_given form.SubprogramDeclaration front c k [] j none refl
+    all_given (SubDecl front) c k j goes given =
+        let f = front_given form.SubprogramDeclaration front c k [] j refl
         (subst (λ L. Goes limit k ((form.SubprogramDeclaration, front_number front) ∷ L) j) (sym (append_nothing (front_declarations front))) goes) given in
         done f.0 j (with_front front c) f.1 f.2
-    all_given (SubBody front items stmts end) c k j none goes given =
+    all_given (SubBody front items stmts end) c k j goes given =
         let inner : Context = in_subprogram front (with_body_front front c) in
-        let f = body_given front c k (declarations items ++ declarations stmts) j none.0 goes given in
-        two_given items stmts inner f.0 j f.1 (λ m on. all_given items inner f.0 m none.1 on f.2) (λ m on now. all_given stmts (gather items inner) m j none.2 on now)
-    all_given (Package d visible hidden) c k j none goes given =
+        let f = body_given front c k (declarations items ++ declarations stmts) j goes given in
+        two_given items stmts inner f.0 j f.1 (λ m on. all_given items inner f.0 m on f.2) (λ m on now. all_given stmts (gather items inner) m j on now)
+    all_given (Package d visible hidden) c k j goes given =
         let n : ℕ = declared_number d in
         let start : Context = in_visible n (with_entry n entry.Package c) in
         one k form.Package n (declarations visible ++ declarations hidden) j entry.Package c (At (gather (Package d visible hidden) c) j) goes
         (class_right form.Package n entry.Package refl) refl given
         (λ m on now. let s = goes_both limit m (declarations visible) (declarations hidden) j on in
-        all_given hidden (in_hidden n (gather visible start)) s.0 j none.1 s.2 (all_given visible start m s.0 none.0 s.1 now))
-    all_given (PackageBody d parts) c k j none goes given = all_given parts (in_hidden (declared_number d) c) k j none goes given
-    all_given (If at x y) c k j none goes given =
-        two_given x y c k j goes (λ m on. all_given x c k m none.0 on given) (λ m on now. all_given y (gather x c) m j none.1 on now)
-    all_given (Branch at e x) c k j none goes given = all_given x c k j none goes given
-    all_given (Case at e x) c k j none goes given = all_given x c k j none goes given
-    all_given (When choices x) c k j none goes given = all_given x c k j none goes given
-    all_given (Loop at x) c k j none goes given = all_given x c k j none goes given
-    all_given (While at e x) c k j none goes given = all_given x c k j none goes given
-    all_given (For at d reversed range x) c k j none goes given =
+        all_given hidden (in_hidden n (gather visible start)) s.0 j s.2 (all_given visible start m s.0 s.1 now))
+    all_given (PackageBody d parts) c k j goes given = all_given parts (in_hidden (declared_number d) c) k j goes given
+    all_given (If at x y) c k j goes given =
+        two_given x y c k j goes (λ m on. all_given x c k m on given) (λ m on now. all_given y (gather x c) m j on now)
+    all_given (Branch at e x) c k j goes given = all_given x c k j goes given
+    all_given (Case at e x) c k j goes given = all_given x c k j goes given
+    all_given (When choices x) c k j goes given = all_given x c k j goes given
+    all_given (Loop at x) c k j goes given = all_given x c k j goes given
+    all_given (While at e x) c k j goes given = all_given x c k j goes given
+    all_given (For at d reversed range x) c k j goes given =
         let o : Entry = entry.Object (plain_object (parameter_type c range) kind.Parameter) in
         one k form.LoopParameter (declared_number d) (declarations x) j o c (At (gather (For at d reversed range x) c) j) goes
         (class_right form.LoopParameter (declared_number d) o refl) refl given
-        (λ m on now. all_given x (with_entry (declared_number d) o c) m j none on now)
-    all_given (Block at x y end) c k j none goes given =
-        two_given x y c k j goes (λ m on. all_given x c k m none.0 on given) (λ m on now. all_given y (gather x c) m j none.1 on now)
-    all_given (More x y) c k j none goes given =
-        two_given x y c k j goes (λ m on. all_given x c k m none.0 on given) (λ m on now. all_given y (gather x c) m j none.1 on now)
-    all_given code c k j none goes given = done k j c goes given
+        (λ m on now. all_given x (with_entry (declared_number d) o c) m j on now)
+    all_given (Block at x y end) c k j goes given =
+        two_given x y c k j goes (λ m on. all_given x c k m on given) (λ m on now. all_given y (gather x c) m j on now)
+    all_given (More x y) c k j goes given =
+        two_given x y c k j goes (λ m on. all_given x c k m on given) (λ m on now. all_given y (gather x c) m j on now)
+    all_given code c k j goes given = done k j c goes given

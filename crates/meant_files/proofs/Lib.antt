@@ -1,6 +1,7 @@
 pub mod Lists
 pub mod Objects
 pub mod Puts
+pub mod Denoted
 pub mod Trees
 pub mod Codes
 pub mod Silent
@@ -11,6 +12,8 @@ pub mod Stays
 pub mod Ranges
 pub mod Rows
 pub mod Types
+pub mod Kept
 pub mod Bodies
+pub mod Apart
 pub mod Told
 pub mod Main

@@ -1,5 +1,5 @@
 -- Lists with one element put, and numbers that are compared.
-use Rattle.std.proofs.Common.{◌≡◌, ◌⊎◌, inl, inr, ℕ, zero, suc, ◌<◌, ◌≤◌, List, [], ◌∷◌, ◌++◌, length, set, get_or, refl, ap, arith}
+use Rattle.std.proofs.Common.{◌≡◌, ◌⊎◌, inl, inr, ℕ, zero, suc, ◌<◌, ◌≤◌, List, [], ◌∷◌, ◌++◌, length, set, get_or, refl, ap, arith, Some, None}
 use Rattle.std.specs.Prelude.{slice_get}
 
 -- ---- lists
@@ -34,6 +34,17 @@ row_other (y ∷ rest) zero zero i other = absurd (other refl)
 row_other (y ∷ rest) zero (suc t) i other = refl
 row_other (y ∷ rest) (suc d) zero i other = refl
 row_other (y ∷ rest) (suc d) (suc t) i other = row_other rest d t i (λ same. other (ap suc same))
+
+-- the row that is put
+pub row_there : {A : Type 0} (table : List A) (d : ℕ) (i : A) → (slice_get (set table d i) d ≡ Some i) ⊎ (slice_get (set table d i) d ≡ None)
+row_there [] d i = inr refl
+row_there (y ∷ rest) zero i = inl refl
+row_there (y ∷ rest) (suc d) i = row_there rest d i
+
+pub row_within : {A : Type 0} (table : List A) (d : ℕ) → d < length table → slice_get table d ≡ None → ⊥
+row_within [] d less none = omega (arith, less)
+row_within (y ∷ rest) zero less none = cc
+row_within (y ∷ rest) (suc d) less none = row_within rest d (omega (arith, less)) none
 
 pub append_nothing : {A : Type 0} (xs : List A) → xs ++ [] ≡ xs
 append_nothing [] = refl

@@ -1,5 +1,5 @@
--- Files of the first class without a fault of names are meant, where the tables at loops are like the last one.
-use Rattle.std.proofs.Common.{◌≡◌, ℕ, zero, suc, ◌-◌, ◌<◌, ◌≤◌, false, List, [], ◌∷◌, ◌++◌, flat_map, length, get_or, replicate, refl, sym, arith, subst, None, length-append}
+-- Files without a fault of names are meant, where the tables at loops are like the last one.
+use Rattle.std.proofs.Common.{◌≡◌, ℕ, zero, suc, ◌-◌, ◌<◌, ◌≤◌, false, List, [], ◌∷◌, ◌++◌, flat_map, length, get_or, replicate, Some, refl, sym, ap, arith, subst, None, length-append}
 use Rattle.std.specs.Prelude.{slice_get}
 use Rattle.std.proofs.lemmas.List.{length-map, length-replicate}
 use Rattle.spark_base.specs.Lists.{Has}
@@ -17,6 +17,8 @@ use Rattle.typing_steps.specs.Programs.{program_of}
 use Rattle.type_definitions.specs.declared.table.Entry.{Entry}
 use Rattle.type_definitions.specs.declared.table.Entry.TheVariants as entry
 use Rattle.type_definitions.specs.Types.{Table, no_type}
+use Rattle.type_definitions.specs.Entries.{entry_of}
+use Rattle.type_definitions.specs.Expressions.{profile_of}
 use Rattle.type_definitions.specs.Names.{Context}
 use Rattle.type_definitions.specs.Whole.{predefined_types, predefined_entries, at_first, outside, known_from, known_of}
 use Rattle.typed_tree.specs.Programs.{site_of}
@@ -24,15 +26,23 @@ use Rattle.file_positions.specs.Order.{Ascends, event_positions}
 use Rattle.typed_laws.specs.Fine.{Denotes}
 use Rattle.typed_points.specs.Meant.{typing_meant, AreMeantUnits}
 use Rattle.typed_points.proofs.Numbers.{denotes}
-use Rattle.gathered_laws.specs.Named.{IsNamed}
-use Rattle.meant_files.specs.Formless.{IsFormless}
+use Rattle.gathered_laws.specs.Made.{type_numbers}
+use Rattle.gathered_laws.specs.Views.{AreViewsApart}
+use Rattle.meant_files.proofs.Apart.{views_apart}
+use Rattle.steady_types.specs.Kept.{AreKept}
+use Rattle.meant_files.proofs.Kept.{units_kept}
+use Rattle.seen_files.specs.Reached.{IsObjectIn}
+use Rattle.seen_files.proofs.Files.{files_fit}
+use Rattle.seen_files.proofs.Entries.{is_object_entry, known_keeps}
+use Rattle.meant_files.specs.Denoted.{AreDenoted}
 use Rattle.meant_files.specs.Declarations.{declarations}
 use Rattle.meant_files.specs.Followed.{AreFollowed}
 use Rattle.meant_files.specs.Typed.{AreTyped}
 use Rattle.steady_types.specs.Alike.{AreAlike}
 use Rattle.steady_types.specs.Steady.{AreSteady}
-use Rattle.meant_files.proofs.Objects.{units_same}
-use Rattle.meant_files.proofs.Puts.{object_declared, function_declared}
+use Rattle.meant_files.proofs.Objects.{object_numbers, units_same}
+use Rattle.meant_files.proofs.Puts.{function_declared}
+use Rattle.meant_files.proofs.Denoted.{units_denoted}
 use Rattle.meant_files.proofs.Codes as codes
 use Rattle.meant_files.proofs.Walk.{files_low}
 use Rattle.meant_files.proofs.Told.{files_followed}
@@ -103,12 +113,11 @@ module _ (files : List (List SourceUnit)) where
   unfolding decl_infos
   all_counted = sym (length-map (names.known_of files).declared info_of)
 
-  module _ (up : Ascends (event_positions (source_events files))) (named : name_fault files ≡ None) (formless : (u : Code) → Has p.units u → IsFormless u)
-      (plain : (u : Code) → Has p.units u → IsNamed u) where
-    followed : AreFollowed numbers known_at_first (source_events files)
+  module _ (up : Ascends (event_positions (source_events files))) (named : name_fault files ≡ None) where
+    pub followed : AreFollowed numbers known_at_first (source_events files)
     followed = files_followed files up named
 
-    goes : Goes kinds p.count 15 (flat_map declarations p.units) (length (names.known_of files).declared)
+    pub goes : Goes kinds p.count 15 (flat_map declarations p.units) (length (names.known_of files).declared)
     goes = (
       files_counted files numbers followed,
       files_kinds files numbers followed,
@@ -116,37 +125,61 @@ module _ (files : List (List SourceUnit)) where
       let a = all_counted in omega (arith, a),
     )
 
-    ends : Given kinds p.count (known_of p).entries p.count
+    pub ends : Given kinds p.count (known_of p).entries p.count
     unfolding known_of
     ends =
         subst (λ n. Given kinds p.count (known_of p).entries n) all_counted
-        (units_given kinds p.count p.units start 15 (length (names.known_of files).declared) formless goes (first_given kinds p.count))
+        (units_given kinds p.count p.units start 15 (length (names.known_of files).declared) goes (first_given kinds p.count))
 
     firsts : AreFirst first_table
     firsts =
         units_first kinds p.count p.units (outside (record (at_first false p.count) { table = (at_first false p.count).table })) 15
-        (length (names.known_of files).declared) formless plain goes (rows_first p.count)
+        (length (names.known_of files).declared) goes (rows_first p.count)
 
     lasts : AreFirst (known_of p).table
     unfolding known_of
-    lasts = units_first kinds p.count p.units start 15 (length (names.known_of files).declared) formless plain goes firsts
+    lasts = units_first kinds p.count p.units start 15 (length (names.known_of files).declared) goes firsts
 
-    -- Objects have the types that are indicated for them.
-    pub files_typed : AreSteady first_table p.units start → AreAlike first_table (known_of p).table → (u : Code) → Has p.units u → AreTyped (outside (known_of p)) u
+    -- Objects and formals have the types that are indicated for them.
+    pub files_typed : (made : ℕ → Type 0) → ((m : ℕ) → Has (flat_map type_numbers p.units) m → made m) → p.count ≤ length (known_of p).table
+        → AreSteady first_table p.units start → AreAlike first_table (known_of p).table → (u : Code) → Has p.units u → AreTyped made (outside (known_of p)) u
     unfolding known_of
-    files_typed steady alike =
-        units_typed kinds p.count first_table p.units (outside (known_of p)) start 15 (length (names.known_of files).declared) refl formless plain
-        (files_low numbers files known_at_first followed) steady alike goes (first_given kinds p.count) ends lasts (λ n high less never. refl)
+    files_typed made are long steady alike =
+        units_typed kinds p.count made first_table p.units (outside (known_of p)) start 15 (length (names.known_of files).declared) refl are long
+        (files_low numbers files known_at_first followed) steady alike goes (first_given kinds p.count) ends lasts (λ n high less. ((λ never. refl), (λ object. refl)))
 
-    -- Each identifier denotes what is declared, or a function with a body.
-    pub files_denote : (d : ℕ) → Denotes (site_of (known_of p) p.units) (typing_meant (known_of p) p.units) d
+    -- The first turn leaves what it puts of the anonymous access types of objects.
+    pub files_kept : p.count ≤ length first_table → AreKept first_table p.units (outside (record (at_first false p.count) { table = (at_first false p.count).table }))
+    files_kept long =
+        units_kept kinds p.count first_table long p.units (outside (record (at_first false p.count) { table = (at_first false p.count).table })) 15
+        (length (names.known_of files).declared) goes (first_given kinds p.count) (λ n high less object. refl)
+
+    -- Anonymous access types have numbers of their own.
+    pub files_apart : AreViewsApart p.units
+    files_apart = views_apart kinds p.units (files_kinds files numbers followed)
+
+    -- Each subprogram that is known has a body.
+    pub files_bodied : (d t : ℕ) → (profile_of (entry_of (known_of p) d)).result ≡ Some t → Has (site_of (known_of p) p.units).bodies d
     unfolding name_fault
-    files_denote d =
+    files_bodied d t is = files_have_bodies files numbers followed named d (function_declared p d t is)
+
+    -- What is known as an object and declared as one is denoted, and so are functions.
+    declared_denotes : (d : ℕ) → (IsObjectIn (names.known_of files) d → Has (flat_map object_numbers p.units) d)
+        → Denotes (site_of (known_of p) p.units) (typing_meant (known_of p) p.units) d
+    declared_denotes d declared =
         denotes (known_of p) p.units d
-        (λ o is. subst (λ ns. Has ns d) (sym (units_same p.units (record { known = known_of p; identifier = None }) 1 p.units)) (object_declared p formless d o is))
-        (λ t is. files_have_bodies files numbers followed named d (function_declared p formless d t is))
+        (λ o is. subst (λ ns. Has ns d) (sym (units_same p.units (record { known = known_of p; identifier = None }) 1 p.units))
+        (declared (known_keeps (IsObjectIn (names.known_of files)) p (files_fit files up named) d (ap is_object_entry is))))
+        (files_bodied d)
+
+    -- Names denote what is declared.
+    pub files_denote : (u : Code) → Has p.units u → AreDenoted (Denotes (site_of (known_of p) p.units) (typing_meant (known_of p) p.units)) u
+    files_denote =
+        units_denoted (IsObjectIn (names.known_of files)) (Denotes (site_of (known_of p) p.units) (typing_meant (known_of p) p.units)) (flat_map object_numbers p.units)
+        declared_denotes p.units [] (λ n has. absurd has) (λ n has. has) (files_fit files up named)
 
     -- The files are meant.
-    pub files_meant : (made : ℕ → Type 0) → AreSteady first_table p.units start → AreAlike first_table (known_of p).table → AreMeantUnits (known_of p) made p.units
-    files_meant made steady alike =
-        codes.files_meant numbers (typing_meant (known_of p) p.units) made (site_of (known_of p) p.units) files_denote files plain (files_typed steady alike)
+    pub files_meant : (made : ℕ → Type 0) → ((m : ℕ) → Has (flat_map type_numbers p.units) m → made m) → p.count ≤ length (known_of p).table
+        → AreSteady first_table p.units start → AreAlike first_table (known_of p).table → AreMeantUnits (known_of p) made p.units
+    files_meant made are long steady alike =
+        codes.files_meant numbers (typing_meant (known_of p) p.units) made (site_of (known_of p) p.units) files files_denote (files_typed made are long steady alike)

@@ -5,20 +5,10 @@ use Rattle.place_names.specs.declared.act.Mode.{Mode}
 use Rattle.place_names.specs.declared.act.Mode.TheVariants as mode
 use Rattle.type_definitions.specs.Gathered.{declared_number, declared_text}
 use Rattle.typed_tree.specs.Statements.{scope_count}
+use Rattle.seen_files.specs.Fits.{all_numbers, group_numbers, front_numbers}
 use Rattle.typed_tree.specs.Programs.{DeclaredObject, Home, object_of, formals_of, front_formals, local, in_package, package_text, objects_in, over_units}
 
 -- ---- the objects of code
-
-abbrev pub all_numbers : Code → List ℕ
-all_numbers ids = map declared_number (code_items ids)
-
-abbrev pub group_numbers : Code → List ℕ
-group_numbers (Group ids m of) = all_numbers ids
-group_numbers _ = []
-
-abbrev pub front_numbers : Code → List ℕ
-front_numbers (Front d formals result) = flat_map group_numbers (code_items formals)
-front_numbers _ = []
 
 -- The numbers of the objects that code declares, in the order of the text.
 abbrev pub object_numbers : Code → List ℕ

@@ -3,7 +3,7 @@
 use Rattle.std.proofs.Common.{◌≡◌, inl, inr, ℕ, ◌+◌, Bool, true, false, [], ◌∷◌, ◌++◌, refl, sym, ap, ◌∙◌, subst, true≢false, if◌then◌else◌}
 use Rattle.spark_base.specs.Lists.{Has}
 use Rattle.spark_base.proofs.Lists.{Has-append_left, Has-append_right}
-use Rattle.resolved_tree.specs.Trees.{NoMore, More, Code, Anonymous, Enumeration, Incomplete, Private, TypeDecl, Subtype, ConstrainedSubtype, Objects, Numbers, Instance, Front, SubDecl, SubBody, Package, PackageBody, If, Branch, Case, When, Loop, While, For, Block}
+use Rattle.resolved_tree.specs.Trees.{More, Code, Anonymous, Enumeration, Incomplete, Private, TypeDecl, Subtype, ConstrainedSubtype, Objects, Numbers, Instance, Formals, Front, SubDecl, SubBody, Package, PackageBody, If, Branch, Case, When, Loop, While, For, Block}
 use Rattle.name_events.specs.declared.declaration.DeclarationForm.{DeclarationForm}
 use Rattle.name_events.specs.declared.declaration.DeclarationForm.TheVariants as form
 use Rattle.name_events.specs.Declarations.{is_body_form}
@@ -13,9 +13,8 @@ use Rattle.type_definitions.specs.declared.table.Entry.{Entry}
 use Rattle.type_definitions.specs.declared.table.Entry.TheVariants as entry
 use Rattle.type_definitions.specs.Entries.{entry_of}
 use Rattle.type_definitions.specs.Names.{Context}
-use Rattle.type_definitions.specs.Gathered.{gather, each, with_entry, with_type, with_indication, full_info, with_literals, with_definition, with_object, object_info, constant_value, indicated, with_number, number_info, initial_value, with_formal_group, with_formals, with_result, with_front, with_body_front, profile, is_subprogram, front_number, plain_object, parameter_type, in_subprogram, in_visible, in_hidden, instance_type, declared_number}
-use Rattle.meant_files.specs.Formless.{IsFormlessFront, IsFormless}
-use Rattle.meant_files.specs.Declarations.{Declarations, each_as, literals_of, front_declarations, body_form, declarations}
+use Rattle.type_definitions.specs.Gathered.{gather, each, with_entry, with_type, with_indication, full_info, with_literals, with_definition, with_object, object_info, constant_value, indicated, with_number, number_info, initial_value, with_formal, with_formal_group, with_formals, with_result, with_front, with_body_front, profile, is_subprogram, front_number, plain_object, parameter_type, in_subprogram, in_visible, in_hidden, instance_type, declared_number}
+use Rattle.meant_files.specs.Declarations.{Declarations, each_as, literals_of, group_declarations, formal_declarations, front_declarations, body_form, declarations}
 use Rattle.meant_files.proofs.Lists.{entry_other}
 
 module _ (n : ℕ) where
@@ -79,72 +78,92 @@ module _ (n : ℕ) where
     result_stays d (More i more) c is = indication_stays d i c is
     result_stays d result c is = is
 
-    groups_stay : (formals : Code) (c : Context) → formals ≡ NoMore → Is c → Is (each with_formal_group formals c)
-    groups_stay formals c none is = subst (λ list. Is (each with_formal_group list c)) (sym none) is
+    pub names_stay : (of ids : Code) (c : Context) → Quiet (each_as form.Formal ids) → Is c → Is (each (with_formal of) ids c)
+    names_stay of (More d more) c quiet is =
+        let m : ℕ = declared_number d in
+        names_stay of more (with_formal of d c) (rest (form.Formal, m) (each_as form.Formal more) quiet)
+        (put form.Formal m (each_as form.Formal more) (entry.Object (plain_object (indicated c.known m of) kind.Formal)) (with_indication m of c) refl quiet
+        (indication_stays m of c is))
+    names_stay of ids c quiet is = is
 
-    front_stays : (front : Code) (c : Context) → IsFormlessFront front → (n ≡ front_number front → ⊥) → Is c → Is (with_front front c)
-    front_stays (Front d formals result) c none never is =
+    pub group_stays : (group : Code) (c : Context) → Quiet (group_declarations group) → Is c → Is (with_formal_group group c)
+    group_stays (Formals names m of) c quiet is = names_stay of names c quiet is
+    group_stays group c quiet is = is
+
+    pub groups_stay : (formals : Code) (c : Context) → Quiet (formal_declarations formals) → Is c → Is (each with_formal_group formals c)
+    groups_stay (More group more) c quiet is =
+        groups_stay more (with_formal_group group c) (right (group_declarations group) (formal_declarations more) quiet)
+        (group_stays group c (left (group_declarations group) (formal_declarations more) quiet) is)
+    groups_stay formals c quiet is = is
+
+    front_stays : (front : Code) (c : Context) → Quiet (front_declarations front) → (n ≡ front_number front → ⊥) → Is c → Is (with_front front c)
+    front_stays (Front d formals result) c quiet never is =
         let m : ℕ = declared_number d in
         let inner : Context = each with_formal_group formals (with_result m result c) in
         entry_other inner.known.entries m n (entry.Subprogram (profile inner.known (Front d formals result))) entry.Nothing never
-        ∙ groups_stay formals (with_result m result c) none (result_stays m result c is)
-    front_stays front c none never is = is
+        ∙ groups_stay formals (with_result m result c) quiet (result_stays m result c is)
+    front_stays front c quiet never is = is
 
-    formals_stay : (front : Code) (c : Context) → IsFormlessFront front → Is c → Is (with_formals front c)
-    formals_stay (Front d formals result) c none is = groups_stay formals c none is
-    formals_stay front c none is = is
+    formals_stay : (front : Code) (c : Context) → Quiet (front_declarations front) → Is c → Is (with_formals front c)
+    formals_stay (Front d formals result) c quiet is = groups_stay formals c quiet is
+    formals_stay front c quiet is = is
 
-    body_stays : (front : Code) (L : Declarations) (c : Context) → IsFormlessFront front → Quiet ((body_form front, front_number front) ∷ L) → Is c → Is (with_body_front front c)
-    body_stays front L c none quiet is = by (is_subprogram (entry_of c.known (front_number front))) refl
+    pub body_stays : (front : Code) (L : Declarations) (c : Context) → Quiet ((body_form front, front_number front) ∷ (front_declarations front ++ L)) → Is c
+        → Is (with_body_front front c)
+    body_stays front L c quiet is = by (is_subprogram (entry_of c.known (front_number front))) refl
       where
+        formals : Quiet (front_declarations front)
+        formals = left (front_declarations front) L (rest (body_form front, front_number front) (front_declarations front ++ L) quiet)
+
         by : (b : Bool) → is_subprogram (entry_of c.known (front_number front)) ≡ b → Is (if b then with_formals front c else with_front front c)
-        by true known = formals_stay front c none is
+        by true known = formals_stay front c formals is
         by false known =
-            front_stays front c none
+            front_stays front c formals
             (λ same. true≢false (sym (quiet (body_form front) (inl (ap (λ m. (body_form front, m)) (sym same)))).1
             ∙ (ap is_subprogram (sym is) ∙ (ap (λ m. is_subprogram (entry_of c.known m)) same ∙ known)))) is
 
-    pub stays : (code : Code) (c : Context) → IsFormless code → Quiet (declarations code) → Is c → Is (gather code c)
-    unfolding gather IsFormless
-    stays (Incomplete d) c none quiet is = put form.IncompleteType (declared_number d) [] entry.Type c refl quiet is
-    stays (Private d) c none quiet is = put form.PrivateType (declared_number d) [] entry.Type c refl quiet is
-    stays (TypeDecl d def end) c none quiet is =
+    pub stays : (code : Code) (c : Context) → Quiet (declarations code) → Is c → Is (gather code c)
+    unfolding gather
+    stays (Incomplete d) c quiet is = put form.IncompleteType (declared_number d) [] entry.Type c refl quiet is
+    stays (Private d) c quiet is = put form.PrivateType (declared_number d) [] entry.Type c refl quiet is
+    stays (TypeDecl d def end) c quiet is =
         let m : ℕ = declared_number d in
         definition_stays m def (with_type m (full_info c m def end) c) (rest (form.FullType, m) (literals_of def) quiet)
         (put form.FullType m (literals_of def) entry.Type c refl quiet is)
-    stays (Subtype d m) c none quiet is = put form.Subtype (declared_number d) [] entry.Type c refl quiet is
-    stays (ConstrainedSubtype d m low high) c none quiet is = put form.Subtype (declared_number d) [] entry.Type c refl quiet is
-    stays (Objects ids constant i v) c none quiet is = objects_stay constant i (constant_value c constant v) ids c quiet is
-    stays (Numbers ids v) c none quiet is = numbers_stay (initial_value c v) ids c quiet is
-    stays (Instance d m args) c none quiet is = put form.Instance (declared_number d) [] (entry.Instance (instance_type args)) c refl quiet is
-    stays (SubDecl front) c none quiet is = front_stays front c none (other form.SubprogramDeclaration (front_number front) (front_declarations front) refl quiet) is
-    stays (SubBody front items stmts end) c none quiet is =
+    stays (Subtype d m) c quiet is = put form.Subtype (declared_number d) [] entry.Type c refl quiet is
+    stays (ConstrainedSubtype d m low high) c quiet is = put form.Subtype (declared_number d) [] entry.Type c refl quiet is
+    stays (Objects ids constant i v) c quiet is = objects_stay constant i (constant_value c constant v) ids c quiet is
+    stays (Numbers ids v) c quiet is = numbers_stay (initial_value c v) ids c quiet is
+    stays (Instance d m args) c quiet is = put form.Instance (declared_number d) [] (entry.Instance (instance_type args)) c refl quiet is
+    stays (SubDecl front) c quiet is = front_stays front c (rest (form.SubprogramDeclaration, front_number front) (front_declarations front) quiet)
+        (other form.SubprogramDeclaration (front_number front) (front_declarations front) refl quiet) is
+    stays (SubBody front items stmts end) c quiet is =
         let inner : Context = in_subprogram front (with_body_front front c) in
         let L : Declarations = declarations items ++ declarations stmts in
         let more : Quiet L = right (front_declarations front) L (rest (body_form front, front_number front) (front_declarations front ++ L) quiet) in
-        stays stmts (gather items inner) none.2 (right (declarations items) (declarations stmts) more)
-        (stays items inner none.1 (left (declarations items) (declarations stmts) more) (body_stays front (front_declarations front ++ L) c none.0 quiet is))
-    stays (Package d visible hidden) c none quiet is =
+        stays stmts (gather items inner) (right (declarations items) (declarations stmts) more)
+        (stays items inner (left (declarations items) (declarations stmts) more) (body_stays front L c quiet is))
+    stays (Package d visible hidden) c quiet is =
         let m : ℕ = declared_number d in
         let start : Context = in_visible m (with_entry m entry.Package c) in
         let L : Declarations = declarations visible ++ declarations hidden in
         let more : Quiet L = rest (form.Package, m) L quiet in
-        stays hidden (in_hidden m (gather visible start)) none.1 (right (declarations visible) (declarations hidden) more)
-        (stays visible start none.0 (left (declarations visible) (declarations hidden) more) (put form.Package m L entry.Package c refl quiet is))
-    stays (PackageBody d parts) c none quiet is = stays parts (in_hidden (declared_number d) c) none quiet is
-    stays (If at x y) c none quiet is =
-        stays y (gather x c) none.1 (right (declarations x) (declarations y) quiet) (stays x c none.0 (left (declarations x) (declarations y) quiet) is)
-    stays (Branch at v x) c none quiet is = stays x c none quiet is
-    stays (Case at v x) c none quiet is = stays x c none quiet is
-    stays (When choices x) c none quiet is = stays x c none quiet is
-    stays (Loop at x) c none quiet is = stays x c none quiet is
-    stays (While at v x) c none quiet is = stays x c none quiet is
-    stays (For at d reversed range x) c none quiet is =
+        stays hidden (in_hidden m (gather visible start)) (right (declarations visible) (declarations hidden) more)
+        (stays visible start (left (declarations visible) (declarations hidden) more) (put form.Package m L entry.Package c refl quiet is))
+    stays (PackageBody d parts) c quiet is = stays parts (in_hidden (declared_number d) c) quiet is
+    stays (If at x y) c quiet is =
+        stays y (gather x c) (right (declarations x) (declarations y) quiet) (stays x c (left (declarations x) (declarations y) quiet) is)
+    stays (Branch at v x) c quiet is = stays x c quiet is
+    stays (Case at v x) c quiet is = stays x c quiet is
+    stays (When choices x) c quiet is = stays x c quiet is
+    stays (Loop at x) c quiet is = stays x c quiet is
+    stays (While at v x) c quiet is = stays x c quiet is
+    stays (For at d reversed range x) c quiet is =
         let o : Entry = entry.Object (plain_object (parameter_type c range) kind.Parameter) in
-        stays x (with_entry (declared_number d) o c) none (rest (form.LoopParameter, declared_number d) (declarations x) quiet)
+        stays x (with_entry (declared_number d) o c) (rest (form.LoopParameter, declared_number d) (declarations x) quiet)
         (put form.LoopParameter (declared_number d) (declarations x) o c refl quiet is)
-    stays (Block at x y end) c none quiet is =
-        stays y (gather x c) none.1 (right (declarations x) (declarations y) quiet) (stays x c none.0 (left (declarations x) (declarations y) quiet) is)
-    stays (More x y) c none quiet is =
-        stays y (gather x c) none.1 (right (declarations x) (declarations y) quiet) (stays x c none.0 (left (declarations x) (declarations y) quiet) is)
-    stays code c none quiet is = is
+    stays (Block at x y end) c quiet is =
+        stays y (gather x c) (right (declarations x) (declarations y) quiet) (stays x c (left (declarations x) (declarations y) quiet) is)
+    stays (More x y) c quiet is =
+        stays y (gather x c) (right (declarations x) (declarations y) quiet) (stays x c (left (declarations x) (declarations y) quiet) is)
+    stays code c quiet is = is

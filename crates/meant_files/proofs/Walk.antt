@@ -68,7 +68,7 @@ use Rattle.name_events.specs.Laws.{is_mention}
 use Rattle.tree_lowering.specs.Lowered.{declared_next, declared_all, lowered_indication, lowered_subtype, lowered_type, lowered_declaration, item_before, before_all, lowered_items, lowered_simple, lowered_stmts, lowered_stmt_box, stmts_row, lowered_stmt, lowered_stmts_box, elsifs_row, lowered_elsif, lowered_when_box, whens_row, lowered_when, lowered_formal, lowered_next_formal, lowered_formals, lowered_subspec, lowered_subprogram, decl_before, part_before, lowered_decls, lowered_private, lowered_package, lowered_package_body, lowered_unit, lowered_files}
 use Rattle.type_definitions.specs.Gathered.{front_number}
 use Rattle.typed_tree.specs.Programs.{bodies_in}
-use Rattle.meant_files.specs.Declarations.{Declarations, each_as, group_declarations, formal_declarations, front_declarations, body_form, declarations, declared_by, HasBodies, last_from, IsLow, IsLowIndication, IsLowRange, AreLow, AllLow}
+use Rattle.meant_files.specs.Declarations.{Declarations, each_as, group_declarations, formal_declarations, front_declarations, body_form, declarations, declared_by, HasBodies, last_from, IsLow, IsLowIndication, IsLowRange, IsLowGroup, AreLowGroups, IsLowFront, AreLow, AllLow}
 use Rattle.meant_files.specs.Followed.{IsFollowed, AreFollowed}
 use Rattle.orderly_files.proofs.Steps.{completes_nothing}
 use Rattle.meant_files.proofs.Lists.{append_nothing}
@@ -97,18 +97,28 @@ module _ (numbers : Numbers) where
       let number : number_of numbers id ≡ length now.declared = is ∙ ap (completed_or_next now) nothing in
       ap (λ found. length (behind_declaration now new w found).declared) nothing ∙ (one_more now new w ∙ ap suc (sym number))
 
-  rest_long : (n : ℕ) (rest : List NextIdentifier) (now : Known) → AreFollowed numbers now (map (declares form.Object) (map next_name rest))
-      → length now.declared ≡ suc n
-      → length (known_behind_all now (map (declares form.Object) (map next_name rest))).declared ≡ suc (last_from n (code_list (map (declared_next numbers) rest)))
-  unfolding next_name declared_next
-  rest_long n [] now are long = long
-  rest_long n (next_id.FurtherIdentifier pos id ∷ rest) now are long =
-      rest_long (number_of numbers id) rest (known_behind now (declares form.Object id)) are.1 (one_long form.Object id now (completes_nothing now form.Object (folded_identifier id).name refl) are.0)
+  -- a form of declarations that complete nothing
+  abbrev IsFirst : DeclarationForm → Type 0
+  IsFirst new = (now : Known) (w : List ℕ) → completed_by now new w ≡ None
 
-  all_long : (first : Identifier) (rest : List NextIdentifier) (now : Known) → AreFollowed numbers now (declares_all form.Object first rest)
-      → length (known_behind_all now (declares_all form.Object first rest)).declared ≡ suc (last_from 0 (declared_all numbers first rest))
-  all_long first rest now are =
-      rest_long (number_of numbers first) rest (known_behind now (declares form.Object first)) are.1 (one_long form.Object first now (completes_nothing now form.Object (folded_identifier first).name refl) are.0)
+  rest_long : (new : DeclarationForm) → IsFirst new → (n : ℕ) (rest : List NextIdentifier) (now : Known)
+      → AreFollowed numbers now (map (declares new) (map next_name rest)) → length now.declared ≡ suc n
+      → length (known_behind_all now (map (declares new) (map next_name rest))).declared ≡ suc (last_from n (code_list (map (declared_next numbers) rest)))
+  unfolding next_name declared_next
+  rest_long new first n [] now are long = long
+  rest_long new first n (next_id.FurtherIdentifier pos id ∷ rest) now are long =
+      rest_long new first (number_of numbers id) rest (known_behind now (declares new id)) are.1 (one_long new id now (first now (folded_identifier id).name) are.0)
+
+  all_long : (new : DeclarationForm) → IsFirst new → (id : Identifier) (rest : List NextIdentifier) (now : Known) → AreFollowed numbers now (declares_all new id rest)
+      → length (known_behind_all now (declares_all new id rest)).declared ≡ suc (last_from 0 (declared_all numbers id rest))
+  all_long new first id rest now are =
+      rest_long new first (number_of numbers id) rest (known_behind now (declares new id)) are.1 (one_long new id now (first now (folded_identifier id).name) are.0)
+
+  object_first : IsFirst form.Object
+  object_first now w = completes_nothing now form.Object w refl
+
+  formal_first : IsFirst form.Formal
+  formal_first now w = completes_nothing now form.Formal w refl
 
   below : (count last n : ℕ) → count ≡ suc last → n < count → n ≤ last
   below count last n same less = omega (arith, same, less)
@@ -238,7 +248,7 @@ module _ (numbers : Numbers) where
   objects_low first rest (indication.Mark pos mark) zs now are =
       let s = followed_both (declares_all form.Object first rest) (mention clause.Elsewhere mark ∷ zs) now are in
       mark_low clause.Elsewhere mark (last_from 0 (declared_all numbers first rest)) (known_behind_all now (declares_all form.Object first rest))
-      (all_long first rest now s.0) s.1.0
+      (all_long form.Object object_first first rest now s.0) s.1.0
   objects_low first rest (indication.Anonymous pos access_constant designated) zs now are = tt
 
   objects_go : (first : Identifier) (rest : List NextIdentifier) (of : Indication) (zs : List Event) → declared_by numbers zs ≡ []
@@ -425,34 +435,45 @@ module _ (numbers : Numbers) where
 
   -- ---- subprograms
 
-  formal_go : (f : Formal) → Goes (formal_events f) (group_declarations (lowered_formal numbers f)) (Unit {0}) []
+  formal_low : (first : Identifier) (rest : List NextIdentifier) (mark : Dotted) (now : Known)
+      → AreFollowed numbers now (declares_all form.Formal first rest ++ (mention clause.Elsewhere mark ∷ (e.DeclarationsEnd ∷ [])))
+      → IsLow (last_from 0 (declared_all numbers first rest)) (mark_of numbers mark)
+  formal_low first rest mark now are =
+      let s = followed_both (declares_all form.Formal first rest) (mention clause.Elsewhere mark ∷ (e.DeclarationsEnd ∷ [])) now are in
+      mark_low clause.Elsewhere mark (last_from 0 (declared_all numbers first rest)) (known_behind_all now (declares_all form.Formal first rest))
+      (all_long form.Formal formal_first first rest now s.0) s.1.0
+
+  formal_go : (f : Formal) → Goes (formal_events f) (group_declarations (lowered_formal numbers f)) (IsLowGroup (lowered_formal numbers f)) []
   unfolding formal_events lowered_formal
   formal_go (formal.Moded pos first rest colon in_word out_word mark) =
-      before (mention clause.Elsewhere mark ∷ (e.DeclarationsEnd ∷ [])) refl (all_as form.Formal first rest refl)
+      let bare = before (mention clause.Elsewhere mark ∷ (e.DeclarationsEnd ∷ [])) refl (all_as form.Formal first rest refl) in
+      record { declared = bare.declared; bodied = bare.bodied; low = formal_low first rest mark }
   formal_go (formal.Anonymous pos first rest colon access access_constant designated) =
-      before (mention clause.Elsewhere designated ∷ (e.DeclarationsEnd ∷ [])) refl (all_as form.Formal first rest refl)
+      change refl (λ a. tt) (before (mention clause.Elsewhere designated ∷ (e.DeclarationsEnd ∷ [])) refl (all_as form.Formal first rest refl))
 
   more_formals : (rest : List NextFormal)
-      → Goes (flat_map next_formal_events rest) (formal_declarations (code_list (map (lowered_next_formal numbers) rest))) (Unit {0}) []
+      → Goes (flat_map next_formal_events rest) (formal_declarations (code_list (map (lowered_next_formal numbers) rest)))
+      (AreLowGroups (code_list (map (lowered_next_formal numbers) rest))) []
   unfolding next_formal_events lowered_next_formal
   more_formals [] = none refl
-  more_formals (next_formal.Semicolon pos part ∷ rest) = change refl (λ a. tt) (both (formal_go part) (more_formals rest))
+  more_formals (next_formal.Semicolon pos part ∷ rest) = both (formal_go part) (more_formals rest)
 
-  formals_go : (f : Option Formals) → Goes (each_of formals_events f) (formal_declarations (lowered_formals numbers f)) (Unit {0}) []
+  formals_go : (f : Option Formals) → Goes (each_of formals_events f) (formal_declarations (lowered_formals numbers f)) (AreLowGroups (lowered_formals numbers f)) []
   formals_go None = none refl
-  formals_go (Some f) = change refl (λ a. tt) (both (formal_go f.first) (more_formals f.rest))
+  formals_go (Some f) = both (formal_go f.first) (more_formals f.rest)
 
   subspec_go : (new : DeclarationForm) (spec : Subspec) (bs : List ℕ) → HasBodies ((new, front_number (lowered_subspec numbers spec)) ∷ []) bs
-      → Goes (subspec_events new spec) ((new, front_number (lowered_subspec numbers spec)) ∷ front_declarations (lowered_subspec numbers spec)) (Unit {0}) bs
+      → Goes (subspec_events new spec) ((new, front_number (lowered_subspec numbers spec)) ∷ front_declarations (lowered_subspec numbers spec))
+      (IsLowFront (lowered_subspec numbers spec)) bs
   unfolding subspec_events lowered_subspec
   subspec_go new (subspec.Procedure pos id formals) bs bodied =
       let first : Goes (declares new id ∷ []) ((new, number_of numbers id) ∷ []) (Unit {0}) bs = record { declared = refl; bodied = bodied; low = λ now are. tt } in
       wider bs (λ n has. elim (Has-append_cases bs [] n has) [ inl here ↦ here | inr never ↦ absurd never ])
-      (change refl (λ a. tt) (both first (after (e.RegionOpens ∷ []) refl (before (e.OuterDeclarationsEnd ∷ []) refl (formals_go formals)))))
+      (change refl (λ a. a.1) (both first (after (e.RegionOpens ∷ []) refl (before (e.OuterDeclarationsEnd ∷ []) refl (formals_go formals)))))
   subspec_go new (subspec.Function pos id formals return_word result) bs bodied =
       let first : Goes (declares new id ∷ []) ((new, number_of numbers id) ∷ []) (Unit {0}) bs = record { declared = refl; bodied = bodied; low = λ now are. tt } in
       wider bs (λ n has. elim (Has-append_cases bs [] n has) [ inl here ↦ here | inr never ↦ absurd never ])
-      (change refl (λ a. tt) (both first (after (e.RegionOpens ∷ []) refl (before (indication_events result ++ e.OuterDeclarationsEnd ∷ [])
+      (change refl (λ a. a.1) (both first (after (e.RegionOpens ∷ []) refl (before (indication_events result ++ e.OuterDeclarationsEnd ∷ [])
       (silent_both numbers (indication_events result) (e.OuterDeclarationsEnd ∷ []) (indication_silent result) refl) (formals_go formals)))))
 
   same_form : (spec : Subspec) → outline.body_form spec ≡ body_form (lowered_subspec numbers spec)
@@ -471,7 +492,7 @@ module _ (numbers : Numbers) where
       let n : ℕ = front_number front in
       let closing : List Event = e.RegionCloses ∷ closing_events (subspec_name body.spec) body.closing in
       let tail : Declarations = front_declarations front ++ (declarations (lowered_items numbers body.items) ++ declarations (lowered_stmts numbers body.stmts)) in
-      change (ap (λ new. (new, n) ∷ tail) (same_form body.spec)) (λ a. a.1)
+      change (ap (λ new. (new, n) ∷ tail) (same_form body.spec)) (λ a. (a.0, a.1.0, a.1.1))
       (both (subspec_go (outline.body_form body.spec) body.spec (n ∷ []) (λ new m has is. elim has [ inl same ↦ inl (ap (λ (x : DeclarationForm × ℕ). x.1) same) | inr never ↦ absurd never ]))
       (both (items_go body.items) (before closing (closing_silent (subspec_name body.spec) body.closing) (stmts_go body.stmts))))
 
@@ -493,7 +514,7 @@ module _ (numbers : Numbers) where
   unfolding decl_events decl_before AreLow
   decl_then others (decl.OfItem pos declaration) f = item_then others declaration f
   decl_then others (decl.Subprogram pos spec mode semicolon) f =
-      both (before (e.RegionCloses ∷ []) refl (subspec_go form.SubprogramDeclaration spec [] (no_body form.SubprogramDeclaration (front_number (lowered_subspec numbers spec)) refl))) f
+      change refl (λ a. (tt, a.1)) (both (before (e.RegionCloses ∷ []) refl (subspec_go form.SubprogramDeclaration spec [] (no_body form.SubprogramDeclaration (front_number (lowered_subspec numbers spec)) refl))) f)
 
   decls_go : (decls : List Decl) → Walks (flat_map decl_events decls) (lowered_decls numbers decls)
   unfolding AreLow

@@ -109,10 +109,23 @@ IsLowRange last (Marked m) = IsLow last m
 IsLowRange last (Constrained m low high) = IsLow last m
 IsLowRange last range = Unit {0}
 
--- Marks of objects and of parameters of loops denote nothing that is declared after these.
+-- So it is with formals.
+abbrev pub IsLowGroup : Code → Type 0
+IsLowGroup (Formals ids m of) = IsLowIndication (last_from 0 ids) of
+IsLowGroup group = Unit {0}
+
+abbrev pub AreLowGroups : Code → Type 0
+AreLowGroups (More group rest) = IsLowGroup group × AreLowGroups rest
+AreLowGroups formals = Unit {0}
+
+abbrev pub IsLowFront : Code → Type 0
+IsLowFront (Front d formals result) = AreLowGroups formals
+IsLowFront front = Unit {0}
+
+-- Marks of objects, of formals and of parameters of loops denote nothing that is declared after these.
 unfoldable pub AreLow : Code → Type 0
 AreLow (Objects ids constant i v) = IsLowIndication (last_from 0 ids) i
-AreLow (SubBody front items stmts end) = AreLow items × AreLow stmts
+AreLow (SubBody front items stmts end) = IsLowFront front × AreLow items × AreLow stmts
 AreLow (Package d visible hidden) = AreLow visible × AreLow hidden
 AreLow (PackageBody d parts) = AreLow parts
 AreLow (If p branches otherwise) = AreLow branches × AreLow otherwise

@@ -1,3 +1,5 @@
+-- what names denote
+pub mod Denoted
 -- code without formals
 pub mod Formless
 -- the declarations of code, how they are numbered, and what is asked of the events of a text

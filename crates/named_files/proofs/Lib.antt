@@ -4,3 +4,4 @@ pub mod Records
 pub mod Regions
 pub mod Steady
 pub mod Library
+pub mod Formals

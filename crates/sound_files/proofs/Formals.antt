@@ -1,10 +1,8 @@
 -- No object of a text without formals is a formal.
-use Rattle.std.proofs.Common.{◌≡◌, inl, inr, ℕ, zero, suc, ◌+◌, ◌-◌, Bool, true, false, List, [], ◌∷◌, ◌++◌, map, flat_map, set, get_or, replicate, refl, sym, subst, Option, Some, None, if◌then◌else◌}
+use Rattle.std.proofs.Common.{◌≡◌, inl, inr, ℕ, zero, suc, ◌+◌, ◌-◌, Bool, true, false, List, [], ◌∷◌, ◌++◌, map, set, get_or, replicate, refl, sym, ap, ◌∙◌, subst, if◌then◌else◌}
 use Rattle.std.specs.List.{AllByRecursion}
 use Rattle.spark_base.specs.Lists.{Has}
-use Rattle.place_names.specs.declared.act.Mode.{Mode}
-use Rattle.place_names.specs.declared.act.Mode.TheVariants as mode
-use Rattle.resolved_tree.specs.Trees.{NoMore, More, Code, Anonymous, Enumeration, Incomplete, Private, TypeDecl, Subtype, ConstrainedSubtype, Objects, Numbers, Instance, Formals, Front, SubDecl, SubBody, Package, PackageBody, If, Branch, Case, When, Loop, While, For, Block, code_items, Program}
+use Rattle.resolved_tree.specs.Trees.{NoMore, More, Code, Anonymous, Enumeration, Incomplete, Private, TypeDecl, Subtype, ConstrainedSubtype, Objects, Numbers, Instance, Front, SubDecl, SubBody, Package, PackageBody, If, Branch, Case, When, Loop, While, For, Block, Program}
 use Rattle.type_definitions.specs.declared.table.InitialValue.{InitialValue}
 use Rattle.type_definitions.specs.declared.table.Known.{Known}
 use Rattle.type_definitions.specs.declared.table.Kind.TheVariants as kind
@@ -12,12 +10,12 @@ use Rattle.type_definitions.specs.declared.table.Entry.{Entry}
 use Rattle.type_definitions.specs.declared.table.Entry.TheVariants as entry
 use Rattle.type_definitions.specs.Entries.{entry_of}
 use Rattle.type_definitions.specs.Names.{Context}
-use Rattle.type_definitions.specs.Gathered.{gather, each, with_entry, with_type, with_indication, full_info, with_literals, with_definition, with_object, object_kind, object_info, constant_value, indicated, with_number, number_info, initial_value, with_formal_group, with_formals, with_result, with_front, with_body_front, profile, is_subprogram, front_number, plain_object, parameter_type, in_subprogram, in_visible, in_hidden, instance_type, declared_number, declared_text}
+use Rattle.type_definitions.specs.Gathered.{gather, each, with_entry, with_type, with_indication, full_info, with_literals, with_definition, with_object, object_kind, object_info, constant_value, indicated, with_number, number_info, initial_value, with_formal_group, with_formals, with_result, with_front, with_body_front, profile, is_subprogram, front_number, plain_object, parameter_type, in_subprogram, in_visible, in_hidden, instance_type, declared_number}
 use Rattle.type_definitions.specs.Whole.{predefined_entries, at_first, outside, gather_units, known_from, known_of}
-use Rattle.typed_tree.specs.Statements.{scope_count}
-use Rattle.typed_tree.specs.Programs.{kind_of, entry_kind, DeclaredObject, Home, object_of, formals_of, front_formals, package_text, objects_in, program_objects, text_io, over_units, typed_program}
+use Rattle.typed_tree.specs.Programs.{kind_of, entry_kind, DeclaredObject, program_objects, text_io, typed_program}
 use Rattle.flow_paths.specs.Objects.{is_formal_kind}
 use Rattle.meant_files.specs.Formless.{IsFormlessFront, IsFormless}
+use Rattle.sound_files.proofs.Kinded.{AreKinded, program_kinded}
 
 -- ---- entries
 
@@ -152,74 +150,15 @@ known_other p none =
 -- ---- objects
 
 module _ (known : Known) (other : (d : ℕ) → IsOther (entry_of known d)) where
-  abbrev IsNone : DeclaredObject → Type 0
-  IsNone o = is_formal_kind o.object.kind ≡ false
-
-  abbrev AreNone : List DeclaredObject → Type 0
-  AreNone os = AllByRecursion IsNone os
-
-  both : (xs ys : List DeclaredObject) → AreNone xs → AreNone ys → AreNone (xs ++ ys)
-  both [] ys h g = g
-  both (x ∷ xs) ys h g = (h.0, both xs ys h.1 g)
-
-  abbrev home : Option (List ℕ) → Home
-  home identifier = record { known = known; identifier = identifier }
-
-  items_none : (identifier : Option (List ℕ)) (a : ℕ) (m : Mode) (ds : List Code) → AreNone (map (object_of (home identifier) a m) ds)
-  items_none identifier a m [] = tt
-  items_none identifier a m (d ∷ ds) = (other (declared_number d), items_none identifier a m ds)
-
-  formals_none : (identifier : Option (List ℕ)) (a : ℕ) (groups : List Code) → AreNone (flat_map (formals_of (home identifier) a) groups)
-  formals_none identifier a [] = tt
-  formals_none identifier a (g ∷ groups) =
-      both (formals_of (home identifier) a g) (flat_map (formals_of (home identifier) a) groups) (group g) (formals_none identifier a groups)
-    where
-      group : (g : Code) → AreNone (formals_of (home identifier) a g)
-      group (Formals ids m of) = items_none identifier a m (code_items ids)
-      group g = tt
-
-  objects_none : (units : List Code) (i : Option (List ℕ)) (a n : ℕ) (code : Code) → AreNone (objects_in units (home i) a n code)
-  unfolding objects_in
-  objects_none units i a n (Objects ids constant of v) = items_none i a mode.In (code_items ids)
-  objects_none units i a n (Numbers ids e) = items_none i a mode.In (code_items ids)
-  objects_none units i a n (SubBody front items stmts end) =
-      both (flat_map (formals_of (home None) n) (front_formals front) ++ objects_in units (home None) n (n + 1) items) (objects_in units (home None) n (n + 1 + scope_count items) stmts)
-      (both (flat_map (formals_of (home None) n) (front_formals front)) (objects_in units (home None) n (n + 1) items)
-      (formals_none None n (front_formals front)) (objects_none units None n (n + 1) items))
-      (objects_none units None n (n + 1 + scope_count items) stmts)
-  objects_none units i a n (Package d visible hidden) =
-      both (objects_in units (home (Some (declared_text d))) a n visible) (objects_in units (home (Some (declared_text d))) a (n + scope_count visible) hidden)
-      (objects_none units (Some (declared_text d)) a n visible) (objects_none units (Some (declared_text d)) a (n + scope_count visible) hidden)
-  objects_none units i a n (PackageBody d parts) = objects_none units (Some (package_text units (declared_number d))) a n parts
-  objects_none units i a n (If p x y) =
-      both (objects_in units (home i) a n x) (objects_in units (home i) a (n + scope_count x) y) (objects_none units i a n x) (objects_none units i a (n + scope_count x) y)
-  objects_none units i a n (Branch p e x) = objects_none units i a n x
-  objects_none units i a n (Case p e x) = objects_none units i a n x
-  objects_none units i a n (When choices x) = objects_none units i a n x
-  objects_none units i a n (Loop p x) = objects_none units i a n x
-  objects_none units i a n (While p e x) = objects_none units i a n x
-  objects_none units i a n (For p d reversed range x) = (other (declared_number d), objects_none units i n (n + 1) x)
-  objects_none units i a n (Block p x y end) =
-      both (objects_in units (home i) n (n + 1) x) (objects_in units (home i) n (n + 1 + scope_count x) y)
-      (objects_none units i n (n + 1) x) (objects_none units i n (n + 1 + scope_count x) y)
-  objects_none units i a n (More x y) =
-      both (objects_in units (home i) a n x) (objects_in units (home i) a (n + scope_count x) y) (objects_none units i a n x) (objects_none units i a (n + scope_count x) y)
-  objects_none units i a n code = tt
-
-  units_none : (units : List Code) (n : ℕ) (us : List Code) → AreNone (over_units (objects_in units (home None) 0) n us)
-  units_none units n [] = tt
-  units_none units n (u ∷ us) =
-      both (objects_in units (home None) 0 n u) (over_units (objects_in units (home None) 0) (n + scope_count u) us) (objects_none units None 0 n u) (units_none units (n + scope_count u) us)
-
-  none_at : (os : List DeclaredObject) (x : ℕ) → AreNone os → is_formal_kind (get_or (map (λ (o : DeclaredObject). o.object) os) x text_io).kind ≡ false
+  none_at : (os : List DeclaredObject) (x : ℕ) → AreKinded known os → is_formal_kind (get_or (map (λ (o : DeclaredObject). o.object) os) x text_io).kind ≡ false
   none_at [] x all = refl
-  none_at (o ∷ os) zero all = all.0
+  none_at (o ∷ os) zero all = ap is_formal_kind all.0 ∙ other o.number
   none_at (o ∷ os) (suc x) all = none_at os x all.1
 
-  pub none_formal : (units : List Code) (x : ℕ) → is_formal_kind (get_or (typed_program known units).objects x text_io).kind ≡ false
+  none_formal : (units : List Code) (x : ℕ) → is_formal_kind (get_or (typed_program known units).objects x text_io).kind ≡ false
   unfolding typed_program
   none_formal units zero = refl
-  none_formal units (suc x) = none_at (program_objects known units) x (units_none units 1 units)
+  none_formal units (suc x) = none_at (program_objects known units) x (program_kinded known units)
 
 -- No object is a formal.
 pub no_formals : (p : Program) → ((u : Code) → Has p.units u → IsFormless u) → (x : ℕ) → is_formal_kind (get_or (typed_program (known_of p) p.units).objects x text_io).kind ≡ false

@@ -3,7 +3,9 @@ pub mod Written
 pub mod Once
 pub mod Formless
 pub mod Access
+pub mod Kinded
 pub mod Formals
+pub mod Known
 pub mod First
 pub mod Flat
 pub mod Fine

@@ -1,7 +1,6 @@
 -- The runs of accepted files of the first class are sound: those that break no rule of names and of types and have
 -- no reports, whose positions are as in a text.
-use Rattle.std.proofs.Common.{◌≡◌, subst, ℕ, true, List, [], None}
-use Rattle.spark_base.specs.Lists.{Has}
+use Rattle.std.proofs.Common.{◌≡◌, subst, ℕ, List, [], Some, None}
 use Rattle.ada_lexer.specs.Tokens.{Cut}
 use Rattle.ada_tree.specs.declared.unit.SourceUnit.{SourceUnit}
 use Rattle.name_events.specs.Outline.{source_events}
@@ -11,8 +10,6 @@ use Rattle.resolved_tree.specs.Trees.{Program}
 use Rattle.typing_steps.specs.Programs.{program_of}
 use Rattle.type_definitions.specs.Types.{Table}
 use Rattle.type_definitions.specs.Whole.{outside, known_of, type_fault}
-use Rattle.typed_tree.specs.Programs.{TypedSub, site_of}
-use Rattle.flow_paths.specs.Objects.{is_formal}
 use Rattle.flow_paths.specs.declared.report.Effects.{Effects}
 use Rattle.flow_paths.specs.Effects.{AreEffects}
 use Rattle.flow_paths.specs.Laid.{FlowProgram, flow_program}
@@ -29,7 +26,9 @@ use Rattle.ready_types.proofs.Files.{files_settled, files_own}
 use Rattle.soundness.specs.Typed.{OwnsByShape}
 use Rattle.soundness.specs.Sound.{RunIsSound}
 use Rattle.soundness.proofs.Points.{flow_table}
-use Rattle.order_laws.specs.Orderly.{typed_of, typing_in, bodies_of, IsOrderly}
+use Rattle.gathered_laws.specs.Made.{IsMade}
+use Rattle.gathered_laws.specs.Views.{AreViews}
+use Rattle.order_laws.specs.Orderly.{typed_of, IsOrderly}
 use Rattle.order_laws.proofs.Faults.{units_faultless}
 use Rattle.order_laws.proofs.Accepted.{accepted_sound}
 use Rattle.sound_files.specs.Class.{IsPlainText, CallsNothing}
@@ -38,9 +37,9 @@ use Rattle.sound_files.proofs.Whole.{whole}
 use Rattle.sound_files.proofs.Once.{files_once}
 use Rattle.sound_files.proofs.Written.{files_written}
 use Rattle.named_files.proofs.Library.{procedures}
-use Rattle.sound_files.proofs.Formless.{subs_none}
-use Rattle.sound_files.proofs.Fine.{files_fine}
-use Rattle.sound_files.proofs.First.{first_class}
+use Rattle.sound_files.proofs.Known.{formals_known}
+use Rattle.sound_files.proofs.Fine.{files_declared, files_fine}
+use Rattle.sound_files.proofs.First.{text_views, first_class}
 
 module _ (files : List (List SourceUnit)) where
   abbrev p : Program
@@ -52,39 +51,36 @@ module _ (files : List (List SourceUnit)) where
   abbrev flow : FlowProgram
   flow = flow_program table (typed_of p)
 
-  module _ (apart : AreApart (identified files)) (ended : AllEnded at_start p.units) (up : Ascends (event_positions (source_events files))) (named : name_fault files ≡ None) (no_fault : type_fault p ≡ None) (text : IsPlainText p) where
-    -- no subprogram has formals
-    formals_known : (sub : TypedSub) → Has (bodies_of p) sub → (x : ℕ) → Has sub.formals x → is_formal (typing_in p) x ≡ true
-    formals_known sub has x is = absurd (subst (λ xs. Has xs x) (subs_none (site_of (known_of p) p.units) 1 p.units sub text.formless has) is)
-
+  module _ (apart : AreApart (identified files)) (ended : AllEnded at_start p.units) (up : Ascends (event_positions (source_events files))) (named : name_fault files ≡ None) (no_fault : type_fault p ≡ None) where
     -- The resolved code of the files is orderly.
-    pub files_orderly : IsOrderly p
-    files_orderly = record {
+    pub files_orderly : AreViews p.units table → (main : ℕ) → (typed_of p).main ≡ Some main → IsOrderly p
+    files_orderly views main is_main = record {
       written = λ u has. files_written (identified files) (outside (known_of p)) files (procedures files named) u has (units_faultless p no_fault u has);
       once = files_once files apart (known_of p);
-      formals = formals_known;
+      formals = formals_known p (IsMade p.units) (files_declared files apart ended up named no_fault views);
       seen = files_seen files up named (files_once files apart (known_of p));
       whole = whole p (files_in_order files apart ended);
-      main = text.main;
-      is_main = text.is_main;
+      main = main;
+      is_main = is_main;
     }
 
     -- Where there are no reports, each moment of each run is well owned, and none is a trap.
-    pub files_sound : (effects : Effects) → AreEffects flow effects → AreReports flow effects [] → CallsNothing flow
+    pub files_sound : IsPlainText p → (effects : Effects) → AreEffects flow effects → AreReports flow effects [] → CallsNothing flow
         → (input : List ℕ) → RunIsSound table (typed_of p) input
-    files_sound effects are none calls input =
+    files_sound text effects are none calls input =
         accepted_sound p effects no_fault
         (record {
           no_reports = none;
           effects_are = are;
           settled = files_settled files apart ended no_fault (typed_of p);
-          fine = files_fine files apart ended up named no_fault text calls;
+          fine = files_fine files apart ended up named no_fault (text_views p text.named) calls;
         })
-        (subst OwnsByShape (flow_table table (typed_of p)) (files_own files apart ended no_fault (typed_of p))) (first_class p text calls) files_orderly input
+        (subst OwnsByShape (flow_table table (typed_of p)) (files_own files apart ended no_fault (typed_of p))) (first_class p text calls)
+        (files_orderly (text_views p text.named) text.main text.is_main) input
 
   -- So it is if the files are parsed from texts: then their positions are as in a text.
   pub parsed_sound : (texts : List (List Cut)) → AreParsed 0 texts files → name_fault files ≡ None → type_fault p ≡ None → IsPlainText p
       → (effects : Effects) → AreEffects flow effects → AreReports flow effects [] → CallsNothing flow
       → (input : List ℕ) → RunIsSound table (typed_of p) input
-  parsed_sound texts parsed named no_fault text =
-      files_sound (files_apart texts files parsed) (files_ended (identified files) texts files parsed) (events_ascend texts files parsed) named no_fault text
+  parsed_sound texts parsed named no_fault =
+      files_sound (files_apart texts files parsed) (files_ended (identified files) texts files parsed) (events_ascend texts files parsed) named no_fault

@@ -1,5 +1,6 @@
--- The runs of accepted files of the second class are sound: those of procedures without formals that call each other.
-use Rattle.std.proofs.Common.{◌≡◌, refl, sym, ap, ◌∙◌, subst, inl, inr, ℕ, zero, suc, ◌<◌, ◌+◌, List, [], ◌∷◌, ◌++◌, map, length, get_or, arith, Option, None}
+-- The runs of accepted files of the second class are sound: those of procedures that call each other, whose formals
+-- are of scalar types.
+use Rattle.std.proofs.Common.{◌≡◌, refl, sym, ap, ◌∙◌, subst, inl, inr, ℕ, zero, suc, ◌<◌, ◌+◌, true, List, [], ◌∷◌, length, get_or, arith, None}
 use Rattle.std.proofs.lemmas.List.{length-map}
 use Rattle.spark_base.specs.Lists.{Has}
 use Rattle.spark_base.proofs.Lists.{Has-append_right}
@@ -10,18 +11,17 @@ use Rattle.name_events.specs.Identified.{identified}
 use Rattle.name_events.specs.Faults.{name_fault}
 use Rattle.resolved_tree.specs.Trees.{Program}
 use Rattle.typing_steps.specs.Programs.{program_of}
-use Rattle.type_definitions.specs.Types.{Table}
+use Rattle.type_definitions.specs.Types.{Table, shape_of, words, words_of}
+use Rattle.type_definitions.specs.Entries.{integer, boolean}
 use Rattle.type_definitions.specs.Whole.{known_of, type_fault}
-use Rattle.typed_tree.specs.Trees.{TypedTree}
-use Rattle.typed_tree.specs.Programs.{TypedSub, TypedProgram, typed_program}
+use Rattle.typed_tree.specs.Programs.{TypedSub, typed_program}
 use Rattle.flow_paths.specs.declared.report.Effects.{Effects}
-use Rattle.flow_paths.specs.Instructions.{Call}
 use Rattle.flow_paths.specs.Objects.{Typing}
 use Rattle.flow_paths.specs.Points.{FlowPoint}
 use Rattle.flow_paths.specs.Laid.{FlowSub, FlowProgram, sub_temporaries, named_subs, all_named, flow_sub, typing_of, flow_named, flow_program}
 use Rattle.flow_paths.specs.Effects.{AreEffects}
 use Rattle.flow_paths.specs.Reports.{AreReports}
-use Rattle.machine.specs.States.{no_sub, sub_of}
+use Rattle.machine.specs.States.{no_sub}
 use Rattle.machine.specs.Run.{no_point}
 use Rattle.settled_types.specs.Orderly.{at_start}
 use Rattle.orderly_files.specs.Apart.{AreApart}
@@ -36,15 +36,19 @@ use Rattle.meant_files.proofs.Bodies.{files_have_bodies}
 use Rattle.called_subs.specs.Called.{HaveBodies}
 use Rattle.called_subs.proofs.Main.{calls_within}
 use Rattle.soundness.specs.Typed.{OwnsByShape}
-use Rattle.soundness.specs.Sound.{RunIsSound}
+use Rattle.soundness.specs.Sound.{IsProcedureClass, RunIsSound}
+use Rattle.soundness.specs.Ready.{IsReady}
 use Rattle.soundness.proofs.Points.{flow_table}
-use Rattle.ready_laws.specs.InOrder.{IsSub, AreCallees}
-use Rattle.ready_laws.proofs.Actuals.{formless_passed}
+use Rattle.soundness.proofs.Main.{ready_sound}
+use Rattle.typed_laws.specs.Fine.{counts, lists}
+use Rattle.typed_steps.specs.Steps.{AreTyped}
+use Rattle.ready_laws.specs.InOrder.{IsSub, AreCallees, ArePassed}
+use Rattle.ready_laws.proofs.Actuals.{typed_passed}
 use Rattle.order_laws.specs.Orderly.{typed_of, bodies_of}
-use Rattle.order_laws.proofs.Accepted.{procedures_sound}
-use Rattle.sound_files.specs.Class.{IsPlainText, CallsProcedures, HasNoFunction}
-use Rattle.sound_files.proofs.First.{formless_class, procedure_class}
-use Rattle.sound_files.proofs.Fine.{procedures_fine}
+use Rattle.order_laws.proofs.Accepted.{procedures_ready}
+use Rattle.sound_files.specs.Class.{IsNamedText, CallsProcedures, HasNoFunction, HasScalarFormals, CopiesToVariables}
+use Rattle.sound_files.proofs.First.{text_views, procedure_class}
+use Rattle.sound_files.proofs.Fine.{table_laws, procedures_fine}
 use Rattle.sound_files.proofs.Main.{files_orderly}
 
 -- ---- lists
@@ -120,26 +124,47 @@ module _ (files : List (List SourceUnit)) where
   unfolding name_fault
   files_bodies up named d has = files_have_bodies files (identified files) (files_followed files up named) named d has
 
-  -- Where there are no reports, each moment of each run is well owned, and none is a trap.
-  pub files_procedures_sound : (apart : AreApart (identified files)) (ended : AllEnded at_start p.units) (up : Ascends (event_positions (source_events files)))
-      (named : name_fault files ≡ None) (no_fault : type_fault p ≡ None) → IsPlainText p → HasNoFunction p
-      → (effects : Effects) → AreEffects flow effects → AreReports flow effects [] → CallsProcedures flow
-      → (input : List ℕ) → RunIsSound table (typed_of p) input
-  files_procedures_sound apart ended up named no_fault text procedures effects are none calls input =
-      procedures_sound p effects no_fault
-      (record {
-        no_reports = none;
-        effects_are = are;
-        settled = files_settled files apart ended no_fault (typed_of p);
-        fine = procedures_fine files apart ended up named no_fault text calls;
-      })
-      (subst OwnsByShape (flow_table table (typed_of p)) (files_own files apart ended no_fault (typed_of p))) (procedure_class p text calls)
-      (files_orderly files apart ended up named no_fault text) (callees p (files_bodies up named) procedures)
-      (formless_passed flow (formless_class p text calls)) input
+  module _ (apart : AreApart (identified files)) (ended : AllEnded at_start p.units) (up : Ascends (event_positions (source_events files))) (named : name_fault files ≡ None)
+      (no_fault : type_fault p ≡ None) (text : IsNamedText p) where
+    -- Actuals stay within what they name, since calls are typed.
+    passed : IsProcedureClass flow → AreTyped flow → ArePassed flow
+    passed class =
+        let laws = table_laws files apart ended up named no_fault (text_views p text.named) in
+        let same : table ≡ flow.table = sym (flow_table table (typed_of p)) in
+        typed_passed flow class (subst (λ (rows : Table). counts (shape_of rows integer) ≡ true) same laws.whole)
+        (subst (λ (rows : Table). lists (shape_of rows boolean) ≡ true) same laws.listed)
+        (subst (λ (rows : Table). (t : ℕ) → words rows t ≡ words_of (words rows) (shape_of rows t)) same laws.word_law)
+
+    -- Where there are no reports, the program is ready,
+    pub files_procedures_ready : HasNoFunction p → (effects : Effects) → AreEffects flow effects → AreReports flow effects [] → AreTyped flow
+        → CallsProcedures flow → HasScalarFormals flow → CopiesToVariables flow → IsReady table (typed_of p) effects
+    files_procedures_ready procedures effects are none typed calls formals copied =
+        let class : IsProcedureClass flow = procedure_class p text calls formals copied in
+        procedures_ready p effects no_fault
+        (record {
+          no_reports = none;
+          effects_are = are;
+          settled = files_settled files apart ended no_fault (typed_of p);
+          fine = procedures_fine files apart ended up named no_fault (text_views p text.named) calls;
+        })
+        (subst OwnsByShape (flow_table table (typed_of p)) (files_own files apart ended no_fault (typed_of p))) class
+        (files_orderly files apart ended up named no_fault (text_views p text.named) text.main text.is_main) (callees p (files_bodies up named) procedures) (passed class typed)
+
+    -- so each moment of each run is well owned, and none is a trap.
+    pub files_procedures_sound : HasNoFunction p → (effects : Effects) → AreEffects flow effects → AreReports flow effects [] → AreTyped flow
+        → CallsProcedures flow → HasScalarFormals flow → CopiesToVariables flow → (input : List ℕ) → RunIsSound table (typed_of p) input
+    files_procedures_sound procedures effects are none typed calls formals copied input =
+        ready_sound table (typed_of p) effects input (files_procedures_ready procedures effects are none typed calls formals copied)
 
   -- So it is if the files are parsed from texts: then their positions are as in a text.
+  pub parsed_procedures_ready : (texts : List (List Cut)) → AreParsed 0 texts files → name_fault files ≡ None → type_fault p ≡ None
+      → IsNamedText p → HasNoFunction p → (effects : Effects) → AreEffects flow effects → AreReports flow effects [] → AreTyped flow
+      → CallsProcedures flow → HasScalarFormals flow → CopiesToVariables flow → IsReady table (typed_of p) effects
+  parsed_procedures_ready texts parsed named no_fault =
+      files_procedures_ready (files_apart texts files parsed) (files_ended (identified files) texts files parsed) (events_ascend texts files parsed) named no_fault
+
   pub parsed_procedures_sound : (texts : List (List Cut)) → AreParsed 0 texts files → name_fault files ≡ None → type_fault p ≡ None
-      → IsPlainText p → HasNoFunction p → (effects : Effects) → AreEffects flow effects → AreReports flow effects [] → CallsProcedures flow
-      → (input : List ℕ) → RunIsSound table (typed_of p) input
+      → IsNamedText p → HasNoFunction p → (effects : Effects) → AreEffects flow effects → AreReports flow effects [] → AreTyped flow
+      → CallsProcedures flow → HasScalarFormals flow → CopiesToVariables flow → (input : List ℕ) → RunIsSound table (typed_of p) input
   parsed_procedures_sound texts parsed named no_fault =
       files_procedures_sound (files_apart texts files parsed) (files_ended (identified files) texts files parsed) (events_ascend texts files parsed) named no_fault

@@ -1,20 +1,32 @@
--- Programs with a main procedure, without anonymous access types and without formals, by their text; and without
--- calls, or with calls of procedures alone.
-use Rattle.std.specs.Prelude.{◌≡◌, ℕ, true, Some, None}
+-- Programs with a main procedure and without anonymous access types, by their text: those without formals and
+-- calls, and those that call procedures alone, whose formals are of scalar types.
+use Rattle.std.specs.Prelude.{◌≡◌, ℕ, true, Option, Some, None}
 use Rattle.spark_base.specs.Lists.{Has}
 use Rattle.resolved_tree.specs.Trees.{Code, Program}
+use Rattle.type_definitions.specs.Types.{full, is_scalar}
+use Rattle.typed_tree.specs.Trees.{TypedTree}
 use Rattle.typed_tree.specs.Programs.{TypedSub}
+use Rattle.flow_paths.specs.Instructions.{Call}
+use Rattle.flow_paths.specs.Objects.{object_at, is_formal}
 use Rattle.flow_paths.specs.Points.{FlowPoint}
-use Rattle.flow_paths.specs.Laid.{FlowSub, FlowProgram}
-use Rattle.soundness.specs.Sound.{calls_nothing, calls_procedures}
+use Rattle.flow_paths.specs.Laid.{FlowSub, FlowProgram, flow_typing}
+use Rattle.machine.specs.States.{sub_of}
+use Rattle.soundness.specs.Sound.{calls_nothing, calls_procedures, AreCopied}
 use Rattle.gathered_laws.specs.Named.{IsNamed}
 use Rattle.order_laws.specs.Orderly.{typed_of, bodies_of}
 use Rattle.meant_files.specs.Formless.{IsFormless}
 
+pub record IsNamedText (p : Program) : Type 0 where
+  pub named : (u : Code) → Has p.units u → IsNamed u
+  -- there is a main procedure, so that there are runs
+  pub main : ℕ
+  pub is_main : (typed_of p).main ≡ Some main
+
+-- ---- the first class
+
 pub record IsPlainText (p : Program) : Type 0 where
   pub named : (u : Code) → Has p.units u → IsNamed u
   pub formless : (u : Code) → Has p.units u → IsFormless u
-  -- there is a main procedure, so that there are runs
   pub main : ℕ
   pub is_main : (typed_of p).main ≡ Some main
 
@@ -31,3 +43,13 @@ CallsProcedures program = (sub : FlowSub) → Has program.subs sub → (p : Flow
 -- No subprogram with a body is a function.
 abbrev pub HasNoFunction : Program → Type 0
 HasNoFunction p = (sub : TypedSub) → Has (bodies_of p) sub → sub.result ≡ None
+
+-- Formals are of scalar types.
+abbrev pub HasScalarFormals : FlowProgram → Type 0
+HasScalarFormals program = (x : ℕ) → is_formal (flow_typing program) x ≡ true → is_scalar (full program.table (object_at (flow_typing program) x).of) ≡ true
+
+-- Actuals of modes `out` and `in out` go through no access value.
+abbrev pub CopiesToVariables : FlowProgram → Type 0
+CopiesToVariables program =
+    (sub : FlowSub) → Has program.subs sub → (p : FlowPoint) → Has sub.points p → (n : ℕ) (actuals : TypedTree) (result : Option ℕ)
+    → p.instr ≡ Call n actuals result → AreCopied (flow_typing program) (sub_of program n).formals actuals

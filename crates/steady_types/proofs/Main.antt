@@ -16,11 +16,11 @@ use Rattle.settled_types.specs.Stamped.{AllOpen, AreRows}
 use Rattle.settled_types.proofs.Homes.{AtHome, homes}
 use Rattle.settled_types.proofs.Turns.{Turn}
 use Rattle.settled_types.proofs.Main.{begin, begin_rows, units_turn, end, first, begins_first, unlike_first, rows_first, second, begins_second}
-use Rattle.gathered_laws.specs.Named.{IsNamed}
 use Rattle.gathered_laws.proofs.Nodes as nodes
 use Rattle.steady_types.specs.Alike.{AreAlike}
 use Rattle.steady_types.specs.Flat.{IsFlatUnit}
 use Rattle.steady_types.specs.Steady.{in_package, IsSteady, AreSteady}
+use Rattle.steady_types.specs.Kept.{IsKept, AreKept}
 use Rattle.steady_types.proofs.Moves.{Like, put, classes_same}
 use Rattle.steady_types.proofs.Walk.{Own, At, Until, Step, before, both, walk}
 
@@ -35,21 +35,21 @@ module _ (final : Known) (count : ℕ) (all : List ℕ) (start : Table)
   abbrev Goes : Past → Context → Context → Past → Context → Context → Type 0 → Type 0
   Goes = Step final count all start unlike T low
 
-  unit : (u : Code) (p : Past) (one two : Context) → Here u p one → IsNamed u → IsFlatUnit u → Own p one.known.table → Like one two → two.within ≡ None
+  unit : (u : Code) (p : Past) (one two : Context) → Here u p one → IsKept T u one → IsFlatUnit u → Own p one.known.table → Like one two → two.within ≡ None
       → Goes p one two (past_after u p) (gather u one) (gather u two) (IsSteady T None u two)
-  unfolding gather past_after IsNamed IsSteady
-  unit (Package d visible hidden) p one two node named flat own like at =
+  unfolding gather past_after IsKept IsSteady
+  unit (Package d visible hidden) p one two node kept flat own like at =
       let n : ℕ = declared_number d in
       let a : Context = in_package d one in
       let b : Context = in_package d two in
       let pieces = nodes.package_node final count all start unlike d visible hidden p one node in
       let moves = put n entry.Package entry.Package one two refl in
       let q : Past = past_after visible (within true p) in
-      let x = walk final count all start unlike T low visible (within true p) a b None pieces.first named.0 flat.0 own
+      let x = walk final count all start unlike T low visible (within true p) a b None pieces.first kept.0 flat.0 own
       (record { home = refl; entries = (moves.like like).entries }) at in
       let c : Context = in_hidden n (gather visible a) in
       let e : Context = in_hidden n (gather visible b) in
-      let y = walk final count all start unlike T low hidden (within true q) c e (Some n) pieces.second named.1 flat.1 x.own
+      let y = walk final count all start unlike T low hidden (within true q) c e (Some n) pieces.second kept.1 flat.1 x.own
       (record { home = refl; entries = x.like.entries }) refl in
       record {
         own = y.own;
@@ -68,11 +68,11 @@ module _ (final : Known) (count : ℕ) (all : List ℕ) (start : Table)
             let g = y.alike last f.0 in
             (g.0, (f.1, g.1));
       }
-  unit (PackageBody d parts) p one two node named flat own like at =
+  unit (PackageBody d parts) p one two node kept flat own like at =
       let n : ℕ = declared_number d in
       let a : Context = in_hidden n one in
       let b : Context = in_hidden n two in
-      let x = walk final count all start unlike T low parts (within true p) a b (Some n) (nodes.package_body_node final count all start unlike d parts p one node) named flat own
+      let x = walk final count all start unlike T low parts (within true p) a b (Some n) (nodes.package_body_node final count all start unlike d parts p one node) kept flat own
       (record { home = refl; entries = like.entries }) refl in
       record {
         own = x.own;
@@ -84,14 +84,14 @@ module _ (final : Known) (count : ℕ) (all : List ℕ) (start : Table)
         within = sym at;
         alike = λ until alike. x.alike (record { fixed = until.fixed; own = until.own; seen = until.seen; no_name = until.no_name }) alike;
       }
-  unit u p one two node named flat own like at = walk final count all start unlike T low u p one two None node named flat own like at
+  unit u p one two node kept flat own like at = walk final count all start unlike T low u p one two None node kept flat own like at
 
   -- ---- units one after the other
 
   units : (us : List Code) (p : Past) (one two : Context) → AllOrderly count p us → AllOpen final us → AtHome p one → ((d : ℕ) → Has (past_units us p).awaited d → Has all d)
-      → AreRows count start p one.known → ((u : Code) → Has us u → IsNamed u) → ((u : Code) → Has us u → IsFlatUnit u)
+      → AreRows count start p one.known → AreKept T us one → ((u : Code) → Has us u → IsFlatUnit u)
       → Own p one.known.table → Like one two → two.within ≡ None → Goes p one two (past_units us p) (gather_units us one) (gather_units us two) (AreSteady T us two)
-  units [] p one two orderly opens home within_all rows named flat own like at = record {
+  units [] p one two orderly opens home within_all rows kept flat own like at = record {
     own = own;
     awaits = λ t is. is;
     fixes = λ t is. is;
@@ -101,22 +101,23 @@ module _ (final : Known) (count : ℕ) (all : List ℕ) (start : Table)
     within = refl;
     alike = λ until alike. (alike, tt);
   }
-  units (u ∷ rest) p one two orderly opens home within_all rows named flat own like at =
+  units (u ∷ rest) p one two orderly opens home within_all rows kept flat own like at =
       let q : Past = past_after u p in
       let on : Turn final count all start q (gather u one).known (past_units rest q) (gather_units rest (gather u one)).known
       = units_turn final count all start unlike rest q (gather u one) orderly.1 opens.1 (homes u p one home) in
       let node : Here u p one
       = record { orderly = orderly.0; opens = opens.0; home = home; within_all = λ d is. within_all d (on.awaits d is); rows = rows } in
-      let s = unit u p one two node (named u (inl refl)) (flat u (inl refl)) own like at in
+      let s = unit u p one two node kept.0 (flat u (inl refl)) own like at in
       both final count all start unlike T low p one two q (gather u one) (gather u two) (past_units rest q) (gather_units rest (gather u one)) (gather_units rest (gather u two))
       (IsSteady T None u two) (AreSteady T rest (gather u two)) s
       (units rest q (gather u one) (gather u two) orderly.1 opens.1 (homes u p one home) within_all (nodes.rows_after final count all start unlike u p one node)
-      (λ v is. named v (inr is)) (λ v is. flat v (inr is)) s.own s.like (s.within ∙ at))
+      kept.1 (λ v is. flat v (inr is)) s.own s.like (s.within ∙ at))
 
 -- ---- both turns
 
-module _ (p : Program) (are : IsOrderly p) (opens : AllOpen (known_of p) p.units) (named : (u : Code) → Has p.units u → IsNamed u)
-    (flat : (u : Code) → Has p.units u → IsFlatUnit u) where
+module _ (p : Program) (are : IsOrderly p) (opens : AllOpen (known_of p) p.units)
+    (flat : (u : Code) → Has p.units u → IsFlatUnit u)
+    (kept : AreKept (second p are opens) p.units (outside (begin p.count (first p are opens)))) where
   -- the table after the first turn, and what is known where each turn begins
   abbrev pub after_first : Table
   after_first = second p are opens
@@ -134,7 +135,7 @@ module _ (p : Program) (are : IsOrderly p) (opens : AllOpen (known_of p) p.units
   all =
       let s = units (known_of p) p.count (end p are opens).awaited (first p are opens) (unlike_first p are opens) after_first (begins_second p are opens).predefined
       p.units at_start start_first start_second are opens (λ is. absurd (true≢false (sym is))) (λ d is. is) (begin_rows p.count (first p are opens) (begins_first p are opens))
-      named flat (λ t is. absurd is) (record { home = refl; entries = classes_same (begin p.count after_first).entries }) refl in
+      kept flat (λ t is. absurd is) (record { home = refl; entries = classes_same (begin p.count after_first).entries }) refl in
       s.alike (record {
         fixed = λ t is. refl;
         own = s.own;

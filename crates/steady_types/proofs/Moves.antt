@@ -1,7 +1,7 @@
 -- What gathering makes of entries is of the same classes in both turns.
-use Rattle.std.proofs.Common.{◌≡◌, ℕ, zero, suc, ◌+◌, Bool, true, false, List, [], ◌∷◌, ◌++◌, set, get_or, refl, sym, ap, ◌∙◌, Option, Some, None, true≢false, pos, if◌then◌else◌}
+use Rattle.std.proofs.Common.{◌≡◌, ℕ, zero, suc, ◌+◌, Bool, true, false, List, [], ◌∷◌, ◌++◌, set, get_or, refl, sym, ap, ◌∙◌, Option, Some, None, pos}
 use Rattle.resolved_tree.specs.declared.node.Mark.{Mark}
-use Rattle.resolved_tree.specs.Trees.{More, Code, Anonymous, Enumeration, Record, Components, Array, Access, Formals, Front}
+use Rattle.resolved_tree.specs.Trees.{More, Code, Anonymous, Enumeration, Record, Components, Array, Access, Formals}
 use Rattle.type_definitions.specs.declared.table.Info.{Info}
 use Rattle.type_definitions.specs.declared.table.InitialValue.{InitialValue}
 use Rattle.type_definitions.specs.declared.table.Shape.TheVariants as shape
@@ -11,7 +11,7 @@ use Rattle.type_definitions.specs.declared.table.Entry.TheVariants as entry
 use Rattle.type_definitions.specs.Types.{untyped}
 use Rattle.type_definitions.specs.Entries.{entry_of, type_of_entry, type_of_mark, marked}
 use Rattle.type_definitions.specs.Names.{Context}
-use Rattle.type_definitions.specs.Gathered.{each, declared_number, own_info, indicated, with_entry, with_info, with_indication, with_literals, with_definition, with_object, object_info, with_number, number_info, plain_object, with_formal, with_formal_group, with_formals, with_result, with_front, with_body_front, profile, is_subprogram, front_number, component_group, component_groups, component_list, defined}
+use Rattle.type_definitions.specs.Gathered.{each, declared_number, own_info, indicated, with_entry, with_info, with_indication, with_literals, with_definition, with_object, object_info, with_number, number_info, plain_object, with_formal, with_formal_group, with_result, is_subprogram, component_group, component_groups, component_list, defined}
 use Rattle.steady_types.specs.Alike.{outline}
 
 -- ---- classes of entries
@@ -55,7 +55,7 @@ pub record Moves (one two more_one more_two : Context) : Type 0 where
   pub like : Like one two → Like more_one more_two
   pub within : more_two.within ≡ two.within
 
-stay : (one two : Context) → Moves one two one two
+pub stay : (one two : Context) → Moves one two one two
 stay one two = record { like = λ l. l; within = refl }
 
 and_then : (a b c d e f : Context) → Moves a b c d → Moves c d e f → Moves a b e f
@@ -95,12 +95,12 @@ definition_moves t (Enumeration literals) one two more_one more_two moves =
     and_then one two more_one more_two (with_literals t 0 literals more_one) (with_literals t 0 literals more_two) moves (literals_move t 0 literals more_one more_two)
 definition_moves t def one two more_one more_two moves = moves
 
-indication_moves : (d : ℕ) (i : Code) (one two : Context) → Moves one two (with_indication d i one) (with_indication d i two)
+pub indication_moves : (d : ℕ) (i : Code) (one two : Context) → Moves one two (with_indication d i one) (with_indication d i two)
 indication_moves d (Anonymous p constant m) one two =
     row d (own_info (shape.Access (marked one.known m) constant false) d) (own_info (shape.Access (marked two.known m) constant false) d) one two
 indication_moves d i one two = stay one two
 
-object_moves : (constant : Bool) (i : Code) (v w : InitialValue) (d : Code) (one two : Context) → Moves one two (with_object constant i v d one) (with_object constant i w d two)
+pub object_moves : (constant : Bool) (i : Code) (v w : InitialValue) (d : Code) (one two : Context) → Moves one two (with_object constant i v d one) (with_object constant i w d two)
 object_moves constant i v w d one two =
     let n : ℕ = declared_number d in
     and_then one two (with_indication n i one) (with_indication n i two) (with_object constant i v d one) (with_object constant i w d two)
@@ -117,36 +117,20 @@ numbers_move v w ids one two =
     moves_each (with_number v) (with_number w)
     (λ d a b. put (declared_number d) (entry.Object (number_info a v)) (entry.Object (number_info b w)) a b refl) ids one two
 
-formal_moves : (of d : Code) (one two : Context) → Moves one two (with_formal of d one) (with_formal of d two)
+pub formal_moves : (of d : Code) (one two : Context) → Moves one two (with_formal of d one) (with_formal of d two)
 formal_moves of d one two =
     let n : ℕ = declared_number d in
     and_then one two (with_indication n of one) (with_indication n of two) (with_formal of d one) (with_formal of d two) (indication_moves n of one two)
     (put n (entry.Object (plain_object (indicated one.known n of) kind.Formal)) (entry.Object (plain_object (indicated two.known n of) kind.Formal))
     (with_indication n of one) (with_indication n of two) refl)
 
-group_moves : (group : Code) (one two : Context) → Moves one two (with_formal_group group one) (with_formal_group group two)
+pub group_moves : (group : Code) (one two : Context) → Moves one two (with_formal_group group one) (with_formal_group group two)
 group_moves (Formals names m of) one two = moves_each (with_formal of) (with_formal of) (formal_moves of) names one two
 group_moves group one two = stay one two
 
-result_moves : (d : ℕ) (result : Code) (one two : Context) → Moves one two (with_result d result one) (with_result d result two)
+pub result_moves : (d : ℕ) (result : Code) (one two : Context) → Moves one two (with_result d result one) (with_result d result two)
 result_moves d (More i rest) one two = indication_moves d i one two
 result_moves d result one two = stay one two
-
-pub front_moves : (front : Code) (one two : Context) → Moves one two (with_front front one) (with_front front two)
-front_moves (Front d formals result) one two =
-    let n : ℕ = declared_number d in
-    let a : Context = with_result n result one in
-    let b : Context = with_result n result two in
-    let e : Context = each with_formal_group formals a in
-    let f : Context = each with_formal_group formals b in
-    and_then one two e f (with_front (Front d formals result) one) (with_front (Front d formals result) two)
-    (and_then one two a b e f (result_moves n result one two) (moves_each with_formal_group with_formal_group group_moves formals a b))
-    (put n (entry.Subprogram (profile e.known (Front d formals result))) (entry.Subprogram (profile f.known (Front d formals result))) e f refl)
-front_moves front one two = stay one two
-
-formals_move : (front : Code) (one two : Context) → Moves one two (with_formals front one) (with_formals front two)
-formals_move (Front d formals result) one two = moves_each with_formal_group with_formal_group group_moves formals one two
-formals_move front one two = stay one two
 
 abbrev as_subprogram : ℕ → Bool
 as_subprogram zero = false
@@ -158,17 +142,10 @@ subprogram_class entry.Type = refl
 subprogram_class (entry.Subprogram p) = refl
 subprogram_class _ = refl
 
-pub body_moves : (front : Code) (one two : Context) → Like one two → Moves one two (with_body_front front one) (with_body_front front two)
-body_moves front one two like =
-    let n : ℕ = front_number front in
-    by (is_subprogram (entry_of one.known n)) (is_subprogram (entry_of two.known n))
-    (subprogram_class (entry_of one.known n) ∙ (ap as_subprogram (classes_at one.known.entries two.known.entries n like.entries) ∙ sym (subprogram_class (entry_of two.known n))))
-  where
-    by : (b q : Bool) → b ≡ q → Moves one two (if b then with_formals front one else with_front front one) (if q then with_formals front two else with_front front two)
-    by true true same = formals_move front one two
-    by false false same = front_moves front one two
-    by true false same = absurd (true≢false same)
-    by false true same = absurd (true≢false (sym same))
+-- A subprogram is known in both turns, or in none.
+pub subprogram_same : (n : ℕ) (one two : Context) → Like one two → is_subprogram (entry_of one.known n) ≡ is_subprogram (entry_of two.known n)
+subprogram_same n one two like =
+    subprogram_class (entry_of one.known n) ∙ (ap as_subprogram (classes_at one.known.entries two.known.entries n like.entries) ∙ sym (subprogram_class (entry_of two.known n)))
 
 -- ---- marks
 

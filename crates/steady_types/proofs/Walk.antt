@@ -1,12 +1,13 @@
 -- Both turns over the code of a unit, side by side: the table of the second one stays like the table that is known
 -- after the first one.
-use Rattle.std.proofs.Common.{◌≡◌, ◌⊎◌, inl, inr, ℕ, ◌<◌, ◌≤◌, true, false, not, ◌||◌, List, ◌∷◌, set, length, refl, sym, ap, ◌∙◌, arith, subst, Option, Some, None, ℤ}
+use Rattle.std.proofs.Common.{◌≡◌, ◌⊎◌, inl, inr, ℕ, ◌<◌, ◌≤◌, Bool, true, false, not, ◌||◌, List, ◌∷◌, set, length, refl, sym, ap, ◌∙◌, arith, subst, Option, Some, None, ℤ, true≢false, if◌then◌else◌}
 use Rattle.std.specs.Prelude.{slice_get}
 use Rattle.std.proofs.lemmas.Bool.{cases_eq}
 use Rattle.spark_base.specs.declared.position.Pos.{Pos}
 use Rattle.spark_base.specs.Lists.{Has}
 use Rattle.resolved_tree.specs.declared.node.Mark.{Mark}
-use Rattle.resolved_tree.specs.Trees.{More, Code, Incomplete, Private, TypeDecl, Subtype, ConstrainedSubtype, Objects, Numbers, Instance, SubDecl, SubBody, Package, PackageBody, If, Branch, Case, When, Loop, While, For, Block}
+use Rattle.resolved_tree.specs.Trees.{More, Code, Anonymous, Incomplete, Private, TypeDecl, Subtype, ConstrainedSubtype, Objects, Numbers, Instance, Formals, Front, SubDecl, SubBody, Package, PackageBody, If, Branch, Case, When, Loop, While, For, Block}
+use Rattle.type_definitions.specs.declared.table.InitialValue.{InitialValue}
 use Rattle.type_definitions.specs.declared.table.Info.{Info}
 use Rattle.type_definitions.specs.declared.table.Known.{Known}
 use Rattle.type_definitions.specs.declared.table.Entry.{Entry}
@@ -19,25 +20,25 @@ use Rattle.type_definitions.specs.declared.judgement.View.TheVariants as view
 use Rattle.type_definitions.specs.Types.{Table, info, base, base_found, meant_type, meant_type_found, full}
 use Rattle.type_definitions.specs.Entries.{entry_of, is_type, marked, type_of_mark, type_of_entry}
 use Rattle.type_definitions.specs.Names.{Context}
-use Rattle.type_definitions.specs.Gathered.{gather, awaited_info, full_info, subtype_info, meant_by, constrained_shape, bound_pair, is_asked, are_static_bounds, constant_value, initial_value, instance_type, with_entry, with_type, with_front, with_body_front, plain_object, parameter_type, declared_number, declared_pos, defined}
+use Rattle.type_definitions.specs.Gathered.{gather, awaited_info, full_info, subtype_info, meant_by, constrained_shape, bound_pair, is_asked, are_static_bounds, constant_value, initial_value, instance_type, each, own_info, with_object, with_entry, with_type, with_indication, with_formal, with_formal_group, with_formals, with_result, with_front, with_body_front, profile, is_subprogram, front_number, plain_object, parameter_type, declared_number, declared_pos, defined}
 use Rattle.type_definitions.specs.Whole.{predefined_types}
 use Rattle.settled_types.specs.Wholes.{written}
-use Rattle.settled_types.specs.Orderly.{Past, with_defined, definition_marks, within, past_after, Orderly}
+use Rattle.settled_types.specs.Orderly.{Past, with_defined, definition_marks, past_after, IsNew, NewOne, AllNew, NewGroup, NewFormals, NewFront, Orderly}
 use Rattle.settled_types.specs.Stamped.{IsType, IsFixed, AreRows}
 use Rattle.settled_types.proofs.Rows.{slice_in}
 use Rattle.settled_types.proofs.Gathered.{without_it}
 use Rattle.settled_types.proofs.Main.{find}
-use Rattle.gathered_laws.specs.Named.{IsNamed}
 use Rattle.gathered_laws.proofs.DefinedKinds.{definition_table}
-use Rattle.gathered_laws.proofs.Plain.{objects_table, numbers_table, front_table, body_table}
+use Rattle.gathered_laws.proofs.Plain.{numbers_table}
 use Rattle.gathered_laws.proofs.Put.{base_at, base_off}
 use Rattle.gathered_laws.proofs.Nodes as nodes
 use Rattle.gathered_laws.proofs.Nodes.{Node}
 use Rattle.steady_types.specs.Alike.{outline, outlined, AreAlike}
 use Rattle.steady_types.specs.Flat.{IsFlat}
 use Rattle.steady_types.specs.Steady.{in_body, in_loop, IsSteady}
-use Rattle.steady_types.proofs.Moves.{Like, Moves, put, type_put, definition_moves, objects_move, numbers_move, front_moves, body_moves, mark_same, defined_same}
-use Rattle.steady_types.proofs.Rows.{set_row, seen_found, info_seen, meant_found, meant_own, base_alike, meant_alike, seen_alike, by_parts, rebuilt}
+use Rattle.steady_types.specs.Kept.{IsKeptAt, AreKeptAt, AreKeptNames, IsKeptGroup, AreKeptGroups, IsKeptResult, IsKeptFront, AreKeptFormals, IsKeptBodyAs, IsKeptBody, IsKept}
+use Rattle.steady_types.proofs.Moves.{Like, Moves, stay, put, type_put, definition_moves, indication_moves, object_moves, numbers_move, formal_moves, subprogram_same, mark_same, defined_same}
+use Rattle.steady_types.proofs.Rows.{set_row, seen_found, info_seen, meant_found, meant_own, base_alike, meant_alike, seen_alike, row_of, by_parts, rebuilt}
 
 slice_off : {A : Type 0} (xs : List A) (d t : ℕ) (x : A) → (t ≡ d → ⊥) → slice_get (set xs d x) t ≡ slice_get xs t
 slice_off xs d t x other = set_row xs d t x (λ o. o ≡ slice_get xs t) (λ same. absurd (other same)) refl
@@ -322,42 +323,180 @@ module _ (final : Known) (count : ℕ) (all : List ℕ) (start : Table)
       ∙ by_parts (outline s) (outline z) (base one.known.table t) (base two.known.table u) None None
       (bounds_outline (full one.known.table t) bs ∙ sym (bounds_outline (full two.known.table u) cs)) same.0 refl)
 
+  -- ---- objects
+
+  other_type : (p : Past) (d t : ℕ) → (Has p.awaited d → ⊥) → Has p.awaited t → t ≡ d → ⊥
+  other_type p d t new has same = new (subst (Has p.awaited) same has)
+
+  -- the row of an anonymous access type, in both turns
+  view_step : (n to from : ℕ) (constant : Bool) (p : Past) (one two more_one more_two : Context) → (Has p.awaited n → ⊥) → (Has p.defined n → ⊥) → Own p one.known.table
+      → Like one two → Moves one two more_one more_two → more_one.known.table ≡ set one.known.table n (own_info (shape.Access to constant false) n)
+      → more_two.known.table ≡ set two.known.table n (own_info (shape.Access from constant false) n)
+      → outlined (slice_get T n) ≡ outlined (Some (own_info (shape.Access from constant false) n)) → Step p one two p more_one more_two (Unit {0})
+  view_step n to from constant p one two more_one more_two unwaited undefined own like moves same_one same_two kept =
+      let i : Info = own_info (shape.Access to constant false) n in
+      let j : Info = own_info (shape.Access from constant false) n in record {
+        own = subst (Own p) (sym same_one) (λ t is. base_off one.known.table n i t (other_type p n t unwaited is) ∙ own t is);
+        awaits = λ t is. is;
+        fixes = λ t is. is;
+        stays = λ t is. ap (λ (table : Table). slice_get table t) same_one ∙ slice_off one.known.table n t i (λ same. undefined (subst (Has p.defined) same is.0));
+        seen = λ t is. ap (λ (table : Table). seen_found (slice_get table t)) same_one ∙ ap seen_found (slice_off one.known.table n t i (other_type p n t unwaited is));
+        like = moves.like like;
+        within = moves.within;
+        alike = λ until alike. (
+          subst (AreAlike T) (sym same_two)
+              (λ t. set_row two.known.table n t j (λ o. outlined (slice_get T t) ≡ outlined o) (λ same. ap (λ u. outlined (slice_get T u)) same ∙ kept) (alike t)),
+          tt,
+        );
+      }
+
+  object_step : (constant : Bool) (i : Code) (v w : InitialValue) (d : Code) (p : Past) (one two : Context) → NewOne count d p → Own p one.known.table → Like one two
+      → IsKeptAt T (declared_number d) i one → Step p one two p (with_object constant i v d one) (with_object constant i w d two) (Unit {0})
+  object_step constant (Anonymous at b m) v w d p one two new own like kept =
+      view_step (declared_number d) (marked one.known m) (marked two.known m) b p one two (with_object constant (Anonymous at b m) v d one)
+      (with_object constant (Anonymous at b m) w d two) new.2 new.3 own like (object_moves constant (Anonymous at b m) v w d one two) refl refl
+      (kept ∙ ap (λ t. row_of (shape.Access t b false) (declared_number d) None) (mark_same one two m like))
+  object_step constant i v w d p one two new own like kept =
+      quiet p one two (with_object constant i v d one) (with_object constant i w d two) own like (object_moves constant i v w d one two) refl refl
+
+  -- one step after the other, where nothing is said
+  and_step : (p : Past) (a b c d e f : Context) → Step p a b p c d (Unit {0}) → Step p c d p e f (Unit {0}) → Step p a b p e f (Unit {0})
+  and_step p a b c d e f s u = record {
+    own = u.own;
+    awaits = λ t is. is;
+    fixes = λ t is. is;
+    stays = λ t is. u.stays t is ∙ s.stays t is;
+    seen = λ t is. u.seen t is ∙ s.seen t is;
+    like = u.like;
+    within = u.within ∙ s.within;
+    alike = λ until alike. u.alike until (s.alike (before p c d p e f (Unit {0}) u until) alike).0;
+  }
+
+  stay_step : (p : Past) (one two : Context) → Own p one.known.table → Like one two → Step p one two p one two (Unit {0})
+  stay_step p one two own like = quiet p one two one two own like (stay one two) refl refl
+
+  objects_step : (constant : Bool) (i : Code) (v w : InitialValue) (ids : Code) (p : Past) (one two : Context) → AllNew count ids p → Own p one.known.table → Like one two
+      → AreKeptAt T constant i v ids one → Step p one two p (each (with_object constant i v) ids one) (each (with_object constant i w) ids two) (Unit {0})
+  objects_step constant i v w (More d rest) p one two new own like kept =
+      let a : Context = with_object constant i v d one in
+      let b : Context = with_object constant i w d two in
+      let s = object_step constant i v w d p one two new.0 own like kept.0 in
+      and_step p one two a b (each (with_object constant i v) rest a) (each (with_object constant i w) rest b) s
+      (objects_step constant i v w rest p a b new.1 s.own s.like kept.1)
+  objects_step constant i v w ids p one two new own like kept = stay_step p one two own like
+
+  -- ---- fronts
+
+  formal_step : (of d : Code) (p : Past) (one two : Context) → NewOne count d p → Own p one.known.table → Like one two → IsKeptAt T (declared_number d) of one
+      → Step p one two p (with_formal of d one) (with_formal of d two) (Unit {0})
+  formal_step (Anonymous at b m) d p one two new own like kept =
+      view_step (declared_number d) (marked one.known m) (marked two.known m) b p one two (with_formal (Anonymous at b m) d one) (with_formal (Anonymous at b m) d two)
+      new.2 new.3 own like (formal_moves (Anonymous at b m) d one two) refl refl
+      (kept ∙ ap (λ t. row_of (shape.Access t b false) (declared_number d) None) (mark_same one two m like))
+  formal_step of d p one two new own like kept =
+      quiet p one two (with_formal of d one) (with_formal of d two) own like (formal_moves of d one two) refl refl
+
+  names_step : (of names : Code) (p : Past) (one two : Context) → AllNew count names p → Own p one.known.table → Like one two → AreKeptNames T of names one
+      → Step p one two p (each (with_formal of) names one) (each (with_formal of) names two) (Unit {0})
+  names_step of (More d rest) p one two new own like kept =
+      let a : Context = with_formal of d one in
+      let b : Context = with_formal of d two in
+      let s = formal_step of d p one two new.0 own like kept.0 in
+      and_step p one two a b (each (with_formal of) rest a) (each (with_formal of) rest b) s (names_step of rest p a b new.1 s.own s.like kept.1)
+  names_step of names p one two new own like kept = stay_step p one two own like
+
+  group_step : (group : Code) (p : Past) (one two : Context) → NewGroup count group p → Own p one.known.table → Like one two → IsKeptGroup T group one
+      → Step p one two p (with_formal_group group one) (with_formal_group group two) (Unit {0})
+  group_step (Formals names m of) p one two new own like kept = names_step of names p one two new own like kept
+  group_step group p one two new own like kept = stay_step p one two own like
+
+  groups_step : (formals : Code) (p : Past) (one two : Context) → NewFormals count formals p → Own p one.known.table → Like one two → AreKeptGroups T formals one
+      → Step p one two p (each with_formal_group formals one) (each with_formal_group formals two) (Unit {0})
+  groups_step (More group rest) p one two new own like kept =
+      let a : Context = with_formal_group group one in
+      let b : Context = with_formal_group group two in
+      let s = group_step group p one two new.0 own like kept.0 in
+      and_step p one two a b (each with_formal_group rest a) (each with_formal_group rest b) s (groups_step rest p a b new.1 s.own s.like kept.1)
+  groups_step formals p one two new own like kept = stay_step p one two own like
+
+  indication_step : (d : ℕ) (i : Code) (p : Past) (one two : Context) → IsNew count d p → Own p one.known.table → Like one two → IsKeptAt T d i one
+      → Step p one two p (with_indication d i one) (with_indication d i two) (Unit {0})
+  indication_step d (Anonymous at b m) p one two new own like kept =
+      view_step d (marked one.known m) (marked two.known m) b p one two (with_indication d (Anonymous at b m) one) (with_indication d (Anonymous at b m) two)
+      new.2 new.3 own like (indication_moves d (Anonymous at b m) one two) refl refl
+      (kept ∙ ap (λ t. row_of (shape.Access t b false) d None) (mark_same one two m like))
+  indication_step d i p one two new own like kept = stay_step p one two own like
+
+  result_step : (d : ℕ) (result : Code) (p : Past) (one two : Context) → IsNew count d p → Own p one.known.table → Like one two → IsKeptResult T d result one
+      → Step p one two p (with_result d result one) (with_result d result two) (Unit {0})
+  result_step d (More i rest) p one two new own like kept = indication_step d i p one two new own like kept
+  result_step d result p one two new own like kept = stay_step p one two own like
+
+  front_step : (front : Code) (p : Past) (one two : Context) → NewFront count front p → Own p one.known.table → Like one two → IsKeptFront T front one
+      → Step p one two p (with_front front one) (with_front front two) (Unit {0})
+  front_step (Front d formals result) p one two new own like kept =
+      let n : ℕ = declared_number d in
+      let front : Code = Front d formals result in
+      let a : Context = with_result n result one in
+      let b : Context = with_result n result two in
+      let e : Context = each with_formal_group formals a in
+      let f : Context = each with_formal_group formals b in
+      let s = result_step n result p one two new.0 own like kept.0 in
+      let u = groups_step formals p a b new.1 s.own s.like kept.1 in
+      let x : Entry = entry.Subprogram (profile e.known front) in
+      let y : Entry = entry.Subprogram (profile f.known front) in
+      and_step p one two e f (with_entry n x e) (with_entry n y f) (and_step p one two a b e f s u)
+      (quiet p e f (with_entry n x e) (with_entry n y f) u.own u.like (put n x y e f refl) refl refl)
+  front_step front p one two new own like kept = stay_step p one two own like
+
+  formals_step : (front : Code) (p : Past) (one two : Context) → NewFront count front p → Own p one.known.table → Like one two → AreKeptFormals T front one
+      → Step p one two p (with_formals front one) (with_formals front two) (Unit {0})
+  formals_step (Front d formals result) p one two new own like kept = groups_step formals p one two new.1 own like kept
+  formals_step front p one two new own like kept = stay_step p one two own like
+
+  body_step : (front : Code) (p : Past) (one two : Context) → NewFront count front p → Own p one.known.table → Like one two → IsKeptBody T front one
+      → Step p one two p (with_body_front front one) (with_body_front front two) (Unit {0})
+  body_step front p one two new own like kept =
+      let n : ℕ = front_number front in
+      by (is_subprogram (entry_of one.known n)) (is_subprogram (entry_of two.known n)) (subprogram_same n one two like) kept
+    where
+      by : (b q : Bool) → b ≡ q → IsKeptBodyAs b T front one
+          → Step p one two p (if b then with_formals front one else with_front front one) (if q then with_formals front two else with_front front two) (Unit {0})
+      by true true same kept = formals_step front p one two new own like kept
+      by false false same kept = front_step front p one two new own like kept
+      by true false same kept = absurd (true≢false same)
+      by false true same kept = absurd (true≢false (sym same))
+
   -- ---- all of the code
 
-  pub walk : (code : Code) (p : Past) (one two : Context) (home : Option ℕ) → At code p one → IsNamed code → IsFlat code → Own p one.known.table → Like one two
+  pub walk : (code : Code) (p : Past) (one two : Context) (home : Option ℕ) → At code p one → IsKept T code one → IsFlat code → Own p one.known.table → Like one two
       → two.within ≡ home → Step p one two (past_after code p) (gather code one) (gather code two) (IsSteady T home code two)
-  unfolding gather past_after Orderly IsNamed IsFlat IsSteady
-  walk (Incomplete d) p one two home node named flat own like at = incomplete_step d p one two node own like
-  walk (Private d) p one two home node named flat own like at = private_step d p one two node own like
-  walk (TypeDecl d def end) p one two home node named flat own like at = full_step d def end p one two node own like
-  walk (Subtype d m) p one two home node named flat own like at = renamed_step d m p one two node own like
-  walk (ConstrainedSubtype d m low high) p one two home node named flat own like at = bounded_step d m low high p one two node own like
-  walk (Objects ids constant i v) p one two home node named flat own like at =
-      let x = constant_value one constant v in
-      let y = constant_value two constant v in
-      quiet p one two (gather (Objects ids constant i v) one) (gather (Objects ids constant i v) two) own like (objects_move constant i x y ids one two)
-      (objects_table constant i x ids one named) (objects_table constant i y ids two named)
-  walk (Numbers ids e) p one two home node named flat own like at =
+  unfolding gather past_after Orderly IsKept IsFlat IsSteady
+  walk (Incomplete d) p one two home node kept flat own like at = incomplete_step d p one two node own like
+  walk (Private d) p one two home node kept flat own like at = private_step d p one two node own like
+  walk (TypeDecl d def end) p one two home node kept flat own like at = full_step d def end p one two node own like
+  walk (Subtype d m) p one two home node kept flat own like at = renamed_step d m p one two node own like
+  walk (ConstrainedSubtype d m low high) p one two home node kept flat own like at = bounded_step d m low high p one two node own like
+  walk (Objects ids constant i v) p one two home node kept flat own like at =
+      objects_step constant i (constant_value one constant v) (constant_value two constant v) ids p one two node.orderly own like kept
+  walk (Numbers ids e) p one two home node kept flat own like at =
       let x = initial_value one e in
       let y = initial_value two e in
       quiet p one two (gather (Numbers ids e) one) (gather (Numbers ids e) two) own like (numbers_move x y ids one two) (numbers_table x ids one) (numbers_table y ids two)
-  walk (Instance d m args) p one two home node named flat own like at =
+  walk (Instance d m args) p one two home node kept flat own like at =
       let x : Entry = entry.Instance (instance_type args) in
       let n : ℕ = declared_number d in
       quiet p one two (with_entry n x one) (with_entry n x two) own like (put n x x one two refl) refl refl
-  walk (SubDecl front) p one two home node named flat own like at =
-      quiet p one two (with_front front one) (with_front front two) own like (front_moves front one two) (front_table front one named) (front_table front two named)
-  walk (SubBody front items stmts end) p one two home node named flat own like at =
+  walk (SubDecl front) p one two home node kept flat own like at = front_step front p one two node.orderly own like kept
+  walk (SubBody front items stmts end) p one two home node kept flat own like at =
       let a : Context = in_body front one in
       let b : Context = in_body front two in
-      let moves = body_moves front one two like in
-      let at_first = moves.like like in
-      let s = quiet p one two (with_body_front front one) (with_body_front front two) own like moves (body_table front one named.0) (body_table front two named.0) in
-      let inner : Like a b = record { home = at_first.home; entries = at_first.entries } in
+      let s = body_step front p one two node.orderly.0 own like kept.0 in
+      let inner : Like a b = record { home = s.like.home; entries = s.like.entries } in
       let nodes_two = nodes.body_node final count all start unlike front items stmts end p one node in
       let q : Past = past_after items p in
-      let x = walk items p a b home nodes_two.first named.1 flat.0 s.own inner (s.within ∙ at) in
-      let y = walk stmts q (gather items a) (gather items b) home nodes_two.second named.2 flat.1 x.own x.like (x.within ∙ (s.within ∙ at)) in
+      let x = walk items p a b home nodes_two.first kept.1 flat.0 s.own inner (s.within ∙ at) in
+      let y = walk stmts q (gather items a) (gather items b) home nodes_two.second kept.2 flat.1 x.own x.like (x.within ∙ (s.within ∙ at)) in
       let z = both p a b q (gather items a) (gather items b) (past_after stmts q) (gather stmts (gather items a)) (gather stmts (gather items b))
       (IsSteady T home items b) (IsSteady T home stmts (gather items b)) x y in
       record {
@@ -371,31 +510,31 @@ module _ (final : Known) (count : ℕ) (all : List ℕ) (start : Table)
         alike = λ until alike. z.alike until (s.alike (before p a b (past_after stmts q) (gather stmts (gather items a)) (gather stmts (gather items b))
             (IsSteady T home items b × IsSteady T home stmts (gather items b)) z until) alike).0;
       }
-  walk (Package d visible hidden) p one two home node named flat own like at = absurd flat
-  walk (PackageBody d parts) p one two home node named flat own like at = absurd flat
-  walk (If pos x y) p one two home node named flat own like at =
+  walk (Package d visible hidden) p one two home node kept flat own like at = absurd flat
+  walk (PackageBody d parts) p one two home node kept flat own like at = absurd flat
+  walk (If pos x y) p one two home node kept flat own like at =
       let pieces = nodes.if_node final count all start unlike pos x y p one node in
       let q : Past = past_after x p in
-      let s = walk x p one two home pieces.first named.0 flat.0 own like at in
+      let s = walk x p one two home pieces.first kept.0 flat.0 own like at in
       both p one two q (gather x one) (gather x two) (past_after y q) (gather y (gather x one)) (gather y (gather x two))
       (IsSteady T home x two) (IsSteady T home y (gather x two)) s
-      (walk y q (gather x one) (gather x two) home pieces.second named.1 flat.1 s.own s.like (s.within ∙ at))
-  walk (Branch pos e x) p one two home node named flat own like at =
-      walk x p one two home (nodes.branch_node final count all start unlike pos e x p one node) named flat own like at
-  walk (Case pos e x) p one two home node named flat own like at =
-      walk x p one two home (nodes.case_node final count all start unlike pos e x p one node) named flat own like at
-  walk (When choices x) p one two home node named flat own like at =
-      walk x p one two home (nodes.when_node final count all start unlike choices x p one node) named flat own like at
-  walk (Loop pos x) p one two home node named flat own like at =
-      walk x p one two home (nodes.loop_node final count all start unlike pos x p one node) named flat own like at
-  walk (While pos e x) p one two home node named flat own like at =
-      walk x p one two home (nodes.while_node final count all start unlike pos e x p one node) named flat own like at
-  walk (For pos d reversed range x) p one two home node named flat own like at =
+      (walk y q (gather x one) (gather x two) home pieces.second kept.1 flat.1 s.own s.like (s.within ∙ at))
+  walk (Branch pos e x) p one two home node kept flat own like at =
+      walk x p one two home (nodes.branch_node final count all start unlike pos e x p one node) kept flat own like at
+  walk (Case pos e x) p one two home node kept flat own like at =
+      walk x p one two home (nodes.case_node final count all start unlike pos e x p one node) kept flat own like at
+  walk (When choices x) p one two home node kept flat own like at =
+      walk x p one two home (nodes.when_node final count all start unlike choices x p one node) kept flat own like at
+  walk (Loop pos x) p one two home node kept flat own like at =
+      walk x p one two home (nodes.loop_node final count all start unlike pos x p one node) kept flat own like at
+  walk (While pos e x) p one two home node kept flat own like at =
+      walk x p one two home (nodes.while_node final count all start unlike pos e x p one node) kept flat own like at
+  walk (For pos d reversed range x) p one two home node kept flat own like at =
       let n : ℕ = declared_number d in
       let a : Context = in_loop d range one in
       let b : Context = in_loop d range two in
       let moves = put n (entry.Object (plain_object (parameter_type one range) kind.Parameter)) (entry.Object (plain_object (parameter_type two range) kind.Parameter)) one two refl in
-      let s = walk x p a b home (nodes.for_node final count all start unlike pos d reversed range x p one node) named flat own (moves.like like) at in
+      let s = walk x p a b home (nodes.for_node final count all start unlike pos d reversed range x p one node) kept flat own (moves.like like) at in
       record {
         own = s.own;
         awaits = s.awaits;
@@ -406,19 +545,19 @@ module _ (final : Known) (count : ℕ) (all : List ℕ) (start : Table)
         within = s.within;
         alike = λ until alike. let y = s.alike until alike in (y.0, ((alike, at), y.1));
       }
-  walk (Block pos x y end) p one two home node named flat own like at =
+  walk (Block pos x y end) p one two home node kept flat own like at =
       let pieces = nodes.block_node final count all start unlike pos end x y p one node in
       let q : Past = past_after x p in
-      let s = walk x p one two home pieces.first named.0 flat.0 own like at in
+      let s = walk x p one two home pieces.first kept.0 flat.0 own like at in
       both p one two q (gather x one) (gather x two) (past_after y q) (gather y (gather x one)) (gather y (gather x two))
       (IsSteady T home x two) (IsSteady T home y (gather x two)) s
-      (walk y q (gather x one) (gather x two) home pieces.second named.1 flat.1 s.own s.like (s.within ∙ at))
-  walk (More x y) p one two home node named flat own like at =
+      (walk y q (gather x one) (gather x two) home pieces.second kept.1 flat.1 s.own s.like (s.within ∙ at))
+  walk (More x y) p one two home node kept flat own like at =
       let pieces = nodes.list_node final count all start unlike x y p one node in
       let q : Past = past_after x p in
-      let s = walk x p one two home pieces.first named.0 flat.0 own like at in
+      let s = walk x p one two home pieces.first kept.0 flat.0 own like at in
       both p one two q (gather x one) (gather x two) (past_after y q) (gather y (gather x one)) (gather y (gather x two))
       (IsSteady T home x two) (IsSteady T home y (gather x two)) s
-      (walk y q (gather x one) (gather x two) home pieces.second named.1 flat.1 s.own s.like (s.within ∙ at))
-  walk code p one two home node named flat own like at =
-      quiet p one two one two own like (record { like = λ l. l; within = refl }) refl refl
+      (walk y q (gather x one) (gather x two) home pieces.second kept.1 flat.1 s.own s.like (s.within ∙ at))
+  walk code p one two home node kept flat own like at =
+      stay_step p one two own like

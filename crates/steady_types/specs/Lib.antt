@@ -4,3 +4,5 @@ pub mod Alike
 pub mod Flat
 -- the tables at loops
 pub mod Steady
+-- anonymous access types
+pub mod Kept

@@ -1,6 +1,6 @@
--- formals and names
-pub mod Profiles
-pub mod Called
+-- names
 pub mod Denoted
+-- subprograms
+pub mod Profiled
 -- the law
 pub mod Main

@@ -1,72 +1,158 @@
--- The law: files without formals and anonymous access types that break no rule of names and of types are typed,
--- where their identifiers stand in the order of the text.
-use Rattle.std.proofs.Common.{◌≡◌, inl, true, List, None, arith}
+-- The law: files that break no rule of names and of types are typed, where their identifiers stand in the order of the
+-- text.
+use Rattle.std.proofs.Common.{◌≡◌, ◌≤◌, ◌∙◌, inl, inr, sym, ap, subst, ℕ, true, List, [], map, length, IsTrue, None}
+use Rattle.std.specs.Prelude.{flat_map}
 use Rattle.spark_base.specs.Lists.{Has}
 use Rattle.ada_tree.specs.declared.unit.SourceUnit.{SourceUnit}
 use Rattle.name_events.specs.Outline.{source_events}
 use Rattle.name_events.specs.Identified.{identified}
+use Rattle.name_events.specs.Denotes.{known_of as names_known}
 use Rattle.name_events.specs.Faults.{name_fault}
 use Rattle.resolved_tree.specs.Trees.{Code, Program}
+use Rattle.type_definitions.specs.declared.table.ObjectInfo.{ObjectInfo}
+use Rattle.type_definitions.specs.declared.table.Entry.TheVariants as entry
+use Rattle.type_definitions.specs.declared.table.Profile.{Profile}
+use Rattle.type_definitions.specs.Entries.{entry_of}
 use Rattle.type_definitions.specs.Whole.{outside, known_of, type_fault}
 use Rattle.typing_steps.specs.Programs.{program_of}
+use Rattle.typed_tree.specs.Expressions.{object_number, object_type}
+use Rattle.typed_tree.specs.Programs.{DeclaredObject, program_objects}
+use Rattle.type_sizes.specs.Formed.{all_formed}
 use Rattle.type_rules.proofs.Formed.{files_formed}
-use Rattle.settled_types.specs.Orderly.{at_start}
+use Rattle.settled_types.specs.Orderly.{at_start, IsOrderly}
+use Rattle.settled_types.specs.Stamped.{AllOpen}
+use Rattle.settled_types.proofs.Faultless.{program_open}
 use Rattle.orderly_files.specs.Apart.{AreApart}
 use Rattle.orderly_files.specs.Ended.{AllEnded}
 use Rattle.orderly_files.proofs.Main.{files_in_order}
 use Rattle.file_positions.specs.Order.{Ascends, event_positions}
+use Rattle.flow_paths.specs.Objects.{object_at}
 use Rattle.gathered_laws.specs.Made.{IsMade}
+use Rattle.gathered_laws.specs.Views.{AreViews}
 use Rattle.gathered_laws.proofs.Components.{components_left}
-use Rattle.gathered_laws.proofs.Declared.{named_views}
+use Rattle.gathered_laws.proofs.Laws.{program_laws}
+use Rattle.gathered_laws.proofs.Main.{are_types, formal}
+use Rattle.anonymous_types.proofs.Main.{are_views as program_views}
 use Rattle.named_files.proofs.Library.{procedures}
 use Rattle.named_files.proofs.Records.{records_apart}
+use Rattle.named_files.proofs.Formals.{formals_are_apart}
+use Rattle.scope_laws.specs.Code.{Once}
+use Rattle.seen_files.specs.Reached.{IsObjectIn}
+use Rattle.seen_files.proofs.Entries.{is_object_entry, known_keeps}
+use Rattle.seen_files.proofs.Files.{files_fit}
 use Rattle.machine.specs.Typed.{is_typed}
+use Rattle.meant_files.specs.Denoted.{AreDenoted}
 use Rattle.meant_files.specs.Typed.{AreTyped as AreDeclared}
-use Rattle.meant_files.proofs.Main.{files_denote, files_typed}
+use Rattle.meant_files.proofs.Objects.{object_numbers, units_same}
+use Rattle.meant_files.proofs.Puts.{subprogram_declared}
+use Rattle.meant_files.proofs.Bodies.{files_have_bodies}
+use Rattle.meant_files.proofs.Denoted.{units_denoted}
+use Rattle.meant_files.proofs.Main.{followed, files_apart, files_bodied, files_kept, files_typed}
 use Rattle.meant_files.proofs.Codes as codes
 use Rattle.order_laws.specs.Written.{is_unit}
 use Rattle.order_laws.proofs.Faults.{units_faultless}
-use Rattle.settled_types.proofs.Faultless.{program_open}
 use Rattle.steady_types.specs.Flat.{IsFlatUnit}
 use Rattle.steady_types.proofs.Main.{alike, steady}
+use Rattle.settled_types.proofs.Main.{second, rows_first, rows_second}
 use Rattle.sound_files.proofs.Flat.{unit_flat}
+use Rattle.sound_files.proofs.Once.{files_once}
 use Rattle.sound_files.proofs.Written.{files_written}
+use Rattle.typed_laws.specs.Fine.{Denotes, Laws}
+use Rattle.typed_points.proofs.Numbers.{object_numbered, denotes}
 use Rattle.typed_steps.specs.Steps.{AreTyped, AreCounted}
+use Rattle.typed_runs.specs.Formals.{AreProfiled}
 use Rattle.typed_runs.specs.Meant.{laid_in, site_in, typing_laid}
 use Rattle.typed_texts.specs.Meant.{IsMeant}
 use Rattle.typed_texts.proofs.Main.{text_typed, text_counted, text_is_typed}
-use Rattle.typed_files.specs.Class.{IsBareText}
-use Rattle.typed_files.proofs.Called.{are_profiled}
-use Rattle.typed_files.proofs.Denoted.{denotes_laid}
+use Rattle.typed_files.proofs.Profiled.{are_profiled}
+use Rattle.typed_files.proofs.Denoted.{same_object, laid_object, denotes_laid}
+
+first_long : (p : Program) (orderly : IsOrderly p) (opens : AllOpen (known_of p) p.units) → p.count ≤ length (second p orderly opens)
+first_long p orderly opens = (rows_first p orderly opens).long
 
 module _ (files : List (List SourceUnit)) where
   abbrev p : Program
   p = program_of files
 
   module _ (apart : AreApart (identified files)) (ended : AllEnded at_start p.units) (up : Ascends (event_positions (source_events files))) (named : name_fault files ≡ None)
-      (none : type_fault p ≡ None) (text : IsBareText p) where
+      (none : type_fault p ≡ None) where
+    formed : IsTrue (all_formed p.units)
+    formed = files_formed (identified files) files
+
+    orderly : IsOrderly p
+    orderly = files_in_order files apart ended
+
+    opens : AllOpen (known_of p) p.units
+    opens = program_open p formed none
+
     written : (u : Code) → Has p.units u → is_unit u ≡ true
     written u has = files_written (identified files) (outside (known_of p)) files (procedures files named) u has (units_faultless p none u has)
 
-    -- objects have the types that are indicated
-    declared : (u : Code) → Has p.units u → AreDeclared (outside (known_of p)) u
+    -- anonymous access types have rows of their own
+    pub are_views : AreViews p.units (known_of p).table
+    are_views = program_views p formed orderly none (files_apart files up named)
+
+    laws : Laws (known_of p) (IsMade p.units)
+    laws = program_laws p formed orderly none are_views (components_left p (records_apart (identified files) files named))
+
+    -- there is a row for each declaration
+    long : p.count ≤ length (known_of p).table
+    unfolding known_of
+    long = (rows_second p orderly opens).long
+
+    -- objects and formals have the types that are indicated
+    declared : (u : Code) → Has p.units u → AreDeclared (IsMade p.units) (outside (known_of p)) u
     declared =
-        let orderly = files_in_order files apart ended in
-        let opens = program_open p (files_formed (identified files) files) none in
         let flat : (u : Code) → Has p.units u → IsFlatUnit u = λ u has. unit_flat u (written u has) in
-        files_typed files up named text.formless text.named (steady p orderly opens text.named flat) (alike p orderly opens text.named flat)
+        let kept = files_kept files up named (first_long p orderly opens) in
+        files_typed files up named (IsMade p.units) (λ m has. inr has) long (steady p orderly opens flat kept) (alike p orderly opens flat kept)
+
+    -- ---- names
+
+    there : (d : ℕ) → (IsObjectIn (names_known files) d → Has (flat_map object_numbers p.units) d) → (o : ObjectInfo) → entry_of (known_of p) d ≡ entry.Object o
+        → Has (site_in p).objects d
+    there d placed o is =
+        subst (λ ns. Has ns d) (sym (units_same p.units (record { known = known_of p; identifier = None }) 1 p.units))
+        (placed (known_keeps (IsObjectIn (names_known files)) p (files_fit files up named) d (ap is_object_entry is)))
+
+    laid_denotes : (d : ℕ) → (IsObjectIn (names_known files) d → Has (flat_map object_numbers p.units) d) → Denotes (site_in p) (typing_laid p) d
+    laid_denotes d placed =
+        denotes_laid p d (there d placed) (denotes (known_of p) p.units d (there d placed) (files_bodied files up named d))
+
+    denoted : (u : Code) → Has p.units u → AreDenoted (Denotes (site_in p) (typing_laid p)) u
+    denoted =
+        units_denoted (IsObjectIn (names_known files)) (Denotes (site_in p) (typing_laid p)) (flat_map object_numbers p.units)
+        laid_denotes p.units [] (λ n has. absurd has) (λ n has. has) (files_fit files up named)
+
+    object_named : (d : ℕ) (o : ObjectInfo) → entry_of (known_of p) d ≡ entry.Object o → Has (site_in p).objects d
+        → (object_at (typing_laid p) (object_number (site_in p) d)).of ≡ o.of
+    object_named d o is has = ap (λ x. x.of) (same_object p d has) ∙ object_numbered (known_of p) p.units d has ∙ ap object_type is
+
+    -- ---- subprograms
+
+    once : Once (map (λ (o : DeclaredObject). o.number) (program_objects (known_of p) p.units))
+    once = files_once files apart (known_of p)
+
+    bodied : (d : ℕ) (profile : Profile) → entry_of (known_of p) d ≡ entry.Subprogram profile → Has (site_in p).bodies d
+    unfolding name_fault
+    bodied d profile is = files_have_bodies files (identified files) (followed files up named) named d (subprogram_declared p d profile is)
+
+    profiled : AreProfiled (known_of p) (site_in p).bodies (typing_laid p) (IsMade p.units)
+    profiled =
+        are_profiled p formed orderly none (files_apart files up named) (IsMade p.units) laws once (laid_object p) object_named (units_faultless p none) declared
+        (formals_are_apart (identified files) files named) bodied
+        (λ d i. formal (IsMade p.units) (λ u less. inl less) (known_of p) (are_types p orderly) d i)
 
     pub are_meant : IsMeant p
     are_meant =
-        let all = codes.files_meant (identified files) (typing_laid p) (IsMade p.units) (site_in p)
-        (λ d. denotes_laid p text.formless d (files_denote files up named text.formless text.named d)) files text.named declared in
+        let all = codes.files_meant (identified files) (typing_laid p) (IsMade p.units) (site_in p) files denoted declared in
         record {
-          formed = files_formed (identified files) files;
-          orderly = files_in_order files apart ended;
+          formed = formed;
+          orderly = orderly;
           written = written;
-          views = named_views p.units (known_of p).table text.named;
+          views = are_views;
           apart = components_left p (records_apart (identified files) files named);
-          profiled = are_profiled p text.formless (IsMade p.units) (inl (omega arith));
+          profiled = profiled;
           bodies = λ u has. (all u has).0;
           objects = λ u has. (all u has).1;
         }

@@ -1,7 +1,6 @@
 //! Files that break no rule of names and of types are typed: laws, for readers.
 //!
-//! `proofs/Main.antt` has the law for the class of texts without formals and anonymous access types.
-//! The steps of such a program have expressions of the types of their places (`AreTyped` of
-//! `typed_steps`), its points have as many successors as their instructions lead to, and it is typed
-//! as the machine says it (`is_typed`). Nothing here runs.
+//! `proofs/Main.antt` has the law. The steps of such a program have expressions of the types of their
+//! places (`AreTyped` of `typed_steps`), its points have as many successors as their instructions lead
+//! to, and it is typed as the machine says it (`is_typed`). Nothing here runs.
 #![tactic(auto)]

@@ -1,2 +1,0 @@
--- the class of texts
-pub mod Class
