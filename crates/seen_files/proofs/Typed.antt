@@ -390,13 +390,13 @@ module _ (outer : ℕ → Bool) where
 
   -- ---- subprograms with a body in the text
 
-  abbrev pub IsKnown : Site → (ℕ → Type 0) → Type 0
+  abbrev IsKnown : Site → (ℕ → Type 0) → Type 0
   IsKnown s object = (d : ℕ) → is_object_entry (entry_of s.context.known d) ≡ true → object d
 
-  abbrev pub IsOutside : Site → List ℕ → Type 0
+  abbrev IsOutside : Site → List ℕ → Type 0
   IsOutside s scope = (d : ℕ) → Has scope d → outer (object_number s d) ≡ true
 
-  pub part_seen : (s : Site) (object : ℕ → Type 0) → IsKnown s object → (n : ℕ) (u : Code) (scope : List ℕ) → IsOutside s (scope_after u scope)
+  part_seen : (s : Site) (object : ℕ → Type 0) → IsKnown s object → (n : ℕ) (u : Code) (scope : List ℕ) → IsOutside s (scope_after u scope)
       → Fits object scope u → (sub : TypedSub) → Has (subs_in s n u) sub → body_seen outer sub ≡ true
   unfolding subs_in Fits scope_after
   part_seen s object known n (SubBody front items stmts end) scope outside fits sub (inl same) =

@@ -19,7 +19,7 @@ use Rattle.scope_laws.specs.Code.{body_seen}
 use Rattle.scope_laws.proofs.Lists.{and_first, and_second}
 use Rattle.seen_files.specs.Fits.{all_numbers, scope_after, unit_scope, Fits, UnitFits, AllFit}
 use Rattle.seen_files.proofs.Entries.{is_object_entry}
-use Rattle.seen_files.proofs.Typed.{part_seen}
+use Rattle.seen_files.proofs.Typed.{units_seen}
 use Rattle.order_laws.specs.Written.{is_declaration, are_declarations, are_statements, is_body, are_parts, is_procedure, is_unit}
 use Rattle.viewed_files.specs.Places.{AreAt, AreAround}
 use Rattle.viewed_files.specs.Laid.{IsLaidBody}
@@ -130,7 +130,7 @@ module _ (units : List Code) (s : Site) (own : Typing) (scopes : List ℕ) (obje
       → are_declarations items && are_statements false stmts ≡ true → At k (objects_in units h a n (SubBody front items stmts end))
       → AreAround scopes n (scopes_in a n (SubBody front items stmts end)) → Before k scope → Fits object scope (SubBody front items stmts end)
       → (sub : TypedSub) → Has (subs_in z n (SubBody front items stmts end)) sub → IsLaid sub
-  unfolding subs_in scope_after
+  unfolding subs_in unit_scope UnitFits
   body_laid z known same h a n k front items stmts end scope less e at around before fits sub (inr never) = absurd never
   body_laid z known same h a n k front items stmts end scope less e at around before fits sub (inl is) = record {
     site = z;
@@ -149,8 +149,8 @@ module _ (units : List Code) (s : Site) (own : Typing) (scopes : List ℕ) (obje
     first = k;
     objects = at;
     inner = around;
-    seen = part_seen (λ y. nat_lt y k) z object known n (SubBody front items stmts end) scope
-        (λ d has. ap (λ xs. nat_lt (position_or_len (nat_eq d) xs + 1) k) same ∙ before d has) fits sub (inl is);
+    seen = units_seen (λ y. nat_lt y k) z object known n (SubBody front items stmts end ∷ []) scope
+        (λ d has. ap (λ xs. nat_lt (position_or_len (nat_eq d) xs + 1) k) same ∙ before d has) (fits, tt) sub (inl is);
   }
 
   part_laid : (z : Site) → IsKnown z object → z.objects ≡ s.objects → (h : Home) (a n k : ℕ) (c : Code) (scope : List ℕ) → a ≤ n

@@ -5,4 +5,5 @@ pub mod Bodies
 pub mod Sources
 pub mod Walked
 pub mod Units
+pub mod Roots
 pub mod Main

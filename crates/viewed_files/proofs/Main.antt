@@ -1,9 +1,11 @@
--- Borrowers and observers of a program without formals are in order, where typing finds no fault.
-use Rattle.std.proofs.Common.{◌≡◌, refl, sym, ap, ◌∙◌, subst, ◌⊎◌, inl, inr, ℕ, zero, suc, ◌+◌, ◌≤◌, ◌<◌, Bool, true, false, not, ◌&&◌, ◌||◌, nat_lt, nat_eq, List, [], ◌∷◌, ◌++◌, map, length, get_or, arith, None, is_some}
+-- Borrowers and observers of a program are in order, where typing finds no fault and no formal is of an anonymous
+-- access type.
+use Rattle.std.proofs.Common.{◌≡◌, refl, sym, ap, ◌∙◌, subst, ◌⊎◌, inl, inr, ℕ, zero, suc, ◌+◌, ◌≤◌, ◌<◌, Bool, true, false, not, ◌&&◌, ◌||◌, ◌==◌, nat_lt, nat_eq, List, [], ◌∷◌, ◌++◌, map, length, get_or, arith, None, is_some}
 use Rattle.std.specs.Prelude.{reverse, flat_map}
 use Rattle.std.specs.List.{AllByRecursion, list_all, position_or_len}
 use Rattle.spark_base.specs.Lists.{Has}
-use Rattle.resolved_tree.specs.Trees.{Code, Program}
+use Rattle.place_names.specs.declared.act.Mode.{Mode}
+use Rattle.resolved_tree.specs.Trees.{Code, Formals, Program, code_items}
 use Rattle.type_definitions.specs.declared.table.Known.{Known}
 use Rattle.type_definitions.specs.Types.{Table, full}
 use Rattle.type_definitions.specs.Entries.{entry_of, integer}
@@ -11,18 +13,20 @@ use Rattle.type_definitions.specs.Gathered.{in_subprogram}
 use Rattle.type_definitions.specs.Declarations.{code_faults}
 use Rattle.type_definitions.specs.Whole.{outside, known_of}
 use Rattle.typed_tree.specs.declared.object.Object.{Object}
+use Rattle.typed_tree.specs.declared.object.ObjectKind.{ObjectKind}
+use Rattle.typed_tree.specs.declared.object.ObjectKind.TheVariants as object_kind
 use Rattle.typed_tree.specs.Trees.{TypedCode, typed_code_list}
 use Rattle.typed_tree.specs.Trees as typed
 use Rattle.typed_tree.specs.Expressions.{Site, object_number}
 use Rattle.typed_tree.specs.Statements.{scope_count, typed_body}
-use Rattle.typed_tree.specs.Programs.{TypedSub, TypedProgram, DeclaredObject, Home, objects_in, scopes_in, formals_of, front_formals, local, placed, elaboration, elaborated, over_units, program_objects, site_of, text_io, typed_program}
-use Rattle.flow_paths.specs.Objects.{Typing, Signature, object_at, is_variable, is_anonymous, is_package_object, is_state, view_of}
+use Rattle.typed_tree.specs.Programs.{TypedSub, TypedProgram, DeclaredObject, Home, object_of, objects_in, scopes_in, formals_of, front_formals, local, placed, elaboration, elaborated, over_units, program_objects, site_of, text_io, typed_program}
+use Rattle.flow_paths.specs.Objects.{Typing, Signature, object_at, is_variable, is_formal_kind, is_formal, is_observer, is_observing, is_anonymous, is_package_object, is_state, view_of}
 use Rattle.flow_paths.specs.Laid.{declared_within, typing_of}
 use Rattle.flow_paths.specs.Layout.{declared}
 use Rattle.flow_paths.specs.Scopes.{is_within}
-use Rattle.flow_paths.specs.Views.{encloses}
+use Rattle.flow_paths.specs.Views.{encloses, scope_of}
 use Rattle.scope_laws.specs.Code.{Once, roots, are_seen, is_seen, body_seen}
-use Rattle.scope_laws.proofs.Lists.{and_first, and_second, both_true, all_has, within_has}
+use Rattle.scope_laws.proofs.Lists.{and_first, and_second, both_true, all_both, all_has, has_reverse, within_has}
 use Rattle.typed_laws.specs.Fine.{Laws}
 use Rattle.typed_points.specs.Meant.{AreMeantUnits}
 use Rattle.layered_scopes.specs.Layered.{is_older, are_of_scope, are_apart, is_layered, is_body_layered}
@@ -30,10 +34,12 @@ use Rattle.order_laws.specs.Orderly.{typed_of, typing_in, bodies_of}
 use Rattle.order_laws.specs.Written.{is_unit}
 use Rattle.order_laws.proofs.Bodies.{IsDeclare}
 use Rattle.order_laws.proofs.First.{units_declare}
-use Rattle.order_laws.proofs.Numbers.{numbers, body_same}
+use Rattle.order_laws.proofs.Numbers.{numbers, body_same, formals_same}
+use Rattle.meant_files.specs.Denoted.{AreDenoted}
 use Rattle.meant_files.specs.Typed.{AreTyped}
 use Rattle.seen_files.specs.Fits.{AllFit}
 use Rattle.view_laws.specs.InOrder.{no_views, names_no_view, fits, AreViewsInOrder}
+use Rattle.view_laws.proofs.Enclosing.{itself}
 use Rattle.view_laws.proofs.Inner.{scopes_inner}
 use Rattle.viewed_files.specs.Places.{AreAt, AreAround}
 use Rattle.viewed_files.specs.Laid.{IsLaidBody}
@@ -45,6 +51,7 @@ use Rattle.viewed_files.proofs.Bodies.{IsKnown, units_laid}
 use Rattle.viewed_files.proofs.Sources as source
 use Rattle.viewed_files.proofs.Sources.{IsLocalView, DeclaresPlain, counts_plain}
 use Rattle.viewed_files.proofs.Units.{units_went}
+use Rattle.viewed_files.proofs.Roots.{roots_plain}
 
 -- ---- lists of objects
 
@@ -56,6 +63,43 @@ high : (s : Site) (own : Typing) (k : ℕ) (os : List DeclaredObject) → AreAt 
 high s own k [] at x has = absurd has
 high s own k (o ∷ os) at x (inl same) = (let is = at.0 in omega (arith, is, same))
 high s own k (o ∷ os) at x (inr has) = (let more = high s own (suc k) os at.2 x has in omega (arith, more))
+
+-- The formals of a body have the numbers before its objects, and its scope.
+formals_below : (s : Site) (own : Typing) (k n : ℕ) (os : List DeclaredObject) → AreAt s own k os → AllByRecursion (λ (o : DeclaredObject). o.object.scope ≡ n) os
+    → (x : ℕ) → Has (numbers s os) x → (x < k + length os) × (scope_of own x ≡ n)
+formals_below s own k n [] at all x has = absurd has
+formals_below s own k n (o ∷ os) at all x (inl same) =
+    (let is = at.0 in omega (arith, is, same), ap (λ m. (object_at own m).scope) (sym same ∙ at.0) ∙ ap (λ z. z.scope) at.1 ∙ all.0)
+formals_below s own k n (o ∷ os) at all x (inr has) =
+    (let more = formals_below s own (suc k) n os at.2 all.1 x has in (let less = more.0 in omega (arith, less), more.1))
+
+each_scope : (h : Home) (n : ℕ) (m : Mode) (ids : List Code) → AllByRecursion (λ (o : DeclaredObject). o.object.scope ≡ n) (map (object_of h n m) ids)
+each_scope h n m [] = tt
+each_scope h n m (d ∷ ids) = (refl, each_scope h n m ids)
+
+group_scope : (h : Home) (n : ℕ) (g : Code) → AllByRecursion (λ (o : DeclaredObject). o.object.scope ≡ n) (formals_of h n g)
+group_scope h n (Formals ids m of) = each_scope h n m (code_items ids)
+group_scope h n g = tt
+
+formals_scope : (h : Home) (n : ℕ) (groups : List Code) → AllByRecursion (λ (o : DeclaredObject). o.object.scope ≡ n) (flat_map (formals_of h n) groups)
+formals_scope h n [] = tt
+formals_scope h n (g ∷ groups) =
+    all_both (λ (o : DeclaredObject). o.object.scope ≡ n) (formals_of h n g) (flat_map (formals_of h n) groups) (group_scope h n g) (formals_scope h n groups)
+
+-- No formal is an observer.
+formals_apart : (own : Typing) (n : ℕ) (xs : List ℕ) → ((x : ℕ) → Has xs x → is_formal own x ≡ true) → are_apart own n xs ≡ true
+formals_apart own n [] formal = refl
+formals_apart own n (x ∷ xs) formal =
+    both_true (not (is_observer own x && (scope_of own x == n))) (are_apart own n xs) (by (object_at own x).kind (is_observing (view_of own x)) (scope_of own x == n) (formal x (inl refl)))
+    (formals_apart own n xs (λ z has. formal z (inr has)))
+  where
+    by : (k : ObjectKind) (a b : Bool) → is_formal_kind k ≡ true → not ((is_variable k && a) && b) ≡ true
+    by object_kind.Formal a b e = refl
+    by k a b e = cc
+
+true_false : (b : Bool) → b ≡ true → b ≡ false → ⊥
+true_false true e f = cc
+true_false false e f = cc
 
 -- ---- the package objects
 
@@ -100,7 +144,9 @@ module _ (own : Typing) (outer : ℕ → Bool) (shared : (x : ℕ) → outer x �
 -- ---- which objects are views
 
 abbrev IsLocalObject : Table → Object → Type 0
-IsLocalObject table o = is_anonymous (full table o.of) ≡ true → (is_variable o.kind ≡ true) × (is_some o.«package» && not (is_state o.kind) ≡ false)
+IsLocalObject table o =
+    is_anonymous (full table o.of) ≡ true
+    → (is_formal_kind o.kind ≡ true) ⊎ ((is_variable o.kind ≡ true) × (is_some o.«package» && not (is_state o.kind) ≡ false))
 
 module _ (table : Table) (whole : is_anonymous (full table integer) ≡ false) where
 
@@ -113,7 +159,10 @@ module _ (table : Table) (whole : is_anonymous (full table integer) ≡ false) w
 
   objects_local : (os : List DeclaredObject) → AllByRecursion (IsLocalView table) os → (x : ℕ) → IsLocalObject table (get_or (map (λ (o : DeclaredObject). o.object) os) x text_io)
   objects_local [] all x view = absurd (never view)
-  objects_local (o ∷ os) all zero view = (let here = all.0 view in (here.0, ap (λ z. is_some z && not (is_state o.object.kind)) here.1))
+  objects_local (o ∷ os) all zero view = elim (all.0 view) [
+    | inl formal ↦ inl formal
+    | inr here ↦ inr (here.0, ap (λ z. is_some z && not (is_state o.object.kind)) here.1)
+  ]
   objects_local (o ∷ os) all (suc x) view = objects_local os all.1 x view
 
   pub all_local : (os : List DeclaredObject) → AllByRecursion (IsLocalView table) os → (x : ℕ) → IsLocalObject table (get_or (text_io ∷ map (λ (o : DeclaredObject). o.object) os) x text_io)
@@ -144,12 +193,12 @@ module _ (p : Program) (made : ℕ → Type 0) (laws : Laws (known_of p) made) (
   abbrev home : Home
   home = record { known = known; identifier = None }
 
-  -- What is asked: marks and formals are of types with names, the text is meant and without a fault, and what names
-  -- denote is in scope.
+  -- What is asked: marks denote types with names, and formals are of such types; the text is meant and without a fault;
+  -- and what names denote is in scope.
   pub record IsGiven : Type 0 where
     pub marks : source.AreMarksPlain s own.objects own.subs made laws
-    pub formals : source.AreFormalsPlain s own.objects own.subs made laws
-    pub formless : (sub : TypedSub) → Has (bodies_of p) sub → sub.formals ≡ []
+    pub formals : (sub : TypedSub) → Has (bodies_of p) sub → (x : ℕ) → Has sub.formals x → is_formal own x ≡ true
+    pub plain : (x : ℕ) → is_formal own x ≡ true → is_anonymous (view_of own x) ≡ false
     pub written : (u : Code) → Has p.units u → is_unit u ≡ true
     pub once : Once (map (λ (o : DeclaredObject). o.number) all)
     pub meant : AreMeantUnits known made p.units
@@ -171,14 +220,21 @@ module _ (p : Program) (made : ℕ → Type 0) (laws : Laws (known_of p) made) (
     inner : (b : ℕ) → get_or scopes b b ≤ b
     inner b = scopes_inner known p.units b
 
+    at : AreAt s own 1 all
+    at = all_at s own all refl objects_are given.once
+
+    rooted : (u : Code) → Has p.units u → AreDenoted (source.IsRootPlain s own.objects own.subs made laws) u
+    rooted = roots_plain s own p.units home object given.names at given.plain given.fits
+
     went : AllByRecursion (λ (sub : TypedSub). all_fit (has_source own) sub.body ≡ true) (bodies_of p) × AllByRecursion (IsLocalView table) all
         × AllByRecursion (DeclaresPlain own) (over_units (elaborated s) 1 p.units)
-    went = units_went known p.units own.objects own.subs made laws given.marks given.formals home refl 1 1 p.units given.written given.meant given.typed given.none
+    went = units_went known p.units own.objects own.subs made laws given.marks home refl 1 1 p.units given.written rooted given.meant given.typed given.none
 
     pub local_views : (x : ℕ) → is_anonymous (view_of own x) ≡ true → (is_variable (object_at own x).kind ≡ true) × (is_package_object own x ≡ false)
-    local_views x =
-        subst (λ os. IsLocalObject table (get_or os x text_io)) (sym objects_are)
-        (all_local table (counts_plain _ laws.whole) all went.1 x)
+    local_views x view = elim (subst (λ os. IsLocalObject table (get_or os x text_io)) (sym objects_are) (all_local table (counts_plain _ laws.whole) all went.1 x) view) [
+      | inl formal ↦ absurd (true_false (is_anonymous (view_of own x)) view (given.plain x formal))
+      | inr here ↦ here
+    ]
 
     shared_plain : (x : ℕ) → is_package_object own x ≡ true → is_anonymous (view_of own x) ≡ false
     shared_plain x shared = by (is_anonymous (view_of own x)) refl
@@ -198,7 +254,7 @@ module _ (p : Program) (made : ℕ → Type 0) (laws : Laws (known_of p) made) (
     laid : (sub : TypedSub) → Has (bodies_of p) sub → IsLaidBody p.units s own scopes sub
     laid sub has =
         units_laid p.units s own scopes object given.names home 1 1 p.units [] given.written
-        (all_at s own all refl objects_are given.once) (all_around scopes (over_units (scopes_in 0) 1 p.units) scopes_are) (λ d none. absurd none) given.fits sub has
+        at (all_around scopes (over_units (scopes_in 0) 1 p.units) scopes_are) (λ d none. absurd none) given.fits sub has
 
     body_layered : (sub : TypedSub) → Has (bodies_of p) sub → (n : ℕ) × (is_body_layered own (is_older own scopes) (fits own) n sub ≡ true)
     unfolding objects_in scopes_in
@@ -212,22 +268,28 @@ module _ (p : Program) (made : ℕ → Type 0) (laws : Laws (known_of p) made) (
         let second : List DeclaredObject = objects_in p.units h n (n + 1 + scope_count b.items) b.stmts in
         let k : ℕ = b.first + length fs in
         let body : TypedCode = typed_body z (n + 1) b.items b.stmts in
-        let at : AreAt z own k (first ++ second) = at_site s z own k (first ++ second) b.same (at_right s own b.first fs (first ++ second) (regrouped s b.first fs first second b.objects)) in
+        let sc : List ℕ = reverse sub.formals in
+        let grouped : AreAt s own b.first (fs ++ (first ++ second)) = regrouped s b.first fs first second b.objects in
+        let here : AreAt z own k (first ++ second) = at_site s z own k (first ++ second) b.same (at_right s own b.first fs (first ++ second) grouped) in
+        let before : AreAt z own b.first fs = at_site s z own b.first fs b.same (at_left s own b.first fs (first ++ second) grouped) in
         let around : AreAround scopes (n + 1) (scopes_in n (n + 1) b.items ++ scopes_in n (n + 1 + scope_count b.items) b.stmts)
         = next_around (suc n) (n + 1) (scopes_in n (n + 1) b.items ++ scopes_in n (n + 1 + scope_count b.items) b.stmts) (omega arith) b.inner.1 in
-        let goes = body_goes own scopes inner z p.units h k n [] b.items b.stmts b.declarations b.statements at around (λ y none. absurd none) in
+        let formals_are : sub.formals ≡ numbers z fs = sym (ap (λ (t : TypedSub). t.formals) b.is) ∙ formals_same z p.units h n (front_formals b.front) in
+        let below : (y : ℕ) → Has sc y → (y < k) × (encloses scopes (scope_of own y) n ≡ true)
+        = λ y there. (let one = formals_below z own b.first n fs before (formals_scope h n (front_formals b.front)) y (subst (λ xs. Has xs y) formals_are (has_reverse sub.formals y there))
+        in (one.0, subst (λ m. encloses scopes m n ≡ true) (sym one.1) (itself scopes n))) in
+        let goes = body_goes own scopes inner z p.units h k n sc b.items b.stmts b.declarations b.statements here around below in
         let body_is : body ≡ sub.body = ap (λ (t : TypedSub). t.body) b.is in
-        let none_is : sub.formals ≡ [] = given.formless sub has in
-        let loose : is_layered own (is_older own scopes) nothing_asked [] sub.body ≡ true = subst (λ c. is_layered own (is_older own scopes) nothing_asked [] c ≡ true) body_is goes.1 in
-        let seen : is_seen (λ y. nat_lt y b.first) [] sub.body ≡ true = subst (λ xs. is_seen (λ y. nat_lt y b.first) (reverse xs) sub.body ≡ true) none_is b.seen in
+        let loose : is_layered own (is_older own scopes) nothing_asked sc sub.body ≡ true = subst (λ c. is_layered own (is_older own scopes) nothing_asked sc c ≡ true) body_is goes.1 in
         let up : (x : ℕ) → Has (declared_within sub.body) x → b.first ≤ x
-        = λ x there. (let more = high z own k (first ++ second) at x (subst (λ xs. Has xs x) (ap declared_within (sym body_is) ∙ body_same z p.units h n (n + 1) (n + 1) b.items b.stmts b.declarations b.statements) there)
+        = λ x there. (let more = high z own k (first ++ second) here x (subst (λ xs. Has xs x) (ap declared_within (sym body_is) ∙ body_same z p.units h n (n + 1) (n + 1) b.items b.stmts b.declarations b.statements) there)
         in omega (arith, more)) in
-        let whole = joined own scopes b.first sub.body [] loose seen (all_has (λ (t : TypedSub). all_fit (has_source own) t.body ≡ true) (bodies_of p) sub went.0 has) up in (
+        let whole = joined own scopes b.first sub.body sc loose b.seen (all_has (λ (t : TypedSub). all_fit (has_source own) t.body ≡ true) (bodies_of p) sub went.0 has) up in (
           n,
-          subst (λ xs. are_of_scope own n (declared sub.body) && (are_apart own n (reverse xs) && is_layered own (is_older own scopes) (fits own) (reverse xs) sub.body) ≡ true) (sym none_is)
-              (both_true (are_of_scope own n (declared sub.body)) (true && is_layered own (is_older own scopes) (fits own) [] sub.body)
-              (subst (λ c. are_of_scope own n (declared c) ≡ true) body_is goes.0) whole),
+          both_true (are_of_scope own n (declared sub.body)) (are_apart own n sc && is_layered own (is_older own scopes) (fits own) sc sub.body)
+              (subst (λ c. are_of_scope own n (declared c) ≡ true) body_is goes.0)
+              (both_true (are_apart own n sc) (is_layered own (is_older own scopes) (fits own) sc sub.body)
+              (formals_apart own n sc (λ x there. given.formals sub has x (has_reverse sub.formals x there))) whole),
         )
       where
         next_around : (m j : ℕ) (bs : List ℕ) → m ≡ j → AreAround scopes m bs → AreAround scopes j bs

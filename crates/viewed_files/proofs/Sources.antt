@@ -48,6 +48,7 @@ use Rattle.typed_laws.specs.Fine.{Laws, IsMeant, Denotes, AreSuffixes, counts}
 use Rattle.typed_laws.proofs.Agreeing.{holds, nil_left, nil_right, and_left, and_right}
 use Rattle.typed_points.specs.Meant.{IsMeantOptional, AreDeclared, AreNumbers}
 use Rattle.typed_points.proofs.Flags.{flagged, reading_same}
+use Rattle.seen_files.specs.Uses.{Uses}
 use Rattle.meant_files.specs.Typed.{AreIndicated, AreOf, IsGroupTyped, AreGroupsTyped, IsFrontTyped, AreIntegers}
 use Rattle.scope_laws.proofs.Lists.{all_both}
 use Rattle.view_laws.specs.InOrder.{is_name_of, is_list_end, is_one_name_of, is_any, stores_name}
@@ -74,9 +75,11 @@ scalar_plain (view.Whole low high) e = refl
 scalar_plain (view.Listed low high) e = refl
 scalar_plain w e = cc
 
--- An object of an anonymous access type is a variable, and of no package.
+-- An object of an anonymous access type is a variable, and of no package; or it is a formal.
 abbrev pub IsLocalView : Table → DeclaredObject → Type 0
-IsLocalView table o = flow.is_anonymous (full table o.object.of) ≡ true → (is_variable_object o.object.kind ≡ true) × (o.object.«package» ≡ None)
+IsLocalView table o =
+    flow.is_anonymous (full table o.object.of) ≡ true
+    → (flow.is_formal_kind o.object.kind ≡ true) ⊎ ((is_variable_object o.object.kind ≡ true) × (o.object.«package» ≡ None))
 
 -- What is declared is no view.
 abbrev pub DeclaresPlain : Typing → TypedCode → Type 0
@@ -96,8 +99,9 @@ module _ (s : Site) (objects : List Object) (subs : List Signature) (made : ℕ 
   abbrev pub AreMarksPlain : Type 0
   AreMarksPlain = (m : Mark) → flow.is_anonymous (full table (marked known m)) ≡ false
 
-  abbrev pub AreFormalsPlain : Type 0
-  AreFormalsPlain = (d : ℕ) (o : ObjectInfo) → entry_of known d ≡ entry.Object o → is_formal_kind o.kind ≡ true → flow.is_anonymous (full table o.of) ≡ false
+  -- If this is a formal, it is of no anonymous access type.
+  abbrev pub IsRootPlain : ℕ → Type 0
+  IsRootPlain d = (o : ObjectInfo) → entry_of known d ≡ entry.Object o → is_formal_kind o.kind ≡ true → flow.is_anonymous (full table o.of) ≡ false
 
   pub integer_plain : flow.is_anonymous (full table integer) ≡ false
   integer_plain = counts_plain (shape_of table integer) laws.whole
@@ -268,7 +272,7 @@ module _ (s : Site) (objects : List Object) (subs : List Signature) (made : ℕ 
 
       each_variable : (a : ℕ) (i ids : Code) → h.identifier ≡ None → AreIndicated known made false i ids → AreLocalViews (map (object_of h a mode.In) (code_items ids))
       each_variable a i (More d rest) none are = (
-        λ anonymous. (ap is_variable_object (ap (λ (k : Known). entry_kind (entry_of k (declared_number d))) same ∙ ap entry_kind are.0.1 ∙ ap kind_of are.0.3), none),
+        λ anonymous. inr (ap is_variable_object (ap (λ (k : Known). entry_kind (entry_of k (declared_number d))) same ∙ ap entry_kind are.0.1 ∙ ap kind_of are.0.3), none),
         each_variable a i rest none are.2,
       )
       each_variable a i ids none are = tt
@@ -283,17 +287,15 @@ module _ (s : Site) (objects : List Object) (subs : List Signature) (made : ℕ 
 
   -- ---- formals
 
-  module _ (h : Home) (same : h.known ≡ known) (formals : AreFormalsPlain) where
-    formal_plain : (a : ℕ) (how : Mode) (t : ℕ) (d : Code) (o : ObjectInfo) → entry_of known (declared_number d) ≡ entry.Object o → o.of ≡ t → o.kind ≡ kind.Formal
+  module _ (h : Home) (same : h.known ≡ known) where
+    formal_known : (a : ℕ) (how : Mode) (d : Code) (o : ObjectInfo) → entry_of known (declared_number d) ≡ entry.Object o → o.kind ≡ kind.Formal
         → IsLocalView table (object_of h a how d)
-    formal_plain a how t d o is of formal anonymous =
-        absurd (true_false (flow.is_anonymous (full table o.of))
-        (sym (ap (λ (k : Known). flow.is_anonymous (full table (object_type (entry_of k (declared_number d))))) same ∙ ap (λ e. flow.is_anonymous (full table (object_type e))) is) ∙ anonymous)
-        (formals (declared_number d) o is (ap is_formal_kind formal)))
+    formal_known a how d o is formal anonymous =
+        inl (ap flow.is_formal_kind (ap (λ (k : Known). entry_kind (entry_of k (declared_number d))) same ∙ ap entry_kind is ∙ ap kind_of formal))
 
     each_formal : (a : ℕ) (how : Mode) (of ids : Code) → AreOf known of ids → AllByRecursion (IsLocalView table) (map (object_of h a how) (code_items ids))
     each_formal a how of (More d rest) are =
-        (formal_plain a how (indicated known (declared_number d) of) d are.0.0 are.0.1 are.0.2 are.0.3, each_formal a how of rest are.1)
+        (formal_known a how d are.0.0 are.0.1 are.0.3, each_formal a how of rest are.1)
     each_formal a how of ids are = tt
 
     group_local : (a : ℕ) (g : Code) → IsGroupTyped known g → AllByRecursion (IsLocalView table) (formals_of h a g)
@@ -393,7 +395,7 @@ module _ (s : Site) (objects : List Object) (subs : List Signature) (made : ℕ 
   one_place : (t u : ℕ) → reading.Place t ≡ reading.Place u → t ≡ u
   one_place t u e = cc
 
-  module _ (looped starts : Bool) (formals : AreFormalsPlain) where
+  module _ (looped starts : Bool) where
     abbrev z : Context
     z = flagged looped starts s.context
 
@@ -416,10 +418,10 @@ module _ (s : Site) (objects : List Object) (subs : List Signature) (made : ℕ 
     abbrev IsStored : Tree → Tree → Type 0
     IsStored target e = all_fit (has_source y) (typed_assign s target e) ≡ true
 
-    object_stored : (p : Pos) (d t : ℕ) (o : ObjectInfo) (value : TypedTree) (e : Tree) → Denotes s y d → entry_of known d ≡ entry.Object o → o.of ≡ t
+    object_stored : (p : Pos) (d t : ℕ) (o : ObjectInfo) (value : TypedTree) (e : Tree) → IsRootPlain d → Denotes s y d → entry_of known d ≡ entry.Object o → o.of ≡ t
         → ((want : ℕ) → source_faults z want e ≡ [] → IsNameOrCall value) → assigned z true (entry_of known d) e (reading.Place t) ≡ []
         → stores_name y (Some (object_number s d)) value || has_call value ≡ true
-    object_stored p d t o value e denotes is of source none = by (flow.is_anonymous (full table t)) refl
+    object_stored p d t o value e root denotes is of source none = by (flow.is_anonymous (full table t)) refl
       where
         object_is : flow.is_anonymous (full table (object_at y (object_number s d)).of) ≡ flow.is_anonymous (full table t)
         object_is = ap (λ u. flow.is_anonymous (full table u)) (denotes.0 o is ∙ of)
@@ -434,7 +436,7 @@ module _ (s : Site) (objects : List Object) (subs : List Signature) (made : ℕ 
 
         within : (f : Bool) → is_formal_kind o.kind ≡ f → flow.is_anonymous (full table t) ≡ true
             → (if f then formal_source z t e else source_faults z t e) ≡ [] → IsNameOrCall value
-        within true formal view h = absurd (true_false (flow.is_anonymous (full table t)) view (sym (ap (λ u. flow.is_anonymous (full table u)) of) ∙ formals d o is formal))
+        within true formal view h = absurd (true_false (flow.is_anonymous (full table t)) view (sym (ap (λ u. flow.is_anonymous (full table u)) of) ∙ root o is formal))
         within false other view h = source t h
 
         known_formal : is_formal (entry_of known d) ≡ is_formal_kind o.kind
@@ -453,9 +455,9 @@ module _ (s : Site) (objects : List Object) (subs : List Signature) (made : ℕ 
             (within (is_formal (entry_of known d)) (sym known_formal) view
             (unfolded (is_anonymous (full table t)) (is_formal (entry_of known d)) refl refl (other_anonymous (full table t) view) none))
 
-    pub assign_fit : (target e : Tree) → IsMeant s y target → target_faults z target ≡ [] → assign_faults z target e ≡ [] → IsStored target e
-    unfolding all_fit IsMeant typed_steps along AreSuffixes
-    assign_fit (Named p d rest) e meant none stored =
+    pub assign_fit : (target e : Tree) → Uses IsRootPlain target → IsMeant s y target → target_faults z target ≡ [] → assign_faults z target e ≡ [] → IsStored target e
+    unfolding all_fit Uses IsMeant typed_steps along AreSuffixes
+    assign_fit (Named p d rest) e uses meant none stored =
         let read = target_read p d rest none in
         let value : TypedTree = typed_expression s (type_read (reading_of s.context d rest)) e in
         subst (λ w. stores_name y w value || has_call value ≡ true) (sym (whole_named p d read.1 rest read.3))
@@ -466,11 +468,11 @@ module _ (s : Site) (objects : List Object) (subs : List Signature) (made : ℕ 
             → assigned z (is_end rest) (entry_of known d) e (reading.Place t) ≡ [] → ((want : ℕ) → source_faults z want e ≡ [] → IsNameOrCall value)
             → stores_name y (whole_object (object_number s d) (typed_steps s (object_type (entry_of known d)) rest)) value || has_call value ≡ true
         by NoMore o t value suffixes is place h source =
-            object_stored p d t o value e meant.0 is (one_place o.of t (sym (read_along d o NoMore is) ∙ place)) source h
+            object_stored p d t o value e uses.0 meant.0 is (one_place o.of t (sym (read_along d o NoMore is) ∙ place)) source h
         by (More a more) o t value suffixes is place h source =
             subst (λ w. stores_name y w value || has_call value ≡ true)
             (sym (ap (λ k. whole_object (object_number s d) (typed_steps s k (More a more))) (ap object_type is)
             ∙ part_named o.of t a more (laws.object d o is) (sym (read_along d o (More a more) is) ∙ place) (object_number s d)))
             refl
         by other o t value suffixes is place h source = absurd suffixes
-    assign_fit target e meant none stored = cc
+    assign_fit target e uses meant none stored = cc

@@ -33,19 +33,24 @@ use Rattle.typed_points.proofs.Flags.{flagged}
 use Rattle.typed_points.proofs.Statements.{parameter_scalar}
 use Rattle.scope_laws.proofs.Lists.{and_first, and_second, both_true, all_both}
 use Rattle.order_laws.specs.Written.{is_declaration, are_declarations, are_statements, is_statement, are_branches, is_branch, are_alternatives, is_alternative}
+use Rattle.meant_files.specs.Denoted.{AreDenoted}
 use Rattle.meant_files.specs.Typed.{AreTyped}
 use Rattle.viewed_files.specs.Sources.{has_source, all_fit}
 use Rattle.viewed_files.proofs.Sources as source
 use Rattle.viewed_files.proofs.Sources.{IsLocalView, DeclaresPlain, scalar_plain}
 
 module _ (s : Site) (objects : List Object) (subs : List Signature) (made : ℕ → Type 0) (laws : Laws s.context.known made)
-    (marks : source.AreMarksPlain s objects subs made laws) (formals : source.AreFormalsPlain s objects subs made laws)
+    (marks : source.AreMarksPlain s objects subs made laws)
     (units : List Code) (h : Home) (same : h.known ≡ s.context.known) (outside : in_package s.context ≡ false → h.identifier ≡ None) where
   abbrev y : Typing
   y = record { table = s.context.known.table; objects = objects; subs = subs }
 
   abbrev table : Table
   table = s.context.known.table
+
+  -- No name in code denotes a formal of an anonymous access type.
+  abbrev pub Rooted : Code → Type 0
+  Rooted c = AreDenoted (source.IsRootPlain s objects subs made laws) c
 
   abbrev Sourced : TypedCode → Type 0
   Sourced c = all_fit (has_source y) c ≡ true
@@ -154,30 +159,30 @@ module _ (s : Site) (objects : List Object) (subs : List Signature) (made : ℕ 
   declarations_plain n _ shared e meant none = cc
 
   mutual
-    unfolding statements objects_in IsMeantCode AreAlternatives AreTyped code_faults alternatives_faults alternative_faults all_fit are_statements is_statement are_branches is_branch are_alternatives is_alternative
+    unfolding statements objects_in IsMeantCode AreAlternatives AreDenoted AreTyped code_faults alternatives_faults alternative_faults all_fit are_statements is_statement are_branches is_branch are_alternatives is_alternative
 
-    pub statements_went : (looped inside : Bool) (a n m : ℕ) (c : Code) → are_statements inside c ≡ true → IsMeantCode s y made c → AreTyped made s.context c → Faultless looped c → Went a n m c
-    statements_went looped inside a n m (More c rest) e meant are none =
+    pub statements_went : (looped inside : Bool) (a n m : ℕ) (c : Code) → are_statements inside c ≡ true → Rooted c → IsMeantCode s y made c → AreTyped made s.context c → Faultless looped c → Went a n m c
+    statements_went looped inside a n m (More c rest) e roots meant are none =
         let z : Context = flagged looped s.context.starts s.context in
         went_both a n (n + scope_count c) m (m + scope_count c) c rest
-        (one_went looped inside a n m c (and_first (is_statement inside c) (are_statements inside rest) e) meant.0 are.0 (nil_left (code_faults z c) (code_faults z rest) none))
-        (statements_went looped inside a (n + scope_count c) (m + scope_count c) rest (and_second (is_statement inside c) (are_statements inside rest) e) meant.1 are.1
+        (one_went looped inside a n m c (and_first (is_statement inside c) (are_statements inside rest) e) roots.0 meant.0 are.0 (nil_left (code_faults z c) (code_faults z rest) none))
+        (statements_went looped inside a (n + scope_count c) (m + scope_count c) rest (and_second (is_statement inside c) (are_statements inside rest) e) roots.1 meant.1 are.1
         (nil_right (code_faults z c) (code_faults z rest) none))
-    statements_went looped inside a n m NoMore e meant are none = (tt, tt)
-    statements_went looped inside a n m _ e meant are none = cc
+    statements_went looped inside a n m NoMore e roots meant are none = (tt, tt)
+    statements_went looped inside a n m _ e roots meant are none = cc
 
-    one_went : (looped inside : Bool) (a n m : ℕ) (c : Code) → is_statement inside c ≡ true → IsMeantCode s y made c → AreTyped made s.context c → Faultless looped c → Went a n m c
-    one_went looped inside a n m (Skip p) e meant are none = ((refl, tt), tt)
-    one_went looped inside a n m (Assign target v) e meant are none =
+    one_went : (looped inside : Bool) (a n m : ℕ) (c : Code) → is_statement inside c ≡ true → Rooted c → IsMeantCode s y made c → AreTyped made s.context c → Faultless looped c → Went a n m c
+    one_went looped inside a n m (Skip p) e roots meant are none = ((refl, tt), tt)
+    one_went looped inside a n m (Assign target v) e roots meant are none =
         let z : Context = flagged looped s.context.starts s.context in
-        ((source.assign_fit s objects subs made laws looped s.context.starts formals target v meant.0 (nil_left (target_faults z target) _ none) (nil_right (target_faults z target) _ none), tt), tt)
-    one_went looped inside a n m (Call name) e meant are none = ((call_fits name, tt), tt)
-    one_went looped inside a n m (Exit p when) e meant are none = ((refl, tt), tt)
-    one_went looped inside a n m (Return p v) e meant are none = ((refl, tt), tt)
-    one_went looped inside a n m (If p branches otherwise) e meant are none =
+        ((source.assign_fit s objects subs made laws looped s.context.starts target v roots.0 meant.0 (nil_left (target_faults z target) _ none) (nil_right (target_faults z target) _ none), tt), tt)
+    one_went looped inside a n m (Call name) e roots meant are none = ((call_fits name, tt), tt)
+    one_went looped inside a n m (Exit p when) e roots meant are none = ((refl, tt), tt)
+    one_went looped inside a n m (Return p v) e roots meant are none = ((refl, tt), tt)
+    one_went looped inside a n m (If p branches otherwise) e roots meant are none =
         let z : Context = flagged looped s.context.starts s.context in
-        let first = branches_went looped inside a n m branches (and_first (are_branches inside branches) (are_statements inside otherwise) e) meant.0 are.0 (nil_left (code_faults z branches) (code_faults z otherwise) none) in
-        let second = statements_went looped inside a (n + scope_count branches) (m + scope_count branches) otherwise (and_second (are_branches inside branches) (are_statements inside otherwise) e) meant.1 are.1
+        let first = branches_went looped inside a n m branches (and_first (are_branches inside branches) (are_statements inside otherwise) e) roots.0 meant.0 are.0 (nil_left (code_faults z branches) (code_faults z otherwise) none) in
+        let second = statements_went looped inside a (n + scope_count branches) (m + scope_count branches) otherwise (and_second (are_branches inside branches) (are_statements inside otherwise) e) roots.1 meant.1 are.1
         (nil_right (code_faults z branches) (code_faults z otherwise) none) in (
           (
             both_true (all_fit (has_source y) (typed_code_list (statements s n branches))) (all_fit (has_source y) (typed_code_list (statements s (n + scope_count branches) otherwise)))
@@ -186,19 +191,19 @@ module _ (s : Site) (objects : List Object) (subs : List Signature) (made : ℕ 
           ),
           all_both (IsLocalView table) (objects_in units h a m branches) (objects_in units h a (m + scope_count branches) otherwise) first.1 second.1,
         )
-    one_went looped inside a n m (Case p v whens) e meant are none =
+    one_went looped inside a n m (Case p v whens) e roots meant are none =
         let z : Context = flagged looped s.context.starts s.context in
         let more = nil_right (selector_faults z v) _ none in
-        let first = alternatives_went looped inside a n m (type_or_integer (own_type z v)) whens e meant.1 are (nil_right (coverage z p v (choices_of whens)) _ more) in
+        let first = alternatives_went looped inside a n m (type_or_integer (own_type z v)) whens e roots.1 meant.1 are (nil_right (coverage z p v (choices_of whens)) _ more) in
         ((listed (statements s n whens) first.0, tt), first.1)
-    one_went looped inside a n m (Loop p stmts) e meant are none =
-        let first = statements_went true true a n m stmts e meant are none in ((listed (statements s n stmts) first.0, tt), first.1)
-    one_went looped inside a n m (While p v stmts) e meant are none =
+    one_went looped inside a n m (Loop p stmts) e roots meant are none =
+        let first = statements_went true true a n m stmts e roots meant are none in ((listed (statements s n stmts) first.0, tt), first.1)
+    one_went looped inside a n m (While p v stmts) e roots meant are none =
         let z : Context = flagged looped s.context.starts s.context in
-        let first = statements_went true true a n m stmts e meant.1 are (nil_right (faults z stands.Elsewhere boolean v) _ none) in ((listed (statements s n stmts) first.0, tt), first.1)
-    one_went looped inside a n m (For p d reversed range stmts) e meant are none =
+        let first = statements_went true true a n m stmts e roots.1 meant.1 are (nil_right (faults z stands.Elsewhere boolean v) _ none) in ((listed (statements s n stmts) first.0, tt), first.1)
+    one_went looped inside a n m (For p d reversed range stmts) e roots meant are none =
         let z : Context = flagged looped s.context.starts s.context in
-        let first = statements_went true true m (n + 1) (m + 1) stmts e meant.2 are.1 (nil_right (range_faults z range) _ none) in
+        let first = statements_went true true m (n + 1) (m + 1) stmts e roots.2 meant.2 are.1 (nil_right (range_faults z range) _ none) in
         let scalar : is_scalar (full table (parameter_type s.context range)) ≡ true =
         parameter_scalar s objects subs made laws looped s.context.starts range meant.0 (nil_left (range_faults z range) _ none) in (
           (listed (statements s (n + 1) stmts) first.0, tt),
@@ -208,54 +213,54 @@ module _ (s : Site) (objects : List Object) (subs : List Signature) (made : ℕ 
             first.1,
           ),
         )
-    one_went looped inside a n m (Block p items stmts end) e meant are none =
+    one_went looped inside a n m (Block p items stmts end) e roots meant are none =
         let z : Context = flagged looped s.context.starts s.context in
         let k : ℕ = n + 1 + scope_count items in
         let l : ℕ = m + 1 + scope_count items in
         let whole = went_both m (n + 1) k (m + 1) l items stmts
         (declarations_went looped m (n + 1) (m + 1) items (and_first (are_declarations items) (are_statements inside stmts) e) meant.0 are.0 (nil_left (code_faults z items) (code_faults z stmts) none))
-        (statements_went looped inside m k l stmts (and_second (are_declarations items) (are_statements inside stmts) e) meant.1 are.1 (nil_right (code_faults z items) (code_faults z stmts) none)) in
+        (statements_went looped inside m k l stmts (and_second (are_declarations items) (are_statements inside stmts) e) roots.1 meant.1 are.1 (nil_right (code_faults z items) (code_faults z stmts) none)) in
         ((listed (statements s (n + 1) items ++ statements s k stmts) whole.0, tt), whole.1)
-    one_went looped inside a n m NoMore e meant are none = (tt, tt)
-    one_went looped inside a n m _ e meant are none = cc
+    one_went looped inside a n m NoMore e roots meant are none = (tt, tt)
+    one_went looped inside a n m _ e roots meant are none = cc
 
-    branches_went : (looped inside : Bool) (a n m : ℕ) (c : Code) → are_branches inside c ≡ true → IsMeantCode s y made c → AreTyped made s.context c → Faultless looped c → Went a n m c
-    branches_went looped inside a n m (More c rest) e meant are none =
+    branches_went : (looped inside : Bool) (a n m : ℕ) (c : Code) → are_branches inside c ≡ true → Rooted c → IsMeantCode s y made c → AreTyped made s.context c → Faultless looped c → Went a n m c
+    branches_went looped inside a n m (More c rest) e roots meant are none =
         let z : Context = flagged looped s.context.starts s.context in
         went_both a n (n + scope_count c) m (m + scope_count c) c rest
-        (branch_went looped inside a n m c (and_first (is_branch inside c) (are_branches inside rest) e) meant.0 are.0 (nil_left (code_faults z c) (code_faults z rest) none))
-        (branches_went looped inside a (n + scope_count c) (m + scope_count c) rest (and_second (is_branch inside c) (are_branches inside rest) e) meant.1 are.1
+        (branch_went looped inside a n m c (and_first (is_branch inside c) (are_branches inside rest) e) roots.0 meant.0 are.0 (nil_left (code_faults z c) (code_faults z rest) none))
+        (branches_went looped inside a (n + scope_count c) (m + scope_count c) rest (and_second (is_branch inside c) (are_branches inside rest) e) roots.1 meant.1 are.1
         (nil_right (code_faults z c) (code_faults z rest) none))
-    branches_went looped inside a n m NoMore e meant are none = (tt, tt)
-    branches_went looped inside a n m _ e meant are none = cc
+    branches_went looped inside a n m NoMore e roots meant are none = (tt, tt)
+    branches_went looped inside a n m _ e roots meant are none = cc
 
-    branch_went : (looped inside : Bool) (a n m : ℕ) (c : Code) → is_branch inside c ≡ true → IsMeantCode s y made c → AreTyped made s.context c → Faultless looped c → Went a n m c
-    branch_went looped inside a n m (Branch p v stmts) e meant are none =
+    branch_went : (looped inside : Bool) (a n m : ℕ) (c : Code) → is_branch inside c ≡ true → Rooted c → IsMeantCode s y made c → AreTyped made s.context c → Faultless looped c → Went a n m c
+    branch_went looped inside a n m (Branch p v stmts) e roots meant are none =
         let z : Context = flagged looped s.context.starts s.context in
-        let first = statements_went looped inside a n m stmts e meant.1 are (nil_right (faults z stands.Elsewhere boolean v) _ none) in ((listed (statements s n stmts) first.0, tt), first.1)
-    branch_went looped inside a n m NoMore e meant are none = (tt, tt)
-    branch_went looped inside a n m _ e meant are none = cc
+        let first = statements_went looped inside a n m stmts e roots.1 meant.1 are (nil_right (faults z stands.Elsewhere boolean v) _ none) in ((listed (statements s n stmts) first.0, tt), first.1)
+    branch_went looped inside a n m NoMore e roots meant are none = (tt, tt)
+    branch_went looped inside a n m _ e roots meant are none = cc
 
-    alternatives_went : (looped inside : Bool) (a n m t : ℕ) (c : Code) → are_alternatives inside c ≡ true → AreAlternatives s y made c → AreTyped made s.context c
+    alternatives_went : (looped inside : Bool) (a n m t : ℕ) (c : Code) → are_alternatives inside c ≡ true → Rooted c → AreAlternatives s y made c → AreTyped made s.context c
         → alternatives_faults (flagged looped s.context.starts s.context) t c ≡ [] → Went a n m c
-    alternatives_went looped inside a n m t (More (When choices stmts) rest) e meant are none =
+    alternatives_went looped inside a n m t (More (When choices stmts) rest) e roots meant are none =
         let z : Context = flagged looped s.context.starts s.context in
         let here = alternative_faults z t (is_last rest) (When choices stmts) in
         let before = choices_faults z t (is_one_choice (code_items choices) && is_last rest) choices in
-        let first = statements_went looped inside a n m stmts (and_first (are_statements inside stmts) (are_alternatives inside rest) e) meant.0 are.0
+        let first = statements_went looped inside a n m stmts (and_first (are_statements inside stmts) (are_alternatives inside rest) e) roots.0 meant.0 are.0
         (nil_right before _ (nil_left here (alternatives_faults z t rest) none)) in
         went_both a n (n + scope_count (When choices stmts)) m (m + scope_count (When choices stmts)) (When choices stmts) rest ((listed (statements s n stmts) first.0, tt), first.1)
         (alternatives_went looped inside a (n + scope_count (When choices stmts)) (m + scope_count (When choices stmts)) t rest (and_second (are_statements inside stmts) (are_alternatives inside rest) e)
-        meant.1 are.1 (nil_right here (alternatives_faults z t rest) none))
-    alternatives_went looped inside a n m t NoMore e meant are none = (tt, tt)
-    alternatives_went looped inside a n m t c e meant are none = absurd meant
+        roots.1 meant.1 are.1 (nil_right here (alternatives_faults z t rest) none))
+    alternatives_went looped inside a n m t NoMore e roots meant are none = (tt, tt)
+    alternatives_went looped inside a n m t c e roots meant are none = absurd meant
 
   -- ---- bodies
 
-  pub body_went : (a n m : ℕ) (items stmts : Code) → are_declarations items ≡ true → are_statements false stmts ≡ true → IsMeantCode s y made items → IsMeantCode s y made stmts
+  pub body_went : (a n m : ℕ) (items stmts : Code) → are_declarations items ≡ true → are_statements false stmts ≡ true → Rooted stmts → IsMeantCode s y made items → IsMeantCode s y made stmts
       → AreTyped made s.context items → AreTyped made s.context stmts → Faultless false items → Faultless false stmts
       → Sourced (typed_body s n items stmts) × AreLocal (objects_in units h a m items ++ objects_in units h a (m + scope_count items) stmts)
-  body_went a n m items stmts e f meant more are others none nothing =
+  body_went a n m items stmts e f roots meant more are others none nothing =
       let whole = went_both a n (n + scope_count items) m (m + scope_count items) items stmts (declarations_went false a n m items e meant are none)
-      (statements_went false false a (n + scope_count items) (m + scope_count items) stmts f more others nothing) in
+      (statements_went false false a (n + scope_count items) (m + scope_count items) stmts f roots more others nothing) in
       (listed (statements s n items ++ statements s (n + scope_count items) stmts) whole.0, whole.1)
