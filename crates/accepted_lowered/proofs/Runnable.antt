@@ -1,5 +1,5 @@
--- What `run` takes: a program of which nothing is reported is lowered, and passes the tests before a run.
-use Rattle.std.proofs.Common.{◌≡◌, ℕ, Bool, List, [], ◌∷◌, Option, Some, None, refl, sym, subst}
+-- What `run` runs is lowered, and passes the tests before a run.
+use Rattle.std.proofs.Common.{◌≡◌, ℕ, Bool, List, [], ◌∷◌, Option, Some, None, refl, sym, ap, ◌∙◌, subst}
 use Rattle.spark_base.specs.declared.limits.TheConstants.{TOKENS, SOURCE_BYTES}
 use Rattle.ada_tree.specs.declared.unit.SourceUnit.{SourceUnit}
 use Rattle.place_names.specs.Reports.{Report}
@@ -7,7 +7,7 @@ use Rattle.flow_paths.specs.declared.report.Effects.{Effects}
 use Rattle.flow_paths.specs.Reports.{AreReports}
 use Rattle.flow_paths.specs.Laid.{FlowProgram}
 use Rattle.laid_program.specs.declared.laid.Laid.{Laid}
-use Rattle.laid_program.specs.Programs as laid_programs
+use Rattle.laid_program.specs.Programs.{program_of}
 use Rattle.program_check.specs.Sources.{flow_of}
 use Rattle.run_codes.specs.Programs.{lowered_program}
 use Rattle.run_ready.specs.Tests.{IsReady}
@@ -20,7 +20,7 @@ use Rattle.spark_tool.specs.Product.{Finding, Passes as Found, judged, Checks, m
 use Rattle.accepted_runs.specs.Passed.{Passes}
 use Rattle.accepted_runs.proofs.Passing.{Passed}
 use Rattle.accepted_runs.proofs.Parsed.{are_parsed}
-use Rattle.accepted_lowered.specs.Runs.{RunsOn, IsRunnable}
+use Rattle.accepted_lowered.specs.Runs.{IsRunnable, RunsOn}
 use Rattle.accepted_lowered.proofs.Main.{passed_lowered}
 
 -- ---- the program that is found is that of texts that pass
@@ -58,26 +58,26 @@ found_passed names found finding (checked texts cuts trees effects reports cut p
         (record { texts = texts; are = refl; trees = trees; effects = effects; passes = passes }, same_program (flow_of trees) program e)
     by (report ∷ more) are e = cc
 
--- ---- it is ready
+-- ---- it can be run
 
-pub passed_ready : (texts : List (List ℕ)) (trees : List (List SourceUnit)) (effects : Effects) → Passes texts trees effects
-    → (laid : Laid) → laid_programs.program_of laid ≡ flow_of trees → IsReady laid
+passed_ready : (texts : List (List ℕ)) (trees : List (List SourceUnit)) (effects : Effects) → Passes texts trees effects
+    → (laid : Laid) → program_of laid ≡ flow_of trees → IsReady laid
 passed_ready texts trees effects passes =
     parsed_ready trees passes.cuts (are_parsed texts 0 TOKENS passes.cuts trees passes.cut passes.parsed) passes.named passes.typed
 
-found_ready : (names : List (List ℕ)) (found : Sources) (finding : Finding) → Checks names found finding → (laid : Laid) → finding ≡ Found (laid_programs.program_of laid)
-    → IsReady laid
-found_ready names found finding checks laid e =
-    let is : IsOf found (laid_programs.program_of laid) = found_passed names found finding checks (laid_programs.program_of laid) e in
-    passed_ready is.0.texts is.0.trees is.0.effects is.0.passes laid (sym is.1)
+pub passed_runnable : (texts : List (List ℕ)) (trees : List (List SourceUnit)) (effects : Effects) → Passes texts trees effects
+    → (laid : Laid) → flow_of trees ≡ program_of laid → IsRunnable laid
+passed_runnable texts trees effects passes laid is = record {
+  lowered = λ none. passed_lowered texts trees effects passes (ap lowered_program is ∙ none);
+  tested = passed_ready texts trees effects passes laid (sym is);
+}
 
--- ---- it is lowered
-
-found_lowered : (names : List (List ℕ)) (found : Sources) (finding : Finding) → Checks names found finding → (program : FlowProgram) → finding ≡ Found program
-    → lowered_program program ≡ None → ⊥
-found_lowered names found finding checks program e =
-    let is : IsOf found program = found_passed names found finding checks program e in
-    subst (λ (flow : FlowProgram). lowered_program flow ≡ None → ⊥) is.1 (passed_lowered is.0.texts is.0.trees is.0.effects is.0.passes)
+-- However a program of which nothing is reported is laid out in rows, it can be run.
+pub found_runnable : (names : List (List ℕ)) (found : Sources) (finding : Finding) → Checks names found finding → (laid : Laid) → finding ≡ Found (program_of laid)
+    → IsRunnable laid
+found_runnable names found finding checks laid e =
+    let is : IsOf found (program_of laid) = found_passed names found finding checks (program_of laid) e in
+    passed_runnable is.0.texts is.0.trees is.0.effects is.0.passes laid is.1
 
 -- ---- what `run` answers
 
@@ -98,12 +98,10 @@ answers_on stored input _ _ (leaks names finding answer checks lists) = tt
 answers_on stored input _ _ (make n) = tt
 answers_on stored input _ _ (selftest n finding checks) = tt
 
--- What `run` answers rests on what is found of the files. Where that is a program of which nothing is reported, the
--- program is lowered and passes the tests before a run.
-pub run_tested : (stored : List (List ℕ × List ℕ)) (input : List ℕ) (words names : List (List ℕ)) (budget : ℕ) (stats : Bool) (answer : Answer)
+-- What `run` answers rests on what is found of the files: a program of which nothing is reported can be run.
+pub run_runnable : (stored : List (List ℕ × List ℕ)) (input : List ℕ) (words names : List (List ℕ)) (budget : ℕ) (stats : Bool) (answer : Answer)
     → command_of words ≡ Some (Run names budget stats) → Product stored input words answer
-    → (on : RunsOn stored input names budget answer) × IsRunnable on.finding
-run_tested stored input words names budget stats answer command product =
+    → (on : RunsOn stored input names budget answer) × ((laid : Laid) → on.finding ≡ Found (program_of laid) → IsRunnable laid)
+run_runnable stored input words names budget stats answer command product =
     let on : RunsOn stored input names budget answer = subst (λ (c : Option Command). RunsIf stored input c answer) command (answers_on stored input (command_of words) answer product) in
-    let found : Sources = sources stored 0 SOURCE_BYTES names in
-    (on, record { ready = found_ready names found on.finding on.checks; lowered = found_lowered names found on.finding on.checks })
+    (on, found_runnable names (sources stored 0 SOURCE_BYTES names) on.finding on.checks)

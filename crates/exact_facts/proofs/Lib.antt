@@ -12,6 +12,9 @@ pub mod Stored
 pub mod Instructions
 pub mod Releases
 pub mod Loops
+-- frames
+pub mod Frames
+pub mod Calls
 -- steps, and the law
 pub mod Stepping
 pub mod Main

@@ -41,7 +41,7 @@ use Rattle.owned_ways.proofs.Locations.{reaches_along, named_along as rooted_alo
 use Rattle.soundness.specs.Seen.{content, word_in, seen, home, IsNear, is_view_formal, trunk}
 use Rattle.soundness.specs.Typed.{Kept}
 use Rattle.typed_laws.specs.Needed.{IsFine, Source, FirstSource, FirstWrites, FirstStays}
-use Rattle.soundness.specs.Sound.{calls_nothing, calls_procedures, Stage, facts_of, Elsewhere, AreStages, Uses, IsCaller, AreCallers, AreRunning, InScope, IsNamedSub, IsAtPoint, view_of, IsSound, LeadsOn, StepsLeadOn, AreCopied}
+use Rattle.soundness.specs.Sound.{calls_nothing, calls_procedures, Stage, facts_of, Elsewhere, AreStages, Uses, IsCaller, AreCallers, AreRunning, InScope, IsNamedSub, IsAtPoint, view_of, LeadsOn, StepsLeadOn, steps_on, begins_main, calls_one, ends_one, AreSameWords, LeadsAlong, StepsLeadAlong, AreCopied}
 use Rattle.soundness.specs.Ready.{stored_at, IsCalled, IsReady}
 use Rattle.soundness.proofs.Contents.{bool_cases, word_no, word_root}
 use Rattle.soundness.proofs.Steps.{no_leaf}
@@ -50,7 +50,7 @@ use Rattle.soundness.proofs.Numbers.{index_law}
 use Rattle.soundness.proofs.Lasting.{keeps}
 use Rattle.soundness.proofs.Evaluated.{live_trunk}
 use Rattle.soundness.proofs.Fixed.{LeadsTo}
-use Rattle.soundness.proofs.Passing.{plain_type, ArePlain, way_of, AreReads, reads_keep, read_open, values_read, AreLaid, returns_copied, formals_good, AreGiven, all_given, all_laid as all_laid_out, all_acted, entered, call_leads, passed_to}
+use Rattle.soundness.proofs.Passing.{plain_type, ArePlain, way_of, AreReads, reads_keep, read_open, values_read, call_adds, AreLaid, returns_copied, formals_good, AreGiven, all_given, all_laid as all_laid_out, all_acted, entered, call_leads, passed_to}
 use Rattle.soundness.proofs.Moments.{number_part}
 use Rattle.soundness.proofs.Scalars.{acts, acts_append, after_append, allows_both}
 use Rattle.soundness.proofs.Paths.{accepted_point, facts_next}
@@ -59,9 +59,9 @@ use Rattle.soundness.proofs.Scoped.{MayHold, Inside}
 use Rattle.soundness.proofs.Near.{near_along}
 use Rattle.soundness.proofs.Inherited.{Splits, after_splits, allowed_beside, AreGlobal, global_after, global_allowed, is_open, apart_allows, global_apart}
 use Rattle.soundness.proofs.Opened.{instruction_open}
-use Rattle.soundness.proofs.Used.{writes_used, reads_used, called_used, used_global, called_are, globals_are, path_acts, returns_whole}
+use Rattle.soundness.proofs.Used.{writes_used, reads_used, called_used, added_after, used_global, called_are, globals_are, path_acts, returns_whole}
 use Rattle.soundness.proofs.Around.{same_or_not, IsFar, far_alone, is_inherited, inherited, inherited_from, IsBetween, beside, apart_again, unused_there, all_between, AreStill, callers_kept}
-use Rattle.soundness.proofs.Returning.{returned_sound, returned_kept, left_held, back, returns_lead, ends_lead, left_waits, ended_owned}
+use Rattle.soundness.proofs.Returning.{returned_sound, returned_kept, left_same, left_held, back, returns_lead, ends_lead, left_waits, ended_owned}
 use Rattle.soundness.proofs.Following.{Each, GoesOn, Declares, declare_on, declare_follows, assign_follows, release_follows, input_follows, test_follows, choose_follows, stays_follows, output_follows, start_follows, next_follows, end_scope_follows}
 use Rattle.soundness.proofs.Waits.{drop_none, or_both}
 use Rattle.soundness.proofs.Successors.{not_true, both_not, calls_cases, procedures_take_none, finish_or, below_one, below_two, successor_there, successor_cases, unmoved_after}
@@ -99,10 +99,10 @@ module _ (table : Table) (typed : TypedProgram) (effects : Effects) (input : Lis
   abbrev own : Typing
   own = typing_of table typed
 
-  same : s ≡ own
+  pub same : s ≡ own
   same = typing_same table typed ready.scoped.objects
 
-  no_in_formals : (x : ℕ) → is_view_formal s x ≡ false
+  pub no_in_formals : (x : ℕ) → is_view_formal s x ≡ false
   no_in_formals x = elim (bool_cases (is_formal s x)) [
     | inl e ↦ no_second (is_in_formal s x) (is_owning s.table (object_at s x).of) (plain_type s ready.owns (object_at s x).of (ready.class.formals x e))
     | inr e ↦ ap (λ b. (b && is_in (object_at s x).mode) && is_owning s.table (object_at s x).of) e
@@ -129,13 +129,13 @@ module _ (table : Table) (typed : TypedProgram) (effects : Effects) (input : Lis
     abbrev points : List PathPoint
     points = path_points program effects sub
 
-    sub_is : sub_of program top.frame.sub ≡ sub
+    pub sub_is : sub_of program top.frame.sub ≡ sub
     sub_is = sub_there table typed top.frame.sub named of_sub
 
-    in_program : Has program.subs sub
+    pub in_program : Has program.subs sub
     in_program = sub_has table typed top.frame.sub named of_sub
 
-    in_sub : Has sub.points here
+    pub in_sub : Has sub.points here
     in_sub = point_in own named top.frame.next p at_point
 
     pub step_is : step program input state ≡ turn t p.instr
@@ -228,36 +228,38 @@ module _ (table : Table) (typed : TypedProgram) (effects : Effects) (input : Lis
         returns = top.returns;
       }
 
-      pub goes_to_next : calls_nothing p.instr ≡ true → (after_step : State) (loops : List Loop) (n : ℕ) → Has here.next n
+      pub goes_to_next : calls_nothing p.instr ≡ true → (p.instr ≡ Finish → ⊥) → (after_step : State) (loops : List Loop) (n : ℕ) → Has here.next n
           → after_step.frames ≡ record top.frame { waits = []; loops = loops; next = n } ∷ outer
           → top.depth ≡ length outer → AreStages older outer → AreRunning table typed effects after_step.memory (at_next loops n ∷ older)
           → Sound (home s (length outer)) (Elsewhere program effects older) (view_of s after_step) (after (acts (acts_by s p.instr)) facts)
           → Kept s after_step.memory (waiting_in after_step)
-          → InScope s after_step.memory (length outer) (scope_behind p) → IsSound table typed effects after_step
-      goes_to_next plain after_step loops n next is deep stages running sound kept scope =
+          → InScope s after_step.memory (length outer) (scope_behind p) → LeadsAlong table typed effects p.instr state.memory top older (Goes after_step)
+      goes_to_next plain going after_step loops n next is deep stages running sound kept scope =
           let successor_point = next_there own named (laid named (named_has (flow_named table typed) top.frame.sub named of_sub)) p
           (point_has named.points top.frame.next p at_point) n next in
           let q : NamedPoint = successor_point.0 in
           let step_on : Has (path_point points top.frame.next).next n =
           subst (λ (z : PathPoint). Has z.next n) (sym (path_there own named top.frame.next p at_point program effects)) next in
           let facts_there : facts_of program effects (at_next loops n) ≡ after (acts (acts_by s p.instr)) facts =
-          ap (λ (z : FlowSub). facts_before (path_points program effects z) (top.frame.next ∷ top.before)) sub_is ∙ facts_on plain in
-          record {
-            top = at_next loops n;
-            older = older;
-            stages = subst (AreStages (at_next loops n ∷ older)) (sym is) (refl, deep, stages);
-            running = running;
-            path = subst (λ (z : FlowSub). ControlPath (path_points program effects z) (top.frame.next ∷ top.before) n) (sym sub_is)
-                (goes_on top.before top.frame.next n path_here step_on);
-            sound = subst (λ d. Sound (home s d) (Elsewhere program effects older) (view_of s after_step) (facts_of program effects (at_next loops n))) (sym deep)
-                (subst (Sound (home s (length outer)) (Elsewhere program effects older) (view_of s after_step)) (sym facts_there) sound);
-            kept = kept;
-            named = named;
-            of_sub = of_sub;
-            point = q;
-            at_point = successor_point.1;
-            scope = subst (λ d. InScope s after_step.memory d q.scope) (sym deep) (by_typing after_step.memory q successor_point.2 scope);
-          }
+          ap (λ (z : FlowSub). facts_before (path_points program effects z) (top.frame.next ∷ top.before)) sub_is ∙ facts_on plain in (
+            record {
+              top = at_next loops n;
+              older = older;
+              stages = subst (AreStages (at_next loops n ∷ older)) (sym is) (refl, deep, stages);
+              running = running;
+              path = subst (λ (z : FlowSub). ControlPath (path_points program effects z) (top.frame.next ∷ top.before) n) (sym sub_is)
+                  (goes_on top.before top.frame.next n path_here step_on);
+              sound = subst (λ d. Sound (home s d) (Elsewhere program effects older) (view_of s after_step) (facts_of program effects (at_next loops n))) (sym deep)
+                  (subst (Sound (home s (length outer)) (Elsewhere program effects older) (view_of s after_step)) (sym facts_there) sound);
+              kept = kept;
+              named = named;
+              of_sub = of_sub;
+              point = q;
+              at_point = successor_point.1;
+              scope = subst (λ d. InScope s after_step.memory d q.scope) (sym deep) (by_typing after_step.memory q successor_point.2 scope);
+            },
+            steps_on plain going (refl, refl, refl) refl,
+          )
         where
           by_typing : (m : Memory) (q : NamedPoint) → Leads own (scope_behind p) q.scope → InScope s m (length outer) (scope_behind p) → InScope s m (length outer) q.scope
           by_typing m q leads scope =
@@ -288,7 +290,7 @@ module _ (table : Table) (typed : TypedProgram) (effects : Effects) (input : Lis
       unmoved_after (acts_at first_points n) (facts_before first_points before) (unmoved_along before) (nothing_added n) name
       (subst (λ z. Has z (Moved name)) (facts_next first_points before n) has)
 
-  unmoved_stage : (e : Stage) → e.frame.sub ≡ 0 → (name : PlaceName) → Has (facts_of program effects e) (Moved name) → ⊥
+  pub unmoved_stage : (e : Stage) → e.frame.sub ≡ 0 → (name : PlaceName) → Has (facts_of program effects e) (Moved name) → ⊥
   unmoved_stage e is name has =
       unmoved_along e.before name (subst (λ n. Has (facts_before (path_points program effects (sub_of program n)) e.before) (Moved name)) is has)
 
@@ -377,7 +379,7 @@ module _ (table : Table) (typed : TypedProgram) (effects : Effects) (input : Lis
       → (at_point : IsAtPoint named.points top.frame.next p)
       → (path : ControlPath (path_points program effects (sub_of program top.frame.sub)) top.before top.frame.next)
       → Sound (home s 0) (Elsewhere program effects []) (view_of s state) (facts_of program effects top) → Kept s state.memory (waiting_in state)
-      → InScope s state.memory 0 p.scope → LeadsOn table typed effects (step program input state)
+      → InScope s state.memory 0 p.scope → LeadsAlong table typed effects p.instr state.memory top [] (step program input state)
   package_step state top named p frames deep first of_sub at_point path sound kept scope =
       let here_point : FlowPoint = here state top [] [] named p frames of_sub at_point in
       let first_sub : Has (sub_of program 0).points here_point =
@@ -385,7 +387,7 @@ module _ (table : Table) (typed : TypedProgram) (effects : Effects) (input : Lis
       (sym (sub_is state top [] [] named p frames of_sub at_point) ∙ ap (sub_of program) first.0)
       (in_sub state top [] [] named p frames of_sub at_point) in
       let declares = ready.elaborated.declared here_point first_sub in
-      subst (LeadsOn table typed effects) (sym (step_is state top [] [] named p frames of_sub at_point))
+      subst (LeadsAlong table typed effects p.instr state.memory top []) (sym (step_is state top [] [] named p frames of_sub at_point))
       (by_declare declares.0 declares.1 declares.2)
     where
       alone : (w : Way) → IsNear 0 w → Elsewhere program effects [] w → ⊥
@@ -421,42 +423,44 @@ module _ (table : Table) (typed : TypedProgram) (effects : Effects) (input : Lis
       moment_leads : (x : ℕ) (v : TypedTree) → p.instr ≡ Declare x v → (outcome : Outcome)
           → Leads_on at_turn ready.accepted.settled ready.owns (Elsewhere program effects []) alone no_in_formals ready.class.all_named frames
           (after (acts_there p.instr) facts_there) outcome
-          → Each (Declares at_turn first.1.0 (λ f y. f < 0) p.scope (x ∷ p.scope) scope) outcome → LeadsOn table typed effects outcome
+          → Each (Declares at_turn first.1.0 (λ f y. f < 0) p.scope (x ∷ p.scope) scope) outcome → LeadsAlong table typed effects p.instr state.memory top [] outcome
       moment_leads x v e (Ends how after_step) holds on = holds
       moment_leads x v e (Goes after_step) holds on = elim (successor_cases at_turn 0) [
-        | inl found ↦ goes_to_next state top [] [] named p frames of_sub at_point path (plain_there x v e) after_step top.frame.loops found.0 found.2
+        | inl found ↦ goes_to_next state top [] [] named p frames of_sub at_point path (plain_there x v e) (λ is. (let no : Declare x v ≡ Finish = sym e ∙ is in cc)) after_step top.frame.loops found.0 found.2
             (on.frames ∙ ap (led at_turn (record top.frame { waits = [] })) found.1) deep tt
             (first.0, (refl, first.1.1, first.1.2)) holds.0 holds.1 (subst (InScope s after_step.memory 0) (sym (scope_there x v e)) on.inside)
         | inr none ↦ (
             let below : Stage = record { frame = record top.frame { waits = [] }; depth = 0; before = top.frame.next ∷ top.before; returns = [] } in
-            let begins_main : after_step.frames ≡ frame_at_start ready.main [] ∷ (record top.frame { waits = [] } ∷ []) =
+            let begins_there : after_step.frames ≡ frame_at_start ready.main [] ∷ (record top.frame { waits = [] } ∷ []) =
             on.frames ∙ ap (led at_turn (record top.frame { waits = [] })) none
             ∙ ap (λ z. main_frame (record program { main = z }) ++ (record top.frame { waits = [] } ∷ [])) ready.is_main in
             let same_facts : after (acts_there p.instr) facts_there ≡ facts_of program effects below =
             sym (facts_on state top [] [] named p frames of_sub at_point path (plain_there x v e))
-            ∙ ap (λ (z : FlowSub). facts_before (path_points program effects z) (top.frame.next ∷ top.before)) (sym (sub_is state top [] [] named p frames of_sub at_point)) in
-            record {
-              top = stage table typed effects ready ready.main 1;
-              older = below ∷ [];
-              stages = subst (AreStages (stage table typed effects ready ready.main 1 ∷ (below ∷ []))) (sym begins_main) (refl, refl, (refl, refl, tt));
-              running = (ready.main_there, (refl, (λ r has. absurd has), refl), (first.0, (refl, first.1.1, refl)));
-              path = begins (first_point table typed effects ready ready.main ready.main_there.named ready.main_there.stands
-                  ready.main_there.point ready.main_there.points ready.main_there.begins);
-              sound = main_begins s (Elsewhere program effects []) (Elsewhere program effects (below ∷ [])) (view_of s after_step) (after (acts_there p.instr) facts_there)
-                  holds.0 nowhere (λ name has. unmoved_stage below first.0 name (subst (λ z. Has z (Moved name)) same_facts has));
-              kept = holds.1;
-              named = ready.main_there.named;
-              of_sub = ready.main_there.stands;
-              point = ready.main_there.point;
-              at_point = ([], ready.main_there.points, ready.main_there.begins, refl);
-              scope = λ f y q n held. elim (on.inside f y q n held) [
-                | inl less ↦ inl (omega (arith, less))
-                | inr mine ↦ (let same_frame = mine.0 in inl (omega (arith, same_frame)))
-              ];
-            })
+            ∙ ap (λ (z : FlowSub). facts_before (path_points program effects z) (top.frame.next ∷ top.before)) (sym (sub_is state top [] [] named p frames of_sub at_point)) in (
+              record {
+                top = stage table typed effects ready ready.main 1;
+                older = below ∷ [];
+                stages = subst (AreStages (stage table typed effects ready ready.main 1 ∷ (below ∷ []))) (sym begins_there) (refl, refl, (refl, refl, tt));
+                running = (ready.main_there, (refl, (λ r has. absurd has), refl), (first.0, (refl, first.1.1, refl)));
+                path = begins (first_point table typed effects ready ready.main ready.main_there.named ready.main_there.stands
+                    ready.main_there.point ready.main_there.points ready.main_there.begins);
+                sound = main_begins s (Elsewhere program effects []) (Elsewhere program effects (below ∷ [])) (view_of s after_step) (after (acts_there p.instr) facts_there)
+                    holds.0 nowhere (λ name has. unmoved_stage below first.0 name (subst (λ z. Has z (Moved name)) same_facts has));
+                kept = holds.1;
+                named = ready.main_there.named;
+                of_sub = ready.main_there.stands;
+                point = ready.main_there.point;
+                at_point = ([], ready.main_there.points, ready.main_there.begins, refl);
+                scope = λ f y q n held. elim (on.inside f y q n held) [
+                  | inl less ↦ inl (omega (arith, less))
+                  | inr mine ↦ (let same_frame = mine.0 in inl (omega (arith, same_frame)))
+                ];
+              },
+              begins_main below refl refl (refl, sym deep, refl) refl,
+            ))
       ]
 
-      by_declare : (x : ℕ) (v : TypedTree) → p.instr ≡ Declare x v → LeadsOn table typed effects (turn at_turn p.instr)
+      by_declare : (x : ℕ) (v : TypedTree) → p.instr ≡ Declare x v → LeadsAlong table typed effects p.instr state.memory top [] (turn at_turn p.instr)
       by_declare x v e =
           let text = subst (IsFine s named.sub.result) e (fine state top [] [] named p frames of_sub at_point) in
           let plain = plain_there x v e in
@@ -492,10 +496,14 @@ module _ (table : Table) (typed : TypedProgram) (effects : Effects) (input : Lis
     abbrev older : List Stage
     older = below ∷ more
 
+    -- what the step leads to
+    abbrev Along : Outcome → Type 0
+    Along outcome = LeadsAlong table typed effects p.instr state.memory top (below ∷ more) outcome
+
     abbrev depth : ℕ
     depth = suc (length rest)
 
-    abbrev other : Way → Type 0
+    abbrev pub other : Way → Type 0
     other = IsFar (suc (length rest)) (Elsewhere program effects (below ∷ more))
 
     alone : (w : Way) → IsNear (suc (length rest)) w → IsFar (suc (length rest)) (Elsewhere program effects (below ∷ more)) w → ⊥
@@ -504,36 +512,36 @@ module _ (table : Table) (typed : TypedProgram) (effects : Effects) (input : Lis
     plain : top.frame.waits ≡ []
     plain = running.1.0
 
-    abbrev main_turn : Turn
+    abbrev pub main_turn : Turn
     main_turn = t state top older outer named p frames of_sub at_point
 
-    abbrev own_facts : List Fact
+    abbrev pub own_facts : List Fact
     own_facts = facts state top older outer named p frames of_sub at_point path
 
     sound_own : Sound (home s depth) (Elsewhere program effects older) (view_of s state) own_facts
     sound_own = subst (Sound (home s depth) (Elsewhere program effects older) (view_of s state)) (facts_are state top older outer named p frames of_sub at_point path) sound_before
 
     -- with the facts of the frames around on package objects
-    abbrev facts_now : List Fact
+    abbrev pub facts_now : List Fact
     facts_now = own_facts ++ inherited program effects older
 
-    between : (g : Stage) → Has older g → IsBetween program effects depth g
+    pub between : (g : Stage) → Has older g → IsBetween program effects depth g
     between g has =
         all_between table typed effects unmoved_stage state.memory top.frame.sub depth older outer stages (omega arith) running.2 g has
 
-    sound : Sound (home s depth) other (view_of s state) facts_now
+    pub sound : Sound (home s depth) other (view_of s state) facts_now
     sound = beside program effects older depth between (view_of s state) own_facts sound_own
 
-    from_both : Splits facts_now own_facts (inherited program effects older)
+    pub from_both : Splits facts_now own_facts (inherited program effects older)
     from_both f has = Has-append_cases own_facts (inherited program effects older) f has
 
-    abbrev acts_of_main : Instruction → List Act
+    abbrev pub acts_of_main : Instruction → List Act
     acts_of_main i = acts (acts_by state top older outer named p frames of_sub at_point s i)
 
     none_takes : taken main_turn.point.instr ≡ 0
     none_takes = takes state top older outer named p frames of_sub at_point
 
-    no_result : named.sub.result ≡ None
+    pub no_result : named.sub.result ≡ None
     no_result = (running.0).procedure named of_sub
 
     point_in_named : Has named.points p
@@ -559,7 +567,7 @@ module _ (table : Table) (typed : TypedProgram) (effects : Effects) (input : Lis
     sub_less = sub_in_range table typed top.frame.sub named of_sub
 
     -- none that a frame around has moved
-    unused : (f : Fact) → Has (inherited program effects older) f
+    pub unused : (f : Fact) → Has (inherited program effects older) f
         → (name : PlaceName) × (f ≡ Moved name) × (is_package_object s name.root ≡ true) × (Uses effects top.frame.sub name.root → ⊥)
     unused f has =
         let found = inherited_from program effects older f has in
@@ -601,7 +609,7 @@ module _ (table : Table) (typed : TypedProgram) (effects : Effects) (input : Lis
         instruction_open s ready.class.all_named named.sub.result (roots state top older outer named p frames of_sub at_point) p.pos p.instr calls going from.0 from.1 in
         ap (λ z. forbids z f) (sym from.2) ∙ one_apart from.0 from.1 opens f there
 
-    allowed_now : calls_nothing p.instr ≡ true → (p.instr ≡ Finish → ⊥) → AllowsAll facts_now (acts_of_main p.instr)
+    pub allowed_now : calls_nothing p.instr ≡ true → (p.instr ≡ Finish → ⊥) → AllowsAll facts_now (acts_of_main p.instr)
     allowed_now calls going =
         allowed_beside (acts_of_main p.instr) facts_now own_facts (inherited program effects older) from_both
         (allowed state top older outer named p frames of_sub at_point path calls) (acts_apart calls going)
@@ -630,7 +638,7 @@ module _ (table : Table) (typed : TypedProgram) (effects : Effects) (input : Lis
       | inl (below_it, inr before) ↦ before
     ]
 
-    home_frame : (x : ℕ) → is_package_object s x ≡ false → home s depth x ≡ depth
+    pub home_frame : (x : ℕ) → is_package_object s x ≡ false → home s depth x ≡ depth
     home_frame x own_frame = ap (λ b. if b then 0 else depth) own_frame
 
     package_old : (x : ℕ) → is_package_object s x ≡ true → IsOld (home s depth x) x
@@ -828,7 +836,7 @@ module _ (table : Table) (typed : TypedProgram) (effects : Effects) (input : Lis
 
       nothing_then : p.instr ≡ Finish → (x : ℕ) (q : List Step) (n : ℕ)
           → word_in s.table (content s after_copies (waiting_in state) (OfRoot (OfVariable depth x))) q ≡ Held n → ⊥
-      nothing_then is x q n held = nothing_left is x q n (sym (same_owners.1 depth x q) ∙ held)
+      nothing_then is x q n held = nothing_left is x q n (sym (same_owners.1.0 depth x q tt) ∙ held)
 
       -- what is in a variable of another frame was there before
       held_before_end : p.instr ≡ Finish → (f x : ℕ) (q : List Step) (n : ℕ)
@@ -836,7 +844,14 @@ module _ (table : Table) (typed : TypedProgram) (effects : Effects) (input : Lis
           → (f ≡ depth → ⊥) × (word_in s.table (content s state.memory [] (OfRoot (OfVariable f x))) q ≡ Held n)
       held_before_end is f x q n held =
           let was = left_held s after_copies depth (waiting_in state) state.leaks (nothing_then is) f x q n held in
-          (was.0, sym (same_owners.1 f x q) ∙ was.1)
+          (was.0, sym (same_owners.1.0 f x q tt) ∙ was.1)
+
+      left_words : p.instr ≡ Finish → AreSameWords s (λ f. f ≡ top.depth → ⊥) state.memory left_memory
+      left_words is =
+          let left_there = left_same s after_copies depth (waiting_in state) state.leaks (nothing_then is) in (
+            λ f x q other_frame. left_there.0 f x q (λ e. other_frame (e ∙ sym deep)) ∙ same_owners.1.0 f x q tt,
+            λ c q. left_there.1 c q ∙ same_owners.1.1 c q,
+          )
 
       still_left : p.instr ≡ Finish → AreStill table typed effects unmoved_stage state.memory left_memory depth
       still_left is f x q n some less held = (q, n, (held_before_end is f x q n held).1)
@@ -856,59 +871,61 @@ module _ (table : Table) (typed : TypedProgram) (effects : Effects) (input : Lis
           smaller a b less ne is = subst (λ z. a < z) (sym is) (below_other a b less ne)
 
       -- the frame below goes on
-      returns_to : p.instr ≡ Finish → AreStages (below ∷ (h ∷ others)) (below.frame ∷ rest)
-          → AreCallers table typed effects state.memory top.frame.sub (below ∷ (h ∷ others)) → IsSound table typed effects left_state
-      returns_to is stages_there callers =
+      returns_to : p.instr ≡ Finish → more ≡ h ∷ others → AreStages (below ∷ (h ∷ others)) (below.frame ∷ rest)
+          → AreCallers table typed effects state.memory top.frame.sub (below ∷ (h ∷ others)) → Along (Goes left_state)
+      returns_to is same_more stages_there callers =
           let caller = callers.0 in
-          let hands : waiting_in left_state ≡ waiting_in state = left_waits state top.frame outer left_memory frames plain in
-          record {
-            top = below;
-            older = h ∷ others;
-            stages = stages_there;
-            running = (
-              caller.procedure,
-              caller.plain,
-              callers_kept table typed effects unmoved_stage state.memory left_memory below.frame.sub depth (h ∷ others) rest stages_there.2 (omega arith) (still_left is) callers.1,
-            );
-            path = caller.path;
-            sound = subst (λ z. Sound (home s below.depth) (Elsewhere program effects (h ∷ others)) (seen s left_memory z state.leaks) (facts_of program effects below)) (sym hands)
-                (returned_sound s after_copies depth (waiting_in state) state.leaks (nothing_then is) program effects below (h ∷ others) own_facts caller.plain.2
-                same_owners.0.0 (whole_packages is) refl);
-            kept = subst (Kept s left_memory) (sym hands) (returned_kept s after_copies depth (waiting_in state) state.leaks (nothing_then is) same_owners.0.1);
-            named = caller.named;
-            of_sub = caller.of_sub;
-            point = caller.point;
-            at_point = caller.at_point;
-            scope = λ f x q n held. scope_left caller stages_there.1 f x q n (held_before_end is f x q n held);
-          }
+          let hands : waiting_in left_state ≡ waiting_in state = left_waits state top.frame outer left_memory frames plain in (
+            record {
+              top = below;
+              older = h ∷ others;
+              stages = stages_there;
+              running = (
+                caller.procedure,
+                caller.plain,
+                callers_kept table typed effects unmoved_stage state.memory left_memory below.frame.sub depth (h ∷ others) rest stages_there.2 (omega arith) (still_left is) callers.1,
+              );
+              path = caller.path;
+              sound = subst (λ z. Sound (home s below.depth) (Elsewhere program effects (h ∷ others)) (seen s left_memory z state.leaks) (facts_of program effects below)) (sym hands)
+                  (returned_sound s after_copies depth (waiting_in state) state.leaks (nothing_then is) program effects below (h ∷ others) own_facts caller.plain.2
+                  same_owners.0.0 (whole_packages is) refl);
+              kept = subst (Kept s left_memory) (sym hands) (returned_kept s after_copies depth (waiting_in state) state.leaks (nothing_then is) same_owners.0.1);
+              named = caller.named;
+              of_sub = caller.of_sub;
+              point = caller.point;
+              at_point = caller.at_point;
+              scope = λ f x q n held. scope_left caller stages_there.1 f x q n (held_before_end is f x q n held);
+            },
+            ends_one (ap (λ z. below ∷ z) same_more) (left_words is),
+          )
 
-    ends_well : (how : Exception) (m : Memory) → LeadsOn table typed effects (steps.raised main_turn how m)
+    ends_well : (how : Exception) (m : Memory) → Along (steps.raised main_turn how m)
     ends_well how m = ((λ trap. trap), raises main_turn ready.accepted.settled ready.owns other alone no_in_formals ready.class.all_named frames facts_now held_now m)
 
-    ends_call : p.instr ≡ Finish → LeadsOn table typed effects (turn main_turn Finish)
-    ends_call is = by_rest rest more refl stages running.2 sound_own
+    ends_call : p.instr ≡ Finish → Along (turn main_turn Finish)
+    ends_call is = by_rest rest more refl refl stages running.2 sound_own
       where
-        by_rest : (r : List Frame) (m : List Stage) → rest ≡ r → AreStages (below ∷ m) (below.frame ∷ r)
+        by_rest : (r : List Frame) (m : List Stage) → rest ≡ r → more ≡ m → AreStages (below ∷ m) (below.frame ∷ r)
             → AreCallers table typed effects state.memory top.frame.sub (below ∷ m)
-            → Sound (home s depth) (Elsewhere program effects (below ∷ m)) (view_of s state) own_facts → LeadsOn table typed effects (turn main_turn Finish)
-        by_rest [] [] same_rest stages_there callers well =
-            ends_lead main_turn (LeadsOn table typed effects)
+            → Sound (home s depth) (Elsewhere program effects (below ∷ m)) (view_of s state) own_facts → Along (turn main_turn Finish)
+        by_rest [] [] same_rest same_more stages_there callers well =
+            ends_lead main_turn Along
             (LeadsTo s ready.accepted.settled ready.owns (waiting_in state) state.leaks (home s depth) (Elsewhere program effects (below ∷ [])) own_facts state.memory)
             ends_well below.frame (ap (λ z. below.frame ∷ z) same_rest)
             (λ m on. (
               (λ trap. trap),
               ended_owned s ready.accepted.settled ready.owns (record state { memory = m }) top.frame outer depth frames plain
-                  (λ x q n held. nothing_left is x q n (sym (on.1 depth x q) ∙ held)) on.0.0.owned on.0.0.covered,
+                  (λ x q n held. nothing_left is x q n (sym (on.1.0 depth x q tt) ∙ held)) on.0.0.owned on.0.0.covered,
             ))
             (back main_turn ready.accepted.settled ready.owns (waiting_in state) state.leaks (home s depth) (Elsewhere program effects (below ∷ [])) own_facts
             top.frame.returns running.1.1 (start main_turn) (well, kept))
-        by_rest [] (h ∷ m) same_rest stages_there callers well = absurd stages_there.2
-        by_rest (k ∷ r) [] same_rest stages_there callers well = absurd stages_there.2
-        by_rest (k ∷ r) (h ∷ m) same_rest stages_there callers well =
-            returns_lead main_turn (LeadsOn table typed effects)
+        by_rest [] (h ∷ m) same_rest same_more stages_there callers well = absurd stages_there.2
+        by_rest (k ∷ r) [] same_rest same_more stages_there callers well = absurd stages_there.2
+        by_rest (k ∷ r) (h ∷ m) same_rest same_more stages_there callers well =
+            returns_lead main_turn Along
             (LeadsTo s ready.accepted.settled ready.owns (waiting_in state) state.leaks (home s depth) (Elsewhere program effects (below ∷ (h ∷ m))) own_facts state.memory)
             ends_well below.frame k r (ap (λ z. below.frame ∷ z) same_rest)
-            (λ after_copies on. returns_to h m after_copies on is (subst (λ z. AreStages (below ∷ (h ∷ m)) (below.frame ∷ z)) (sym same_rest) stages_there) callers)
+            (λ after_copies on. returns_to h m after_copies on is same_more (subst (λ z. AreStages (below ∷ (h ∷ m)) (below.frame ∷ z)) (sym same_rest) stages_there) callers)
             (back main_turn ready.accepted.settled ready.owns (waiting_in state) state.leaks (home s depth) (Elsewhere program effects (below ∷ (h ∷ m))) own_facts
             top.frame.returns running.1.1 (start main_turn) (well, kept))
 
@@ -1042,6 +1059,17 @@ module _ (table : Table) (typed : TypedProgram) (effects : Effects) (input : Lis
           ∙ ap (λ z. after z own_facts) call_acts ∙ after_append (acts (values ++ copies)) (globals_of program effects n) own_facts
           ∙ global_after (globals_of program effects n) facts_called globals
 
+      -- nothing is moved by the call
+      none_new : (f : Fact) → Has (facts_of program effects waits_there) f → Has (facts_of program effects top) f
+      none_new f has =
+          subst (λ z. Has z f) (sym (facts_are state top older outer named p frames of_sub at_point path))
+          (elim (added_after program effects ready.accepted.effects_are (acts (values ++ copies)) own_facts f (subst (λ z. Has z f) facts_there has)) [
+            | inl was ↦ was
+            | inr (a, there, new) ↦ (
+                let from = Has-map_from (λ (z : Placed). z.act) (values ++ copies) a there in
+                absurd (call_adds s ready.owns formals actuals called.actuals_stay from.0 from.1 f (subst (λ z. Has (adds z) f) (sym from.2) new)))
+          ])
+
       -- what the callee uses isn't moved
       spares : (name : PlaceName) → Has facts_called (Moved name) → is_package_object s name.root ≡ true → Uses effects n name.root → ⊥
       spares name has shared uses =
@@ -1110,7 +1138,7 @@ module _ (table : Table) (typed : TypedProgram) (effects : Effects) (input : Lis
 
         held_before : (g y : ℕ) (q : List Step) → word_in s.table (content s with_all [] (OfRoot (OfVariable g y))) q
             ≡ word_in s.table (content s state.memory [] (OfRoot (OfVariable g y))) q
-        held_before = same_owners.1
+        held_before g y q = same_owners.1.0 g y q tt
 
         still_called : AreStill table typed effects unmoved_stage state.memory with_all depth
         still_called f x q k some less held = (q, k, sym (held_before f x q) ∙ held)
@@ -1144,38 +1172,41 @@ module _ (table : Table) (typed : TypedProgram) (effects : Effects) (input : Lis
               main_turn.point in_main actuals None e x uses;
         }
 
-        entered_sound : IsSound table typed effects after_call
-        entered_sound = record {
-          top = called_stage;
-          older = waits_there ∷ older;
-          stages = subst (AreStages (called_stage ∷ (waits_there ∷ older))) (sym frames_there) (refl, refl, (refl, deep, stages));
-          running = (
-            called.procedure,
-            (refl, returns_copied s ready.accepted.settled formals passed scalar_formals (given_laid passed given), refl),
-            (
-              waits_as_caller,
-              callers_kept table typed effects unmoved_stage state.memory with_all top.frame.sub depth older outer stages (omega arith) still_called running.2,
-            ),
-          );
-          path = begins (first_point table typed effects ready n called.procedure.named called.procedure.stands
-              called.procedure.point called.procedure.points called.procedure.begins);
-          sound = subst (λ z. Sound (home s (suc depth)) (Elsewhere program effects (waits_there ∷ older)) (seen s with_all z (state.leaks ++ [])) []) (sym hands_there)
-              (subst (λ z. Sound (home s (suc depth)) (Elsewhere program effects (waits_there ∷ older)) (seen s with_all (waiting_in state) z) []) (sym (append-nil state.leaks))
-              same_owners.0.0);
-          kept = subst (Kept s with_all) (sym hands_there) same_owners.0.1;
-          named = called.procedure.named;
-          of_sub = called.procedure.stands;
-          point = called.procedure.point;
-          at_point = ([], called.procedure.points, called.procedure.begins, refl);
-          scope = λ f x q k held. elim (scope f x q k (sym (held_before f x q) ∙ held)) [
-            | inl less ↦ inl (omega (arith, less))
-            | inr mine ↦ (let is = mine.0 in inl (omega (arith, is)))
-          ];
-        }
+        entered_sound : Along (Goes after_call)
+        entered_sound = (
+          record {
+            top = called_stage;
+            older = waits_there ∷ older;
+            stages = subst (AreStages (called_stage ∷ (waits_there ∷ older))) (sym frames_there) (refl, refl, (refl, deep, stages));
+            running = (
+              called.procedure,
+              (refl, returns_copied s ready.accepted.settled formals passed scalar_formals (given_laid passed given), refl),
+              (
+                waits_as_caller,
+                callers_kept table typed effects unmoved_stage state.memory with_all top.frame.sub depth older outer stages (omega arith) still_called running.2,
+              ),
+            );
+            path = begins (first_point table typed effects ready n called.procedure.named called.procedure.stands
+                called.procedure.point called.procedure.points called.procedure.begins);
+            sound = subst (λ z. Sound (home s (suc depth)) (Elsewhere program effects (waits_there ∷ older)) (seen s with_all z (state.leaks ++ [])) []) (sym hands_there)
+                (subst (λ z. Sound (home s (suc depth)) (Elsewhere program effects (waits_there ∷ older)) (seen s with_all (waiting_in state) z) []) (sym (append-nil state.leaks))
+                same_owners.0.0);
+            kept = subst (Kept s with_all) (sym hands_there) same_owners.0.1;
+            named = called.procedure.named;
+            of_sub = called.procedure.stands;
+            point = called.procedure.point;
+            at_point = ([], called.procedure.points, called.procedure.begins, refl);
+            scope = λ f x q k held. elim (scope f x q k (sym (held_before f x q) ∙ held)) [
+              | inl less ↦ inl (omega (arith, less))
+              | inr mine ↦ (let is = mine.0 in inl (omega (arith, is)))
+            ];
+          },
+          calls_one waits_there refl (refl, refl, refl) refl none_new same_owners.1,
+        )
 
-      pub calls_it : LeadsOn table typed effects (turn main_turn (Call n actuals None))
+      pub calls_it : Along (turn main_turn (Call n actuals None))
       calls_it =
-          call_leads main_turn ready.accepted.settled n actuals (LeadsOn table typed effects) ends_well Given given_laid entered_sound ways_there ways_are now
+          call_leads main_turn ready.accepted.settled n actuals Along ends_well Given given_laid entered_sound ways_there ways_are now
           (start_is main_turn ready.accepted.settled ready.owns other alone no_in_formals ready.class.all_named frames none_takes) refl passed_quiet
 
     -- ---- an instruction that calls nothing
@@ -1227,13 +1258,13 @@ module _ (table : Table) (typed : TypedProgram) (effects : Effects) (input : Lis
     scope_is : scope_behind p ≡ brought p.instr p.scope
     scope_is = ap (λ n. brought p.instr (drop n p.scope)) none_takes ∙ ap (brought p.instr) (drop_none p.scope)
 
-    then_on : calls_nothing p.instr ≡ true → (outcome : Outcome) → LeadsFrom p.instr outcome → GoesFrom p.instr outcome → LeadsOn table typed effects outcome
-    then_on calls (Ends how after_step) leads on = leads
-    then_on calls (Goes after_step) leads on =
+    then_on : calls_nothing p.instr ≡ true → (p.instr ≡ Finish → ⊥) → (outcome : Outcome) → LeadsFrom p.instr outcome → GoesFrom p.instr outcome → Along outcome
+    then_on calls going (Ends how after_step) leads on = leads
+    then_on calls going (Goes after_step) leads on =
         let next = successor_there main_turn on.k (subst (λ z. on.k < z) (sym successors_there) on.less) in
         let well = apart_again program effects older depth between (view_of s after_step) (after (acts_of_main p.instr) facts_now) (after (acts_of_main p.instr) own_facts)
         (after_splits (acts_of_main p.instr) facts_now own_facts (inherited program effects older) from_both) leads.0 in
-        goes_to_next state top older outer named p frames of_sub at_point path calls after_step on.loops next.0 next.2 (on.frames next.0 next.1)
+        goes_to_next state top older outer named p frames of_sub at_point path calls going after_step on.loops next.0 next.2 (on.frames next.0 next.1)
         deep stages (
           running.0,
           (refl, running.1.1, running.1.2),
@@ -1242,20 +1273,20 @@ module _ (table : Table) (typed : TypedProgram) (effects : Effects) (input : Lis
         )
         well leads.1 (subst (InScope s after_step.memory depth) (sym scope_is) (in_scope after_step.memory (brought p.instr p.scope) on.inside))
 
-    goes_plainly : calls_nothing p.instr ≡ true → (p.instr ≡ Finish → ⊥) → LeadsOn table typed effects (turn main_turn p.instr)
+    goes_plainly : calls_nothing p.instr ≡ true → (p.instr ≡ Finish → ⊥) → Along (turn main_turn p.instr)
     goes_plainly calls going =
         let text = subst (λ r. IsFine s r p.instr) no_result (fine state top older outer named p frames of_sub at_point) in
         let both = each_instruction p.instr refl going text calls (allowed_now calls going) in
-        then_on calls (turn main_turn p.instr) both.0 both.1
+        then_on calls going (turn main_turn p.instr) both.0 both.1
 
-    pub main_step : LeadsOn table typed effects (step program input state)
+    pub main_step : Along (step program input state)
     main_step =
-        subst (LeadsOn table typed effects) (sym (step_is state top older outer named p frames of_sub at_point))
+        subst Along (sym (step_is state top older outer named p frames of_sub at_point))
         (elim (finish_or p.instr) [
-          | inl is ↦ subst (λ i. LeadsOn table typed effects (turn main_turn i)) (sym is) (ends_call is)
+          | inl is ↦ subst (λ i. Along (turn main_turn i)) (sym is) (ends_call is)
           | inr going ↦ elim (calls_cases p.instr (calls_there state top older outer named p frames of_sub at_point)) [
             | inl calls ↦ goes_plainly calls going
-            | inr call ↦ subst (λ i. LeadsOn table typed effects (turn main_turn i)) (sym call.2) (calls_it call.0 call.1 call.2 call.3)
+            | inr call ↦ subst (λ i. Along (turn main_turn i)) (sym call.2) (calls_it call.0 call.1 call.2 call.3)
           ]
         ])
 
@@ -1266,7 +1297,7 @@ module _ (table : Table) (typed : TypedProgram) (effects : Effects) (input : Lis
       → ControlPath (path_points program effects (sub_of program top.frame.sub)) top.before top.frame.next
       → Sound (home s top.depth) (Elsewhere program effects older) (view_of s state) (facts_of program effects top) → Kept s state.memory (waiting_in state)
       → (named : NamedSub) → IsNamedSub (flow_named table typed) top.frame.sub named → (p : NamedPoint) → IsAtPoint named.points top.frame.next p
-      → InScope s state.memory top.depth p.scope → LeadsOn table typed effects (step program input state)
+      → InScope s state.memory top.depth p.scope → LeadsAlong table typed effects p.instr state.memory top older (step program input state)
   by_stages state top [] (f ∷ []) is (frame, deep, none) running path well kept named of_sub p at_point scope =
       package_step state top named p (is ∙ ap (λ z. z ∷ []) (sym frame)) deep running of_sub at_point path
       (subst (λ d. Sound (home s d) (Elsewhere program effects []) (view_of s state) (facts_of program effects top)) deep well) kept
@@ -1280,7 +1311,14 @@ module _ (table : Table) (typed : TypedProgram) (effects : Effects) (input : Lis
   by_stages state top (below ∷ more) [] is stages running path well kept named of_sub p at_point scope = absurd stages
   by_stages state top (below ∷ more) (f ∷ []) is stages running path well kept named of_sub p at_point scope = absurd stages.2
 
-  pub sound_step : StepsLeadOn table typed effects input
-  sound_step state sound =
+  pub sound_along : StepsLeadAlong table typed effects input
+  sound_along state sound =
       by_stages state sound.top sound.older state.frames refl sound.stages sound.running sound.path sound.sound sound.kept sound.named sound.of_sub
       sound.point sound.at_point sound.scope
+
+  pub sound_step : StepsLeadOn table typed effects input
+  sound_step state sound = leads_on_there (step program input state) (sound_along state sound)
+    where
+      leads_on_there : (outcome : Outcome) → LeadsAlong table typed effects sound.point.instr state.memory sound.top sound.older outcome → LeadsOn table typed effects outcome
+      leads_on_there (Goes after_step) leads = leads.0
+      leads_on_there (Ends how after_step) leads = leads

@@ -9,7 +9,7 @@ use Rattle.type_definitions.specs.Types.{Table, shape_of, full, is_scalar}
 use Rattle.typed_tree.specs.Trees.{TypedTree, Name, Component, Designated, Element, More}
 use Rattle.typed_tree.specs.Programs.{TypedProgram}
 use Rattle.flow_paths.specs.declared.report.Effects.{Effects}
-use Rattle.flow_paths.specs.Instructions.{Instruction, Declare, Assign, Call, Output, Input, Release, Test, Choose, Start, Evaluate, LeaveLoop, Hold}
+use Rattle.flow_paths.specs.Instructions.{Instruction, Declare, Assign, Call, Output, Input, Release, Test, Choose, Start, Evaluate, LeaveLoop, Hold, Finish}
 use Rattle.flow_paths.specs.Objects.{Typing, object_at, is_formal, is_package_object}
 use Rattle.flow_paths.specs.Names.{has_call}
 use Rattle.flow_paths.specs.Points.{NamedPoint, FlowPoint}
@@ -188,9 +188,13 @@ AreRunning table typed effects m (top ∷ (g ∷ older)) =
 abbrev pub view_of : Typing → State → View
 view_of s state = seen s state.memory (waiting_in state) state.leaks
 
--- A fact without `Elem` says that a place of the frame was moved.
+-- A fact without `Elem` says that a place of the frame was moved; and a fact of one of some frames.
 abbrev pub IsDefinite : (ℕ → ℕ) → List Fact → Way → Type 0
 IsDefinite at_home facts w = IsMoved at_home facts w × (has_elem (ways.sels_of w) ≡ false)
+
+abbrev pub IsDefiniteOf : FlowProgram → Effects → List Stage → Way → Type 0
+IsDefiniteOf program effects stages w =
+    (g : Stage) × Has stages g × IsDefinite (home (flow_typing program) g.depth) (facts_of program effects g) w
 
 -- A variable that owns a cell is one of these.
 abbrev pub HoldOnly : Typing → Memory → (ℕ → ℕ → Type 0) → Type 0
@@ -221,12 +225,11 @@ pub record IsSound (table : Table) (typed : TypedProgram) (effects : Effects) (s
   pub at_point : IsAtPoint named.points top.frame.next point
   pub scope : InScope (flow_typing (flow_program table typed)) state.memory top.depth point.scope
 
--- What excused leak checks need beside: what a fact without `Elem` calls moved is gone. It is no part
--- of what is sound; `exact_facts` shows of programs of the first class that steps keep it.
+-- What excused leak checks need beside: what a fact without `Elem` of some frame calls moved is gone.
+-- It is no part of what is sound; `exact_facts` shows that steps keep it.
 abbrev pub AreExact : (table : Table) (typed : TypedProgram) (effects : Effects) (state : State) → IsSound table typed effects state → Type 0
 AreExact table typed effects state sound =
-    Told (view_of (flow_typing (flow_program table typed)) state)
-    (IsDefinite (home (flow_typing (flow_program table typed)) sound.top.depth) (facts_of (flow_program table typed) effects sound.top))
+    Told (view_of (flow_typing (flow_program table typed)) state) (IsDefiniteOf (flow_program table typed) effects (sound.top ∷ sound.older))
 
 -- ---- what is to be proved
 
@@ -239,7 +242,44 @@ abbrev pub LeadsOn : Table → TypedProgram → Effects → Outcome → Type 0
 LeadsOn table typed effects (Goes state) = IsSound table typed effects state
 LeadsOn table typed effects (Ends e state) = (IsTrap e → ⊥) × WellOwned (flow_typing (flow_program table typed)) state
 
--- So does each step.
+-- ---- where the frames come from
+
+-- A frame after one more point.
+abbrev pub IsOnward : Stage → Stage → Type 0
+IsOnward g h = (h.frame.sub ≡ g.frame.sub) × (h.depth ≡ g.depth) × (h.before ≡ g.frame.next ∷ g.before)
+
+-- Owners see the same in the variables of these frames, and in all cells.
+abbrev pub AreSameWords : Typing → (ℕ → Type 0) → Memory → Memory → Type 0
+AreSameWords s these m n =
+    ((f x : ℕ) (p : List Step) → these f
+    → word_in s.table (content s n [] (OfRoot (ways.OfVariable f x))) p ≡ word_in s.table (content s m [] (OfRoot (ways.OfVariable f x))) p)
+    × ((c : ℕ) (p : List Step) → word_in s.table (content s n [] (ways.OfCell c)) p ≡ word_in s.table (content s m [] (ways.OfCell c)) p)
+
+-- How the frames after a step come from those before it, of which `top` is the innermost one: it goes
+-- on; after the last package object the main procedure begins; a procedure is called, which has
+-- executed nothing yet; or a call has ended. A call, and the end of one, changes nothing that owners
+-- see in the frames that are left, and a call moves nothing.
+pub data Follows (program : FlowProgram) (effects : Effects) (i : Instruction) (m : Memory) (top : Stage) (older : List Stage) (n : Memory) (next : Stage) (around : List Stage) : Type 0 where
+  steps_on : calls_nothing i ≡ true → (i ≡ Finish → ⊥) → IsOnward top next → around ≡ older → Follows program effects i m top older n next around
+  begins_main : (below : Stage) → older ≡ [] → around ≡ below ∷ [] → IsOnward top below → next.before ≡ [] → Follows program effects i m top older n next around
+  calls_one : (waits : Stage) → around ≡ waits ∷ older → IsOnward top waits → next.before ≡ []
+      → ((f : Fact) → Has (facts_of program effects waits) f → Has (facts_of program effects top) f)
+      → AreSameWords (flow_typing program) (λ f. Unit {0}) m n → Follows program effects i m top older n next around
+  ends_one : older ≡ next ∷ around → AreSameWords (flow_typing program) (λ f. f ≡ top.depth → ⊥) m n → Follows program effects i m top older n next around
+
+-- What a step leads to, with where its frames come from.
+abbrev pub LeadsAlong : Table → TypedProgram → Effects → Instruction → Memory → Stage → List Stage → Outcome → Type 0
+LeadsAlong table typed effects i m top older (Goes state) =
+    (next : IsSound table typed effects state) × Follows (flow_program table typed) effects i m top older state.memory next.top next.older
+LeadsAlong table typed effects i m top older (Ends e state) = (IsTrap e → ⊥) × WellOwned (flow_typing (flow_program table typed)) state
+
+-- So it is of each step.
+abbrev pub StepsLeadAlong : Table → TypedProgram → Effects → List ℕ → Type 0
+StepsLeadAlong table typed effects input =
+    (state : State) (sound : IsSound table typed effects state)
+    → LeadsAlong table typed effects sound.point.instr state.memory sound.top sound.older (step (flow_program table typed) input state)
+
+-- Each step leads on.
 abbrev pub StepsLeadOn : Table → TypedProgram → Effects → List ℕ → Type 0
 StepsLeadOn table typed effects input =
     (state : State) → IsSound table typed effects state → LeadsOn table typed effects (step (flow_program table typed) input state)
