@@ -7,3 +7,4 @@ pub mod Walked
 pub mod Units
 pub mod Roots
 pub mod Main
+pub mod Files
