@@ -1,6 +1,6 @@
 -- The bodies of a program: their objects and scopes have the numbers of their places in the text, and what they name
 -- is their own or was declared before them.
-use Rattle.std.proofs.Common.{◌≡◌, refl, sym, ap, ◌∙◌, subst, inl, inr, ℕ, suc, ◌+◌, ◌≤◌, ◌<◌, true, false, ◌&&◌, ◌||◌, nat_lt, lt-ltb, nat_eq, List, [], ◌∷◌, ◌++◌, map, length, arith}
+use Rattle.std.proofs.Common.{◌≡◌, refl, sym, ap, ◌∙◌, inl, inr, ℕ, suc, ◌+◌, ◌≤◌, true, false, ◌&&◌, ◌||◌, nat_lt, lt-ltb, nat_eq, List, [], ◌∷◌, ◌++◌, map, length, arith}
 use Rattle.std.specs.List.{position_or_len}
 use Rattle.std.proofs.lemmas.Bool.{ltb-true}
 use Rattle.std.proofs.lemmas.List.{length-append}
@@ -10,12 +10,11 @@ use Rattle.spark_base.proofs.Lists.{Has-append_cases}
 use Rattle.place_names.specs.declared.act.Mode.TheVariants as mode
 use Rattle.resolved_tree.specs.Trees.{Code, Incomplete, Private, TypeDecl, Subtype, ConstrainedSubtype, Objects, Numbers, Instance, SubDecl, SubBody, Package, PackageBody, NoMore, More, code_items}
 use Rattle.type_definitions.specs.Entries.{entry_of}
-use Rattle.type_definitions.specs.Gathered.{in_hidden, in_subprogram, declared_number, declared_text}
+use Rattle.type_definitions.specs.Gathered.{in_hidden, declared_number, declared_text}
 use Rattle.typed_tree.specs.Expressions.{Site, object_number}
 use Rattle.typed_tree.specs.Statements.{scope_count}
-use Rattle.typed_tree.specs.Programs.{TypedSub, DeclaredObject, Home, objects_in, object_of, in_package, package_text, scopes_in, typed_sub, subs_in, placed, over_units}
+use Rattle.typed_tree.specs.Programs.{TypedSub, DeclaredObject, Home, objects_in, object_of, in_package, package_text, scopes_in, subs_in, placed, over_units}
 use Rattle.flow_paths.specs.Objects.{Typing}
-use Rattle.scope_laws.specs.Code.{body_seen}
 use Rattle.scope_laws.proofs.Lists.{and_first, and_second}
 use Rattle.seen_files.specs.Fits.{all_numbers, scope_after, unit_scope, Fits, UnitFits, AllFit}
 use Rattle.seen_files.proofs.Entries.{is_object_entry}

@@ -1,6 +1,6 @@
 -- Layered code in which views have sources, and in which what is named was declared before: it is layered with
 -- sources of views that are older.
-use Rattle.std.proofs.Common.{◌≡◌, refl, ◌⊎◌, inl, inr, ℕ, ◌≤◌, ◌<◌, Bool, true, false, not, ◌&&◌, ◌||◌, List, [], ◌∷◌, ◌++◌, arith, nat_lt, lt-ltb}
+use Rattle.std.proofs.Common.{◌≡◌, refl, ◌⊎◌, inl, inr, ℕ, ◌≤◌, Bool, true, false, not, ◌&&◌, ◌||◌, List, [], ◌∷◌, ◌++◌, arith, nat_lt, lt-ltb}
 use Rattle.std.specs.Prelude.{reverse}
 use Rattle.std.specs.List.{list_all}
 use Rattle.std.proofs.lemmas.Bool.{ltb-true}
@@ -18,7 +18,7 @@ use Rattle.flow_paths.specs.Views.{encloses, scope_of}
 use Rattle.scope_laws.specs.Code.{roots, are_seen, is_seen, is_each_seen}
 use Rattle.scope_laws.proofs.Lists.{within_has, and_first, and_second, both_true}
 use Rattle.layered_scopes.specs.Layered.{is_older, are_of_scope, are_apart, is_layered, is_each_layered}
-use Rattle.view_laws.specs.InOrder.{is_name_of, is_list_end, is_one_name_of, is_any, fits}
+use Rattle.view_laws.specs.InOrder.{is_list_end, is_one_name_of, is_any, fits}
 use Rattle.viewed_files.specs.Sources.{has_source, all_fit}
 
 either : (a b : Bool) → a || b ≡ true → (a ≡ true) ⊎ (b ≡ true)

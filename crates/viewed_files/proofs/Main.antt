@@ -1,14 +1,14 @@
 -- Borrowers and observers of a program are in order, where typing finds no fault and no formal is of an anonymous
 -- access type.
-use Rattle.std.proofs.Common.{◌≡◌, refl, sym, ap, ◌∙◌, subst, ◌⊎◌, inl, inr, ℕ, zero, suc, ◌+◌, ◌≤◌, ◌<◌, Bool, true, false, not, ◌&&◌, ◌||◌, ◌==◌, nat_lt, nat_eq, List, [], ◌∷◌, ◌++◌, map, length, get_or, arith, None, is_some}
+use Rattle.std.proofs.Common.{◌≡◌, refl, sym, ap, ◌∙◌, subst, ◌⊎◌, inl, inr, ℕ, zero, suc, ◌+◌, ◌≤◌, ◌<◌, Bool, true, false, not, ◌&&◌, ◌||◌, ◌==◌, nat_eq, List, [], ◌∷◌, ◌++◌, map, length, get_or, arith, None, is_some}
 use Rattle.std.specs.Prelude.{reverse, flat_map}
-use Rattle.std.specs.List.{AllByRecursion, list_all, position_or_len}
+use Rattle.std.specs.List.{AllByRecursion, position_or_len}
 use Rattle.spark_base.specs.Lists.{Has}
 use Rattle.place_names.specs.declared.act.Mode.{Mode}
 use Rattle.resolved_tree.specs.Trees.{Code, Formals, Program, code_items}
 use Rattle.type_definitions.specs.declared.table.Known.{Known}
 use Rattle.type_definitions.specs.Types.{Table, full}
-use Rattle.type_definitions.specs.Entries.{entry_of, integer}
+use Rattle.type_definitions.specs.Entries.{integer}
 use Rattle.type_definitions.specs.Gathered.{in_subprogram}
 use Rattle.type_definitions.specs.Declarations.{code_faults}
 use Rattle.type_definitions.specs.Whole.{outside, known_of}
@@ -17,11 +17,11 @@ use Rattle.typed_tree.specs.declared.object.ObjectKind.{ObjectKind}
 use Rattle.typed_tree.specs.declared.object.ObjectKind.TheVariants as object_kind
 use Rattle.typed_tree.specs.Trees.{TypedCode, typed_code_list}
 use Rattle.typed_tree.specs.Trees as typed
-use Rattle.typed_tree.specs.Expressions.{Site, object_number}
+use Rattle.typed_tree.specs.Expressions.{Site}
 use Rattle.typed_tree.specs.Statements.{scope_count, typed_body}
-use Rattle.typed_tree.specs.Programs.{TypedSub, TypedProgram, DeclaredObject, Home, object_of, objects_in, scopes_in, formals_of, front_formals, local, placed, elaboration, elaborated, over_units, program_objects, site_of, text_io, typed_program}
-use Rattle.flow_paths.specs.Objects.{Typing, Signature, object_at, is_variable, is_formal_kind, is_formal, is_observer, is_observing, is_anonymous, is_package_object, is_state, view_of}
-use Rattle.flow_paths.specs.Laid.{declared_within, typing_of}
+use Rattle.typed_tree.specs.Programs.{TypedSub, DeclaredObject, Home, object_of, objects_in, scopes_in, formals_of, front_formals, local, placed, elaboration, elaborated, over_units, program_objects, site_of, text_io, typed_program}
+use Rattle.flow_paths.specs.Objects.{Typing, object_at, is_variable, is_formal_kind, is_formal, is_observer, is_observing, is_anonymous, is_package_object, is_state, view_of}
+use Rattle.flow_paths.specs.Laid.{declared_within}
 use Rattle.flow_paths.specs.Layout.{declared}
 use Rattle.flow_paths.specs.Scopes.{is_within}
 use Rattle.flow_paths.specs.Views.{encloses, scope_of}
@@ -45,7 +45,7 @@ use Rattle.viewed_files.specs.Places.{AreAt, AreAround}
 use Rattle.viewed_files.specs.Laid.{IsLaidBody}
 use Rattle.viewed_files.specs.Sources.{has_source, all_fit}
 use Rattle.viewed_files.proofs.Joined.{nothing_asked, joined}
-use Rattle.viewed_files.proofs.Layers.{at_left, at_right, around_left, body_goes}
+use Rattle.viewed_files.proofs.Layers.{at_left, at_right, body_goes}
 use Rattle.viewed_files.proofs.Placed.{all_at, all_around}
 use Rattle.viewed_files.proofs.Bodies.{IsKnown, units_laid}
 use Rattle.viewed_files.proofs.Sources as source
@@ -149,7 +149,6 @@ IsLocalObject table o =
     → (is_formal_kind o.kind ≡ true) ⊎ ((is_variable o.kind ≡ true) × (is_some o.«package» && not (is_state o.kind) ≡ false))
 
 module _ (table : Table) (whole : is_anonymous (full table integer) ≡ false) where
-
   never : is_anonymous (full table integer) ≡ true → ⊥
   never view = by (is_anonymous (full table integer)) view whole
     where

@@ -1,8 +1,7 @@
 -- The objects and the scopes of a program have the numbers of their places in the text.
-use Rattle.std.proofs.Common.{◌≡◌, refl, sym, ap, ◌∙◌, subst, inl, inr, ℕ, suc, ◌+◌, ◌-◌, not, cond, nat_eq, List, [], ◌∷◌, ◌++◌, map, length, get_or, arith, append_assoc, length-append}
+use Rattle.std.proofs.Common.{◌≡◌, refl, sym, ap, ◌∙◌, subst, inl, inr, ℕ, suc, nat_eq, List, [], ◌∷◌, ◌++◌, map, length, get_or, arith, append_assoc, length-append}
 use Rattle.std.specs.List.{position_or_len}
 use Rattle.spark_base.specs.Lists.{Has}
-use Rattle.spark_base.proofs.Lists.{Has-map}
 use Rattle.typed_tree.specs.declared.object.Object.{Object}
 use Rattle.typed_tree.specs.Expressions.{Site, object_number}
 use Rattle.typed_tree.specs.Programs.{DeclaredObject, text_io}

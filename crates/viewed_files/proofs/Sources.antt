@@ -1,7 +1,7 @@
 -- Objects of anonymous access types are variables of subprograms, with names or calls as sources, where typing finds
 -- no fault.
-use Rattle.std.proofs.Common.{◌≡◌, refl, sym, ap, ◌∙◌, subst, ◌⊎◌, inl, inr, ℕ, Bool, true, false, not, ◌&&◌, ◌||◌, List, [], ◌∷◌, ◌++◌, map, Option, Some, None, ℤ, if◌then◌else◌}
-use Rattle.std.specs.Prelude.{is_none, flat_map}
+use Rattle.std.proofs.Common.{◌≡◌, refl, sym, ap, ◌∙◌, subst, ◌⊎◌, inl, inr, ℕ, Bool, true, false, not, ◌&&◌, ◌||◌, List, [], ◌∷◌, ◌++◌, map, Some, None, ℤ, if◌then◌else◌}
+use Rattle.std.specs.Prelude.{flat_map}
 use Rattle.std.specs.List.{AllByRecursion}
 use Rattle.spark_base.specs.declared.position.Pos.{Pos}
 use Rattle.place_names.specs.declared.act.Mode.{Mode}
@@ -12,7 +12,6 @@ use Rattle.resolved_tree.specs.declared.operator.Attribute.TheVariants as attrib
 use Rattle.resolved_tree.specs.Trees.{Tree, Named, Selected, All, Applied, Attr, NoMore, More, position, Code, Plain, Anonymous, Formals, Front, code_items}
 use Rattle.type_definitions.specs.declared.table.Entry.{Entry}
 use Rattle.type_definitions.specs.declared.table.Entry.TheVariants as entry
-use Rattle.type_definitions.specs.declared.table.Kind.{Kind}
 use Rattle.type_definitions.specs.declared.table.Kind.TheVariants as kind
 use Rattle.type_definitions.specs.declared.table.ObjectInfo.{ObjectInfo}
 use Rattle.type_definitions.specs.declared.table.Known.{Known}
@@ -25,33 +24,32 @@ use Rattle.type_definitions.specs.declared.judgement.Next.TheVariants.{Goes, Giv
 use Rattle.type_definitions.specs.declared.judgement.Reading.{Reading}
 use Rattle.type_definitions.specs.declared.judgement.Reading.TheVariants as reading
 use Rattle.type_definitions.specs.declared.judgement.Where.TheVariants as stands
-use Rattle.type_definitions.specs.declared.judgement.Fault.{Fault}
 use Rattle.type_definitions.specs.Types.{Table, full, shape_of, view_of, untyped, is_untyped, is_owning, is_scalar}
 use Rattle.type_definitions.specs.Entries.{entry_of, integer, marked}
-use Rattle.type_definitions.specs.Faults.{demand, K1, K2, K6}
+use Rattle.type_definitions.specs.Faults.{demand, K2, K6}
 use Rattle.type_definitions.specs.Names.{Context, extent, seen, step, along, led_on, ended, reached, through, indexed, is_index, array_value, array_attribute, of_entry, reading_of, is_end}
 use Rattle.type_definitions.specs.Expressions.{faults, inside, behind, way_of, reading_faults, given_names, call_arguments, own_of, next_type, is_variable, is_anonymous}
-use Rattle.type_definitions.specs.Statements.{source_faults, source_name, other_source, source_fits, formal_source, designates, is_source, keeps_constant, is_object_entry, is_formal, is_formal_kind, target_faults, assign_faults, assigned, target_reading}
-use Rattle.type_definitions.specs.Gathered.{indicated, is_anonymous_indication, object_kind, declared_number}
-use Rattle.type_definitions.specs.Declarations.{indication_faults, is_single, first_pos, first_number, in_package, starting, has_one, initial_faults, objects_faults, object_faults}
+use Rattle.type_definitions.specs.Statements.{source_faults, source_name, source_fits, formal_source, designates, is_source, keeps_constant, is_object_entry, is_formal, is_formal_kind, target_faults, assign_faults, assigned}
+use Rattle.type_definitions.specs.Gathered.{indicated, is_anonymous_indication, declared_number}
+use Rattle.type_definitions.specs.Declarations.{indication_faults, is_single, first_pos, first_number, in_package, starting, has_one, initial_faults, object_faults}
 use Rattle.typed_tree.specs.Trees.{TypedTree, TypedCode, Name, NoMore as nothing_more}
 use Rattle.typed_tree.specs.Trees as typed
 use Rattle.typed_tree.specs.declared.object.Object.{Object}
 use Rattle.typed_tree.specs.Expressions.{Site, object_number, typed_expression, typed_name, typed_steps, typed_step, typed_actuals, typed_imaged, typed_optional, typed_first, called_function, object_type, designating, element}
 use Rattle.typed_tree.specs.Statements.{typed_object, typed_assign, type_read}
 use Rattle.typed_tree.specs.Programs.{DeclaredObject, Home, object_of, formals_of, front_formals, kind_of, entry_kind}
-use Rattle.flow_paths.specs.Instructions.{Declare, Assign}
+use Rattle.flow_paths.specs.Instructions.{Declare}
 use Rattle.flow_paths.specs.Objects.{Typing, Signature, object_at, is_variable as is_variable_object}
 use Rattle.flow_paths.specs.Objects as flow
 use Rattle.flow_paths.specs.Names.{whole, whole_object, has_call}
 use Rattle.typed_laws.specs.Fine.{Laws, IsMeant, Denotes, AreSuffixes, counts}
-use Rattle.typed_laws.proofs.Agreeing.{holds, nil_left, nil_right, and_left, and_right}
-use Rattle.typed_points.specs.Meant.{IsMeantOptional, AreDeclared, AreNumbers}
+use Rattle.typed_laws.proofs.Agreeing.{holds, nil_left, nil_right}
+use Rattle.typed_points.specs.Meant.{AreDeclared, AreNumbers}
 use Rattle.typed_points.proofs.Flags.{flagged, reading_same}
 use Rattle.seen_files.specs.Uses.{Uses}
 use Rattle.meant_files.specs.Typed.{AreIndicated, AreOf, IsGroupTyped, AreGroupsTyped, IsFrontTyped, AreIntegers}
 use Rattle.scope_laws.proofs.Lists.{all_both}
-use Rattle.view_laws.specs.InOrder.{is_name_of, is_list_end, is_one_name_of, is_any, stores_name}
+use Rattle.view_laws.specs.InOrder.{is_name_of, is_one_name_of, is_any, stores_name}
 use Rattle.viewed_files.specs.Sources.{has_source, all_fit}
 
 or_left : (a b : Bool) → a ≡ true → a || b ≡ true

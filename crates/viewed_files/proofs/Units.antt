@@ -1,25 +1,23 @@
 -- So it is in all units.
-use Rattle.std.proofs.Common.{◌≡◌, refl, sym, ap, subst, inl, inr, ℕ, ◌+◌, Bool, true, false, ◌&&◌, ◌||◌, List, [], ◌∷◌, ◌++◌, None, true≢false}
+use Rattle.std.proofs.Common.{◌≡◌, refl, subst, inl, inr, ℕ, ◌+◌, Bool, true, false, ◌&&◌, ◌||◌, List, [], ◌∷◌, ◌++◌, None, true≢false}
 use Rattle.std.specs.Prelude.{flat_map}
 use Rattle.std.specs.List.{AllByRecursion}
 use Rattle.spark_base.specs.Lists.{Has}
 use Rattle.spark_base.specs.declared.position.Pos.{Pos}
 use Rattle.resolved_tree.specs.Trees.{Code, Incomplete, Private, TypeDecl, Subtype, ConstrainedSubtype, Objects, Numbers, Instance, SubDecl, SubBody, Package, PackageBody, NoMore, More}
 use Rattle.type_definitions.specs.declared.table.Known.{Known}
-use Rattle.type_definitions.specs.Types.{Table}
 use Rattle.type_definitions.specs.Names.{Context}
 use Rattle.type_definitions.specs.Gathered.{declared_number, declared_text, in_subprogram, in_visible, in_hidden}
 use Rattle.type_definitions.specs.Declarations.{in_package, in_body, body_faults, code_faults}
 use Rattle.type_definitions.specs.Whole.{outside}
 use Rattle.typed_tree.specs.declared.object.Object.{Object}
-use Rattle.typed_tree.specs.Trees.{TypedCode}
 use Rattle.typed_tree.specs.Expressions.{Site}
-use Rattle.typed_tree.specs.Statements.{scope_count, statements, typed_body}
-use Rattle.typed_tree.specs.Programs.{TypedSub, DeclaredObject, Home, objects_in, formals_of, front_formals, local, in_package as packaged, package_text, subs_in, elaborated, placed, over_units, program_objects, site_of, typed_program}
+use Rattle.typed_tree.specs.Statements.{scope_count, statements}
+use Rattle.typed_tree.specs.Programs.{TypedSub, DeclaredObject, Home, objects_in, formals_of, front_formals, local, in_package as packaged, package_text, subs_in, elaborated, placed, over_units, site_of}
 use Rattle.flow_paths.specs.Objects.{Typing, Signature}
 use Rattle.typed_laws.specs.Fine.{Laws}
 use Rattle.typed_laws.proofs.Agreeing.{nil_left, nil_right}
-use Rattle.typed_points.specs.Meant.{IsMeantCode, AreMeantBodies, AreMeantObjects, AreMeantUnits, typing_meant}
+use Rattle.typed_points.specs.Meant.{IsMeantCode, AreMeantBodies, AreMeantObjects}
 use Rattle.scope_laws.proofs.Lists.{and_first, and_second, all_both}
 use Rattle.order_laws.specs.Written.{is_declaration, are_declarations, are_statements, is_body, are_parts, is_procedure, is_unit}
 use Rattle.meant_files.specs.Denoted.{AreDenoted}

@@ -1,7 +1,6 @@
 -- So it is in all of the code: views have sources, and are variables of subprograms.
-use Rattle.std.proofs.Common.{◌≡◌, refl, sym, ap, ◌∙◌, subst, inl, inr, ℕ, ◌+◌, Bool, true, false, ◌&&◌, ◌||◌, List, [], ◌∷◌, ◌++◌, map, None}
+use Rattle.std.proofs.Common.{◌≡◌, refl, ℕ, ◌+◌, Bool, true, false, ◌&&◌, List, [], ◌∷◌, ◌++◌, None}
 use Rattle.std.specs.List.{AllByRecursion}
-use Rattle.spark_base.specs.Lists.{Has}
 use Rattle.place_names.specs.declared.act.Mode.TheVariants as mode
 use Rattle.resolved_tree.specs.Trees.{Tree, Code, Incomplete, Private, TypeDecl, Subtype, ConstrainedSubtype, Objects, Numbers, Instance, SubDecl, SubBody, Package, PackageBody, Skip, Assign, Call, Exit, Return, If, Branch, Case, When, Loop, While, For, Block, NoMore, More, code_items}
 use Rattle.resolved_tree.specs.Trees as resolved
@@ -9,23 +8,20 @@ use Rattle.type_definitions.specs.declared.table.Entry.{Entry}
 use Rattle.type_definitions.specs.declared.table.Entry.TheVariants as entry
 use Rattle.type_definitions.specs.declared.table.Predefined.{Predefined}
 use Rattle.type_definitions.specs.declared.table.Predefined.TheVariants as predefined
-use Rattle.type_definitions.specs.declared.table.Known.{Known}
 use Rattle.type_definitions.specs.declared.judgement.Where.TheVariants as stands
 use Rattle.type_definitions.specs.Types.{Table, full, is_scalar}
-use Rattle.type_definitions.specs.Entries.{entry_of, integer, boolean}
+use Rattle.type_definitions.specs.Entries.{entry_of, boolean}
 use Rattle.type_definitions.specs.Names.{Context}
 use Rattle.type_definitions.specs.Expressions.{faults, own_type, call_arguments}
 use Rattle.type_definitions.specs.Statements.{target_faults, range_faults, type_or_integer, is_one_choice, coverage}
 use Rattle.type_definitions.specs.Gathered.{declared_number, parameter_type}
 use Rattle.type_definitions.specs.Declarations.{in_package, code_faults, alternatives_faults, alternative_faults, choices_faults, selector_faults, choices_of, is_last}
 use Rattle.typed_tree.specs.Trees.{TypedCode, typed_code_list}
-use Rattle.typed_tree.specs.Trees as typed
 use Rattle.typed_tree.specs.declared.object.Object.{Object}
-use Rattle.typed_tree.specs.Expressions.{Site, object_number, typed_expression}
-use Rattle.typed_tree.specs.Statements.{scope_count, statements, typed_call, call_of, predefined_call, typed_range, typed_choices, typed_body}
-use Rattle.typed_tree.specs.Programs.{DeclaredObject, Home, object_of, objects_in}
+use Rattle.typed_tree.specs.Expressions.{Site}
+use Rattle.typed_tree.specs.Statements.{scope_count, statements, typed_call, call_of, predefined_call, typed_body}
+use Rattle.typed_tree.specs.Programs.{DeclaredObject, Home, objects_in}
 use Rattle.flow_paths.specs.Objects.{Typing, Signature}
-use Rattle.flow_paths.specs.Objects as flow
 use Rattle.typed_laws.specs.Fine.{Laws}
 use Rattle.typed_laws.proofs.Agreeing.{nil_left, nil_right}
 use Rattle.typed_points.specs.Meant.{IsMeantCode, AreAlternatives}

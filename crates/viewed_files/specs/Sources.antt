@@ -1,5 +1,5 @@
 -- Code in which views are declared and assigned with names, or with what a function gives.
-use Rattle.std.specs.Prelude.{ℕ, Bool, true, not, ◌&&◌, ◌||◌}
+use Rattle.std.specs.Prelude.{Bool, true, not, ◌&&◌, ◌||◌}
 use Rattle.typed_tree.specs.Trees.{TypedCode}
 use Rattle.typed_tree.specs.Trees as typed
 use Rattle.flow_paths.specs.Instructions.{Instruction, Declare, Assign}
