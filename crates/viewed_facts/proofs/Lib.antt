@@ -1,3 +1,4 @@
 pub mod Steps
 pub mod Checks
 pub mod Memories
+pub mod Evaluated

@@ -38,7 +38,7 @@ use Rattle.exact_facts.proofs.Steps.{Keeps, IsPlaced, no_hand}
 use Rattle.exact_facts.proofs.Parts.{plain_leaf}
 use Rattle.exact_facts.proofs.Memories.{sels_part, named_part, end_plain, Shows, same_told}
 use Rattle.viewed_facts.specs.Exact.{IsDefinite, IsExact}
-use Rattle.viewed_facts.proofs.Steps.{definite_variable, told_still, told_put, told_given, told_taken, told_ended}
+use Rattle.viewed_facts.proofs.Steps.{definite_variable, variables_after, told_still, told_put, told_given, told_taken, told_ended}
 
 marked : (x : machine.Word) (g : Bool) → g ≡ true → owner_at x g ≡ Gone
 marked x true e = refl
@@ -76,9 +76,8 @@ module _ (s : Typing) (settled : IsSettled s.table) (home : ℕ → ℕ) (observ
       → Viewed home observer other v (seen s m rest leaks) facts → Spares other.gone (expand v u) → Kept s m rest → Spot s m rest k l
       → Named home u → observer (number_of u) ≡ false → Reaches (seen s m rest leaks) (expand v u) l → (content s m rest (trunk l)).owns ≡ true
       → Allows facts (Move (name_of u) (parts s.table k.of))
-      → ((w : Way) → Definite (effect (Move (name_of u) (parts s.table k.of)) facts) w → IsOfVariable w)
       → Exact m facts → Exact (moved_out s k m) (effect (Move (name_of u) (parts s.table k.of)) facts)
-  taken_exact m rest leaks facts k l u viewed spares kept spot named plain reaches owns allowed variables exact =
+  taken_exact m rest leaks facts k l u viewed spares kept spot named plain reaches owns allowed exact =
       let x : Waiting = record { of = k.of; words = words_of s m k } in
       let a : Loc → Content = content s m rest in
       let b : Loc → Content = content s (moved_out s k m) (x ∷ rest) in
@@ -87,10 +86,17 @@ module _ (s : Typing) (settled : IsSettled s.table) (home : ℕ → ℕ) (observ
       let after_it : View = seen_of s.table b (length m.cells) (λ n. (cell m n).freed) leaks in
       let given = given_apart (seen s m rest leaks) after_it (expand v u) (Object (OfHand (length rest))) l (hand (length rest)) viewed.owned move reaches refl
       (no_hand home (length rest) (expand v u) (whole_named m rest leaks facts viewed u named plain)) in
-      exact_from after_it (moved_out s k m) (x ∷ rest) (effect (Move (name_of u) (parts s.table k.of)) facts) variables (λ z. refl)
+      exact_from after_it (moved_out s k m) (x ∷ rest) (effect (Move (name_of u) (parts s.table k.of)) facts)
+      (variables_after home observer other v elsewhere apart (seen s m rest leaks) facts viewed (Move (name_of u) (parts s.table k.of)) moved_plain) (λ z. refl)
       (told_taken home observer other v elsewhere apart (seen s m rest leaks) after_it u (length rest) l (parts s.table k.of) facts viewed named plain given allowed
       (leaf_gone change) (told_seen m rest leaks facts viewed exact))
     where
+      moved_plain : (n : Name) → Has (adds (Move (name_of u) (parts s.table k.of))) (Moved n) → observer n.root ≡ false
+      moved_plain n new =
+          let found = Has-map_from (λ q. Moved (extend (name_of u) q)) (parts s.table k.of) (Moved n) new in
+          let called : extend (name_of u) found.0 ≡ n = cc in
+          ap observer (sym (ap (λ (z : Name). z.root) called)) ∙ plain
+
       -- nothing at or below the name is gone
       whole : (p : List Step) → is_leaf s.table (content s m rest (trunk l)).of (p ++ steps_in l) ≡ true
           → (get_or (content s m rest (trunk l)).slots (offset_in s.table (content s m rest (trunk l)).of (p ++ steps_in l)) no_slot).gone ≡ false
@@ -141,9 +147,8 @@ module _ (s : Typing) (settled : IsSettled s.table) (home : ℕ → ℕ) (observ
       → Viewed home observer other v (seen s m (x ∷ rest) leaks) facts → Kept s m (x ∷ rest) → Spot s m (x ∷ rest) k l
       → Named home u → observer (number_of u) ≡ false → Reaches (seen s m (x ∷ rest) leaks) (expand v u) l → (content s m (x ∷ rest) (trunk l)).owns ≡ true
       → Allows facts (Write (name_of u)) → length x.words ≡ words s.table k.of → Matches s.table x.of k.of
-      → ((w : Way) → Definite (effect (Write (name_of u)) facts) w → IsOfVariable w)
       → Exact m facts → Exact (stored s k x.words m) (effect (Write (name_of u)) facts)
-  stored_exact m x rest leaks facts k l u pos viewed kept spot named plain reaches owns allowed long fits variables exact =
+  stored_exact m x rest leaks facts k l u pos viewed kept spot named plain reaches owns allowed long fits exact =
       let a : Loc → Content = content s m (x ∷ rest) in
       let b : Loc → Content = content s (stored s k x.words m) rest in
       let change = stores s settled m x rest kept k l spot long fits owns in
@@ -154,7 +159,8 @@ module _ (s : Typing) (settled : IsSettled s.table) (home : ℕ → ℕ) (observ
       let move = stored_step s.table settled a b (length rest) x l (length m.cells) (λ n. (cell m n).freed) leaks more change checks in
       let given = given_apart (seen s m (x ∷ rest) leaks) after_it (Object (OfHand (length rest))) (expand v u) (hand (length rest)) l viewed.owned move refl reaches
       (λ e. no_hand home (length rest) (expand v u) (whole_named m (x ∷ rest) leaks facts viewed u named plain) (sym e)) in
-      exact_from after_it (stored s k x.words m) rest (effect (Write (name_of u)) facts) variables (λ z. refl)
+      exact_from after_it (stored s k x.words m) rest (effect (Write (name_of u)) facts)
+      (variables_after home observer other v elsewhere apart (seen s m (x ∷ rest) leaks) facts viewed (Write (name_of u)) (λ n none. absurd none)) (λ z. refl)
       (told_put home observer other v elsewhere apart (seen s m (x ∷ rest) leaks) after_it (length rest) u l facts viewed named plain given allowed
       (told_seen m (x ∷ rest) leaks facts viewed exact))
 
@@ -187,11 +193,11 @@ module _ (s : Typing) (settled : IsSettled s.table) (home : ℕ → ℕ) (observ
   pub ended_exact : (m : Memory) (rest : List Waiting) (leaks leaks' : List Leak) (facts : List Fact) (x : ℕ) (borrower : Bool)
       → Viewed home observer other v (seen s m rest leaks) facts → Checks s.table (content s m rest (OfRoot (OfVariable (home x) x))) [] leaks leaks'
       → ((y : ℕ) (w : Way) → v.way y ≡ Some w → number_of w ≡ x → ⊥)
-      → ((w : Way) → Definite (effect (EndScope x borrower) facts) w → IsOfVariable w)
       → Exact m facts → Exact (undeclared (home x) x m) (effect (EndScope x borrower) facts)
-  ended_exact m rest leaks leaks' facts x borrower viewed checks roots variables exact =
+  ended_exact m rest leaks leaks' facts x borrower viewed checks roots exact =
       let after_it : View = seen s (undeclared (home x) x m) rest leaks' in
-      exact_from after_it (undeclared (home x) x m) rest (effect (EndScope x borrower) facts) variables (λ z. refl)
+      exact_from after_it (undeclared (home x) x m) rest (effect (EndScope x borrower) facts)
+      (variables_after home observer other v elsewhere apart (seen s m rest leaks) facts viewed (EndScope x borrower) (λ n none. absurd none)) (λ z. refl)
       (told_ended home observer other v elsewhere apart (seen s m rest leaks) after_it x borrower facts viewed (drops s m (home x) x rest leaks leaks' checks) roots
       (told_seen m rest leaks facts viewed exact))
 

@@ -3,6 +3,7 @@ use Rattle.std.proofs.Common.{◌≡◌, refl, sym, ap, ◌∙◌, subst, ◌⊎
 use Rattle.spark_base.specs.Lists.{Has}
 use Rattle.place_names.specs.declared.selector.Sel.{Sel}
 use Rattle.place_names.specs.declared.rule.Loan.TheVariants.{Borrowed}
+use Rattle.place_names.specs.declared.act.Act.{Act}
 use Rattle.place_names.specs.declared.act.Act.TheVariants.{Move, Write, Free, EndScope}
 use Rattle.place_names.specs.declared.fact.Fact.{Fact}
 use Rattle.place_names.specs.declared.fact.Fact.TheVariants.{Moved}
@@ -79,6 +80,17 @@ module _ (home : ℕ → ℕ) (observer : ℕ → Bool) (other : Around home) (v
   pub definite_variable : (s : View) (facts : List Fact) (viewed : Viewed home observer other v s facts) (w : Way) → Definite facts w → IsOfVariable w
   definite_variable s facts viewed w (inl d) = named_variable home w (named_definite s facts viewed w d)
   definite_variable s facts viewed w (inr e) = e.0
+
+  -- so it is after an act that moves nothing through an observer
+  pub variables_after : (s : View) (facts : List Fact) → Viewed home observer other v s facts → (a : Act) → ((n : Name) → Has (adds a) (Moved n) → observer n.root ≡ false)
+      → (w : Way) → Definite (effect a facts) w → IsOfVariable w
+  variables_after s facts viewed a new w (inr e) = e.0
+  variables_after s facts viewed a new w (inl d) =
+      let plain : observer (number_of d.0) ≡ false = elim (fact_before a facts (Moved (name_of d.0)) d.1.1) [
+        | inl old ↦ viewed.clear.owned (name_of d.0) old.0
+        | inr added ↦ new (name_of d.0) added
+      ] in
+      named_variable home w (subst (Named home) d.3 (stands s facts viewed d.0 (d.1.0, plain)))
 
   rooted : (s : View) (facts : List Fact) (viewed : Viewed home observer other v s facts) (w : Way) → Definite facts w → IsRooted w
   rooted s facts viewed w is = variable_rooted w (definite_variable s facts viewed w is)
