@@ -1,5 +1,5 @@
 -- What instructions without calls take, the successors of points, and facts where nothing is moved.
-use Rattle.std.proofs.Common.{◌≡◌, refl, sym, ap, ◌∙◌, ◌⊎◌, inl, inr, ℕ, zero, suc, ◌+◌, ◌<◌, Bool, true, false, not, ◌&&◌, List, [], ◌∷◌, length, arith, Some, None}
+use Rattle.std.proofs.Common.{◌≡◌, refl, sym, ap, ◌∙◌, ◌⊎◌, inl, inr, ℕ, zero, suc, ◌+◌, ◌<◌, Bool, true, false, not, ◌&&◌, List, [], ◌∷◌, length, arith, Option, Some, None}
 use Rattle.std.specs.Prelude.{filter}
 use Rattle.spark_base.specs.Lists.{Has}
 use Rattle.spark_base.proofs.Lists.{Has-append_cases, Has-filter}
@@ -15,7 +15,7 @@ use Rattle.flow_paths.specs.Names as flow_names
 use Rattle.flow_paths.specs.Scopes.{taken}
 use Rattle.machine.specs.Step.{Turn, successor}
 use Rattle.owned_ways.specs.Ways.{after}
-use Rattle.soundness.specs.Sound.{calls_nothing, calls_procedures, IsFirstClass, IsProcedureClass}
+use Rattle.soundness.specs.Sound.{calls_nothing, calls_procedures, IsNoCall, IsFirstClass, IsProcedureClass}
 use Rattle.flow_paths.specs.Laid.{FlowProgram}
 use Rattle.soundness.proofs.Waits.{no_waits}
 
@@ -135,3 +135,12 @@ unmoved_after (a ∷ more) facts none each name has =
       | inl old ↦ none other (Has-filter (λ f. not (removes a f)) facts (Moved other) old).0
       | inr new ↦ each a (inl refl) other new
     ]) (λ b has. each b (inr has)) name has
+
+-- ---- calls
+
+pub call_or : (i : Instruction) → ((n : ℕ) × (actuals : TypedTree) × (result : Option ℕ) × (i ≡ Call n actuals result)) ⊎ IsNoCall i
+call_or (Call n actuals result) = inl (n, actuals, result, refl)
+call_or i = inr (λ n actuals result e. cc)
+
+pub nothing_calls : (i : Instruction) → calls_nothing i ≡ true → IsNoCall i
+nothing_calls i calls n actuals result e = (let no_truth : false ≡ true = sym (ap calls_nothing e) ∙ calls in cc)
