@@ -136,11 +136,13 @@ module _ (table : Table) (typed : TypedProgram) (effects : Effects) (ready : IsR
       → WaitsAt table typed 0 (stage k depth)
   first_waits depth k named stands p rest is other other_stands q at_point =
       let same : other ≡ named = one_named (flow_named table typed) k other named other_stands stands in
-      let first : p ≡ q = first_there p q rest (subst (λ z. IsAtPoint z 0 q) (ap (λ (z : NamedSub). z.points) same ∙ is) at_point) in
-      (
-        (tt, sym (ap (temporaries_in (flow_typing program)) (drop_none q.scope)
-            ∙ ap (λ (z : NamedPoint). temporaries_in (flow_typing program) z.scope) (sym first)
-            ∙ ready.scoped.starts named (named_has (flow_named table typed) k named stands) p rest is)),
+      let first : p ≡ q = first_there p q rest (subst (λ z. IsAtPoint z 0 q) (ap (λ (z : NamedSub). z.points) same ∙ is) at_point) in (
+        (
+          tt,
+          sym (ap (temporaries_in (flow_typing program)) (drop_none q.scope)
+              ∙ ap (λ (z : NamedPoint). temporaries_in (flow_typing program) z.scope) (sym first)
+              ∙ ready.scoped.starts named (named_has (flow_named table typed) k named stands) p rest is),
+        ),
         ap (temporaries_in (flow_typing program)) (take_none q.scope),
       )
 

@@ -1,6 +1,6 @@
 -- What inputs, releases and starts of loops do, from what they do once the values that they take are
 -- out of the frame.
-use Rattle.std.proofs.Common.{◌≡◌, refl, sym, ap, ◌∙◌, subst, inl, inr, ℕ, zero, Bool, true, false, not, ◌&&◌, List, [], ◌∷◌, length, ℤ, int_le, if◌then◌else◌}
+use Rattle.std.proofs.Common.{◌≡◌, refl, sym, subst, inl, inr, ℕ, true, false, not, ◌&&◌, List, [], ◌∷◌, length, ℤ, int_le, if◌then◌else◌}
 use Rattle.spark_base.specs.declared.position.Pos.{Pos}
 use Rattle.typed_tree.specs.Trees.{TypedTree, Name}
 use Rattle.flow_paths.specs.Objects.{object_at, designated}
@@ -11,7 +11,7 @@ use Rattle.machine.specs.Words.{Word, Int, Enumerated, Null, Cell, fits_type}
 use Rattle.machine.specs.Memory.{Memory, Place, cell, words_of, stored, freed, declared}
 use Rattle.machine.specs.Evaluate.{Exception, Trap, Twice, EndError, DataError, ConstraintError, cell_place, place_of}
 use Rattle.machine.specs.Calls.{checks_at}
-use Rattle.machine.specs.States.{Loop, Outcome, Goes}
+use Rattle.machine.specs.States.{Outcome, Goes}
 use Rattle.machine.specs.Step.{Turn, Bounds, typing, here, start, waiting, goes, behind, raised, trapped, leaking_goes, number, with_loop, bounds}
 use Rattle.machine.specs.Step as steps
 use Rattle.soundness.proofs.Contents.{bool_cases}

@@ -1,10 +1,9 @@
 -- A step that takes values which wait is like one at a point that takes none, once the values are
 -- out of the frame. They are of scalar types, and owners don't see them.
-use Rattle.std.proofs.Common.{◌≡◌, refl, sym, ap, ◌∙◌, subst, ℕ, zero, suc, true, List, [], ◌∷◌, ◌++◌, map, flat_map, reverse, take, drop, length, append_assoc}
+use Rattle.std.proofs.Common.{◌≡◌, refl, sym, ap, ◌∙◌, subst, ℕ, zero, suc, List, [], ◌∷◌, ◌++◌, map, flat_map, reverse, take, drop, length, append_assoc}
 use Rattle.std.specs.List.{AllByRecursion}
 use Rattle.std.proofs.lemmas.List.{length-reverse}
 use mathlib.Core.List.{reverse_aux}
-use Rattle.type_definitions.specs.Types.{is_scalar, full}
 use Rattle.flow_paths.specs.Instructions.{Skip}
 use Rattle.flow_paths.specs.Objects.{Typing}
 use Rattle.flow_paths.specs.Scopes.{taken}

@@ -41,7 +41,7 @@ use Rattle.owned_ways.proofs.Locations.{reaches_along, named_along as rooted_alo
 use Rattle.soundness.specs.Seen.{content, word_in, seen, home, IsNear, is_view_formal, trunk}
 use Rattle.soundness.specs.Typed.{Kept}
 use Rattle.typed_laws.specs.Needed.{IsFine, Source, FirstSource, FirstWrites, FirstStays, IsPlace, Stays, Returns}
-use Rattle.soundness.specs.Sound.{calls_nothing, calls_procedures, Stage, facts_of, Elsewhere, AreStages, Uses, IsCaller, AreCallers, AreRunning, InScope, IsNamedSub, IsAtPoint, view_of, LeadsOn, StepsLeadOn, steps_on, begins_main, calls_one, ends_one, AreSameWords, LeadsAlong, StepsLeadAlong, AreCopied, IsNoCall, IsPlainValue, AreWaiting, WaitsAt, AreAwaited, awaited, has_returned, returns_value, is_temporary_object, temporaries_in, returns_one}
+use Rattle.soundness.specs.Sound.{calls_procedures, Stage, facts_of, Elsewhere, AreStages, Uses, IsCaller, AreCallers, AreRunning, InScope, IsNamedSub, IsAtPoint, view_of, LeadsOn, StepsLeadOn, steps_on, begins_main, calls_one, ends_one, AreSameWords, LeadsAlong, StepsLeadAlong, AreCopied, IsNoCall, IsPlainValue, AreWaiting, WaitsAt, AreAwaited, awaited, has_returned, returns_value, is_temporary_object, temporaries_in, returns_one}
 use Rattle.soundness.specs.Ready.{stored_at, IsCalled, IsReady, IsSupplied, Fills}
 use Rattle.soundness.proofs.Contents.{bool_cases, word_no, word_root}
 use Rattle.soundness.proofs.Steps.{no_leaf}
@@ -50,11 +50,11 @@ use Rattle.soundness.proofs.Numbers.{index_law}
 use Rattle.soundness.proofs.Lasting.{keeps}
 use Rattle.soundness.proofs.Evaluated.{live_trunk}
 use Rattle.soundness.proofs.Fixed.{LeadsTo, plain_word}
-use Rattle.soundness.proofs.Passing.{plain_type, ArePlain, way_of, AreReads, reads_keep, read_open, values_read, call_adds, AreLaid, returns_copied, formals_good, AreGiven, all_given, all_laid as all_laid_out, all_acted, entered, call_leads, passed_to, signature_is, passed_by, TakesAll, takes_each, all_on, call_on}
+use Rattle.soundness.proofs.Passing.{plain_type, ArePlain, way_of, AreReads, reads_keep, read_open, values_read, call_adds, AreLaid, returns_copied, formals_good, AreGiven, all_laid as all_laid_out, all_acted, entered, signature_is, passed_by, TakesAll, takes_each, all_on, call_on}
 use Rattle.soundness.proofs.Moments.{number_part}
 use Rattle.soundness.proofs.Scalars.{acts, acts_append, after_append, allows_both}
 use Rattle.soundness.proofs.Paths.{accepted_point, facts_next}
-use Rattle.soundness.proofs.Points.{flow_at, named_has, point_has, sub_there, sub_at_number, sub_in_range, sub_has, typing_same, point_there, point_in, path_there, IsLaid, all_laid, next_there, scope_next}
+use Rattle.soundness.proofs.Points.{flow_at, named_has, point_has, sub_there, sub_at_number, sub_in_range, sub_has, point_there, point_in, path_there, IsLaid, next_there, scope_next}
 use Rattle.soundness.proofs.Scoped.{MayHold, Inside}
 use Rattle.soundness.proofs.Near.{near_along}
 use Rattle.soundness.proofs.Inherited.{Splits, after_splits, allowed_beside, AreGlobal, global_after, global_allowed, is_open, apart_allows, global_apart}
@@ -64,7 +64,7 @@ use Rattle.soundness.proofs.Around.{same_or_not, IsFar, far_alone, is_inherited,
 use Rattle.soundness.proofs.Returning.{returned_sound, returned_kept, left_same, left_held, back, returns_lead, ends_lead, left_waits, ended_owned}
 use Rattle.soundness.proofs.Following.{Declares}
 use Rattle.soundness.proofs.Waits.{drop_none, or_both, led_waits, no_waits, take_none, waits_of}
-use Rattle.soundness.proofs.Successors.{not_true, both_not, calls_cases, procedures_take_none, finish_or, below_one, below_two, successor_there, successor_cases, unmoved_after}
+use Rattle.soundness.proofs.Successors.{not_true, both_not, below_one, below_two, successor_there, successor_cases, unmoved_after}
 use Rattle.soundness.proofs.Instructions.{Holds, Leads_on, raises, not_anonymous, declare_leads, declare_on, assign_on, released_on, decides_on, choose_on, output_on, got_on, line_leads, end_scope_leads, skip_leads, fall_leads, scalar_taken, Given_here, source_on}
 use Rattle.soundness.proofs.Loops.{started_on, next_leads}
 use Rattle.soundness.proofs.Endings.{main_begins}
@@ -280,10 +280,12 @@ module _ (table : Table) (typed : TypedProgram) (effects : Effects) (input : Lis
           let found = successor_at n next in
           let same_sub : other ≡ named = one_named (flow_named table typed) top.frame.sub other named other_stands of_sub in
           let same_point : found.0 ≡ q =
-          one_point named.points n found.0 q found.1 (subst (λ (z : NamedSub). IsAtPoint z.points n q) same_sub at_q) in
-          (
-            (are.0, are.1 ∙ leads_count s (scope_behind p) (found.0).scope found.2 ∙ ap (λ (z : NamedPoint). temporaries_in s z.scope) same_point
-                ∙ ap (temporaries_in s) (sym (drop_none q.scope))),
+          one_point named.points n found.0 q found.1 (subst (λ (z : NamedSub). IsAtPoint z.points n q) same_sub at_q) in (
+            (
+              are.0,
+              are.1 ∙ leads_count s (scope_behind p) (found.0).scope found.2 ∙ ap (λ (z : NamedPoint). temporaries_in s z.scope) same_point
+                  ∙ ap (temporaries_in s) (sym (drop_none q.scope)),
+            ),
             ap (temporaries_in s) (take_none q.scope),
           )
 
@@ -1166,7 +1168,7 @@ module _ (table : Table) (typed : TypedProgram) (effects : Effects) (input : Lis
                 callers_kept table typed effects unmoved_stage state.memory left_memory below.frame.sub depth (h ∷ others) rest stages_there.2 (omega arith) (still_left is) callers.1,
               );
               waiting = subst (λ n. AreAwaited table typed n (below ∷ (h ∷ others))) (returned_then is)
-                (subst (λ z. AreAwaited table typed (awaited sub_here top.before) (below ∷ z)) same_more awaiting.1);
+                  (subst (λ z. AreAwaited table typed (awaited sub_here top.before) (below ∷ z)) same_more awaiting.1);
               path = caller.path;
               sound = subst (λ z. Sound (home s below.depth) (Elsewhere program effects (h ∷ others)) (seen s left_memory z state.leaks) (facts_of program effects below)) (sym hands)
                   (returned_sound s after_copies depth (waiting_in state) state.leaks (nothing_then is) program effects below (h ∷ others) own_facts caller.plain.1
@@ -1607,8 +1609,7 @@ module _ (table : Table) (typed : TypedProgram) (effects : Effects) (input : Lis
           running.1,
           callers_kept table typed effects unmoved_stage state.memory after_step.memory top.frame.sub depth older outer stages (omega arith)
               (still after_step.memory (brought p.instr left_scope) on.inside) running.2,
-        )
-        (
+        ) (
           waits_next state top older outer named p frames of_sub at_point path on.waits on.loops next.0 next.2 on.are,
           others_await none,
         )
@@ -1635,8 +1636,7 @@ module _ (table : Table) (typed : TypedProgram) (effects : Effects) (input : Lis
           running.1,
           callers_kept table typed effects unmoved_stage state.memory after_step.memory top.frame.sub depth older outer stages (omega arith)
               (still after_step.memory (brought p.instr left_scope) inside_then) running.2,
-        )
-        (
+        ) (
           waits_next state top older outer named p frames of_sub at_point path waits top.frame.loops next.0 next.2 are,
           others_await none,
         )
@@ -1743,8 +1743,11 @@ module _ (table : Table) (typed : TypedProgram) (effects : Effects) (input : Lis
             operand_along temporary e None is (λ ws. steps.truth_waiting ws ∷ drop 1 (waiting main_turn)) (λ ws. 0)
             (λ ws. subst (λ i. 0 < successors i) (sym is) below_one)
             (λ ws one. (
-              ((truth_there temporary e None is, one), subst (λ z. AllByRecursion (IsPlainValue s) (drop 1 z)) (sym some)
-                  (subst (AllByRecursion (IsPlainValue s)) (sym (drop_none vs)) (subst (AllByRecursion (IsPlainValue s)) some (shared.left).0).1)),
+              (
+                (truth_there temporary e None is, one),
+                subst (λ z. AllByRecursion (IsPlainValue s) (drop 1 z)) (sym some)
+                    (subst (AllByRecursion (IsPlainValue s)) (sym (drop_none vs)) (subst (AllByRecursion (IsPlainValue s)) some (shared.left).0).1),
+              ),
               ap (λ (z : List Waiting). suc (length (drop 1 z))) some ∙ ap (λ (z : List Waiting). suc (length z)) (drop_none vs)
                   ∙ sym (ap (λ (z : List Waiting). length z) some) ∙ (shared.left).1 ∙ sym (ap (λ i. temporaries_in s (brought i left_scope)) is),
             ))

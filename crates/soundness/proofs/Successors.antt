@@ -15,8 +15,8 @@ use Rattle.flow_paths.specs.Names as flow_names
 use Rattle.flow_paths.specs.Scopes.{taken}
 use Rattle.machine.specs.Step.{Turn, successor}
 use Rattle.owned_ways.specs.Ways.{after}
-use Rattle.soundness.specs.Sound.{calls_nothing, calls_procedures, IsNoCall, IsFirstClass, IsProcedureClass}
-use Rattle.flow_paths.specs.Laid.{FlowProgram}
+use Rattle.soundness.specs.Sound.{calls_nothing, calls_procedures, IsNoCall, IsFirstClass, IsProcedureClass, IsFunctionClass, is_temporary_object}
+use Rattle.flow_paths.specs.Laid.{FlowProgram, flow_typing}
 use Rattle.soundness.proofs.Waits.{no_waits}
 
 -- ---- texts without calls take nothing that waits
@@ -87,6 +87,21 @@ second_class program class = record {
   formals = λ x is. (let no : true ≡ false = sym is ∙ class.no_formals x in cc);
   copied = λ sub has p there n actuals result is known. (let no : false ≡ true = sym (ap calls_nothing is) ∙ class.no_calls sub has p there in cc);
 }
+
+-- So is the second one of the third, where no object is a temporary.
+pub third_class : (program : FlowProgram) → ((x : ℕ) → is_temporary_object (flow_typing program) x ≡ false) → IsProcedureClass program → IsFunctionClass program
+third_class program none class = record {
+  all_named = class.all_named;
+  results = inl class.calls;
+  temporaries = λ x is. (let never : true ≡ false = sym is ∙ none x in cc);
+  formals = class.formals;
+  copied = class.copied;
+}
+
+-- A call of the second class has no result.
+pub no_temporary : (n : ℕ) (actuals : TypedTree) (result : Option ℕ) → calls_procedures (Call n actuals result) ≡ true → result ≡ None
+no_temporary n actuals None calls = refl
+no_temporary n actuals (Some t) calls = cc
 
 pub finish_or : (i : Instruction) → (i ≡ Finish) ⊎ (i ≡ Finish → ⊥)
 finish_or Finish = inl refl
