@@ -410,8 +410,7 @@ module _ (table : Table) (typed : TypedProgram) (effects : Effects) (accepted : 
       declared_there : (p : FlowPoint) → Has (sub_of program 0).points p → (x : ℕ) × (v : TypedTree) × (p.instr ≡ Declare x v) × (has_call v ≡ false)
       declared_there p has =
           let q = package_point p has in
-          let found = declares packages refl q.0 q.1 (calls_there packages packages_in q.0 q.1) in
-          (
+          let found = declares packages refl q.0 q.1 (calls_there packages packages_in q.0 q.1) in (
             found.0,
             found.1,
             sym (ap (λ (z : FlowPoint). z.instr) q.2) ∙ found.2,
