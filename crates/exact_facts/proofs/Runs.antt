@@ -16,16 +16,15 @@ use Rattle.machine.specs.Step.{main_frame}
 use Rattle.machine.specs.Run.{frames_at_start, state_at_start, no_point, step, then_on, within, main_of, moment}
 use Rattle.owned_ways.specs.Ways.{Way, name_of}
 use Rattle.soundness.specs.Seen.{home}
-use Rattle.soundness.specs.Sound.{Stage, Elsewhere, AreStages, IsDefiniteOf, IsProcedureClass}
+use Rattle.soundness.specs.Sound.{Stage, Elsewhere, AreStages, IsDefiniteOf}
 use Rattle.soundness.specs.Ready.{IsReady}
 use Rattle.soundness.proofs.Points.{sub_there}
-use Rattle.soundness.proofs.Beginning.{empty_sound, empty_kept, empty_scope, stage, first_point, main_runs, first_waits, main_awaits}
+use Rattle.soundness.proofs.Beginning.{empty_sound, empty_kept, empty_scope, stage, first_point, first_waits, main_runs, main_awaits}
 use Rattle.exact_facts.specs.Exact.{NoneFails, checks_of, IsExactly, LeadsExactly, StepHolds, RunHolds}
 use Rattle.exact_facts.proofs.Main.{excused_hold}
 use Rattle.exact_facts.proofs.Going.{exactly_step}
 
-module _ (table : Table) (typed : TypedProgram) (effects : Effects) (ready : IsReady table typed effects)
-    (second : IsProcedureClass (flow_program table typed)) where
+module _ (table : Table) (typed : TypedProgram) (effects : Effects) (ready : IsReady table typed effects) where
   abbrev program : FlowProgram
   program = flow_program table typed
 
@@ -125,7 +124,7 @@ module _ (table : Table) (typed : TypedProgram) (effects : Effects) (ready : IsR
     going o (suc n) = then_on (going o n) on
 
     go : (o : Outcome) → LeadsExactly table typed effects o → LeadsExactly table typed effects (then_on o on)
-    go (Goes state) exactly = exactly_step table typed effects input ready second state exactly
+    go (Goes state) exactly = exactly_step table typed effects input ready state exactly
     go (Ends e state) exactly = tt
 
     reached : (n : ℕ) → LeadsExactly table typed effects (going (Goes (state_at_start (flow_program table typed))) n)
@@ -143,7 +142,7 @@ module _ (table : Table) (typed : TypedProgram) (effects : Effects) (ready : IsR
 
     step_holds : (state : State) → IsExactly table typed effects state → StepHolds (flow_program table typed) effects state.frames (checks_of (on state))
     step_holds state exactly =
-        by_frames exactly.0.top exactly.0.older state.frames (checks_of (on state)) exactly.0.stages (excused_hold table typed effects input ready second state exactly.0 exactly.1)
+        by_frames exactly.0.top exactly.0.older state.frames (checks_of (on state)) exactly.0.stages (excused_hold table typed effects input ready state exactly.0 exactly.1)
 
     -- ---- a run with a budget takes these steps
 

@@ -13,12 +13,10 @@ use Rattle.flow_paths.specs.Laid.{FlowProgram, flow_program}
 use Rattle.flow_paths.specs.Reports.{AreReports}
 use Rattle.file_positions.specs.Texts.{AreParsed}
 use Rattle.typed_steps.specs.Steps.{AreTyped}
-use Rattle.soundness.proofs.Successors.{second_class}
 use Rattle.exact_facts.specs.Exact.{RunHolds}
 use Rattle.exact_facts.proofs.Runs.{run_holds}
 use Rattle.order_laws.specs.Orderly.{typed_of}
 use Rattle.sound_files.specs.Class.{IsNamedText, IsPlainText, CallsNothing, CallsProcedures, HasNoFunction, HasScalarFormals, CopiesToVariables}
-use Rattle.sound_files.proofs.First.{first_class, procedure_class}
 use Rattle.sound_files.proofs.Main.{parsed_ready}
 use Rattle.sound_files.proofs.Procedures.{parsed_procedures_ready}
 
@@ -37,8 +35,7 @@ module _ (files : List (List SourceUnit)) where
       → (effects : Effects) → AreEffects flow effects → AreReports flow effects [] → CallsNothing flow
       → (input : List ℕ) → RunHolds flow effects input
   parsed_hold texts parsed named no_fault text effects are none calls input =
-      run_holds table (typed_of p) effects (parsed_ready files texts parsed named no_fault text effects are none calls)
-      (second_class flow (first_class p text calls)) input
+      run_holds table (typed_of p) effects (parsed_ready files texts parsed named no_fault text effects are none calls) input
 
   -- So it is where procedures are called.
   pub parsed_procedures_hold : (texts : List (List Cut)) → AreParsed 0 texts files → name_fault files ≡ None → type_fault p ≡ None
@@ -46,5 +43,4 @@ module _ (files : List (List SourceUnit)) where
       → CallsProcedures flow → HasScalarFormals flow → CopiesToVariables flow → (input : List ℕ) → RunHolds flow effects input
   parsed_procedures_hold texts parsed named no_fault text procedures effects are none typed calls formals copied input =
       run_holds table (typed_of p) effects
-      (parsed_procedures_ready files texts parsed named no_fault text procedures effects are none typed calls formals copied)
-      (procedure_class p text calls formals copied) input
+      (parsed_procedures_ready files texts parsed named no_fault text procedures effects are none typed calls formals copied) input

@@ -7,7 +7,6 @@ use Rattle.flow_paths.specs.declared.report.Effects.{Effects}
 use Rattle.flow_paths.specs.Laid.{flow_program}
 use Rattle.soundness.specs.Typed.{OwnsByShape}
 use Rattle.soundness.specs.Sound.{Accepted, IsFirstClass, IsProcedureClass}
-use Rattle.soundness.proofs.Successors.{second_class}
 use Rattle.ready_laws.specs.InOrder.{AreCallees, ArePassed}
 use Rattle.order_laws.specs.Orderly.{typed_of, bodies_of, IsOrderly}
 use Rattle.order_laws.proofs.Accepted.{accepted_ready, procedures_ready}
@@ -20,12 +19,11 @@ pub procedures_hold : (p : Program) (effects : Effects) → type_fault p ≡ Non
     → AreCallees (known_of p).table (typed_of p) (bodies_of p) → ArePassed (flow_program (known_of p).table (typed_of p))
     → (input : List ℕ) → RunHolds (flow_program (known_of p).table (typed_of p)) effects input
 procedures_hold p effects no_fault accepted owns class orderly callees passed input =
-    run_holds (known_of p).table (typed_of p) effects (procedures_ready p effects no_fault accepted owns class orderly callees passed) class input
+    run_holds (known_of p).table (typed_of p) effects (procedures_ready p effects no_fault accepted owns class orderly callees passed) input
 
 -- So it is in the first class, where nothing is called.
 pub accepted_holds : (p : Program) (effects : Effects) → type_fault p ≡ None → Accepted (known_of p).table (typed_of p) effects
     → OwnsByShape (known_of p).table → IsFirstClass (flow_program (known_of p).table (typed_of p)) → IsOrderly p
     → (input : List ℕ) → RunHolds (flow_program (known_of p).table (typed_of p)) effects input
 accepted_holds p effects no_fault accepted owns class orderly input =
-    run_holds (known_of p).table (typed_of p) effects (accepted_ready p effects no_fault accepted owns class orderly)
-    (second_class (flow_program (known_of p).table (typed_of p)) class) input
+    run_holds (known_of p).table (typed_of p) effects (accepted_ready p effects no_fault accepted owns class orderly) input

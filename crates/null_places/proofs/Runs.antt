@@ -10,7 +10,7 @@ use Rattle.machine.specs.Memory.{OfVariable, OfCell}
 use Rattle.machine.specs.Evaluate.{StorageError}
 use Rattle.machine.specs.States.{State, Ending, Raised, Spent, Outcome, Goes, Ends, sub_of, frame_words, stack_words, frame_at_start}
 use Rattle.machine.specs.Run.{empty_memory, step, then_on, within, state_at_start, run_of, main_of, run_with, ended, run}
-use Rattle.soundness.specs.Sound.{IsSound, LeadsOn, IsProcedureClass}
+use Rattle.soundness.specs.Sound.{IsSound, LeadsOn}
 use Rattle.soundness.specs.Ready.{IsReady}
 use Rattle.soundness.proofs.Beginning.{sound_start}
 use Rattle.soundness.proofs.Stepping.{sound_step}
@@ -58,7 +58,7 @@ plainly s (Goes a) (Ends f b) same = absurd same
 plainly s (Ends e a) (Goes b) same = absurd same
 
 module _ (table : Table) (typed : TypedProgram) (effects : Effects) (input : List ℕ) (ready : IsReady table typed effects)
-    (second : IsProcedureClass (flow_program table typed)) (compared : AreCompared (flow_program table typed)) where
+    (compared : AreCompared (flow_program table typed)) where
   abbrev program : FlowProgram
   program = flow_program table typed
 
@@ -74,7 +74,7 @@ module _ (table : Table) (typed : TypedProgram) (effects : Effects) (input : Lis
       → SameStepBy (flow_typing (flow_program table typed)) (step (flow_program table typed) input a) (step (flow_program table typed) input b)
   states_same a b good same =
       subst (λ z. SameStepBy s (step program input a) (step program input z)) (sym same.0)
-      (step_same table typed effects input ready second compared a good.0 good.1 b.memory same.1)
+      (step_same table typed effects input ready compared a good.0 good.1 b.memory same.1)
 
   -- With null in moved places a step leads to the same, with null where it moved.
   pub clear_step : (state : State) → IsGood state

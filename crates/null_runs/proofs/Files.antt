@@ -16,16 +16,13 @@ use Rattle.flow_paths.specs.Reports.{AreReports}
 use Rattle.file_positions.specs.Texts.{AreParsed}
 use Rattle.file_positions.proofs.Ascending.{events_ascend}
 use Rattle.file_positions.proofs.Main.{files_apart, files_ended}
-use Rattle.soundness.specs.Sound.{IsProcedureClass}
 use Rattle.soundness.specs.Ready.{IsReady}
-use Rattle.soundness.proofs.Successors.{second_class}
 use Rattle.typed_steps.specs.Steps.{AreTyped}
 use Rattle.null_places.specs.Cleared.{RunsWithNull}
 use Rattle.null_places.proofs.Typed.{typed_compared}
 use Rattle.null_places.proofs.Runs.{ready_runs}
 use Rattle.order_laws.specs.Orderly.{typed_of}
 use Rattle.sound_files.specs.Class.{IsNamedText, IsPlainText, CallsNothing, CallsProcedures, HasNoFunction, HasScalarFormals, CopiesToVariables}
-use Rattle.sound_files.proofs.First.{first_class, procedure_class}
 use Rattle.sound_files.proofs.Main.{parsed_ready}
 use Rattle.sound_files.proofs.Procedures.{parsed_procedures_ready}
 use Rattle.typed_files.proofs.Main.{files_steps}
@@ -41,8 +38,8 @@ module _ (files : List (List SourceUnit)) where
   flow = flow_program table (typed_of p)
 
   -- Typing is enough, where the program is ready.
-  typed_runs : AreTyped flow → IsProcedureClass flow → (effects : Effects) → IsReady table (typed_of p) effects → (input : List ℕ) → RunsWithNull flow input
-  typed_runs typed class effects ready input = ready_runs table (typed_of p) effects input ready class (typed_compared flow typed)
+  typed_runs : AreTyped flow → (effects : Effects) → IsReady table (typed_of p) effects → (input : List ℕ) → RunsWithNull flow input
+  typed_runs typed effects ready input = ready_runs table (typed_of p) effects input ready (typed_compared flow typed)
 
   module _ (texts : List (List Cut)) (parsed : AreParsed 0 texts files) (named : name_fault files ≡ None) (no_fault : type_fault p ≡ None) where
     pub parsed_typed : AreTyped flow
@@ -51,11 +48,11 @@ module _ (files : List (List SourceUnit)) where
     pub parsed_with_null : IsPlainText p → (effects : Effects) → AreEffects flow effects → AreReports flow effects [] → CallsNothing flow
         → (input : List ℕ) → RunsWithNull flow input
     parsed_with_null text effects are none calls input =
-        typed_runs parsed_typed (second_class flow (first_class p text calls)) effects (parsed_ready files texts parsed named no_fault text effects are none calls) input
+        typed_runs parsed_typed effects (parsed_ready files texts parsed named no_fault text effects are none calls) input
 
     -- So it is where procedures are called.
     pub parsed_procedures_with_null : IsNamedText p → HasNoFunction p → (effects : Effects) → AreEffects flow effects → AreReports flow effects []
         → CallsProcedures flow → HasScalarFormals flow → CopiesToVariables flow → (input : List ℕ) → RunsWithNull flow input
     parsed_procedures_with_null text procedures effects are none calls formals copied input =
-        typed_runs parsed_typed (procedure_class p text calls formals copied) effects
+        typed_runs parsed_typed effects
         (parsed_procedures_ready files texts parsed named no_fault text procedures effects are none parsed_typed calls formals copied) input

@@ -1971,7 +1971,7 @@ module _ (table : Table) (typed : TypedProgram) (effects : Effects) (input : Lis
               scope = subst (λ d. InScope s m d (found.0).scope) (sym deep)
                   (scope_next s ready.owns ready.class.all_named m depth (scope_behind p) (found.0).scope (in_scope m (scope_behind p) inside_behind) found.2);
             },
-            returns_one no_call_then no_finish_then below more (v ∷ below.frame.waits) some_result refl (refl, refl, refl) refl,
+            returns_one no_call_then no_finish_then below more (v ∷ below.frame.waits) refl (refl, refl, refl) refl,
           )
 
       then_returned : (y : Evaluated (List machine.Word))

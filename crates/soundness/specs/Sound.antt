@@ -346,7 +346,7 @@ pub data Follows (program : FlowProgram) (effects : Effects) (i : Instruction) (
   calls_one : (waits : Stage) → around ≡ waits ∷ older → IsOnward top waits → next.before ≡ []
       → ((f : Fact) → Has (facts_of program effects waits) f → Has (facts_of program effects top) f)
       → AreSameWords (flow_typing program) (λ f. Unit {0}) m n → Follows program effects i m top older n next around
-  returns_one : IsNoCall i → (i ≡ Finish → ⊥) → (below : Stage) (more : List Stage) (waits : List Waiting) → is_some (sub_of program top.frame.sub).result ≡ true → older ≡ below ∷ more → IsOnward top next
+  returns_one : IsNoCall i → (i ≡ Finish → ⊥) → (below : Stage) (more : List Stage) (waits : List Waiting) → older ≡ below ∷ more → IsOnward top next
       → around ≡ record below { frame = record below.frame { waits = waits } } ∷ more → Follows program effects i m top older n next around
   ends_one : older ≡ next ∷ around → AreSameWords (flow_typing program) (λ f. f ≡ top.depth → ⊥) m n → Follows program effects i m top older n next around
 
