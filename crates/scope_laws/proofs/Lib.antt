@@ -5,3 +5,5 @@ pub mod Successors
 -- objects and scopes
 pub mod Ordered
 pub mod Seen
+-- temporaries in scope
+pub mod Supplied
