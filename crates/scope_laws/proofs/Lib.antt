@@ -7,3 +7,5 @@ pub mod Ordered
 pub mod Seen
 -- temporaries in scope
 pub mod Supplied
+pub mod Filled
+pub mod Temporaries

@@ -1,10 +1,9 @@
 -- At each point of a subprogram the temporaries that its instruction takes are the last ones in scope, if what points
 -- fill are temporaries and no declared object is one.
-use Rattle.std.proofs.Common.{◌≡◌, refl, sym, ap, ◌∙◌, subst, inl, inr, ℕ, suc, ◌+◌, Bool, true, false, List, [], ◌∷◌, ◌++◌, length, reverse, arith, if◌then◌else◌, length-append, append_assoc}
+use Rattle.std.proofs.Common.{◌≡◌, refl, sym, ap, ◌∙◌, subst, inl, inr, ℕ, suc, ◌+◌, Bool, true, false, List, [], ◌∷◌, ◌++◌, ◌==◌, length, reverse, arith, if◌then◌else◌, length-append, append_assoc}
 use Rattle.std.specs.Prelude.{Some, None, filter, flat_map, take, drop, is_some}
 use Rattle.std.specs.List.{AllByRecursion}
 use Rattle.spark_base.specs.declared.position.Pos.{Pos}
-use Rattle.spark_base.specs.Lists.{Has}
 use Rattle.spark_base.proofs.Lists.{Has-append_left, Has-append_right, Has-append_cases, Has-filter}
 use Rattle.typed_tree.specs.Trees.{TypedTree, Name, Component, Designated, Element, Image, Parens, Unary, Binary, Short, IsNull, Aggregate, Alike, New, TypedCode, Declare, Assign, Skip, Output, Input, Release, If, Branch, Case, When, Loop, While, For, Exit, Return, Block}
 use Rattle.typed_tree.specs.Trees as typed
@@ -19,8 +18,8 @@ use Rattle.flow_paths.specs.Laid.{around_body, scope_at_end, procedure_end, func
 use Rattle.flow_paths.specs.Scopes.{taken}
 use Rattle.flow_paths.proofs.Held.{held_count}
 use Rattle.scope_laws.specs.Code.{objects_of}
-use Rattle.scope_laws.specs.Supplied.{temporaries_in, Fills, IsSupplied, IsFilling, AreNone}
-use Rattle.scope_laws.proofs.Lists.{all_both, all_one, all_if, has_reverse}
+use Rattle.scope_laws.specs.Supplied.{temporaries_in, Fills, IsSupplied, IsFilling, AreNone, StartsWithNone}
+use Rattle.scope_laws.proofs.Lists.{all_both, all_one, has_reverse}
 use Rattle.scope_laws.proofs.Ordered.{declared_within_has}
 
 all_left : {A : Type 0} (P : A → Type 0) (xs ys : List A) → AllByRecursion P (xs ++ ys) → AllByRecursion P xs
@@ -365,6 +364,227 @@ module _ (test : ℕ → Bool) where
       when_supplied (When choices stmts) at w k around none = laid_supplied stmts (1 ∷ at) w k around none
       when_supplied _ at w k around none = λ fill. tt
 
+    -- ---- the first point
+
+    abbrev Starts : List NamedPoint → Type 0
+    Starts ps = StartsWithNone test ps
+
+    starts_both : (ps qs : List NamedPoint) → Starts ps → (ps ≡ [] → Starts qs) → Starts (ps ++ qs)
+    starts_both [] qs h g = g refl
+    starts_both (p ∷ ps) qs h g = h
+
+    left_empty : (ps qs : List NamedPoint) → ps ++ qs ≡ [] → ps ≡ []
+    left_empty [] qs e = refl
+    left_empty (p ∷ ps) qs e = cc
+
+    right_empty : (ps qs : List NamedPoint) → ps ++ qs ≡ [] → qs ≡ []
+    right_empty [] qs e = e
+    right_empty (p ∷ ps) qs e = cc
+
+    no_row : (ps : List NamedPoint) (q : NamedPoint) (qs : List NamedPoint) → ps ++ q ∷ qs ≡ [] → ⊥
+    no_row [] q qs e = cc
+    no_row (p ∷ ps) q qs e = cc
+
+    none_held : (xs ys : List ℕ) → xs ≡ [] → ys ≡ [] → ys ++ xs ≡ []
+    none_held xs ys a b = ap (λ zs. zs ++ xs) b ∙ a
+
+    either_held : (b : Bool) (ps qs : List NamedPoint) (xs ys : List ℕ) → (ps ≡ [] → xs ≡ []) → (qs ≡ [] → ys ≡ []) → (if b then ps else qs) ≡ [] → (if b then xs else ys) ≡ []
+    either_held true ps qs xs ys h g e = h e
+    either_held false ps qs xs ys h g e = g e
+
+    -- Where no point comes before a use, nothing waits for it.
+    held_none : (e : TypedTree) (at : Place) (scope : List ℕ) (k : List PointName) → prep s e at scope k ≡ [] → held s e at ≡ []
+    unfolding prep held
+    held_none (typed.Call p sub actuals) at scope k e = absurd (no_row (prep s actuals (0 ∷ at) scope (row_at at 0 ∷ [])) _ [] e)
+    held_none (Short op p a q b) at scope k e =
+        let behind : List NamedPoint = prep s b (1 ∷ at) (with_held s a (0 ∷ at) scope) k in
+        either_held (has_call b) _ (prep s a (0 ∷ at) scope (entry behind k) ++ behind) (s.temporary at ∷ []) (held s b (1 ∷ at) ++ held s a (0 ∷ at))
+        (λ f. absurd (no_row (prep s a (0 ∷ at) scope (row_at at 0 ∷ [])) _ _ f))
+        (λ f. none_held (held s a (0 ∷ at)) (held s b (1 ∷ at)) (held_none a (0 ∷ at) scope (entry behind k) (left_empty (prep s a (0 ∷ at) scope (entry behind k)) behind f))
+        (held_none b (1 ∷ at) (with_held s a (0 ∷ at) scope) k (right_empty (prep s a (0 ∷ at) scope (entry behind k)) behind f)))
+        e
+    held_none (Binary op a b) at scope k e =
+        let behind : List NamedPoint = prep s b (1 ∷ at) (with_held s a (0 ∷ at) scope) k in
+        none_held (held s a (0 ∷ at)) (held s b (1 ∷ at)) (held_none a (0 ∷ at) scope (entry behind k) (left_empty (prep s a (0 ∷ at) scope (entry behind k)) behind e))
+        (held_none b (1 ∷ at) (with_held s a (0 ∷ at) scope) k (right_empty (prep s a (0 ∷ at) scope (entry behind k)) behind e))
+    held_none (typed.More a b) at scope k e =
+        let behind : List NamedPoint = prep s b (1 ∷ at) (with_held s a (0 ∷ at) scope) k in
+        none_held (held s a (0 ∷ at)) (held s b (1 ∷ at)) (held_none a (0 ∷ at) scope (entry behind k) (left_empty (prep s a (0 ∷ at) scope (entry behind k)) behind e))
+        (held_none b (1 ∷ at) (with_held s a (0 ∷ at) scope) k (right_empty (prep s a (0 ∷ at) scope (entry behind k)) behind e))
+    held_none (Element a low high b) at scope k e =
+        let behind : List NamedPoint = prep s b (1 ∷ at) (with_held s a (0 ∷ at) scope) k in
+        none_held (held s a (0 ∷ at)) (held s b (1 ∷ at)) (held_none a (0 ∷ at) scope (entry behind k) (left_empty (prep s a (0 ∷ at) scope (entry behind k)) behind e))
+        (held_none b (1 ∷ at) (with_held s a (0 ∷ at) scope) k (right_empty (prep s a (0 ∷ at) scope (entry behind k)) behind e))
+    held_none (Name p x e t) at scope k none = held_none e (0 ∷ at) scope k none
+    held_none (Component i e) at scope k none = held_none e (0 ∷ at) scope k none
+    held_none (Designated e) at scope k none = held_none e (0 ∷ at) scope k none
+    held_none (Image t e) at scope k none = held_none e (0 ∷ at) scope k none
+    held_none (Parens e) at scope k none = held_none e (0 ∷ at) scope k none
+    held_none (Unary op e) at scope k none = held_none e (0 ∷ at) scope k none
+    held_none (IsNull equal e) at scope k none = held_none e (0 ∷ at) scope k none
+    held_none (Aggregate t e) at scope k none = held_none e (0 ∷ at) scope k none
+    held_none (Alike t e) at scope k none = held_none e (0 ∷ at) scope k none
+    held_none (New t e) at scope k none = held_none e (0 ∷ at) scope k none
+    held_none _ at scope k none = refl
+
+    -- So what stands before those of the second part is as before those of the first one.
+    scope_same : (e : TypedTree) (at : Place) (scope : List ℕ) (k : List PointName) → AreNone test scope → prep s e at scope k ≡ [] → AreNone test (with_held s e at scope)
+    scope_same e at scope k none empty = subst (λ xs. AreNone test (xs ++ scope)) (sym (held_none e at scope k empty)) none
+
+    starts_either : (b : Bool) (ps qs : List NamedPoint) → Starts ps → Starts qs → Starts (if b then ps else qs)
+    starts_either true ps qs h g = h
+    starts_either false ps qs h g = g
+
+    prep_starts : (e : TypedTree) (at : Place) (scope : List ℕ) (k : List PointName) → AreNone test scope → Starts (prep s e at scope k)
+    unfolding prep
+    prep_starts (typed.Call p sub actuals) at scope k none =
+        starts_both (prep s actuals (0 ∷ at) scope (row_at at 0 ∷ [])) _ (prep_starts actuals (0 ∷ at) scope (row_at at 0 ∷ []) none)
+        (λ e. count_none (with_held s actuals (0 ∷ at) scope) (scope_same actuals (0 ∷ at) scope (row_at at 0 ∷ []) none e))
+    prep_starts (Short op p a q b) at scope k none =
+        let behind : List NamedPoint = prep s b (1 ∷ at) (with_held s a (0 ∷ at) scope) k in
+        starts_either (has_call b) _ (prep s a (0 ∷ at) scope (entry behind k) ++ behind)
+        (starts_both (prep s a (0 ∷ at) scope (row_at at 0 ∷ [])) _ (prep_starts a (0 ∷ at) scope (row_at at 0 ∷ []) none)
+        (λ e. count_none (with_held s a (0 ∷ at) scope) (scope_same a (0 ∷ at) scope (row_at at 0 ∷ []) none e)))
+        (starts_both (prep s a (0 ∷ at) scope (entry behind k)) behind (prep_starts a (0 ∷ at) scope (entry behind k) none)
+        (λ e. prep_starts b (1 ∷ at) (with_held s a (0 ∷ at) scope) k (scope_same a (0 ∷ at) scope (entry behind k) none e)))
+    prep_starts (Binary op a b) at scope k none =
+        let behind : List NamedPoint = prep s b (1 ∷ at) (with_held s a (0 ∷ at) scope) k in
+        starts_both (prep s a (0 ∷ at) scope (entry behind k)) behind (prep_starts a (0 ∷ at) scope (entry behind k) none)
+        (λ e. prep_starts b (1 ∷ at) (with_held s a (0 ∷ at) scope) k (scope_same a (0 ∷ at) scope (entry behind k) none e))
+    prep_starts (typed.More a b) at scope k none =
+        let behind : List NamedPoint = prep s b (1 ∷ at) (with_held s a (0 ∷ at) scope) k in
+        starts_both (prep s a (0 ∷ at) scope (entry behind k)) behind (prep_starts a (0 ∷ at) scope (entry behind k) none)
+        (λ e. prep_starts b (1 ∷ at) (with_held s a (0 ∷ at) scope) k (scope_same a (0 ∷ at) scope (entry behind k) none e))
+    prep_starts (Element a low high b) at scope k none =
+        let behind : List NamedPoint = prep s b (1 ∷ at) (with_held s a (0 ∷ at) scope) k in
+        starts_both (prep s a (0 ∷ at) scope (entry behind k)) behind (prep_starts a (0 ∷ at) scope (entry behind k) none)
+        (λ e. prep_starts b (1 ∷ at) (with_held s a (0 ∷ at) scope) k (scope_same a (0 ∷ at) scope (entry behind k) none e))
+    prep_starts (Name p x e t) at scope k none = prep_starts e (0 ∷ at) scope k none
+    prep_starts (Component i e) at scope k none = prep_starts e (0 ∷ at) scope k none
+    prep_starts (Designated e) at scope k none = prep_starts e (0 ∷ at) scope k none
+    prep_starts (Image t e) at scope k none = prep_starts e (0 ∷ at) scope k none
+    prep_starts (Parens e) at scope k none = prep_starts e (0 ∷ at) scope k none
+    prep_starts (Unary op e) at scope k none = prep_starts e (0 ∷ at) scope k none
+    prep_starts (IsNull equal e) at scope k none = prep_starts e (0 ∷ at) scope k none
+    prep_starts (Aggregate t e) at scope k none = prep_starts e (0 ∷ at) scope k none
+    prep_starts (Alike t e) at scope k none = prep_starts e (0 ∷ at) scope k none
+    prep_starts (New t e) at scope k none = prep_starts e (0 ∷ at) scope k none
+    prep_starts _ at scope k none = tt
+
+    uses_starts : (at : Place) (p : Pos) (e : TypedTree) (i : Instruction) (w : Around) (next : List PointName) → AreNone test w.scope → Starts (uses s at p e i w next)
+    uses_starts at p e i w next none =
+        starts_both (prep s e (0 ∷ at) w.scope (row_at at 0 ∷ [])) _ (prep_starts e (0 ∷ at) w.scope (row_at at 0 ∷ []) none)
+        (λ empty. count_none (with_held s e (0 ∷ at) w.scope) (scope_same e (0 ∷ at) w.scope (row_at at 0 ∷ []) none empty))
+
+    two_starts : (x y : Place) (a b : TypedTree) (scope : List ℕ) (k l : List PointName) (q : NamedPoint) → q.scope ≡ with_held s b y (with_held s a x scope) → AreNone test scope
+        → Starts ((prep s a x scope k ++ prep s b y (with_held s a x scope) l) ++ q ∷ [])
+    two_starts x y a b scope k l q is none =
+        let first : List NamedPoint = prep s a x scope k in
+        let second : List NamedPoint = prep s b y (with_held s a x scope) l in
+        starts_both (first ++ second) (q ∷ [])
+        (starts_both first second (prep_starts a x scope k none) (λ e. prep_starts b y (with_held s a x scope) l (scope_same a x scope k none e)))
+        (λ e. ap (λ xs. temporaries_in test xs) is
+        ∙ count_none (with_held s b y (with_held s a x scope))
+        (scope_same b y (with_held s a x scope) l (scope_same a x scope k none (left_empty first second e)) (right_empty first second e)))
+
+    -- Each statement starts so, whatever stands before it.
+    starts_then : (ps qs : List NamedPoint) → Starts ps → Starts qs → Starts (ps ++ qs)
+    starts_then ps qs h g = starts_both ps qs h (λ e. g)
+
+    from_none : (x : ℕ) (scope : List ℕ) → AreNone test scope → AreNone test (from x scope)
+    from_none x [] none = none
+    from_none x (y ∷ rest) none = by (y == x) (from_none x rest (λ z has. none z (inr has)))
+      where
+        by : (b : Bool) → AreNone test (from x rest) → AreNone test (if b then y ∷ rest else from x rest)
+        by true more = none
+        by false more = more
+
+    ends_start : (at : Place) (row : ℕ) (p : Pos) (xs scope : List ℕ) (k : List PointName) → AreNone test scope → Starts (ends at row p xs scope k)
+    ends_start at row p [] scope k none = tt
+    ends_start at row p (x ∷ xs) scope k none = count_none (from x scope) (from_none x scope none)
+
+    mutual
+      unfolding laid laid_branches laid_branch laid_whens laid_when declared_within
+
+      laid_starts : (c : TypedCode) (at : Place) (w : Around) (k : List PointName) → IsAround w → AreNone test (declared_within c) → Starts (laid s c at w k)
+      laid_starts (typed.More a rest) at w k around none =
+          let first = none_left (declared_within a) (declared_within rest) none in
+          let behind : List NamedPoint = laid s rest (1 ∷ at) (with_scope (declared a) w) k in
+          starts_then (laid s a (0 ∷ at) w (entry behind k)) behind (laid_starts a (0 ∷ at) w (entry behind k) around first)
+          (laid_starts rest (1 ∷ at) (with_scope (declared a) w) k (in_scopes (declared a) w (declared_none a first) around) (none_right (declared_within a) (declared_within rest) none))
+      laid_starts (Declare p x v) at w k around none = uses_starts at p v (instruction.Declare x v) w k around.scope
+      laid_starts (Assign p target e) at w k around none =
+          two_starts (1 ∷ at) (0 ∷ at) e target w.scope _ (row_at at 0 ∷ [])
+          (point (row_at at 0) p (instruction.Assign target e) (with_held s target (0 ∷ at) (with_held s e (1 ∷ at) w.scope)) k) refl around.scope
+      laid_starts (Skip p) at w k around none = count_none w.scope around.scope
+      laid_starts (typed.Call p sub actuals) at w k around none = uses_starts at p actuals (instruction.Call sub actuals None) w k around.scope
+      laid_starts (Output p text line) at w k around none = uses_starts at p text (instruction.Output text line) w k around.scope
+      laid_starts (Input p target) at w k around none = uses_starts at p target (instruction.Input target) w k around.scope
+      laid_starts (Release p m) at w k around none = uses_starts at p m (instruction.Release m) w k around.scope
+      laid_starts (If branches otherwise) at w k around none =
+          let behind : List NamedPoint = laid s otherwise (1 ∷ at) w k in
+          starts_then (laid_branches s branches (0 ∷ at) w k (entry behind k)) behind
+          (branches_start branches (0 ∷ at) w k (entry behind k) around (none_left (declared_within branches) (declared_within otherwise) none))
+          (laid_starts otherwise (1 ∷ at) w k around (none_right (declared_within branches) (declared_within otherwise) none))
+      laid_starts (Case p e whens) at w k around none =
+          let behind : List (List NamedPoint) = laid_whens s whens (1 ∷ at) w k in
+          starts_then (uses s at p e (instruction.Choose e (choices_of whens)) w (flat_map (λ ps. entry ps k) behind)) (flat_map (λ ps. ps) behind)
+          (uses_starts at p e (instruction.Choose e (choices_of whens)) w (flat_map (λ ps. entry ps k) behind) around.scope) (whens_start whens (1 ∷ at) w k around none)
+      laid_starts (Loop stmts) at w k around none =
+          laid_starts stmts (0 ∷ at) (within_loop k w) (entry (laid s stmts (0 ∷ at) (within_loop k w) k) k) (in_loops k w around) none
+      laid_starts (While p e stmts) at w k around none =
+          let turn : List PointName = entry (prep s e (0 ∷ at) w.scope (row_at at 0 ∷ [])) (row_at at 0 ∷ []) in
+          let inner : List NamedPoint = laid s stmts (1 ∷ at) (within_loop k w) turn in
+          starts_then (uses s at p e (instruction.Test e) w (entry inner turn ++ k)) inner (uses_starts at p e (instruction.Test e) w (entry inner turn ++ k) around.scope)
+          (laid_starts stmts (1 ∷ at) (within_loop k w) turn (in_loops k w around) none)
+      laid_starts (For p x reversed low high stmts) at w k around none =
+          let next : List PointName = row_at at 1 ∷ [] in
+          starts_then _ _
+          (two_starts (0 ∷ at) (1 ∷ at) low high w.scope _ (row_at at 0 ∷ [])
+          (point (row_at at 0) p (instruction.Start x reversed low high) (with_held s high (1 ∷ at) (with_held s low (0 ∷ at) w.scope)) next) refl around.scope)
+          (count_none (x ∷ w.scope) (none_both (x ∷ []) w.scope (λ y has. elim has [ inl same ↦ none y (inl same) | inr never ↦ absurd never ]) around.scope))
+      laid_starts (Exit p e) at w k around none =
+          let out : List NamedPoint = ends at 1 p w.in_loop w.scope w.leave in
+          starts_then (uses s at p e (instruction.LeaveLoop e) w (entry out w.leave ++ unless_empty e k)) out
+          (uses_starts at p e (instruction.LeaveLoop e) w (entry out w.leave ++ unless_empty e k) around.scope) (ends_start at 1 p w.in_loop w.scope w.leave around.scope)
+      laid_starts (Return p v) at w k around none =
+          starts_both (uses s at p v (instruction.Hold v) w (entry (closing at 1 p w) [])) (closing at 1 p w)
+          (uses_starts at p v (instruction.Hold v) w (entry (closing at 1 p w) []) around.scope)
+          (λ e. absurd (no_row (prep s v (0 ∷ at) w.scope (row_at at 0 ∷ [])) _ [] e))
+      laid_starts (Block n stmts end) at w k around none =
+          let out : List NamedPoint = ends at 0 end (ending s stmts) (reverse (declared stmts) ++ w.scope) k in
+          starts_then (laid s stmts (0 ∷ at) (within_block (ending s stmts) w) (entry out k)) out
+          (laid_starts stmts (0 ∷ at) (within_block (ending s stmts) w) (entry out k) (in_blocks (ending s stmts) w (ending_none stmts none) around) none)
+          (ends_start at 0 end (ending s stmts) (reverse (declared stmts) ++ w.scope) k
+          (none_both (reverse (declared stmts)) w.scope (none_reverse (declared stmts) (declared_none stmts none)) around.scope))
+      laid_starts _ at w k around none = tt
+
+      branches_start : (c : TypedCode) (at : Place) (w : Around) (k otherwise : List PointName) → IsAround w → AreNone test (declared_within c) → Starts (laid_branches s c at w k otherwise)
+      branches_start (typed.More a rest) at w k otherwise around none =
+          let behind : List NamedPoint = laid_branches s rest (1 ∷ at) w k otherwise in
+          starts_then (laid_branch s a (0 ∷ at) w k (entry behind otherwise)) behind
+          (branch_starts a (0 ∷ at) w k (entry behind otherwise) around (none_left (declared_within a) (declared_within rest) none))
+          (branches_start rest (1 ∷ at) w k otherwise around (none_right (declared_within a) (declared_within rest) none))
+      branches_start _ at w k otherwise around none = tt
+
+      branch_starts : (c : TypedCode) (at : Place) (w : Around) (k otherwise : List PointName) → IsAround w → AreNone test (declared_within c) → Starts (laid_branch s c at w k otherwise)
+      branch_starts (Branch p e stmts) at w k otherwise around none =
+          let inner : List NamedPoint = laid s stmts (1 ∷ at) w k in
+          starts_then (uses s at p e (instruction.Test e) w (entry inner k ++ otherwise)) inner
+          (uses_starts at p e (instruction.Test e) w (entry inner k ++ otherwise) around.scope) (laid_starts stmts (1 ∷ at) w k around none)
+      branch_starts _ at w k otherwise around none = tt
+
+      whens_start : (c : TypedCode) (at : Place) (w : Around) (k : List PointName) → IsAround w → AreNone test (declared_within c) → Starts (flat_map (λ ps. ps) (laid_whens s c at w k))
+      whens_start (typed.More a rest) at w k around none =
+          starts_then (laid_when s a (0 ∷ at) w k) (flat_map (λ ps. ps) (laid_whens s rest (1 ∷ at) w k))
+          (when_starts a (0 ∷ at) w k around (none_left (declared_within a) (declared_within rest) none))
+          (whens_start rest (1 ∷ at) w k around (none_right (declared_within a) (declared_within rest) none))
+      whens_start _ at w k around none = tt
+
+      when_starts : (c : TypedCode) (at : Place) (w : Around) (k : List PointName) → IsAround w → AreNone test (declared_within c) → Starts (laid_when s c at w k)
+      when_starts (When choices stmts) at w k around none = laid_starts stmts (1 ∷ at) w k around none
+      when_starts _ at w k around none = tt
+
     -- ---- subprograms
 
     module _ (sub : TypedSub) (none : AreNone test (objects_of sub)) where
@@ -393,3 +613,23 @@ module _ (test : ℕ → Bool) where
 
       pub elaboration_supplied : Filling (elaboration_points s sub) → Supplied (elaboration_points s sub)
       elaboration_supplied = body_supplied [] (λ fill. tt)
+
+      scope_none : AreNone test (scope_at_end sub)
+      scope_none = none_both (reverse (declared sub.body)) (reverse sub.formals) (none_reverse (declared sub.body) (declared_none sub.body body_none)) formals_none
+
+      end_starts : (b : Bool) → Starts (if b then function_end sub else procedure_end s sub)
+      end_starts true = count_none (scope_at_end sub) scope_none
+      end_starts false =
+          let finish : PointName = row_at [] (length (ending s sub.body)) in
+          starts_then (ends [] 0 sub.end (ending s sub.body) (scope_at_end sub) (finish ∷ [])) (point finish sub.end Finish (reverse sub.formals) [] ∷ [])
+          (ends_start [] 0 sub.end (ending s sub.body) (scope_at_end sub) (finish ∷ []) scope_none) (count_none (reverse sub.formals) formals_none)
+
+      pub sub_starts : Starts (sub_points s sub)
+      sub_starts =
+          let end : List NamedPoint = if is_some sub.result then function_end sub else procedure_end s sub in
+          starts_then (laid s sub.body (0 ∷ []) (around_body s sub) (entry end [])) end (laid_starts sub.body (0 ∷ []) (around_body s sub) (entry end []) around body_none)
+          (end_starts (is_some sub.result))
+
+      pub elaboration_starts : Starts (elaboration_points s sub)
+      elaboration_starts =
+          starts_then (laid s sub.body (0 ∷ []) (around_body s sub) (entry [] [])) [] (laid_starts sub.body (0 ∷ []) (around_body s sub) (entry [] []) around body_none) tt

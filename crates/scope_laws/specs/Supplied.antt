@@ -36,3 +36,8 @@ IsFilling held p = FillsOne held p.instr
 -- None of some objects is a temporary.
 abbrev pub AreNone : (ℕ → Bool) → List ℕ → Type 0
 AreNone held xs = (x : ℕ) → Has xs x → held x ≡ false
+
+-- No temporary is in scope at the first point.
+abbrev pub StartsWithNone : (ℕ → Bool) → List NamedPoint → Type 0
+StartsWithNone held [] = Unit {0}
+StartsWithNone held (p ∷ rest) = temporaries_in held p.scope ≡ 0
