@@ -8,4 +8,5 @@ pub mod Seen
 -- temporaries in scope
 pub mod Supplied
 pub mod Filled
+pub mod Relaid
 pub mod Temporaries

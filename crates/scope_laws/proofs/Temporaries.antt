@@ -1,21 +1,26 @@
 -- Of a laid out program: at each point of a subprogram the temporaries that its instruction takes are the last ones in
--- scope, and at its first point there is none.
+-- scope, at its first point there is none, and what is in scope goes on from point to point.
 use Rattle.std.proofs.Common.{◌≡◌, refl, sym, ap, ◌∙◌, subst, inl, inr, ℕ, ◌+◌, ◌<◌, ◌≤◌, Bool, true, false, not, ◌&&◌, ◌||◌, List, [], ◌∷◌, ◌++◌, map, length}
 use Rattle.std.specs.List.{AllByRecursion}
 use Rattle.spark_base.specs.Lists.{Has}
-use Rattle.spark_base.proofs.Lists.{Has-append_cases}
+use Rattle.spark_base.proofs.Lists.{Has-append_right, Has-append_cases}
 use Rattle.type_definitions.specs.Types.{Table}
 use Rattle.typed_tree.specs.declared.object.Object.{Object}
 use Rattle.typed_tree.specs.Trees.{TypedCode, Declare, If, Branch, Case, When, Loop, While, For, Block, More}
 use Rattle.typed_tree.specs.Programs.{TypedSub, TypedProgram, text_io}
-use Rattle.flow_paths.specs.Objects.{Typing, object_at, has_scope_end}
+use Rattle.type_definitions.specs.Types.{full, is_owning}
+use Rattle.flow_paths.specs.Objects.{Typing, object_at, is_anonymous, has_scope_end}
+use Rattle.flow_paths.specs.Points.{Place}
 use Rattle.flow_paths.specs.Prep.{Setting}
 use Rattle.flow_paths.specs.Laid.{all_named, temporary_object, declared_within, numbers_from, unnumbered, elaboration_points, sub_temporaries, NamedSub, named_subs, typing_of, flow_typing, flow_program, flow_named}
-use Rattle.flow_paths.specs.Scopes.{is_temporary, is_declaration, is_undeclaring, is_settled}
+use Rattle.flow_paths.specs.Scopes.{Differ, ScopesHold, is_temporary, is_declaration, is_undeclaring, is_settled}
+use Rattle.flow_paths.proofs.PointsDiffer.{points_differ, package_points_differ}
+use Rattle.flow_paths.proofs.ScopesHold.{scopes_hold, package_scopes_hold}
 use Rattle.scope_laws.specs.Code.{objects_of}
 use Rattle.scope_laws.specs.Supplied.{IsSupplied, IsFilling, AreNone, StartsWithNone}
 use Rattle.scope_laws.proofs.Lists.{and_first, and_second}
 use Rattle.scope_laws.proofs.Filled.{temporaries_of, named_filled, temporary_there, object_before}
+use Rattle.scope_laws.proofs.Relaid.{after, before, AreAlike, sub_same, elaboration_same, settled_same}
 use Rattle.scope_laws.proofs.Supplied.{sub_supplied, elaboration_supplied, sub_starts, elaboration_starts}
 
 -- ---- declared objects
@@ -117,3 +122,51 @@ module _ (table : Table) (typed : TypedProgram) where
             (elaboration_supplied is_held (unnumbered s) sub none (first sub rest refl), elaboration_starts is_held (unnumbered s) sub none)
         by (sub ∷ rest) same first held (inr more) =
             each_supplied (length typed.objects) rest (λ x there. subst (λ xs. Has xs x) (sym same) (inr there)) held named more
+
+    -- ---- from point to point
+
+    abbrev y : Typing
+    y = flow_typing (flow_program table typed)
+
+    same_object : (x : ℕ) → x < length typed.objects → object_at y x ≡ object_at s x
+    unfolding flow_program
+    same_object x less = object_before typed.objects (map temporary_object (temporaries_of (flow_named table typed))) x text_io less
+
+    alike_at : (x : ℕ) → object_at y x ≡ object_at s x → (has_scope_end y x ≡ has_scope_end s x) × ((object_at y x).kind ≡ (object_at s x).kind)
+    unfolding flow_program
+    alike_at x same = (ap (λ (o : Object). is_owning table o.of || is_anonymous (full table o.of)) same, ap (λ (o : Object). o.kind) same)
+
+    alike : (f : Place → ℕ) (sub : TypedSub) → Has typed.subs sub → AreAlike y s f (declared_within sub.body)
+    alike f sub has x there = alike_at x (same_object x (numbered sub has x (Has-append_right sub.formals (declared_within sub.body) x there)))
+
+    settled_so : (f : Place → ℕ) (sub : TypedSub) → Has typed.subs sub → is_settled y sub.body ≡ true
+    settled_so f sub has = settled_same y s f sub.body (alike f sub has) ∙ settled sub has
+
+    abbrev Goes : NamedSub → Type 0
+    Goes named = Differ named.points × ScopesHold y named.points
+
+    sub_goes : (n : ℕ) (subs : List TypedSub) → ((sub : TypedSub) → Has subs sub → Has typed.subs sub) → (named : NamedSub) → Has (named_subs s n subs) named → Goes named
+    sub_goes n [] among named has = absurd has
+    sub_goes n (sub ∷ rest) among named (inr more) = sub_goes (n + length (sub_temporaries s sub)) rest (λ x there. among x (inr there)) named more
+    sub_goes n (sub ∷ rest) among named (inl is) =
+        let f : Place → ℕ = numbers_from n (sub_temporaries s sub) in
+        let known = among sub (inl refl) in
+        subst Goes is (
+          points_differ (before y s f) sub,
+          subst (ScopesHold y) (sub_same y s f sub (alike f sub known)) (scopes_hold (after y s f) sub (settled_so f sub known)),
+        )
+
+    -- What is in scope goes on, by what is known of the program with its temporaries.
+    pub named_goes : (named : NamedSub) → Has (flow_named table typed) named → Differ named.points × ScopesHold y named.points
+    named_goes named has = by typed.subs refl has
+      where
+        by : (subs : List TypedSub) → typed.subs ≡ subs → Has (all_named s subs) named → Goes named
+        by [] same has = absurd has
+        by (sub ∷ rest) same (inl is) =
+            let f : Place → ℕ = λ at. 0 in
+            let known : Has typed.subs sub = subst (λ xs. Has xs sub) (sym same) (inl refl) in
+            subst Goes is (
+              package_points_differ (before y s f) sub,
+              subst (ScopesHold y) (elaboration_same y s f sub (alike f sub known)) (package_scopes_hold (after y s f) sub (settled_so f sub known)),
+            )
+        by (sub ∷ rest) same (inr more) = sub_goes (length typed.objects) rest (λ x there. subst (λ xs. Has xs x) (sym same) (inr there)) named more
