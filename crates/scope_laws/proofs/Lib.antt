@@ -10,3 +10,5 @@ pub mod Supplied
 pub mod Filled
 pub mod Relaid
 pub mod Temporaries
+-- what follows a return
+pub mod Returning
