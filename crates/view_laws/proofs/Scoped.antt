@@ -26,7 +26,8 @@ use Rattle.flow_paths.specs.Scopes.{is_within, is_ready}
 use Rattle.machine.specs.States.{sub_of}
 use Rattle.machine.specs.Typed.{successors}
 use Rattle.soundness.specs.Sound.{IsNamedSub, IsProcedure, calls_procedures}
-use Rattle.soundness.specs.Ready.{root_of, stored_at, AreScoped, AreNew, AreElaborated, AreCalled}
+use Rattle.soundness.specs.Ready.{root_of, stored_at, AreNew}
+use Rattle.viewed_steps.specs.Ready.{AreScoped, AreElaborated, AreCalled}
 use Rattle.soundness.proofs.Points.{IsLaid, all_laid, flow_at, typing_same, sub_there, named_has}
 use Rattle.scope_laws.specs.Code.{roots, are_seen}
 use Rattle.scope_laws.specs.Order.{IsCounted, IsOrdered, named_in, IsSeen}

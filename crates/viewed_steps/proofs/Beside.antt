@@ -27,7 +27,8 @@ use Rattle.soundness.specs.Sound.{calls_nothing}
 use Rattle.soundness.proofs.Contents.{bool_cases}
 use Rattle.soundness.proofs.Memories.{put_other, removed_other}
 use Rattle.soundness.proofs.Fading.{FadesTo, Fades, still, then_fades, if_fades, checked_fades, fades, steps_fade}
-use Rattle.soundness.proofs.Onward.{Each, Gets}
+use Rattle.soundness.proofs.Following.{Each}
+use Rattle.soundness.proofs.Onward.{Gets}
 use Rattle.soundness.proofs.Scoped.{IsFrom, LeadsFrom, walked_from}
 
 -- The first words of the variables of other frames stay.

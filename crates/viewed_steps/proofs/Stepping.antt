@@ -43,8 +43,8 @@ use Rattle.owned_ways.proofs.Locations.{reaches_along, named_along as rooted_alo
 use Rattle.soundness.specs.Seen.{IsNear, is_view_formal, content, word_in, seen, home, trunk}
 use Rattle.soundness.specs.Typed.{Kept}
 use Rattle.typed_laws.specs.Needed.{IsFine, Source, FirstSource, FirstWrites, FirstStays}
-use Rattle.soundness.specs.Sound.{calls_nothing, calls_procedures, Stage, facts_of, AreStages, AreCopied, IsPlain, IsResting, IsProcedure, InScope, IsNamedSub, IsAtPoint, view_of as view_here}
-use Rattle.soundness.specs.Ready.{stored_at, IsCalled}
+use Rattle.soundness.specs.Sound.{calls_nothing, calls_procedures, Stage, facts_of, AreStages, AreCopied, IsPlain, IsProcedure, InScope, IsNamedSub, IsAtPoint, view_of as view_here}
+use Rattle.soundness.specs.Ready.{stored_at}
 use Rattle.soundness.proofs.Contents.{bool_cases, word_no, word_root}
 use Rattle.soundness.proofs.Steps.{no_leaf}
 use Rattle.soundness.proofs.Stays.{Quiet}
@@ -69,8 +69,8 @@ use Rattle.viewed_soundness.specs.Holds.{IsNamed, Holds, AllKeep}
 use Rattle.viewed_soundness.proofs.Names.{plain_named, true_false}
 use Rattle.viewed_soundness.proofs.Evaluated.{live_trunk, keep_both}
 use Rattle.viewed_soundness.proofs.Outcomes.{named_plain, IsGood, Turned, Leads_on, Is_left, raises, start_is, hands_behind, test_leads, choose_leads, assign_leads}
-use Rattle.viewed_steps.specs.Sound.{Lasts, HoldsAt, ArePlaced, NoneAbove, ViewStage, stages_of, GoneElsewhere, AreOwn, IsWaiting, IsFirst, AreWaiting, IsRunning, IsSound, LeadsOn, StepsLeadOn}
-use Rattle.viewed_steps.specs.Ready.{AreOrderly, IsReady}
+use Rattle.viewed_steps.specs.Sound.{IsResting, Lasts, HoldsAt, ArePlaced, NoneAbove, ViewStage, stages_of, GoneElsewhere, AreOwn, IsWaiting, IsFirst, AreWaiting, IsRunning, IsSound, LeadsOn, StepsLeadOn}
+use Rattle.viewed_steps.specs.Ready.{IsCalled, AreOrderly, IsReady}
 use Rattle.viewed_steps.proofs.Declared.{IsElsewhere, OthersStay, not_gone, declare_leads, others_stay}
 use Rattle.viewed_steps.proofs.Released.{release_leads}
 use Rattle.viewed_steps.proofs.Read.{scalar_named, input_leads}

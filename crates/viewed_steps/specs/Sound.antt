@@ -22,13 +22,13 @@ use Rattle.flow_paths.specs.Scopes.{is_within}
 use Rattle.flow_paths.specs.Views.{encloses, scope_of}
 use Rattle.machine.specs.Words.{Cell}
 use Rattle.machine.specs.Memory.{Memory, variable_slots, no_slot}
-use Rattle.machine.specs.States.{State, Outcome, Goes, Ends, sub_of}
+use Rattle.machine.specs.States.{Return, State, Outcome, Goes, Ends, sub_of}
 use Rattle.machine.specs.Owners.{WellOwned, waiting_in}
 use Rattle.machine.specs.Run.{step}
 use Rattle.owned_ways.specs.Ways.{Step, OfVariable, OfRoot, Held, Way, name_of, number_of}
 use Rattle.soundness.specs.Seen.{content, word_in, home}
 use Rattle.soundness.specs.Typed.{Kept}
-use Rattle.soundness.specs.Sound.{calls_procedures, AreCopied, IsResting, IsNamedSub, IsAtPoint, IsProcedure, Stage, facts_of, AreStages, IsPlain, InScope, IsTrap}
+use Rattle.soundness.specs.Sound.{calls_procedures, AreCopied, IsCopied, IsNamedSub, IsAtPoint, IsProcedure, Stage, facts_of, AreStages, IsPlain, InScope, IsTrap}
 use Rattle.soundness.specs.Sound as owners
 use Rattle.owned_loans.specs.Views.{known_gone, Views, IsMovedBy, AreClear, AreViews, Viewed}
 use Rattle.viewed_soundness.specs.Holds.{PartsAreNamed}
@@ -90,6 +90,10 @@ NoneAbove s depth m =
     (f x n : ℕ) → depth < f → is_anonymous (view_of s x) ≡ true → (get_or (variable_slots s f x m.variables) 0 no_slot).word ≡ Cell n → ⊥
 
 -- ---- frames that wait
+
+-- Nothing waits in a frame between two steps, and nothing that owns is copied back.
+abbrev pub IsResting : Typing → Stage → Type 0
+IsResting s g = (g.frame.waits ≡ []) × ((r : Return) → Has g.frame.returns r → IsCopied s r) × (g.returns ≡ [])
 
 -- A frame with its executed points and the ways of its views.
 pub record ViewStage : Type 0 where
