@@ -2,5 +2,13 @@
 pub mod Named
 -- codes
 pub mod Words
--- places
+-- places, and what stands there
 pub mod Places
+pub mod Standing
+-- lists of words in which some are replaced
+pub mod Lists
+-- what changes in the stack
+pub mod Stacks
+-- what changes in cells
+pub mod Cells
+pub mod Moves

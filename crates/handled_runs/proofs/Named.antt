@@ -16,13 +16,13 @@ use Rattle.handled_runs.specs.Looks.{IsData, IsKept, Reaches}
 
 -- ---- values
 
-kind_same : (a k : Kind) → same_kind a k ≡ true → a ≡ k
+pub kind_same : (a k : Kind) → same_kind a k ≡ true → a ≡ k
 kind_same sort.Int sort.Int e = refl
 kind_same sort.Enum sort.Enum e = refl
 kind_same sort.Access sort.Access e = refl
 kind_same a k e = cc
 
-kind_handled : (handles : List ℕ) (v : Value) → kind (handled handles v) ≡ kind v
+pub kind_handled : (handles : List ℕ) (v : Value) → kind (handled handles v) ≡ kind v
 kind_handled handles (value.Int i) = refl
 kind_handled handles (value.Enum n) = refl
 kind_handled handles value.Null = refl
@@ -32,7 +32,7 @@ kind_handled handles (value.Cell n) = by (nat_lt n gone_from)
     by true = refl
     by false = refl
 
-value_renamed : (handles : List ℕ) (v : Value) → slot_word (handled handles v) ≡ renamed handles (kind v) (word_of v)
+pub value_renamed : (handles : List ℕ) (v : Value) → slot_word (handled handles v) ≡ renamed handles (kind v) (word_of v)
 value_renamed handles (value.Int i) = refl
 value_renamed handles (value.Enum n) = refl
 value_renamed handles value.Null = refl

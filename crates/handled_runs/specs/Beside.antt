@@ -1,5 +1,5 @@
 -- How words over a heap that uses its slots again follow those over numbers that are never used again.
-use Rattle.std.specs.Prelude.{◌≡◌, ℕ, zero, suc, List, [], ◌∷◌, length, get_or, ℤ, pos, negsuc}
+use Rattle.std.specs.Prelude.{◌≡◌, ◌<◌, ℕ, zero, suc, List, [], ◌∷◌, length, get_or, ℤ, pos, negsuc}
 use Rattle.run_values.specs.declared.value.Kind.{Kind}
 use Rattle.run_values.specs.declared.value.Kind.TheVariants as sort
 use Rattle.run_codes.specs.Flat.{Flat, Got, Given, Stops, Broken, Spot, InStack, InCell}
@@ -26,6 +26,18 @@ abbrev pub spot_renamed : List ℕ → Spot → Spot
 spot_renamed handles (InStack n) = InStack n
 spot_renamed handles (InCell n o) = InCell (get_or handles n 0) o
 
+-- What is named has a number below a bound.
+abbrev pub NamesWord : ℕ → Kind → ℤ → Type 0
+NamesWord bound sort.Access (pos (suc n)) = n < bound
+NamesWord bound sort.Access (pos zero) = Unit {0}
+NamesWord bound sort.Access (negsuc n) = Unit {0}
+NamesWord bound sort.Int z = Unit {0}
+NamesWord bound sort.Enum z = Unit {0}
+
+abbrev pub NameWords : ℕ → List Kind → List ℤ → Type 0
+NameWords bound (k ∷ ks) (z ∷ zs) = NamesWord bound k z × NameWords bound ks zs
+NameWords bound ks zs = Unit {0}
+
 -- What is given, as it is named there.
 abbrev pub mapped : {A B : Type 0} → (A → B) → Got A → Got B
 mapped f (Given a) = Given (f a)
@@ -41,3 +53,6 @@ pub record Beside (handles : List ℕ) (kinds taken : List Kind) (m : Flat) (s :
   pub live : s.live ≡ m.live
   pub rest : s.rest ≡ m.rest
   pub cells : Follows handles m.cells s.heap
+  -- access values name cells that were made
+  pub names : NameWords (length handles) kinds m.stack
+  pub waiting_names : NameWords (length handles) taken m.waits

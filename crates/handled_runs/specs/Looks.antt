@@ -2,7 +2,7 @@
 --
 -- Each word that it reads has the kind that the code is of. Where it looks at an access value, that isn't gone; where
 -- it goes through one, the cell isn't freed.
-use Rattle.std.specs.Prelude.{◌≡◌, ℕ, zero, suc, ◌+◌, ◌&&◌, true, false, List, slice_get, nat_lt, Some, ℤ, pos, negsuc, unsigned_abs}
+use Rattle.std.specs.Prelude.{◌≡◌, ℕ, zero, suc, ◌+◌, ◌&&◌, true, false, List, [], ◌∷◌, slice_get, nat_lt, Some, ℤ, pos, negsuc, unsigned_abs}
 use Rattle.run_values.specs.declared.value.Value.{Value}
 use Rattle.run_values.specs.declared.value.Kind.{Kind}
 use Rattle.run_values.specs.declared.value.Kind.TheVariants as sort
@@ -64,3 +64,21 @@ LooksAt m kinds taken (InPackages at i) = Looks m kinds taken i sort.Int
 LooksAt m kinds taken (Behind p at i) =
     Looks m kinds taken i sort.Int × Looks m kinds taken p sort.Access
     × ((o z : ℤ) → word m i ≡ Given o → word m p ≡ Given z → Reaches m.cells (at + unsigned_abs o) z)
+
+-- ---- words of a type
+
+-- The kinds at the front are these.
+abbrev pub IsFront : List Kind → List Kind → Type 0
+IsFront [] js = Unit {0}
+IsFront (k ∷ ks) [] = ⊥
+IsFront (k ∷ ks) (j ∷ js) = (k ≡ j) × IsFront ks js
+
+-- No access value among words of these kinds is gone.
+abbrev pub IsKeptAs : Kind → ℤ → Type 0
+IsKeptAs sort.Access z = IsKept z
+IsKeptAs sort.Int z = Unit {0}
+IsKeptAs sort.Enum z = Unit {0}
+
+abbrev pub AreKept : List Kind → List ℤ → Type 0
+AreKept (k ∷ ks) (z ∷ zs) = IsKeptAs k z × AreKept ks zs
+AreKept ks zs = Unit {0}

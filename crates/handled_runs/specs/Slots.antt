@@ -2,7 +2,7 @@
 --
 -- A word is a value of Integer, a position, or an access value: 0 for null, and else the handle of a cell and 1. A
 -- place that an access value was moved from holds null.
-use Rattle.std.specs.Prelude.{ℕ, zero, suc, ◌+◌, not, List, length, slice_get, nat_le, Option, Some, None, ℤ, pos, unsigned_abs, if◌then◌else◌}
+use Rattle.std.specs.Prelude.{ℕ, zero, suc, ◌+◌, not, List, [], ◌∷◌, drop, length, map, slice_get, nat_le, Option, Some, None, ℤ, pos, unsigned_abs, if◌then◌else◌}
 use Rattle.run_values.specs.declared.value.Value.{Value}
 use Rattle.run_values.specs.declared.value.Value.TheVariants as value
 use Rattle.run_values.specs.declared.value.Kind.{Kind}
@@ -10,7 +10,7 @@ use Rattle.run_values.specs.Values.{kind}
 use Rattle.run_values.specs.Items.{at_end}
 use Rattle.slot_heap.specs.Heaps.{Heap, word_at, words_at}
 use Rattle.run_codes.specs.Codes.{Code, Number, Local, Global, Via, Scaled, Plus, Unary, Binary, Short, IsNull, Waiting, EndOfFile, Nothing, Place, InFrame, InPackages, Behind}
-use Rattle.run_codes.specs.Flat.{Got, Given, Stops, Broken, and_then, found, same_kind, constraint, truth, is_zero, operated, operated_alone, decides, offset, scaled, Spot, InStack, InCell}
+use Rattle.run_codes.specs.Flat.{Got, Given, Stops, Broken, and_then, found, same_kind, have_kinds, constraint, truth, is_zero, operated, operated_alone, decides, offset, scaled, Spot, InStack, InCell}
 
 -- The words of all frames, and where the one that runs begins; the heap, and how many words its cells have; the words
 -- of the values that the point takes; and the rest of the input.
@@ -87,3 +87,20 @@ spot s (InFrame at i) = and_then (word s i) (λ o. stack_spot s (s.base + at + u
 spot s (InPackages at i) = and_then (word s i) (λ o. stack_spot s (at + unsigned_abs o))
 spot s (Behind p at i) =
     and_then (indexes s p) (λ x. and_then (word s i) (λ o. and_then (word s p) (λ w. cell_spot s (at + unsigned_abs o) (unsigned_abs w))))
+
+-- ---- what stands at a place
+
+-- As many words as there are kinds.
+abbrev pub front : List Kind → List ℤ → Got (List ℤ)
+front [] zs = Given []
+front (k ∷ ks) [] = Broken
+front (k ∷ ks) (z ∷ zs) = and_then (front ks zs) (λ more. Given (z ∷ more))
+
+abbrev pub cell_words : List Kind → ℕ → Option (List Value) → Got (List ℤ)
+cell_words ks o None = Broken
+cell_words ks o (Some ws) = if have_kinds ks (drop o ws) then front ks (drop o (map slot_word ws)) else Broken
+
+-- The words of these kinds at a spot.
+abbrev pub held : Slots → Spot → List Kind → Got (List ℤ)
+held s (InStack n) ks = front ks (drop n s.stack)
+held s (InCell h o) ks = cell_words ks o (words_at s.heap.cells h)
