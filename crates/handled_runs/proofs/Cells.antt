@@ -76,20 +76,20 @@ values_name bound [] zs names = tt
 values_name bound (k ∷ ks) [] names = tt
 values_name bound (k ∷ ks) (z ∷ zs) names = (value_names bound k z names.0, values_name bound ks zs names.1)
 
--- ---- one handle more
+-- ---- more handles
 
-module _ (handles : List ℕ) (h : ℕ) where
+module _ (handles added : List ℕ) where
   abbrev more : List ℕ
-  more = handles ++ h ∷ []
+  more = handles ++ added
 
   word_on : (k : Kind) (z : ℤ) → NamesWord (length handles) k z → renamed handles k z ≡ renamed more k z
   word_on sort.Int z is = refl
   word_on sort.Enum z is = refl
   word_on sort.Access (pos zero) is = refl
-  word_on sort.Access (pos (suc n)) is = ap (λ x. pos (suc x)) (sym (get_or_append_left handles (h ∷ []) 0 n is))
+  word_on sort.Access (pos (suc n)) is = ap (λ x. pos (suc x)) (sym (get_or_append_left handles added 0 n is))
   word_on sort.Access (negsuc n) is = refl
 
-  words_on : (ks : List Kind) (zs : List ℤ) → NameWords (length handles) ks zs → all_renamed handles ks zs ≡ all_renamed more ks zs
+  pub words_on : (ks : List Kind) (zs : List ℤ) → NameWords (length handles) ks zs → all_renamed handles ks zs ≡ all_renamed more ks zs
   words_on [] zs names = refl
   words_on (k ∷ ks) [] names = refl
   words_on (k ∷ ks) (z ∷ zs) names = ap (λ w. w ∷ all_renamed handles ks zs) (word_on k z names.0) ∙ ap (λ ws. renamed more k z ∷ ws) (words_on ks zs names.1)
@@ -98,10 +98,10 @@ module _ (handles : List ℕ) (h : ℕ) where
   name_on sort.Int z is = tt
   name_on sort.Enum z is = tt
   name_on sort.Access (pos zero) is = tt
-  name_on sort.Access (pos (suc n)) is = let long = length-append handles (h ∷ []) in omega (arith, is, long)
+  name_on sort.Access (pos (suc n)) is = let long = length-append handles added in omega (arith, is, long)
   name_on sort.Access (negsuc n) is = tt
 
-  names_on : (ks : List Kind) (zs : List ℤ) → NameWords (length handles) ks zs → NameWords (length more) ks zs
+  pub names_on : (ks : List Kind) (zs : List ℤ) → NameWords (length handles) ks zs → NameWords (length more) ks zs
   names_on [] zs names = tt
   names_on (k ∷ ks) [] names = tt
   names_on (k ∷ ks) (z ∷ zs) names = (name_on k z names.0, names_on ks zs names.1)
@@ -180,20 +180,20 @@ module _ (handles : List ℕ) (kinds taken : List Kind) (m : Flat) (s : Slots) (
   }
 
   -- A cell is made, with a handle that no cell has.
-  new_beside : (h : ℕ) (ks : List Kind) (zs : List ℤ) → words_at s.heap.cells h ≡ None → NameWords (length handles) ks zs → are_words ks zs ≡ true
+  pub new_beside : (h : ℕ) (ks : List Kind) (zs : List ℤ) → words_at s.heap.cells h ≡ None → NameWords (length handles) ks zs → are_words ks zs ≡ true
       → Beside (handles ++ h ∷ []) kinds taken (with_cell m (values ks zs)) (changes.made s h ks (all_renamed handles ks zs))
   new_beside h ks zs new names are =
       let long = words_long ks zs are in record {
-        stack = beside.stack ∙ words_on handles h kinds m.stack beside.names;
+        stack = beside.stack ∙ words_on handles (h ∷ []) kinds m.stack beside.names;
         known = beside.known;
-        waits = beside.waits ∙ words_on handles h taken m.waits beside.waiting_names;
+        waits = beside.waits ∙ words_on handles (h ∷ []) taken m.waits beside.waiting_names;
         base = beside.base;
         live = ap (λ l. l + length (all_renamed handles ks zs)) beside.live ∙ ap (λ l. m.live + l) (long_renamed handles ks zs long ∙ sym (values_long ks zs long));
         rest = beside.rest;
         cells = subst (λ vs. Follows (handles ++ h ∷ []) (numbered.allocated m.cells (values ks zs)) (allocated s.heap h vs)) (sym (values_handled handles ks zs are))
             (follows-allocated handles m.cells s.heap h (values ks zs) new (values_name (length handles) ks zs names) beside.cells);
-        names = names_on handles h kinds m.stack beside.names;
-        waiting_names = names_on handles h taken m.waits beside.waiting_names;
+        names = names_on handles (h ∷ []) kinds m.stack beside.names;
+        waiting_names = names_on handles (h ∷ []) taken m.waits beside.waiting_names;
       }
 
   -- The access value that designates it has its number, which is the next one.

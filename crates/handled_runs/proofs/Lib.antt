@@ -12,3 +12,10 @@ pub mod Stacks
 -- what changes in cells
 pub mod Cells
 pub mod Moves
+-- what is read names cells that were made
+pub mod Names
+-- copies and moves
+pub mod There
+-- values
+pub mod Outcomes
+pub mod Filled

@@ -5,3 +5,6 @@ pub mod Changes
 pub mod Beside
 -- what is asked of what is read
 pub mod Looks
+-- values, and the same outcome
+pub mod Values
+pub mod Alike

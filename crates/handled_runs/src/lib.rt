@@ -8,5 +8,6 @@
 //! both stand beside each other (`specs/Beside.antt`), and what is read has the kind that the code is of,
 //! is in no freed cell and isn't gone (`specs/Looks.antt`), both give the same, but for these names
 //! (`proofs/Words.antt`, `Places.antt`, `Standing.antt`), and each change leaves them beside each other
-//! (`Stacks.antt`, `Cells.antt`, `Moves.antt`). Nothing here runs.
+//! (`Stacks.antt`, `Cells.antt`, `Moves.antt`). So it is with values, which may move and make
+//! (`specs/Values.antt`, `Alike.antt`, `proofs/Filled.antt`). Nothing here runs.
 #![tactic(auto)]
