@@ -1,5 +1,5 @@
--- Borrowers and observers of files that break no rule are in order. Where there are no formals, nothing is called and
--- nothing is reported, the runs of their program are sound.
+-- Borrowers and observers of files that break no rule are in order, and the runs of their program are sound where
+-- nothing is reported: without formals and calls, or where procedures are called.
 use Rattle.std.proofs.Common.{◌≡◌, refl, sym, ap, ◌∙◌, subst, ℕ, Bool, true, false, List, [], ◌∷◌, Option, Some, None}
 use Rattle.spark_base.specs.Lists.{Has}
 use Rattle.ada_lexer.specs.Tokens.{Cut}
@@ -15,8 +15,8 @@ use Rattle.type_definitions.specs.declared.table.Shape.{Shape}
 use Rattle.type_definitions.specs.declared.table.Shape.TheVariants as shape
 use Rattle.type_definitions.specs.declared.judgement.View.{View}
 use Rattle.type_definitions.specs.declared.judgement.View.TheVariants as view
-use Rattle.type_definitions.specs.Types.{Table, full, shape_of}
-use Rattle.type_definitions.specs.Entries.{integer, marked}
+use Rattle.type_definitions.specs.Types.{Table, full, shape_of, words, words_of}
+use Rattle.type_definitions.specs.Entries.{integer, boolean, marked}
 use Rattle.type_definitions.specs.Expressions.{is_anonymous}
 use Rattle.type_definitions.specs.Whole.{outside, known_of, type_fault}
 use Rattle.type_rules.proofs.Formed.{files_formed}
@@ -43,16 +43,17 @@ use Rattle.gathered_laws.specs.Made.{IsMade}
 use Rattle.gathered_laws.specs.Views.{AreViews}
 use Rattle.gathered_laws.proofs.Parts as parts
 use Rattle.anonymous_types.proofs.Main as anonymous
-use Rattle.typed_laws.specs.Fine.{Laws, counts}
+use Rattle.typed_laws.specs.Fine.{Laws, counts, lists}
+use Rattle.typed_steps.specs.Steps.{AreTyped as AreStepsTyped}
 use Rattle.typed_points.specs.Meant.{AreMeantUnits, typing_meant}
 use Rattle.soundness.specs.Typed.{OwnsByShape}
 use Rattle.soundness.specs.Sound.{Accepted, calls_nothing, RunIsSound}
 use Rattle.soundness.proofs.Points.{flow_table, typing_same}
 use Rattle.soundness.proofs.Successors.{nothing_procedures}
 use Rattle.viewed_soundness.specs.Holds.{PartsAreNamed}
-use Rattle.ready_laws.specs.InOrder.{IsInOrder}
+use Rattle.ready_laws.specs.InOrder.{IsInOrder, AreCallees, ArePassed}
 use Rattle.ready_laws.proofs.Temporaries.{few_temporaries}
-use Rattle.ready_laws.proofs.Actuals.{formless_passed}
+use Rattle.ready_laws.proofs.Actuals.{scalar_passed, formless_passed}
 use Rattle.order_laws.specs.Orderly.{typed_of, typing_in, bodies_of, IsOrderly}
 use Rattle.order_laws.proofs.Faults.{units_faultless}
 use Rattle.order_laws.proofs.Unmoved.{package_values}
@@ -65,14 +66,16 @@ use Rattle.meant_files.specs.Typed.{AreTyped}
 use Rattle.meant_files.proofs.Main.{files_denote}
 use Rattle.meant_files.proofs.Main as meant
 use Rattle.meant_files.proofs.Codes as codes
-use Rattle.sound_files.specs.Class.{CallsNothing}
+use Rattle.sound_files.specs.Class.{CallsNothing, CallsProcedures, HasNoFunction, HasScalarFormals, CopiesToVariables}
 use Rattle.sound_files.proofs.Formals.{no_formals}
-use Rattle.sound_files.proofs.Fine.{table_laws, files_declared, files_fine}
+use Rattle.sound_files.proofs.Fine.{table_laws, files_declared, procedures_fine}
+use Rattle.sound_files.proofs.Procedures.{callees, files_bodies}
 use Rattle.sound_files.proofs.Main.{files_orderly}
 use Rattle.view_laws.specs.InOrder.{AreViewsInOrder}
-use Rattle.view_laws.specs.Program.{IsViewProgram}
+use Rattle.viewed_steps.specs.Ready.{AreSpared}
 use Rattle.view_laws.proofs.Ready.{uncalled_spared, views_sound}
 use Rattle.viewed_files.specs.Class.{IsFormlessText}
+use Rattle.viewed_files.proofs.Sources.{scalar_plain}
 use Rattle.viewed_files.proofs.Main.{IsGiven, views_in_order}
 
 heads : (x y : TypedSub) (xs ys : List TypedSub) → x ∷ xs ≡ y ∷ ys → x ≡ y
@@ -167,65 +170,97 @@ module _ (files : List (List SourceUnit)) where
       pub files_views_in_order : AreViewsInOrder table (typed_of p) (elaboration (site_of (known_of p) p.units) p.units) (bodies_of p)
       files_views_in_order = views_in_order p (IsMade p.units) laws (IsObjectIn (names_known files)) given
 
-    -- ---- without formals and calls
+    -- ---- programs
 
-    module _ (text : IsFormlessText p) (effects : Effects) (are : AreEffects flow_of_files effects) (none : AreReports flow_of_files effects []) (calls : CallsNothing flow_of_files) where
-      no_formal : (x : ℕ) → flow.is_formal (typing_in p) x ≡ false
-      no_formal x = no_formals p text.formless x
+    subs_are : (typed_of p).subs ≡ elaboration (site_of (known_of p) p.units) p.units ∷ bodies_of p
+    unfolding typed_program
+    subs_are = refl
 
-      formless_orderly : IsOrderly p
-      formless_orderly = files_orderly files apart ended up named no_fault files_views text.main text.is_main
+    -- Procedures alone are called, and their formals are of scalar types.
+    module _ (main : ℕ) (is_main : (typed_of p).main ≡ Some main) (effects : Effects) (are : AreEffects flow_of_files effects) (none : AreReports flow_of_files effects [])
+        (calls : CallsProcedures flow_of_files) (formals : HasScalarFormals flow_of_files) where
+      same_objects : flow_of_files.objects ≡ (typed_of p).objects
+      same_objects = few_temporaries table (typed_of p) calls
+
+      same_typing : flow_typing flow_of_files ≡ typing_in p
+      same_typing = typing_same table (typed_of p) same_objects
+
+      formals_plain : (x : ℕ) → flow.is_formal (typing_in p) x ≡ true → flow.is_anonymous (flow.view_of (typing_in p) x) ≡ false
+      formals_plain x is =
+          subst (λ z. flow.is_anonymous (flow.view_of z x) ≡ false) same_typing
+          (scalar_plain (flow.view_of (flow_typing flow_of_files) x) (formals x (ap (λ z. flow.is_formal z x) same_typing ∙ is)))
 
       accepted : Accepted table (typed_of p) effects
       accepted = record {
         no_reports = none;
         effects_are = are;
         settled = files_settled files apart ended no_fault (typed_of p);
-        fine = files_fine files apart ended up named no_fault files_views calls;
+        fine = procedures_fine files apart ended up named no_fault files_views calls;
       }
+
+      text_orderly : IsOrderly p
+      text_orderly = files_orderly files apart ended up named no_fault files_views main is_main
 
       order : IsInOrder table (typed_of p)
       order =
-          in_order table (known_of p) p.units formless_orderly.written formless_orderly.once (subst OwnsByShape (flow_table table (typed_of p)) (files_own files apart ended no_fault (typed_of p)))
-          accepted.fine (few_temporaries table (typed_of p) (λ sub has q there. nothing_procedures q.instr (calls sub has q there))) formless_orderly.formals formless_orderly.seen
-          (package_values (known_of p) p.units formless_orderly.whole formless_orderly.written (units_faultless p no_fault)) (units_faultless p no_fault) text.main text.is_main
+          in_order table (known_of p) p.units text_orderly.written text_orderly.once (subst OwnsByShape (flow_table table (typed_of p)) (files_own files apart ended no_fault (typed_of p)))
+          accepted.fine same_objects text_orderly.formals text_orderly.seen
+          (package_values (known_of p) p.units text_orderly.whole text_orderly.written (units_faultless p no_fault)) (units_faultless p no_fault) main is_main
 
-      subs_are : (typed_of p).subs ≡ elaboration (site_of (known_of p) p.units) p.units ∷ bodies_of p
-      unfolding typed_program
-      subs_are = refl
+      rest_is : bodies_of p ≡ order.rest
+      rest_is = tails _ _ _ _ (sym subs_are ∙ order.subs)
 
       views_here : AreViewsInOrder table (typed_of p) order.first order.rest
       views_here =
           subst (λ first. AreViewsInOrder table (typed_of p) first order.rest) (heads _ _ _ _ (sym subs_are ∙ order.subs))
-          (subst (λ rest. AreViewsInOrder table (typed_of p) (elaboration (site_of (known_of p) p.units) p.units) rest) (tails _ _ _ _ (sym subs_are ∙ order.subs))
-          (files_views_in_order text.main text.is_main (λ x is. (let no : true ≡ false = sym is ∙ no_formal x in cc))))
+          (subst (λ rest. AreViewsInOrder table (typed_of p) (elaboration (site_of (known_of p) p.units) p.units) rest) rest_is (files_views_in_order main is_main formals_plain))
+
+      called_sound : AreCallees table (typed_of p) (bodies_of p) → CopiesToVariables flow_of_files → ArePassed flow_of_files → AreSpared flow_of_files effects
+          → (input : List ℕ) → RunIsSound table (typed_of p) input
+      called_sound callees copied passed spared =
+          views_sound table (typed_of p) effects
+          (record {
+            accepted = accepted;
+            owns = files_own files apart ended no_fault (typed_of p);
+            parts_named = subst PartsAreNamed (sym (flow_table table (typed_of p))) parts_named;
+            calls = calls;
+            formals = formals;
+            copied = λ sub has q there n actuals result is known. copied sub has q there n actuals result is;
+            order = order;
+            callees = subst (AreCallees table (typed_of p)) rest_is callees;
+            passed = passed;
+            spared = spared;
+            views = views_here;
+          })
+
+      -- Where procedures are called that have bodies, and no fact is on a package object then, each moment of each run is
+      -- well owned, and none is a trap.
+      pub files_called_sound : HasNoFunction p → AreStepsTyped flow_of_files → CopiesToVariables flow_of_files → AreSpared flow_of_files effects
+          → (input : List ℕ) → RunIsSound table (typed_of p) input
+      files_called_sound procedures typed copied =
+          let same : table ≡ flow_of_files.table = sym (flow_table table (typed_of p)) in
+          called_sound (callees p (files_bodies files up named) procedures) copied
+          (scalar_passed flow_of_files formals (subst (λ (rows : Table). counts (shape_of rows integer) ≡ true) same laws.whole)
+          (subst (λ (rows : Table). lists (shape_of rows boolean) ≡ true) same laws.listed)
+          (subst (λ (rows : Table). (t : ℕ) → words rows t ≡ words_of (words rows) (shape_of rows t)) same laws.word_law) typed)
+
+    -- So it is where there are no formals and nothing is called.
+    module _ (text : IsFormlessText p) (effects : Effects) (are : AreEffects flow_of_files effects) (none : AreReports flow_of_files effects []) (calls : CallsNothing flow_of_files) where
+      calls_procedures : CallsProcedures flow_of_files
+      calls_procedures sub has q there = nothing_procedures q.instr (calls sub has q there)
 
       unformed : (x : ℕ) → flow.is_formal (flow_typing flow_of_files) x ≡ false
-      unformed x =
-          ap (λ z. flow.is_formal z x) (typing_same table (typed_of p) (few_temporaries table (typed_of p) (λ sub has q there. nothing_procedures q.instr (calls sub has q there))))
-          ∙ no_formal x
+      unformed x = ap (λ z. flow.is_formal z x) (typing_same table (typed_of p) (few_temporaries table (typed_of p) calls_procedures)) ∙ no_formals p text.formless x
 
       no_call : (sub : FlowSub) → Has flow_of_files.subs sub → (q : FlowPoint) → Has sub.points q → (n : ℕ) (actuals : TypedTree) (result : Option ℕ) → q.instr ≡ Call n actuals result → ⊥
       no_call sub has q there n actuals result is = (let never : false ≡ true = sym (ap calls_nothing is) ∙ calls sub has q there in cc)
 
-      view_program : IsViewProgram table (typed_of p) effects
-      view_program = record {
-        accepted = accepted;
-        owns = files_own files apart ended no_fault (typed_of p);
-        parts_named = subst PartsAreNamed (sym (flow_table table (typed_of p))) parts_named;
-        calls = λ sub has q there. nothing_procedures q.instr (calls sub has q there);
-        formals = λ x is. (let no : true ≡ false = sym is ∙ unformed x in cc);
-        order = order;
-        callees = λ sub has q there n actuals result is. absurd (no_call sub has q there n actuals result is);
-        copied = λ sub has q there n actuals result is. absurd (no_call sub has q there n actuals result is);
-        passed = formless_passed flow_of_files unformed;
-        spared = uncalled_spared flow_of_files effects calls;
-        views = views_here;
-      }
-
-      -- Each moment of each run is well owned, and none is a trap.
       pub files_views_sound : (input : List ℕ) → RunIsSound table (typed_of p) input
-      files_views_sound = views_sound table (typed_of p) effects view_program
+      files_views_sound =
+          called_sound text.main text.is_main effects are none calls_procedures (λ x is. (let no : true ≡ false = sym is ∙ unformed x in cc))
+          (λ sub has q there n actuals result is. absurd (no_call sub has q there n actuals result is))
+          (λ sub has q there n actuals result is. absurd (no_call sub has q there n actuals result is))
+          (formless_passed flow_of_files unformed) (uncalled_spared flow_of_files effects calls)
 
   -- So it is if the files are parsed from texts: then their positions are as in a text.
   pub parsed_views_sound : (texts : List (List Cut)) → AreParsed 0 texts files → name_fault files ≡ None → type_fault p ≡ None → IsFormlessText p
@@ -233,3 +268,9 @@ module _ (files : List (List SourceUnit)) where
       → (input : List ℕ) → RunIsSound table (typed_of p) input
   parsed_views_sound texts parsed named no_fault =
       files_views_sound (files_apart texts files parsed) (files_ended (identified files) texts files parsed) (events_ascend texts files parsed) named no_fault
+
+  pub parsed_called_sound : (texts : List (List Cut)) → AreParsed 0 texts files → name_fault files ≡ None → type_fault p ≡ None → (main : ℕ) → (typed_of p).main ≡ Some main
+      → (effects : Effects) → AreEffects flow_of_files effects → AreReports flow_of_files effects [] → CallsProcedures flow_of_files → HasScalarFormals flow_of_files
+      → HasNoFunction p → AreStepsTyped flow_of_files → CopiesToVariables flow_of_files → AreSpared flow_of_files effects → (input : List ℕ) → RunIsSound table (typed_of p) input
+  parsed_called_sound texts parsed named no_fault =
+      files_called_sound (files_apart texts files parsed) (files_ended (identified files) texts files parsed) (events_ascend texts files parsed) named no_fault
