@@ -259,9 +259,6 @@ module _ (table : Table) (typed : TypedProgram) (effects : Effects) (input : Lis
       values_allowed : AllowsAll facts_now (acts values)
       values_allowed = allowed_beside (acts values) facts_now own_facts (inherited program effects older) from_both values_allowed_own values_apart
 
-      abbrev now : Now
-      now = record { memory = state.memory; waits = [] }
-
       live_now : (w : Way) (l : ways.Loc) → ways.IsRooted w → ways.Reaches (seen s state.memory (waiting_in easy.state) state.leaks) w l
           → (content s state.memory (waiting_in easy.state) (trunk l)).owns ≡ true
       live_now =
@@ -346,9 +343,6 @@ module _ (table : Table) (typed : TypedProgram) (effects : Effects) (input : Lis
 
       callee_less : n < length program.subs
       callee_less = sub_in_range table typed n called.runs.named called.runs.stands
-
-      abbrev started : State
-      started = behind main_turn (waiting main_turn) state.memory 0
 
       successor_point : (q : NamedPoint) × IsAtPoint named.points next_point.0 q × Leads s (scope_behind p) q.scope
       successor_point = next_there s named (laid named named_in) p point_in_named next_point.0 next_point.2

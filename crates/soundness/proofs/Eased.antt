@@ -41,9 +41,6 @@ module _ (t : Turn) where
   pub waits_same : waiting eased ≡ waiting t
   waits_same = drop_none (waiting t)
 
-  pub behind_same : (waits : List Waiting) (m : Memory) (k : ℕ) → behind eased waits m k ≡ behind t waits m k
-  behind_same waits m k = refl
-
   pub goes_same : (m : Memory) (k : ℕ) → goes eased m k ≡ goes t m k
   goes_same m k = ap (λ z. Goes (behind t z m k)) waits_same
 

@@ -1,6 +1,6 @@
 -- What the end of the main procedure leads to, and the step from the last package object to the
 -- main procedure.
-use Rattle.std.proofs.Common.{◌≡◌, refl, sym, ap, ◌∙◌, subst, ◌⊎◌, inl, inr, ℕ, suc, ◌<◌, Bool, true, false, not, ◌&&◌, ◌==◌, List, [], ◌∷◌, ◌++◌, cond, eqb-true, if◌then◌else◌}
+use Rattle.std.proofs.Common.{◌≡◌, refl, sym, ap, ◌∙◌, subst, ◌⊎◌, inl, inr, ℕ, ◌<◌, Bool, true, false, not, ◌&&◌, ◌==◌, List, [], ◌∷◌, cond, eqb-true, if◌then◌else◌}
 use Rattle.std.specs.Prelude.{filter}
 use Rattle.spark_base.specs.Lists.{Has}
 use Rattle.place_names.specs.declared.fact.Fact.{Fact}
@@ -13,9 +13,9 @@ use Rattle.flow_paths.specs.Laid.{FlowProgram}
 use Rattle.flow_paths.specs.Points.{FlowPoint}
 use Rattle.machine.specs.Words.{default}
 use Rattle.machine.specs.Memory.{Memory, Variable, fresh, is_variable, variable_slots, without_frame}
-use Rattle.machine.specs.States.{Waiting, Frame, Leak, State, Normal, Ends}
-use Rattle.machine.specs.Step.{Turn, typing, finish}
-use Rattle.machine.specs.Owners.{waiting_in, WellOwned}
+use Rattle.machine.specs.States.{Waiting, Frame, Leak, State}
+use Rattle.machine.specs.Step.{Turn, typing}
+use Rattle.machine.specs.Owners.{waiting_in}
 use Rattle.owned_ways.specs.Ways.{Step, OfVariable, OfHand, Loc, OfRoot, OfCell, Inside, Way, Object, Lost, Into, All, Held, View, Reaches, Owned, Covered, Sound, name_of}
 use Rattle.owned_ways.proofs.Locations.{both_parts, same_loc}
 use Rattle.part_offsets.specs.Parts.{IsSettled}
@@ -25,8 +25,6 @@ use Rattle.soundness.proofs.Joined.{trunk_trunk, not_inside}
 use Rattle.soundness.proofs.Contents.{bool_cases}
 use Rattle.soundness.proofs.Defaults.{none_default, blank_word}
 use Rattle.soundness.proofs.Memories.{found_later}
-use Rattle.soundness.proofs.Owners.{well_owned}
-use Rattle.soundness.proofs.Instructions.{Holds, Leads_on}
 
 -- ---- the variables of a frame are removed
 
@@ -150,34 +148,6 @@ module _ (program : FlowProgram) (input : List ℕ) (point : FlowPoint) (state :
 
     abbrev hands : List Waiting
     hands = waiting_in state
-
-    abbrev at_end : State
-    at_end = record state { frames = below ∷ []; memory = without_frame 1 state.memory; steps = suc state.steps; checks = [] }
-
-    hands_end : waiting_in at_end ≡ hands
-    hands_end = sym (ap waits_in frames ∙ ap (λ z. z ++ (below.waits ++ [])) no_waits)
-      where
-        waits_in : List Frame → List Waiting
-        waits_in fs = waiting_in (record state { frames = fs })
-
-    pub finish_is : finish ending ≡ Ends Normal at_end
-    finish_is = rw no_returns refl
-
-    pub finish_leads : (facts before : List Fact)
-        → Holds ending settled own_law other alone no_formals all_named frames before state
-        → ((x : ℕ) (p : List Step) (n : ℕ) → word_in s.table (content s state.memory hands (OfRoot (OfVariable 1 x))) p ≡ Held n → ⊥)
-        → Leads_on ending settled own_law other alone no_formals all_named frames facts (finish ending)
-    finish_leads facts before holds nothing =
-        subst (Leads_on ending settled own_law other alone no_formals all_named frames facts) (sym finish_is) ((λ trap. trap), owned)
-      where
-        same : SameNumbers (seen s state.memory hands state.leaks) (seen s (without_frame 1 state.memory) hands state.leaks)
-        same = frame_ends s state.memory 1 hands state.leaks nothing
-
-        owned : WellOwned s at_end
-        owned =
-            well_owned s settled own_law at_end
-            (subst (λ z. Owned (seen s (without_frame 1 state.memory) z state.leaks)) (sym hands_end) (numbers_owned _ _ same holds.0.owned))
-            (subst (λ z. Covered (seen s (without_frame 1 state.memory) z state.leaks)) (sym hands_end) (numbers_covered _ _ same holds.0.covered))
 
 -- ---- the main procedure begins
 

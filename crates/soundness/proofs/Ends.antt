@@ -6,7 +6,7 @@ use Rattle.type_definitions.specs.Types.{words}
 use Rattle.flow_paths.specs.Objects.{Typing, object_at}
 use Rattle.machine.specs.Words.{default}
 use Rattle.machine.specs.Words as machine
-use Rattle.machine.specs.Memory.{Memory, HeapCell, fresh, variable_slots, cell, no_cell, no_slot, declared, undeclared, with_new_cell}
+use Rattle.machine.specs.Memory.{Memory, fresh, variable_slots, cell, no_cell, no_slot, declared, undeclared, with_new_cell}
 use Rattle.machine.specs.States.{Waiting, Leak}
 use Rattle.owned_ways.specs.Ways.{Step, OfVariable, OfHand, Loc, OfRoot, OfCell, Inside, Empty, IsDrop}
 use Rattle.soundness.specs.Seen.{in_hand, content, trunk, steps_in, word_in, seen, is_view_formal}
@@ -99,9 +99,6 @@ module _ (s : Typing) (m : Memory) (f x : ℕ) where
 -- ---- a cell is made
 
 module _ (s : Typing) (m : Memory) (t : ℕ) (ws : List machine.Word) where
-  made_cell : HeapCell
-  made_cell = record { of = t; slots = fresh ws; freed = false }
-
   pub new_there : cell (with_new_cell t ws m) (suc (length m.cells)) ≡ record { of = t; slots = fresh ws; freed = false }
   new_there = get_or_push m.cells (record { of = t; slots = fresh ws; freed = false }) no_cell (length m.cells) refl
 

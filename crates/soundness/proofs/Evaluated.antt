@@ -43,7 +43,7 @@ use Rattle.soundness.proofs.Fresh.{made_sound}
 use Rattle.soundness.proofs.Moments.{taken_sound}
 use Rattle.soundness.proofs.Walks.{way_along, Walked}
 use Rattle.soundness.proofs.Scalars.{after_append, allows_both, acts, acts_append, read_effect, read_way, number_along, named_along}
-use Rattle.soundness.proofs.Taking.{Takes, takes_as, takes_both, takes_zero, no_takes, TakesPlainly, both_plainly, nothing_more}
+use Rattle.soundness.proofs.Taking.{Takes, takes_as, takes_both, takes_zero, TakesPlainly, both_plainly, nothing_more}
 use Rattle.soundness.proofs.Stays.{Quiet, One, Goes, taking, steps_taking, waited_quiet, name_on}
 
 pub regrouped : {A B C : Type 0} (x : Evaluated A) (f : A → Now → Evaluated B) (g : B → Now → Evaluated C)
@@ -595,9 +595,3 @@ module _ (h : Here) (settled : IsSettled h.typing.table) (leaks : List Leak) (wa
           takes_zero before on takes,
         )
     parts_given es t i gives calls count made before on takes m acc hands facts long ready allowed = absurd gives
-
-  -- without calls
-  pub evaluated : (e : TypedTree) (want : ℕ) → Gives h.typing want e → has_call e ≡ false → (m : Memory) (hands : List Waiting) (facts : List Fact)
-      → Ready m hands facts → AllowsAll facts (acts (acts_in h.typing e))
-      → Given want hands (after (acts (acts_in h.typing e)) facts) (evaluate h AsValue e (record { memory = m; waits = waits }))
-  evaluated e want gives calls m hands facts ready allowed = evaluated_on e want gives (inl calls) waits waits (no_takes e calls waits) m hands facts ready allowed

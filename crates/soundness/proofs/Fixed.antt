@@ -33,9 +33,6 @@ matches_scalar s t u (inr (a, b)) plain = b
 
 module _ (s : Typing) (settled : IsSettled s.table) (m : Memory) (hands : List Waiting) (k : Place) (l : Loc) (spot : Spot s m hands k l)
     (kept : Kept s m hands) (plain : is_scalar (full s.table k.of) ≡ true) (slots : List Slot) (long : length slots ≡ words s.table k.of) where
-  abbrev next : Memory
-  next = with_slots s k slots m
-
   abbrev whole : Content
   whole = content s m hands (loc_of k.base)
 

@@ -17,7 +17,7 @@ use Rattle.flow_paths.specs.Points.{NamedPoint, FlowPoint}
 use Rattle.flow_paths.specs.Laid.{FlowSub, FlowProgram, NamedSub, flow_sub, typing_of, flow_typing, flow_program, flow_named}
 use Rattle.flow_paths.specs.Paths.{ControlPath}
 use Rattle.flow_paths.specs.Effects.{act_writes, act_reads, flow_sub_at, path_points}
-use Rattle.flow_paths.specs.Scopes.{taken, brought, scope_behind, is_within, is_last, is_ready}
+use Rattle.flow_paths.specs.Scopes.{taken, scope_behind, is_within, is_last, is_ready}
 use Rattle.machine.specs.Memory.{Memory}
 use Rattle.machine.specs.Evaluate.{Exception, Evaluated}
 use Rattle.machine.specs.States.{Frame, State, Outcome, sub_of, Waiting}
@@ -29,7 +29,7 @@ use Rattle.owned_ways.specs.Ways.{Step, OfVariable, OfRoot, Way, Empty, Held, Na
 use Rattle.owned_ways.specs.Ways as ways
 use Rattle.soundness.specs.Seen.{content, word_in, home, IsNear, is_view_formal}
 use Rattle.soundness.specs.Typed.{Kept}
-use Rattle.soundness.specs.Sound.{calls_procedures, Stage, facts_of, Elsewhere, AreStages, Uses, AreRunning, InScope, IsNamedSub, IsAtPoint, view_of, LeadsAlong, IsNoCall, AreWaiting, AreAwaited}
+use Rattle.soundness.specs.Sound.{calls_procedures, Stage, facts_of, Elsewhere, AreStages, Uses, AreRunning, InScope, IsNamedSub, IsAtPoint, view_of, IsNoCall, AreWaiting, AreAwaited}
 use Rattle.soundness.specs.Ready.{stored_at, IsReady, IsSupplied}
 use Rattle.soundness.proofs.Contents.{bool_cases, word_no}
 use Rattle.soundness.proofs.Steps.{no_leaf}
@@ -47,7 +47,6 @@ use Rattle.machine.specs.Words as machine
 use Rattle.soundness.proofs.Taking.{Takes, TakesPlainly}
 use Rattle.soundness.proofs.Waited.{Shares, shares, within_left, FillsNone, brought_count}
 use Rattle.soundness.proofs.Eased.{eased, goes_same, from_eased, takes_all, eased_holds}
-use Rattle.soundness.proofs.Onward.{Each, GoesOn}
 use Rattle.machine.specs.Words.{fits_type}
 use Rattle.soundness.proofs.Standing.{or_right, no_second, moved_same, below_other, head_of, last_of}
 use Rattle.soundness.proofs.Standing as standing
@@ -92,10 +91,6 @@ module _ (table : Table) (typed : TypedProgram) (effects : Effects) (input : Lis
 
     abbrev older : List Stage
     older = below ∷ more
-
-    -- what the step leads to
-    abbrev Along : Outcome → Type 0
-    Along outcome = LeadsAlong table typed effects p.instr state.memory top (below ∷ more) outcome
 
     abbrev depth : ℕ
     depth = suc (length rest)
@@ -315,12 +310,6 @@ module _ (table : Table) (typed : TypedProgram) (effects : Effects) (input : Lis
     -- the values that wait on match the scope then
     abbrev Left : List Waiting → Type 0
     Left waits = AreWaiting s waits (scope_behind p)
-
-    abbrev GoesFrom : Left (waiting main_turn) → Instruction → Outcome → Type 0
-    GoesFrom left i outcome = Each (GoesOn main_turn Left left IsOld left_scope (brought i left_scope) inside_left) outcome
-
-    abbrev Both : Left (waiting main_turn) → Instruction → Type 0
-    Both left i = LeadsFrom i (turn main_turn i) × GoesFrom left i (turn main_turn i)
 
     pub held_now : Holds main_turn ready.accepted.settled ready.owns other alone no_in_formals ready.class.all_named frames facts_now state
     held_now = (sound, kept)

@@ -184,10 +184,6 @@ module _ (t : Turn) (settled : IsSettled (typing t).table) (own_law : OwnsByShap
         (evaluated_on (here t) settled t.state.leaks [] other alone (keeps s settled own_law) no_formals index_law own_law all_named e u gives calls ws [] takes
         t.state.memory hands facts (record { sound = holds.0; kept = holds.1 }) allowed))
 
-    pub source_given : (u : ℕ) (e : TypedTree) → Source s u e → has_call e ≡ false → (facts : List Fact)
-        → Holds facts t.state → AllowsAll facts (acts (acts_in s e)) → Given_here u (after (acts (acts_in s e)) facts) (taken_by t u e now)
-    source_given u e gives calls facts holds allowed = source_on [] u e gives (inl calls) (no_takes e calls []) facts holds allowed
-
     -- ---- declarations
 
     -- the object has nothing before
@@ -326,16 +322,6 @@ module _ (t : Turn) (settled : IsSettled (typing t).table) (own_law : OwnsByShap
         (then_stored (raises facts holds) (after (acts (stored_acts s target e)) facts) (target_pos t target) (followed_by (followed_by (evaluate h AsValue e (at ws)) (checked h u)) placed)
         (assigned_on h settled t.state.leaks [] other alone (keeps s settled own_law) no_formals index_law own_law all_named ws mid [] p x u path e gives lead calls takes takes'
         t.state.memory hands facts (record { sound = holds.0; kept = holds.1 }) (subst (λ z. AllowsAll facts (acts z)) same allowed))))
-
-    pub assign_leads : (pos p : Pos) (x u : ℕ) (path e : TypedTree) → Source s u e → Leads s (object_at s x).of path u
-        → has_call e ≡ false → has_call path ≡ false → (facts : List Fact) → Holds facts t.state
-        → AllowsAll facts (acts (assigned_to s pos (whole (Name p x path u)) (Name p x path u) e))
-        → Leads_on (after (acts (assigned_to s pos (whole (Name p x path u)) (Name p x path u) e)) facts) (assign t (Name p x path u) e)
-    assign_leads pos p x u path e gives lead calls calls' facts holds allowed =
-        subst (λ z. Leads_on (after (acts (assigned_to s pos (whole (Name p x path u)) (Name p x path u) e)) facts)
-        (steps.evaluated t (followed_by (taken_by t u e z) (λ ws now. followed_by (place_of (here t) (Name p x path u) now) (λ k now. Done (record { words = ws; place = k }) now)))
-        (λ (st : Stored) m. leaking_goes (checks_at s (target_pos t (Name p x path u)) m st.place) (goes t (stored s st.place st.words m) 0)))) (sym start_is)
-        (assign_on [] [] pos p x u path e gives lead (inl calls) (no_takes e calls []) (no_takes path calls' []) facts holds allowed)
 
     -- ---- the end of a scope
 
@@ -536,25 +522,6 @@ module _ (t : Turn) (settled : IsSettled (typing t).table) (own_law : OwnsByShap
         subst (λ z. Leads_on z (steps.evaluated t (place_of (here t) (Name p x path u) (at ws)) f)) (sym behind_acts)
         (then_released f pos releases facts holds u d access x path frees (steps_of (here t) path (at ws)) inner.0)
 
-    released_by : (f : Place → Memory → Outcome) (pos p : Pos) (x u d : ℕ) (path : TypedTree) → Releases f pos
-        → shape_of s.table u ≡ shape.Access d false true → Leads s (object_at s x).of path u → has_call path ≡ false → (facts : List Fact) → Holds facts t.state
-        → AllowsAll facts (acts (source_acts s (Name p x path u) act.Free))
-        → Leads_on (after (acts (source_acts s (Name p x path u) act.Free)) facts) (steps.evaluated t (place_of (here t) (Name p x path u) (start t)) f)
-    released_by f pos p x u d path releases access lead calls facts holds allowed =
-        subst (λ z. Leads_on (after (acts (source_acts s (Name p x path u) act.Free)) facts) (steps.evaluated t (place_of (here t) (Name p x path u) z) f)) (sym start_is)
-        (released_on [] f pos p x u d path releases access lead (no_takes path calls []) facts holds allowed)
-
-    pub release_leads : (p : Pos) (x u d : ℕ) (path : TypedTree) → shape_of s.table u ≡ shape.Access d false true → Leads s (object_at s x).of path u
-        → has_call path ≡ false → (facts : List Fact) → Holds facts t.state → AllowsAll facts (acts (source_acts s (Name p x path u) act.Free))
-        → Leads_on (after (acts (source_acts s (Name p x path u) act.Free)) facts) (release t (Name p x path u))
-    release_leads p x u d path access lead calls facts holds allowed =
-        released_by _ p p x u d path (record {
-          at_null = λ k m is. rw is refl;
-          at_whole = λ k m v is. rw is refl;
-          at_listed = λ k m v is. rw is refl;
-          at_cell = λ k m n is alive. rw (is, alive) refl;
-        }) access lead calls facts holds allowed
-
     -- ---- instructions that change nothing
 
     pub scalar_taken : (ws : List (List machine.Word)) (e : TypedTree) → Stays s e → Takes (waits_in e) ws [] → (facts : List Fact) → Holds facts t.state
@@ -619,12 +586,6 @@ module _ (t : Turn) (settled : IsSettled (typing t).table) (own_law : OwnsByShap
         let q = scalar_taken ws e stays takes facts holds allowed in
         subst (λ z. Leads_on z (steps.evaluated t (value (here t) e (at ws)) (λ ws m. steps.chosen t (length choices) (steps.choice choices ws) m))) (sym q.1)
         (then_chosen (length choices) (steps.choice choices) facts holds (value (here t) e (at ws)) q.0)
-
-    pub choose_leads : (e : TypedTree) (choices : List TypedCode) → Stays s e → has_call e ≡ false → (facts : List Fact) → Holds facts t.state
-        → AllowsAll facts (acts (acts_in s e)) → Leads_on (after (acts (acts_in s e)) facts) (steps.choose t e choices)
-    choose_leads e choices stays calls facts holds allowed =
-        subst (λ z. Leads_on (after (acts (acts_in s e)) facts) (steps.evaluated t (value (here t) e z) (λ ws m. steps.chosen t (length choices) (steps.choice choices ws) m))) (sym start_is)
-        (choose_on [] e choices stays (no_takes e calls []) facts holds allowed)
 
     pub leave_loop_leads : (e rest : TypedTree) → rest ≡ NoMore → Stays s e → has_call e ≡ false → (facts : List Fact) → Holds facts t.state
         → AllowsAll facts (acts (acts_in s (More e rest))) → Leads_on (after (acts (acts_in s (More e rest))) facts) (steps.leave_loop t (More e rest))
@@ -696,14 +657,6 @@ module _ (t : Turn) (settled : IsSettled (typing t).table) (own_law : OwnsByShap
     unfolding waits_in
     first_none e rest last calls =
         takes_as 0 (waits_in e + waits_in rest) [] [] (sym (ap (λ z. waits_in e + waits_in z) last ∙ nothing_more (waits_in e) ∙ no_waits e calls)) (takes_none [])
-
-    pub output_leads : (e rest : TypedTree) (line : Bool) → rest ≡ NoMore → Writes s e → has_call e ≡ false → (facts : List Fact) → Holds facts t.state
-        → AllowsAll facts (acts (acts_in s (More e rest))) → Leads_on (after (acts (acts_in s (More e rest))) facts) (steps.output t (More e rest) line)
-    output_leads e rest line last writes calls facts holds allowed =
-        subst (λ z. Leads_on (after (acts (acts_in s (More e rest))) facts) (steps.evaluated t (text_of (here t) e z) (λ bytes m. Goes (record (behind t (waiting t) m 0) {
-          output = t.state.output ++ bytes ++ (if line then 10 ∷ [] else []);
-        })))) (sym start_is)
-        (output_on [] e rest line last writes (first_none e rest last calls) facts holds allowed)
 
     -- a line that ends without a text
     pub line_leads : (line : Bool) (facts : List Fact) → Holds facts t.state → Leads_on facts (steps.output t NoMore line)
@@ -832,22 +785,3 @@ module _ (t : Turn) (settled : IsSettled (typing t).table) (own_law : OwnsByShap
             then_got f gets facts holds u scalar (int.pos 0) (got_none f gets facts holds u scalar (int.pos 0) (inr (λ k m. gets.at_bad k m e))) x path writes (steps_of (here t) path (at ws)) q
         by_item writes q (item.Number v end) e =
             then_got f gets facts holds u scalar v (λ w named y is. got_at f gets facts holds u scalar v w named y is end e) x path writes (steps_of (here t) path (at ws)) q
-
-    got_by : (f : Place → Memory → Outcome) (p : Pos) (x u : ℕ) (path : TypedTree) → Gets f → is_scalar (full s.table u) ≡ true
-        → Leads s (object_at s x).of path u → has_call path ≡ false → (facts : List Fact) → Holds facts t.state
-        → AllowsAll facts (acts (source_acts s (Name p x path u) out_act))
-        → Leads_on (after (acts (source_acts s (Name p x path u) out_act)) facts) (steps.evaluated t (place_of (here t) (Name p x path u) (start t)) f)
-    got_by f p x u path gets scalar lead calls facts holds allowed =
-        subst (λ z. Leads_on (after (acts (source_acts s (Name p x path u) out_act)) facts) (steps.evaluated t (place_of (here t) (Name p x path u) z) f)) (sym start_is)
-        (got_on [] f p x u path gets scalar lead (no_takes path calls []) facts holds allowed)
-
-    pub input_leads : (p : Pos) (x u : ℕ) (path : TypedTree) → is_scalar (full s.table u) ≡ true → Leads s (object_at s x).of path u → has_call path ≡ false
-        → (facts : List Fact) → Holds facts t.state → AllowsAll facts (acts (source_acts s (Name p x path u) out_act))
-        → Leads_on (after (acts (source_acts s (Name p x path u) out_act)) facts) (steps.input t (Name p x path u))
-    input_leads p x u path scalar lead calls facts holds allowed =
-        got_by _ p x u path (record {
-          at_missing = λ k m next. rw next refl;
-          at_bad = λ k m next. rw next refl;
-          at_number = λ k m v end next fits. rw (next, fits) refl;
-          at_outside = λ k m v end next out. rw (next, out) refl;
-        }) scalar lead calls facts holds allowed

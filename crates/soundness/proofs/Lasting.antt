@@ -12,7 +12,6 @@ use Rattle.machine.specs.Words as machine
 use Rattle.machine.specs.Memory.{Slot, Memory, HeapCell, Base, Place, fresh, variable_slots, cell, no_cell, no_slot, slots_at, slots_of, words_of, put, with_slots, stored, moved_out, gone_at, declared, undeclared, with_new_cell, freed, as_freed}
 use Rattle.machine.specs.Memory as memory
 use Rattle.machine.specs.States.{Waiting}
-use Rattle.machine.specs.Owners.{no_value}
 use Rattle.owned_ways.specs.Ways.{Step, Component, Element, OfVariable, OfHand, Loc, OfRoot, OfCell, Inside}
 use Rattle.owned_ways.proofs.Locations.{same_loc}
 use Rattle.part_offsets.specs.Parts.{type_in, offset_in, has_part, owns_one, is_leaf, IsSettled}
@@ -139,9 +138,6 @@ module _ (s : Typing) (m n : Memory) (more : Extends m n) where
       (sym (words_same (offset_in s.table c.of p)) ∙ ap (λ t. (get_or e.slots (offset_in s.table t p) no_slot).word) (sym of) ∙ at))
 
 module _ (s : Typing) (settled : IsSettled s.table) (m : Memory) where
-  no_points : (n : Memory) → Points s n (in_hand no_value)
-  no_points n p d c x k has is at = absurd (cell_has [] (offset_in s.table (in_hand no_value).of p) k at)
-
   -- points of trunks are those of all locations
   pub by_trunk : (n : Memory) (hands : List Waiting) → ((l : Loc) → trunk l ≡ l → Points s n (content s n hands l)) → (l : Loc) → Points s n (content s n hands l)
   by_trunk n hands each (OfRoot r) = each (OfRoot r) refl

@@ -48,7 +48,6 @@ pub mod Typings
 pub mod Successors
 pub mod Waited
 pub mod Temporaries
-pub mod Second
 -- calls: facts of the frames around, acts on package objects, formals, the ends of calls
 pub mod Inherited
 pub mod Opened

@@ -1,12 +1,12 @@
 -- What the start of a loop leads to, and its iterations: the parameter has the next value, or
 -- leaves scope.
-use Rattle.std.proofs.Common.{◌≡◌, refl, sym, ap, ◌∙◌, subst, inl, inr, ℕ, ◌+◌, Bool, true, false, not, ◌&&◌, List, [], ◌∷◌, ◌++◌, flat_map, take, drop, length, int_le, ℤ, unsigned_abs, Option, Some, None}
+use Rattle.std.proofs.Common.{◌≡◌, refl, sym, ap, ◌∙◌, subst, inl, inr, ℕ, ◌+◌, Bool, true, false, not, List, [], ◌∷◌, ◌++◌, flat_map, take, drop, length, ℤ, unsigned_abs, Option, Some, None}
 use Rattle.place_names.specs.declared.fact.Fact.{Fact}
 use Rattle.type_definitions.specs.declared.table.Shape.TheVariants as shape
 use Rattle.type_definitions.specs.Types.{shape_of, words, is_scalar, full}
 use Rattle.typed_tree.specs.Trees.{TypedTree}
 use Rattle.flow_paths.specs.Objects.{Typing, object_at}
-use Rattle.flow_paths.specs.Names.{has_call, waiting as waits_in}
+use Rattle.flow_paths.specs.Names.{waiting as waits_in}
 use Rattle.flow_paths.specs.Scopes.{taken}
 use Rattle.flow_paths.specs.Acts.{acts_in}
 use Rattle.machine.specs.Words.{fits_type}
@@ -35,13 +35,13 @@ use Rattle.soundness.proofs.Defaults.{NoCell}
 use Rattle.soundness.proofs.Keeping.{cell_has}
 use Rattle.soundness.proofs.Moments.{declared_sound}
 use Rattle.soundness.proofs.Scalars.{acts, acts_append, after_append, allows_both}
-use Rattle.soundness.proofs.Taking.{Takes, no_takes}
+use Rattle.soundness.proofs.Taking.{Takes}
 use Rattle.soundness.proofs.Stays.{Quiet, One, quiet_then, quiet_from, taking}
 use Rattle.soundness.proofs.Numbers.{index_law}
 use Rattle.soundness.proofs.Lasting.{keeps, stored_kept, declared_kept, removed_kept}
 use Rattle.soundness.proofs.Evaluated.{live_trunk, scalar_given}
 use Rattle.soundness.proofs.Waits.{waits_of, led_waits}
-use Rattle.soundness.proofs.Instructions.{Holds, Leads_on, raises, start_is, hands_behind}
+use Rattle.soundness.proofs.Instructions.{Holds, Leads_on, raises, hands_behind}
 
 -- ---- owners don't see a scalar object
 
@@ -176,9 +176,6 @@ module _ (t : Turn) (settled : IsSettled (typing t).table) (own_law : OwnsByShap
     hands_on : (m : Memory) (k : ℕ) → waiting_in (behind t (waiting t) m k) ≡ hands
     hands_on m k = hands_behind t settled own_law other alone no_formals all_named frames none m k
 
-    started_is : start t ≡ now
-    started_is = start_is t settled own_law other alone no_formals all_named frames none
-
     -- what waits doesn't go by the loops that have started
     loop_waits : (l : Loop) (state : State) → waiting_in (steps.with_loop l state) ≡ waiting_in state
     loop_waits l state = by_frames state.frames
@@ -250,24 +247,3 @@ module _ (t : Turn) (settled : IsSettled (typing t).table) (own_law : OwnsByShap
         (λ a one. quiet_then now One Both (value (here t) high between) (λ b n. Done (record { low = a; high = b }) n) second_bound.0 (λ b other_one. (refl, (one, other_one)))) in
         subst (λ z. LeadsHere z (steps.evaluated t (steps.bounds t low high before) f)) (sym all)
         (then_started x f starts scalar facts holds (steps.bounds t low high before) q)
-
-    started_by : (x : ℕ) (f : steps.Bounds → Memory → Outcome) (low high : TypedTree) → Starts x f → is_scalar (full s.table (object_at s x).of) ≡ true
-        → Stays s low → Stays s high → has_call low ≡ false → has_call high ≡ false → (facts : List Fact) → HoldsHere facts t.state
-        → AllowsAll facts (acts (acts_in s low ++ acts_in s high))
-        → LeadsHere (after (acts (acts_in s low ++ acts_in s high)) facts) (steps.evaluated t (steps.bounds t low high (start t)) f)
-    started_by x f low high starts scalar stays stays' calls calls' facts holds allowed =
-        subst (λ z. LeadsHere (after (acts (acts_in s low ++ acts_in s high)) facts) (steps.evaluated t (steps.bounds t low high z) f)) (sym started_is)
-        (started_on [] [] x f low high starts scalar stays stays' (no_takes low calls []) (no_takes high calls' []) facts holds allowed)
-
-    pub start_leads : (x : ℕ) (low high : TypedTree) → is_scalar (full s.table (object_at s x).of) ≡ true
-        → Stays s low → Stays s high → has_call low ≡ false → has_call high ≡ false → (facts : List Fact) → HoldsHere facts t.state
-        → AllowsAll facts (acts (acts_in s low ++ acts_in s high))
-        → LeadsHere (after (acts (acts_in s low ++ acts_in s high)) facts) (steps.start_loop t x low high)
-    start_leads x low high scalar stays stays' calls calls' facts holds allowed =
-        started_by x _ low high (record {
-          fails = λ b. int_le (steps.number b.low) (steps.number b.high)
-              && not (fits_type s.table (object_at s x).of b.low && fits_type s.table (object_at s x).of b.high);
-          loop = λ b. record { parameter = x; low = steps.number b.low; high = steps.number b.high; first = true };
-          at_fault = λ b m e. rw e refl;
-          at_turn = λ b m e. rw e refl;
-        }) scalar stays stays' calls calls' facts holds allowed

@@ -4,7 +4,7 @@ use Rattle.std.proofs.Common.{◌≡◌, sym, subst, ℕ, zero, suc, Bool, true,
 use Rattle.type_definitions.specs.Types.{Table}
 use Rattle.typed_tree.specs.Programs.{TypedProgram}
 use Rattle.flow_paths.specs.declared.report.Effects.{Effects}
-use Rattle.flow_paths.specs.Laid.{FlowProgram, flow_typing, flow_program}
+use Rattle.flow_paths.specs.Laid.{flow_typing, flow_program}
 use Rattle.machine.specs.Evaluate.{StorageError}
 use Rattle.machine.specs.States.{State, Ending, Raised, Outcome, Goes, Ends, state_of, sub_of, frame_words, stack_words, frame_at_start}
 use Rattle.machine.specs.Owners.{WellOwned}
@@ -25,9 +25,6 @@ sound_owned table typed effects state settled own_law sound =
 
 module _ (table : Table) (typed : TypedProgram) (effects : Effects) (input : List ℕ) (settled : IsSettled (flow_program table typed).table)
     (own_law : OwnsByShape (flow_program table typed).table) (each : StepsLeadOn table typed effects input) (start : IsSound table typed effects (state_at_start (flow_program table typed))) where
-  abbrev program : FlowProgram
-  program = flow_program table typed
-
   go : (o : Outcome) (on : State → Outcome) → LeadsOn table typed effects o
       → ((state : State) → IsSound table typed effects state → LeadsOn table typed effects (on state)) → LeadsOn table typed effects (then_on o on)
   go (Goes t) on leads next = next t leads

@@ -5,10 +5,9 @@ use Rattle.type_definitions.specs.declared.table.Shape.TheVariants as shape
 use Rattle.type_definitions.specs.Entries.{boolean}
 use Rattle.type_definitions.specs.Types.{shape_of, is_scalar, full}
 use Rattle.typed_tree.specs.declared.node.ShortCircuit.{ShortCircuit}
-use Rattle.typed_tree.specs.Trees.{TypedTree, NoMore, More}
-use Rattle.flow_paths.specs.Instructions.{Hold}
+use Rattle.typed_tree.specs.Trees.{TypedTree, More}
 use Rattle.flow_paths.specs.Objects.{Typing}
-use Rattle.flow_paths.specs.Names.{has_call, waiting as waits_in}
+use Rattle.flow_paths.specs.Names.{waiting as waits_in}
 use Rattle.flow_paths.specs.Points.{FlowPoint}
 use Rattle.flow_paths.specs.Scopes.{taken}
 use Rattle.flow_paths.specs.Acts.{acts_in}
@@ -27,18 +26,18 @@ use Rattle.owned_ways.proofs.Assigned.{same_sound}
 use Rattle.part_offsets.specs.Parts.{IsSettled}
 use Rattle.soundness.specs.Seen.{in_hand, word_in, seen, home, IsNear, is_view_formal}
 use Rattle.soundness.specs.Typed.{OwnsByShape, Kept}
-use Rattle.typed_laws.specs.Needed.{Stays, Source}
+use Rattle.typed_laws.specs.Needed.{Stays}
 use Rattle.soundness.proofs.Contents.{word_no}
 use Rattle.soundness.proofs.Steps.{no_leaf}
 use Rattle.soundness.proofs.Scalars.{acts}
-use Rattle.soundness.proofs.Taking.{Takes, TakesPlainly}
+use Rattle.soundness.proofs.Taking.{Takes}
 use Rattle.soundness.proofs.Stays.{Quiet, One}
 use Rattle.soundness.proofs.Numbers.{index_law}
 use Rattle.soundness.proofs.Keeping.{scalar}
 use Rattle.soundness.proofs.Lasting.{keeps, less_kept}
 use Rattle.soundness.proofs.Evaluated.{changed_hand, scalar_given}
 use Rattle.soundness.proofs.Waits.{waits_of, led_waits, drop_none}
-use Rattle.soundness.proofs.Instructions.{Holds, Leads_on, Given_here, raises, scalar_taken, source_on, skip_leads}
+use Rattle.soundness.proofs.Instructions.{Holds, Leads_on, raises, scalar_taken}
 
 module _ (t : Turn) (settled : IsSettled (typing t).table) (own_law : OwnsByShape (typing t).table) (other : Way → Type 0)
     (alone : (w : Way) → IsNear (length t.outer) w → other w → ⊥) (no_formals : (x : ℕ) → is_view_formal (typing t) x ≡ false)
@@ -139,11 +138,7 @@ module _ (t : Turn) (settled : IsSettled (typing t).table) (own_law : OwnsByShap
       let q = scalar_taken t settled own_law other alone no_formals all_named frames none ws e stays takes facts holds allowed in
       subst (λ z. LeadsHere z (steps.evaluated t (value (here t) e before) (λ vs m. Goes (behind t (steps.truth_waiting vs ∷ drop 1 (waiting t)) m 0)))) (sym q.1)
       (then_replaced left rest waits plain facts holds (value (here t) e before) q.0)
-
   -- ---- a return without a value
-
-  pub hold_nothing_leads : (facts : List Fact) → HoldsHere facts t.state → LeadsHere facts (steps.turn t (Hold NoMore))
-  hold_nothing_leads facts holds = skip_leads t settled own_law other alone no_formals all_named frames none facts holds
 
 -- ---- a return with a value
 
@@ -166,9 +161,6 @@ module _ (program : FlowProgram) (input : List ℕ) (point : FlowPoint) (state :
       (alone : (w : Way) → IsNear (length returning.outer) w → other w → ⊥) (no_formals : (x : ℕ) → is_view_formal (typing returning) x ≡ false)
       (all_named : (u d : ℕ) (c n : Bool) → shape_of (typing returning).table u ≡ shape.Access d c n → n ≡ true)
       (frames : state.frames ≡ frame ∷ caller ∷ outer) (none : taken point.instr ≡ 0) (nothing : frame.waits ≡ []) where
-    abbrev LeadsOn : List Fact → Outcome → Type 0
-    LeadsOn facts outcome = Leads_on returning settled own_law other alone no_formals all_named frames facts outcome
-
     -- what a return does with the value
     pub record Returns (of : ℕ) (f : List machine.Word → Memory → Outcome) : Type 0 where
       pub at : (ws : List machine.Word) (m : Memory) → State
@@ -176,47 +168,3 @@ module _ (program : FlowProgram) (input : List ℕ) (point : FlowPoint) (state :
       pub memory : (ws : List machine.Word) (m : Memory) → (at ws m).memory ≡ m
       pub leaks : (ws : List machine.Word) (m : Memory) → (at ws m).leaks ≡ state.leaks
       pub waits : (ws : List machine.Word) (m : Memory) → waiting_in (at ws m) ≡ record { of = of; words = ws } ∷ waiting_in state
-
-    then_held : (of : ℕ) (f : List machine.Word → Memory → Outcome) → Returns of f → (facts before : List Fact)
-        → Holds returning settled own_law other alone no_formals all_named frames before state → (y : Evaluated (List machine.Word))
-        → Given_here returning settled own_law other alone no_formals all_named frames of facts y → LeadsOn facts (steps.evaluated returning y f)
-    then_held of f returns facts before holds (Done ws n) (ready, long, same) =
-        let m : Memory = n.memory in
-        let after_step : State = returns.at ws m in
-        let v : Waiting = record { of = of; words = ws } in
-        subst (LeadsOn facts) (sym (returns.goes ws m)) (
-          subst (λ z. Sound (home (typing returning) (length (caller ∷ outer))) other (seen (typing returning) z (waiting_in after_step) after_step.leaks) facts) (sym (returns.memory ws m))
-              (subst (λ z. Sound (home (typing returning) (length (caller ∷ outer))) other (seen (typing returning) m z after_step.leaks) facts) (sym (returns.waits ws m))
-              (subst (λ z. Sound (home (typing returning) (length (caller ∷ outer))) other (seen (typing returning) m (v ∷ waiting_in state) z) facts) (sym (returns.leaks ws m)) ready.sound)),
-          subst (λ z. Kept (typing returning) z (waiting_in after_step)) (sym (returns.memory ws m))
-              (subst (Kept (typing returning) m) (sym (returns.waits ws m)) ready.kept),
-        )
-    then_held of f returns facts before holds (Raises e n) given =
-        ((λ trap. trap), raises returning settled own_law other alone no_formals all_named frames before holds n.memory)
-    then_held of f returns facts before holds (Traps e n) never = absurd never
-
-    -- what waits after the return
-    waits_there : (of : ℕ) (ws : List machine.Word)
-        → waiting returning ++ (record { of = of; words = ws } ∷ (caller.waits ++ flat_map waits_of outer)) ≡ record { of = of; words = ws } ∷ waiting_in state
-    waits_there of ws =
-        let v : Waiting = record { of = of; words = ws } in
-        let here_none : waiting returning ≡ [] = ap (λ i. drop i frame.waits) none ∙ drop_none frame.waits ∙ nothing in
-        let all : waiting_in state ≡ caller.waits ++ flat_map waits_of outer =
-        ap (flat_map waits_of) frames ∙ ap (λ z. z ++ (caller.waits ++ flat_map waits_of outer)) nothing in
-        ap (λ z. z ++ (v ∷ (caller.waits ++ flat_map waits_of outer))) here_none ∙ ap (λ z. v ∷ z) (sym all)
-
-    -- The value that a function returns waits in the frame of the caller.
-    pub hold_on : (ws : List (List machine.Word)) (e : TypedTree) (of : ℕ) → Source (typing returning) of e → TakesPlainly (typing returning) (has_call e)
-        → Takes (waits_in e) ws [] → (facts : List Fact) → Holds returning settled own_law other alone no_formals all_named frames facts state
-        → AllowsAll facts (acts (acts_in (typing returning) e))
-        → LeadsOn (after (acts (acts_in (typing returning) e)) facts)
-        (steps.evaluated returning (taken_by returning of e (record { memory = state.memory; waits = ws })) (λ vs m. Goes (handed_over of vs m)))
-    hold_on ws e of gives calls takes facts holds allowed =
-        then_held of (λ vs m. Goes (handed_over of vs m)) (record {
-          at = handed_over of;
-          goes = λ vs m. refl;
-          memory = λ vs m. refl;
-          leaks = λ vs m. refl;
-          waits = λ vs m. waits_there of vs;
-        }) (after (acts (acts_in (typing returning) e)) facts) facts holds (taken_by returning of e (record { memory = state.memory; waits = ws }))
-        (source_on returning settled own_law other alone no_formals all_named frames none ws of e gives calls takes facts holds allowed)

@@ -541,12 +541,6 @@ module _ (h : Here) (settled : IsSettled h.typing.table) (hands : List Waiting) 
       (λ way both. walk_given on p x u path way (subst (λ z. is_scalar (full h.typing.table z) ≡ true) (sym type) plain) both.0 both.1)
   place_on before on e t place plain takes direct allowed = absurd place
 
-  -- without calls
-  pub place_given : (e : TypedTree) (t : ℕ) → IsPlace h.typing e t → is_scalar (full h.typing.table t) ≡ true → has_call e ≡ false → goes_through_none e ≡ true
-      → AllowsAll facts (acts (index_acts h.typing e))
-      → Quiet (record { memory = m; waits = waits }) (λ k. IsPut e k) (place_of h e (record { memory = m; waits = waits }))
-  place_given e t place plain none direct allowed = place_on waits waits e t place plain (no_takes e none waits) direct allowed
-
   -- ---- all of them
 
   -- What is passed for an actual, by the mode.
@@ -584,11 +578,6 @@ module _ (h : Here) (settled : IsSettled h.typing.table) (hands : List Waiting) 
       (λ k put. quiet_then (at on) (λ (ws : List machine.Word). Unit {0}) (λ a. IsGiven mode.InOut e a) (checked h (type_of h x) (words_of h.typing m k) (at on))
       (λ ws now. Done (From k) now) (checked_quiet on (λ ws. Unit {0}) (type_of h x) (words_of h.typing m k) tt) (λ ws any. (refl, put)))
 
-  pub one_given : (mode_of : Mode) (x : ℕ) (e : TypedTree) → IsActualBy h.typing mode_of e → IsCopiedName mode_of e → has_call e ≡ false
-      → AllowsAll facts (acts (head_acts h.typing own_law mode_of e))
-      → Quiet (record { memory = m; waits = waits }) (λ a. IsGiven mode_of e a) (passed h (way_by h.typing own_law mode_of) x e (record { memory = m; waits = waits }))
-  one_given mode_of x e actual copied none allowed = one_on waits waits mode_of x e actual copied (no_takes e none waits) allowed
-
   pub all_on : (before on : List (List machine.Word)) (formals : List ℕ) (actuals : TypedTree) → AreActuals h.typing formals actuals → AreCopied h.typing formals actuals
       → TakesAll formals actuals before on
       → AllowsAll facts (acts (actual_values h.typing (ways_of formals) actuals))
@@ -610,11 +599,6 @@ module _ (h : Here) (settled : IsSettled h.typing.table) (hands : List Waiting) 
       (all_on mid on formals rest stay.1 copied.1 more (subst (λ z. AllowsAll z (acts (actual_values h.typing (ways_of formals) rest))) same each.1))
       (λ more are. (refl, (is, are))))
   all_on before on (x ∷ formals) actuals stay copied takes allowed = ((ap at takes), refl)
-
-  pub all_given : (formals : List ℕ) (actuals : TypedTree) → AreActuals h.typing formals actuals → AreCopied h.typing formals actuals → has_call actuals ≡ false
-      → AllowsAll facts (acts (actual_values h.typing (ways_of formals) actuals))
-      → Quiet (record { memory = m; waits = waits }) (λ passed. AreGiven formals actuals passed) (all_passed h (ways_of formals) formals actuals (record { memory = m; waits = waits }))
-  all_given formals actuals stay copied none allowed = all_on waits waits formals actuals stay copied (none_taken waits formals actuals none) allowed
 
   pub given_laid : (mode_of : Mode) (e : TypedTree) (a : Passed) → IsGiven mode_of e a → IsLaid h.typing a
   given_laid mode.In e (Value ws) is = is

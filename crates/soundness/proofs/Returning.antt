@@ -249,11 +249,6 @@ module _ (t : Turn) where
         finish_from _ (λ m. Ends Normal (counted (record t.state { frames = t.outer; memory = without_frame (length t.outer) m }))) (λ m n. rw outer refl) on
         (copied_back t t.frame.returns (start t)) back_there
 
--- where nothing is copied back
-pub finish_returns : (t : Turn) (g h : Frame) (rest : List Frame) → t.outer ≡ g ∷ (h ∷ rest) → t.frame.returns ≡ []
-    → finish t ≡ Goes (counted (record t.state { frames = t.outer; memory = without_frame (length t.outer) t.state.memory }))
-finish_returns t g h rest outer none = rw (none, outer) refl
-
 pub finish_ends : (t : Turn) (g : Frame) → t.outer ≡ g ∷ [] → t.frame.returns ≡ []
     → finish t ≡ Ends Normal (counted (record t.state { frames = t.outer; memory = without_frame (length t.outer) t.state.memory }))
 finish_ends t g outer none = rw (none, outer) refl

@@ -33,7 +33,7 @@ use Rattle.typed_laws.specs.Needed.{Stays, Leads, IndexLaw}
 use Rattle.soundness.proofs.Contents.{bool_cases}
 use Rattle.soundness.proofs.Near.{named_near, past_near}
 use Rattle.soundness.proofs.Waits.{no_waits}
-use Rattle.soundness.proofs.Taking.{Takes, takes_as, takes_both, takes_zero, first_is, no_takes}
+use Rattle.soundness.proofs.Taking.{Takes, takes_as, takes_both, takes_zero, first_is}
 use Rattle.soundness.proofs.Walks.{way_along, Lead, Walked, walk}
 use Rattle.std.proofs.lemmas.List.{length-map}
 use Rattle.soundness.proofs.Steps.{plain_shape, room, taken_slots}
@@ -361,13 +361,3 @@ module _ (h : Here) (settled : IsSettled h.typing.table) (hands : List Waiting) 
     steps_taking t u NoMore lead before on takes allowed =
         ((ap at (takes_zero before on takes), record { lead = lead; sels = λ w. sym (append-nil (sels_of w)) }), refl)
     steps_taking t u steps lead before on takes allowed = absurd lead
-
-  -- without calls
-  pub quiet : (u : Use) (e : TypedTree) → Stays h.typing e → has_call e ≡ false → AllowsAll facts (acts (acts_in h.typing e))
-      → Quiet (record { memory = m; waits = waits }) One (evaluate h u e (record { memory = m; waits = waits })) × Stay (acts_in h.typing e)
-  quiet u e stays none allowed = taking u e stays waits waits (no_takes e none waits) allowed
-
-  pub steps_quiet : (t u : ℕ) (steps : TypedTree) → Leads h.typing t steps u → has_call steps ≡ false
-      → AllowsAll facts (acts (acts_in h.typing steps))
-      → Quiet (record { memory = m; waits = waits }) (λ way. Goes h.typing.table t u steps way) (steps_of h steps (record { memory = m; waits = waits })) × Stay (acts_in h.typing steps)
-  steps_quiet t u steps lead none allowed = steps_taking t u steps lead waits waits (no_takes steps none waits) allowed

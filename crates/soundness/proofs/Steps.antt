@@ -1,5 +1,5 @@
 -- The steps of a memory as changes of contents.
-use Rattle.std.proofs.Common.{◌≡◌, refl, sym, ap, ◌∙◌, subst, ◌⊎◌, inl, inr, ℕ, zero, suc, ◌+◌, ◌-◌, ◌*◌, ◌<◌, ◌≤◌, Bool, true, false, not, ◌&&◌, ◌==◌, eqb-true, eq-eqb, List, [], ◌∷◌, ◌++◌, map, sum, take, drop, length, get_or, nat_lt, ltb-true, arith, length-drop, append-nil, if◌then◌else◌}
+use Rattle.std.proofs.Common.{◌≡◌, refl, sym, ap, ◌∙◌, subst, inl, inr, ℕ, zero, suc, ◌+◌, ◌-◌, ◌*◌, ◌<◌, ◌≤◌, Bool, true, false, not, ◌&&◌, ◌==◌, eqb-true, eq-eqb, List, [], ◌∷◌, ◌++◌, map, sum, take, drop, length, get_or, nat_lt, ltb-true, arith, length-drop, append-nil, if◌then◌else◌}
 use Rattle.std.proofs.lemmas.List.{length-map, get_or-take, get_or-drop, length-take-le}
 use Rattle.type_definitions.specs.declared.table.Shape.{Shape}
 use Rattle.type_definitions.specs.declared.table.Shape.TheVariants as shape
@@ -22,10 +22,6 @@ use Rattle.soundness.specs.Typed.{Matches, Kept, loc_of, IsMade, Spot}
 use Rattle.soundness.proofs.Joined.{not_inside, leaf_join, offset_join}
 use Rattle.soundness.proofs.Contents.{leaf_below}
 use Rattle.soundness.proofs.Memories.{put_same, put_other, at_same, at_other, at_length, changed_inside, changed_outside, marked_gone, marked_length}
-
-bool_cases : (b : Bool) → (b ≡ true) ⊎ (b ≡ false)
-bool_cases true = inl refl
-bool_cases false = inr refl
 
 is_false : (b : Bool) → (b ≡ true → ⊥) → b ≡ false
 is_false true e = absurd (e refl)

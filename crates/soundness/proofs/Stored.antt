@@ -30,7 +30,7 @@ use Rattle.soundness.proofs.Near.{near_under}
 use Rattle.soundness.proofs.Moments.{stored_sound}
 use Rattle.soundness.proofs.Walks.{way_along, Walked}
 use Rattle.soundness.proofs.Scalars.{after_append, allows_both, acts, acts_append, number_along, named_along}
-use Rattle.soundness.proofs.Taking.{Takes, no_takes, TakesPlainly}
+use Rattle.soundness.proofs.Taking.{Takes, TakesPlainly}
 use Rattle.soundness.proofs.Stays.{Quiet, Goes, steps_taking, name_on}
 use Rattle.soundness.proofs.Lasting.{put_away}
 use Rattle.soundness.proofs.Evaluated.{regrouped, Keeps, Ready, GivenOn, live_trunk, checked_on, evaluated_on}
@@ -138,14 +138,3 @@ module _ (h : Here) (settled : IsSettled h.typing.table) (leaks : List Leak) (wa
       subst (λ z. Assigns hands z (followed_by (followed_by (evaluate h AsValue e (record { memory = m; waits = before })) (checked h t))
       (λ ws now. followed_by (place_of h (Name p x steps t) now) (λ k now. Done (record { words = ws; place = k }) now)))) (sym behind)
       (then_placed mid on p x t steps hands (after a facts) lead takes' each.1 (followed_by (evaluate h AsValue e (record { memory = m; waits = before })) (checked h t)) given)
-
-  -- without calls
-  pub assigned : (p : Pos) (x t : ℕ) (steps e : TypedTree) → Gives h.typing t e → Leads h.typing (object_at h.typing x).of steps t
-      → has_call e ≡ false → has_call steps ≡ false → (m : Memory) (hands : List Waiting) (facts : List Fact)
-      → Ready h settled leaks waits other alone keeps no_formals index_law own_law all_named m hands facts
-      → AllowsAll facts (acts (stored_acts h.typing (Name p x steps t) e))
-      → Assigns hands (after (acts (stored_acts h.typing (Name p x steps t) e)) facts)
-      (followed_by (followed_by (evaluate h AsValue e (record { memory = m; waits = waits })) (checked h t))
-      (λ ws now. followed_by (place_of h (Name p x steps t) now) (λ k now. Done (record { words = ws; place = k }) now)))
-  assigned p x t steps e gives lead calls calls' m hands facts ready allowed =
-      assigned_on waits waits waits p x t steps e gives lead (inl calls) (no_takes e calls waits) (no_takes steps calls' waits) m hands facts ready allowed

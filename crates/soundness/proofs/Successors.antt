@@ -156,6 +156,3 @@ unmoved_after (a ∷ more) facts none each name has =
 pub call_or : (i : Instruction) → ((n : ℕ) × (actuals : TypedTree) × (result : Option ℕ) × (i ≡ Call n actuals result)) ⊎ IsNoCall i
 call_or (Call n actuals result) = inl (n, actuals, result, refl)
 call_or i = inr (λ n actuals result e. cc)
-
-pub nothing_calls : (i : Instruction) → calls_nothing i ≡ true → IsNoCall i
-nothing_calls i calls n actuals result e = (let no_truth : false ≡ true = sym (ap calls_nothing e) ∙ calls in cc)

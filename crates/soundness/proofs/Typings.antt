@@ -107,9 +107,6 @@ module _ (a b : Typing) (agree : Agree a b) where
   used_same : (m : PlaceName) (t : ℕ) → used a m t ≡ used b m t
   used_same m t = ap (λ z. if is_owning z t then act.Move m (parts z t) else act.Read m) agree.table
 
-  both_same : {A : Type 0} (xs ys us ws : List A) → xs ≡ us → ys ≡ ws → xs ++ ys ≡ us ++ ws
-  both_same xs ys us ws first second = (λ j. first j ++ second j)
-
   acts_same : (e : TypedTree) → acts_in a e ≡ acts_in b e
   unfolding acts_in
   acts_same (Name p x steps t) = (λ j. acts_same steps j ++ placed p (used_same (name_of x steps) t j) ∷ [])
