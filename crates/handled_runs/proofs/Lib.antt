@@ -19,3 +19,5 @@ pub mod There
 -- values
 pub mod Outcomes
 pub mod Filled
+-- leak checks, and stores at spots
+pub mod Leaks

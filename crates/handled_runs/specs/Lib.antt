@@ -8,3 +8,5 @@ pub mod Looks
 -- values, and the same outcome
 pub mod Values
 pub mod Alike
+-- leak checks
+pub mod Leaks
