@@ -21,3 +21,5 @@ pub mod Outcomes
 pub mod Filled
 -- leak checks, and stores at spots
 pub mod Leaks
+-- values that go to places
+pub mod Assigned

@@ -10,3 +10,5 @@ pub mod Values
 pub mod Alike
 -- leak checks
 pub mod Leaks
+-- values that go to places
+pub mod Assigned
