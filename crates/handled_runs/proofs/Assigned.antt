@@ -1,8 +1,7 @@
 -- The law: values go to places alike over both heaps.
-use Rattle.std.proofs.Common.{◌≡◌, refl, sym, ap, ◌∙◌, subst, ℕ, zero, suc, ◌+◌, Bool, true, false, ◌&&◌, nat_le, List, [], ◌∷◌, drop, length, get_or, slice_get, Option, Some, None, ℤ, pos, negsuc, if◌then◌else◌}
+use Rattle.std.proofs.Common.{◌≡◌, refl, sym, ap, ◌∙◌, subst, ℕ, ◌+◌, Bool, true, false, ◌&&◌, nat_le, List, length, Option, Some, None, ℤ, if◌then◌else◌}
 use Rattle.spark_base.specs.declared.position.Pos.{Pos}
 use Rattle.type_definitions.specs.Types.{Table}
-use Rattle.run_values.specs.declared.value.Value.{Value}
 use Rattle.run_values.specs.declared.value.Kind.{Kind}
 use Rattle.machine.specs.Words.{access_offsets}
 use Rattle.machine.specs.States.{Leak}
@@ -14,7 +13,6 @@ use Rattle.run_codes.specs.Points as points
 use Rattle.run_codes.specs.Points.{Turn, Outcome, on_made, on_got, leaking_goes}
 use Rattle.run_codes.specs.Codes.{Fill}
 use Rattle.handled_runs.specs.Slots.{Slots}
-use Rattle.handled_runs.specs.Slots as slots
 use Rattle.handled_runs.specs.Changes.{stored}
 use Rattle.handled_runs.specs.Leaks.{leaks_at, Numbers, AreLeaked}
 use Rattle.handled_runs.specs.Assigned.{Left, flat_assigned, assigned, checked_at, LooksTo, LeftAlike}
@@ -24,7 +22,7 @@ use Rattle.handled_runs.proofs.Places.{spot_same}
 use Rattle.handled_runs.proofs.There.{words_go}
 use Rattle.handled_runs.proofs.Leaks.{leaks_alike, there_stored}
 
-stored_goes : (m : Flat) (here : List Kind) (q : Spot) (ks : List Kind) (zs : List ℤ) (t : Stop) → StandAt m here q ks → flat.stored m q ks zs ≡ Stops t → ⊥
+pub stored_goes : (m : Flat) (here : List Kind) (q : Spot) (ks : List Kind) (zs : List ℤ) (t : Stop) → StandAt m here q ks → flat.stored m q ks zs ≡ Stops t → ⊥
 stored_goes m here (InStack n) ks zs t stand e = by (nat_le (n + length zs) (length m.stack)) e
   where
     by : (b : Bool) → (if b then Given (flat.with_stack m (spliced n zs m.stack)) else Broken) ≡ Stops t → ⊥
@@ -40,7 +38,7 @@ stored_goes m here (InCell n o) ks zs t stand e =
 
 module _ (number : ℕ → ℕ) (handles : List ℕ) (here taken : List Kind) (m : Flat) (s : Slots) (beside : Beside handles here taken m s) (numbers : Numbers number handles m.cells) where
   -- the leak checks of a spot, where there are some
-  checks_alike : (table : Table) (q : Spot) (of : ℕ) (checks : Option Pos) (leaks : List Leak) → StandAt m here q (kinds table of) → are_pointers (kinds table of) (access_offsets table of) ≡ true
+  pub checks_alike : (table : Table) (q : Spot) (of : ℕ) (checks : Option Pos) (leaks : List Leak) → StandAt m here q (kinds table of) → are_pointers (kinds table of) (access_offsets table of) ≡ true
       → ((zs : List ℤ) → flat.words_at m q (kinds table of) ≡ Given zs → AreLeaked m.cells zs (access_offsets table of))
       → points.checked_at table m q of checks ≡ Given leaks → checked_at number table s (spot_renamed handles q) of checks ≡ Given leaks
   checks_alike table q of None leaks stand are leaked e = e
@@ -54,7 +52,7 @@ module _ (number : ℕ → ℕ) (handles : List ℕ) (here taken : List Kind) (m
       by (Stops t) found f = cc
       by Broken found f = cc
 
-  checks_go : (table : Table) (q : Spot) (of : ℕ) (checks : Option Pos) (t : Stop) → StandAt m here q (kinds table of) → points.checked_at table m q of checks ≡ Stops t → ⊥
+  pub checks_go : (table : Table) (q : Spot) (of : ℕ) (checks : Option Pos) (t : Stop) → StandAt m here q (kinds table of) → points.checked_at table m q of checks ≡ Stops t → ⊥
   checks_go table q of None t stand e = cc
   checks_go table q of (Some p) t stand e = by (flat.words_at m q (kinds table of)) (λ u. words_go m here q (kinds table of) u stand) e refl
     where

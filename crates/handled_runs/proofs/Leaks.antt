@@ -1,8 +1,7 @@
 -- Leak checks tell the same over both heaps, and what is stored at a spot is so over both.
-use Rattle.std.proofs.Common.{◌≡◌, refl, sym, ap, ◌∙◌, subst, ℕ, zero, suc, Bool, true, false, ◌&&◌, List, [], ◌∷◌, ◌++◌, drop, length, get_or, slice_get, ℤ, pos, negsuc}
+use Rattle.std.proofs.Common.{◌≡◌, refl, sym, ap, ◌∙◌, ℕ, zero, suc, Bool, true, false, ◌&&◌, List, [], ◌∷◌, ◌++◌, drop, length, get_or, slice_get, ℤ, pos, negsuc}
 use Rattle.spark_base.specs.declared.position.Pos.{Pos}
 use Rattle.type_definitions.specs.Types.{Table}
-use Rattle.run_values.specs.declared.value.Value.{Value}
 use Rattle.run_values.specs.declared.value.Kind.{Kind}
 use Rattle.run_values.specs.declared.value.Kind.TheVariants as sort
 use Rattle.machine.specs.Words.{access_offsets}
@@ -10,7 +9,6 @@ use Rattle.run_codes.specs.Flat.{Flat, Given, and_then, kinds, is_pointer, are_p
 use Rattle.run_codes.specs.Flat as flat
 use Rattle.run_codes.specs.Points as points
 use Rattle.handled_runs.specs.Slots.{Slots}
-use Rattle.handled_runs.specs.Slots as slots
 use Rattle.handled_runs.specs.Changes.{stored}
 use Rattle.handled_runs.specs.Leaks.{leak, leaks_in, leaks_at, Numbers, IsLeaked, AreLeaked}
 use Rattle.handled_runs.specs.Beside.{handle_word, all_renamed, spot_renamed, NameWords, Beside}

@@ -23,3 +23,5 @@ pub mod Filled
 pub mod Leaks
 -- values that go to places
 pub mod Assigned
+-- cells that are released
+pub mod Released

@@ -1,25 +1,19 @@
 -- What stores and releases change: over numbers, as points do it, and over a heap that uses its slots again.
-use Rattle.std.specs.Prelude.{◌≡◌, ◌≤◌, ℕ, zero, suc, Bool, List, [], ◌∷◌, length, nat_lt, slice_get, Option, Some, None, ℤ, pos, negsuc, unsigned_abs, if◌then◌else◌}
+use Rattle.std.specs.Prelude.{◌≡◌, ℕ, List, [], Option, Some, None, ℤ}
 use Rattle.spark_base.specs.declared.position.Pos.{Pos}
 use Rattle.type_definitions.specs.Types.{Table}
-use Rattle.run_values.specs.declared.value.Value.{Value}
 use Rattle.run_values.specs.declared.value.Kind.{Kind}
-use Rattle.run_values.specs.declared.value.Kind.TheVariants as sort
 use Rattle.machine.specs.Words.{access_offsets}
-use Rattle.machine.specs.Evaluate.{Twice}
 use Rattle.machine.specs.States.{Leak}
-use Rattle.slot_heap.specs.Heaps.{words_at}
-use Rattle.reuse_heap.specs.Cells.{Cell}
-use Rattle.numbered_cells.specs.Follows.{IsThere}
 use Rattle.run_codes.specs.Codes.{Place}
 use Rattle.run_codes.specs.Flat.{Flat, Got, Given, Stops, Broken, Stop, Traps, and_then, kinds, are_pointers, most_cells, Spot, InStack, InCell}
 use Rattle.run_codes.specs.Flat as flat
 use Rattle.run_codes.specs.Points as points
-use Rattle.handled_runs.specs.Slots.{Slots, spot, held}
-use Rattle.handled_runs.specs.Changes.{stored, without_cell}
+use Rattle.handled_runs.specs.Slots.{Slots, spot}
+use Rattle.handled_runs.specs.Changes.{stored}
 use Rattle.handled_runs.specs.Leaks.{leaks_at, AreLeaked}
 use Rattle.handled_runs.specs.Beside.{Beside}
-use Rattle.handled_runs.specs.Looks.{IsKept, LooksAt}
+use Rattle.handled_runs.specs.Looks.{LooksAt}
 use Rattle.handled_runs.specs.Alike.{StandAt}
 
 -- The leak checks that were made, and the memory then.

@@ -12,3 +12,5 @@ pub mod Alike
 pub mod Leaks
 -- values that go to places
 pub mod Assigned
+-- cells that are released
+pub mod Released
