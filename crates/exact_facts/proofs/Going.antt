@@ -24,7 +24,8 @@ use Rattle.soundness.specs.Sound.{Stage, facts_of, Elsewhere, AreStages, AreRunn
 use Rattle.soundness.specs.Ready.{IsReady}
 use Rattle.soundness.proofs.Points.{sub_there}
 use Rattle.soundness.proofs.Around.{IsBetween, all_between}
-use Rattle.soundness.proofs.Stepping.{unmoved_stage, sound_along}
+use Rattle.soundness.proofs.Packages.{unmoved_stage}
+use Rattle.soundness.proofs.Stepping.{sound_along}
 use Rattle.exact_facts.specs.Exact.{LeadsExactly, StepsLeadExactly}
 use Rattle.exact_facts.proofs.Steps.{Begins, named_variable}
 use Rattle.exact_facts.proofs.Memories.{same_told}

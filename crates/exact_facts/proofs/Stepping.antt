@@ -71,7 +71,9 @@ use Rattle.soundness.proofs.Opened.{instruction_acts}
 use Rattle.soundness.proofs.Typings.{flow_agrees}
 use Rattle.soundness.proofs.Used.{writes_used}
 use Rattle.soundness.proofs.Around.{IsFar, far_alone, inherited, inherited_from, IsBetween}
-use Rattle.soundness.proofs.Stepping.{no_in_formals, step_is, sub_is, in_program, in_sub, supplied, fine, acts_agree, path_here, facts_are, facts_on, new_after, between as sound_between, sound as sound_now, unused, allowed_now}
+use Rattle.soundness.proofs.Standing.{no_in_formals, step_is, sub_is, in_program, in_sub, supplied, fine, acts_agree, path_here, facts_are, facts_on}
+use Rattle.soundness.proofs.Packages.{new_after}
+use Rattle.soundness.proofs.Innermost.{between as sound_between, sound as sound_now, unused, allowed_now}
 use Rattle.exact_facts.specs.Exact.{IsExact, NoneFails, Knows, checks_of}
 use Rattle.exact_facts.proofs.Memories.{told_seen, exact_from}
 use Rattle.exact_facts.proofs.Frames.{after_more, after_keeps, ends_such, apart_keeps, IsDefiniteHere, beside_told, apart_told}

@@ -48,7 +48,8 @@ use Rattle.soundness.proofs.Eased.{takes_all}
 use Rattle.soundness.proofs.Operands.{handed_over, hold_is}
 use Rattle.soundness.proofs.Successors.{not_true, both_not, finish_or, call_or}
 use Rattle.soundness.proofs.Instructions.{not_anonymous}
-use Rattle.soundness.proofs.Stepping.{no_in_formals, sub_is, step_is, supplied, fine, acts_agree, facts_are, allowed_whole, allowed, from_both as sound_from_both, sound as sound_now, unused as sound_unused, allowed_now as sound_allowed}
+use Rattle.soundness.proofs.Standing.{no_in_formals, sub_is, step_is, supplied, fine, acts_agree, facts_are, allowed_whole, allowed}
+use Rattle.soundness.proofs.Innermost.{from_both as sound_from_both, sound as sound_now, unused as sound_unused, allowed_now as sound_allowed}
 use Rattle.null_places.specs.Agrees.{Agrees}
 use Rattle.null_places.specs.Compares.{Compares, ComparesIn, AreCompared}
 use Rattle.null_places.proofs.Only.{OnlyOwners}

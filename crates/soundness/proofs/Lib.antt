@@ -59,5 +59,11 @@ pub mod Passing
 pub mod Returning
 -- the state before the first step; each step; the run
 pub mod Beginning
+pub mod Standing
+pub mod Packages
+pub mod Innermost
+pub mod EachInstruction
+pub mod CallEnds
+pub mod Calling
 pub mod Stepping
 pub mod Main
