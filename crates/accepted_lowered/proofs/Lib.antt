@@ -1,2 +1,5 @@
+-- what `check` accepts
 pub mod Rooms
 pub mod Main
+-- what `run` takes
+pub mod Runnable

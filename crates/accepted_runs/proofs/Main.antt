@@ -1,5 +1,5 @@
--- The runs of the programs of both classes that `check` accepts are sound, and in those of the first
--- class no excused leak check fails.
+-- The runs of the programs of both classes that `check` accepts are sound, no excused leak check
+-- fails in them, and they give the same with null in moved places.
 use Rattle.std.proofs.Common.{◌≡◌, ℕ, List, Some}
 use Rattle.spark_base.specs.declared.limits.TheConstants.{TOKENS, SOURCE_BYTES}
 use Rattle.ada_tree.specs.declared.unit.SourceUnit.{SourceUnit}
@@ -9,18 +9,16 @@ use Rattle.flow_paths.specs.declared.report.Effects.{Effects}
 use Rattle.soundness.specs.Sound.{RunIsSound}
 use Rattle.program_check.specs.Sources.{flow_of}
 use Rattle.order_laws.specs.Orderly.{typed_of}
-use Rattle.name_events.specs.Identified.{identified}
 use Rattle.file_positions.specs.Texts.{AreParsed}
-use Rattle.file_positions.proofs.Ascending.{events_ascend}
-use Rattle.file_positions.proofs.Main.{files_apart, files_ended}
 use Rattle.typed_steps.specs.Steps.{AreTyped}
-use Rattle.typed_files.proofs.Main.{files_steps}
 use Rattle.sound_files.specs.Class.{IsNamedText, IsPlainText, CallsNothing, CallsProcedures, HasNoFunction, HasScalarFormals, CopiesToVariables}
 use Rattle.sound_files.proofs.First.{named_text, formless_scalar, formless_copies}
 use Rattle.sound_files.proofs.Main.{parsed_sound}
 use Rattle.sound_files.proofs.Procedures.{parsed_procedures_sound}
 use Rattle.exact_facts.specs.Exact.{RunHolds}
-use Rattle.excused_runs.proofs.Files.{parsed_hold}
+use Rattle.excused_runs.proofs.Files.{parsed_hold, parsed_procedures_hold}
+use Rattle.null_places.specs.Cleared.{RunsWithNull}
+use Rattle.null_runs.proofs.Files.{parsed_typed, parsed_with_null, parsed_procedures_with_null}
 use Rattle.command_words.specs.Words.{Check}
 use Rattle.run_command.specs.Answers.{Answer}
 use Rattle.spark_tool.specs.Commands.{command_of}
@@ -37,6 +35,10 @@ RunsAreSound trees = (input : List ℕ) → RunIsSound (known_of (program_of tre
 -- At no step of any run a leak check fails that the leak plan excuses.
 abbrev pub RunsHold : List (List SourceUnit) → Effects → Type 0
 RunsHold trees effects = (input : List ℕ) → RunHolds (flow_of trees) effects input
+
+-- With each budget a run gives the same with null in moved places.
+abbrev pub RunsAreWithNull : List (List SourceUnit) → Type 0
+RunsAreWithNull trees = (input : List ℕ) → RunsWithNull (flow_of trees) input
 
 -- The first class of programs.
 pub record AreInClass (trees : List (List SourceUnit)) : Type 0 where
@@ -84,20 +86,45 @@ formless_second trees text procedures calls = record {
   copied = formless_copies (program_of trees) text;
 }
 
-pub passed_procedures_sound : (texts : List (List ℕ)) (trees : List (List SourceUnit)) (effects : Effects) → Passes texts trees effects → AreInSecondClass trees
-    → RunsAreSound trees
-passed_procedures_sound texts trees effects passes class input =
-    let parsed : AreParsed 0 passes.cuts trees = are_parsed texts 0 TOKENS passes.cuts trees passes.cut passes.parsed in
-    let typed : AreTyped (flow_of trees)
-    = files_steps trees (files_apart passes.cuts trees parsed) (files_ended (identified trees) passes.cuts trees parsed) (events_ascend passes.cuts trees parsed)
-    passes.named passes.typed in
-    parsed_procedures_sound trees passes.cuts parsed passes.named passes.typed class.text class.procedures effects passes.effects_are passes.none typed class.calls
-    class.formals class.copied input
+module _ (texts : List (List ℕ)) (trees : List (List SourceUnit)) (effects : Effects) (passes : Passes texts trees effects) where
+  parsed : AreParsed 0 passes.cuts trees
+  parsed = are_parsed texts 0 TOKENS passes.cuts trees passes.cut passes.parsed
 
--- If the tool answers a check with status 0, and the program is in this class, its runs are sound.
+  typed : AreTyped (flow_of trees)
+  typed = parsed_typed trees passes.cuts parsed passes.named passes.typed
+
+  pub passed_procedures_sound : AreInSecondClass trees → RunsAreSound trees
+  passed_procedures_sound class input =
+      parsed_procedures_sound trees passes.cuts parsed passes.named passes.typed class.text class.procedures effects passes.effects_are passes.none typed class.calls
+      class.formals class.copied input
+
+  pub passed_procedures_hold : AreInSecondClass trees → RunsHold trees effects
+  passed_procedures_hold class input =
+      parsed_procedures_hold trees passes.cuts parsed passes.named passes.typed class.text class.procedures effects passes.effects_are passes.none typed class.calls
+      class.formals class.copied input
+
+  pub passed_with_null : AreInClass trees → RunsAreWithNull trees
+  passed_with_null class input = parsed_with_null trees passes.cuts parsed passes.named passes.typed class.text effects passes.effects_are passes.none class.calls input
+
+  pub passed_procedures_with_null : AreInSecondClass trees → RunsAreWithNull trees
+  passed_procedures_with_null class input =
+      parsed_procedures_with_null trees passes.cuts parsed passes.named passes.typed class.text class.procedures effects passes.effects_are passes.none class.calls
+      class.formals class.copied input
+
+-- If the tool answers a check with status 0, and the program is in this class, its runs are sound, and
+-- no excused leak check fails in them.
 pub accepted_procedures_sound : (stored : List (List ℕ × List ℕ)) (input : List ℕ) (words names : List (List ℕ)) (answer : Answer)
     → command_of words ≡ Some (Check names) → Product stored input words answer → answer.status ≡ 0
-    → (is : Passed (sources stored 0 SOURCE_BYTES names)) × (AreInSecondClass is.trees → RunsAreSound is.trees)
+    → (is : Passed (sources stored 0 SOURCE_BYTES names)) × (AreInSecondClass is.trees → RunsAreSound is.trees × RunsHold is.trees is.effects)
 accepted_procedures_sound stored input words names answer command product zero =
     let is : Passed (sources stored 0 SOURCE_BYTES names) = product_passed stored input words names answer command product zero in
-    (is, passed_procedures_sound is.texts is.trees is.effects is.passes)
+    (is, λ class. (passed_procedures_sound is.texts is.trees is.effects is.passes class, passed_procedures_hold is.texts is.trees is.effects is.passes class))
+
+-- In both classes its runs give the same with null in moved places.
+pub accepted_with_null : (stored : List (List ℕ × List ℕ)) (input : List ℕ) (words names : List (List ℕ)) (answer : Answer)
+    → command_of words ≡ Some (Check names) → Product stored input words answer → answer.status ≡ 0
+    → (is : Passed (sources stored 0 SOURCE_BYTES names))
+    × (AreInClass is.trees → RunsAreWithNull is.trees) × (AreInSecondClass is.trees → RunsAreWithNull is.trees)
+accepted_with_null stored input words names answer command product zero =
+    let is : Passed (sources stored 0 SOURCE_BYTES names) = product_passed stored input words names answer command product zero in
+    (is, passed_with_null is.texts is.trees is.effects is.passes, passed_procedures_with_null is.texts is.trees is.effects is.passes)

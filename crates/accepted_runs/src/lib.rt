@@ -5,6 +5,6 @@
 //! file is there, that its tokens spell a source, that the program breaks no rule of names and of
 //! types and no limit, and that there are no reports (`specs/Passed.antt`, `proofs/Passing.antt`).
 //! The files are parsed then, as `file_positions` has it (`proofs/Parsed.antt`). So the laws of
-//! `sound_files` and of `excused_runs` speak of what `check` accepts (`proofs/Main.antt`). Nothing
-//! here runs.
+//! `sound_files`, of `excused_runs` and of `null_runs` speak of what `check` accepts
+//! (`proofs/Main.antt`). Nothing here runs.
 #![tactic(auto)]

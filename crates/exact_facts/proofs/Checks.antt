@@ -43,8 +43,8 @@ is_gone (machine.Int v) false e = cc
 is_gone (machine.Enumerated v) false e = cc
 is_gone machine.Null false e = cc
 
-module _ (s : Typing) (settled : IsSettled s.table) (depth : ℕ) (m : Memory) (hands : List Waiting) (leaks : List Leak) (facts : List Fact)
-    (exact : IsExact s depth m facts) (k : Place) (l : Loc) (w : Way) (place : Spot s m hands k l) (named : Named (home s depth) w)
+module _ (s : Typing) (settled : IsSettled s.table) (depth : ℕ) (other : Way → Type 0) (m : Memory) (hands : List Waiting) (leaks : List Leak) (facts : List Fact)
+    (exact : IsExact s depth other m facts) (k : Place) (l : Loc) (w : Way) (place : Spot s m hands k l) (named : Named (home s depth) w)
     (reaches : Reaches (seen s m hands leaks) w l) where
   -- the check of one access part
   pub part_holds : (pos : Pos) (q : List Sel) → Has (parts s.table k.of) q → has_elem (sels_of w ++ q) ≡ false → Has facts (Moved (extend (name_of w) q))
@@ -58,7 +58,7 @@ module _ (s : Typing) (settled : IsSettled s.table) (depth : ℕ) (m : Memory) (
       }) in
       let definite : IsDefinite (home s depth) facts way =
       ((named_part (home s depth) w leaf.path named, subst (λ n. Has facts (Moved n)) (sym called) moved), ap (λ (n : Name). has_elem n.sels) called ∙ plain) in
-      let word = told_seen s depth m hands leaks facts exact way (part l leaf.path) definite (reaches_along (seen s m hands leaks) w l leaf.path reaches) in
+      let word = told_seen s depth other m hands leaks facts exact way (part l leaf.path) (inl definite) (reaches_along (seen s m hands leaks) w l leaf.path reaches) in
       let c : Content = content s m hands (trunk l) in
       let there = shown s.table c (leaf.path ++ steps_in l) Gone (λ z. cc) (sym (word_part s.table (content s m hands) l leaf.path) ∙ word) in
       let like = alike s.table settled k.of (type_in s.table c.of (steps_in l)) place.of in

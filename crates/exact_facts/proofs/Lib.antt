@@ -12,7 +12,11 @@ pub mod Stored
 pub mod Instructions
 pub mod Releases
 pub mod Loops
+-- frames
+pub mod Frames
+pub mod Calls
 -- steps, and the law
+pub mod Spots
 pub mod Stepping
 pub mod Main
 pub mod Going

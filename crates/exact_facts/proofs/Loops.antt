@@ -12,10 +12,10 @@ use Rattle.place_names.specs.Rules.{breaks_O3}
 use Rattle.place_names.specs.Facts.{effect}
 use Rattle.type_definitions.specs.declared.table.Shape.TheVariants as shape
 use Rattle.type_definitions.specs.Types.{shape_of, words, is_scalar, full}
-use Rattle.typed_tree.specs.Trees.{TypedTree, Text, Name, Parens, Image, Binary, NoMore, More}
+use Rattle.typed_tree.specs.Trees.{TypedTree, Name, NoMore, More}
 use Rattle.flow_paths.specs.declared.point.LeakSpot.{LeakSpot}
 use Rattle.flow_paths.specs.Objects.{Typing, object_at}
-use Rattle.flow_paths.specs.Names.{has_call, name_of}
+use Rattle.flow_paths.specs.Names.{has_call, waiting as waits_in, name_of}
 use Rattle.flow_paths.specs.Scopes.{taken}
 use Rattle.flow_paths.specs.Acts.{acts_in, source_acts}
 use Rattle.run_values.specs.declared.items.Item.{Item}
@@ -42,17 +42,17 @@ use Rattle.soundness.proofs.Memories.{put_other, removed_other}
 use Rattle.soundness.proofs.Walks.{way_along, Walked}
 use Rattle.soundness.proofs.Steps.{plain_shape}
 use Rattle.soundness.proofs.Scalars.{acts, acts_append, after_append, allows_both, number_along, named_along}
-use Rattle.soundness.proofs.Stays.{Quiet, Any, One, quiet_then, quiet, Goes as GoesAlong, steps_quiet, name_quiet}
+use Rattle.soundness.proofs.Taking.{Takes, no_takes}
+use Rattle.soundness.proofs.Stays.{Quiet, Any, One, quiet_then, quiet_from, taking, Goes as GoesAlong, steps_taking, name_quiet}
 use Rattle.soundness.proofs.Numbers.{index_law}
 use Rattle.soundness.proofs.Lasting.{keeps}
 use Rattle.soundness.proofs.Evaluated.{live_trunk, Ready, blank_ready}
-use Rattle.soundness.proofs.Waits.{or_both}
 use Rattle.soundness.proofs.Freeing.{switched}
-use Rattle.soundness.proofs.Instructions.{Holds, Gets, start_is}
+use Rattle.soundness.proofs.Instructions.{Holds, Gets, start_is, text_quiet}
 use Rattle.soundness.proofs.Loops.{Starts, scalar_same}
 use Rattle.exact_facts.specs.Exact.{IsExact}
 use Rattle.exact_facts.proofs.Steps.{IsPlaced, keeps_placed, told_still}
-use Rattle.exact_facts.proofs.Memories.{told_seen, exact_from, stored_exact}
+use Rattle.exact_facts.proofs.Memories.{clear_names, told_seen, exact_from, stored_exact}
 use Rattle.exact_facts.proofs.Instructions.{ExactOn}
 
 module _ (t : Turn) (settled : IsSettled (typing t).table) (own_law : OwnsByShape (typing t).table) (other : Way → Type 0)
@@ -77,17 +77,17 @@ module _ (t : Turn) (settled : IsSettled (typing t).table) (own_law : OwnsByShap
   abbrev ExactHere : List Fact → Outcome → Type 0
   ExactHere facts outcome = ExactOn t settled own_law other alone no_formals all_named frames Excused facts [] outcome
 
-  same_exact : (next : Memory) (facts : List Fact) → IsSame (seen s m hands t.state.leaks) (seen s next hands t.state.leaks) → IsExact s depth m facts
-      → IsExact s depth next facts
+  same_exact : (next : Memory) (facts : List Fact) → IsSame (seen s m hands t.state.leaks) (seen s next hands t.state.leaks) → IsExact s depth other m facts
+      → IsExact s depth other next facts
   same_exact next facts same exact =
-      exact_from s depth (seen s next hands t.state.leaks) next hands facts (λ l. refl)
-      (told_still (home s depth) (seen s m hands t.state.leaks) (seen s next hands t.state.leaks) IsPlaced facts
+      exact_from s depth other (seen s next hands t.state.leaks) next hands facts (λ l. refl)
+      (told_still (home s depth) other (clear_names s depth other alone) (seen s m hands t.state.leaks) (seen s next hands t.state.leaks) IsPlaced facts (λ f x. tt)
       (keeps_placed (seen s m hands t.state.leaks) (seen s next hands t.state.leaks) (λ l n p h. sym (same.word l) ∙ h))
-      (λ l p gone. same.word l ∙ gone) (told_seen s depth m hands t.state.leaks facts exact))
+      (λ l p gone. same.word l ∙ gone) (told_seen s depth other m hands t.state.leaks facts exact))
 
   -- ---- iterations
 
-  next_by : (x : ℕ) → is_scalar (full s.table (object_at s x).of) ≡ true → (facts : List Fact) → IsExact s depth m facts
+  next_by : (x : ℕ) → is_scalar (full s.table (object_at s x).of) ≡ true → (facts : List Fact) → IsExact s depth other m facts
       → (ws : List machine.Word) (v : Option ℤ) → ExactHere facts (steps.turned_to t x (variable_place (here t) x) ws v)
   next_by x scalar facts exact ws (Some v) =
       let k : Place = variable_place (here t) x in
@@ -105,7 +105,7 @@ module _ (t : Turn) (settled : IsSettled (typing t).table) (own_law : OwnsByShap
         tt,
       )
 
-  pub next_exact : (x : ℕ) (reversed : Bool) → is_scalar (full s.table (object_at s x).of) ≡ true → (facts : List Fact) → IsExact s depth m facts
+  pub next_exact : (x : ℕ) (reversed : Bool) → is_scalar (full s.table (object_at s x).of) ≡ true → (facts : List Fact) → IsExact s depth other m facts
       → ExactHere facts (steps.next_turn t x reversed)
   next_exact x reversed scalar facts exact =
       let ws : List machine.Word = words_of s m (variable_place (here t) x) in
@@ -115,6 +115,10 @@ module _ (t : Turn) (settled : IsSettled (typing t).table) (own_law : OwnsByShap
     abbrev now : Now
     now = record { memory = t.state.memory; waits = [] }
 
+    -- with these values, which the instruction takes
+    abbrev at : List (List machine.Word) → Now
+    at ws = record { memory = t.state.memory; waits = ws }
+
     started : start t ≡ record { memory = t.state.memory; waits = [] }
     started = start_is t settled own_law other alone no_formals all_named frames none
 
@@ -122,7 +126,7 @@ module _ (t : Turn) (settled : IsSettled (typing t).table) (own_law : OwnsByShap
     Both b = One b.low × One b.high
 
     then_started : (x : ℕ) (f : steps.Bounds → Memory → Outcome) → Starts t settled own_law other alone no_formals all_named frames none x f
-        → is_scalar (full s.table (object_at s x).of) ≡ true → (facts : List Fact) → IsExact s depth m facts
+        → is_scalar (full s.table (object_at s x).of) ≡ true → (facts : List Fact) → IsExact s depth other m facts
         → (y : Evaluated steps.Bounds) → Quiet now Both y → ExactHere facts (steps.evaluated t y f)
     then_started x f starts scalar facts exact (Done b n) (same, both) =
         let next : Memory = declared depth x b.low m in
@@ -136,30 +140,39 @@ module _ (t : Turn) (settled : IsSettled (typing t).table) (own_law : OwnsByShap
     then_started x f starts scalar facts exact (Raises e n) is = tt
     then_started x f starts scalar facts exact (Traps e n) never = tt
 
-    started_by : (x : ℕ) (f : steps.Bounds → Memory → Outcome) (low high : TypedTree) → Starts t settled own_law other alone no_formals all_named frames none x f
+    pub started_on : (ws mid : List (List machine.Word)) (x : ℕ) (f : steps.Bounds → Memory → Outcome) (low high : TypedTree)
+        → Starts t settled own_law other alone no_formals all_named frames none x f
         → is_scalar (full s.table (object_at s x).of) ≡ true
-        → Stays s low → Stays s high → has_call low ≡ false → has_call high ≡ false → (facts : List Fact) → HoldsHere facts t.state
-        → AllowsAll facts (acts (acts_in s low ++ acts_in s high)) → IsExact s depth m facts
-        → ExactHere (after (acts (acts_in s low ++ acts_in s high)) facts) (steps.evaluated t (steps.bounds t low high (start t)) f)
-    started_by x f low high starts scalar stays stays' calls calls' facts holds allowed exact =
+        → Stays s low → Stays s high → Takes (waits_in low) ws mid → Takes (waits_in high) mid [] → (facts : List Fact) → HoldsHere facts t.state
+        → AllowsAll facts (acts (acts_in s low ++ acts_in s high)) → IsExact s depth other m facts
+        → ExactHere (after (acts (acts_in s low ++ acts_in s high)) facts) (steps.evaluated t (steps.bounds t low high (at ws)) f)
+    started_on ws mid x f low high starts scalar stays stays' takes takes' facts holds allowed exact =
         let each = allows_both facts (acts (acts_in s low)) (acts (acts_in s high)) (subst (AllowsAll facts) (acts_append (acts_in s low) (acts_in s high)) allowed) in
         let live = live_trunk (here t) settled t.state.leaks [] other alone (keeps s settled own_law) no_formals index_law own_law all_named t.state.memory hands holds.0.owned in
-        let first_bound = quiet (here t) settled hands t.state.leaks t.state.memory [] other facts holds.1 holds.0 alone live index_law own_law all_named AsValue low stays calls each.0 in
-        let second_bound = quiet (here t) settled hands t.state.leaks t.state.memory [] other facts holds.1 holds.0 alone live index_law own_law all_named AsValue high stays' calls'
+        let first_bound = taking (here t) settled hands t.state.leaks t.state.memory [] other facts holds.1 holds.0 alone live index_law own_law all_named AsValue low stays ws mid takes each.0 in
+        let second_bound = taking (here t) settled hands t.state.leaks t.state.memory [] other facts holds.1 holds.0 alone live index_law own_law all_named AsValue high stays' mid [] takes'
         (subst (λ z. AllowsAll z (acts (acts_in s high))) first_bound.1 each.1) in
         let all : after (acts (acts_in s low ++ acts_in s high)) facts ≡ facts =
         ap (λ z. after z facts) (acts_append (acts_in s low) (acts_in s high)) ∙ after_append (acts (acts_in s low)) (acts (acts_in s high)) facts
         ∙ ap (after (acts (acts_in s high))) first_bound.1 ∙ second_bound.1 in
-        let q : Quiet now Both (steps.bounds t low high now) =
-        quiet_then now One Both (value (here t) low now) (λ a n. followed_by (value (here t) high n) (λ b n. Done (record { low = a; high = b }) n)) first_bound.0
-        (λ a one. quiet_then now One Both (value (here t) high now) (λ b n. Done (record { low = a; high = b }) n) second_bound.0 (λ b other_one. (refl, (one, other_one)))) in
-        subst (λ z. ExactHere z (steps.evaluated t (steps.bounds t low high (start t)) f)) (sym all)
-        (subst (λ z. ExactHere facts (steps.evaluated t (steps.bounds t low high z) f)) (sym started)
-        (then_started x f starts scalar facts exact (steps.bounds t low high now) q))
+        let q : Quiet now Both (steps.bounds t low high (at ws)) =
+        quiet_from (at mid) now One Both refl (value (here t) low (at ws)) (λ a n. followed_by (value (here t) high n) (λ b n. Done (record { low = a; high = b }) n)) first_bound.0
+        (λ a one. quiet_then now One Both (value (here t) high (at mid)) (λ b n. Done (record { low = a; high = b }) n) second_bound.0 (λ b other_one. (refl, (one, other_one)))) in
+        subst (λ z. ExactHere z (steps.evaluated t (steps.bounds t low high (at ws)) f)) (sym all)
+        (then_started x f starts scalar facts exact (steps.bounds t low high (at ws)) q)
+
+    started_by : (x : ℕ) (f : steps.Bounds → Memory → Outcome) (low high : TypedTree) → Starts t settled own_law other alone no_formals all_named frames none x f
+        → is_scalar (full s.table (object_at s x).of) ≡ true
+        → Stays s low → Stays s high → has_call low ≡ false → has_call high ≡ false → (facts : List Fact) → HoldsHere facts t.state
+        → AllowsAll facts (acts (acts_in s low ++ acts_in s high)) → IsExact s depth other m facts
+        → ExactHere (after (acts (acts_in s low ++ acts_in s high)) facts) (steps.evaluated t (steps.bounds t low high (start t)) f)
+    started_by x f low high starts scalar stays stays' calls calls' facts holds allowed exact =
+        subst (λ z. ExactHere (after (acts (acts_in s low ++ acts_in s high)) facts) (steps.evaluated t (steps.bounds t low high z) f)) (sym started)
+        (started_on [] [] x f low high starts scalar stays stays' (no_takes low calls []) (no_takes high calls' []) facts holds allowed exact)
 
     pub start_exact : (x : ℕ) (low high : TypedTree) → is_scalar (full s.table (object_at s x).of) ≡ true
         → Stays s low → Stays s high → has_call low ≡ false → has_call high ≡ false → (facts : List Fact) → HoldsHere facts t.state
-        → AllowsAll facts (acts (acts_in s low ++ acts_in s high)) → IsExact s depth m facts
+        → AllowsAll facts (acts (acts_in s low ++ acts_in s high)) → IsExact s depth other m facts
         → ExactHere (after (acts (acts_in s low ++ acts_in s high)) facts) (steps.start_loop t x low high)
     start_exact x low high scalar stays stays' calls calls' facts holds allowed exact =
         started_by x _ low high (record {
@@ -172,50 +185,39 @@ module _ (t : Turn) (settled : IsSettled (typing t).table) (own_law : OwnsByShap
 
     -- ---- output
 
-    text_quiet : (e : TypedTree) → Writes s e → has_call e ≡ false → (facts : List Fact) → HoldsHere facts t.state → AllowsAll facts (acts (acts_in s e))
-        → Quiet now (Any {A = List ℕ}) (text_of (here t) e now) × (after (acts (acts_in s e)) facts ≡ facts)
-    unfolding Writes text_of has_call acts_in
-    text_quiet (Text b) writes calls facts holds allowed = ((refl, tt), refl)
-    text_quiet (Image u e) stays calls facts holds allowed =
-        let q = quiet (here t) settled hands t.state.leaks t.state.memory [] other facts holds.1 holds.0 alone
-        (live_trunk (here t) settled t.state.leaks [] other alone (keeps s settled own_law) no_formals index_law own_law all_named t.state.memory hands holds.0.owned)
-        index_law own_law all_named AsValue e stays calls allowed in
-        (quiet_then now One (Any {A = List ℕ}) (value (here t) e now) (λ ws n. Done (run.image_of s.table u ws) n) q.0 (λ ws one. (refl, tt)), q.1)
-    text_quiet (Parens e) writes calls facts holds allowed = text_quiet e writes calls facts holds allowed
-    text_quiet (Binary op a b) (wa, wb) calls facts holds allowed =
-        let both = or_both (has_call a) (has_call b) calls in
-        let each = allows_both facts (acts (acts_in s a)) (acts (acts_in s b)) (subst (AllowsAll facts) (acts_append (acts_in s a) (acts_in s b)) allowed) in
-        let left = text_quiet a wa both.0 facts holds each.0 in
-        let right = text_quiet b wb both.1 facts holds (subst (λ z. AllowsAll z (acts (acts_in s b))) left.1 each.1) in (
-          quiet_then now (Any {A = List ℕ}) (Any {A = List ℕ}) (text_of (here t) a now) (λ x n. followed_by (text_of (here t) b n) (λ y n. Done (x ++ y) n)) left.0
-              (λ x any. quiet_then now (Any {A = List ℕ}) (Any {A = List ℕ}) (text_of (here t) b now) (λ y n. Done (x ++ y) n) right.0 (λ y any. (refl, tt))),
-          ap (λ z. after z facts) (acts_append (acts_in s a) (acts_in s b)) ∙ after_append (acts (acts_in s a)) (acts (acts_in s b)) facts
-              ∙ ap (after (acts (acts_in s b))) left.1 ∙ right.1,
-        )
-    text_quiet e writes calls facts holds allowed = absurd writes
-
-    then_written : (facts : List Fact) → IsExact s depth m facts → (line : Bool) (y : Evaluated (List ℕ)) → Quiet now (Any {A = List ℕ}) y
+    then_written : (facts : List Fact) → IsExact s depth other m facts → (line : Bool) (y : Evaluated (List ℕ)) → Quiet now (Any {A = List ℕ}) y
         → ExactHere facts (steps.evaluated t y (λ bytes m. Goes (record (behind t (waiting t) m 0) {
           output = t.state.output ++ bytes ++ (if line then 10 ∷ [] else []);
         })))
-    then_written facts exact line (Done a n) (same, p) = (subst (λ (z : Now). IsExact s depth z.memory facts) (sym same) exact, tt)
+    then_written facts exact line (Done a n) (same, p) = (subst (λ (z : Now). IsExact s depth other z.memory facts) (sym same) exact, tt)
     then_written facts exact line (Raises e n) is = tt
     then_written facts exact line (Traps e n) never = tt
 
-    pub output_exact : (e rest : TypedTree) (line : Bool) → rest ≡ NoMore → Writes s e → has_call e ≡ false → (facts : List Fact) → HoldsHere facts t.state
-        → AllowsAll facts (acts (acts_in s (More e rest))) → IsExact s depth m facts
-        → ExactHere (after (acts (acts_in s (More e rest))) facts) (steps.output t (More e rest) line)
-    unfolding acts_in
-    output_exact e rest line last writes calls facts holds allowed exact =
-        let same : acts_in s e ++ acts_in s rest ≡ acts_in s e = ap (λ z. acts_in s e ++ acts_in s z) last ∙ append-nil (acts_in s e) in
-        let q = text_quiet e writes calls facts holds (subst (λ z. AllowsAll facts (acts z)) same allowed) in
-        subst (λ z. ExactHere z (steps.output t (More e rest) line)) (sym (ap (λ z. after (acts z) facts) same ∙ q.1))
-        (subst (λ z. ExactHere facts (steps.evaluated t (text_of (here t) e z) (λ bytes m. Goes (record (behind t (waiting t) m 0) {
+    pub output_on : (ws : List (List machine.Word)) (e rest : TypedTree) (line : Bool) → rest ≡ NoMore → Writes s e → Takes (waits_in e) ws []
+        → (facts : List Fact) → HoldsHere facts t.state
+        → AllowsAll facts (acts (acts_in s (More e rest))) → IsExact s depth other m facts
+        → ExactHere (after (acts (acts_in s (More e rest))) facts) (steps.evaluated t (text_of (here t) e (at ws)) (λ bytes m. Goes (record (behind t (waiting t) m 0) {
           output = t.state.output ++ bytes ++ (if line then 10 ∷ [] else []);
-        })))) (sym started) (then_written facts exact line (text_of (here t) e now) q.0))
+        })))
+    unfolding acts_in
+    output_on ws e rest line last writes takes facts holds allowed exact =
+        let same : acts_in s e ++ acts_in s rest ≡ acts_in s e = ap (λ z. acts_in s e ++ acts_in s z) last ∙ append-nil (acts_in s e) in
+        let q = text_quiet t settled own_law other alone no_formals all_named frames none ws [] e writes takes facts holds (subst (λ z. AllowsAll facts (acts z)) same allowed) in
+        subst (λ z. ExactHere z (steps.evaluated t (text_of (here t) e (at ws)) (λ bytes m. Goes (record (behind t (waiting t) m 0) {
+          output = t.state.output ++ bytes ++ (if line then 10 ∷ [] else []);
+        })))) (sym (ap (λ z. after (acts z) facts) same ∙ q.1))
+        (then_written facts exact line (text_of (here t) e (at ws)) q.0)
+
+    pub output_exact : (e rest : TypedTree) (line : Bool) → rest ≡ NoMore → Writes s e → has_call e ≡ false → (facts : List Fact) → HoldsHere facts t.state
+        → AllowsAll facts (acts (acts_in s (More e rest))) → IsExact s depth other m facts
+        → ExactHere (after (acts (acts_in s (More e rest))) facts) (steps.output t (More e rest) line)
+    output_exact e rest line last writes calls facts holds allowed exact =
+        subst (λ z. ExactHere (after (acts (acts_in s (More e rest))) facts) (steps.evaluated t (text_of (here t) e z) (λ bytes m. Goes (record (behind t (waiting t) m 0) {
+          output = t.state.output ++ bytes ++ (if line then 10 ∷ [] else []);
+        })))) (sym started) (output_on [] e rest line last writes (no_takes e calls []) facts holds allowed exact)
 
     -- a line that ends without a text
-    pub line_exact : (line : Bool) (facts : List Fact) → IsExact s depth m facts → ExactHere facts (steps.output t NoMore line)
+    pub line_exact : (line : Bool) (facts : List Fact) → IsExact s depth other m facts → ExactHere facts (steps.output t NoMore line)
     unfolding text_of
     line_exact line facts exact = then_written facts exact line (Done [] (start t)) (started, tt)
 
@@ -228,7 +230,7 @@ module _ (t : Turn) (settled : IsSettled (typing t).table) (own_law : OwnsByShap
     ReadyIn memory held facts = Ready (here t) settled t.state.leaks [] other alone (keeps s settled own_law) no_formals index_law own_law all_named memory held facts
 
     module _ (f : Place → Memory → Outcome) (gets : Gets t settled own_law other alone no_formals all_named frames none f) (facts : List Fact)
-        (holds : HoldsHere facts t.state) (exact : IsExact s depth m facts) (u : ℕ) (scalar : is_scalar (full s.table u) ≡ true) (v : ℤ) where
+        (holds : HoldsHere facts t.state) (exact : IsExact s depth other m facts) (u : ℕ) (scalar : is_scalar (full s.table u) ≡ true) (v : ℤ) where
       ready_in : ReadyIn t.state.memory (value_in v u ∷ hands) facts
       ready_in = blank_ready (here t) settled t.state.leaks [] other alone (keeps s settled own_law) no_formals index_law own_law all_named
           t.state.memory hands facts u (machine.Int v ∷ []) (λ k has. elim has [ inl e ↦ cc | inr e ↦ e ]) (record { sound = holds.0; kept = holds.1 })
@@ -247,7 +249,7 @@ module _ (t : Turn) (settled : IsSettled (typing t).table) (own_law : OwnsByShap
                 let owns = live_trunk (here t) settled t.state.leaks [] other alone (keeps s settled own_law) no_formals index_law own_law all_named m (value_in v u ∷ hands)
                 ready_in.sound.owned w l (named_rooted (home s depth) w named) reaches in
                 subst (ExactHere (effect (act.Write (ways.name_of w)) facts)) (sym (gets.at_number k t.state.memory v end next fits)) (
-                  stored_exact s settled depth other m (value_in v u) hands t.state.leaks facts k l w t.point.pos ready_in.sound ready_in.kept place named reaches owns long
+                  stored_exact s settled depth other alone m (value_in v u) hands t.state.leaks facts k l w t.point.pos ready_in.sound ready_in.kept place named reaches owns long
                       (inl (ap (shape_of s.table) (sym of))) exact,
                   tt,
                 ))
@@ -287,41 +289,48 @@ module _ (t : Turn) (settled : IsSettled (typing t).table) (own_law : OwnsByShap
     abbrev out_act : PlaceName → Act
     out_act name = act.Actual name mode.Out false false
 
-    got_by : (f : Place → Memory → Outcome) (p : Pos) (x u : ℕ) (path : TypedTree) → Gets t settled own_law other alone no_formals all_named frames none f
-        → is_scalar (full s.table u) ≡ true → Leads s (object_at s x).of path u → has_call path ≡ false → (facts : List Fact) → HoldsHere facts t.state
-        → AllowsAll facts (acts (source_acts s (Name p x path u) out_act)) → IsExact s depth m facts
-        → ExactHere (after (acts (source_acts s (Name p x path u) out_act)) facts) (steps.evaluated t (place_of (here t) (Name p x path u) (start t)) f)
-    got_by f p x u path gets scalar lead calls facts holds allowed exact =
+    pub got_on : (ws : List (List machine.Word)) (f : Place → Memory → Outcome) (p : Pos) (x u : ℕ) (path : TypedTree) → Gets t settled own_law other alone no_formals all_named frames none f
+        → is_scalar (full s.table u) ≡ true → Leads s (object_at s x).of path u → Takes (waits_in path) ws [] → (facts : List Fact) → HoldsHere facts t.state
+        → AllowsAll facts (acts (source_acts s (Name p x path u) out_act)) → IsExact s depth other m facts
+        → ExactHere (after (acts (source_acts s (Name p x path u) out_act)) facts) (steps.evaluated t (place_of (here t) (Name p x path u) (at ws)) f)
+    got_on ws f p x u path gets scalar lead takes facts holds allowed exact =
         let b : List Act = acts (acts_in s path) in
         let whole_acts : acts (source_acts s (Name p x path u) out_act) ≡ b ++ (out_act (name_of x path) ∷ []) =
         acts_append (acts_in s path) (record { pos = p; act = out_act (name_of x path) } ∷ []) in
         let each = allows_both facts b (out_act (name_of x path) ∷ []) (subst (AllowsAll facts) whole_acts allowed) in
-        let inner = steps_quiet (here t) settled hands t.state.leaks t.state.memory [] other facts holds.1 holds.0 alone
+        let inner = steps_taking (here t) settled hands t.state.leaks t.state.memory [] other facts holds.1 holds.0 alone
         (live_trunk (here t) settled t.state.leaks [] other alone (keeps s settled own_law) no_formals index_law own_law all_named t.state.memory hands holds.0.owned)
-        index_law own_law all_named (object_at s x).of u path lead calls each.0 in
+        index_law own_law all_named (object_at s x).of u path lead ws [] takes each.0 in
         let actual : Allows facts (out_act (name_of x path)) = subst (λ z. Allows z (out_act (name_of x path))) inner.1 each.1.0 in
         let writes : Allows facts (act.Write (name_of x path)) = (λ g has. switched (breaks_O3 (name_of x path) g) _ _ (actual g has)) in
         let behind_acts : after (acts (source_acts s (Name p x path u) out_act)) facts ≡ effect (act.Write (name_of x path)) facts =
         ap (λ z. after z facts) whole_acts ∙ after_append b (out_act (name_of x path) ∷ []) facts ∙ ap (effect (act.Write (name_of x path))) inner.1 in
-        subst (λ z. ExactHere z (steps.evaluated t (place_of (here t) (Name p x path u) (start t)) f)) (sym behind_acts)
-        (subst (λ z. ExactHere (effect (act.Write (name_of x path)) facts) (steps.evaluated t (place_of (here t) (Name p x path u) z) f)) (sym started)
-        (by_item writes inner.0 (next_item t.input t.state.at) refl))
+        subst (λ z. ExactHere z (steps.evaluated t (place_of (here t) (Name p x path u) (at ws)) f)) (sym behind_acts)
+        (by_item writes inner.0 (next_item t.input t.state.at) refl)
       where
         by_item : Allows facts (act.Write (name_of x path))
-            → Quiet now (λ way. GoesAlong s.table (object_at s x).of u path way) (steps_of (here t) path now)
+            → Quiet now (λ way. GoesAlong s.table (object_at s x).of u path way) (steps_of (here t) path (at ws))
             → (it : Item) → next_item t.input t.state.at ≡ it
-            → ExactHere (effect (act.Write (name_of x path)) facts) (steps.evaluated t (place_of (here t) (Name p x path u) now) f)
+            → ExactHere (effect (act.Write (name_of x path)) facts) (steps.evaluated t (place_of (here t) (Name p x path u) (at ws)) f)
         by_item writes q item.Missing e =
             then_got f gets facts holds exact u scalar (int.pos 0)
-            (got_none f gets facts holds exact u scalar (int.pos 0) (λ k memory. (run.EndError, gets.at_missing k memory e))) x path writes (steps_of (here t) path now) q
+            (got_none f gets facts holds exact u scalar (int.pos 0) (λ k memory. (run.EndError, gets.at_missing k memory e))) x path writes (steps_of (here t) path (at ws)) q
         by_item writes q item.Bad e =
             then_got f gets facts holds exact u scalar (int.pos 0)
-            (got_none f gets facts holds exact u scalar (int.pos 0) (λ k memory. (run.DataError, gets.at_bad k memory e))) x path writes (steps_of (here t) path now) q
+            (got_none f gets facts holds exact u scalar (int.pos 0) (λ k memory. (run.DataError, gets.at_bad k memory e))) x path writes (steps_of (here t) path (at ws)) q
         by_item writes q (item.Number v end) e =
-            then_got f gets facts holds exact u scalar v (λ w named y is. got_at f gets facts holds exact u scalar v w named y is end e) x path writes (steps_of (here t) path now) q
+            then_got f gets facts holds exact u scalar v (λ w named y is. got_at f gets facts holds exact u scalar v w named y is end e) x path writes (steps_of (here t) path (at ws)) q
+
+    got_by : (f : Place → Memory → Outcome) (p : Pos) (x u : ℕ) (path : TypedTree) → Gets t settled own_law other alone no_formals all_named frames none f
+        → is_scalar (full s.table u) ≡ true → Leads s (object_at s x).of path u → has_call path ≡ false → (facts : List Fact) → HoldsHere facts t.state
+        → AllowsAll facts (acts (source_acts s (Name p x path u) out_act)) → IsExact s depth other m facts
+        → ExactHere (after (acts (source_acts s (Name p x path u) out_act)) facts) (steps.evaluated t (place_of (here t) (Name p x path u) (start t)) f)
+    got_by f p x u path gets scalar lead calls facts holds allowed exact =
+        subst (λ z. ExactHere (after (acts (source_acts s (Name p x path u) out_act)) facts) (steps.evaluated t (place_of (here t) (Name p x path u) z) f)) (sym started)
+        (got_on [] f p x u path gets scalar lead (no_takes path calls []) facts holds allowed exact)
 
     pub input_exact : (p : Pos) (x u : ℕ) (path : TypedTree) → is_scalar (full s.table u) ≡ true → Leads s (object_at s x).of path u → has_call path ≡ false
-        → (facts : List Fact) → HoldsHere facts t.state → AllowsAll facts (acts (source_acts s (Name p x path u) out_act)) → IsExact s depth m facts
+        → (facts : List Fact) → HoldsHere facts t.state → AllowsAll facts (acts (source_acts s (Name p x path u) out_act)) → IsExact s depth other m facts
         → ExactHere (after (acts (source_acts s (Name p x path u) out_act)) facts) (steps.input t (Name p x path u))
     input_exact p x u path scalar lead calls facts holds allowed exact =
         got_by _ p x u path (record {

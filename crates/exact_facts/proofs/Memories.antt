@@ -22,17 +22,17 @@ use Rattle.owned_ways.proofs.Locations.{under_along, under_itself, named_along, 
 use Rattle.owned_ways.proofs.Named.{same_way}
 use Rattle.owned_ways.proofs.Assigned.{move_clean, named_rooted, given_apart}
 use Rattle.part_offsets.specs.Parts.{type_in, offset_in, is_leaf, sels_along, IsSettled}
-use Rattle.soundness.specs.Seen.{Content, content, trunk, steps_in, word_in, owner_at, owner_word, seen_of, seen, home, is_view_formal}
+use Rattle.soundness.specs.Seen.{Content, content, trunk, steps_in, word_in, owner_at, owner_word, seen_of, seen, home, IsNear, is_view_formal}
 use Rattle.soundness.specs.Changes.{Alike, hand, Checks, Takes}
 use Rattle.soundness.specs.Typed.{Matches, Kept, Spot}
-use Rattle.soundness.specs.Sound.{IsDefinite}
 use Rattle.soundness.proofs.Joined.{leaf_join}
 use Rattle.soundness.proofs.Contents.{bool_cases, word_yes, word_part, stored_step, taken_step, checks_made}
 use Rattle.soundness.proofs.Steps.{alike, stores, takes}
 use Rattle.soundness.proofs.Ends.{declares, drops, new_other}
 use Rattle.soundness.proofs.Moments.{number_part}
-use Rattle.exact_facts.specs.Exact.{IsExact}
-use Rattle.exact_facts.proofs.Steps.{Keeps, IsPlaced, keeps_placed, told_still, told_put, told_given, told_taken, told_dropped, no_hand}
+use Rattle.soundness.proofs.Near.{named_near, near_under}
+use Rattle.exact_facts.specs.Exact.{IsOfVariable, IsDefiniteBy, IsExact}
+use Rattle.exact_facts.proofs.Steps.{Keeps, IsPlaced, keeps_placed, definite_variable, variable_begins, told_on, told_still, told_put, told_given, told_taken, told_dropped, no_hand}
 use Rattle.exact_facts.proofs.Parts.{plain_leaf}
 
 -- ---- names of parts
@@ -68,36 +68,45 @@ module _ (s : Typing) where
   abbrev pub Shows : View → Memory → List Waiting → Type 0
   Shows v m hands = (l : Loc) → v.word l ≡ word_in s.table (content s m hands (trunk l)) (steps_in l)
 
-  pub same_told : (at_home : ℕ → ℕ) (u v : View) (m : Memory) (a b : List Waiting) (facts : List Fact) → Shows u m a → Shows v m b
-      → Told u (IsDefinite at_home facts) → Told v (IsDefinite at_home facts)
-  same_told at_home u v m a b facts from to told =
-      told_still at_home u v IsPlaced facts (keeps_placed u v (λ l n p h. same l p ∙ h)) (λ l p gone. sym (same l p) ∙ gone) told
+  pub same_told : (u v : View) (m : Memory) (a b : List Waiting) (moved : Way → Type 0) → ((w : Way) → moved w → IsOfVariable w) → Shows u m a → Shows v m b
+      → Told u moved → Told v moved
+  same_told u v m a b moved begins from to told =
+      told_on u v IsPlaced moved (λ w is. variable_begins IsPlaced (λ f x. tt) w (begins w is)) (keeps_placed u v (λ l n p h. same l p ∙ h)) (λ l p gone. sym (same l p) ∙ gone) told
     where
       same : (l : Loc) → IsPlaced l → u.word l ≡ v.word l
       same l p = from l ∙ ap (λ c. word_in s.table c (steps_in l)) (placed_content m a b l p) ∙ sym (to l)
 
-  pub told_seen : (depth : ℕ) (m : Memory) (hands : List Waiting) (leaks : List Leak) (facts : List Fact) → IsExact s depth m facts
-      → Told (seen s m hands leaks) (IsDefinite (home s depth) facts)
-  told_seen depth m hands leaks facts told =
-      same_told (home s depth) (seen s m [] []) (seen s m hands leaks) m [] hands facts (λ l. refl) (λ l. refl) told
+  pub told_seen : (depth : ℕ) (other : Way → Type 0) (m : Memory) (hands : List Waiting) (leaks : List Leak) (facts : List Fact) → IsExact s depth other m facts
+      → Told (seen s m hands leaks) (IsDefiniteBy (home s depth) other facts)
+  told_seen depth other m hands leaks facts told =
+      same_told (seen s m [] []) (seen s m hands leaks) m [] hands (IsDefiniteBy (home s depth) other facts) (definite_variable (home s depth) other facts)
+      (λ l. refl) (λ l. refl) told
 
-  pub exact_from : (depth : ℕ) (v : View) (m : Memory) (hands : List Waiting) (facts : List Fact) → Shows v m hands
-      → Told v (IsDefinite (home s depth) facts) → IsExact s depth m facts
-  exact_from depth v m hands facts shows told =
-      same_told (home s depth) v (seen s m [] []) m hands [] facts shows (λ l. refl) told
+  pub exact_from : (depth : ℕ) (other : Way → Type 0) (v : View) (m : Memory) (hands : List Waiting) (facts : List Fact) → Shows v m hands
+      → Told v (IsDefiniteBy (home s depth) other facts) → IsExact s depth other m facts
+  exact_from depth other v m hands facts shows told =
+      same_told v (seen s m [] []) m hands [] (IsDefiniteBy (home s depth) other facts) (definite_variable (home s depth) other facts) shows (λ l. refl) told
 
-module _ (s : Typing) (settled : IsSettled s.table) (depth : ℕ) where
+-- What is near isn't moved elsewhere, so no name of the frame begins what is.
+pub clear_names : (s : Typing) (depth : ℕ) (other : Way → Type 0) → ((w : Way) → IsNear depth w → other w → ⊥)
+    → (v w : Way) → Under v w → Named (home s depth) v → other w → ⊥
+clear_names s depth other alone v w u named elsewhere = alone w (near_under depth v w u (named_near s depth v named)) elsewhere
+
+module _ (s : Typing) (settled : IsSettled s.table) (depth : ℕ) (other : Way → Type 0) (alone : (w : Way) → IsNear depth w → other w → ⊥) where
   abbrev at_home : ℕ → ℕ
   at_home = home s depth
 
+  clear : (v w : Way) → Under v w → Named (home s depth) v → other w → ⊥
+  clear = clear_names s depth other alone
+
   -- ---- what a name has is taken, by the act Move
 
-  pub taken_exact : (other : Way → Type 0) (m : Memory) (rest : List Waiting) (leaks : List Leak) (facts : List Fact) (k : Place) (l : Loc) (w : Way)
+  pub taken_exact : (m : Memory) (rest : List Waiting) (leaks : List Leak) (facts : List Fact) (k : Place) (l : Loc) (w : Way)
       → Sound (home s depth) other (seen s m rest leaks) facts → Spares other w → Kept s m rest → Spot s m rest k l
       → Named (home s depth) w → Reaches (seen s m rest leaks) w l → (content s m rest (trunk l)).owns ≡ true
       → Allows facts (Move (name_of w) (parts s.table k.of))
-      → IsExact s depth m facts → IsExact s depth (moved_out s k m) (effect (Move (name_of w) (parts s.table k.of)) facts)
-  taken_exact other m rest leaks facts k l w sound spares kept spot named reaches owns allowed exact =
+      → IsExact s depth other m facts → IsExact s depth other (moved_out s k m) (effect (Move (name_of w) (parts s.table k.of)) facts)
+  taken_exact m rest leaks facts k l w sound spares kept spot named reaches owns allowed exact =
       let v : Waiting = record { of = k.of; words = words_of s m k } in
       let a : Loc → Content = content s m rest in
       let b : Loc → Content = content s (moved_out s k m) (v ∷ rest) in
@@ -106,9 +115,9 @@ module _ (s : Typing) (settled : IsSettled s.table) (depth : ℕ) where
       let after_it : View = seen_of s.table b (length m.cells) (λ n. (cell m n).freed) leaks in
       let given = given_apart (seen s m rest leaks) after_it w (Object (OfHand (length rest))) l (hand (length rest)) sound.owned move reaches refl
       (no_hand (home s depth) (length rest) w named) in
-      exact_from s depth after_it (moved_out s k m) (v ∷ rest) (effect (Move (name_of w) (parts s.table k.of)) facts) (λ z. refl)
-      (told_taken (home s depth) (seen s m rest leaks) after_it w (length rest) l (parts s.table k.of) facts given allowed (leaf_gone change)
-      (told_seen s depth m rest leaks facts exact))
+      exact_from s depth other after_it (moved_out s k m) (v ∷ rest) (effect (Move (name_of w) (parts s.table k.of)) facts) (λ z. refl)
+      (told_taken (home s depth) other clear (seen s m rest leaks) after_it w (length rest) l (parts s.table k.of) facts named given allowed (leaf_gone change)
+      (told_seen s depth other m rest leaks facts exact))
     where
       -- nothing at or below the name is gone
       whole : (p : List Step) → is_leaf s.table (content s m rest (trunk l)).of (p ++ steps_in l) ≡ true
@@ -151,12 +160,12 @@ module _ (s : Typing) (settled : IsSettled s.table) (depth : ℕ) where
 
   -- ---- a value is stored, after its leak checks
 
-  pub stored_exact : (other : Way → Type 0) (m : Memory) (v : Waiting) (rest : List Waiting) (leaks : List Leak) (facts : List Fact) (k : Place) (l : Loc) (w : Way) (pos : Pos)
+  pub stored_exact : (m : Memory) (v : Waiting) (rest : List Waiting) (leaks : List Leak) (facts : List Fact) (k : Place) (l : Loc) (w : Way) (pos : Pos)
       → Sound (home s depth) other (seen s m (v ∷ rest) leaks) facts → Kept s m (v ∷ rest) → Spot s m (v ∷ rest) k l
       → Named (home s depth) w → Reaches (seen s m (v ∷ rest) leaks) w l → (content s m (v ∷ rest) (trunk l)).owns ≡ true
       → length v.words ≡ words s.table k.of → Matches s.table v.of k.of
-      → IsExact s depth m facts → IsExact s depth (stored s k v.words m) (effect (Write (name_of w)) facts)
-  stored_exact other m v rest leaks facts k l w pos sound kept spot named reaches owns long fits exact =
+      → IsExact s depth other m facts → IsExact s depth other (stored s k v.words m) (effect (Write (name_of w)) facts)
+  stored_exact m v rest leaks facts k l w pos sound kept spot named reaches owns long fits exact =
       let a : Loc → Content = content s m (v ∷ rest) in
       let b : Loc → Content = content s (stored s k v.words m) rest in
       let change = stores s settled m v rest kept k l spot long fits owns in
@@ -167,17 +176,17 @@ module _ (s : Typing) (settled : IsSettled s.table) (depth : ℕ) where
       let move = stored_step s.table settled a b (length rest) v l (length m.cells) (λ n. (cell m n).freed) leaks more change checks in
       let given = given_apart (seen s m (v ∷ rest) leaks) after_it (Object (OfHand (length rest))) w (hand (length rest)) l sound.owned move refl reaches
       (λ e. no_hand (home s depth) (length rest) w named (sym e)) in
-      exact_from s depth after_it (stored s k v.words m) rest (effect (Write (name_of w)) facts) (λ z. refl)
-      (told_put (home s depth) (seen s m (v ∷ rest) leaks) after_it (length rest) w l facts given (told_seen s depth m (v ∷ rest) leaks facts exact))
+      exact_from s depth other after_it (stored s k v.words m) rest (effect (Write (name_of w)) facts) (λ z. refl)
+      (told_put (home s depth) other clear (seen s m (v ∷ rest) leaks) after_it (length rest) w l facts named given (told_seen s depth other m (v ∷ rest) leaks facts exact))
 
   -- ---- a variable is declared of which no fact speaks
 
-  pub declared_exact : (other : Way → Type 0) (m : Memory) (v : Waiting) (rest : List Waiting) (leaks : List Leak) (facts : List Fact) (f x : ℕ) (pos : Pos)
+  pub declared_exact : (m : Memory) (v : Waiting) (rest : List Waiting) (leaks : List Leak) (facts : List Fact) (f x : ℕ) (pos : Pos)
       → Sound (home s depth) other (seen s m (v ∷ rest) leaks) facts → Kept s m (v ∷ rest)
       → is_view_formal s x ≡ false → length v.words ≡ words s.table (object_at s x).of → Alike s.table v.of (object_at s x).of
-      → ((w : Way) → IsDefinite (home s depth) facts w → Under (Object (OfVariable f x)) w → ⊥)
-      → IsExact s depth m facts → IsExact s depth (declared f x v.words m) facts
-  declared_exact other m v rest leaks facts f x pos sound kept own long like none exact =
+      → ((w : Way) → IsDefiniteBy (home s depth) other facts w → Under (Object (OfVariable f x)) w → ⊥)
+      → IsExact s depth other m facts → IsExact s depth other (declared f x v.words m) facts
+  declared_exact m v rest leaks facts f x pos sound kept own long like none exact =
       let a : Loc → Content = content s m (v ∷ rest) in
       let b : Loc → Content = content s (declared f x v.words m) rest in
       let change = declares s m f x v rest kept long like own in
@@ -189,20 +198,20 @@ module _ (s : Typing) (settled : IsSettled s.table) (depth : ℕ) where
       let move = stored_step s.table settled a b (length rest) v (OfRoot (OfVariable f x)) (length m.cells) (λ n. (cell m n).freed) leaks more change checks in
       let given = given_apart (seen s m (v ∷ rest) leaks) after_it (Object (OfHand (length rest))) (Object (OfVariable f x)) (hand (length rest))
       (OfRoot (OfVariable f x)) sound.owned move refl refl (λ e. cc) in
-      exact_from s depth after_it (declared f x v.words m) rest facts (λ z. refl)
-      (told_given (home s depth) (seen s m (v ∷ rest) leaks) after_it (length rest) (Object (OfVariable f x)) (OfRoot (OfVariable f x)) facts given none
-      (told_seen s depth m (v ∷ rest) leaks facts exact))
+      exact_from s depth other after_it (declared f x v.words m) rest facts (λ z. refl)
+      (told_given (home s depth) other clear (seen s m (v ∷ rest) leaks) after_it (length rest) (Object (OfVariable f x)) (OfRoot (OfVariable f x)) facts given none
+      (told_seen s depth other m (v ∷ rest) leaks facts exact))
 
   -- ---- the scope of an object ends
 
   pub ended_exact : (m : Memory) (rest : List Waiting) (leaks leaks' : List Leak) (facts : List Fact) (x : ℕ) (borrower : Bool)
       → Owned (seen s m rest leaks) → Checks s.table (content s m rest (OfRoot (OfVariable (home s depth x) x))) [] leaks leaks'
-      → IsExact s depth m facts → IsExact s depth (undeclared (home s depth x) x m) (effect (EndScope x borrower) facts)
+      → IsExact s depth other m facts → IsExact s depth other (undeclared (home s depth x) x m) (effect (EndScope x borrower) facts)
   ended_exact m rest leaks leaks' facts x borrower owned checks exact =
       let after_it : View = seen s (undeclared (home s depth x) x m) rest leaks' in
-      exact_from s depth after_it (undeclared (home s depth x) x m) rest (effect (EndScope x borrower) facts) (λ z. refl)
-      (told_dropped (home s depth) (seen s m rest leaks) after_it x borrower facts owned (drops s m (home s depth x) x rest leaks leaks' checks)
-      (told_seen s depth m rest leaks facts exact))
+      exact_from s depth other after_it (undeclared (home s depth x) x m) rest (effect (EndScope x borrower) facts) (λ z. refl)
+      (told_dropped (home s depth) other clear (seen s m rest leaks) after_it x borrower facts owned (drops s m (home s depth x) x rest leaks leaks' checks)
+      (told_seen s depth other m rest leaks facts exact))
 
   -- ---- a cell is made
 
@@ -225,7 +234,6 @@ module _ (s : Typing) (settled : IsSettled s.table) (depth : ℕ) where
 
     keeps_old : Owned (seen s m hands leaks) → Keeps (seen s m hands leaks) (seen s (with_new_cell t ws m) hands leaks) IsOld
     keeps_old owned = record {
-      variable = λ f x. (tt, λ e. cc);
       inside = λ l i there. there;
       cell = λ l n there held. (
         tt,
@@ -234,8 +242,8 @@ module _ (s : Typing) (settled : IsSettled s.table) (depth : ℕ) where
       held = λ l n there held. sym (same_word l there.0 there.1) ∙ held;
     }
 
-    pub made_exact : (facts : List Fact) → Owned (seen s m hands leaks) → IsExact s depth m facts → IsExact s depth (with_new_cell t ws m) facts
+    pub made_exact : (facts : List Fact) → Owned (seen s m hands leaks) → IsExact s depth other m facts → IsExact s depth other (with_new_cell t ws m) facts
     made_exact facts owned exact =
-        exact_from s depth (seen s (with_new_cell t ws m) hands leaks) (with_new_cell t ws m) hands facts (λ l. refl)
-        (told_still (home s depth) (seen s m hands leaks) (seen s (with_new_cell t ws m) hands leaks) IsOld facts (keeps_old owned)
-        (λ l there gone. same_word l there.0 there.1 ∙ gone) (told_seen s depth m hands leaks facts exact))
+        exact_from s depth other (seen s (with_new_cell t ws m) hands leaks) (with_new_cell t ws m) hands facts (λ l. refl)
+        (told_still (home s depth) other clear (seen s m hands leaks) (seen s (with_new_cell t ws m) hands leaks) IsOld facts (λ f x. (tt, λ e. cc)) (keeps_old owned)
+        (λ l there gone. same_word l there.0 there.1 ∙ gone) (told_seen s depth other m hands leaks facts exact))

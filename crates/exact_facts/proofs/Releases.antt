@@ -12,7 +12,7 @@ use Rattle.type_definitions.specs.Types.{shape_of, parts, view_of as view_of_sha
 use Rattle.typed_tree.specs.Trees.{TypedTree, Name}
 use Rattle.flow_paths.specs.declared.point.LeakSpot.{LeakSpot}
 use Rattle.flow_paths.specs.Objects.{Typing, object_at, designated, designated_of}
-use Rattle.flow_paths.specs.Names.{has_call, name_of}
+use Rattle.flow_paths.specs.Names.{has_call, waiting as waits_in, name_of}
 use Rattle.flow_paths.specs.Scopes.{taken}
 use Rattle.flow_paths.specs.Acts.{acts_in, source_acts, spot}
 use Rattle.machine.specs.Words as machine
@@ -41,7 +41,8 @@ use Rattle.soundness.proofs.Frees.{releases}
 use Rattle.soundness.proofs.Owners.{strip}
 use Rattle.soundness.proofs.Steps.{alike}
 use Rattle.soundness.proofs.Scalars.{acts, acts_append, after_append, allows_both, number_along, named_along}
-use Rattle.soundness.proofs.Stays.{Quiet, Goes as GoesAlong, steps_quiet, name_quiet}
+use Rattle.soundness.proofs.Taking.{Takes, no_takes}
+use Rattle.soundness.proofs.Stays.{Quiet, Goes as GoesAlong, steps_taking, name_quiet}
 use Rattle.soundness.proofs.Numbers.{index_law}
 use Rattle.soundness.proofs.Lasting.{keeps}
 use Rattle.soundness.proofs.Evaluated.{live_trunk}
@@ -49,7 +50,7 @@ use Rattle.soundness.proofs.Instructions.{Holds, Releases, start_is}
 use Rattle.soundness.proofs.Freeing.{free_way}
 use Rattle.exact_facts.specs.Exact.{IsExact, Knows}
 use Rattle.exact_facts.proofs.Steps.{told_released, told_unfreed}
-use Rattle.exact_facts.proofs.Memories.{told_seen, exact_from}
+use Rattle.exact_facts.proofs.Memories.{clear_names, told_seen, exact_from}
 use Rattle.exact_facts.proofs.Checks.{place_holds}
 use Rattle.exact_facts.proofs.Instructions.{none_made, ExactOn}
 
@@ -79,7 +80,7 @@ module _ (t : Turn) (settled : IsSettled (typing t).table) (own_law : OwnsByShap
   spots_of name pos count u = map (spot pos (extend name (sel.Deref ∷ [])) count) (parts s.table (designated s.table u))
 
   module _ (f : Place → Memory → Outcome) (pos : Pos) (frees_it : Releases t settled own_law other alone no_formals all_named frames none f pos) (facts : List Fact)
-      (holds : HoldsHere facts t.state) (exact : IsExact s depth m facts) (pos' : Pos) (count : ℕ)
+      (holds : HoldsHere facts t.state) (exact : IsExact s depth other m facts) (pos' : Pos) (count : ℕ)
       (u d : ℕ) (access : shape_of s.table u ≡ shape.Access d false true) where
     abbrev seen_here : View
     seen_here = seen s m hands t.state.leaks
@@ -119,7 +120,7 @@ module _ (t : Turn) (settled : IsSettled (typing t).table) (own_law : OwnsByShap
       where
         nothing : (v : ℕ) → ExactHere (effect (act.Free (ways.name_of w)) facts) (spots_of (ways.name_of w) pos' count v) (steps.goes t m 0)
         nothing v = (
-          told_unfreed (home s depth) (seen s m [] []) (act.Free (ways.name_of w)) facts refl exact,
+          told_unfreed (home s depth) other (clear_names s depth other alone) (seen s m [] []) (act.Free (ways.name_of w)) facts refl exact,
           none_made Excused (spots_of (ways.name_of w) pos' count v),
         )
 
@@ -151,10 +152,10 @@ module _ (t : Turn) (settled : IsSettled (typing t).table) (own_law : OwnsByShap
             let freed_there = releases s settled m hands t.state.leaks (t.state.leaks ++ leaks) n k l holds.1 place there.made.0 there.made.1 leaf (live w l rooted reaches) off checks in
             let next : Memory = stored s k (machine.Null ∷ []) (freed n m) in
             subst (ExactHere (effect (act.Free (ways.name_of w)) facts) (spots_of (ways.name_of w) pos' count k.of)) (sym (frees_it.at_cell k m n (word ∙ ap (λ z. z ∷ []) e) alive)) (
-              exact_from s depth (seen s next hands (t.state.leaks ++ leaks)) next hands (effect (act.Free (ways.name_of w)) facts) (λ z. refl)
-                  (told_released (home s depth) seen_here (seen s next hands (t.state.leaks ++ leaks)) w l n facts holds.0.owned freed_there reaches held
-                  (told_seen s depth m hands t.state.leaks facts exact)),
-              place_holds s settled depth m hands t.state.leaks facts exact (cell_place v n) (OfCell n) (All w) in_cell named (l, n, reaches, held, refl) Excused pos pos' count known,
+              exact_from s depth other (seen s next hands (t.state.leaks ++ leaks)) next hands (effect (act.Free (ways.name_of w)) facts) (λ z. refl)
+                  (told_released (home s depth) other (clear_names s depth other alone) seen_here (seen s next hands (t.state.leaks ++ leaks)) w l n facts named holds.0.owned freed_there reaches held
+                  (told_seen s depth other m hands t.state.leaks facts exact)),
+              place_holds s settled depth other m hands t.state.leaks facts exact (cell_place v n) (OfCell n) (All w) in_cell named (l, n, reaches, held, refl) Excused pos pos' count known,
             )
     released_at w named clean known (Raises e n) is = none_made Excused (spots_of (ways.name_of w) pos' count u)
     released_at w named clean known (Traps e n) never = none_made Excused (spots_of (ways.name_of w) pos' count u)
@@ -184,32 +185,41 @@ module _ (t : Turn) (settled : IsSettled (typing t).table) (own_law : OwnsByShap
     then_released x path allowed known (Raises e n) is = none_made Excused (spots_of (name_of x path) pos' count u)
     then_released x path allowed known (Traps e n) never = none_made Excused (spots_of (name_of x path) pos' count u)
 
-  released_by : (f : Place → Memory → Outcome) (pos p : Pos) (x u d : ℕ) (path : TypedTree) → Releases t settled own_law other alone no_formals all_named frames none f pos
-      → shape_of s.table u ≡ shape.Access d false true → Leads s (object_at s x).of path u → has_call path ≡ false → (facts : List Fact) → HoldsHere facts t.state
-      → AllowsAll facts (acts (source_acts s (Name p x path u) act.Free)) → IsExact s depth m facts
+  pub released_on : (ws : List (List machine.Word)) (f : Place → Memory → Outcome) (pos p : Pos) (x u d : ℕ) (path : TypedTree) → Releases t settled own_law other alone no_formals all_named frames none f pos
+      → shape_of s.table u ≡ shape.Access d false true → Leads s (object_at s x).of path u → Takes (waits_in path) ws [] → (facts : List Fact) → HoldsHere facts t.state
+      → AllowsAll facts (acts (source_acts s (Name p x path u) act.Free)) → IsExact s depth other m facts
       → (pos' : Pos) (count : ℕ) → Knows Excused pos' (extend (name_of x path) (sel.Deref ∷ [])) count (after (acts (acts_in s path)) facts) (parts s.table (designated s.table u))
       → ExactHere (after (acts (source_acts s (Name p x path u) act.Free)) facts) (spots_of (name_of x path) pos' count u)
-      (steps.evaluated t (place_of (here t) (Name p x path u) (start t)) f)
-  released_by f pos p x u d path frees_it access lead calls facts holds allowed exact pos' count known =
+      (steps.evaluated t (place_of (here t) (Name p x path u) (record { memory = m; waits = ws })) f)
+  released_on ws f pos p x u d path frees_it access lead takes facts holds allowed exact pos' count known =
       let b : List Act = acts (acts_in s path) in
       let whole_acts : acts (source_acts s (Name p x path u) act.Free) ≡ b ++ (act.Free (name_of x path) ∷ []) =
       acts_append (acts_in s path) (record { pos = p; act = act.Free (name_of x path) } ∷ []) in
       let each = allows_both facts b (act.Free (name_of x path) ∷ []) (subst (AllowsAll facts) whole_acts allowed) in
-      let inner = steps_quiet (here t) settled hands t.state.leaks t.state.memory [] other facts holds.1 holds.0 alone
+      let inner = steps_taking (here t) settled hands t.state.leaks t.state.memory [] other facts holds.1 holds.0 alone
       (live_trunk (here t) settled t.state.leaks [] other alone (keeps s settled own_law) no_formals index_law own_law all_named t.state.memory hands holds.0.owned)
-      index_law own_law all_named (object_at s x).of u path lead calls each.0 in
+      index_law own_law all_named (object_at s x).of u path lead ws [] takes each.0 in
       let frees : Allows facts (act.Free (name_of x path)) = subst (λ z. Allows z (act.Free (name_of x path))) inner.1 each.1.0 in
       let behind_acts : after (acts (source_acts s (Name p x path u) act.Free)) facts ≡ effect (act.Free (name_of x path)) facts =
       ap (λ z. after z facts) whole_acts ∙ after_append b (act.Free (name_of x path) ∷ []) facts ∙ ap (effect (act.Free (name_of x path))) inner.1 in
       let knows = subst (λ z. Knows Excused pos' (extend (name_of x path) (sel.Deref ∷ [])) count z (parts s.table (designated s.table u))) inner.1 known in
-      subst (λ z. ExactHere z (spots_of (name_of x path) pos' count u) (steps.evaluated t (place_of (here t) (Name p x path u) (start t)) f)) (sym behind_acts)
-      (subst (λ z. ExactHere (effect (act.Free (name_of x path)) facts) (spots_of (name_of x path) pos' count u) (steps.evaluated t (place_of (here t) (Name p x path u) z) f))
-      (sym (start_is t settled own_law other alone no_formals all_named frames none))
-      (then_released f pos frees_it facts holds exact pos' count u d access x path frees knows (steps_of (here t) path (record { memory = m; waits = [] })) inner.0))
+      subst (λ z. ExactHere z (spots_of (name_of x path) pos' count u) (steps.evaluated t (place_of (here t) (Name p x path u) (record { memory = m; waits = ws })) f)) (sym behind_acts)
+      (then_released f pos frees_it facts holds exact pos' count u d access x path frees knows (steps_of (here t) path (record { memory = m; waits = ws })) inner.0)
+
+  released_by : (f : Place → Memory → Outcome) (pos p : Pos) (x u d : ℕ) (path : TypedTree) → Releases t settled own_law other alone no_formals all_named frames none f pos
+      → shape_of s.table u ≡ shape.Access d false true → Leads s (object_at s x).of path u → has_call path ≡ false → (facts : List Fact) → HoldsHere facts t.state
+      → AllowsAll facts (acts (source_acts s (Name p x path u) act.Free)) → IsExact s depth other m facts
+      → (pos' : Pos) (count : ℕ) → Knows Excused pos' (extend (name_of x path) (sel.Deref ∷ [])) count (after (acts (acts_in s path)) facts) (parts s.table (designated s.table u))
+      → ExactHere (after (acts (source_acts s (Name p x path u) act.Free)) facts) (spots_of (name_of x path) pos' count u)
+      (steps.evaluated t (place_of (here t) (Name p x path u) (start t)) f)
+  released_by f pos p x u d path frees_it access lead calls facts holds allowed exact pos' count known =
+      subst (λ z. ExactHere (after (acts (source_acts s (Name p x path u) act.Free)) facts) (spots_of (name_of x path) pos' count u)
+      (steps.evaluated t (place_of (here t) (Name p x path u) z) f)) (sym (start_is t settled own_law other alone no_formals all_named frames none))
+      (released_on [] f pos p x u d path frees_it access lead (no_takes path calls []) facts holds allowed exact pos' count known)
 
   pub release_exact : (p : Pos) (x u d : ℕ) (path : TypedTree) → shape_of s.table u ≡ shape.Access d false true → Leads s (object_at s x).of path u
       → has_call path ≡ false → (facts : List Fact) → HoldsHere facts t.state → AllowsAll facts (acts (source_acts s (Name p x path u) act.Free))
-      → IsExact s depth m facts
+      → IsExact s depth other m facts
       → (pos' : Pos) (count : ℕ) → Knows Excused pos' (extend (name_of x path) (sel.Deref ∷ [])) count (after (acts (acts_in s path)) facts) (parts s.table (designated s.table u))
       → ExactHere (after (acts (source_acts s (Name p x path u) act.Free)) facts) (spots_of (name_of x path) pos' count u) (release t (Name p x path u))
   release_exact p x u d path access lead calls facts holds allowed exact pos' count known =

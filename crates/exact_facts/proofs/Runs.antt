@@ -1,10 +1,12 @@
 -- At no step of the run of a program that is ready a leak check fails that is excused.
 use Rattle.std.proofs.Common.{◌≡◌, ◌⊎◌, inl, inr, refl, sym, ap, ◌∙◌, subst, ℕ, zero, suc, Bool, true, false, nat_le, List, [], ◌∷◌, ◌++◌, get_or, if◌then◌else◌}
+use Rattle.spark_base.specs.Lists.{Has}
+use Rattle.place_names.specs.declared.fact.Fact.TheVariants.{Moved}
 use Rattle.type_definitions.specs.Types.{Table}
 use Rattle.typed_tree.specs.Programs.{TypedProgram}
 use Rattle.flow_paths.specs.declared.report.Effects.{Effects}
 use Rattle.flow_paths.specs.Points.{NamedPoint, FlowPoint}
-use Rattle.flow_paths.specs.Paths.{begins}
+use Rattle.flow_paths.specs.Paths.{begins, facts_before}
 use Rattle.flow_paths.specs.Effects.{path_points}
 use Rattle.flow_paths.specs.LeakPlan.{IsExcused}
 use Rattle.flow_paths.specs.Laid.{FlowSub, FlowProgram, flow_sub, typing_of, flow_typing, flow_program}
@@ -12,17 +14,17 @@ use Rattle.machine.specs.Evaluate.{StorageError}
 use Rattle.machine.specs.States.{Frame, Leak, State, Raised, Spent, Outcome, Goes, Ends, state_of, sub_of, frame_words, stack_words, frame_at_start}
 use Rattle.machine.specs.Step.{main_frame}
 use Rattle.machine.specs.Run.{frames_at_start, state_at_start, no_point, step, then_on, within, main_of, moment}
+use Rattle.owned_ways.specs.Ways.{Way, name_of}
 use Rattle.soundness.specs.Seen.{home}
-use Rattle.soundness.specs.Sound.{IsFirstClass, Stage, Elsewhere, AreStages}
+use Rattle.soundness.specs.Sound.{Stage, Elsewhere, AreStages, IsDefiniteOf}
 use Rattle.soundness.specs.Ready.{IsReady}
 use Rattle.soundness.proofs.Points.{sub_there}
-use Rattle.soundness.proofs.Beginning.{empty_sound, empty_kept, empty_scope, stage, first_point}
+use Rattle.soundness.proofs.Beginning.{empty_sound, empty_kept, empty_scope, stage, first_point, first_waits, main_runs, main_awaits}
 use Rattle.exact_facts.specs.Exact.{NoneFails, checks_of, IsExactly, LeadsExactly, StepHolds, RunHolds}
 use Rattle.exact_facts.proofs.Main.{excused_hold}
 use Rattle.exact_facts.proofs.Going.{exactly_step}
 
-module _ (table : Table) (typed : TypedProgram) (effects : Effects) (ready : IsReady table typed effects)
-    (class : IsFirstClass (flow_program table typed)) where
+module _ (table : Table) (typed : TypedProgram) (effects : Effects) (ready : IsReady table typed effects) where
   abbrev program : FlowProgram
   program = flow_program table typed
 
@@ -31,6 +33,25 @@ module _ (table : Table) (typed : TypedProgram) (effects : Effects) (ready : IsR
 
   -- ---- the start
 
+  -- where nothing is executed, nothing was moved
+  none_moved : (stages : List Stage) → ((g : Stage) → Has stages g → g.before ≡ []) → (w : Way) → IsDefiniteOf program effects stages w → ⊥
+  none_moved stages fresh w (g, has, definite) =
+      subst (λ z. Has (facts_before (path_points program effects (sub_of program g.frame.sub)) z) (Moved (name_of w))) (fresh g has) definite.0.1
+
+  abbrev packages_there : Stage
+  packages_there = stage table typed effects ready 0 0
+
+  abbrev main_there : Stage
+  main_there = stage table typed effects ready ready.main 1
+
+  packages_fresh : (g : Stage) → Has (packages_there ∷ []) g → g.before ≡ []
+  packages_fresh g (inl is) = ap (λ (z : Stage). z.before) (sym is)
+  packages_fresh g (inr never) = absurd never
+
+  main_fresh : (g : Stage) → Has (main_there ∷ (packages_there ∷ [])) g → g.before ≡ []
+  main_fresh g (inl is) = ap (λ (z : Stage). z.before) (sym is)
+  main_fresh g (inr has) = packages_fresh g has
+
   packages_start : (p : NamedPoint) (rest : List NamedPoint) → ready.packages.points ≡ p ∷ rest
       → IsExactly table typed effects (started (frame_at_start 0 [] ∷ []))
   packages_start p rest is = (
@@ -38,7 +59,8 @@ module _ (table : Table) (typed : TypedProgram) (effects : Effects) (ready : IsR
       top = stage table typed effects ready 0 0;
       older = [];
       stages = (refl, refl, tt);
-      running = (refl, (refl, (λ r has. absurd has), refl));
+      running = (refl, ((λ r has. absurd has), refl));
+      waiting = (refl, refl);
       path = begins (first_point table typed effects ready 0 ready.packages ready.stands p rest is);
       sound = empty_sound (flow_typing program) (home (flow_typing program) 0) (Elsewhere program effects []) [];
       kept = empty_kept (flow_typing program);
@@ -48,8 +70,7 @@ module _ (table : Table) (typed : TypedProgram) (effects : Effects) (ready : IsR
       at_point = ([], rest, is, refl);
       scope = empty_scope (flow_typing program) 0 p.scope;
     },
-    (refl, (refl, refl, refl)),
-    λ w l definite reaches. absurd definite.0.1,
+    λ w l definite reaches. absurd (none_moved (packages_there ∷ []) packages_fresh w definite),
   )
 
   main_start : IsExactly table typed effects (started (frame_at_start ready.main [] ∷ (frame_at_start 0 [] ∷ [])))
@@ -58,7 +79,12 @@ module _ (table : Table) (typed : TypedProgram) (effects : Effects) (ready : IsR
       top = stage table typed effects ready ready.main 1;
       older = stage table typed effects ready 0 0 ∷ [];
       stages = (refl, refl, (refl, refl, tt));
-      running = (ready.main_there, (refl, (λ r has. absurd has), refl), (refl, (refl, (λ r has. absurd has), refl)));
+      running = (main_runs table typed effects ready, ((λ r has. absurd has), refl), (refl, ((λ r has. absurd has), refl)));
+      waiting = (
+        first_waits table typed effects ready 1 ready.main ready.main_there.named ready.main_there.stands ready.main_there.point
+            ready.main_there.points ready.main_there.begins,
+        (main_awaits table typed effects ready, refl),
+      );
       path = begins (first_point table typed effects ready ready.main ready.main_there.named ready.main_there.stands ready.main_there.point
           ready.main_there.points ready.main_there.begins);
       sound = empty_sound (flow_typing program) (home (flow_typing program) 1) (Elsewhere program effects (stage table typed effects ready 0 0 ∷ [])) [];
@@ -69,8 +95,7 @@ module _ (table : Table) (typed : TypedProgram) (effects : Effects) (ready : IsR
       at_point = ([], ready.main_there.points, ready.main_there.begins, refl);
       scope = empty_scope (flow_typing program) 1 ready.main_there.point.scope;
     },
-    (ready.is_main, (refl, refl, refl), refl, (refl, refl, refl)),
-    λ w l definite reaches. absurd definite.0.1,
+    λ w l definite reaches. absurd (none_moved (main_there ∷ (packages_there ∷ [])) main_fresh w definite),
   )
 
   abbrev numbered_there : List NamedPoint → List FlowPoint
@@ -99,7 +124,7 @@ module _ (table : Table) (typed : TypedProgram) (effects : Effects) (ready : IsR
     going o (suc n) = then_on (going o n) on
 
     go : (o : Outcome) → LeadsExactly table typed effects o → LeadsExactly table typed effects (then_on o on)
-    go (Goes state) exactly = exactly_step table typed effects input ready class state exactly
+    go (Goes state) exactly = exactly_step table typed effects input ready state exactly
     go (Ends e state) exactly = tt
 
     reached : (n : ℕ) → LeadsExactly table typed effects (going (Goes (state_at_start (flow_program table typed))) n)
@@ -117,7 +142,7 @@ module _ (table : Table) (typed : TypedProgram) (effects : Effects) (ready : IsR
 
     step_holds : (state : State) → IsExactly table typed effects state → StepHolds (flow_program table typed) effects state.frames (checks_of (on state))
     step_holds state exactly =
-        by_frames exactly.0.top exactly.0.older state.frames (checks_of (on state)) exactly.0.stages (excused_hold table typed effects input ready class state exactly.0 exactly.1 exactly.2)
+        by_frames exactly.0.top exactly.0.older state.frames (checks_of (on state)) exactly.0.stages (excused_hold table typed effects input ready state exactly.0 exactly.1)
 
     -- ---- a run with a budget takes these steps
 

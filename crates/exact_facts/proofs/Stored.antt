@@ -12,7 +12,7 @@ use Rattle.type_definitions.specs.Types.{shape_of, words, parts}
 use Rattle.typed_tree.specs.Trees.{TypedTree, Name}
 use Rattle.flow_paths.specs.declared.point.LeakSpot.{LeakSpot}
 use Rattle.flow_paths.specs.Objects.{object_at}
-use Rattle.flow_paths.specs.Names.{has_call, name_of}
+use Rattle.flow_paths.specs.Names.{has_call, waiting, name_of}
 use Rattle.flow_paths.specs.Acts.{acts_in, stored_acts, spot}
 use Rattle.machine.specs.Words as machine
 use Rattle.machine.specs.Memory.{Memory, Place, stored}
@@ -30,11 +30,12 @@ use Rattle.soundness.specs.Typed.{OwnsByShape}
 use Rattle.typed_laws.specs.Needed.{Leads, Gives, IndexLaw}
 use Rattle.soundness.proofs.Walks.{way_along, Walked}
 use Rattle.soundness.proofs.Scalars.{after_append, allows_both, acts, acts_append, number_along, named_along}
-use Rattle.soundness.proofs.Stays.{Quiet, Goes, steps_quiet, name_quiet}
-use Rattle.soundness.proofs.Evaluated.{regrouped, Keeps, Ready, Given, live_trunk, checked_given, evaluated}
+use Rattle.soundness.proofs.Taking.{Takes, no_takes, TakesPlainly}
+use Rattle.soundness.proofs.Stays.{Quiet, Goes, steps_taking, name_on}
+use Rattle.soundness.proofs.Evaluated.{regrouped, Keeps, Ready, GivenOn, live_trunk, checked_on, evaluated_on}
 use Rattle.exact_facts.specs.Exact.{IsExact, NoneFails, Knows}
 use Rattle.exact_facts.proofs.Memories.{stored_exact}
-use Rattle.exact_facts.proofs.Evaluated.{ExactTo, checked_exact, exact_after}
+use Rattle.exact_facts.proofs.Evaluated.{ExactTo, checked_exact, exact_on}
 use Rattle.exact_facts.proofs.Checks.{place_holds}
 
 module _ (h : Here) (settled : IsSettled h.typing.table) (leaks : List Leak) (waits : List (List machine.Word)) (other : Way → Type 0)
@@ -45,29 +46,29 @@ module _ (h : Here) (settled : IsSettled h.typing.table) (leaks : List Leak) (wa
   -- is excused by the facts before.
   abbrev pub StoresExact : PlaceName → ℕ → List Fact → List Fact → Evaluated Stored → Type 0
   StoresExact name t before behind (Done st n) =
-      IsExact h.typing h.frame (stored h.typing st.place st.words n.memory) behind
+      IsExact h.typing h.frame other (stored h.typing st.place st.words n.memory) behind
       × ((pos pos' : Pos) (count : ℕ) → Knows Excused pos' name count before (parts h.typing.table t)
       → NoneFails Excused (map (spot pos' name count) (parts h.typing.table t)) (checks_at h.typing pos n.memory st.place))
   StoresExact name t before behind (Raises e n) = Unit {0}
   StoresExact name t before behind (Traps e n) = Unit {0}
 
   -- the place is found, with the value in hand
-  found_exact : (p : Pos) (m : Memory) (hands : List Waiting) (facts : List Fact) (x t : ℕ) (steps : TypedTree) (ws : List machine.Word)
+  found_exact : (on : List (List machine.Word)) (p : Pos) (m : Memory) (hands : List Waiting) (facts : List Fact) (x t : ℕ) (steps : TypedTree) (ws : List machine.Word)
       → Ready h settled leaks waits other alone keeps no_formals index_law own_law all_named m (record { of = t; words = ws } ∷ hands) facts
-      → IsExact h.typing h.frame m facts → length ws ≡ words h.typing.table t
+      → IsExact h.typing h.frame other m facts → length ws ≡ words h.typing.table t
       → (way : List run.Step) → Goes h.typing.table (object_at h.typing x).of t steps way
-      → (y : Evaluated Place) → Walked h.typing settled (record { of = t; words = ws } ∷ hands) leaks m waits (way_along way (Object (OfVariable (home h.typing h.frame x) x))) t y
+      → (y : Evaluated Place) → Walked h.typing settled (record { of = t; words = ws } ∷ hands) leaks m on (way_along way (Object (OfVariable (home h.typing h.frame x) x))) t y
       → StoresExact (name_of x steps) t facts (effect (act.Write (name_of x steps)) facts) (followed_by y (λ k now. Done (record { words = ws; place = k }) now))
-  found_exact p m hands facts x t steps ws ready exact long way goes (Done k n) (l, same, place, reaches, of) =
+  found_exact on p m hands facts x t steps ws ready exact long way goes (Done k n) (l, same, place, reaches, of) =
       subst (λ (z : Now). StoresExact (name_of x steps) t facts (effect (act.Write (name_of x steps)) facts) (Done (record { words = ws; place = k }) z)) (sym same)
-      (subst (λ z. StoresExact z t facts (effect (act.Write z) facts) (Done (record { words = ws; place = k }) (record { memory = m; waits = waits }))) called (
-        stored_exact h.typing settled h.frame other m (record { of = t; words = ws }) hands leaks facts k l w p ready.sound ready.kept place named reaches
+      (subst (λ z. StoresExact z t facts (effect (act.Write z) facts) (Done (record { words = ws; place = k }) (record { memory = m; waits = on }))) called (
+        stored_exact h.typing settled h.frame other alone m (record { of = t; words = ws }) hands leaks facts k l w p ready.sound ready.kept place named reaches
             (live_trunk h settled leaks waits other alone keeps no_formals index_law own_law all_named m (record { of = t; words = ws } ∷ hands) ready.sound.owned w l
             (named_rooted (home h.typing h.frame) w named) reaches)
             (long ∙ ap (words h.typing.table) (sym of)) (inl (ap (shape_of h.typing.table) (sym of))) exact,
         λ pos pos' count known.
             subst (λ z. NoneFails Excused (map (spot pos' (ways.name_of w) count) (parts h.typing.table z)) (checks_at h.typing pos m k)) of
-            (place_holds h.typing settled h.frame m (record { of = t; words = ws } ∷ hands) leaks facts exact k l w place named reaches Excused pos pos' count
+            (place_holds h.typing settled h.frame other m (record { of = t; words = ws } ∷ hands) leaks facts exact k l w place named reaches Excused pos pos' count
             (λ q has. known q (subst (λ z. Has (parts h.typing.table z) q) of has))),
       ))
     where
@@ -82,8 +83,8 @@ module _ (h : Here) (settled : IsSettled h.typing.table) (leaks : List Leak) (wa
         root = number_along way (Object (OfVariable (home h.typing h.frame x) x)) j;
         sels = goes.sels (Object (OfVariable (home h.typing h.frame x) x)) j;
       })
-  found_exact p m hands facts x t steps ws ready exact long way goes (Raises e n) is = tt
-  found_exact p m hands facts x t steps ws ready exact long way goes (Traps e n) none = tt
+  found_exact on p m hands facts x t steps ws ready exact long way goes (Raises e n) is = tt
+  found_exact on p m hands facts x t steps ws ready exact long way goes (Traps e n) none = tt
 
   then_found : {A : Type 0} (now : Now) (P : A → Type 0) (name : PlaceName) (t : ℕ) (facts facts' : List Fact) (y : Evaluated A) (f : A → Now → Evaluated Stored)
       → Quiet now P y → ((a : A) → P a → StoresExact name t facts facts' (f a now)) → StoresExact name t facts facts' (followed_by y f)
@@ -92,19 +93,19 @@ module _ (h : Here) (settled : IsSettled h.typing.table) (leaks : List Leak) (wa
   then_found now P name t facts facts' (Traps e n) f none next = tt
 
   -- the value is there
-  then_placed : (p : Pos) (x t : ℕ) (steps : TypedTree) (hands : List Waiting) (facts : List Fact) → Leads h.typing (object_at h.typing x).of steps t
-      → has_call steps ≡ false → AllowsAll facts (acts (acts_in h.typing steps) ++ act.Write (name_of x steps) ∷ []) → (y : Evaluated (List machine.Word))
-      → Given h settled leaks waits other alone keeps no_formals index_law own_law all_named t hands facts y
+  then_placed : (mid on : List (List machine.Word)) (p : Pos) (x t : ℕ) (steps : TypedTree) (hands : List Waiting) (facts : List Fact) → Leads h.typing (object_at h.typing x).of steps t
+      → Takes (waiting steps) mid on → AllowsAll facts (acts (acts_in h.typing steps) ++ act.Write (name_of x steps) ∷ []) → (y : Evaluated (List machine.Word))
+      → GivenOn h settled leaks waits other alone keeps no_formals index_law own_law all_named mid t hands facts y
       → ExactTo h settled leaks waits other alone keeps no_formals index_law own_law all_named facts y
       → StoresExact (name_of x steps) t (after (acts (acts_in h.typing steps)) facts) (effect (act.Write (name_of x steps)) (after (acts (acts_in h.typing steps)) facts))
       (followed_by y (λ ws now. followed_by (place_of h (Name p x steps t) now) (λ k now. Done (record { words = ws; place = k }) now)))
-  then_placed p x t steps hands facts lead calls allowed (Done ws n) (ready, long, same) exact =
-      let now : Now = record { memory = n.memory; waits = waits } in
+  then_placed mid on p x t steps hands facts lead takes allowed (Done ws n) (ready, long, same) exact =
+      let now : Now = record { memory = n.memory; waits = mid } in
       let v : Waiting = record { of = t; words = ws } in
       let each = allows_both facts (acts (acts_in h.typing steps)) (act.Write (name_of x steps) ∷ []) allowed in
       let live = live_trunk h settled leaks waits other alone keeps no_formals index_law own_law all_named n.memory (v ∷ hands) ready.sound.owned in
-      let inner = steps_quiet h settled (v ∷ hands) leaks n.memory waits other facts ready.kept ready.sound alone live index_law own_law all_named
-      (object_at h.typing x).of t steps lead calls each.0 in
+      let inner = steps_taking h settled (v ∷ hands) leaks n.memory waits other facts ready.kept ready.sound alone live index_law own_law all_named
+      (object_at h.typing x).of t steps lead mid on takes each.0 in
       let writes : Allows facts (act.Write (name_of x steps)) = subst (λ z. Allows z (act.Write (name_of x steps))) inner.1 each.1.0 in
       subst (λ z. StoresExact (name_of x steps) t (after (acts (acts_in h.typing steps)) facts) (effect (act.Write (name_of x steps)) (after (acts (acts_in h.typing steps)) facts))
       (followed_by (place_of h (Name p x steps t) (record { memory = n.memory; waits = z })) (λ k now. Done (record { words = ws; place = k }) now))) (sym same)
@@ -112,45 +113,56 @@ module _ (h : Here) (settled : IsSettled h.typing.table) (leaks : List Leak) (wa
       (followed_by (place_of h (Name p x steps t) now) (λ k now. Done (record { words = ws; place = k }) now))) (sym inner.1)
       (subst (λ z. StoresExact (name_of x steps) t facts (effect (act.Write (name_of x steps)) facts) z)
       (sym (regrouped (steps_of h steps now) (λ way now. walked h.typing way (variable_place h x) now) (λ k now. Done (record { words = ws; place = k }) now)))
-      (then_found now (λ way. Goes h.typing.table (object_at h.typing x).of t steps way) (name_of x steps) t facts (effect (act.Write (name_of x steps)) facts) (steps_of h steps now)
+      (then_found (record { memory = n.memory; waits = on }) (λ way. Goes h.typing.table (object_at h.typing x).of t steps way) (name_of x steps) t facts (effect (act.Write (name_of x steps)) facts) (steps_of h steps now)
       (λ way now. followed_by (walked h.typing way (variable_place h x) now) (λ k now. Done (record { words = ws; place = k }) now)) inner.0
-      (λ way goes. found_exact p n.memory hands facts x t steps ws ready exact long way goes (walked h.typing way (variable_place h x) now)
-      (name_quiet h settled (v ∷ hands) leaks n.memory waits other facts ready.kept ready.sound alone live index_law own_law all_named x steps t way goes
+      (λ way goes. found_exact on p n.memory hands facts x t steps ws ready exact long way goes (walked h.typing way (variable_place h x) (record { memory = n.memory; waits = on }))
+      (name_on h settled (v ∷ hands) leaks n.memory waits other facts ready.kept ready.sound alone live index_law own_law all_named on x steps t way goes
       (λ w named same u past moved. write_clean (home h.typing h.frame) facts w (subst (λ z. Allows facts (act.Write z)) (sym same) writes) u past moved))))))
-  then_placed p x t steps hands facts lead calls allowed (Raises e n) given exact = tt
-  then_placed p x t steps hands facts lead calls allowed (Traps e n) none exact = tt
+  then_placed mid on p x t steps hands facts lead takes allowed (Raises e n) given exact = tt
+  then_placed mid on p x t steps hands facts lead takes allowed (Traps e n) none exact = tt
 
   -- k := e
-  pub assigned_exact : (p : Pos) (x t : ℕ) (steps e : TypedTree) → Gives h.typing t e → Leads h.typing (object_at h.typing x).of steps t
-      → has_call e ≡ false → has_call steps ≡ false → (m : Memory) (hands : List Waiting) (facts : List Fact)
+  pub assigned_on : (before mid on : List (List machine.Word)) (p : Pos) (x t : ℕ) (steps e : TypedTree) → Gives h.typing t e → Leads h.typing (object_at h.typing x).of steps t
+      → TakesPlainly h.typing (has_call e) → Takes (waiting e) before mid → Takes (waiting steps) mid on → (m : Memory) (hands : List Waiting) (facts : List Fact)
       → Ready h settled leaks waits other alone keeps no_formals index_law own_law all_named m hands facts
-      → AllowsAll facts (acts (stored_acts h.typing (Name p x steps t) e)) → IsExact h.typing h.frame m facts
+      → AllowsAll facts (acts (stored_acts h.typing (Name p x steps t) e)) → IsExact h.typing h.frame other m facts
       → StoresExact (name_of x steps) t (after (acts (acts_in h.typing e ++ acts_in h.typing steps)) facts) (after (acts (stored_acts h.typing (Name p x steps t) e)) facts)
-      (followed_by (followed_by (evaluate h AsValue e (record { memory = m; waits = waits })) (checked h t))
+      (followed_by (followed_by (evaluate h AsValue e (record { memory = m; waits = before })) (checked h t))
       (λ ws now. followed_by (place_of h (Name p x steps t) now) (λ k now. Done (record { words = ws; place = k }) now)))
-  assigned_exact p x t steps e gives lead calls calls' m hands facts ready allowed exact =
+  assigned_on before mid on p x t steps e gives lead calls takes takes' m hands facts ready allowed exact =
       let a : List Act = acts (acts_in h.typing e) in
       let b : List Act = acts (acts_in h.typing steps) in
-      let now : Now = record { memory = m; waits = waits } in
+      let now : Now = record { memory = m; waits = before } in
       let front : acts (acts_in h.typing e ++ acts_in h.typing steps) ≡ a ++ b = acts_append (acts_in h.typing e) (acts_in h.typing steps) in
       let whole : acts (stored_acts h.typing (Name p x steps t) e) ≡ a ++ (b ++ act.Write (name_of x steps) ∷ []) =
       acts_append (acts_in h.typing e ++ acts_in h.typing steps) (record { pos = p; act = act.Write (name_of x steps) } ∷ [])
       ∙ ap (λ z. z ++ (act.Write (name_of x steps) ∷ [])) front
       ∙ append_assoc a b (act.Write (name_of x steps) ∷ []) in
       let each = allows_both facts a (b ++ act.Write (name_of x steps) ∷ []) (subst (AllowsAll facts) whole allowed) in
-      let given = checked_given h settled leaks waits other alone keeps no_formals index_law own_law all_named t t hands (after a facts)
+      let given = checked_on h settled leaks waits other alone keeps no_formals index_law own_law all_named mid t t hands (after a facts)
       (evaluate h AsValue e now)
-      (evaluated h settled leaks waits other alone keeps no_formals index_law own_law all_named e t gives calls m hands facts ready each.0) in
+      (evaluated_on h settled leaks waits other alone keeps no_formals index_law own_law all_named e t gives calls before mid takes m hands facts ready each.0) in
       let told = checked_exact h settled leaks waits other alone keeps no_formals index_law own_law all_named t (after a facts) (evaluate h AsValue e now)
-      (exact_after h settled leaks waits other alone keeps no_formals index_law own_law all_named e t gives calls m hands facts ready each.0 exact) in
-      let before : after (acts (acts_in h.typing e ++ acts_in h.typing steps)) facts ≡ after b (after a facts) = ap (λ z. after z facts) front ∙ after_append a b facts in
+      (exact_on h settled leaks waits other alone keeps no_formals index_law own_law all_named e t gives calls before mid takes m hands facts ready each.0 exact) in
+      let acted : after (acts (acts_in h.typing e ++ acts_in h.typing steps)) facts ≡ after b (after a facts) = ap (λ z. after z facts) front ∙ after_append a b facts in
       let behind : after (acts (stored_acts h.typing (Name p x steps t) e)) facts ≡ effect (act.Write (name_of x steps)) (after b (after a facts)) =
       ap (λ z. after z facts) whole ∙ after_append a (b ++ act.Write (name_of x steps) ∷ []) facts
       ∙ after_append b (act.Write (name_of x steps) ∷ []) (after a facts) in
-      let result = then_placed p x t steps hands (after a facts) lead calls' each.1 (followed_by (evaluate h AsValue e now) (checked h t)) given told in
+      let result = then_placed mid on p x t steps hands (after a facts) lead takes' each.1 (followed_by (evaluate h AsValue e now) (checked h t)) given told in
       subst (λ z. StoresExact (name_of x steps) t z (after (acts (stored_acts h.typing (Name p x steps t) e)) facts)
       (followed_by (followed_by (evaluate h AsValue e now) (checked h t))
-      (λ ws now. followed_by (place_of h (Name p x steps t) now) (λ k now. Done (record { words = ws; place = k }) now)))) (sym before)
+      (λ ws now. followed_by (place_of h (Name p x steps t) now) (λ k now. Done (record { words = ws; place = k }) now)))) (sym acted)
       (subst (λ z. StoresExact (name_of x steps) t (after b (after a facts)) z
       (followed_by (followed_by (evaluate h AsValue e now) (checked h t))
       (λ ws now. followed_by (place_of h (Name p x steps t) now) (λ k now. Done (record { words = ws; place = k }) now)))) (sym behind) result)
+
+  -- without calls
+  pub assigned_exact : (p : Pos) (x t : ℕ) (steps e : TypedTree) → Gives h.typing t e → Leads h.typing (object_at h.typing x).of steps t
+      → has_call e ≡ false → has_call steps ≡ false → (m : Memory) (hands : List Waiting) (facts : List Fact)
+      → Ready h settled leaks waits other alone keeps no_formals index_law own_law all_named m hands facts
+      → AllowsAll facts (acts (stored_acts h.typing (Name p x steps t) e)) → IsExact h.typing h.frame other m facts
+      → StoresExact (name_of x steps) t (after (acts (acts_in h.typing e ++ acts_in h.typing steps)) facts) (after (acts (stored_acts h.typing (Name p x steps t) e)) facts)
+      (followed_by (followed_by (evaluate h AsValue e (record { memory = m; waits = waits })) (checked h t))
+      (λ ws now. followed_by (place_of h (Name p x steps t) now) (λ k now. Done (record { words = ws; place = k }) now)))
+  assigned_exact p x t steps e gives lead calls calls' m hands facts ready allowed exact =
+      assigned_on waits waits waits p x t steps e gives lead (inl calls) (no_takes e calls waits) (no_takes steps calls' waits) m hands facts ready allowed exact

@@ -1,5 +1,5 @@
 -- What excused leak checks rest on: what a fact without an element calls moved is gone.
-use Rattle.std.specs.Prelude.{◌≡◌, ◌⊎◌, ℕ, suc, false, List, [], ◌∷◌, ◌++◌, get_or, Some}
+use Rattle.std.specs.Prelude.{◌≡◌, ◌⊎◌, ℕ, suc, false, List, [], ◌∷◌, ◌++◌, get_or}
 use Rattle.spark_base.specs.Lists.{Has}
 use Rattle.spark_base.specs.declared.position.Pos.{Pos}
 use Rattle.place_names.specs.declared.selector.Sel.{Sel}
@@ -18,14 +18,27 @@ use Rattle.flow_paths.specs.LeakPlan.{IsExcused}
 use Rattle.machine.specs.Memory.{Memory}
 use Rattle.machine.specs.States.{Frame, Leak, State, Outcome, Goes, Ends, sub_of}
 use Rattle.machine.specs.Run.{no_point, step, main_of, run_of, moment}
-use Rattle.owned_ways.specs.Ways.{Told}
+use Rattle.owned_ways.specs.Ways.{OfVariable, OfHand, Way, Object, Lost, Into, All, Told, sels_of}
 use Rattle.soundness.specs.Seen.{seen, home}
-use Rattle.soundness.specs.Sound.{Stage, IsPlain, IsDefinite, IsSound, AreExact}
+use Rattle.soundness.specs.Sound.{IsDefinite, IsSound, AreExact}
 
--- So it is of the facts of a frame, in a memory. (What is in hand has no name, and leak checks
--- change no word.)
-abbrev pub IsExact : Typing → ℕ → Memory → List Fact → Type 0
-IsExact s depth m facts = Told (seen s m [] []) (IsDefinite (home s depth) facts)
+-- A way that begins at a variable.
+abbrev pub IsOfVariable : Way → Type 0
+IsOfVariable (Object (OfVariable f x)) = Unit {0}
+IsOfVariable (Object (OfHand h)) = ⊥
+IsOfVariable (Lost n) = ⊥
+IsOfVariable (Into w i) = IsOfVariable w
+IsOfVariable (All w) = IsOfVariable w
+
+-- A fact of the frame without an element says that a place was moved, or it was moved elsewhere, and
+-- its name has no element.
+abbrev pub IsDefiniteBy : (ℕ → ℕ) → (Way → Type 0) → List Fact → Way → Type 0
+IsDefiniteBy at_home other facts w = IsDefinite at_home facts w ⊎ (IsOfVariable w × other w × (has_elem (sels_of w) ≡ false))
+
+-- What facts of a frame call moved is gone in a memory, and what was moved elsewhere, too. (What is in
+-- hand has no name, and leak checks change no word.)
+abbrev pub IsExact : Typing → ℕ → (Way → Type 0) → Memory → List Fact → Type 0
+IsExact s depth other m facts = Told (seen s m [] []) (IsDefiniteBy (home s depth) other facts)
 
 -- Of the leak checks of a step, none fails that is excused. The checks stand beside the spots of
 -- their point, in order; a step that comes to no leak check has none.
@@ -40,15 +53,6 @@ Knows Excused pos name before facts parts =
     (q : List Sel) → Has parts q → Excused (spot pos name before q)
     → (has_elem (name.sels ++ q) ≡ false) × Has facts (Moved (extend name q))
 
--- ---- the frames
-
--- The frames of a program of the first class: that of the package objects, at first alone, and then
--- with that of the main procedure.
-abbrev pub AreFirst : FlowProgram → List Stage → Type 0
-AreFirst program (g ∷ []) = (g.frame.sub ≡ 0) × IsPlain g
-AreFirst program (g ∷ (e ∷ [])) = (program.main ≡ Some g.frame.sub) × IsPlain g × (e.frame.sub ≡ 0) × IsPlain e
-AreFirst program _ = ⊥
-
 -- ---- the law
 
 abbrev pub checks_of : Outcome → List (List Leak)
@@ -59,8 +63,7 @@ checks_of (Ends e state) = state.checks
 -- leak plan excuses.
 abbrev pub ExcusedHold : Table → TypedProgram → Effects → List ℕ → Type 0
 ExcusedHold table typed effects input =
-    (state : State) (sound : IsSound table typed effects state) → AreFirst (flow_program table typed) (sound.top ∷ sound.older)
-    → AreExact table typed effects state sound
+    (state : State) (sound : IsSound table typed effects state) → AreExact table typed effects state sound
     → NoneFails (IsExcused (path_points (flow_program table typed) effects (sub_of (flow_program table typed) sound.top.frame.sub)) sound.top.frame.next)
     (get_or (sub_of (flow_program table typed) sound.top.frame.sub).points sound.top.frame.next no_point).leaks
     (checks_of (step (flow_program table typed) input state))
@@ -68,7 +71,7 @@ ExcusedHold table typed effects input =
 -- A sound state whose facts are exact, and that each step of one leads to one.
 abbrev pub IsExactly : Table → TypedProgram → Effects → State → Type 0
 IsExactly table typed effects state =
-    (sound : IsSound table typed effects state) × AreFirst (flow_program table typed) (sound.top ∷ sound.older) × AreExact table typed effects state sound
+    (sound : IsSound table typed effects state) × AreExact table typed effects state sound
 
 abbrev pub LeadsExactly : Table → TypedProgram → Effects → Outcome → Type 0
 LeadsExactly table typed effects (Goes state) = IsExactly table typed effects state

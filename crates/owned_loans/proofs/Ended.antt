@@ -1,5 +1,5 @@
 -- The end of a variable or of a hand keeps the ways of views that don't begin there.
-use Rattle.std.proofs.Common.{◌≡◌, refl, sym, ap, ◌∙◌, subst, inl, inr, ℕ, Bool, true, false, not, ◌==◌, eqb-true, eq-eqb, List, [], ◌∷◌, Some, None}
+use Rattle.std.proofs.Common.{◌≡◌, refl, sym, ap, ◌∙◌, subst, ◌⊎◌, inl, inr, ℕ, Bool, true, false, not, ◌==◌, eqb-true, eq-eqb, List, [], ◌∷◌, Some, None}
 use Rattle.std.specs.List.{filter}
 use Rattle.spark_base.specs.Lists.{Has}
 use Rattle.spark_base.proofs.Lists.{Has-append_cases, Has-filter, Has-filter_passes}
@@ -14,7 +14,7 @@ use Rattle.owned_ways.proofs.Locations.{reaches_along}
 use Rattle.owned_ways.proofs.Unique.{one_way}
 use Rattle.owned_ways.proofs.Assigned.{kept_fact, is_false}
 use Rattle.owned_ways.proofs.Dropped.{named_base, dropped, left}
-use Rattle.owned_loans.specs.Views.{Views, expand, IsMovedBy, ExcusedBy, HasLoan, Viewed}
+use Rattle.owned_loans.specs.Views.{Views, Around, expand, IsMovedBy, ExcusedBy, HasLoan, Viewed}
 use Rattle.owned_loans.proofs.Ways.{root_on, lifts, lifted_root, lifted_way}
 use Rattle.owned_loans.proofs.Clear.{before_or_new, clear_same}
 use Rattle.owned_loans.proofs.Moves.{view_named, view_on, as_sound, all_known}
@@ -35,7 +35,7 @@ drop_reaches s t r owned d (All w) l (m, n, reach, h, e) off =
     off (ap base_of same ∙ along_base (Object r) b.0)) in
     (m, n, drop_reaches s t r owned d w m reach off, d.off m outside ∙ h, e)
 
-module _ (home : ℕ → ℕ) (observer : ℕ → Bool) (other : Way → Type 0) (v : Views) where
+module _ (home : ℕ → ℕ) (observer : ℕ → Bool) (other : Around home) (v : Views) where
   variable_hand : (f x h : ℕ) → OfRoot (OfVariable f x) ≡ OfRoot (OfHand h) → ⊥
   variable_hand f x h e = cc
 
@@ -53,7 +53,12 @@ module _ (home : ℕ → ℕ) (observer : ℕ → Bool) (other : Way → Type 0)
             view_on home observer other v s t facts facts x w view (λ seen n loan. loan)
             (drop_reaches s t (OfHand h) viewed.owned d w (OfCell (v.cell x)) view.reaches
             (λ e. variable_hand (home (number_of w)) (number_of w) h (sym base ∙ e))));
+        far = λ w n keeps. (let root = other.begins w n keeps in
+            drop_reaches s t (OfHand h) viewed.owned d w (OfCell n) (viewed.far w n keeps) (λ e. variable_hand root.0 root.1 h (sym root.2 ∙ e)));
       }
+
+  same_frame : (f g x y : ℕ) → OfRoot (OfVariable f x) ≡ OfRoot (OfVariable g y) → (f ≡ g) × (x ≡ y)
+  same_frame f g x y e = (cc, cc)
 
   same_variable : (f g x y : ℕ) → OfRoot (OfVariable f x) ≡ OfRoot (OfVariable g y) → x ≡ y
   same_variable f g x y e = cc
@@ -72,14 +77,14 @@ module _ (home : ℕ → ℕ) (observer : ℕ → Bool) (other : Way → Type 0)
     pub roots : (y : ℕ) (w : Way) → v.way y ≡ Some w → number_of w ≡ x → ⊥
     pub loans : (y : ℕ) (w : Way) → v.way y ≡ Some w → observer y ≡ true → HasLoan true y facts (name_of (v.loan y))
 
-  -- what is known of ways that the variable doesn't begin
+  -- what is known of ways that the variable doesn't begin, or elsewhere
   abbrev Aside : ℕ → List Fact → Way → Type 0
-  Aside x facts w = ExcusedBy home v other facts w × (number_of w ≡ x → ⊥)
+  Aside x facts w = ExcusedBy home v other facts w × ((number_of w ≡ x → ⊥) ⊎ other.gone w)
 
   split : (s : View) (facts : List Fact) (x : ℕ) → Viewed home observer other v s facts → v.way x ≡ None
-      → ((y : ℕ) (w : Way) → v.way y ≡ Some w → number_of w ≡ x → ⊥) → ((w : Way) → other w → number_of w ≡ x → ⊥)
+      → ((y : ℕ) (w : Way) → v.way y ≡ Some w → number_of w ≡ x → ⊥)
       → Sound home (Aside x facts) s (filter (belongs_to x) facts)
-  split s facts x viewed none roots apart = record {
+  split s facts x viewed none roots = record {
     owned = viewed.owned;
     covered = viewed.covered;
     known = λ w l n r h. by_root w (viewed.known w l n r h) (number_of w == x) refl;
@@ -93,11 +98,11 @@ module _ (home : ℕ → ℕ) (observer : ℕ → Bool) (other : Way → Type 0)
       ]
 
       by_root : (w : Way) → ExcusedBy home v other facts w → (b : Bool) → (number_of w == x) ≡ b → Excused home (Aside x facts) (filter (belongs_to x) facts) w
-      by_root w known false e = inr (known, λ same. (let is = eq-eqb (number_of w) x same in cc))
+      by_root w known false e = inr (known, inl (λ same. (let is = eq-eqb (number_of w) x same in cc)))
       by_root w known true e = elim known [
         | inl moved ↦ (let own = direct w moved (eqb-true (number_of w) x e) in
             inl (own.0, Has-filter_passes (belongs_to x) facts (Moved (name_of w)) own.1 e))
-        | inr o ↦ absurd (apart w o (eqb-true (number_of w) x e))
+        | inr o ↦ inr (inr o, inr o)
       ]
 
   -- what belongs to the variable ends with it
@@ -113,28 +118,31 @@ module _ (home : ℕ → ℕ) (observer : ℕ → Bool) (other : Way → Type 0)
   ]
 
   pub ended : (s t : View) (x : ℕ) (borrower : Bool) (facts : List Fact) → Viewed home observer other v s facts
-      → IsDrop s t (OfVariable (home x) x) → Leaves x (effect (EndScope x borrower) facts) → ((w : Way) → other w → number_of w ≡ x → ⊥)
+      → IsDrop s t (OfVariable (home x) x) → Leaves x (effect (EndScope x borrower) facts)
       → Viewed home observer other v t (effect (EndScope x borrower) facts)
-  ended s t x borrower facts viewed d leaves apart =
+  ended s t x borrower facts viewed d leaves =
       let act : Act = EndScope x borrower in
-      let sound = dropped home (Aside x facts) s t x borrower (filter (belongs_to x) facts) (split s facts x viewed leaves.none leaves.roots apart) d in record {
+      let sound = dropped home (Aside x facts) s t x borrower (filter (belongs_to x) facts) (split s facts x viewed leaves.none leaves.roots) d in record {
         owned = sound.owned;
         covered = sound.covered;
         known = λ w l n r h. elim (sound.known w l n r h) [
           | inl moved ↦ absurd (all_end facts x borrower (Moved (name_of w)) moved.1)
           | inr both ↦ elim both.0 [
             | inr o ↦ inr o
-            | inl moved ↦ inl (
-              moved.0,
-              (
-                moved.1.0,
-                kept_fact act facts (Moved (name_of moved.0)) moved.1.1
-                    (is_false (number_of moved.0 == x) (λ e. both.1 (
-                    let same = eqb-true (number_of moved.0) x e in
-                    ap number_of (sym moved.2 ∙ stands_itself moved.0 moved.1.0 (ap v.way same ∙ leaves.none)) ∙ same))),
-              ),
-              moved.2,
-            )
+            | inl moved ↦ elim both.1 [
+              | inr o ↦ inr o
+              | inl off ↦ inl (
+                moved.0,
+                (
+                  moved.1.0,
+                  kept_fact act facts (Moved (name_of moved.0)) moved.1.1
+                      (is_false (number_of moved.0 == x) (λ e. off (
+                      let same = eqb-true (number_of moved.0) x e in
+                      ap number_of (sym moved.2 ∙ stands_itself moved.0 moved.1.0 (ap v.way same ∙ leaves.none)) ∙ same))),
+                ),
+                moved.2,
+              )
+            ]
           ]
         ];
         clear = clear_same observer facts viewed.clear act refl;
@@ -151,6 +159,10 @@ module _ (home : ℕ → ℕ) (observer : ℕ → Bool) (other : Way → Type 0)
               reaches = drop_reaches s t (OfVariable (home x) x) viewed.owned d w (OfCell (v.cell y)) view.reaches
                   (λ e. leaves.roots y w has (same_variable (home (number_of w)) (home x) (number_of w) x (sym base ∙ e)));
             });
+        far = λ w n keeps. (let root = other.begins w n keeps in
+            drop_reaches s t (OfVariable (home x) x) viewed.owned d w (OfCell n) (viewed.far w n keeps) (λ e. (
+            let same = same_frame root.0 (home x) root.1 x (sym root.2 ∙ e) in
+            root.3 (same.0 ∙ ap home (sym same.1)))));
       }
     where
       own_loan : (y : ℕ) (w : Way) → v.way y ≡ Some w → (b : Bool) → observer y ≡ b → HasLoan (observer y) y facts (name_of (v.loan y))

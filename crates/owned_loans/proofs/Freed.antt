@@ -12,12 +12,12 @@ use Rattle.owned_ways.proofs.Unique.{one_location, one_way}
 use Rattle.owned_ways.proofs.Named.{covered_under}
 use Rattle.owned_ways.proofs.Assigned.{kept_fact, is_false}
 use Rattle.owned_ways.proofs.Released.{released}
-use Rattle.owned_loans.specs.Views.{Views, expand, ExcusedBy, Viewed}
+use Rattle.owned_loans.specs.Views.{Views, Around, expand, ExcusedBy, Viewed}
 use Rattle.owned_loans.proofs.Meeting.{IsPlain}
 use Rattle.owned_loans.proofs.Clear.{clear_same}
 use Rattle.owned_loans.proofs.Safe.{off_view}
 use Rattle.owned_loans.proofs.Allowed.{loan_kept, free_unlent}
-use Rattle.owned_loans.proofs.Moves.{IsPlace, expand_under, named_way, as_sound, view_on}
+use Rattle.owned_loans.proofs.Moves.{IsPlace, expand_under, far_named, named_way, as_sound, view_on}
 
 -- ---- what a release leaves
 
@@ -82,7 +82,7 @@ module _ (s t : View) (at : Loc) (n : ℕ) (step : IsRelease s t at n) where
 
 -- ---- under its act
 
-module _ (home : ℕ → ℕ) (observer : ℕ → Bool) (other : Way → Type 0) (v : Views) where
+module _ (home : ℕ → ℕ) (observer : ℕ → Bool) (other : Around home) (v : Views) where
   rooted : (w : Way) → Named home w → IsRooted w
   rooted (Object r) m = tt
   rooted (Lost x) m = absurd m
@@ -120,4 +120,6 @@ module _ (home : ℕ → ℕ) (observer : ℕ → Bool) (other : Way → Type 0)
             view_on home observer other v s t facts (effect act facts) x w view (λ seen m. loan_kept act facts (λ l h z. refl) seen x m)
             (reaches_on s t at n step (expand v k) w (OfCell (v.cell x)) viewed.owned held target view.reaches
             (λ past. off_view home observer v s facts viewed.views viewed.clear k x w name (free_unlent facts k allowed) has past)));
+        far = λ w n' keeps. reaches_on s t at n step (expand v k) w (OfCell n') viewed.owned held target (viewed.far w n' keeps)
+            (λ past. far_named home other (expand v k) w n' whole keeps past);
       }

@@ -15,12 +15,12 @@ use Rattle.place_names.specs.Facts.{adds, removes, effect}
 use Rattle.place_names.specs.Rules.{lent}
 use Rattle.owned_ways.specs.Ways.{Step, Root, OfVariable, OfHand, Loc, OfRoot, OfCell, Way, Object, Lost, Into, All, Gone, View, part, along, Reaches, IsRooted, Under, Past, Known, IsMove, IsFresh, IsSame, base_of, name_of, number_of, Named, Excused, Spares, Allows, Sound}
 use Rattle.owned_ways.proofs.Locations.{past_under}
-use Rattle.owned_ways.proofs.Named.{covered_under}
+use Rattle.owned_ways.proofs.Named.{longer, covered_under}
 use Rattle.owned_ways.proofs.Assigned.{kept_fact, is_false, Apart, given_apart, named_rooted, InHand, same_sound}
 use Rattle.owned_ways.proofs.Moving.{Given, keeps, owned_after, covered_after, known_after}
 use Rattle.owned_ways.proofs.Released.{freshly, fresh_on}
 use Rattle.owned_ways.proofs.Dropped.{named_base}
-use Rattle.owned_loans.specs.Views.{on, Views, way_at, expand, expand_root, IsMovedBy, ExcusedBy, AreClear, HasLoan, IsView, AreViews, Viewed}
+use Rattle.owned_loans.specs.Views.{on, Views, Around, way_at, expand, expand_root, IsMovedBy, ExcusedBy, AreClear, HasLoan, IsView, AreViews, Viewed}
 use Rattle.owned_loans.proofs.Ways.{lifts, lifted_root, next_of}
 use Rattle.owned_loans.proofs.Meeting.{IsPlain, next}
 use Rattle.owned_loans.proofs.Clear.{nothing_new, clear_move, clear_same}
@@ -93,6 +93,13 @@ same_reaches s t e (Lost n) l h = (e.leaked n ∙ h.0, h.1)
 same_reaches s t e (Into w i) l (m, h, is) = (m, same_reaches s t e w m h, is)
 same_reaches s t e (All w) l (m, n, h, held, is) = (m, n, same_reaches s t e w m h, e.word m ∙ held, is)
 
+no_hand_base : {f x : ℕ} (w : Way) → InHand w → base_of w ≡ OfRoot (OfVariable f x) → ⊥
+no_hand_base (Object (OfVariable g y)) n e = n
+no_hand_base (Object (OfHand h)) n e = cc
+no_hand_base (Lost x) n e = n
+no_hand_base (Into w i) n e = no_hand_base w n e
+no_hand_base (All w) n e = no_hand_base w n e
+
 hand_rooted : (w : Way) → InHand w → IsRooted w
 hand_rooted (Object r) n = tt
 hand_rooted (Lost x) n = absurd n
@@ -114,7 +121,27 @@ hand_apart home f k named inhand e = variable_hand (named_base home f named) (ha
 
 -- ---- a move, whatever the act
 
-module _ (home : ℕ → ℕ) (observer : ℕ → Bool) (other : Way → Type 0) (v : Views) where
+-- the ways that others keep go past no name of the frame, and no hand
+module _ (home : ℕ → ℕ) (other : Around home) where
+  root_variable : (f x g y : ℕ) → OfRoot (OfVariable f x) ≡ OfRoot (OfVariable g y) → (f ≡ g) × (x ≡ y)
+  root_variable f x g y e = (cc, cc)
+
+  pub far_named : (f w : Way) (n : ℕ) → Named home f → other.kept w n → Past f w → ⊥
+  far_named f w n named keeps past =
+      let root = other.begins w n keeps in
+      let base = sym root.2 ∙ (longer f w (past_under f w past)).base ∙ named_base home f named in
+      let same = root_variable root.0 root.1 (home (number_of f)) (number_of f) base in
+      root.3 (same.0 ∙ ap home (sym same.1))
+
+  pub far_hand : (f w : Way) (n : ℕ) → InHand f → other.kept w n → Past f w → ⊥
+  far_hand f w n inhand keeps past =
+      let root = other.begins w n keeps in
+      variable_hand (hand_under f w inhand (past_under f w past)) root.2
+    where
+      variable_hand : {g x : ℕ} → InHand w → base_of w ≡ OfRoot (OfVariable g x) → ⊥
+      variable_hand i e = no_hand_base w i e
+
+module _ (home : ℕ → ℕ) (observer : ℕ → Bool) (other : Around home) (v : Views) where
   pub view_on : (s t : View) (facts facts' : List Fact) (x : ℕ) (w : Way) → IsView home observer v s facts x w
       → ((seen : Bool) (n : Name) → HasLoan seen x facts n → HasLoan seen x facts' n) → Reaches t w (OfCell (v.cell x)) → IsView home observer v t facts' x w
   view_on s t facts facts' x w view loans reaches = record {
@@ -132,14 +159,18 @@ module _ (home : ℕ → ℕ) (observer : ℕ → Bool) (other : Way → Type 0)
   abbrev pub Off : Way → Type 0
   Off f = (x : ℕ) (w : Way) → v.way x ≡ Some w → Past f w → ⊥
 
+  -- Nor does one of others.
+  abbrev pub OffFar : Way → Type 0
+  OffFar f = (w : Way) (n : ℕ) → other.kept w n → Past f w → ⊥
+
   pub moved_on : (s t : View) (f k : Way) (from to : Loc) (facts facts' : List Fact) → Given s t f k from to
       → Viewed home observer other v s facts → IsRooted f
       → ((w : Way) → Under f w → ExcusedBy home v other facts w → ⊥)
       → ((w : Way) → IsMovedBy home v facts w → (Under k w → ⊥) → IsMovedBy home v facts' w)
       → ((p : List Step) → t.word (part from p) ≡ Gone → ExcusedBy home v other facts' (along f p))
       → AreClear observer facts' → ((seen : Bool) (x : ℕ) (n : Name) → HasLoan seen x facts n → HasLoan seen x facts' n)
-      → Off f → Off k → Viewed home observer other v t facts'
-  moved_on s t f k from to facts facts' given viewed rooted clean stays adds clear loans off away = record {
+      → Off f → Off k → OffFar f → OffFar k → Viewed home observer other v t facts'
+  moved_on s t f k from to facts facts' given viewed rooted clean stays adds clear loans off away far_off far_away = record {
     owned = owned_after s t f k from to given;
     covered = covered_after s t f k from to given viewed.covered;
     known = known_after s t f k from to (ExcusedBy home v other facts) (ExcusedBy home v other facts') given viewed.known rooted clean
@@ -148,6 +179,7 @@ module _ (home : ℕ → ℕ) (observer : ℕ → Bool) (other : Way → Type 0)
     views = λ x w has. (let view = viewed.views x w has in
         view_on s t facts facts' x w view (λ seen n. loans seen x n)
         (keeps s t f k from to given w (OfCell (v.cell x)) view.reaches (λ p. off x w has p) (λ p. away x w has p)));
+    far = λ w n held. keeps s t f k from to given w (OfCell n) (viewed.far w n held) (λ p. far_off w n held p) (λ p. far_away w n held p);
   }
 
   -- what a name stands for is named
@@ -171,6 +203,9 @@ module _ (home : ℕ → ℕ) (observer : ℕ → Bool) (other : Way → Type 0)
   hand_off s facts views f inhand x w has past =
       unnamed home w (hand_under f w inhand (past_under f w past)) (view_named s facts views x w has)
 
+  hand_far : (f : Way) → InHand f → OffFar f
+  hand_far f inhand w n keeps past = far_hand home other f w n inhand keeps past
+
   -- what is moved by a fact is no hand
   pub no_hand : (s : View) (facts : List Fact) → Viewed home observer other v s facts → (f w : Way) → InHand f → Under f w → IsMovedBy home v facts w → ⊥
   no_hand s facts viewed f w inhand under (u, moved, same) =
@@ -182,7 +217,7 @@ module _ (home : ℕ → ℕ) (observer : ℕ → Bool) (other : Way → Type 0)
 
   pub taken : (s t : View) (u k : Way) (from to : Loc) (parts : List (List Sel)) (facts : List Fact)
       → Viewed home observer other v s facts → IsMove s t from to → Named home u → observer (number_of u) ≡ false
-      → Spares other (expand v u) → Reaches s (expand v u) from → InHand k → Reaches s k to
+      → Spares other.gone (expand v u) → Reaches s (expand v u) from → InHand k → Reaches s k to
       → Allows facts (Move (name_of u) parts)
       → ((p : List Step) → t.word (part from p) ≡ Gone → (q : List Sel) × Has parts q × (name_of (along u p) ≡ extend (name_of u) q))
       → Viewed home observer other v t (effect (Move (name_of u) parts) facts)
@@ -212,23 +247,23 @@ module _ (home : ℕ → ℕ) (observer : ℕ → Bool) (other : Way → Type 0)
       (clear_move observer facts viewed.clear (name_of u) parts plain allowed)
       (λ seen x n. loan_kept act facts (λ l h m. refl) seen x n)
       (λ x w has past. off_view home observer v s facts viewed.views viewed.clear u x w name unlent has past)
-      (hand_off s facts viewed.views k inhand)
+      (hand_off s facts viewed.views k inhand) (λ w n keeps past. far_named home other (expand v u) w n whole keeps past) (hand_far k inhand)
 
   -- ---- from a hand to where no view's way goes: to another hand, or to a new variable or cell
 
   pub handed : (s t : View) (f k : Way) (from to : Loc) (facts : List Fact) → Viewed home observer other v s facts → IsMove s t from to
-      → InHand f → Off k → Spares other f → Reaches s f from → Reaches s k to → Apart f k
+      → InHand f → Off k → OffFar k → Spares other.gone f → Reaches s f from → Reaches s k to → Apart f k
       → ((p : List Step) → t.word (part from p) ≡ Gone → ⊥) → Viewed home observer other v t facts
-  handed s t f k from to facts viewed move inhand away spares source target apart empty =
+  handed s t f k from to facts viewed move inhand away far_away spares source target apart empty =
       moved_on s t f k from to facts facts (given_apart s t f k from to viewed.owned move source target apart) viewed (hand_rooted f inhand)
       (λ w under known. elim known [ inl h ↦ no_hand s facts viewed f w inhand under h | inr o ↦ spares w under o ])
       (λ w moved off. moved) (λ p gone. absurd (empty p gone)) viewed.clear (λ seen x n has. has)
-      (hand_off s facts viewed.views f inhand) away
+      (hand_off s facts viewed.views f inhand) away (hand_far f inhand) far_away
 
   -- ---- putting at a target
 
   pub put : (s t : View) (f k : Way) (from to : Loc) (facts : List Fact) → Viewed home observer other v s facts → IsMove s t from to
-      → InHand f → Spares other f → Reaches s f from → Named home k → observer (number_of k) ≡ false → IsPlace v k
+      → InHand f → Spares other.gone f → Reaches s f from → Named home k → observer (number_of k) ≡ false → IsPlace v k
       → Reaches s (expand v k) to → Allows facts (Write (name_of k))
       → ((p : List Step) → t.word (part from p) ≡ Gone → ⊥) → Viewed home observer other v t (effect (Write (name_of k)) facts)
   put s t f k from to facts viewed move inhand spares source named plain place target allowed empty =
@@ -254,6 +289,7 @@ module _ (home : ℕ → ℕ) (observer : ℕ → Bool) (other : Way → Type 0)
       (λ seen x n. loan_kept act facts (λ l h m. refl) seen x n)
       (hand_off s facts viewed.views f inhand)
       (λ x w has past. off_view home observer v s facts viewed.views viewed.clear k x w name (write_unlent facts k allowed) has past)
+      (hand_far f inhand) (λ w n keeps past. far_named home other (expand v k) w n whole keeps past)
 
   -- ---- a new cell, and nothing
 
@@ -274,6 +310,7 @@ module _ (home : ℕ → ℕ) (observer : ℕ → Bool) (other : Way → Type 0)
         clear = viewed.clear;
         views = λ x w has. (let view = viewed.views x w has in
             view_on s t facts facts x w view (λ seen n has. has) (fresh_on s t at fresh w (OfCell (v.cell x)) view.reaches));
+        far = λ w n keeps. fresh_on s t at fresh w (OfCell n) (viewed.far w n keeps);
       }
 
   pub same_viewed : (s t : View) (facts : List Fact) → IsSame s t → Viewed home observer other v s facts → Viewed home observer other v t facts
@@ -285,6 +322,7 @@ module _ (home : ℕ → ℕ) (observer : ℕ → Bool) (other : Way → Type 0)
         clear = viewed.clear;
         views = λ x w has. (let view = viewed.views x w has in
             view_on s t facts facts x w view (λ seen n has. has) (same_reaches s t same w (OfCell (v.cell x)) view.reaches));
+        far = λ w n keeps. same_reaches s t same w (OfCell n) (viewed.far w n keeps);
       }
 
   -- an act that ends no fact and adds none
@@ -299,6 +337,7 @@ module _ (home : ℕ → ℕ) (observer : ℕ → Bool) (other : Way → Type 0)
     ];
     clear = nothing_new observer facts facts' back viewed.clear;
     views = λ x w has. (let view = viewed.views x w has in view_on s s facts facts' x w view (λ seen n loan. same_loan seen x n loan) view.reaches);
+    far = viewed.far;
   }
     where
       same_loan : (seen : Bool) (x : ℕ) (n : Name) → HasLoan seen x facts n → HasLoan seen x facts' n

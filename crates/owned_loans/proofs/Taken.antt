@@ -18,7 +18,7 @@ use Rattle.owned_ways.specs.Ways.{OfVariable, OfHand, OfCell, Way, Object, Lost,
 use Rattle.owned_ways.proofs.Named.{longer}
 use Rattle.owned_ways.proofs.Assigned.{kept_fact}
 use Rattle.owned_ways.proofs.Locations.{under_itself}
-use Rattle.owned_loans.specs.Views.{Views, expand_root, expand, IsObject, AreClear, HasLoan, IsView, Viewed, Becomes, with_view, Unused}
+use Rattle.owned_loans.specs.Views.{Views, Around, expand_root, expand, IsObject, AreClear, HasLoan, IsView, Viewed, Becomes, with_view, Unused}
 use Rattle.owned_loans.proofs.Ways.{on_deep, Lifted, next_of}
 use Rattle.owned_loans.proofs.Meeting.{next}
 use Rattle.owned_loans.proofs.Clear.{refused, clear_borrow, clear_observe, clear_same}
@@ -46,7 +46,7 @@ pub record Fits (home : ℕ → ℕ) (observer : ℕ → Bool) (v : Views) (s : 
   pub lent : HasLoan (observer b) b facts (name_of loan)
   pub reaches : Reaches s w (OfCell n)
 
-module _ (home : ℕ → ℕ) (observer : ℕ → Bool) (other : Way → Type 0) (v t : Views) (b : ℕ) (o : Option Way) (loan up : Way) (n : ℕ)
+module _ (home : ℕ → ℕ) (observer : ℕ → Bool) (other : Around home) (v t : Views) (b : ℕ) (o : Option Way) (loan up : Way) (n : ℕ)
     (becomes : Becomes v t b o loan up n) where
   -- a view isn't taken from itself
   not_itself : (observer b ≡ false → number_of up < b) → observer (number_of up) ≡ false → number_of up ≡ b → ⊥
@@ -96,6 +96,7 @@ module _ (home : ℕ → ℕ) (observer : ℕ → Bool) (other : Way → Type 0)
     ];
     clear = clear;
     views = λ x w has. by_object x w has (x == b) refl;
+    far = viewed.far;
   }
     where
       by_object : (x : ℕ) (w : Way) → t.way x ≡ Some w → (c : Bool) → (x == b) ≡ c → IsView home observer t s facts' x w
@@ -113,7 +114,7 @@ module _ (home : ℕ → ℕ) (observer : ℕ → Bool) (other : Way → Type 0)
 same_way : (a b : Way) → Some a ≡ Some b → a ≡ b
 same_way a b e = cc
 
-module _ (home : ℕ → ℕ) (observer : ℕ → Bool) (other : Way → Type 0) (v t : Views) (s : View) (facts : List Fact)
+module _ (home : ℕ → ℕ) (observer : ℕ → Bool) (other : Around home) (v t : Views) (s : View) (facts : List Fact)
     (viewed : Viewed home observer other v s facts) where
   stays : (a : Act) → ((m : Name) → removes a (Moved m) ≡ false) → (m : Name) → Has facts (Moved m) → Has (effect a facts) (Moved m)
   stays a keeps m has = kept_fact a facts (Moved m) has (keeps m)

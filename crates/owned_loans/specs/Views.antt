@@ -7,7 +7,7 @@ use Rattle.place_names.specs.declared.fact.Fact.TheVariants.{Moved, Lent}
 use Rattle.place_names.specs.declared.rule.Loan.{Loan}
 use Rattle.place_names.specs.declared.rule.Loan.TheVariants.{Borrowed, Observed}
 use Rattle.place_names.specs.Names.{Name, overlaps}
-use Rattle.owned_ways.specs.Ways.{Step, Root, OfVariable, OfHand, OfCell, Way, Object, Lost, Into, All, View, Reaches, Under, Owned, Covered, Known, Named, IsMoved, name_of, number_of}
+use Rattle.owned_ways.specs.Ways.{Step, Root, OfVariable, OfHand, OfRoot, OfCell, Way, Object, Lost, Into, All, View, Reaches, Under, Owned, Covered, Known, Named, IsMoved, name_of, number_of, base_of}
 
 -- ---- how a way goes on
 
@@ -64,8 +64,19 @@ IsObject _ = ⊥
 abbrev pub IsMovedBy : (ℕ → ℕ) → Views → List Fact → Way → Type 0
 IsMovedBy home v facts w = (u : Way) × IsMoved home facts u × (expand v u ≡ w)
 
-abbrev pub ExcusedBy : (ℕ → ℕ) → Views → (Way → Type 0) → List Fact → Way → Type 0
-ExcusedBy home v other facts w = IsMovedBy home v facts w ⊎ other w
+-- What concerns a frame of others: which ways are gone for them, and the ways of their views with
+-- the cells that they lead to. These begin at variables of others.
+pub record Around (home : ℕ → ℕ) : Type 1 where
+  pub gone : Way → Type 0
+  pub kept : Way → ℕ → Type 0
+  pub begins : (w : Way) (n : ℕ) → kept w n → (f : ℕ) × (x : ℕ) × (base_of w ≡ OfRoot (OfVariable f x)) × (f ≡ home x → ⊥)
+
+-- Others have no views.
+abbrev pub known_gone : (home : ℕ → ℕ) → (Way → Type 0) → Around home
+known_gone home gone = record { gone = gone; kept = λ w n. ⊥; begins = λ w n none. absurd none }
+
+abbrev pub ExcusedBy : (home : ℕ → ℕ) → Views → Around home → List Fact → Way → Type 0
+ExcusedBy home v other facts w = IsMovedBy home v facts w ⊎ other.gone w
 
 -- What was moved isn't lent, what one object has borrowed is lent to no other one, and nothing is
 -- moved through an observer.
@@ -98,13 +109,14 @@ abbrev pub AreViews : (ℕ → ℕ) → (ℕ → Bool) → Views → View → Li
 AreViews home observer v s facts = (x : ℕ) (w : Way) → v.way x ≡ Some w → IsView home observer v s facts x w
 
 -- The state is well owned, what ways find gone is known as moved, and each view with a value has
--- one way of owners to the cell that it holds.
-pub record Viewed (home : ℕ → ℕ) (observer : ℕ → Bool) (other : Way → Type 0) (v : Views) (s : View) (facts : List Fact) : Type 0 where
+-- one way of owners to the cell that it holds. So have the views of others.
+pub record Viewed (home : ℕ → ℕ) (observer : ℕ → Bool) (other : Around home) (v : Views) (s : View) (facts : List Fact) : Type 0 where
   pub owned : Owned s
   pub covered : Covered s
   pub known : Known s (ExcusedBy home v other facts)
   pub clear : AreClear observer facts
   pub views : AreViews home observer v s facts
+  pub far : (w : Way) (n : ℕ) → other.kept w n → Reaches s w (OfCell n)
 
 -- ---- a view gets a value
 

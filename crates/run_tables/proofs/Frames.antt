@@ -89,11 +89,11 @@ nth_laid s k n subs sub is =
 
 -- ---- all of a program
 
-in_list : (xs ys : List TypedSub) (sub : TypedSub) → Has (xs ++ sub ∷ ys) sub
+pub in_list : (xs ys : List TypedSub) (sub : TypedSub) → Has (xs ++ sub ∷ ys) sub
 in_list [] ys sub = inl refl
 in_list (x ∷ xs) ys sub = inr (in_list xs ys sub)
 
-nth_there : (subs : List TypedSub) (n : ℕ) → n < length subs → (sub : TypedSub) × IsSub subs n sub
+pub nth_there : (subs : List TypedSub) (n : ℕ) → n < length subs → (sub : TypedSub) × IsSub subs n sub
 nth_there [] n low = absurd (omega (arith, low))
 nth_there (x ∷ subs) zero low = (x, ([], subs, refl, refl))
 nth_there (x ∷ subs) (suc n) low =
@@ -111,13 +111,13 @@ module _ (table : Table) (program : TypedProgram) (order : CanEnter table progra
   flow = flow_program table program
 
   -- the others follow the first one
-  sub_is : (n : ℕ) (sub : TypedSub) → IsSub order.rest n sub → IsLaidOut (typing_of table program) sub (sub_of flow (suc n))
+  pub sub_is : (n : ℕ) (sub : TypedSub) → IsSub order.rest n sub → IsLaidOut (typing_of table program) sub (sub_of flow (suc n))
   unfolding flow_program
   sub_is n sub is =
       subst (λ l. IsLaidOut (typing_of table program) sub (get_or (map (flow_sub (typing_of table program)) (all_named (typing_of table program) l)) (suc n) no_sub)) (sym order.subs)
       (nth_laid (typing_of table program) (length (typing_of table program).objects) n order.rest sub is)
 
-  first_formals : (sub_of flow 0).formals ≡ order.first.formals
+  pub first_formals : (sub_of flow 0).formals ≡ order.first.formals
   unfolding flow_program
   first_formals = ap (λ l. (get_or (map (flow_sub (typing_of table program)) (all_named (typing_of table program) l)) 0 no_sub).formals) order.subs
 
@@ -147,7 +147,7 @@ module _ (table : Table) (program : TypedProgram) (order : CanEnter table progra
       let main = order.main n is in
       subst (λ k. IsCallable flow k) (sym main.2) (callable main.0 main.1 main.3)
 
-  rest_long : length flow.subs ≡ suc (length order.rest)
+  pub rest_long : length flow.subs ≡ suc (length order.rest)
   unfolding flow_program
   rest_long =
       length-map (flow_named table program) (flow_sub (typing_of table program)) ∙ ap (λ l. length (all_named (typing_of table program) l)) order.subs
@@ -157,7 +157,7 @@ module _ (table : Table) (program : TypedProgram) (order : CanEnter table progra
       named_long k [] = refl
       named_long k (x ∷ subs) = ap suc (named_long (k + length (sub_temporaries (typing_of table program) x)) subs)
 
-  called : (n : ℕ) → 0 < n → n < length flow.subs → IsCallable flow n
+  pub called : (n : ℕ) → 0 < n → n < length flow.subs → IsCallable flow n
   called zero some low = absurd (omega (arith, some))
   called (suc n) some low =
       let sub = nth_there order.rest n (inside n (length order.rest) (length flow.subs) low rest_long) in

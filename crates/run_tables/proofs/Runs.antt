@@ -78,7 +78,7 @@ module _ (files : List (List SourceUnit)) where
   unfolding name_fault
   files_bodies up named d has = files_have_bodies files (identified files) (files_followed files up named) named d has
 
-  files_calls : Ascends (event_positions (source_events files)) → name_fault files ≡ None → CallsStand flow
+  pub files_calls : Ascends (event_positions (source_events files)) → name_fault files ≡ None → CallsStand flow
   files_calls up named n k sub e result low is = calls_within p (files_bodies up named) n k sub e result is
 
   pub files_frames : AreApart (identified files) → Ascends (event_positions (source_events files)) → name_fault files ≡ None → type_fault p ≡ None → HasFrames flow

@@ -25,12 +25,14 @@ use Rattle.file_positions.proofs.Main.{files_apart, files_ended}
 use Rattle.ready_types.proofs.Files.{files_settled, files_own}
 use Rattle.soundness.specs.Typed.{OwnsByShape}
 use Rattle.soundness.specs.Sound.{RunIsSound}
+use Rattle.soundness.specs.Ready.{IsReady}
+use Rattle.soundness.proofs.Main.{ready_sound}
 use Rattle.soundness.proofs.Points.{flow_table}
 use Rattle.gathered_laws.specs.Made.{IsMade}
 use Rattle.gathered_laws.specs.Views.{AreViews}
 use Rattle.order_laws.specs.Orderly.{typed_of, IsOrderly}
 use Rattle.order_laws.proofs.Faults.{units_faultless}
-use Rattle.order_laws.proofs.Accepted.{accepted_sound}
+use Rattle.order_laws.proofs.Accepted.{accepted_ready}
 use Rattle.sound_files.specs.Class.{IsPlainText, CallsNothing}
 use Rattle.seen_files.proofs.Main.{files_seen}
 use Rattle.sound_files.proofs.Whole.{whole}
@@ -64,11 +66,11 @@ module _ (files : List (List SourceUnit)) where
       is_main = is_main;
     }
 
-    -- Where there are no reports, each moment of each run is well owned, and none is a trap.
-    pub files_sound : IsPlainText p → (effects : Effects) → AreEffects flow effects → AreReports flow effects [] → CallsNothing flow
-        → (input : List ℕ) → RunIsSound table (typed_of p) input
-    files_sound text effects are none calls input =
-        accepted_sound p effects no_fault
+    -- Where there are no reports, the program is ready,
+    pub files_ready : IsPlainText p → (effects : Effects) → AreEffects flow effects → AreReports flow effects [] → CallsNothing flow
+        → IsReady table (typed_of p) effects
+    files_ready text effects are none calls =
+        accepted_ready p effects no_fault
         (record {
           no_reports = none;
           effects_are = are;
@@ -76,9 +78,19 @@ module _ (files : List (List SourceUnit)) where
           fine = files_fine files apart ended up named no_fault (text_views p text.named) calls;
         })
         (subst OwnsByShape (flow_table table (typed_of p)) (files_own files apart ended no_fault (typed_of p))) (first_class p text calls)
-        (files_orderly (text_views p text.named) text.main text.is_main) input
+        (files_orderly (text_views p text.named) text.main text.is_main)
+
+    -- so each moment of each run is well owned, and none is a trap.
+    pub files_sound : IsPlainText p → (effects : Effects) → AreEffects flow effects → AreReports flow effects [] → CallsNothing flow
+        → (input : List ℕ) → RunIsSound table (typed_of p) input
+    files_sound text effects are none calls input = ready_sound table (typed_of p) effects input (files_ready text effects are none calls)
 
   -- So it is if the files are parsed from texts: then their positions are as in a text.
+  pub parsed_ready : (texts : List (List Cut)) → AreParsed 0 texts files → name_fault files ≡ None → type_fault p ≡ None → IsPlainText p
+      → (effects : Effects) → AreEffects flow effects → AreReports flow effects [] → CallsNothing flow → IsReady table (typed_of p) effects
+  parsed_ready texts parsed named no_fault =
+      files_ready (files_apart texts files parsed) (files_ended (identified files) texts files parsed) (events_ascend texts files parsed) named no_fault
+
   pub parsed_sound : (texts : List (List Cut)) → AreParsed 0 texts files → name_fault files ≡ None → type_fault p ≡ None → IsPlainText p
       → (effects : Effects) → AreEffects flow effects → AreReports flow effects [] → CallsNothing flow
       → (input : List ℕ) → RunIsSound table (typed_of p) input

@@ -28,7 +28,7 @@ same_or_not a b = elim (bool_cases (a == b)) [
   | inr e ↦ inr (λ same. (let yes : true ≡ false = sym (eq-eqb a b same) ∙ e in cc))
 ]
 
-near_or_far : (frame : ℕ) (w : Way) → IsNear frame w ⊎ (IsNear frame w → ⊥)
+pub near_or_far : (frame : ℕ) (w : Way) → IsNear frame w ⊎ (IsNear frame w → ⊥)
 near_or_far frame (Object (OfVariable f x)) = elim (same_or_not f 0) [
   | inl e ↦ inl (inl e)
   | inr other ↦ elim (same_or_not f frame) [
@@ -51,7 +51,7 @@ far_alone frame other w near far = far.0 near
 -- ---- names of package objects
 
 -- A package object has one place for all frames.
-package_named : (s : Typing) (a b : ℕ) (w : Way) → is_package_object s (number_of w) ≡ true → Named (home s a) w → Named (home s b) w
+pub package_named : (s : Typing) (a b : ℕ) (w : Way) → is_package_object s (number_of w) ≡ true → Named (home s a) w → Named (home s b) w
 package_named s a b (Object (OfVariable f x)) shared named =
     named ∙ ap (λ z. if z then 0 else a) shared ∙ sym (ap (λ z. if z then 0 else b) shared)
 package_named s a b (Object (OfHand h)) shared named = absurd named
@@ -60,7 +60,7 @@ package_named s a b (Into w i) shared named = package_named s a b w shared named
 package_named s a b (All w) shared named = package_named s a b w shared named
 
 -- What an older frame names is near a frame only where it is a part of a package object.
-near_package : (s : Typing) (a b : ℕ) → 0 < a → a < b → (w : Way) → Named (home s a) w → IsNear b w → is_package_object s (number_of w) ≡ true
+pub near_package : (s : Typing) (a b : ℕ) → 0 < a → a < b → (w : Way) → Named (home s a) w → IsNear b w → is_package_object s (number_of w) ≡ true
 near_package s a b some less (Object (OfVariable f x)) named near = elim (bool_cases (is_package_object s x)) [
   | inl e ↦ e
   | inr e ↦ (
@@ -94,7 +94,7 @@ module _ (program : FlowProgram) (effects : Effects) where
   abbrev s : Typing
   s = flow_typing program
 
-  inherited_has : (older : List Stage) (g : Stage) → Has older g → (f : Fact) → Has (facts_of program effects g) f → is_inherited (flow_typing program) f ≡ true
+  pub inherited_has : (older : List Stage) (g : Stage) → Has older g → (f : Fact) → Has (facts_of program effects g) f → is_inherited (flow_typing program) f ≡ true
       → Has (inherited program effects older) f
   inherited_has [] g has f fact e = absurd has
   inherited_has (h ∷ older) g (inl same) f fact e =
@@ -190,12 +190,12 @@ module _ (table : Table) (typed : TypedProgram) (effects : Effects)
       → AreCallers table typed effects m callee older → (g : Stage) → Has older g → IsBetween (flow_program table typed) effects depth g
   all_between m callee depth [] outer stages less callers g has = absurd has
   all_between m callee depth (e ∷ []) outer stages less callers g (inl same) =
-      subst (IsBetween program effects depth) same (record { returns = callers.1.2; placed = inr (none e callers.0) })
+      subst (IsBetween program effects depth) same (record { returns = callers.1.1; placed = inr (none e callers.0) })
   all_between m callee depth (e ∷ []) outer stages less callers g (inr never) = absurd never
   all_between m callee depth (h ∷ (k ∷ older)) [] stages less callers g has = absurd stages
   all_between m callee depth (h ∷ (k ∷ older)) (f ∷ outer) stages less callers g (inl same) =
       subst (IsBetween program effects depth) same (record {
-        returns = (callers.0).plain.2;
+        returns = (callers.0).plain.1;
         placed = inl (
           (let some = some_frames k older outer stages.2 in let deep = stages.1 in omega (arith, some, deep)),
           (let deep = stages.1 in omega (arith, less, deep)),
@@ -224,7 +224,7 @@ module _ (table : Table) (typed : TypedProgram) (effects : Effects)
       let some = some_frames h older outer stages.2 in
       let deep = stages.1 in (
         record {
-          procedure = caller.procedure;
+          runs = caller.runs;
           plain = caller.plain;
           path = caller.path;
           named = caller.named;

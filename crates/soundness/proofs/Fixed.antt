@@ -1,5 +1,5 @@
 -- Words of a scalar type that are put at a place: owners don't see it, and words stay typed.
-use Rattle.std.proofs.Common.{◌≡◌, refl, sym, ap, ◌∙◌, subst, inl, inr, ℕ, suc, ◌+◌, ◌<◌, ◌≤◌, true, false, ◌&&◌, ◌⊎◌, List, [], ◌∷◌, ◌++◌, length, get_or, arith, append-nil, if◌then◌else◌}
+use Rattle.std.proofs.Common.{◌≡◌, refl, sym, ap, ◌∙◌, subst, inl, inr, ℕ, suc, ◌+◌, ◌<◌, ◌≤◌, true, false, ◌&&◌, ◌⊎◌, List, ◌∷◌, ◌++◌, length, get_or, arith, append-nil, if◌then◌else◌}
 use Rattle.std.proofs.lemmas.List.{length-map}
 use Rattle.place_names.specs.declared.fact.Fact.{Fact}
 use Rattle.type_definitions.specs.Types.{shape_of, words, full, view_of, is_scalar}
@@ -17,6 +17,7 @@ use Rattle.part_offsets.proofs.Ranges.{leaf_outside}
 use Rattle.soundness.specs.Seen.{Content, content, owner_word, trunk, steps_in, word_in, seen}
 use Rattle.soundness.specs.Changes.{Put}
 use Rattle.soundness.specs.Typed.{Matches, OwnsByShape, Kept, Spot, IsFixed, IsMade, loc_of}
+use Rattle.soundness.specs.Sound.{AreSameWords}
 use Rattle.soundness.proofs.Joined.{trunk_trunk, trunk_part, steps_part, leaf_join}
 use Rattle.soundness.proofs.Contents.{bool_cases, word_no}
 use Rattle.soundness.proofs.Memories.{marked_length}
@@ -138,11 +139,9 @@ module _ (s : Typing) (settled : IsSettled s.table) where
   fresh_long : (k : Place) → IsFixed s k → (ws : List machine.Word) → length ws ≡ 1 → length (fresh ws) ≡ words s.table k.of
   fresh_long k fixed ws one = length-map ws (λ w. record { word = w; gone = false }) ∙ one ∙ sym (plain_word k.of fixed.scalar)
 
-  -- Variables hold what they held.
+  -- Owners see what they saw in all variables and cells.
   abbrev pub HoldSame : Memory → Memory → Type 0
-  HoldSame m n =
-      (g y : ℕ) (p : List Step) → word_in s.table (content s n [] (OfRoot (ways.OfVariable g y))) p
-      ≡ word_in s.table (content s m [] (OfRoot (ways.OfVariable g y))) p
+  HoldSame m n = AreSameWords s (λ f. Unit {0}) m n
 
   module _ (own_law : OwnsByShape s.table) (hands : List Waiting) (leaks : List Leak) (at_home : ℕ → ℕ) (other : Way → Type 0) (facts : List Fact) where
     -- What doesn't change: a sound state with typed words.
@@ -164,7 +163,10 @@ module _ (s : Typing) (settled : IsSettled s.table) where
                 (put_same_view s settled m hands k l spot kept fixed.scalar marks long leaks) sound,
             less_kept s settled (moved_out s k m) (record { of = k.of; words = words_of s m k }) hands ((keeps s settled own_law).moved m hands k l spot kept),
           ),
-          λ g y p. put_word s settled m hands k l spot kept fixed.scalar marks long (OfRoot (ways.OfVariable g y)) p refl,
+          (
+            λ g y p any. put_word s settled m hands k l spot kept fixed.scalar marks long (OfRoot (ways.OfVariable g y)) p refl,
+            λ c p. put_word s settled m hands k l spot kept fixed.scalar marks long (ways.OfCell c) p refl,
+          ),
         )
 
     pub stored_good : (k : Place) → IsFixed s k → (ws : List machine.Word) → length ws ≡ 1 → (m : Memory) → Good m → LeadsTo m (stored s k ws m)
@@ -179,8 +181,14 @@ module _ (s : Typing) (settled : IsSettled s.table) where
             put_away s settled m v hands k l (scalar s settled m v hands fixed.scalar kept) (fixed_spot k fixed m (v ∷ hands))
                 (one ∙ sym (plain_word k.of fixed.scalar)) (inl refl),
           ),
-          λ g y p. put_word s settled m hands k l spot kept fixed.scalar (fresh ws) long (OfRoot (ways.OfVariable g y)) p refl,
+          (
+            λ g y p any. put_word s settled m hands k l spot kept fixed.scalar (fresh ws) long (OfRoot (ways.OfVariable g y)) p refl,
+            λ c p. put_word s settled m hands k l spot kept fixed.scalar (fresh ws) long (ways.OfCell c) p refl,
+          ),
         )
 
     pub leads_on : (a b c : Memory) → LeadsTo a b → LeadsTo b c → LeadsTo a c
-    leads_on a b c first second = (second.0, λ g y p. second.1 g y p ∙ first.1 g y p)
+    leads_on a b c first second = (
+      second.0,
+      (λ g y p any. second.1.0 g y p any ∙ first.1.0 g y p any, λ n p. second.1.1 n p ∙ first.1.1 n p),
+    )

@@ -1,6 +1,6 @@
 -- What instructions lead to, as outcomes of the machine: declarations, assignments, releases, the
 -- ends of scopes, conditions, input and output.
-use Rattle.std.proofs.Common.{◌≡◌, refl, sym, ap, ◌∙◌, subst, ◌⊎◌, inl, inr, ℕ, suc, Bool, true, false, not, ◌&&◌, ◌||◌, List, [], ◌∷◌, ◌++◌, map, flat_map, reverse, take, drop, length, get_or, nat_lt, arith, append-nil, ℤ, Option, Some, None, if◌then◌else◌}
+use Rattle.std.proofs.Common.{◌≡◌, refl, sym, ap, ◌∙◌, subst, ◌⊎◌, inl, inr, ℕ, suc, ◌+◌, Bool, true, false, not, ◌&&◌, ◌||◌, List, [], ◌∷◌, ◌++◌, map, flat_map, reverse, take, drop, length, get_or, nat_lt, arith, append-nil, ℤ, Option, Some, None, if◌then◌else◌}
 use Rattle.std.specs.Prelude as int
 use Rattle.spark_base.specs.Lists.{Has}
 use Rattle.spark_base.specs.declared.position.Pos.{Pos}
@@ -18,7 +18,7 @@ use Rattle.type_definitions.specs.Types.{shape_of, words, words_of as words_of_s
 use Rattle.typed_tree.specs.Trees.{TypedTree, TypedCode, Text, Name, Parens, Image, Binary, NoMore, More}
 use Rattle.flow_paths.specs.Instructions.{Skip, Fall}
 use Rattle.flow_paths.specs.Objects.{Typing, object_at, is_anonymous, is_borrowing, is_observing, is_borrower, is_observer, is_variable, designated, designated_of}
-use Rattle.flow_paths.specs.Names.{has_call, name_of, whole, first, written, source}
+use Rattle.flow_paths.specs.Names.{has_call, waiting as waits_in, name_of, whole, first, written, source}
 use Rattle.flow_paths.specs.Scopes.{taken}
 use Rattle.flow_paths.specs.Acts.{acts_in, stored_acts, declared_acts, assigned_to, source_acts, index_acts, reborrow, observe, target_pos as acts_target_pos}
 use Rattle.run_values.specs.declared.items.Item.{Item}
@@ -59,12 +59,13 @@ use Rattle.soundness.proofs.Steps.{alike, plain_shape}
 use Rattle.soundness.proofs.Defaults.{none_default}
 use Rattle.soundness.proofs.Moments.{stored_sound, declared_sound, ended_sound}
 use Rattle.soundness.proofs.Scalars.{acts, acts_append, after_append, allows_both, number_along, named_along}
-use Rattle.soundness.proofs.Stays.{Quiet, Any, One, quiet_then, quiet, Goes as GoesAlong, steps_quiet, name_quiet}
+use Rattle.soundness.proofs.Taking.{Takes, takes_none, takes_as, takes_both, takes_zero, no_takes, TakesPlainly, both_plainly, nothing_more}
+use Rattle.soundness.proofs.Stays.{Quiet, Any, One, quiet_then, quiet_from, taking, Goes as GoesAlong, steps_taking, name_quiet}
 use Rattle.soundness.proofs.Numbers.{index_law}
 use Rattle.soundness.proofs.Lasting.{put_away, keeps, lengths, stored_kept, freed_kept, declared_kept, removed_kept}
-use Rattle.soundness.proofs.Evaluated.{live_trunk, Ready, Given, blank_ready, checked_given, evaluated}
-use Rattle.soundness.proofs.Stored.{Assigns, assigned}
-use Rattle.soundness.proofs.Waits.{or_both, take_none, drop_none, waits_of, led_waits}
+use Rattle.soundness.proofs.Evaluated.{live_trunk, Ready, Given, blank_ready, checked_given, evaluated_on}
+use Rattle.soundness.proofs.Stored.{Assigns, assigned_on}
+use Rattle.soundness.proofs.Waits.{no_waits, take_none, drop_none, waits_of, led_waits}
 use Rattle.soundness.proofs.Freeing.{free_way, freed_nothing, plain_parts, switched}
 
 -- ---- without anonymous access types there are no borrowers and observers
@@ -167,17 +168,25 @@ module _ (t : Turn) (settled : IsSettled (typing t).table) (own_law : OwnsByShap
     abbrev pub now : Now
     now = record { memory = t.state.memory; waits = [] }
 
+    -- with these values, which the instruction takes
+    abbrev pub at : List (List machine.Word) → Now
+    at ws = record { memory = t.state.memory; waits = ws }
+
     -- the source of a place
-    pub source_given : (u : ℕ) (e : TypedTree) → Source s u e → has_call e ≡ false → (facts : List Fact)
-        → Holds facts t.state → AllowsAll facts (acts (acts_in s e)) → Given_here u (after (acts (acts_in s e)) facts) (taken_by t u e now)
-    source_given u e (inl (view, is)) calls facts holds allowed = (let no : true ≡ false = sym view ∙ not_anonymous s all_named u in cc)
-    source_given u e (inr gives) calls facts holds allowed =
-        subst (λ b. Given_here u (after (acts (acts_in s e)) facts) (if b then viewed (here t) e now else followed_by (value (here t) e now) (checked (here t) u)))
+    pub source_on : (ws : List (List machine.Word)) (u : ℕ) (e : TypedTree) → Source s u e → TakesPlainly s (has_call e) → Takes (waits_in e) ws [] → (facts : List Fact)
+        → Holds facts t.state → AllowsAll facts (acts (acts_in s e)) → Given_here u (after (acts (acts_in s e)) facts) (taken_by t u e (at ws))
+    source_on ws u e (inl (view, is)) calls takes facts holds allowed = (let no : true ≡ false = sym view ∙ not_anonymous s all_named u in cc)
+    source_on ws u e (inr gives) calls takes facts holds allowed =
+        subst (λ b. Given_here u (after (acts (acts_in s e)) facts) (if b then viewed (here t) e (at ws) else followed_by (value (here t) e (at ws)) (checked (here t) u)))
         (sym (not_anonymous s all_named u))
         (checked_given (here t) settled t.state.leaks [] other alone (keeps s settled own_law) no_formals index_law own_law all_named u u hands
-        (after (acts (acts_in s e)) facts) (evaluate (here t) AsValue e now)
-        (evaluated (here t) settled t.state.leaks [] other alone (keeps s settled own_law) no_formals index_law own_law all_named e u gives calls
+        (after (acts (acts_in s e)) facts) (evaluate (here t) AsValue e (at ws))
+        (evaluated_on (here t) settled t.state.leaks [] other alone (keeps s settled own_law) no_formals index_law own_law all_named e u gives calls ws [] takes
         t.state.memory hands facts (record { sound = holds.0; kept = holds.1 }) allowed))
+
+    pub source_given : (u : ℕ) (e : TypedTree) → Source s u e → has_call e ≡ false → (facts : List Fact)
+        → Holds facts t.state → AllowsAll facts (acts (acts_in s e)) → Given_here u (after (acts (acts_in s e)) facts) (taken_by t u e now)
+    source_given u e gives calls facts holds allowed = source_on [] u e gives (inl calls) (no_takes e calls []) facts holds allowed
 
     -- ---- declarations
 
@@ -218,14 +227,14 @@ module _ (t : Turn) (settled : IsSettled (typing t).table) (own_law : OwnsByShap
           ])
     ]
 
-    first_fades : (u : ℕ) (v : TypedTree) → FirstSource s u v → FadesTo (here t) t.state.memory (first_value t u v now)
+    first_fades : (ws : List (List machine.Word)) (u : ℕ) (v : TypedTree) → FirstSource s u v → FadesTo (here t) t.state.memory (first_value t u v (at ws))
     unfolding initial
-    first_fades u (More e rest) gives =
-        if_fades (here t) t.state.memory (is_anonymous (full s.table u)) (viewed (here t) e now) (followed_by (value (here t) e now) (checked (here t) u))
-        (fades (here t) AsView e now)
-        (then_fades (here t) t.state.memory (value (here t) e now) (checked (here t) u) (fades (here t) AsValue e now) (checked_fades (here t) u))
-    first_fades u NoMore gives = still s t.state.memory
-    first_fades u v gives = absurd gives
+    first_fades ws u (More e rest) gives =
+        if_fades (here t) t.state.memory (is_anonymous (full s.table u)) (viewed (here t) e (at ws)) (followed_by (value (here t) e (at ws)) (checked (here t) u))
+        (fades (here t) AsView e (at ws))
+        (then_fades (here t) t.state.memory (value (here t) e (at ws)) (checked (here t) u) (fades (here t) AsValue e (at ws)) (checked_fades (here t) u))
+    first_fades ws u NoMore gives = still s t.state.memory
+    first_fades ws u v gives = absurd gives
 
     then_declared : Raises_well → (x : ℕ) (facts : List Fact) (y : Evaluated (List machine.Word)) → Given_here (object_at s x).of facts y
         → FadesTo (here t) t.state.memory y → IsBlank x t.state.memory → IsUnmoved x facts
@@ -238,37 +247,47 @@ module _ (t : Turn) (settled : IsSettled (typing t).table) (own_law : OwnsByShap
     then_declared well x facts (Raises e n) given faint new no_fact = (λ trap. trap, well n.memory)
     then_declared well x facts (Traps e n) never faint new no_fact = absurd never
 
-    first_given : (u : ℕ) (v : TypedTree) → FirstSource s u v → has_call v ≡ false → (facts : List Fact) → Holds facts t.state
-        → AllowsAll facts (acts (acts_in s v)) → Given_here u (after (acts (acts_in s v)) facts) (first_value t u v now)
-    unfolding acts_in has_call initial
-    first_given u (More e rest) (last, gives) calls facts holds allowed =
+    first_on : (ws : List (List machine.Word)) (u : ℕ) (v : TypedTree) → FirstSource s u v → TakesPlainly s (has_call v) → Takes (waits_in v) ws []
+        → (facts : List Fact) → Holds facts t.state
+        → AllowsAll facts (acts (acts_in s v)) → Given_here u (after (acts (acts_in s v)) facts) (first_value t u v (at ws))
+    unfolding acts_in has_call initial waits_in
+    first_on ws u (More e rest) (last, gives) calls takes facts holds allowed =
         let same : acts_in s e ++ acts_in s rest ≡ acts_in s e = ap (λ z. acts_in s e ++ acts_in s z) last ∙ append-nil (acts_in s e) in
-        subst (λ z. Given_here u (after (acts z) facts) (taken_by t u e now)) (sym same)
-        (source_given u e gives (or_both (has_call e) (has_call rest) calls).0 facts holds (subst (λ z. AllowsAll facts (acts z)) same allowed))
-    first_given u NoMore gives calls facts holds allowed = (
+        let alone_there : waits_in e + waits_in rest ≡ waits_in e = ap (λ z. waits_in e + waits_in z) last ∙ nothing_more (waits_in e) in
+        subst (λ z. Given_here u (after (acts z) facts) (taken_by t u e (at ws))) (sym same)
+        (source_on ws u e gives (both_plainly s (has_call e) (has_call rest) calls).0 (takes_as (waits_in e + waits_in rest) (waits_in e) ws [] alone_there takes)
+        facts holds (subst (λ z. AllowsAll facts (acts z)) same allowed))
+    first_on ws u NoMore gives calls takes facts holds allowed = (
       blank_ready (here t) settled t.state.leaks [] other alone (keeps s settled own_law) no_formals index_law own_law all_named
           t.state.memory hands facts u (default s.table u) (none_default s.table u) (record { sound = holds.0; kept = holds.1 }),
       lengths s.table u,
-      refl,
+      takes_zero ws [] takes,
     )
-    first_given u v gives calls facts holds allowed = absurd gives
+    first_on ws u v gives calls takes facts holds allowed = absurd gives
 
     -- An object is declared. It has nothing yet, since it isn't in scope (`new`), and no fact after
     -- the evaluation names it.
+    pub declare_on : (ws : List (List machine.Word)) (x : ℕ) (v : TypedTree) → FirstSource s (object_at s x).of v → TakesPlainly s (has_call v) → Takes (waits_in v) ws []
+        → (facts : List Fact) → Holds facts t.state → AllowsAll facts (acts (declared_acts s x v))
+        → IsBlank x t.state.memory → IsUnmoved x (after (acts (declared_acts s x v)) facts)
+        → Leads_on (after (acts (declared_acts s x v)) facts) (steps.evaluated t (first_value t (object_at s x).of v (at ws)) (λ ws m. goes t (declared depth x ws m) 0))
+    declare_on ws x v gives calls takes facts holds allowed new no_fact =
+        let same : declared_acts s x v ≡ acts_in s v =
+        ap (λ b. if b then source_acts s (first v) (act.Borrow x) else
+        (if is_observer s x then source_acts s (first v) (observe s x) else acts_in s v)) (not_borrower s all_named x)
+        ∙ ap (λ b. if b then source_acts s (first v) (observe s x) else acts_in s v) (not_observer s all_named x) in
+        subst (λ z. Leads_on (after (acts z) facts) (steps.evaluated t (first_value t (object_at s x).of v (at ws)) (λ ws m. goes t (declared depth x ws m) 0))) (sym same)
+        (then_declared (raises facts holds) x (after (acts (acts_in s v)) facts) (first_value t (object_at s x).of v (at ws))
+        (first_on ws (object_at s x).of v gives calls takes facts holds (subst (λ z. AllowsAll facts (acts z)) same allowed))
+        (first_fades ws (object_at s x).of v gives) new (λ q moved. no_fact q (moved.0, subst (λ z. Has (after (acts z) facts) (Moved (ways.name_of (along (Object (OfVariable depth x)) q)))) (sym same) moved.1)))
+
     pub declare_leads : (x : ℕ) (v : TypedTree) → FirstSource s (object_at s x).of v → has_call v ≡ false → (facts : List Fact) → Holds facts t.state
         → AllowsAll facts (acts (declared_acts s x v))
         → IsBlank x t.state.memory → IsUnmoved x (after (acts (declared_acts s x v)) facts)
         → Leads_on (after (acts (declared_acts s x v)) facts) (declare t x v)
     declare_leads x v gives calls facts holds allowed new no_fact =
-        let same : declared_acts s x v ≡ acts_in s v =
-        ap (λ b. if b then source_acts s (first v) (act.Borrow x) else
-        (if is_observer s x then source_acts s (first v) (observe s x) else acts_in s v)) (not_borrower s all_named x)
-        ∙ ap (λ b. if b then source_acts s (first v) (observe s x) else acts_in s v) (not_observer s all_named x) in
-        subst (λ z. Leads_on (after (acts z) facts) (declare t x v)) (sym same)
-        (subst (λ z. Leads_on (after (acts (acts_in s v)) facts) (steps.evaluated t (first_value t (object_at s x).of v z) (λ ws m. goes t (declared depth x ws m) 0))) (sym start_is)
-        (then_declared (raises facts holds) x (after (acts (acts_in s v)) facts) (first_value t (object_at s x).of v now)
-        (first_given (object_at s x).of v gives calls facts holds (subst (λ z. AllowsAll facts (acts z)) same allowed))
-        (first_fades (object_at s x).of v gives) new (λ q moved. no_fact q (moved.0, subst (λ z. Has (after (acts z) facts) (Moved (ways.name_of (along (Object (OfVariable depth x)) q)))) (sym same) moved.1))))
+        subst (λ z. Leads_on (after (acts (declared_acts s x v)) facts) (steps.evaluated t (first_value t (object_at s x).of v z) (λ ws m. goes t (declared depth x ws m) 0))) (sym start_is)
+        (declare_on [] x v gives (inl calls) (no_takes v calls []) facts holds allowed new no_fact)
 
     -- ---- assignments
 
@@ -287,25 +306,36 @@ module _ (t : Turn) (settled : IsSettled (typing t).table) (own_law : OwnsByShap
     then_stored well facts pos (Raises e n) given = (λ trap. trap, well n.memory)
     then_stored well facts pos (Traps e n) never = absurd never
 
-    pub assign_leads : (pos p : Pos) (x u : ℕ) (path e : TypedTree) → Source s u e → Leads s (object_at s x).of path u
-        → has_call e ≡ false → has_call path ≡ false → (facts : List Fact) → Holds facts t.state
+    pub assign_on : (ws mid : List (List machine.Word)) (pos p : Pos) (x u : ℕ) (path e : TypedTree) → Source s u e → Leads s (object_at s x).of path u
+        → TakesPlainly s (has_call e) → Takes (waits_in e) ws mid → Takes (waits_in path) mid [] → (facts : List Fact) → Holds facts t.state
         → AllowsAll facts (acts (assigned_to s pos (whole (Name p x path u)) (Name p x path u) e))
-        → Leads_on (after (acts (assigned_to s pos (whole (Name p x path u)) (Name p x path u) e)) facts) (assign t (Name p x path u) e)
-    assign_leads pos p x u path e (inl (view, is)) lead calls calls' facts holds allowed = (let no : true ≡ false = sym view ∙ not_anonymous s all_named u in cc)
-    assign_leads pos p x u path e (inr gives) lead calls calls' facts holds allowed =
+        → Leads_on (after (acts (assigned_to s pos (whole (Name p x path u)) (Name p x path u) e)) facts)
+        (steps.evaluated t (followed_by (taken_by t u e (at ws)) (λ ws now. followed_by (place_of (here t) (Name p x path u) now) (λ k now. Done (record { words = ws; place = k }) now)))
+        (λ (st : Stored) m. leaking_goes (checks_at s (target_pos t (Name p x path u)) m st.place) (goes t (stored s st.place st.words m) 0)))
+    assign_on ws mid pos p x u path e (inl (view, is)) lead calls takes takes' facts holds allowed = (let no : true ≡ false = sym view ∙ not_anonymous s all_named u in cc)
+    assign_on ws mid pos p x u path e (inr gives) lead calls takes takes' facts holds allowed =
         let target : TypedTree = Name p x path u in
         let same = assigned_acts pos (whole target) target e in
         let h : Here = here t in
         let placed : List machine.Word → Now → Evaluated Stored = (λ ws now. followed_by (place_of h target now) (λ k now. Done (record { words = ws; place = k }) now)) in
-        subst (λ z. Leads_on (after (acts z) facts) (assign t target e)) (sym same)
-        (subst (λ z. Leads_on (after (acts (stored_acts s target e)) facts) (steps.evaluated t (followed_by (taken_by t u e z) placed)
-        (λ (st : Stored) m. leaking_goes (checks_at s (target_pos t target) m st.place) (goes t (stored s st.place st.words m) 0)))) (sym start_is)
+        let after_that : Stored → Memory → Outcome =
+        (λ (st : Stored) m. leaking_goes (checks_at s (target_pos t target) m st.place) (goes t (stored s st.place st.words m) 0)) in
+        subst (λ z. Leads_on (after (acts z) facts) (steps.evaluated t (followed_by (taken_by t u e (at ws)) placed) after_that)) (sym same)
         (subst (λ b. Leads_on (after (acts (stored_acts s target e)) facts)
-        (steps.evaluated t (followed_by (if b then viewed h e now else followed_by (value h e now) (checked h u)) placed)
-        (λ (st : Stored) m. leaking_goes (checks_at s (target_pos t target) m st.place) (goes t (stored s st.place st.words m) 0)))) (sym (not_anonymous s all_named u))
-        (then_stored (raises facts holds) (after (acts (stored_acts s target e)) facts) (target_pos t target) (followed_by (followed_by (evaluate h AsValue e now) (checked h u)) placed)
-        (assigned h settled t.state.leaks [] other alone (keeps s settled own_law) no_formals index_law own_law all_named p x u path e gives lead calls calls'
-        t.state.memory hands facts (record { sound = holds.0; kept = holds.1 }) (subst (λ z. AllowsAll facts (acts z)) same allowed)))))
+        (steps.evaluated t (followed_by (if b then viewed h e (at ws) else followed_by (value h e (at ws)) (checked h u)) placed) after_that)) (sym (not_anonymous s all_named u))
+        (then_stored (raises facts holds) (after (acts (stored_acts s target e)) facts) (target_pos t target) (followed_by (followed_by (evaluate h AsValue e (at ws)) (checked h u)) placed)
+        (assigned_on h settled t.state.leaks [] other alone (keeps s settled own_law) no_formals index_law own_law all_named ws mid [] p x u path e gives lead calls takes takes'
+        t.state.memory hands facts (record { sound = holds.0; kept = holds.1 }) (subst (λ z. AllowsAll facts (acts z)) same allowed))))
+
+    pub assign_leads : (pos p : Pos) (x u : ℕ) (path e : TypedTree) → Source s u e → Leads s (object_at s x).of path u
+        → has_call e ≡ false → has_call path ≡ false → (facts : List Fact) → Holds facts t.state
+        → AllowsAll facts (acts (assigned_to s pos (whole (Name p x path u)) (Name p x path u) e))
+        → Leads_on (after (acts (assigned_to s pos (whole (Name p x path u)) (Name p x path u) e)) facts) (assign t (Name p x path u) e)
+    assign_leads pos p x u path e gives lead calls calls' facts holds allowed =
+        subst (λ z. Leads_on (after (acts (assigned_to s pos (whole (Name p x path u)) (Name p x path u) e)) facts)
+        (steps.evaluated t (followed_by (taken_by t u e z) (λ ws now. followed_by (place_of (here t) (Name p x path u) now) (λ k now. Done (record { words = ws; place = k }) now)))
+        (λ (st : Stored) m. leaking_goes (checks_at s (target_pos t (Name p x path u)) m st.place) (goes t (stored s st.place st.words m) 0)))) (sym start_is)
+        (assign_on [] [] pos p x u path e gives lead (inl calls) (no_takes e calls []) (no_takes path calls' []) facts holds allowed)
 
     -- ---- the end of a scope
 
@@ -488,24 +518,31 @@ module _ (t : Turn) (settled : IsSettled (typing t).table) (own_law : OwnsByShap
       then_released x path allowed (Raises e n) is = (λ trap. trap, raises facts holds n.memory)
       then_released x path allowed (Traps e n) never = absurd never
 
+    pub released_on : (ws : List (List machine.Word)) (f : Place → Memory → Outcome) (pos p : Pos) (x u d : ℕ) (path : TypedTree) → Releases f pos
+        → shape_of s.table u ≡ shape.Access d false true → Leads s (object_at s x).of path u → Takes (waits_in path) ws [] → (facts : List Fact) → Holds facts t.state
+        → AllowsAll facts (acts (source_acts s (Name p x path u) act.Free))
+        → Leads_on (after (acts (source_acts s (Name p x path u) act.Free)) facts) (steps.evaluated t (place_of (here t) (Name p x path u) (at ws)) f)
+    released_on ws f pos p x u d path releases access lead takes facts holds allowed =
+        let b : List Act = acts (acts_in s path) in
+        let whole_acts : acts (source_acts s (Name p x path u) act.Free) ≡ b ++ (act.Free (name_of x path) ∷ []) =
+        acts_append (acts_in s path) (record { pos = p; act = act.Free (name_of x path) } ∷ []) in
+        let each = allows_both facts b (act.Free (name_of x path) ∷ []) (subst (AllowsAll facts) whole_acts allowed) in
+        let inner = steps_taking (here t) settled hands t.state.leaks t.state.memory [] other facts holds.1 holds.0 alone
+        (live_trunk (here t) settled t.state.leaks [] other alone (keeps s settled own_law) no_formals index_law own_law all_named t.state.memory hands holds.0.owned)
+        index_law own_law all_named (object_at s x).of u path lead ws [] takes each.0 in
+        let frees : Allows facts (act.Free (name_of x path)) = subst (λ z. Allows z (act.Free (name_of x path))) inner.1 each.1.0 in
+        let behind_acts : after (acts (source_acts s (Name p x path u) act.Free)) facts ≡ effect (act.Free (name_of x path)) facts =
+        ap (λ z. after z facts) whole_acts ∙ after_append b (act.Free (name_of x path) ∷ []) facts ∙ ap (effect (act.Free (name_of x path))) inner.1 in
+        subst (λ z. Leads_on z (steps.evaluated t (place_of (here t) (Name p x path u) (at ws)) f)) (sym behind_acts)
+        (then_released f pos releases facts holds u d access x path frees (steps_of (here t) path (at ws)) inner.0)
+
     released_by : (f : Place → Memory → Outcome) (pos p : Pos) (x u d : ℕ) (path : TypedTree) → Releases f pos
         → shape_of s.table u ≡ shape.Access d false true → Leads s (object_at s x).of path u → has_call path ≡ false → (facts : List Fact) → Holds facts t.state
         → AllowsAll facts (acts (source_acts s (Name p x path u) act.Free))
         → Leads_on (after (acts (source_acts s (Name p x path u) act.Free)) facts) (steps.evaluated t (place_of (here t) (Name p x path u) (start t)) f)
     released_by f pos p x u d path releases access lead calls facts holds allowed =
-        let b : List Act = acts (acts_in s path) in
-        let whole_acts : acts (source_acts s (Name p x path u) act.Free) ≡ b ++ (act.Free (name_of x path) ∷ []) =
-        acts_append (acts_in s path) (record { pos = p; act = act.Free (name_of x path) } ∷ []) in
-        let each = allows_both facts b (act.Free (name_of x path) ∷ []) (subst (AllowsAll facts) whole_acts allowed) in
-        let inner = steps_quiet (here t) settled hands t.state.leaks t.state.memory [] other facts holds.1 holds.0 alone
-        (live_trunk (here t) settled t.state.leaks [] other alone (keeps s settled own_law) no_formals index_law own_law all_named t.state.memory hands holds.0.owned)
-        index_law own_law all_named (object_at s x).of u path lead calls each.0 in
-        let frees : Allows facts (act.Free (name_of x path)) = subst (λ z. Allows z (act.Free (name_of x path))) inner.1 each.1.0 in
-        let behind_acts : after (acts (source_acts s (Name p x path u) act.Free)) facts ≡ effect (act.Free (name_of x path)) facts =
-        ap (λ z. after z facts) whole_acts ∙ after_append b (act.Free (name_of x path) ∷ []) facts ∙ ap (effect (act.Free (name_of x path))) inner.1 in
-        subst (λ z. Leads_on z (steps.evaluated t (place_of (here t) (Name p x path u) (start t)) f)) (sym behind_acts)
-        (subst (λ z. Leads_on (effect (act.Free (name_of x path)) facts) (steps.evaluated t (place_of (here t) (Name p x path u) z) f)) (sym start_is)
-        (then_released f pos releases facts holds u d access x path frees (steps_of (here t) path now) inner.0))
+        subst (λ z. Leads_on (after (acts (source_acts s (Name p x path u) act.Free)) facts) (steps.evaluated t (place_of (here t) (Name p x path u) z) f)) (sym start_is)
+        (released_on [] f pos p x u d path releases access lead (no_takes path calls []) facts holds allowed)
 
     pub release_leads : (p : Pos) (x u d : ℕ) (path : TypedTree) → shape_of s.table u ≡ shape.Access d false true → Leads s (object_at s x).of path u
         → has_call path ≡ false → (facts : List Fact) → Holds facts t.state → AllowsAll facts (acts (source_acts s (Name p x path u) act.Free))
@@ -519,6 +556,13 @@ module _ (t : Turn) (settled : IsSettled (typing t).table) (own_law : OwnsByShap
         }) access lead calls facts holds allowed
 
     -- ---- instructions that change nothing
+
+    pub scalar_taken : (ws : List (List machine.Word)) (e : TypedTree) → Stays s e → Takes (waits_in e) ws [] → (facts : List Fact) → Holds facts t.state
+        → AllowsAll facts (acts (acts_in s e)) → Quiet now One (value (here t) e (at ws)) × (after (acts (acts_in s e)) facts ≡ facts)
+    scalar_taken ws e stays takes facts holds allowed =
+        taking (here t) settled hands t.state.leaks t.state.memory [] other facts holds.1 holds.0 alone
+        (live_trunk (here t) settled t.state.leaks [] other alone (keeps s settled own_law) no_formals index_law own_law all_named t.state.memory hands holds.0.owned)
+        index_law own_law all_named AsValue e stays ws [] takes allowed
 
     goes_to : (m : Memory) (k : ℕ) (facts : List Fact) → Sound (home s depth) other (seen s m hands t.state.leaks) facts → Kept s m hands
         → Leads_on facts (goes t m k)
@@ -534,15 +578,19 @@ module _ (t : Turn) (settled : IsSettled (typing t).table) (own_law : OwnsByShap
     then_on P facts holds (Traps e n) never k = absurd never
 
     -- a scalar expression, whose value says where it goes on
+    pub decides_on : (ws : List (List machine.Word)) (e : TypedTree) → Stays s e → Takes (waits_in e) ws [] → (facts : List Fact) → Holds facts t.state
+        → AllowsAll facts (acts (acts_in s e)) → (k : List machine.Word → ℕ)
+        → Leads_on (after (acts (acts_in s e)) facts) (steps.evaluated t (value (here t) e (at ws)) (λ ws m. goes t m (k ws)))
+    decides_on ws e stays takes facts holds allowed k =
+        let q = scalar_taken ws e stays takes facts holds allowed in
+        subst (λ z. Leads_on z (steps.evaluated t (value (here t) e (at ws)) (λ ws m. goes t m (k ws)))) (sym q.1)
+        (then_on One facts holds (value (here t) e (at ws)) q.0 k)
+
     pub decides_leads : (e : TypedTree) → Stays s e → has_call e ≡ false → (facts : List Fact) → Holds facts t.state → AllowsAll facts (acts (acts_in s e))
         → (k : List machine.Word → ℕ) → Leads_on (after (acts (acts_in s e)) facts) (steps.evaluated t (value (here t) e (start t)) (λ ws m. goes t m (k ws)))
     decides_leads e stays calls facts holds allowed k =
-        let q = quiet (here t) settled hands t.state.leaks t.state.memory [] other facts holds.1 holds.0 alone
-        (live_trunk (here t) settled t.state.leaks [] other alone (keeps s settled own_law) no_formals index_law own_law all_named t.state.memory hands holds.0.owned)
-        index_law own_law all_named AsValue e stays calls allowed in
-        subst (λ z. Leads_on z (steps.evaluated t (value (here t) e (start t)) (λ ws m. goes t m (k ws)))) (sym q.1)
-        (subst (λ z. Leads_on facts (steps.evaluated t (value (here t) e z) (λ ws m. goes t m (k ws)))) (sym start_is)
-        (then_on One facts holds (value (here t) e now) q.0 k))
+        subst (λ z. Leads_on (after (acts (acts_in s e)) facts) (steps.evaluated t (value (here t) e z) (λ ws m. goes t m (k ws)))) (sym start_is)
+        (decides_on [] e stays (no_takes e calls []) facts holds allowed k)
 
     pub test_leads : (e : TypedTree) → Stays s e → has_call e ≡ false → (facts : List Fact) → Holds facts t.state → AllowsAll facts (acts (acts_in s e))
         → Leads_on (after (acts (acts_in s e)) facts) (steps.test t e 0 1)
@@ -564,15 +612,19 @@ module _ (t : Turn) (settled : IsSettled (typing t).table) (own_law : OwnsByShap
     then_chosen count choice facts holds (Raises e n) is = ((λ trap. trap), raises facts holds n.memory)
     then_chosen count choice facts holds (Traps e n) never = absurd never
 
+    pub choose_on : (ws : List (List machine.Word)) (e : TypedTree) (choices : List TypedCode) → Stays s e → Takes (waits_in e) ws [] → (facts : List Fact) → Holds facts t.state
+        → AllowsAll facts (acts (acts_in s e))
+        → Leads_on (after (acts (acts_in s e)) facts) (steps.evaluated t (value (here t) e (at ws)) (λ ws m. steps.chosen t (length choices) (steps.choice choices ws) m))
+    choose_on ws e choices stays takes facts holds allowed =
+        let q = scalar_taken ws e stays takes facts holds allowed in
+        subst (λ z. Leads_on z (steps.evaluated t (value (here t) e (at ws)) (λ ws m. steps.chosen t (length choices) (steps.choice choices ws) m))) (sym q.1)
+        (then_chosen (length choices) (steps.choice choices) facts holds (value (here t) e (at ws)) q.0)
+
     pub choose_leads : (e : TypedTree) (choices : List TypedCode) → Stays s e → has_call e ≡ false → (facts : List Fact) → Holds facts t.state
         → AllowsAll facts (acts (acts_in s e)) → Leads_on (after (acts (acts_in s e)) facts) (steps.choose t e choices)
     choose_leads e choices stays calls facts holds allowed =
-        let q = quiet (here t) settled hands t.state.leaks t.state.memory [] other facts holds.1 holds.0 alone
-        (live_trunk (here t) settled t.state.leaks [] other alone (keeps s settled own_law) no_formals index_law own_law all_named t.state.memory hands holds.0.owned)
-        index_law own_law all_named AsValue e stays calls allowed in
-        subst (λ z. Leads_on z (steps.choose t e choices)) (sym q.1)
-        (subst (λ z. Leads_on facts (steps.evaluated t (value (here t) e z) (λ ws m. steps.chosen t (length choices) (steps.choice choices ws) m))) (sym start_is)
-        (then_chosen (length choices) (steps.choice choices) facts holds (value (here t) e now) q.0))
+        subst (λ z. Leads_on (after (acts (acts_in s e)) facts) (steps.evaluated t (value (here t) e z) (λ ws m. steps.chosen t (length choices) (steps.choice choices ws) m))) (sym start_is)
+        (choose_on [] e choices stays (no_takes e calls []) facts holds allowed)
 
     pub leave_loop_leads : (e rest : TypedTree) → rest ≡ NoMore → Stays s e → has_call e ≡ false → (facts : List Fact) → Holds facts t.state
         → AllowsAll facts (acts (acts_in s (More e rest))) → Leads_on (after (acts (acts_in s (More e rest))) facts) (steps.leave_loop t (More e rest))
@@ -590,27 +642,28 @@ module _ (t : Turn) (settled : IsSettled (typing t).table) (own_law : OwnsByShap
 
     -- ---- output
 
-    text_quiet : (e : TypedTree) → Writes s e → has_call e ≡ false → (facts : List Fact) → Holds facts t.state → AllowsAll facts (acts (acts_in s e))
-        → Quiet now (Any {A = List ℕ}) (text_of (here t) e now) × (after (acts (acts_in s e)) facts ≡ facts)
-    unfolding Writes text_of has_call acts_in
-    text_quiet (Text b) writes calls facts holds allowed = ((refl, tt), refl)
-    text_quiet (Image u e) stays calls facts holds allowed =
-        let q = quiet (here t) settled hands t.state.leaks t.state.memory [] other facts holds.1 holds.0 alone
+    pub text_quiet : (before on : List (List machine.Word)) (e : TypedTree) → Writes s e → Takes (waits_in e) before on → (facts : List Fact) → Holds facts t.state
+        → AllowsAll facts (acts (acts_in s e))
+        → Quiet (at on) (Any {A = List ℕ}) (text_of (here t) e (at before)) × (after (acts (acts_in s e)) facts ≡ facts)
+    unfolding Writes text_of acts_in waits_in
+    text_quiet before on (Text b) writes takes facts holds allowed = ((ap at (takes_zero before on takes), tt), refl)
+    text_quiet before on (Image u e) stays takes facts holds allowed =
+        let q = taking (here t) settled hands t.state.leaks t.state.memory [] other facts holds.1 holds.0 alone
         (live_trunk (here t) settled t.state.leaks [] other alone (keeps s settled own_law) no_formals index_law own_law all_named t.state.memory hands holds.0.owned)
-        index_law own_law all_named AsValue e stays calls allowed in
-        (quiet_then now One (Any {A = List ℕ}) (value (here t) e now) (λ ws n. Done (run.image_of s.table u ws) n) q.0 (λ ws one. (refl, tt)), q.1)
-    text_quiet (Parens e) writes calls facts holds allowed = text_quiet e writes calls facts holds allowed
-    text_quiet (Binary op a b) (wa, wb) calls facts holds allowed =
-        let both = or_both (has_call a) (has_call b) calls in
+        index_law own_law all_named AsValue e stays before on takes allowed in
+        (quiet_then (at on) One (Any {A = List ℕ}) (value (here t) e (at before)) (λ ws n. Done (run.image_of s.table u ws) n) q.0 (λ ws one. (refl, tt)), q.1)
+    text_quiet before on (Parens e) writes takes facts holds allowed = text_quiet before on e writes takes facts holds allowed
+    text_quiet before on (Binary op a b) (wa, wb) takes facts holds allowed =
+        let two = takes_both (waits_in a) (waits_in b) before on takes in
         let each = allows_both facts (acts (acts_in s a)) (acts (acts_in s b)) (subst (AllowsAll facts) (acts_append (acts_in s a) (acts_in s b)) allowed) in
-        let left = text_quiet a wa both.0 facts holds each.0 in
-        let right = text_quiet b wb both.1 facts holds (subst (λ z. AllowsAll z (acts (acts_in s b))) left.1 each.1) in (
-          quiet_then now (Any {A = List ℕ}) (Any {A = List ℕ}) (text_of (here t) a now) (λ x n. followed_by (text_of (here t) b n) (λ y n. Done (x ++ y) n)) left.0
-              (λ x any. quiet_then now (Any {A = List ℕ}) (Any {A = List ℕ}) (text_of (here t) b now) (λ y n. Done (x ++ y) n) right.0 (λ y any. (refl, tt))),
+        let left = text_quiet before two.0 a wa two.1 facts holds each.0 in
+        let right = text_quiet two.0 on b wb two.2 facts holds (subst (λ z. AllowsAll z (acts (acts_in s b))) left.1 each.1) in (
+          quiet_from (at two.0) (at on) (Any {A = List ℕ}) (Any {A = List ℕ}) refl (text_of (here t) a (at before)) (λ x n. followed_by (text_of (here t) b n) (λ y n. Done (x ++ y) n)) left.0
+              (λ x any. quiet_then (at on) (Any {A = List ℕ}) (Any {A = List ℕ}) (text_of (here t) b (at two.0)) (λ y n. Done (x ++ y) n) right.0 (λ y any. (refl, tt))),
           ap (λ z. after z facts) (acts_append (acts_in s a) (acts_in s b)) ∙ after_append (acts (acts_in s a)) (acts (acts_in s b)) facts
               ∙ ap (after (acts (acts_in s b))) left.1 ∙ right.1,
         )
-    text_quiet e writes calls facts holds allowed = absurd writes
+    text_quiet before on e writes takes facts holds allowed = absurd writes
 
     then_written : (facts : List Fact) → Holds facts t.state → (line : Bool) (y : Evaluated (List ℕ)) → Quiet now (Any {A = List ℕ}) y
         → Leads_on facts (steps.evaluated t y (λ bytes m. Goes (record (behind t (waiting t) m 0) {
@@ -624,16 +677,33 @@ module _ (t : Turn) (settled : IsSettled (typing t).table) (own_law : OwnsByShap
     then_written facts holds line (Raises e n) is = (λ trap. trap, raises facts holds n.memory)
     then_written facts holds line (Traps e n) never = absurd never
 
+    pub output_on : (ws : List (List machine.Word)) (e rest : TypedTree) (line : Bool) → rest ≡ NoMore → Writes s e → Takes (waits_in (More e rest)) ws [] → (facts : List Fact) → Holds facts t.state
+        → AllowsAll facts (acts (acts_in s (More e rest)))
+        → Leads_on (after (acts (acts_in s (More e rest))) facts) (steps.evaluated t (text_of (here t) e (at ws)) (λ bytes m. Goes (record (behind t (waiting t) m 0) {
+          output = t.state.output ++ bytes ++ (if line then 10 ∷ [] else []);
+        })))
+    unfolding acts_in waits_in
+    output_on ws e rest line last writes takes facts holds allowed =
+        let same : acts_in s e ++ acts_in s rest ≡ acts_in s e = ap (λ z. acts_in s e ++ acts_in s z) last ∙ append-nil (acts_in s e) in
+        let alone_there : waits_in e + waits_in rest ≡ waits_in e = ap (λ z. waits_in e + waits_in z) last ∙ nothing_more (waits_in e) in
+        let q = text_quiet ws [] e writes (takes_as (waits_in e + waits_in rest) (waits_in e) ws [] alone_there takes) facts holds (subst (λ z. AllowsAll facts (acts z)) same allowed) in
+        subst (λ z. Leads_on z (steps.evaluated t (text_of (here t) e (at ws)) (λ bytes m. Goes (record (behind t (waiting t) m 0) {
+          output = t.state.output ++ bytes ++ (if line then 10 ∷ [] else []);
+        })))) (sym (ap (λ z. after (acts z) facts) same ∙ q.1))
+        (then_written facts holds line (text_of (here t) e (at ws)) q.0)
+
+    first_none : (e rest : TypedTree) → rest ≡ NoMore → has_call e ≡ false → Takes (waits_in (More e rest)) [] []
+    unfolding waits_in
+    first_none e rest last calls =
+        takes_as 0 (waits_in e + waits_in rest) [] [] (sym (ap (λ z. waits_in e + waits_in z) last ∙ nothing_more (waits_in e) ∙ no_waits e calls)) (takes_none [])
+
     pub output_leads : (e rest : TypedTree) (line : Bool) → rest ≡ NoMore → Writes s e → has_call e ≡ false → (facts : List Fact) → Holds facts t.state
         → AllowsAll facts (acts (acts_in s (More e rest))) → Leads_on (after (acts (acts_in s (More e rest))) facts) (steps.output t (More e rest) line)
-    unfolding acts_in
     output_leads e rest line last writes calls facts holds allowed =
-        let same : acts_in s e ++ acts_in s rest ≡ acts_in s e = ap (λ z. acts_in s e ++ acts_in s z) last ∙ append-nil (acts_in s e) in
-        let q = text_quiet e writes calls facts holds (subst (λ z. AllowsAll facts (acts z)) same allowed) in
-        subst (λ z. Leads_on z (steps.output t (More e rest) line)) (sym (ap (λ z. after (acts z) facts) same ∙ q.1))
-        (subst (λ z. Leads_on facts (steps.evaluated t (text_of (here t) e z) (λ bytes m. Goes (record (behind t (waiting t) m 0) {
+        subst (λ z. Leads_on (after (acts (acts_in s (More e rest))) facts) (steps.evaluated t (text_of (here t) e z) (λ bytes m. Goes (record (behind t (waiting t) m 0) {
           output = t.state.output ++ bytes ++ (if line then 10 ∷ [] else []);
-        })))) (sym start_is) (then_written facts holds line (text_of (here t) e now) q.0))
+        })))) (sym start_is)
+        (output_on [] e rest line last writes (first_none e rest last calls) facts holds allowed)
 
     -- a line that ends without a text
     pub line_leads : (line : Bool) (facts : List Fact) → Holds facts t.state → Leads_on facts (steps.output t NoMore line)
@@ -733,36 +803,43 @@ module _ (t : Turn) (settled : IsSettled (typing t).table) (own_law : OwnsByShap
     abbrev out_act : PlaceName → Act
     out_act name = act.Actual name mode.Out false false
 
+    pub got_on : (ws : List (List machine.Word)) (f : Place → Memory → Outcome) (p : Pos) (x u : ℕ) (path : TypedTree) → Gets f → is_scalar (full s.table u) ≡ true
+        → Leads s (object_at s x).of path u → Takes (waits_in path) ws [] → (facts : List Fact) → Holds facts t.state
+        → AllowsAll facts (acts (source_acts s (Name p x path u) out_act))
+        → Leads_on (after (acts (source_acts s (Name p x path u) out_act)) facts) (steps.evaluated t (place_of (here t) (Name p x path u) (at ws)) f)
+    got_on ws f p x u path gets scalar lead takes facts holds allowed =
+        let b : List Act = acts (acts_in s path) in
+        let whole_acts : acts (source_acts s (Name p x path u) out_act) ≡ b ++ (out_act (name_of x path) ∷ []) =
+        acts_append (acts_in s path) (record { pos = p; act = out_act (name_of x path) } ∷ []) in
+        let each = allows_both facts b (out_act (name_of x path) ∷ []) (subst (AllowsAll facts) whole_acts allowed) in
+        let inner = steps_taking (here t) settled hands t.state.leaks t.state.memory [] other facts holds.1 holds.0 alone
+        (live_trunk (here t) settled t.state.leaks [] other alone (keeps s settled own_law) no_formals index_law own_law all_named t.state.memory hands holds.0.owned)
+        index_law own_law all_named (object_at s x).of u path lead ws [] takes each.0 in
+        let actual : Allows facts (out_act (name_of x path)) = subst (λ z. Allows z (out_act (name_of x path))) inner.1 each.1.0 in
+        let writes : Allows facts (act.Write (name_of x path)) = (λ g has. switched (breaks_O3 (name_of x path) g) _ _ (actual g has)) in
+        let behind_acts : after (acts (source_acts s (Name p x path u) out_act)) facts ≡ effect (act.Write (name_of x path)) facts =
+        ap (λ z. after z facts) whole_acts ∙ after_append b (out_act (name_of x path) ∷ []) facts ∙ ap (effect (act.Write (name_of x path))) inner.1 in
+        subst (λ z. Leads_on z (steps.evaluated t (place_of (here t) (Name p x path u) (at ws)) f)) (sym behind_acts)
+        (by_item writes inner.0 (next_item t.input t.state.at) refl)
+      where
+        by_item : Allows facts (act.Write (name_of x path))
+            → Quiet now (λ way. GoesAlong s.table (object_at s x).of u path way) (steps_of (here t) path (at ws))
+            → (it : Item) → next_item t.input t.state.at ≡ it
+            → Leads_on (effect (act.Write (name_of x path)) facts) (steps.evaluated t (place_of (here t) (Name p x path u) (at ws)) f)
+        by_item writes q item.Missing e =
+            then_got f gets facts holds u scalar (int.pos 0) (got_none f gets facts holds u scalar (int.pos 0) (inl (λ k m. gets.at_missing k m e))) x path writes (steps_of (here t) path (at ws)) q
+        by_item writes q item.Bad e =
+            then_got f gets facts holds u scalar (int.pos 0) (got_none f gets facts holds u scalar (int.pos 0) (inr (λ k m. gets.at_bad k m e))) x path writes (steps_of (here t) path (at ws)) q
+        by_item writes q (item.Number v end) e =
+            then_got f gets facts holds u scalar v (λ w named y is. got_at f gets facts holds u scalar v w named y is end e) x path writes (steps_of (here t) path (at ws)) q
+
     got_by : (f : Place → Memory → Outcome) (p : Pos) (x u : ℕ) (path : TypedTree) → Gets f → is_scalar (full s.table u) ≡ true
         → Leads s (object_at s x).of path u → has_call path ≡ false → (facts : List Fact) → Holds facts t.state
         → AllowsAll facts (acts (source_acts s (Name p x path u) out_act))
         → Leads_on (after (acts (source_acts s (Name p x path u) out_act)) facts) (steps.evaluated t (place_of (here t) (Name p x path u) (start t)) f)
     got_by f p x u path gets scalar lead calls facts holds allowed =
-        let b : List Act = acts (acts_in s path) in
-        let whole_acts : acts (source_acts s (Name p x path u) out_act) ≡ b ++ (out_act (name_of x path) ∷ []) =
-        acts_append (acts_in s path) (record { pos = p; act = out_act (name_of x path) } ∷ []) in
-        let each = allows_both facts b (out_act (name_of x path) ∷ []) (subst (AllowsAll facts) whole_acts allowed) in
-        let inner = steps_quiet (here t) settled hands t.state.leaks t.state.memory [] other facts holds.1 holds.0 alone
-        (live_trunk (here t) settled t.state.leaks [] other alone (keeps s settled own_law) no_formals index_law own_law all_named t.state.memory hands holds.0.owned)
-        index_law own_law all_named (object_at s x).of u path lead calls each.0 in
-        let actual : Allows facts (out_act (name_of x path)) = subst (λ z. Allows z (out_act (name_of x path))) inner.1 each.1.0 in
-        let writes : Allows facts (act.Write (name_of x path)) = (λ g has. switched (breaks_O3 (name_of x path) g) _ _ (actual g has)) in
-        let behind_acts : after (acts (source_acts s (Name p x path u) out_act)) facts ≡ effect (act.Write (name_of x path)) facts =
-        ap (λ z. after z facts) whole_acts ∙ after_append b (out_act (name_of x path) ∷ []) facts ∙ ap (effect (act.Write (name_of x path))) inner.1 in
-        subst (λ z. Leads_on z (steps.evaluated t (place_of (here t) (Name p x path u) (start t)) f)) (sym behind_acts)
-        (subst (λ z. Leads_on (effect (act.Write (name_of x path)) facts) (steps.evaluated t (place_of (here t) (Name p x path u) z) f)) (sym start_is)
-        (by_item writes inner.0 (next_item t.input t.state.at) refl))
-      where
-        by_item : Allows facts (act.Write (name_of x path))
-            → Quiet now (λ way. GoesAlong s.table (object_at s x).of u path way) (steps_of (here t) path now)
-            → (it : Item) → next_item t.input t.state.at ≡ it
-            → Leads_on (effect (act.Write (name_of x path)) facts) (steps.evaluated t (place_of (here t) (Name p x path u) now) f)
-        by_item writes q item.Missing e =
-            then_got f gets facts holds u scalar (int.pos 0) (got_none f gets facts holds u scalar (int.pos 0) (inl (λ k m. gets.at_missing k m e))) x path writes (steps_of (here t) path now) q
-        by_item writes q item.Bad e =
-            then_got f gets facts holds u scalar (int.pos 0) (got_none f gets facts holds u scalar (int.pos 0) (inr (λ k m. gets.at_bad k m e))) x path writes (steps_of (here t) path now) q
-        by_item writes q (item.Number v end) e =
-            then_got f gets facts holds u scalar v (λ w named y is. got_at f gets facts holds u scalar v w named y is end e) x path writes (steps_of (here t) path now) q
+        subst (λ z. Leads_on (after (acts (source_acts s (Name p x path u) out_act)) facts) (steps.evaluated t (place_of (here t) (Name p x path u) z) f)) (sym start_is)
+        (got_on [] f p x u path gets scalar lead (no_takes path calls []) facts holds allowed)
 
     pub input_leads : (p : Pos) (x u : ℕ) (path : TypedTree) → is_scalar (full s.table u) ≡ true → Leads s (object_at s x).of path u → has_call path ≡ false
         → (facts : List Fact) → Holds facts t.state → AllowsAll facts (acts (source_acts s (Name p x path u) out_act))

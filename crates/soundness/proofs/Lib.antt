@@ -14,6 +14,8 @@ pub mod Moments
 pub mod Near
 pub mod Walks
 pub mod Scalars
+pub mod Waits
+pub mod Taking
 pub mod Stays
 pub mod Numbers
 pub mod Joining
@@ -30,17 +32,23 @@ pub mod Lasting
 pub mod Paths
 -- sound states are well owned; instructions
 pub mod Owners
-pub mod Waits
 pub mod Freeing
 pub mod Instructions
 pub mod Loops
 pub mod Operands
+pub mod Eased
+pub mod Continued
 pub mod Endings
 -- where steps go on, with which variables; points by number
 pub mod Scoped
+pub mod Onward
 pub mod Following
 pub mod Points
+pub mod Typings
 pub mod Successors
+pub mod Waited
+pub mod Temporaries
+pub mod Second
 -- calls: facts of the frames around, acts on package objects, formals, the ends of calls
 pub mod Inherited
 pub mod Opened

@@ -6,7 +6,7 @@ use Rattle.type_definitions.specs.declared.table.Shape.TheVariants as shape
 use Rattle.type_definitions.specs.Types.{shape_of, words, is_scalar, full}
 use Rattle.typed_tree.specs.Trees.{TypedTree}
 use Rattle.flow_paths.specs.Objects.{Typing, object_at}
-use Rattle.flow_paths.specs.Names.{has_call}
+use Rattle.flow_paths.specs.Names.{has_call, waiting as waits_in}
 use Rattle.flow_paths.specs.Scopes.{taken}
 use Rattle.flow_paths.specs.Acts.{acts_in}
 use Rattle.machine.specs.Words.{fits_type}
@@ -35,7 +35,8 @@ use Rattle.soundness.proofs.Defaults.{NoCell}
 use Rattle.soundness.proofs.Keeping.{cell_has}
 use Rattle.soundness.proofs.Moments.{declared_sound}
 use Rattle.soundness.proofs.Scalars.{acts, acts_append, after_append, allows_both}
-use Rattle.soundness.proofs.Stays.{Quiet, One, quiet_then, quiet}
+use Rattle.soundness.proofs.Taking.{Takes, no_takes}
+use Rattle.soundness.proofs.Stays.{Quiet, One, quiet_then, quiet_from, taking}
 use Rattle.soundness.proofs.Numbers.{index_law}
 use Rattle.soundness.proofs.Lasting.{keeps, stored_kept, declared_kept, removed_kept}
 use Rattle.soundness.proofs.Evaluated.{live_trunk, scalar_given}
@@ -228,25 +229,35 @@ module _ (t : Turn) (settled : IsSettled (typing t).table) (own_law : OwnsByShap
       then_started (Raises e n) is = ((λ trap. trap), raised_here facts holds n.memory)
       then_started (Traps e n) never = absurd never
 
+    pub started_on : (ws mid : List (List machine.Word)) (x : ℕ) (f : steps.Bounds → Memory → Outcome) (low high : TypedTree) → Starts x f
+        → is_scalar (full s.table (object_at s x).of) ≡ true
+        → Stays s low → Stays s high → Takes (waits_in low) ws mid → Takes (waits_in high) mid [] → (facts : List Fact) → HoldsHere facts t.state
+        → AllowsAll facts (acts (acts_in s low ++ acts_in s high))
+        → LeadsHere (after (acts (acts_in s low ++ acts_in s high)) facts) (steps.evaluated t (steps.bounds t low high (record { memory = t.state.memory; waits = ws })) f)
+    started_on ws mid x f low high starts scalar stays stays' takes takes' facts holds allowed =
+        let before : Now = record { memory = t.state.memory; waits = ws } in
+        let between : Now = record { memory = t.state.memory; waits = mid } in
+        let each = allows_both facts (acts (acts_in s low)) (acts (acts_in s high)) (subst (AllowsAll facts) (acts_append (acts_in s low) (acts_in s high)) allowed) in
+        let live = live_trunk (here t) settled t.state.leaks [] other alone (keeps s settled own_law) no_formals index_law own_law all_named t.state.memory hands holds.0.owned in
+        let first_bound = taking (here t) settled hands t.state.leaks t.state.memory [] other facts holds.1 holds.0 alone live index_law own_law all_named AsValue low stays ws mid takes each.0 in
+        let second_bound = taking (here t) settled hands t.state.leaks t.state.memory [] other facts holds.1 holds.0 alone live index_law own_law all_named AsValue high stays' mid [] takes'
+        (subst (λ z. AllowsAll z (acts (acts_in s high))) first_bound.1 each.1) in
+        let all : after (acts (acts_in s low ++ acts_in s high)) facts ≡ facts =
+        ap (λ z. after z facts) (acts_append (acts_in s low) (acts_in s high)) ∙ after_append (acts (acts_in s low)) (acts (acts_in s high)) facts
+        ∙ ap (after (acts (acts_in s high))) first_bound.1 ∙ second_bound.1 in
+        let q : Quiet now Both (steps.bounds t low high before) =
+        quiet_from between now One Both refl (value (here t) low before) (λ a n. followed_by (value (here t) high n) (λ b n. Done (record { low = a; high = b }) n)) first_bound.0
+        (λ a one. quiet_then now One Both (value (here t) high between) (λ b n. Done (record { low = a; high = b }) n) second_bound.0 (λ b other_one. (refl, (one, other_one)))) in
+        subst (λ z. LeadsHere z (steps.evaluated t (steps.bounds t low high before) f)) (sym all)
+        (then_started x f starts scalar facts holds (steps.bounds t low high before) q)
+
     started_by : (x : ℕ) (f : steps.Bounds → Memory → Outcome) (low high : TypedTree) → Starts x f → is_scalar (full s.table (object_at s x).of) ≡ true
         → Stays s low → Stays s high → has_call low ≡ false → has_call high ≡ false → (facts : List Fact) → HoldsHere facts t.state
         → AllowsAll facts (acts (acts_in s low ++ acts_in s high))
         → LeadsHere (after (acts (acts_in s low ++ acts_in s high)) facts) (steps.evaluated t (steps.bounds t low high (start t)) f)
     started_by x f low high starts scalar stays stays' calls calls' facts holds allowed =
-        let each = allows_both facts (acts (acts_in s low)) (acts (acts_in s high)) (subst (AllowsAll facts) (acts_append (acts_in s low) (acts_in s high)) allowed) in
-        let live = live_trunk (here t) settled t.state.leaks [] other alone (keeps s settled own_law) no_formals index_law own_law all_named t.state.memory hands holds.0.owned in
-        let first_bound = quiet (here t) settled hands t.state.leaks t.state.memory [] other facts holds.1 holds.0 alone live index_law own_law all_named AsValue low stays calls each.0 in
-        let second_bound = quiet (here t) settled hands t.state.leaks t.state.memory [] other facts holds.1 holds.0 alone live index_law own_law all_named AsValue high stays' calls'
-        (subst (λ z. AllowsAll z (acts (acts_in s high))) first_bound.1 each.1) in
-        let all : after (acts (acts_in s low ++ acts_in s high)) facts ≡ facts =
-        ap (λ z. after z facts) (acts_append (acts_in s low) (acts_in s high)) ∙ after_append (acts (acts_in s low)) (acts (acts_in s high)) facts
-        ∙ ap (after (acts (acts_in s high))) first_bound.1 ∙ second_bound.1 in
-        let q : Quiet now Both (steps.bounds t low high now) =
-        quiet_then now One Both (value (here t) low now) (λ a n. followed_by (value (here t) high n) (λ b n. Done (record { low = a; high = b }) n)) first_bound.0
-        (λ a one. quiet_then now One Both (value (here t) high now) (λ b n. Done (record { low = a; high = b }) n) second_bound.0 (λ b other_one. (refl, (one, other_one)))) in
-        subst (λ z. LeadsHere z (steps.evaluated t (steps.bounds t low high (start t)) f)) (sym all)
-        (subst (λ z. LeadsHere facts (steps.evaluated t (steps.bounds t low high z) f)) (sym started_is)
-        (then_started x f starts scalar facts holds (steps.bounds t low high now) q))
+        subst (λ z. LeadsHere (after (acts (acts_in s low ++ acts_in s high)) facts) (steps.evaluated t (steps.bounds t low high z) f)) (sym started_is)
+        (started_on [] [] x f low high starts scalar stays stays' (no_takes low calls []) (no_takes high calls' []) facts holds allowed)
 
     pub start_leads : (x : ℕ) (low high : TypedTree) → is_scalar (full s.table (object_at s x).of) ≡ true
         → Stays s low → Stays s high → has_call low ≡ false → has_call high ≡ false → (facts : List Fact) → HoldsHere facts t.state

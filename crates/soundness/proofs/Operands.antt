@@ -1,5 +1,5 @@
 -- What the operand of a short circuit leads to, whose value waits, and what a return leads to.
-use Rattle.std.proofs.Common.{◌≡◌, refl, sym, ap, ◌∙◌, subst, ℕ, Bool, true, false, List, [], ◌∷◌, ◌++◌, flat_map, drop, length, get_or, Some, None, if◌then◌else◌}
+use Rattle.std.proofs.Common.{◌≡◌, refl, sym, ap, ◌∙◌, subst, ℕ, Bool, true, false, List, [], ◌∷◌, ◌++◌, flat_map, drop, length, get_or, if◌then◌else◌, Some}
 use Rattle.place_names.specs.declared.fact.Fact.{Fact}
 use Rattle.type_definitions.specs.declared.table.Shape.TheVariants as shape
 use Rattle.type_definitions.specs.Entries.{boolean}
@@ -8,7 +8,7 @@ use Rattle.typed_tree.specs.declared.node.ShortCircuit.{ShortCircuit}
 use Rattle.typed_tree.specs.Trees.{TypedTree, NoMore, More}
 use Rattle.flow_paths.specs.Instructions.{Hold}
 use Rattle.flow_paths.specs.Objects.{Typing}
-use Rattle.flow_paths.specs.Names.{has_call}
+use Rattle.flow_paths.specs.Names.{has_call, waiting as waits_in}
 use Rattle.flow_paths.specs.Points.{FlowPoint}
 use Rattle.flow_paths.specs.Scopes.{taken}
 use Rattle.flow_paths.specs.Acts.{acts_in}
@@ -31,13 +31,14 @@ use Rattle.typed_laws.specs.Needed.{Stays, Source}
 use Rattle.soundness.proofs.Contents.{word_no}
 use Rattle.soundness.proofs.Steps.{no_leaf}
 use Rattle.soundness.proofs.Scalars.{acts}
-use Rattle.soundness.proofs.Stays.{Quiet, One, quiet}
+use Rattle.soundness.proofs.Taking.{Takes, TakesPlainly}
+use Rattle.soundness.proofs.Stays.{Quiet, One}
 use Rattle.soundness.proofs.Numbers.{index_law}
 use Rattle.soundness.proofs.Keeping.{scalar}
 use Rattle.soundness.proofs.Lasting.{keeps, less_kept}
-use Rattle.soundness.proofs.Evaluated.{changed_hand, live_trunk, scalar_given}
+use Rattle.soundness.proofs.Evaluated.{changed_hand, scalar_given}
 use Rattle.soundness.proofs.Waits.{waits_of, led_waits, drop_none}
-use Rattle.soundness.proofs.Instructions.{Holds, Leads_on, Given_here, raises, start_is, source_given, skip_leads}
+use Rattle.soundness.proofs.Instructions.{Holds, Leads_on, Given_here, raises, scalar_taken, source_on, skip_leads}
 
 module _ (t : Turn) (settled : IsSettled (typing t).table) (own_law : OwnsByShape (typing t).table) (other : Way → Type 0)
     (alone : (w : Way) → IsNear (length t.outer) w → other w → ⊥) (no_formals : (x : ℕ) → is_view_formal (typing t) x ≡ false)
@@ -116,35 +117,28 @@ module _ (t : Turn) (settled : IsSettled (typing t).table) (own_law : OwnsByShap
       ((λ trap. trap), raises t settled own_law other alone no_formals all_named frames facts holds n.memory)
   then_replaced left rest waits plain facts holds (Traps e n) never = absurd never
 
-  quiet_here : (e : TypedTree) → Stays s e → has_call e ≡ false → (facts : List Fact) → HoldsHere facts t.state → AllowsAll facts (acts (acts_in s e))
-      → Quiet now One (value (here t) e now) × (after (acts (acts_in s e)) facts ≡ facts)
-  quiet_here e stays calls facts holds allowed =
-      quiet (here t) settled hands t.state.leaks t.state.memory [] other facts holds.1 holds.0 alone
-      (live_trunk (here t) settled t.state.leaks [] other alone (keeps s settled own_law) no_formals index_law own_law all_named t.state.memory hands holds.0.owned)
-      index_law own_law all_named AsValue e stays calls allowed
-
-  started : start t ≡ now
-  started = start_is t settled own_law other alone no_formals all_named frames none
-
-  pub left_operand_leads : (e : TypedTree) (op : ShortCircuit) → Stays s e → has_call e ≡ false → (facts : List Fact) → HoldsHere facts t.state
-      → AllowsAll facts (acts (acts_in s e)) → LeadsHere (after (acts (acts_in s e)) facts) (steps.operand t e (Some op))
-  left_operand_leads e op stays calls facts holds allowed =
-      let q = quiet_here e stays calls facts holds allowed in
-      subst (λ z. LeadsHere z (steps.operand t e (Some op))) (sym q.1)
-      (subst (λ z. LeadsHere facts (steps.evaluated t (value (here t) e z)
-      (λ ws m. Goes (behind t (steps.truth_waiting ws ∷ waiting t) m (if run.decides op ws then 1 else 0))))) (sym started)
-      (then_waits facts holds (λ ws. if run.decides op ws then 1 else 0) (value (here t) e now) q.0))
+  -- a left operand, which takes these values
+  pub left_operand_on : (ws : List (List machine.Word)) (e : TypedTree) (op : ShortCircuit) → Stays s e → Takes (waits_in e) ws [] → (facts : List Fact)
+      → HoldsHere facts t.state → AllowsAll facts (acts (acts_in s e))
+      → LeadsHere (after (acts (acts_in s e)) facts) (steps.evaluated t (value (here t) e (record { memory = t.state.memory; waits = ws }))
+      (λ vs m. Goes (behind t (steps.truth_waiting vs ∷ waiting t) m (if run.decides op vs then 1 else 0))))
+  left_operand_on ws e op stays takes facts holds allowed =
+      let before : Now = record { memory = t.state.memory; waits = ws } in
+      let q = scalar_taken t settled own_law other alone no_formals all_named frames none ws e stays takes facts holds allowed in
+      subst (λ z. LeadsHere z (steps.evaluated t (value (here t) e before) (λ vs m. Goes (behind t (steps.truth_waiting vs ∷ waiting t) m (if run.decides op vs then 1 else 0))))) (sym q.1)
+      (then_waits facts holds (λ vs. if run.decides op vs then 1 else 0) (value (here t) e before) q.0)
 
   -- The value of the left operand waits, and is a truth value.
-  pub right_operand_leads : (e : TypedTree) (left : Waiting) (rest : List Waiting) → t.frame.waits ≡ left ∷ rest → is_scalar (full s.table left.of) ≡ true
-      → Stays s e → has_call e ≡ false → (facts : List Fact) → HoldsHere facts t.state
-      → AllowsAll facts (acts (acts_in s e)) → LeadsHere (after (acts (acts_in s e)) facts) (steps.operand t e None)
-  right_operand_leads e left rest waits plain stays calls facts holds allowed =
-      let q = quiet_here e stays calls facts holds allowed in
-      subst (λ z. LeadsHere z (steps.operand t e None)) (sym q.1)
-      (subst (λ z. LeadsHere facts (steps.evaluated t (value (here t) e z)
-      (λ ws m. Goes (behind t (steps.truth_waiting ws ∷ drop 1 (waiting t)) m 0)))) (sym started)
-      (then_replaced left rest waits plain facts holds (value (here t) e now) q.0))
+  pub right_operand_on : (ws : List (List machine.Word)) (e : TypedTree) (left : Waiting) (rest : List Waiting) → t.frame.waits ≡ left ∷ rest
+      → is_scalar (full s.table left.of) ≡ true → Stays s e → Takes (waits_in e) ws [] → (facts : List Fact) → HoldsHere facts t.state
+      → AllowsAll facts (acts (acts_in s e))
+      → LeadsHere (after (acts (acts_in s e)) facts) (steps.evaluated t (value (here t) e (record { memory = t.state.memory; waits = ws }))
+      (λ vs m. Goes (behind t (steps.truth_waiting vs ∷ drop 1 (waiting t)) m 0)))
+  right_operand_on ws e left rest waits plain stays takes facts holds allowed =
+      let before : Now = record { memory = t.state.memory; waits = ws } in
+      let q = scalar_taken t settled own_law other alone no_formals all_named frames none ws e stays takes facts holds allowed in
+      subst (λ z. LeadsHere z (steps.evaluated t (value (here t) e before) (λ vs m. Goes (behind t (steps.truth_waiting vs ∷ drop 1 (waiting t)) m 0)))) (sym q.1)
+      (then_replaced left rest waits plain facts holds (value (here t) e before) q.0)
 
   -- ---- a return without a value
 
@@ -157,6 +151,16 @@ module _ (t : Turn) (settled : IsSettled (typing t).table) (own_law : OwnsByShap
 module _ (program : FlowProgram) (input : List ℕ) (point : FlowPoint) (state : State) (frame caller : Frame) (outer : List Frame) where
   abbrev returning : Turn
   returning = record { program = program; input = input; point = point; state = state; frame = frame; outer = caller ∷ outer }
+
+  abbrev pub handed_over : ℕ → List machine.Word → Memory → State
+  handed_over of ws m = record (behind returning (waiting returning) m 0) {
+    frames = record frame { waits = waiting returning; next = get_or point.next 0 0 }
+        ∷ record caller { waits = record { of = of; words = ws } ∷ caller.waits } ∷ outer;
+  }
+
+  pub hold_is : (e rest : TypedTree) (of : ℕ) → (sub_of program frame.sub).result ≡ Some of
+      → steps.hold returning (More e rest) ≡ steps.evaluated returning (taken_by returning of e (start returning)) (λ ws m. Goes (handed_over of ws m))
+  hold_is e rest of result = rw result refl
 
   module _ (settled : IsSettled (typing returning).table) (own_law : OwnsByShape (typing returning).table) (other : Way → Type 0)
       (alone : (w : Way) → IsNear (length returning.outer) w → other w → ⊥) (no_formals : (x : ℕ) → is_view_formal (typing returning) x ≡ false)
@@ -201,31 +205,18 @@ module _ (program : FlowProgram) (input : List ℕ) (point : FlowPoint) (state :
         ap (flat_map waits_of) frames ∙ ap (λ z. z ++ (caller.waits ++ flat_map waits_of outer)) nothing in
         ap (λ z. z ++ (v ∷ (caller.waits ++ flat_map waits_of outer))) here_none ∙ ap (λ z. v ∷ z) (sym all)
 
-    abbrev handed_over : ℕ → List machine.Word → Memory → State
-    handed_over of ws m = record (behind returning (waiting returning) m 0) {
-      frames = record frame { waits = waiting returning; next = get_or point.next 0 0 }
-          ∷ record caller { waits = record { of = of; words = ws } ∷ caller.waits } ∷ outer;
-    }
-
-    hold_is : (e rest : TypedTree) (of : ℕ) → (sub_of program frame.sub).result ≡ Some of
-        → steps.hold returning (More e rest) ≡ steps.evaluated returning (taken_by returning of e (start returning)) (λ ws m. Goes (handed_over of ws m))
-    hold_is e rest of result = rw result refl
-
     -- The value that a function returns waits in the frame of the caller.
-    pub hold_leads : (e rest : TypedTree) (of : ℕ) → (sub_of program frame.sub).result ≡ Some of → Source (typing returning) of e → has_call e ≡ false
-        → (facts : List Fact) → Holds returning settled own_law other alone no_formals all_named frames facts state
+    pub hold_on : (ws : List (List machine.Word)) (e : TypedTree) (of : ℕ) → Source (typing returning) of e → TakesPlainly (typing returning) (has_call e)
+        → Takes (waits_in e) ws [] → (facts : List Fact) → Holds returning settled own_law other alone no_formals all_named frames facts state
         → AllowsAll facts (acts (acts_in (typing returning) e))
-        → LeadsOn (after (acts (acts_in (typing returning) e)) facts) (steps.hold returning (More e rest))
-    hold_leads e rest of result gives calls facts holds allowed =
-        let behind_acts : List Fact = after (acts (acts_in (typing returning) e)) facts in
-        subst (LeadsOn behind_acts) (sym (hold_is e rest of result))
-        (subst (λ z. LeadsOn behind_acts (steps.evaluated returning (taken_by returning of e z) (λ ws m. Goes (handed_over of ws m))))
-        (sym (start_is returning settled own_law other alone no_formals all_named frames none))
-        (then_held of (λ ws m. Goes (handed_over of ws m)) (record {
+        → LeadsOn (after (acts (acts_in (typing returning) e)) facts)
+        (steps.evaluated returning (taken_by returning of e (record { memory = state.memory; waits = ws })) (λ vs m. Goes (handed_over of vs m)))
+    hold_on ws e of gives calls takes facts holds allowed =
+        then_held of (λ vs m. Goes (handed_over of vs m)) (record {
           at = handed_over of;
-          goes = λ ws m. refl;
-          memory = λ ws m. refl;
-          leaks = λ ws m. refl;
-          waits = λ ws m. waits_there of ws;
-        }) behind_acts facts holds (taken_by returning of e (record { memory = state.memory; waits = [] }))
-        (source_given returning settled own_law other alone no_formals all_named frames none of e gives calls facts holds allowed)))
+          goes = λ vs m. refl;
+          memory = λ vs m. refl;
+          leaks = λ vs m. refl;
+          waits = λ vs m. waits_there of vs;
+        }) (after (acts (acts_in (typing returning) e)) facts) facts holds (taken_by returning of e (record { memory = state.memory; waits = ws }))
+        (source_on returning settled own_law other alone no_formals all_named frames none ws of e gives calls takes facts holds allowed)

@@ -19,7 +19,7 @@ use Rattle.type_definitions.specs.Types.{shape_of, words, full, is_owning, is_sc
 use Rattle.typed_tree.specs.Trees.{TypedTree, Number, Literal, Text, Name, Component as IntoComponent, Designated, Element, Call, EndOfFile, Parens, Image, Unary, Binary, Short, IsNull, Aggregate, Alike, New, NoMore, More}
 use Rattle.typed_tree.specs.Trees as typed
 use Rattle.flow_paths.specs.Objects.{Typing, Signature, object_at, sub_at, is_anonymous, is_named_access, view_of, Passing, ByValue, passing, passing_by, passings, traverses, first_traversed}
-use Rattle.flow_paths.specs.Names.{Written, written, is_empty, has_call, name_of}
+use Rattle.flow_paths.specs.Names.{Written, written, is_empty, has_call, waiting as waits_in, name_of}
 use Rattle.flow_paths.specs.Acts.{placed, naming, used, acts_in, index_acts, actual_values, actual_act, actual_acts}
 use Rattle.flow_paths.specs.Laid.{FlowSub, FlowProgram, flow_typing}
 use Rattle.machine.specs.Words.{fits_type}
@@ -54,7 +54,8 @@ use Rattle.soundness.proofs.Freeing.{plain_parts}
 use Rattle.soundness.proofs.Walks.{way_along, Walked, walk}
 use Rattle.soundness.proofs.Scalars.{acts, acts_append, after_append, allows_both, read_effect, look_effect, number_along, named_along}
 use Rattle.soundness.proofs.Inherited.{is_open}
-use Rattle.soundness.proofs.Stays.{Quiet, One, Goes as GoesAlong, quiet_then, quiet, steps_quiet, scalar_owns}
+use Rattle.soundness.proofs.Taking.{Takes, takes_both, no_takes}
+use Rattle.soundness.proofs.Stays.{Quiet, One, Goes as GoesAlong, quiet_then, quiet_from, taking, steps_taking, scalar_owns}
 use Rattle.soundness.proofs.Waits.{or_both}
 use Rattle.soundness.proofs.Loops.{same_word, scalar_same}
 use Rattle.soundness.proofs.Fixed.{matches_scalar, plain_word, fixed_one, Good, LeadsTo, moved_good, leads_on}
@@ -186,11 +187,15 @@ module _ (s : Typing) (own_law : OwnsByShape s.table) where
       let others = passes_plain procedure formals (λ y has. are y (inr has)) in
       (λ j. passing_by (object_at s x).mode (owns j) (access j) ∷ others j)
 
+  -- where the result isn't of an anonymous access type
+  pub all_pass : (sub : Signature) → traverses s.table sub.result ≡ false → ArePlain sub.formals → passings s sub ≡ map way_of sub.formals
+  all_pass sub plain are =
+      ap (λ b. if b then first_traversed (map (passing s (not (is_some sub.result))) sub.formals) else map (passing s (not (is_some sub.result))) sub.formals) plain
+      ∙ passes_plain (not (is_some sub.result)) sub.formals are
+
   -- that of a procedure
   pub procedure_passes : (sub : Signature) → sub.result ≡ None → ArePlain sub.formals → passings s sub ≡ map way_of sub.formals
-  procedure_passes sub none are =
-      ap (λ r. if traverses s.table r then first_traversed (map (passing s (not (is_some r))) sub.formals) else map (passing s (not (is_some r))) sub.formals) none
-      ∙ passes_plain true sub.formals are
+  procedure_passes sub none are = all_pass sub (ap (traverses s.table) none) are
 
   -- ---- the acts of a call
 
@@ -328,7 +333,10 @@ module _ (s : Typing) (settled : IsSettled s.table) (own_law : OwnsByShape s.tab
               (scalar_same s settled m hands leaks f x plain (declared f x ws m).variables others) good.0,
           declared_kept s settled m f x v hands (scalar s settled m v hands plain good.1) long (inl refl),
         ),
-        λ g y p. same_word s settled m [] [] f x plain (declared f x ws m).variables others (OfRoot (OfVariable g y)) p refl,
+        (
+          λ g y p any. same_word s settled m [] [] f x plain (declared f x ws m).variables others (OfRoot (OfVariable g y)) p refl,
+          λ c p. refl,
+        ),
       )
 
   pub with_one : (x : ℕ) (a : Passed) (m : Memory) → Scalar x → IsLaid s a → GoodThere m → Onward m (with_formal s f x a m)
@@ -345,14 +353,35 @@ module _ (s : Typing) (settled : IsSettled s.table) (own_law : OwnsByShape s.tab
 
   pub formals_good : (formals : List ℕ) (passed : List Passed) (m : Memory) → ((x : ℕ) → Has formals x → Scalar x) → AreLaid s passed
       → GoodThere m → Onward m (with_formals s f formals passed m)
-  formals_good [] passed m plain are good = (good, λ g y p. refl)
-  formals_good (x ∷ formals) [] m plain are good = (good, λ g y p. refl)
+  formals_good [] passed m plain are good = (good, (λ g y p any. refl, λ c p. refl))
+  formals_good (x ∷ formals) [] m plain are good = (good, (λ g y p any. refl, λ c p. refl))
   formals_good (x ∷ formals) (a ∷ rest) m plain are good =
       let first = with_one x a m (plain x (inl refl)) are.0 good in
       onward m (with_formal s f x a m) (with_formals s f formals rest (with_formal s f x a m)) first
       (formals_good formals rest (with_formal s f x a m) (λ y has. plain y (inr has)) are.1 first.0)
 
 -- ---- the actuals are evaluated
+
+-- The actuals for which there are formals take these values, one after the other.
+abbrev pub TakesAll : List ℕ → TypedTree → List (List machine.Word) → List (List machine.Word) → Type 0
+TakesAll (x ∷ formals) (More e rest) before on = (mid : List (List machine.Word)) × Takes (waits_in e) before mid × TakesAll formals rest mid on
+TakesAll formals actuals before on = before ≡ on
+
+pub takes_each : (formals : List ℕ) (actuals : TypedTree) (before on : List (List machine.Word)) → Takes (waits_in actuals) before on
+    → (end : List (List machine.Word)) × TakesAll formals actuals before end
+unfolding waits_in
+takes_each (x ∷ formals) (More e rest) before on takes =
+    let two = takes_both (waits_in e) (waits_in rest) before on takes in
+    let later = takes_each formals rest two.0 on two.2 in (later.0, (two.0, two.1, later.1))
+takes_each [] actuals before on takes = (before, refl)
+takes_each (x ∷ formals) actuals before on takes = (before, refl)
+
+none_taken : (ws : List (List machine.Word)) (formals : List ℕ) (actuals : TypedTree) → has_call actuals ≡ false → TakesAll formals actuals ws ws
+unfolding has_call
+none_taken ws [] actuals none = refl
+none_taken ws (x ∷ formals) (More e rest) none =
+    let calls = or_both (has_call e) (has_call rest) none in (ws, no_takes e calls.0 ws, none_taken ws formals rest calls.1)
+none_taken ws (x ∷ formals) actuals none = refl
 
 -- Steps of a name that dereference nothing.
 abbrev pub IsDirect : List run.Step → Type 0
@@ -421,34 +450,34 @@ module _ (h : Here) (settled : IsSettled h.typing.table) (hands : List Waiting) 
     (index_law : IndexLaw)
     (own_law : OwnsByShape h.typing.table)
     (all_named : (t d : ℕ) (c n : Bool) → shape_of h.typing.table t ≡ shape.Access d c n → n ≡ true) where
-  abbrev at : Now
-  at = record { memory = m; waits = waits }
+  abbrev at : List (List machine.Word) → Now
+  at ws = record { memory = m; waits = ws }
 
   abbrev ways_of : List ℕ → List Passing
   ways_of formals = map (way_of h.typing own_law) formals
 
   -- ---- values
 
-  if_quiet : (b : Bool) (x y : Evaluated (List machine.Word)) → Quiet at One x → Quiet at One y → Quiet at One (if b then x else y)
-  if_quiet true x y p q = p
-  if_quiet false x y p q = q
+  if_quiet : (on : List (List machine.Word)) (b : Bool) (x y : Evaluated (List machine.Word)) → Quiet (at on) One x → Quiet (at on) One y → Quiet (at on) One (if b then x else y)
+  if_quiet on true x y p q = p
+  if_quiet on false x y p q = q
 
-  checked_quiet : (P : List machine.Word → Type 0) (t : ℕ) (ws : List machine.Word) → P ws → Quiet at P (checked h t ws at)
-  checked_quiet P t ws is = by_test (fits_type h.typing.table t ws)
+  checked_quiet : (on : List (List machine.Word)) (P : List machine.Word → Type 0) (t : ℕ) (ws : List machine.Word) → P ws → Quiet (at on) P (checked h t ws (at on))
+  checked_quiet on P t ws is = by_test (fits_type h.typing.table t ws)
     where
-      by_test : (b : Bool) → Quiet at P (if b then Done ws at else Raises ConstraintError at)
+      by_test : (b : Bool) → Quiet (at on) P (if b then Done ws (at on) else Raises ConstraintError (at on))
       by_test true = (refl, is)
       by_test false = refl
 
-  value_given : (x : ℕ) (e : TypedTree) → Stays h.typing e → has_call e ≡ false → AllowsAll facts (acts (acts_in h.typing e))
-      → Quiet at (λ a. IsValue a) (passed h ByValue x e at)
-  value_given x e stays none allowed =
-      let by_name = quiet h settled hands leaks m waits other facts kept sound alone live index_law own_law all_named AsValue e stays none allowed in
-      let as_view = quiet h settled hands leaks m waits other facts kept sound alone live index_law own_law all_named AsView e stays none allowed in
-      quiet_then at One (λ a. IsValue a) (if is_anonymous (view_of h.typing x) then viewed h e at else value h e at)
+  value_given : (before on : List (List machine.Word)) (x : ℕ) (e : TypedTree) → Stays h.typing e → Takes (waits_in e) before on → AllowsAll facts (acts (acts_in h.typing e))
+      → Quiet (at on) (λ a. IsValue a) (passed h ByValue x e (at before))
+  value_given before on x e stays takes allowed =
+      let by_name = taking h settled hands leaks m waits other facts kept sound alone live index_law own_law all_named AsValue e stays before on takes allowed in
+      let as_view = taking h settled hands leaks m waits other facts kept sound alone live index_law own_law all_named AsView e stays before on takes allowed in
+      quiet_then (at on) One (λ a. IsValue a) (if is_anonymous (view_of h.typing x) then viewed h e (at before) else value h e (at before))
       (λ ws now. followed_by (checked h (type_of h x) ws now) value_passed)
-      (if_quiet (is_anonymous (view_of h.typing x)) (viewed h e at) (value h e at) as_view.0 by_name.0)
-      (λ ws one. quiet_then at One (λ a. IsValue a) (checked h (type_of h x) ws at) value_passed (checked_quiet One (type_of h x) ws one)
+      (if_quiet on (is_anonymous (view_of h.typing x)) (viewed h e (at before)) (value h e (at before)) as_view.0 by_name.0)
+      (λ ws one. quiet_then (at on) One (λ a. IsValue a) (checked h (type_of h x) ws (at on)) value_passed (checked_quiet on One (type_of h x) ws one)
       (λ us single. (refl, single)))
 
   -- ---- places
@@ -463,10 +492,10 @@ module _ (h : Here) (settled : IsSettled h.typing.table) (hands : List Waiting) 
   abbrev pub IsPut : TypedTree → Place → Type 0
   IsPut e k = IsFixed h.typing k × Reached e k
 
-  from_walked : (p : Pos) (x u : ℕ) (path : TypedTree) (w : Way) → is_scalar (full h.typing.table u) ≡ true → Named (home h.typing h.frame) w
-      → ways.name_of w ≡ name_of x path → (y : Evaluated Place) → Walked h.typing settled hands leaks m waits w u y
-      → IsIn (memory.OfVariable (home h.typing h.frame x) x) y → Quiet at (λ k. IsPut (Name p x path u) k) y
-  from_walked p x u path w plain named called (Done k n) (l, same, spot, reaches, of) base =
+  from_walked : (on : List (List machine.Word)) (p : Pos) (x u : ℕ) (path : TypedTree) (w : Way) → is_scalar (full h.typing.table u) ≡ true → Named (home h.typing h.frame) w
+      → ways.name_of w ≡ name_of x path → (y : Evaluated Place) → Walked h.typing settled hands leaks m on w u y
+      → IsIn (memory.OfVariable (home h.typing h.frame x) x) y → Quiet (at on) (λ k. IsPut (Name p x path u) k) y
+  from_walked on p x u path w plain named called (Done k n) (l, same, spot, reaches, of) base =
       let b : trunk l ≡ OfRoot (OfVariable (home h.typing h.frame x) x) = spot.base ∙ ap loc_of base in (
         same,
         (
@@ -483,34 +512,40 @@ module _ (h : Here) (settled : IsSettled h.typing.table) (hands : List Waiting) 
           (w, l, named, called, reaches, spot),
         ),
       )
-  from_walked p x u path w plain named called (Raises e n) is base = is
-  from_walked p x u path w plain named called (Traps t n) never base = absurd never
+  from_walked on p x u path w plain named called (Raises e n) is base = is
+  from_walked on p x u path w plain named called (Traps t n) never base = absurd never
 
-  walk_given : (p : Pos) (x u : ℕ) (path : TypedTree) (way : List run.Step) → is_scalar (full h.typing.table u) ≡ true
+  walk_given : (on : List (List machine.Word)) (p : Pos) (x u : ℕ) (path : TypedTree) (way : List run.Step) → is_scalar (full h.typing.table u) ≡ true
       → GoesAlong h.typing.table (object_at h.typing x).of u path way → IsDirect way
-      → Quiet at (λ k. IsPut (Name p x path u) k) (walked h.typing way (variable_place h x) at)
-  walk_given p x u path way plain goes direct =
+      → Quiet (at on) (λ k. IsPut (Name p x path u) k) (walked h.typing way (variable_place h x) (at on))
+  walk_given on p x u path way plain goes direct =
       let root : Way = Object (OfVariable (home h.typing h.frame x) x) in
       let named : Named (home h.typing h.frame) (way_along way root) = named_along (home h.typing h.frame) way root refl in
-      from_walked p x u path (way_along way root) plain named
+      from_walked on p x u path (way_along way root) plain named
       (λ j. record { root = number_along way root j; sels = goes.sels root j })
-      (walked h.typing way (variable_place h x) at)
-      (walk h.typing settled hands leaks m waits (Excused (home h.typing h.frame) other facts) kept sound.owned sound.known live way (variable_place h x)
+      (walked h.typing way (variable_place h x) (at on))
+      (walk h.typing settled hands leaks m on (Excused (home h.typing h.frame) other facts) kept sound.owned sound.known live way (variable_place h x)
       (OfRoot (OfVariable (home h.typing h.frame x) x)) root u
       (record { base = refl; made = tt; at = refl; there = refl; of = inl refl }) tt refl goes.lead
       (λ v past moved. past_none way direct root (λ z never. never) v past))
-      (walked_in h.typing way direct (variable_place h x) at)
+      (walked_in h.typing way direct (variable_place h x) (at on))
 
-  pub place_given : (e : TypedTree) (t : ℕ) → IsPlace h.typing e t → is_scalar (full h.typing.table t) ≡ true → has_call e ≡ false → goes_through_none e ≡ true
-      → AllowsAll facts (acts (index_acts h.typing e)) → Quiet at (λ k. IsPut e k) (place_of h e at)
-  unfolding has_call goes_through_none
-  place_given (Name p x path u) t (leads, type) plain none direct allowed =
-      let inner = steps_quiet h settled hands leaks m waits other facts kept sound alone live index_law own_law all_named (object_at h.typing x).of u path leads none allowed in
-      quiet_then at (λ way. GoesAlong h.typing.table (object_at h.typing x).of u path way × IsDirect way) (λ k. IsPut (Name p x path u) k) (steps_of h path at)
+  pub place_on : (before on : List (List machine.Word)) (e : TypedTree) (t : ℕ) → IsPlace h.typing e t → is_scalar (full h.typing.table t) ≡ true → Takes (waits_in e) before on
+      → goes_through_none e ≡ true → AllowsAll facts (acts (index_acts h.typing e)) → Quiet (at on) (λ k. IsPut e k) (place_of h e (at before))
+  unfolding waits_in goes_through_none
+  place_on before on (Name p x path u) t (leads, type) plain takes direct allowed =
+      let inner = steps_taking h settled hands leaks m waits other facts kept sound alone live index_law own_law all_named (object_at h.typing x).of u path leads before on takes allowed in
+      quiet_then (at on) (λ way. GoesAlong h.typing.table (object_at h.typing x).of u path way × IsDirect way) (λ k. IsPut (Name p x path u) k) (steps_of h path (at before))
       (λ way now. walked h.typing way (variable_place h x) now)
-      (both_quiet at (λ way. GoesAlong h.typing.table (object_at h.typing x).of u path way) (steps_of h path at) inner.0 (steps_direct h path direct at))
-      (λ way both. walk_given p x u path way (subst (λ z. is_scalar (full h.typing.table z) ≡ true) (sym type) plain) both.0 both.1)
-  place_given e t place plain none direct allowed = absurd place
+      (both_quiet (at on) (λ way. GoesAlong h.typing.table (object_at h.typing x).of u path way) (steps_of h path (at before)) inner.0 (steps_direct h path direct (at before)))
+      (λ way both. walk_given on p x u path way (subst (λ z. is_scalar (full h.typing.table z) ≡ true) (sym type) plain) both.0 both.1)
+  place_on before on e t place plain takes direct allowed = absurd place
+
+  -- without calls
+  pub place_given : (e : TypedTree) (t : ℕ) → IsPlace h.typing e t → is_scalar (full h.typing.table t) ≡ true → has_call e ≡ false → goes_through_none e ≡ true
+      → AllowsAll facts (acts (index_acts h.typing e))
+      → Quiet (record { memory = m; waits = waits }) (λ k. IsPut e k) (place_of h e (record { memory = m; waits = waits }))
+  place_given e t place plain none direct allowed = place_on waits waits e t place plain (no_takes e none waits) direct allowed
 
   -- ---- all of them
 
@@ -526,51 +561,60 @@ module _ (h : Here) (settled : IsSettled h.typing.table) (hands : List Waiting) 
   AreGiven (x ∷ formals) (More e rest) [] = ⊥
   AreGiven formals actuals passed = passed ≡ []
 
-  value_is : (e : TypedTree) (y : Evaluated Passed) → Quiet at (λ a. IsValue a) y → Quiet at (λ a. IsGiven mode.In e a) y
-  value_is e (Done (Value ws) n) is = is
-  value_is e (Done (From k) n) is = absurd is.1
-  value_is e (Done (To k) n) is = absurd is.1
-  value_is e (Raises x n) is = is
-  value_is e (Traps x n) is = is
+  value_is : (on : List (List machine.Word)) (e : TypedTree) (y : Evaluated Passed) → Quiet (at on) (λ a. IsValue a) y → Quiet (at on) (λ a. IsGiven mode.In e a) y
+  value_is on e (Done (Value ws) n) is = is
+  value_is on e (Done (From k) n) is = absurd is.1
+  value_is on e (Done (To k) n) is = absurd is.1
+  value_is on e (Raises x n) is = is
+  value_is on e (Traps x n) is = is
 
   abbrev IsCopiedName : Mode → TypedTree → Type 0
   IsCopiedName m' e = is_in m' ≡ false → goes_through_none e ≡ true
 
-  pub one_given : (mode_of : Mode) (x : ℕ) (e : TypedTree) → IsActualBy h.typing mode_of e → IsCopiedName mode_of e → has_call e ≡ false
-      → AllowsAll facts (acts (head_acts h.typing own_law mode_of e)) → Quiet at (λ a. IsGiven mode_of e a) (passed h (way_by h.typing own_law mode_of) x e at)
-  one_given mode.In x e actual copied none allowed = value_is e (passed h ByValue x e at) (value_given x e actual none allowed)
-  one_given mode.Out x e actual copied none allowed =
-      quiet_then at (λ k. IsPut e k) (λ a. IsGiven mode.Out e a) (place_of h e at) (λ k now. Done (To k) now)
-      (place_given e actual.0 actual.1 actual.2 none (copied refl) allowed) (λ k put. (refl, put))
-  one_given mode.InOut x e actual copied none allowed =
-      quiet_then at (λ k. IsPut e k) (λ a. IsGiven mode.InOut e a) (place_of h e at)
+  pub one_on : (before on : List (List machine.Word)) (mode_of : Mode) (x : ℕ) (e : TypedTree) → IsActualBy h.typing mode_of e → IsCopiedName mode_of e → Takes (waits_in e) before on
+      → AllowsAll facts (acts (head_acts h.typing own_law mode_of e)) → Quiet (at on) (λ a. IsGiven mode_of e a) (passed h (way_by h.typing own_law mode_of) x e (at before))
+  one_on before on mode.In x e actual copied takes allowed = value_is on e (passed h ByValue x e (at before)) (value_given before on x e actual takes allowed)
+  one_on before on mode.Out x e actual copied takes allowed =
+      quiet_then (at on) (λ k. IsPut e k) (λ a. IsGiven mode.Out e a) (place_of h e (at before)) (λ k now. Done (To k) now)
+      (place_on before on e actual.0 actual.1 actual.2 takes (copied refl) allowed) (λ k put. (refl, put))
+  one_on before on mode.InOut x e actual copied takes allowed =
+      quiet_then (at on) (λ k. IsPut e k) (λ a. IsGiven mode.InOut e a) (place_of h e (at before))
       (λ k now. followed_by (checked h (type_of h x) (words_of h.typing now.memory k) now) (λ ws now. Done (From k) now))
-      (place_given e actual.0 actual.1 actual.2 none (copied refl) allowed)
-      (λ k put. quiet_then at (λ (ws : List machine.Word). Unit {0}) (λ a. IsGiven mode.InOut e a) (checked h (type_of h x) (words_of h.typing m k) at)
-      (λ ws now. Done (From k) now) (checked_quiet (λ ws. Unit {0}) (type_of h x) (words_of h.typing m k) tt) (λ ws any. (refl, put)))
+      (place_on before on e actual.0 actual.1 actual.2 takes (copied refl) allowed)
+      (λ k put. quiet_then (at on) (λ (ws : List machine.Word). Unit {0}) (λ a. IsGiven mode.InOut e a) (checked h (type_of h x) (words_of h.typing m k) (at on))
+      (λ ws now. Done (From k) now) (checked_quiet on (λ ws. Unit {0}) (type_of h x) (words_of h.typing m k) tt) (λ ws any. (refl, put)))
 
-  pub all_given : (formals : List ℕ) (actuals : TypedTree) → AreActuals h.typing formals actuals → AreCopied h.typing formals actuals → has_call actuals ≡ false
+  pub one_given : (mode_of : Mode) (x : ℕ) (e : TypedTree) → IsActualBy h.typing mode_of e → IsCopiedName mode_of e → has_call e ≡ false
+      → AllowsAll facts (acts (head_acts h.typing own_law mode_of e))
+      → Quiet (record { memory = m; waits = waits }) (λ a. IsGiven mode_of e a) (passed h (way_by h.typing own_law mode_of) x e (record { memory = m; waits = waits }))
+  one_given mode_of x e actual copied none allowed = one_on waits waits mode_of x e actual copied (no_takes e none waits) allowed
+
+  pub all_on : (before on : List (List machine.Word)) (formals : List ℕ) (actuals : TypedTree) → AreActuals h.typing formals actuals → AreCopied h.typing formals actuals
+      → TakesAll formals actuals before on
       → AllowsAll facts (acts (actual_values h.typing (ways_of formals) actuals))
-      → Quiet at (λ passed. AreGiven formals actuals passed) (all_passed h (ways_of formals) formals actuals at)
-  unfolding has_call
-  all_given [] actuals stay copied none allowed = (refl, refl)
-  all_given (x ∷ formals) (More e rest) stay copied none allowed =
+      → Quiet (at on) (λ passed. AreGiven formals actuals passed) (all_passed h (ways_of formals) formals actuals (at before))
+  all_on before on [] actuals stay copied takes allowed = ((ap at takes), refl)
+  all_on before on (x ∷ formals) (More e rest) stay copied (mid, takes, more) allowed =
       let mode_of : Mode = (object_at h.typing x).mode in
-      let calls = or_both (has_call e) (has_call rest) none in
       let both : AllowsAll facts (acts (head_acts h.typing own_law mode_of e ++ actual_values h.typing (ways_of formals) rest)) =
       subst (λ z. AllowsAll facts (acts z)) (head_values h.typing own_law mode_of e (ways_of formals) rest) allowed in
       let each = allows_both facts (acts (head_acts h.typing own_law mode_of e)) (acts (actual_values h.typing (ways_of formals) rest))
       (subst (AllowsAll facts) (acts_append (head_acts h.typing own_law mode_of e) (actual_values h.typing (ways_of formals) rest)) both) in
       let same : after (acts (head_acts h.typing own_law mode_of e)) facts ≡ facts =
       reads_keep (head_acts h.typing own_law mode_of e) (head_reads h.typing own_law mode_of e stay.0) facts in
-      quiet_then at (λ a. IsGiven mode_of e a) (λ passed. AreGiven (x ∷ formals) (More e rest) passed) (passed h (way_by h.typing own_law mode_of) x e at)
+      quiet_from (at mid) (at on) (λ a. IsGiven mode_of e a) (λ passed. AreGiven (x ∷ formals) (More e rest) passed) refl (passed h (way_by h.typing own_law mode_of) x e (at before))
       (λ a now. followed_by (all_passed h (ways_of formals) formals rest now) (λ more now. Done (a ∷ more) now))
-      (one_given mode_of x e stay.0 copied.0 calls.0 each.0)
-      (λ a is. quiet_then at (λ passed. AreGiven formals rest passed) (λ passed. AreGiven (x ∷ formals) (More e rest) passed)
-      (all_passed h (ways_of formals) formals rest at) (λ more now. Done (a ∷ more) now)
-      (all_given formals rest stay.1 copied.1 calls.1 (subst (λ z. AllowsAll z (acts (actual_values h.typing (ways_of formals) rest))) same each.1))
+      (one_on before mid mode_of x e stay.0 copied.0 takes each.0)
+      (λ a is. quiet_then (at on) (λ passed. AreGiven formals rest passed) (λ passed. AreGiven (x ∷ formals) (More e rest) passed)
+      (all_passed h (ways_of formals) formals rest (at mid)) (λ more now. Done (a ∷ more) now)
+      (all_on mid on formals rest stay.1 copied.1 more (subst (λ z. AllowsAll z (acts (actual_values h.typing (ways_of formals) rest))) same each.1))
       (λ more are. (refl, (is, are))))
-  all_given (x ∷ formals) actuals stay copied none allowed = (refl, refl)
+  all_on before on (x ∷ formals) actuals stay copied takes allowed = ((ap at takes), refl)
+
+  pub all_given : (formals : List ℕ) (actuals : TypedTree) → AreActuals h.typing formals actuals → AreCopied h.typing formals actuals → has_call actuals ≡ false
+      → AllowsAll facts (acts (actual_values h.typing (ways_of formals) actuals))
+      → Quiet (record { memory = m; waits = waits }) (λ passed. AreGiven formals actuals passed) (all_passed h (ways_of formals) formals actuals (record { memory = m; waits = waits }))
+  all_given formals actuals stay copied none allowed = all_on waits waits formals actuals stay copied (none_taken waits formals actuals none) allowed
 
   pub given_laid : (mode_of : Mode) (e : TypedTree) (a : Passed) → IsGiven mode_of e a → IsLaid h.typing a
   given_laid mode.In e (Value ws) is = is
@@ -701,28 +745,46 @@ module _ (t : Turn) (settled : IsSettled (typing t).table) (n : ℕ) (actuals : 
     by_values f enters now same (Traps e m) never = absurd never
 
     called_by : (f : List Passed → Memory → Outcome) → Enters f → (ways : List Passing) → passings (typing t) (sub_at (typing t) n) ≡ ways
-        → (now : Now) → start t ≡ now → now.memory ≡ t.state.memory → Quiet now Given (all_passed (here t) ways formals_there actuals now)
+        → (before now : Now) → start t ≡ before → now.memory ≡ t.state.memory → Quiet now Given (all_passed (here t) ways formals_there actuals before)
         → P (steps.evaluated t (all_passed (here t) (passings (typing t) (sub_at (typing t) n)) formals_there actuals (start t)) f)
-    called_by f enters ways are now started same quiet_there =
+    called_by f enters ways are before now started same quiet_there =
         subst (λ z. P (steps.evaluated t (all_passed (here t) z formals_there actuals (start t)) f)) (sym are)
         (subst (λ z. P (steps.evaluated t (all_passed (here t) ways formals_there actuals z) f)) (sym started)
-        (by_values f enters now same (all_passed (here t) ways formals_there actuals now) quiet_there))
+        (by_values f enters now same (all_passed (here t) ways formals_there actuals before) quiet_there))
+
+    -- with values that are taken
+    pub call_on : (ways : List Passing) → passings (typing t) (sub_at (typing t) n) ≡ ways
+        → (before now : Now) → start t ≡ before → now.memory ≡ t.state.memory → Quiet now Given (all_passed (here t) ways formals_there actuals before)
+        → P (call t n actuals)
+    call_on ways are before now started same quiet_there =
+        called_by _ (record { fits = λ passed m e. rw e refl; full = λ passed m e. rw e refl }) ways are before now started same quiet_there
 
     pub call_leads : (ways : List Passing) → passings (typing t) (sub_at (typing t) n) ≡ ways
         → (now : Now) → start t ≡ now → now.memory ≡ t.state.memory → Quiet now Given (all_passed (here t) ways formals_there actuals now)
         → P (call t n actuals)
-    call_leads ways are now started same quiet_there =
-        called_by _ (record { fits = λ passed m e. rw e refl; full = λ passed m e. rw e refl }) ways are now started same quiet_there
+    call_leads ways are now started same quiet_there = call_on ways are now now started same quiet_there
 
 -- ---- signatures
 
-abbrev signature_of : FlowSub → Signature
+abbrev pub signature_of : FlowSub → Signature
 signature_of sub = record { formals = sub.formals; result = sub.result }
 
 pub signature_there : (subs : List FlowSub) (n : ℕ) → get_or (map signature_of subs) n (signature_of no_sub) ≡ signature_of (get_or subs n no_sub)
 signature_there [] n = refl
 signature_there (sub ∷ subs) zero = refl
 signature_there (sub ∷ subs) (suc n) = signature_there subs n
+
+pub signature_is : (program : FlowProgram) (n : ℕ) → sub_at (flow_typing program) n ≡ signature_of (sub_of program n)
+signature_is program n = signature_there program.subs n
+
+-- how actuals are passed to a subprogram of plain formals
+pub passed_by : (program : FlowProgram) (own_law : OwnsByShape (flow_typing program).table) (n : ℕ)
+    → traverses (flow_typing program).table (sub_of program n).result ≡ false
+    → ArePlain (flow_typing program) own_law (sub_of program n).formals
+    → passings (flow_typing program) (sub_at (flow_typing program) n) ≡ map (way_of (flow_typing program) own_law) (sub_of program n).formals
+passed_by program own_law n plain are =
+    ap (passings (flow_typing program)) (signature_is program n)
+    ∙ all_pass (flow_typing program) own_law (signature_of (sub_of program n)) plain are
 
 -- how actuals are passed to a procedure of plain formals
 pub passed_to : (program : FlowProgram) (own_law : OwnsByShape (flow_typing program).table) (n : ℕ) → (sub_of program n).result ≡ None

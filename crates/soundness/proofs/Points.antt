@@ -121,7 +121,7 @@ named_signatures : (s : Typing) (n : ℕ) (subs : List TypedSub) → map signatu
 named_signatures s n [] = refl
 named_signatures s n (sub ∷ rest) = ap (λ z. signature sub ∷ z) (named_signatures s (n + length (sub_temporaries s sub)) rest)
 
-all_signatures : (s : Typing) (subs : List TypedSub) → map signature_of (map (flow_sub s) (all_named s subs)) ≡ map signature subs
+pub all_signatures : (s : Typing) (subs : List TypedSub) → map signature_of (map (flow_sub s) (all_named s subs)) ≡ map signature subs
 all_signatures s [] = refl
 all_signatures s (sub ∷ rest) = ap (λ z. signature sub ∷ z) (named_signatures s (length s.objects) rest)
 

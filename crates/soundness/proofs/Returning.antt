@@ -23,7 +23,7 @@ use Rattle.owned_ways.specs.Ways.{Step, OfVariable, OfHand, Loc, OfRoot, OfCell,
 use Rattle.part_offsets.specs.Parts.{offset_in, IsSettled}
 use Rattle.soundness.specs.Seen.{content, trunk, steps_in, word_in, seen, home, is_view_formal}
 use Rattle.soundness.specs.Typed.{OwnsByShape, Points, Kept, IsFixed}
-use Rattle.soundness.specs.Sound.{Stage, facts_of, Elsewhere, IsCopied}
+use Rattle.soundness.specs.Sound.{Stage, facts_of, Elsewhere, IsCopied, AreSameWords}
 use Rattle.soundness.proofs.Fixed.{fixed_one, Good, LeadsTo, moved_good, stored_good, leads_on}
 use Rattle.soundness.proofs.Joined.{trunk_trunk, not_inside}
 use Rattle.soundness.proofs.Contents.{bool_cases}
@@ -146,6 +146,13 @@ module _ (s : Typing) (m : Memory) (f : ℕ) (hands : List Waiting) (leaks : Lis
     points = left_points kept;
   }
 
+  -- owners see the same elsewhere
+  pub left_same : AreSameWords s (λ g. g ≡ f → ⊥) m (without_frame f m)
+  left_same = (
+    λ g y p ne. ap (λ z. word_in s.table (record { of = (object_at s y).of; slots = z; owns = not (is_view_formal s y) }) p) (frame_other s f g y ne m.variables),
+    λ c p. refl,
+  )
+
   -- what is in a variable of another frame was there before
   pub left_held : (g y : ℕ) (p : List Step) (n : ℕ) → word_in s.table (content s (without_frame f m) [] (OfRoot (OfVariable g y))) p ≡ Held n
       → (g ≡ f → ⊥) × (word_in s.table (content s m [] (OfRoot (OfVariable g y))) p ≡ Held n)
@@ -202,7 +209,7 @@ module _ (t : Turn) where
     -- Owners see nothing of it.
     pub back : (returns : List Return) → ((r : Return) → Has returns r → IsCopied (typing t) r) → (begun : Now)
         → Good (typing t) settled own_law hands leaks at_home other facts begun.memory → Backs (λ m. Onward begun.memory m) (copied_back t returns begun)
-    back [] copied begun good = (good, λ g y p. refl)
+    back [] copied begun good = (good, (λ g y p any. refl, λ c p. refl))
     back (r ∷ rest) copied begun good =
         let is : IsCopied (typing t) r = copied r (inl refl) in
         let formal : Place = variable_place (here t) r.formal in

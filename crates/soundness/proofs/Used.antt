@@ -186,7 +186,7 @@ module _ (program : FlowProgram) (effects : Effects) (are : AreEffects program e
   path_acts (q ∷ rest) zero a has = (q, inl refl, has)
   path_acts (q ∷ rest) (suc n) a has = (let later = path_acts rest n a has in (later.0, inr later.1, later.2))
 
-  added_after : (more : List Act) (facts : List Fact) (f : Fact) → Has (after more facts) f → Has facts f ⊎ ((a : Act) × Has more a × Has (adds a) f)
+  pub added_after : (more : List Act) (facts : List Fact) (f : Fact) → Has (after more facts) f → Has facts f ⊎ ((a : Act) × Has more a × Has (adds a) f)
   added_after [] facts f has = inl has
   added_after (a ∷ more) facts f has = elim (added_after more (effect a facts) f has) [
     | inr later ↦ inr (later.0, inr later.1, later.2)

@@ -27,6 +27,7 @@ use Rattle.flow_paths.specs.Views.{changes}
 use Rattle.machine.specs.Words.{component_type, element_of, no_component}
 use Rattle.soundness.specs.Typed.{OwnsByShape}
 use Rattle.soundness.specs.Sound.{calls_nothing}
+use Rattle.soundness.proofs.Passing.{IsRead, AreReads}
 use Rattle.typed_laws.specs.Needed.{Stays, Leads, Gives, GivesParts, GivesFirst, Writes, FirstWrites, Source, FirstSource, IsPlace, FirstStays, Returns, IsFine}
 use Rattle.viewed_soundness.specs.Holds.{IsNamed, PartsAreNamed}
 use Rattle.scope_laws.specs.Code.{roots}
@@ -565,3 +566,11 @@ module _ (s : Typing) (own_law : OwnsByShape s.table) (parts_named : PartsAreNam
     instruction_good result kept pos Finish fine calls =
         good_one (placed pos (act.Return kept)) [] (good_quiet [] (act.Return kept) ((λ name none. none), (λ m e. cc)))
     instruction_good result kept pos Fall fine calls = good_none []
+
+  -- What reads moves and changes nothing.
+  pub reads_good : (acts : List Placed) (xs : List ℕ) → AreReads acts → AreGood acts xs
+  reads_good acts xs reads a has = by a (reads a has)
+    where
+      by : (a : Placed) → IsRead a → IsGood xs a.act
+      by a (m, inl e) = subst (IsGood xs) (sym e) (good_quiet xs (act.Read m) ((λ name none. none), (λ k f. cc)))
+      by a (m, inr e) = subst (IsGood xs) (sym e) (good_quiet xs (act.Look m) ((λ name none. none), (λ k f. cc)))

@@ -29,16 +29,16 @@ use Rattle.machine.specs.Run.{no_point}
 use Rattle.owned_ways.specs.Ways.{after}
 use Rattle.soundness.specs.Typed.{OwnsByShape}
 use Rattle.typed_laws.specs.Needed.{IsFine, AreFine}
-use Rattle.soundness.specs.Sound.{IsAtPoint, calls_nothing, calls_procedures}
+use Rattle.soundness.specs.Sound.{IsAtPoint, calls_procedures}
 use Rattle.soundness.proofs.Scalars.{acts}
 use Rattle.soundness.proofs.Paths.{facts_next}
 use Rattle.soundness.proofs.Points.{IsLaid, flow_at, typing_same, point_has, point_there, path_there, next_there}
-use Rattle.soundness.proofs.Successors.{nothing_procedures, procedures_take_none}
+use Rattle.soundness.proofs.Successors.{procedures_take_none}
 use Rattle.soundness.proofs.Used.{called_add_none}
 use Rattle.soundness.proofs.Waits.{drop_none}
 use Rattle.scope_laws.specs.Order.{IsOrdered, named_in}
 use Rattle.viewed_soundness.specs.Holds.{PartsAreNamed}
-use Rattle.view_laws.proofs.Acts.{instruction_good}
+use Rattle.view_laws.proofs.Calls.{AreReadCalls, point_good}
 
 -- ---- scopes
 
@@ -125,12 +125,13 @@ ended_fact x borrower facts name has root = elim (Has-append_cases (filter (λ f
 -- ---- paths
 
 module _ (table : Table) (typed : TypedProgram) (effects : Effects)
-    (no_calls : (sub : FlowSub) → Has (flow_program table typed).subs sub → (p : FlowPoint) → Has sub.points p → calls_nothing p.instr ≡ true)
+    (calls : (sub : FlowSub) → Has (flow_program table typed).subs sub → (p : FlowPoint) → Has sub.points p → calls_procedures p.instr ≡ true)
     (owns : OwnsByShape (flow_program table typed).table) (parts_named : PartsAreNamed (flow_program table typed).table)
     (fine : AreFine (flow_program table typed)) (objects : (flow_program table typed).objects ≡ typed.objects)
     (effects_are : AreEffects (flow_program table typed) effects)
     (local : (x : ℕ) → is_anonymous (view_of (flow_typing (flow_program table typed)) x) ≡ true
-    → is_variable (object_at (flow_typing (flow_program table typed)) x).kind ≡ true) where
+    → is_variable (object_at (flow_typing (flow_program table typed)) x).kind ≡ true)
+    (plainly : AreReadCalls (flow_program table typed) owns) where
   abbrev program : FlowProgram
   program = flow_program table typed
 
@@ -170,11 +171,8 @@ module _ (table : Table) (typed : TypedProgram) (effects : Effects)
       in_sub : Has (flow_sub own named).points (flow_at own named p)
       in_sub = Has-map (λ (q : NamedPoint). flow_at own named q) named.points p there
 
-      nothing_there : calls_nothing p.instr ≡ true
-      nothing_there = no_calls (flow_sub own named) in_program (flow_at own named p) in_sub
-
       calls_there : calls_procedures p.instr ≡ true
-      calls_there = nothing_procedures p.instr nothing_there
+      calls_there = calls (flow_sub own named) in_program (flow_at own named p) in_sub
 
       fine_there : IsFine s named.sub.result p.instr
       fine_there = fine (flow_sub own named) in_program (flow_at own named p) in_sub
@@ -189,7 +187,8 @@ module _ (table : Table) (typed : TypedProgram) (effects : Effects)
       -- what the acts of the point move
       own_known : (a : Placed) → Has (acts_here p.instr) a → (name : PlaceName) → Has (adds a.act) (Moved name) → Known p name.root
       own_known a has name moved =
-          let found = (instruction_good s owns parts_named local named.sub.result kept p.pos p.instr fine_there nothing_there a has).0 name moved in
+          let found = (point_good program owns parts_named local named.sub.result kept p.pos p.instr fine_there calls_there
+          (λ n actuals e. plainly (flow_sub own named) in_program (flow_at own named p) in_sub n actuals None e) a has).0 name moved in
           (found.1, seen p there name.root found.0 found.1)
 
       moves_known : (a : Act) → Has (acts (whole_acts p.instr)) a → (name : PlaceName) → Has (adds a) (Moved name) → Known p name.root

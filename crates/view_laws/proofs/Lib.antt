@@ -2,6 +2,7 @@ pub mod Acts
 pub mod Reports
 pub mod Enclosing
 pub mod Inner
+pub mod Calls
 pub mod Packages
 pub mod Facts
 pub mod Scoped

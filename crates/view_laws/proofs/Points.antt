@@ -1,6 +1,6 @@
 -- Borrowers and observers at the points of an accepted program: what they are declared and assigned with,
 -- what lasts as long as they do, and what is in scope where scopes end.
-use Rattle.std.proofs.Common.{◌≡◌, refl, sym, ap, ◌∙◌, subst, ◌⊎◌, inl, inr, ℕ, suc, ◌+◌, ◌<◌, ◌≤◌, Bool, true, false, cond, not, ◌&&◌, ◌||◌, ◌==◌, eqb-true, eq-eqb, List, [], ◌∷◌, ◌++◌, map, drop, length, arith, if◌then◌else◌, Some}
+use Rattle.std.proofs.Common.{◌≡◌, refl, sym, ap, ◌∙◌, subst, ◌⊎◌, inl, inr, ℕ, suc, ◌+◌, ◌<◌, ◌≤◌, Bool, true, false, cond, not, ◌&&◌, ◌||◌, ◌==◌, eqb-true, eq-eqb, List, [], ◌∷◌, ◌++◌, map, drop, length, arith, if◌then◌else◌, Some, None}
 use Rattle.std.specs.Prelude.{nat_lt}
 use Rattle.std.specs.Bool.{Decides}
 use Rattle.std.specs.List.{AllByRecursion, position_or_len}
@@ -46,7 +46,8 @@ use Rattle.layered_scopes.proofs.Layered.{sub_good}
 use Rattle.ready_laws.proofs.Subs.{setting_from}
 use Rattle.view_laws.specs.InOrder.{is_name_of, is_list_end, is_one_name_of, is_any, fits}
 use Rattle.view_laws.specs.Program.{IsViewProgram}
-use Rattle.view_laws.proofs.Acts.{leads_lasts, access_lasts, scalar_plain, instruction_good}
+use Rattle.view_laws.proofs.Acts.{leads_lasts, access_lasts, scalar_plain}
+use Rattle.view_laws.proofs.Calls.{point_good}
 use Rattle.view_laws.proofs.Reports.{unchanged, not_observed, observed_encloses, reborrowed_own}
 use Rattle.view_laws.proofs.Enclosing.{enclosing_less}
 use Rattle.view_laws.proofs.Scoped as scoped
@@ -331,8 +332,8 @@ module _ (table : Table) (typed : TypedProgram) (effects : Effects) (given : IsV
 
     pub changed_plain : (a : Placed) → Has at.acts a → (m : PlaceName) → changes a.act ≡ Some m → is_observer s m.root ≡ false
     changed_plain a h m e = elim (bool_cases (is_nil m.sels)) [
-      | inl empty ↦ (instruction_good s given.owns given.parts_named (λ x anonymous. (local x anonymous).0) named.sub.result kept p.pos p.instr fine_there
-          (scoped.nothing_there table typed effects given named has p there) a (subst (λ (z : Typing). Has (acts_here z) a) (sym same) h)).1 m e (nil_is m.sels empty)
+      | inl empty ↦ (point_good program given.owns given.parts_named (λ x anonymous. (local x anonymous).0) named.sub.result kept p.pos p.instr fine_there
+          (scoped.calls_there table typed effects given named has p there) (λ n actuals e. scoped.plainly table typed effects given sub in_program at in_sub n actuals None e) a (subst (λ (z : Typing). Has (acts_here z) a) (sym same) h)).1 m e (nil_is m.sels empty)
       | inr some ↦ unchanged program effects given.accepted.no_reports sub in_program at in_sub a h m e (ap not some)
     ]
 
@@ -358,10 +359,10 @@ module _ (table : Table) (typed : TypedProgram) (effects : Effects) (given : IsV
         (sub_good (setting_from own body.2 text) (is_older own typed.scopes) (fits own) layered.0 text
         (given.order.bodies text (scoped.in_subs table typed effects given text body.1)).settled layered.1)
 
-    formless : (x : ℕ) → Has named.sub.formals x → ⊥
-    formless x there =
+    formals_known : (x : ℕ) → Has named.sub.formals x → is_formal s x ≡ true
+    formals_known x there =
         let mine : Has (body.0).formals x = subst (λ (z : NamedSub). Has z.sub.formals x) (sym body.4) there in
-        true_false (is_formal s x) (ap (λ z. is_formal z x) same ∙ (given.order.local body.0 body.1).formals x mine) (given.unformed x)
+        ap (λ z. is_formal z x) same ∙ (given.order.local body.0 body.1).formals x mine
 
     module _ (p : NamedPoint) (there : Has named.points p) where
       above : Above p
@@ -405,7 +406,7 @@ module _ (table : Table) (typed : TypedProgram) (effects : Effects) (given : IsV
       older_there : (x : ℕ) (q : Pos) (y : ℕ) (path : TypedTree) (u : ℕ) → is_anonymous (view_of s x) ≡ true → is_observer own x || nat_lt y x ≡ true
           → p.instr ≡ Declare x (More (Name q y path u) NoMore) → is_observer s x ≡ false → (is_observer s y ≡ false) × (y < x)
       older_there x q y path u anonymous test is none = (
-        not_observed program effects given.accepted.no_reports (flow_sub own named) (in_program named has p there) formless here (in_sub named has p there)
+        not_observed program effects given.accepted.no_reports (flow_sub own named) (in_program named has p there) formals_known here (in_sub named has p there)
             (placed q (act.Borrow x (name_of y path)))
             (act_has (Declare x (More (Name q y path u) NoMore)) is (placed q (act.Borrow x (name_of y path))) (borrow_there s x q y path u (borrows x anonymous none)))
             x (name_of y path) refl,

@@ -8,9 +8,13 @@ use Rattle.place_names.specs.declared.rule.Rule.TheVariants as rule
 use Rattle.place_names.specs.declared.selector.Sel.{Sel}
 use Rattle.place_names.specs.declared.selector.Sel.TheVariants as sel
 use Rattle.place_names.specs.Names.{Name as PlaceName, extend}
+use Rattle.type_definitions.specs.declared.judgement.View.{View}
+use Rattle.type_definitions.specs.declared.judgement.View.TheVariants as view
 use Rattle.type_definitions.specs.Types.{is_nil}
+use Rattle.typed_tree.specs.declared.object.ObjectKind.{ObjectKind}
+use Rattle.typed_tree.specs.declared.object.ObjectKind.TheVariants as object_kind
 use Rattle.flow_paths.specs.declared.report.Effects.{Effects}
-use Rattle.flow_paths.specs.Objects.{Typing, is_observer, traverses}
+use Rattle.flow_paths.specs.Objects.{Typing, is_observer, traverses, object_at, is_variable, is_formal_kind, is_formal, is_observing, is_borrowing, view_of}
 use Rattle.flow_paths.specs.Points.{FlowPoint}
 use Rattle.flow_paths.specs.Laid.{FlowSub, FlowProgram, flow_typing}
 use Rattle.flow_paths.specs.Limits.{source_pos}
@@ -24,6 +28,26 @@ by_false false none = absurd (none refl)
 by_true : (b : Bool) → (b ≡ true → ⊥) → b ≡ false
 by_true true none = absurd (none refl)
 by_true false none = refl
+
+-- a view is a borrower or an observer
+one_kind : (v : View) → is_borrowing v ≡ true → is_observing v ≡ true → ⊥
+one_kind (view.Access d true true) borrows sees = cc
+one_kind (view.Access d true false) borrows sees = cc
+one_kind (view.Access d false true) borrows sees = cc
+one_kind (view.Access d false false) borrows sees = cc
+one_kind _ borrows sees = cc
+
+no_kind : (k : ObjectKind) → is_variable k ≡ true → is_formal_kind k ≡ true → ⊥
+no_kind object_kind.Variable is other = cc
+no_kind _ is other = cc
+
+first : (a b : Bool) → a && b ≡ true → a ≡ true
+first true b e = refl
+first false b e = cc
+
+second : (a b : Bool) → a && b ≡ true → b ≡ true
+second true b e = e
+second false b e = cc
 
 some_more : (xs : List Sel) (x : Sel) → not (is_nil (xs ++ x ∷ [])) ≡ true
 some_more [] x = refl
@@ -49,10 +73,10 @@ module _ (program : FlowProgram) (effects : Effects) (accepted : AreReports prog
       (λ sees. accepted.complete (text_report a.pos rule.V1 m)
       (on_views sub there (changed p a m (point, has) e (of_observer (both (is_observer s m.root) (has_selector m) sees parted)))))
 
-  -- V1: what is borrowed isn't named through an observer, where there are no formals.
-  pub not_observed : ((x : ℕ) → Has sub.formals x → ⊥) → (p : FlowPoint) → Has sub.points p → (a : Placed) → Has p.acts a → (h : ℕ) (m : PlaceName)
+  -- V1: what is borrowed isn't named through an observer.
+  pub not_observed : ((x : ℕ) → Has sub.formals x → is_formal s x ≡ true) → (p : FlowPoint) → Has sub.points p → (a : Placed) → Has p.acts a → (h : ℕ) (m : PlaceName)
       → a.act ≡ act.Borrow h m → is_observer s m.root ≡ false
-  not_observed formless p point a has h m e =
+  not_observed formals p point a has h m e =
       by_true (is_observer s m.root)
       (λ sees. accepted.complete (text_report a.pos rule.V1 m)
       (on_views sub there (lent p a m (point, has) (ap lends e)
@@ -60,8 +84,13 @@ module _ (program : FlowProgram) (effects : Effects) (accepted : AreReports prog
       (λ may. never sees (subst (λ z. MayBorrow s sub z) e may)))))
     where
       never : is_observer s m.root ≡ true → MayBorrow s sub (act.Borrow h m) → ⊥
-      never sees (directly h' f m' gives traversed root) = formless f (has_first sub.formals (traverses s.table sub.result) f traversed)
-      never sees (through h' f m' gives traversed borrows only) = formless f (has_first sub.formals (traverses s.table sub.result) f traversed)
+      never sees (directly h' f m' gives traversed root) =
+          no_kind (object_at s f).kind
+          (first (is_variable (object_at s f).kind) (is_observing (view_of s f)) (subst (λ z. is_observer s z ≡ true) root sees))
+          (formals f (has_first sub.formals (traverses s.table sub.result) f traversed))
+      never sees (through h' f m' gives traversed borrows only) =
+          one_kind (view_of s m.root) (second (is_variable (object_at s m.root).kind) (is_borrowing (view_of s m.root)) borrows)
+          (second (is_variable (object_at s m.root).kind) (is_observing (view_of s m.root)) sees)
 
   -- V2: what an observer is assigned lasts as long as it does.
   pub observed_encloses : (p : FlowPoint) → Has sub.points p → (at : Pos) (h : ℕ) (m : PlaceName) (from : Bool)

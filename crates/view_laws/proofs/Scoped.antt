@@ -1,7 +1,7 @@
 -- Of an accepted program with borrowers and observers whose subprograms are in order: what is in scope at
 -- its points, its main procedure, and that no fact speaks of an object that is declared. (As in
 -- `ready_laws`, but with views.)
-use Rattle.std.proofs.Common.{◌≡◌, refl, sym, ap, ◌∙◌, subst, ◌⊎◌, inl, inr, ℕ, suc, ◌≤◌, ◌<◌, Bool, true, false, not, ◌||◌, List, [], ◌∷◌, length, get_or, arith, None, Some}
+use Rattle.std.proofs.Common.{◌≡◌, refl, sym, ap, ◌∙◌, subst, ◌⊎◌, inl, inr, ℕ, suc, ◌≤◌, ◌<◌, Bool, true, false, not, ◌||◌, List, [], ◌∷◌, length, get_or, arith, Option, None, Some}
 use Rattle.std.specs.Prelude.{reverse}
 use Rattle.std.proofs.lemmas.List.{length-map}
 use Rattle.spark_base.specs.Lists.{Has}
@@ -14,7 +14,7 @@ use Rattle.type_definitions.specs.Types.{Table, is_owning}
 use Rattle.typed_tree.specs.Trees.{TypedTree, Name}
 use Rattle.typed_tree.specs.Programs.{TypedSub, TypedProgram}
 use Rattle.flow_paths.specs.declared.report.Effects.{Effects}
-use Rattle.flow_paths.specs.Instructions.{Instruction, Declare, Assign, Input, Release, EndScope, Finish}
+use Rattle.flow_paths.specs.Instructions.{Instruction, Declare, Assign, Input, Release, EndScope, Finish, Call}
 use Rattle.flow_paths.specs.Objects.{Typing, object_at, is_variable, is_anonymous, is_formal, is_package_object, has_scope_end, view_of}
 use Rattle.flow_paths.specs.Points.{NamedPoint, FlowPoint}
 use Rattle.flow_paths.specs.Laid.{FlowSub, FlowProgram, NamedSub, unnumbered, named_sub, named_subs, elaborated, all_named, sub_temporaries, kept_roots, sub_facts, sub_points, elaboration_points, number_in, flow_sub, typing_of, flow_typing, flow_program, flow_named}
@@ -25,24 +25,23 @@ use Rattle.flow_paths.specs.Effects.{path_points}
 use Rattle.flow_paths.specs.Scopes.{is_within, is_ready}
 use Rattle.machine.specs.States.{sub_of}
 use Rattle.machine.specs.Typed.{successors}
-use Rattle.soundness.specs.Sound.{IsNamedSub, IsProcedure, calls_nothing, calls_procedures}
-use Rattle.soundness.specs.Ready.{root_of, stored_at, AreScoped, AreNew, AreElaborated}
+use Rattle.soundness.specs.Sound.{IsNamedSub, IsProcedure, calls_procedures}
+use Rattle.soundness.specs.Ready.{root_of, stored_at, AreScoped, AreNew, AreElaborated, AreCalled}
 use Rattle.soundness.proofs.Points.{IsLaid, all_laid, flow_at, typing_same, sub_there, named_has}
 use Rattle.scope_laws.specs.Code.{roots, are_seen}
 use Rattle.scope_laws.specs.Order.{IsCounted, IsOrdered, named_in, IsSeen}
-use Rattle.scope_laws.proofs.Lists.{and_first, and_second, all_has}
+use Rattle.scope_laws.proofs.Lists.{and_first, and_second, all_has, has_reverse, within_has}
 use Rattle.scope_laws.proofs.Successors.{sub_counted, has_first}
 use Rattle.scope_laws.proofs.Ordered.{sub_ordered, package_ordered}
 use Rattle.scope_laws.proofs.Seen.{sub_seen}
 use Rattle.ready_laws.specs.InOrder.{own_nothing, IsSub}
-use Rattle.ready_laws.proofs.Temporaries.{no_temporaries}
+use Rattle.ready_laws.proofs.Temporaries.{few_temporaries}
 use Rattle.ready_laws.proofs.Elaborated.{Declares, package_declares, owns_none}
 use Rattle.ready_laws.proofs.Subs.{setting_from, IsOfBody, named_cases, body_at, one_named}
-use Rattle.soundness.proofs.Successors.{nothing_procedures}
 use Rattle.typed_laws.specs.Needed.{IsFine}
 use Rattle.view_laws.specs.InOrder.{no_views}
 use Rattle.view_laws.specs.Program.{IsViewProgram}
-use Rattle.view_laws.proofs.Acts.{instruction_good}
+use Rattle.view_laws.proofs.Calls.{AreReadCalls, point_good}
 use Rattle.view_laws.proofs.Packages.{IsPlain, package_plain, no_view}
 use Rattle.view_laws.proofs.Facts.{new_there}
 
@@ -91,7 +90,7 @@ module _ (table : Table) (typed : TypedProgram) (effects : Effects) (given : IsV
   own = typing_of table typed
 
   pub objects : program.objects ≡ typed.objects
-  objects = no_temporaries table typed given.no_calls
+  objects = few_temporaries table typed given.calls
 
   pub same : s ≡ own
   same = typing_same table typed objects
@@ -103,12 +102,9 @@ module _ (table : Table) (typed : TypedProgram) (effects : Effects) (given : IsV
   unfolding flow_program
   in_program named has = Has-map (flow_sub own) (flow_named table typed) named has
 
-  pub nothing_there : (named : NamedSub) → Has (flow_named table typed) named → (p : NamedPoint) → Has named.points p → calls_nothing p.instr ≡ true
-  nothing_there named has p there =
-      given.no_calls (flow_sub own named) (in_program named has) (flow_at own named p) (Has-map (λ (q : NamedPoint). flow_at own named q) named.points p there)
-
   pub calls_there : (named : NamedSub) → Has (flow_named table typed) named → (p : NamedPoint) → Has named.points p → calls_procedures p.instr ≡ true
-  calls_there named has p there = nothing_procedures p.instr (nothing_there named has p there)
+  calls_there named has p there =
+      given.calls (flow_sub own named) (in_program named has) (flow_at own named p) (Has-map (λ (q : NamedPoint). flow_at own named q) named.points p there)
 
   pub fine_there : (named : NamedSub) → Has (flow_named table typed) named → (p : NamedPoint) → Has named.points p → IsFine s named.sub.result p.instr
   fine_there named has p there =
@@ -173,14 +169,6 @@ module _ (table : Table) (typed : TypedProgram) (effects : Effects) (given : IsV
       (sub_seen (is_package_object own) (setting_from own n sub) sub (given.order.local sub has).seen)
       (subst (λ (z : NamedSub). Has z.points p) (sym e) there)
 
-  pub no_formals : (sub : TypedSub) → Has given.order.rest sub → sub.formals ≡ []
-  no_formals sub has = none sub.formals (given.order.local sub has).formals
-    where
-      none : (xs : List ℕ) → ((x : ℕ) → Has xs x → is_formal own x ≡ true) → xs ≡ []
-      none [] are = refl
-      none (x ∷ xs) are =
-          absurd (let both : true ≡ false = sym (are x (inl refl)) ∙ ap (λ z. is_formal z x) (sym same) ∙ given.unformed x in cc)
-
   -- ---- scopes
 
   two_texts : (i : Instruction) (x y : ℕ) (v : TypedTree) → i ≡ Declare x v → i ≡ EndScope y → ⊥
@@ -214,11 +202,11 @@ module _ (table : Table) (typed : TypedProgram) (effects : Effects) (given : IsV
       → (x : ℕ) → is_within x p.scope ≡ true → is_formal s x ≡ true
   finishes_there named has p there is x within = elim (cases named has) [
     | inl e ↦ (let declared = declares named e p there (calls_there named has p there) in absurd (no_finish p.instr declared.0 declared.1 declared.2 is))
-    | inr b ↦ absurd (none_within x (subst (λ z. is_within x z ≡ true) ((body_is_ordered named b p there).finishes is ∙ ap reverse (no_formals b.0 b.1)) within))
+    | inr b ↦ (
+        let scope : p.scope ≡ reverse (b.0).formals = (body_is_ordered named b p there).finishes is in
+        ap (λ z. is_formal z x) same
+        ∙ (given.order.local b.0 b.1).formals x (has_reverse (b.0).formals x (within_has x (reverse (b.0).formals) (subst (λ z. is_within x z ≡ true) scope within))))
   ]
-    where
-      none_within : (x : ℕ) → is_within x [] ≡ true → ⊥
-      none_within x e = cc
 
   pub are_scoped : AreScoped table typed
   are_scoped = record {
@@ -269,6 +257,55 @@ module _ (table : Table) (typed : TypedProgram) (effects : Effects) (given : IsV
   pub has_main : IsProcedure table typed (suc given.order.number)
   has_main = is_procedure given.order.number given.order.main given.order.stands given.order.procedure
 
+  -- ---- calls
+
+  -- what is called, by its number among the bodies
+  module _ (k : ℕ) (callee : TypedSub) (is_sub : IsSub given.order.rest k callee) where
+    is_there : sub_of program (suc k) ≡ flow_sub own (named_sub own (layout_at k callee is_sub).0 (sub_temporaries own callee) callee)
+    is_there =
+        let there = layout_at k callee is_sub in
+        sub_there table typed (suc k) (named_sub own there.0 (sub_temporaries own callee) callee)
+        (subst (λ subs. IsNamedSub (all_named own subs) (suc k) (named_sub own there.0 (sub_temporaries own callee) callee)) (sym given.order.subs) there.1)
+
+    formals_at : (x : ℕ) → Has (sub_of program (suc k)).formals x → is_formal s x ≡ true
+    formals_at x has =
+        ap (λ z. is_formal z x) same
+        ∙ (given.order.local callee (sub_in given.order.rest k callee is_sub)).formals x (subst (λ xs. Has xs x) (ap (λ (z : FlowSub). z.formals) is_there) has)
+
+    result_at : callee.result ≡ None → (sub_of program (suc k)).result ≡ None
+    result_at none = ap (λ (z : FlowSub). z.result) is_there ∙ none
+
+  -- its formals are known as such
+  formals_known : (sub : FlowSub) → Has program.subs sub → (p : FlowPoint) → Has sub.points p → (n : ℕ) (actuals : TypedTree) (result : Option ℕ)
+      → p.instr ≡ Call n actuals result → (x : ℕ) → Has (sub_of program n).formals x → is_formal s x ≡ true
+  formals_known sub has p there n actuals result is x formal =
+      let found = given.callees sub has p there n actuals result is in
+      formals_at found.0 found.1 found.3 x (subst (λ m. Has (sub_of program m).formals x) found.2 formal)
+
+  pub plainly : AreReadCalls program given.owns
+  plainly sub has p there n actuals result is =
+      let found = given.callees sub has p there n actuals result is in
+      let known = formals_known sub has p there n actuals result is in
+      record {
+        plain = record {
+          result = ap (λ m. (sub_of program m).result) found.2 ∙ result_at found.0 found.1 found.3 found.4;
+          formals = λ x formal. (given.formals x (known x formal)).1;
+          actuals_stay = given.passed sub has p there n actuals result is known;
+        };
+        inward = λ x formal. (given.formals x (known x formal)).0;
+      }
+
+  pub are_called : AreCalled table typed
+  are_called sub has p there n actuals result is =
+      let found = given.callees sub has p there n actuals result is in
+      let known = formals_known sub has p there n actuals result is in
+      record {
+        procedure = subst (IsProcedure table typed) (sym found.2) (is_procedure found.0 found.1 found.3 found.4);
+        formals = known;
+        actuals_stay = given.passed sub has p there n actuals result is known;
+        text_io = ap (λ z. is_package_object z 0) same ∙ given.order.text_io;
+      }
+
   -- ---- facts
 
   abbrev IsNewIn : FlowSub → Type 0
@@ -297,10 +334,10 @@ module _ (table : Table) (typed : TypedProgram) (effects : Effects) (given : IsV
 
   new_in : (named : NamedSub) → Has (flow_named table typed) named → IsNewIn (flow_sub own named)
   new_in named has = elim (cases named has) [
-    | inl e ↦ new_there table typed effects given.no_calls given.owns given.parts_named given.accepted.fine objects given.accepted.effects_are (λ x anonymous. (local x anonymous).0) named has
+    | inl e ↦ new_there table typed effects given.calls given.owns given.parts_named given.accepted.fine objects given.accepted.effects_are (λ x anonymous. (local x anonymous).0) plainly named has
         (laid named has) IsNumbered (λ x. ⊥) (reverse given.order.first.formals)
         (λ x what out. out) (package_is_ordered named e) (λ p there x names lasts. absurd (names_none named has e p there x names lasts))
-    | inr b ↦ new_there table typed effects given.no_calls given.owns given.parts_named given.accepted.fine objects given.accepted.effects_are (λ x anonymous. (local x anonymous).0) named has
+    | inr b ↦ new_there table typed effects given.calls given.owns given.parts_named given.accepted.fine objects given.accepted.effects_are (λ x anonymous. (local x anonymous).0) plainly named has
         (laid named has) IsOwn (λ x. is_package_object own x ≡ true)
         (reverse (b.0).formals) (λ x what out. (let both : false ≡ true = sym what.1 ∙ out in cc)) (body_is_ordered named b)
         (λ p there x names lasts. seen_has (is_package_object own) p.scope (named_in p.instr) x (body_is_seen named b p there) names)
@@ -341,8 +378,10 @@ module _ (table : Table) (typed : TypedProgram) (effects : Effects) (given : IsV
       unmoved_there p has a acts name moved =
           let q = package_point p has in
           let kept : List ℕ = kept_roots own 0 own.objects (sub_facts own given.order.first packages.points) in
-          let found = (instruction_good s given.owns given.parts_named (λ x anonymous. (local x anonymous).0) given.order.first.result kept (q.0).pos (q.0).instr
-          (fine_there packages packages_in q.0 q.1) (nothing_there packages packages_in q.0 q.1) a
+          let found = (point_good program given.owns given.parts_named (λ x anonymous. (local x anonymous).0) given.order.first.result kept (q.0).pos (q.0).instr
+          (fine_there packages packages_in q.0 q.1) (calls_there packages packages_in q.0 q.1)
+          (λ n actuals e. plainly (flow_sub own packages) (in_program packages packages_in) (flow_at own packages q.0)
+          (Has-map (λ (z : NamedPoint). flow_at own packages z) packages.points q.0 q.1) n actuals None e) a
           (subst (λ (z : Typing). Has (acts_of (record { typing = z; result = given.order.first.result; roots = kept }) (q.0).pos (q.0).instr) a) (sym same)
           (subst (λ (z : FlowPoint). Has z.acts a) (sym q.2) acts))).0 name moved in
           names_none packages packages_in refl q.0 q.1 name.root found.0 found.1

@@ -24,14 +24,15 @@ use Rattle.machine.specs.Evaluate.{Here, Now, AsValue, part_type, parts_of, Eval
 use Rattle.machine.specs.Evaluate as run
 use Rattle.machine.specs.Typed.{tree_count, field_count, is_record, is_array}
 use Rattle.machine.specs.States.{Waiting, Leak}
-use Rattle.owned_ways.specs.Ways.{Step, OfVariable, OfHand, Loc, OfRoot, OfCell, Inside, Way, Object, Lost, Into, All, Word, Empty, Reaches, IsRooted, Named, Spares, Allows, after, AllowsAll, Owned, IsSame, number_of}
+use Rattle.owned_ways.specs.Ways.{Step, OfVariable, OfHand, Loc, OfRoot, OfCell, Inside, Way, Object, Lost, Into, All, Word, Empty, Reaches, IsRooted, Under, Named, Spares, Allows, after, AllowsAll, Owned, IsSame, number_of}
 use Rattle.owned_ways.specs.Ways as ways
 use Rattle.owned_ways.proofs.Assigned.{named_rooted}
 use Rattle.part_offsets.specs.Parts.{type_in, offset_in, has_part, owns_one, is_leaf, IsSettled}
-use Rattle.soundness.specs.Seen.{in_hand, owner_word, content, trunk, word_in, seen, home, is_view_formal}
+use Rattle.soundness.specs.Seen.{IsNear, in_hand, owner_word, content, trunk, word_in, seen, home, is_view_formal}
 use Rattle.soundness.specs.Changes.{Alike as AlikeTypes}
 use Rattle.soundness.specs.Typed.{Matches, OwnsByShape, Kept, Spot}
 use Rattle.typed_laws.specs.Needed.{Stays, Gives, GivesParts, GivesFirst, IndexLaw}
+use Rattle.soundness.proofs.Near.{named_near, near_under}
 use Rattle.soundness.proofs.Contents.{bool_cases, word_yes, word_no}
 use Rattle.soundness.proofs.Steps.{no_leaf, plain_shape, matches_words, room, taken_slots, alike}
 use Rattle.soundness.proofs.Defaults.{NoCell, none_default, none_repeated, blank_word}
@@ -44,7 +45,7 @@ use Rattle.soundness.proofs.Scalars.{after_append, allows_both, acts, acts_appen
 use Rattle.soundness.proofs.Stays.{Quiet, One}
 use Rattle.soundness.proofs.Fading.{Fades, FadesTo, fades}
 use Rattle.soundness.proofs.Evaluated.{regrouped, changed_hand, blank_hand, Keeps}
-use Rattle.owned_loans.specs.Views.{Views, expand, ExcusedBy, Viewed}
+use Rattle.owned_loans.specs.Views.{Around, Views, expand, ExcusedBy, Viewed}
 use Rattle.owned_loans.proofs.Allowed.{read_open, move_open}
 use Rattle.owned_loans.proofs.Moves.{named_way, as_sound, same_viewed}
 use Rattle.viewed_soundness.specs.Holds.{IsNamed, PartsAreNamed, Holds, KeepsObserved, AllKeep}
@@ -72,8 +73,8 @@ part_named table named t i (shape.Listed l a b) e made = cc
 part_named table named t i (shape.Access d c n) e made = cc
 part_named table named t i (shape.Same of) e made = cc
 
-module _ (h : Here) (settled : IsSettled h.typing.table) (leaks : List Leak) (waits : List (List machine.Word)) (other : Way → Type 0)
-    (alone : (w : Way) → other w → ⊥) (keeps : Keeps h.typing)
+module _ (h : Here) (settled : IsSettled h.typing.table) (leaks : List Leak) (waits : List (List machine.Word)) (other : Around (home h.typing h.frame))
+    (alone : (w : Way) → IsNear h.frame w → other.gone w → ⊥) (keeps : Keeps h.typing)
     (no_formals : (x : ℕ) → is_view_formal h.typing x ≡ false) (index_law : IndexLaw) (own_law : OwnsByShape h.typing.table)
     (v : Views) (parts_named : PartsAreNamed h.typing.table) where
   pub record Ready (m : Memory) (hands : List Waiting) (facts : List Fact) : Type 0 where
@@ -99,8 +100,12 @@ module _ (h : Here) (settled : IsSettled h.typing.table) (leaks : List Leak) (wa
   live_trunk m hands owned (All w) l n (k, c, r, held, e) =
       ap (λ z. (content h.typing m hands (trunk z)).owns) e ∙ ap not (owned.live k c held)
 
-  spared : (w : Way) → Spares other w
-  spared w v u o = alone v o
+  spared : (w : Way) → Named (home h.typing h.frame) w → Spares other.gone w
+  spared w named v u o = alone v (near_under h.frame w v u (named_near h.typing h.frame w named)) o
+
+  -- nor has one of a hand
+  spared_hand : (k : ℕ) (w : Way) → Under (Object (OfHand k)) w → other.gone w → ⊥
+  spared_hand k w under o = alone w (near_under h.frame (Object (OfHand k)) w under tt) o
 
   -- a scalar value
   pub scalar_given : (m : Memory) (hands : List Waiting) (facts facts' : List Fact) (want : ℕ) → Ready m hands facts → facts ≡ facts'
@@ -194,7 +199,7 @@ module _ (h : Here) (settled : IsSettled h.typing.table) (leaks : List Leak) (wa
       (sym (ap (is_owning h.typing.table) of ∙ owns)) (
         subst (λ z. Viewed (home h.typing h.frame) (is_observer h.typing) other v (seen h.typing (moved_out h.typing k m) (record { of = z; words = words_of h.typing m k } ∷ hands) leaks)
             (effect (act.Move (ways.name_of u) (parts h.typing.table z)) facts)) of
-            (taken_viewed h.typing settled (home h.typing h.frame) (is_observer h.typing) other v m hands leaks facts k l u ready.viewed (spared (expand v u)) ready.kept spot
+            (taken_viewed h.typing settled (home h.typing h.frame) (is_observer h.typing) other v m hands leaks facts k l u ready.viewed (spared (expand v u) rooted) ready.kept spot
             named plain reaches
             (live_trunk m hands ready.viewed.owned (expand v u) l (named_rooted (home h.typing h.frame) (expand v u) rooted) reaches)
             (subst (λ z. Allows facts (act.Move (ways.name_of u) (parts h.typing.table z))) (sym of) allowed)),
@@ -278,7 +283,7 @@ module _ (h : Here) (settled : IsSettled h.typing.table) (leaks : List Leak) (wa
               facts ready.viewed
               (made_sound h.typing settled k.memory t want ws hands leaks long own (home h.typing h.frame) (ExcusedBy (home h.typing h.frame) v other facts) []
               (hands_spared (home h.typing h.frame) (is_observer h.typing) other v
-              (seen h.typing k.memory (record { of = t; words = ws } ∷ record { of = want; words = [] } ∷ hands) leaks) facts ready.viewed alone)
+              (seen h.typing k.memory (record { of = t; words = ws } ∷ record { of = want; words = [] } ∷ hands) leaks) facts ready.viewed spared_hand)
               (as_sound (home h.typing h.frame) (is_observer h.typing) other v
               (seen h.typing k.memory (record { of = t; words = ws } ∷ record { of = want; words = [] } ∷ hands) leaks) facts ready.viewed))
               (with_cell h.typing k.memory t ws (record { of = t; words = ws } ∷ record { of = want; words = [] } ∷ hands)
@@ -359,7 +364,7 @@ module _ (h : Here) (settled : IsSettled h.typing.table) (leaks : List Leak) (wa
         (subst (AlikeTypes h.typing.table u) (sym is) (alike h.typing.table settled u u (inl refl)))
         (home h.typing h.frame) (ExcusedBy (home h.typing h.frame) v other facts) []
         (hands_spared (home h.typing h.frame) (is_observer h.typing) other v
-        (seen h.typing m (record { of = u; words = ws } ∷ record { of = t; words = acc } ∷ hands) leaks) facts ready.viewed alone)
+        (seen h.typing m (record { of = u; words = ws } ∷ record { of = t; words = acc } ∷ hands) leaks) facts ready.viewed spared_hand)
         (as_sound (home h.typing h.frame) (is_observer h.typing) other v
         (seen h.typing m (record { of = u; words = ws } ∷ record { of = t; words = acc } ∷ hands) leaks) facts ready.viewed))
         (other_hands h.typing m (record { of = u; words = ws } ∷ record { of = t; words = acc } ∷ hands)

@@ -15,7 +15,7 @@ use Rattle.machine.specs.Words as machine
 use Rattle.machine.specs.Memory.{Slot, Memory, HeapCell, Place, fresh, cell, no_slot, slots_at, slots_of, words_of, gone_at, stored, moved_out, undeclared, with_new_cell}
 use Rattle.machine.specs.Calls.{checked_at}
 use Rattle.machine.specs.States.{Waiting, Leak}
-use Rattle.owned_ways.specs.Ways.{Step, OfVariable, OfHand, Loc, OfRoot, OfCell, Inside, Way, Object, Lost, Into, All, Gone, View, Reaches, Owned, part, along, Named, Spares, Allows, Sound, sels_of, name_of, sel_of, base_of, number_of}
+use Rattle.owned_ways.specs.Ways.{Step, OfVariable, OfHand, Loc, OfRoot, OfCell, Inside, Way, Object, Lost, Into, All, Gone, View, Reaches, Owned, part, along, Under, Named, Spares, Allows, Sound, sels_of, name_of, sel_of, base_of, number_of}
 use Rattle.owned_ways.proofs.Assigned.{named_rooted}
 use Rattle.owned_ways.proofs.Locations.{under_along, under_itself, named_along, reaches_along}
 use Rattle.part_offsets.specs.Parts.{type_in, offset_in, is_leaf, sels_along, IsSettled}
@@ -27,7 +27,7 @@ use Rattle.soundness.proofs.Contents.{bool_cases, word_yes, word_part, stored_st
 use Rattle.soundness.proofs.Steps.{content_slots, put_count, put_freed, alike, stores, takes}
 use Rattle.soundness.proofs.Ends.{drops, new_other}
 use Rattle.soundness.proofs.Moments.{number_part}
-use Rattle.owned_loans.specs.Views.{Views, expand, ExcusedBy, Viewed}
+use Rattle.owned_loans.specs.Views.{Around, Views, expand, ExcusedBy, Viewed}
 use Rattle.owned_loans.proofs.Meeting.{IsPlain}
 use Rattle.owned_loans.proofs.Safe.{clean_below}
 use Rattle.owned_loans.proofs.Allowed.{move_unlent, move_unmoved}
@@ -58,7 +58,23 @@ still_reaches home s t owned same (Into w i) l n (m, reach, e) = (m, still_reach
 still_reaches home s t owned same (All w) l n (m, c, reach, held, e) =
     (m, c, still_reaches home s t owned same w m n reach, same m (old_reached home s owned w m n reach) ∙ held, e)
 
-module _ (home : ℕ → ℕ) (observer : ℕ → Bool) (other : Way → Type 0) (v : Views) where
+-- the same for a way from any variable
+far_old : (s : View) → Owned s → (w : Way) (l : Loc) (f x : ℕ) → base_of w ≡ OfRoot (OfVariable f x) → Reaches s w l → IsOld s l
+far_old s owned (Object (OfVariable g y)) l f x base r = subst (IsOld s) (sym r) tt
+far_old s owned (Object (OfHand h)) l f x base r = cc
+far_old s owned (Lost c) l f x base r = cc
+far_old s owned (Into w i) l f x base (m, r, e) = subst (IsOld s) (sym e) (far_old s owned w m f x base r)
+far_old s owned (All w) l f x base (m, c, r, held, e) = subst (IsOld s) (sym e) (owned.within m c held)
+
+far_reaches : (s t : View) → Owned s → ((l : Loc) → IsOld s l → t.word l ≡ s.word l) → (w : Way) (l : Loc) (f x : ℕ) → base_of w ≡ OfRoot (OfVariable f x)
+    → Reaches s w l → Reaches t w l
+far_reaches s t owned same (Object r) l f x base reach = reach
+far_reaches s t owned same (Lost c) l f x base reach = cc
+far_reaches s t owned same (Into w i) l f x base (m, reach, e) = (m, far_reaches s t owned same w m f x base reach, e)
+far_reaches s t owned same (All w) l f x base (m, c, reach, held, e) =
+    (m, c, far_reaches s t owned same w m f x base reach, same m (far_old s owned w m f x base reach) ∙ held, e)
+
+module _ (home : ℕ → ℕ) (observer : ℕ → Bool) (other : Around home) (v : Views) where
   -- nothing changes for views where the words of variables and cells stay
   pub from_sound : (s t : View) (facts : List Fact) → Viewed home observer other v s facts → Sound home (ExcusedBy home v other facts) t []
       → ((l : Loc) → IsOld s l → t.word l ≡ s.word l) → Viewed home observer other v t facts
@@ -70,13 +86,14 @@ module _ (home : ℕ → ℕ) (observer : ℕ → Bool) (other : Way → Type 0)
     views = λ x w has. (let view = viewed.views x w has in
         view_on home observer other v s t facts facts x w view (λ seen n loan. loan)
         (still_reaches home s t viewed.owned same w (OfCell (v.cell x)) (view_named home observer other v s facts viewed.views x w has) view.reaches));
+    far = λ w n keeps. (let root = other.begins w n keeps in far_reaches s t viewed.owned same w (OfCell n) root.0 root.1 root.2 (viewed.far w n keeps));
   }
 
   -- nothing that is known of a name is of a hand
-  pub hands_spared : (s : View) (facts : List Fact) → Viewed home observer other v s facts → ((w : Way) → other w → ⊥)
+  pub hands_spared : (s : View) (facts : List Fact) → Viewed home observer other v s facts → ((h : ℕ) (w : Way) → Under (Object (OfHand h)) w → other.gone w → ⊥)
       → (h : ℕ) → Spares (ExcusedBy home v other facts) (Object (OfHand h))
   hands_spared s facts viewed alone h w under (inl moved) = no_hand home observer other v s facts viewed (Object (OfHand h)) w tt under moved
-  hands_spared s facts viewed alone h w under (inr o) = alone w o
+  hands_spared s facts viewed alone h w under (inr o) = alone h w under o
 
 -- the words of variables and cells, with other hands
 pub other_hands : (s : Typing) (m : Memory) (a b : List Waiting) (leaks : List Leak) (l : Loc) → IsOld (seen s m a leaks) l
@@ -130,10 +147,10 @@ whole_slots s m k slots = take k.at (slots_at s m k.base) ++ slots ++ drop (k.at
 abbrev gone_slots : Typing → Memory → Place → List Slot
 gone_slots s m k = whole_slots s m k (gone_at (access_offsets s.table k.of) (slots_of s m k))
 
-module _ (s : Typing) (settled : IsSettled s.table) (home : ℕ → ℕ) (observer : ℕ → Bool) (other : Way → Type 0) (v : Views) where
+module _ (s : Typing) (settled : IsSettled s.table) (home : ℕ → ℕ) (observer : ℕ → Bool) (other : Around home) (v : Views) where
   -- nothing else concerns a hand
   abbrev pub Hands : Type 0
-  Hands = (h : ℕ) → Spares other (Object (OfHand h))
+  Hands = (h : ℕ) → Spares other.gone (Object (OfHand h))
 
   same_leaks : (m : Memory) (hands : List Waiting) (k : Place) (l : Loc) (pos : Pos) → Spot s m hands k l
       → checked_at pos (offset_in s.table (content s m hands (trunk l)).of (steps_in l)) (content s m hands (trunk l)).slots (access_offsets s.table k.of)
@@ -171,7 +188,7 @@ module _ (s : Typing) (settled : IsSettled s.table) (home : ℕ → ℕ) (observ
   -- ---- what a name has is taken, by the act Move
 
   pub taken_viewed : (m : Memory) (rest : List Waiting) (leaks : List Leak) (facts : List Fact) (k : Place) (l : Loc) (u : Way)
-      → Viewed home observer other v (seen s m rest leaks) facts → Spares other (expand v u) → Kept s m rest → Spot s m rest k l
+      → Viewed home observer other v (seen s m rest leaks) facts → Spares other.gone (expand v u) → Kept s m rest → Spot s m rest k l
       → Named home u → observer (number_of u) ≡ false → Reaches (seen s m rest leaks) (expand v u) l → (content s m rest (trunk l)).owns ≡ true
       → Allows facts (Move (name_of u) (parts s.table k.of))
       → Viewed home observer other v (seen s (moved_out s k m) (record { of = k.of; words = words_of s m k } ∷ rest) leaks)
@@ -222,8 +239,8 @@ module _ (s : Typing) (settled : IsSettled s.table) (home : ℕ → ℕ) (observ
 
   pub ended_viewed : (m : Memory) (rest : List Waiting) (leaks leaks' : List Leak) (facts : List Fact) (x : ℕ) (borrower : Bool)
       → Viewed home observer other v (seen s m rest leaks) facts → Checks s.table (content s m rest (OfRoot (OfVariable (home x) x))) [] leaks leaks'
-      → Leaves home observer other v x (effect (EndScope x borrower) facts) → ((w : Way) → other w → number_of w ≡ x → ⊥)
+      → Leaves home observer other v x (effect (EndScope x borrower) facts)
       → Viewed home observer other v (seen s (undeclared (home x) x m) rest leaks') (effect (EndScope x borrower) facts)
-  ended_viewed m rest leaks leaks' facts x borrower viewed checks leaves apart =
+  ended_viewed m rest leaks leaks' facts x borrower viewed checks leaves =
       ended home observer other v (seen s m rest leaks) (seen s (undeclared (home x) x m) rest leaks') x borrower facts viewed
-      (drops s m (home x) x rest leaks leaks' checks) leaves apart
+      (drops s m (home x) x rest leaks leaks' checks) leaves

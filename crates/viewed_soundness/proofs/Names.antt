@@ -15,11 +15,12 @@ use Rattle.machine.specs.States.{Waiting, Leak}
 use Rattle.owned_ways.specs.Ways.{Component, Element, Root, OfVariable, Loc, OfRoot, OfCell, Way, Object, Lost, Into, All, View, Reaches, IsRooted, Past, Owned, Named, number_of}
 use Rattle.part_offsets.specs.Parts.{IsSettled}
 use Rattle.owned_ways.proofs.Assigned.{named_rooted}
-use Rattle.soundness.specs.Seen.{content, trunk, seen, home}
+use Rattle.soundness.specs.Seen.{IsNear, content, trunk, seen, home}
 use Rattle.soundness.specs.Typed.{Kept, Spot}
+use Rattle.soundness.proofs.Near.{named_near, past_near}
 use Rattle.soundness.proofs.Walks.{way_step, way_along, Lead, Walked, walk}
 use Rattle.soundness.proofs.Scalars.{number_along, named_along}
-use Rattle.owned_loans.specs.Views.{Go, Part, Down, go, Views, way_at, expand_root, expand, IsObject, ExcusedBy, Viewed}
+use Rattle.owned_loans.specs.Views.{Around, Go, Part, Down, go, Views, way_at, expand_root, expand, IsObject, ExcusedBy, Viewed}
 use Rattle.owned_loans.proofs.Ways.{expand_go, Lifted, further, lifted_root, next_of}
 use Rattle.owned_loans.proofs.Meeting.{IsPlain, next}
 use Rattle.owned_loans.proofs.Safe.{Open, open_way, seen_way}
@@ -171,9 +172,9 @@ only_one (a ∷ b ∷ xs) e = absurd (omega (arith, e))
 -- ---- names
 
 module _ (h : Here) (settled : IsSettled h.typing.table) (hands : List Waiting) (leaks : List Leak) (m : Memory) (waits : List (List machine.Word))
-    (other : Way → Type 0) (facts : List Fact) (v : Views) (kept : Kept h.typing m hands)
+    (other : Around (home h.typing h.frame)) (facts : List Fact) (v : Views) (kept : Kept h.typing m hands)
     (viewed : Viewed (home h.typing h.frame) (is_observer h.typing) other v (seen h.typing m hands leaks) facts) (holds : Holds h.typing h.frame v m)
-    (alone : (w : Way) → other w → ⊥)
+    (alone : (w : Way) → IsNear h.frame w → other.gone w → ⊥)
     (live : (w : Way) (l : Loc) → IsRooted w → Reaches (seen h.typing m hands leaks) w l → (content h.typing m hands (trunk l)).owns ≡ true) where
   abbrev s : Typing
   s = h.typing
@@ -211,7 +212,7 @@ module _ (h : Here) (settled : IsSettled h.typing.table) (hands : List Waiting) 
       (record { base = refl; made = tt; at = refl; there = refl; of = inl refl }) tt refl
       (starts_leads s.table (object_at s x).of t way (plain_named s.table (object_at s x).of plain) starts)
       (λ w past moved. elim moved [
-        | inr o ↦ alone w o
+        | inr o ↦ alone w (past_near h.frame w u past (named_near s h.frame u named)) o
         | inl by ↦ open_way (home s h.frame) (is_observer s) v view_here facts viewed.views viewed.clear u w name (opens seen_not)
             (subst (Past w) (sym itself) past) by
       ]))
@@ -223,7 +224,9 @@ module _ (h : Here) (settled : IsSettled h.typing.table) (hands : List Waiting) 
   -- nothing was moved on the way through a view
   view_clean : (x : ℕ) (rest : List run.Step) (w : Way) → v.way x ≡ Some w → Opens x (way_along rest (All (variable x)))
       → (z : Way) → Past z (way_along rest w) → excused z → ⊥
-  view_clean x rest w has opens z past (inr o) = alone z o
+  view_clean x rest w has opens z past (inr o) =
+      alone z (past_near h.frame z (way_along rest w) past (named_near s h.frame (way_along rest w)
+      (named_along (home s h.frame) rest w (view_named (home s h.frame) (is_observer s) other v view_here facts viewed.views x w has)))) o
   view_clean x rest w has opens z past (inl moved) =
       let u : Way = way_along rest (All (variable x)) in
       let named : Named (home s h.frame) u = named_along (home s h.frame) rest (All (variable x)) refl in

@@ -27,7 +27,7 @@ use Rattle.machine.specs.Owners.{waiting_in, WellOwned}
 use Rattle.owned_ways.specs.Ways.{Loc, Way, All, Reaches, IsRooted, Named, Allows, after, AllowsAll, number_of, OfRoot}
 use Rattle.owned_ways.specs.Ways as ways
 use Rattle.part_offsets.specs.Parts.{IsSettled}
-use Rattle.soundness.specs.Seen.{content, trunk, seen, home, is_view_formal}
+use Rattle.soundness.specs.Seen.{IsNear, content, trunk, seen, home, is_view_formal}
 use Rattle.soundness.specs.Changes.{leaks_at, Checks}
 use Rattle.soundness.specs.Typed.{Matches, IsCell, OwnsByShape, Kept}
 use Rattle.soundness.specs.Sound.{IsTrap}
@@ -52,7 +52,7 @@ use Rattle.soundness.proofs.Raised.{raised_owned}
 use Rattle.soundness.proofs.Scalars.{acts, acts_append, after_append, allows_both}
 use Rattle.soundness.proofs.Stays.{Quiet, One}
 use Rattle.soundness.proofs.Waits.{take_none, drop_none, waits_of, led_waits}
-use Rattle.owned_loans.specs.Views.{Views, expand, Viewed, Becomes, Unused, with_view, HasLoan}
+use Rattle.owned_loans.specs.Views.{Around, Views, expand, Viewed, Becomes, Unused, with_view, HasLoan}
 use Rattle.owned_loans.proofs.Allowed.{Cleared, borrow_clears, observe_clears, loan_kept, reborrow_clears}
 use Rattle.owned_loans.proofs.Ways.{Lifted, next_of, lifts, lifted_root, lifted_way, root_on}
 use Rattle.owned_loans.proofs.Taken.{becomes_with}
@@ -115,8 +115,8 @@ matches_on table a b c (inr e) (inr g) = inr (e.1, g.1)
 
 -- ---- outcomes
 
-module _ (t : Turn) (settled : IsSettled (typing t).table) (own_law : OwnsByShape (typing t).table) (other : Way → Type 0)
-    (alone : (w : Way) → other w → ⊥) (no_formals : (x : ℕ) → is_view_formal (typing t) x ≡ false)
+module _ (t : Turn) (settled : IsSettled (typing t).table) (own_law : OwnsByShape (typing t).table) (other : Around (home (typing t) (length t.outer)))
+    (alone : (w : Way) → IsNear (length t.outer) w → other.gone w → ⊥) (no_formals : (x : ℕ) → is_view_formal (typing t) x ≡ false)
     (v : Views) (parts_named : PartsAreNamed (typing t).table) (may : ℕ → ℕ → Type 0)
     (frames : t.state.frames ≡ t.frame ∷ t.outer) (none : taken t.point.instr ≡ 0) where
   abbrev s : Typing
@@ -808,7 +808,7 @@ module _ (t : Turn) (settled : IsSettled (typing t).table) (own_law : OwnsByShap
       (all_checks s t.point.pos m (run.variable_place (here t) x))
       (subst (λ f. Viewed (home s depth) (is_observer s) other views (seen s (undeclared f x m) hands (t.state.leaks ++ leaks)) (effect (act.EndScope x borrower) facts)) mine
       (ended_viewed s settled (home s depth) (is_observer s) other views m hands t.state.leaks (t.state.leaks ++ leaks) facts x borrower viewed checks
-      (record { none = leaves.no_value; roots = leaves.roots; loans = leaves.loans }) (λ w o. absurd (alone w o))))
+      (record { none = leaves.no_value; roots = leaves.roots; loans = leaves.loans })))
       (removed_kept s settled m depth x hands kept)
 
 -- what a borrower's end asks of facts

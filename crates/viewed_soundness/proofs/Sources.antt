@@ -1,6 +1,6 @@
 -- The source of a borrow, of an observation and of a reborrow: a name that is looked at where it
 -- stands, whose word is null or the number of the cell that it designates.
-use Rattle.std.proofs.Common.{◌≡◌, refl, sym, ap, ◌∙◌, inl, inr, ℕ, suc, Bool, true, false, not, ◌&&◌, ◌||◌, List, [], ◌∷◌, map, get_or, arith}
+use Rattle.std.proofs.Common.{◌≡◌, refl, sym, ap, ◌∙◌, subst, inl, inr, ℕ, suc, Bool, true, false, not, ◌&&◌, ◌||◌, List, [], ◌∷◌, map, get_or, arith}
 use Rattle.spark_base.specs.declared.position.Pos.{Pos}
 use Rattle.place_names.specs.declared.fact.Fact.{Fact}
 use Rattle.place_names.specs.Names.{Name as PlaceName}
@@ -20,14 +20,16 @@ use Rattle.owned_ways.specs.Ways as ways
 use Rattle.owned_ways.proofs.Assigned.{named_rooted}
 use Rattle.owned_ways.proofs.Locations.{under_itself}
 use Rattle.part_offsets.specs.Parts.{IsSettled}
-use Rattle.soundness.specs.Seen.{content, trunk, seen, home}
+use Rattle.soundness.specs.Seen.{IsNear, content, trunk, seen, home}
 use Rattle.soundness.specs.Typed.{OwnsByShape, IsCell, Kept}
 use Rattle.typed_laws.specs.Needed.{Leads, IndexLaw}
+use Rattle.soundness.proofs.Near.{named_near}
 use Rattle.soundness.proofs.Walks.{way_along, Walked, one_slot, cell_spot}
 use Rattle.soundness.proofs.Scalars.{acts, number_along, named_along}
 use Rattle.soundness.proofs.Stays.{Quiet, quiet_then}
-use Rattle.owned_loans.specs.Views.{Down, Views, expand, ExcusedBy, Viewed}
-use Rattle.owned_loans.proofs.Ways.{Lifted, further, lifted_root}
+use Rattle.owned_loans.specs.Views.{Around, Down, Views, expand, ExcusedBy, Viewed}
+use Rattle.owned_loans.proofs.Ways.{Lifted, next_of, further, lifted_root}
+use Rattle.owned_loans.proofs.Meeting.{next}
 use Rattle.owned_loans.proofs.Safe.{clean_below, seen_below}
 use Rattle.owned_loans.proofs.Allowed.{Cleared, cleared_open}
 use Rattle.owned_loans.proofs.Moves.{named_way}
@@ -43,11 +45,11 @@ anonymous_access true = refl
 anonymous_access false = refl
 
 module _ (h : Here) (settled : IsSettled h.typing.table) (hands : List Waiting) (leaks : List Leak) (m : Memory) (waits : List (List machine.Word))
-    (other : Way → Type 0) (facts : List Fact) (v : Views)
+    (other : Around (home h.typing h.frame)) (facts : List Fact) (v : Views)
     (kept : Kept h.typing m hands)
     (viewed : Viewed (home h.typing h.frame) (is_observer h.typing) other v (seen h.typing m hands leaks) facts)
     (holds : Holds h.typing h.frame v m)
-    (alone : (w : Way) → other w → ⊥)
+    (alone : (w : Way) → IsNear h.frame w → other.gone w → ⊥)
     (live : (w : Way) (l : Loc) → IsRooted w → Reaches (seen h.typing m hands leaks) w l → (content h.typing m hands (trunk l)).owns ≡ true)
     (index_law : IndexLaw)
     (own_law : OwnsByShape h.typing.table)
@@ -76,10 +78,23 @@ module _ (h : Here) (settled : IsSettled h.typing.table) (hands : List Waiting) 
   abbrev pub Clears : ℕ → Way → Type 0
   Clears x u = is_observer h.typing x ≡ false → Cleared facts u
 
+  -- what a name stands for is rooted in an owner
+  stands_named : (x : ℕ) (u : Way) → Named (home s h.frame) u → number_of u ≡ x → (is_observer s x ≡ true → Lifted v u) → Named (home s h.frame) (expand v u)
+  stands_named x u named root lifted = by_kind (is_observer s x) refl
+    where
+      whole : (w : Way) → Named (home s h.frame) w → is_observer s (number_of w) ≡ false → Named (home s h.frame) (expand v w)
+      whole w named_w plain = named_way (home s h.frame) (is_observer s) other v view_here facts viewed.views (suc (number_of w)) w (omega arith) (named_w, plain)
+
+      by_kind : (b : Bool) → is_observer s x ≡ b → Named (home s h.frame) (expand v u)
+      by_kind false e = whole u named (ap (is_observer s) root ∙ e)
+      by_kind true e =
+          let on = next (home s h.frame) (is_observer s) v view_here facts viewed.views u (lifted e) named in
+          subst (Named (home s h.frame)) on.same (whole (next_of v u (lifted e)) on.plain.0 on.plain.1)
+
   -- what a name stands for wasn't moved
   unmoved : (x : ℕ) (u : Way) → Named (home s h.frame) u → number_of u ≡ x → (is_observer s x ≡ true → Lifted v u) → Clears x u
       → ExcusedBy (home s h.frame) v other facts (expand v u) → ⊥
-  unmoved x u named root lifted clears (inr o) = alone (expand v u) o
+  unmoved x u named root lifted clears (inr o) = alone (expand v u) (named_near s h.frame (expand v u) (stands_named x u named root lifted)) o
   unmoved x u named root lifted clears (inl moved) = by_kind (is_observer s x) refl
     where
       by_kind : (b : Bool) → is_observer s x ≡ b → ⊥

@@ -27,12 +27,12 @@ use Rattle.machine.specs.States.{Waiting, Leak}
 use Rattle.owned_ways.specs.Ways.{OfVariable, Loc, OfRoot, Way, Object, Into, All, Reaches, IsRooted, Past, Named, Allows, after, AllowsAll, sels_of}
 use Rattle.owned_ways.specs.Ways as ways
 use Rattle.part_offsets.specs.Parts.{IsSettled}
-use Rattle.soundness.specs.Seen.{content, trunk, seen, home}
+use Rattle.soundness.specs.Seen.{IsNear, content, trunk, seen, home}
 use Rattle.soundness.specs.Typed.{OwnsByShape, Kept, Spot}
 use Rattle.typed_laws.specs.Needed.{Stays, Leads, IndexLaw}
 use Rattle.soundness.proofs.Walks.{way_along, Walked}
 use Rattle.soundness.proofs.Stays.{Quiet, quiet_then, Any, One}
-use Rattle.owned_loans.specs.Views.{Views, expand, Viewed}
+use Rattle.owned_loans.specs.Views.{Around, Views, expand, Viewed}
 use Rattle.owned_loans.proofs.Safe.{Open}
 use Rattle.owned_loans.proofs.Allowed.{read_open, look_open}
 use Rattle.viewed_soundness.specs.Holds.{PartsAreNamed, Holds}
@@ -81,11 +81,11 @@ decided_quiet now P true x y p q = (refl, p)
 decided_quiet now P false x y p q = q
 
 module _ (h : Here) (settled : IsSettled h.typing.table) (hands : List Waiting) (leaks : List Leak) (m : Memory) (waits : List (List machine.Word))
-    (other : Way → Type 0) (facts : List Fact) (v : Views)
+    (other : Around (home h.typing h.frame)) (facts : List Fact) (v : Views)
     (kept : Kept h.typing m hands)
     (viewed : Viewed (home h.typing h.frame) (is_observer h.typing) other v (seen h.typing m hands leaks) facts)
     (holds : Holds h.typing h.frame v m)
-    (alone : (w : Way) → other w → ⊥)
+    (alone : (w : Way) → IsNear h.frame w → other.gone w → ⊥)
     (live : (w : Way) (l : Loc) → IsRooted w → Reaches (seen h.typing m hands leaks) w l → (content h.typing m hands (trunk l)).owns ≡ true)
     (index_law : IndexLaw)
     (own_law : OwnsByShape h.typing.table)

@@ -18,14 +18,15 @@ use Rattle.machine.specs.Evaluate.{Here, Now, AsValue, Evaluated, Done, Raises, 
 use Rattle.machine.specs.Evaluate as run
 use Rattle.machine.specs.Step.{Stored}
 use Rattle.machine.specs.States.{Waiting, Leak}
-use Rattle.owned_ways.specs.Ways.{Root, OfVariable, Loc, OfRoot, Way, Object, Named, Allows, after, AllowsAll, number_of}
+use Rattle.owned_ways.specs.Ways.{Root, OfVariable, OfHand, Loc, OfRoot, Way, Object, Named, Allows, after, AllowsAll, number_of}
 use Rattle.owned_ways.specs.Ways as ways
 use Rattle.owned_ways.proofs.Assigned.{named_rooted}
 use Rattle.part_offsets.specs.Parts.{type_in, has_part, IsSettled}
-use Rattle.soundness.specs.Seen.{content, trunk, steps_in, seen, home, is_view_formal}
+use Rattle.soundness.specs.Seen.{IsNear, content, trunk, steps_in, seen, home, is_view_formal}
 use Rattle.soundness.specs.Changes.{leaks_at}
 use Rattle.soundness.specs.Typed.{Matches, OwnsByShape, Kept, Spot, loc_of}
 use Rattle.typed_laws.specs.Needed.{Leads, Gives, IndexLaw}
+use Rattle.soundness.proofs.Near.{near_under}
 use Rattle.soundness.proofs.Walks.{way_along, Walked}
 use Rattle.soundness.proofs.Scalars.{after_append, allows_both, acts, acts_append, number_along, named_along}
 use Rattle.soundness.proofs.Stays.{Quiet}
@@ -33,7 +34,7 @@ use Rattle.soundness.proofs.Lasting.{put_away}
 use Rattle.soundness.proofs.Evaluated.{regrouped, Keeps}
 use Rattle.soundness.proofs.Memories.{put_other}
 use Rattle.soundness.proofs.Steps.{plain_end}
-use Rattle.owned_loans.specs.Views.{Views, expand, Viewed}
+use Rattle.owned_loans.specs.Views.{Around, Views, expand, Viewed}
 use Rattle.owned_loans.proofs.Allowed.{write_open}
 use Rattle.owned_loans.proofs.Moves.{named_way}
 use Rattle.viewed_soundness.specs.Holds.{IsNamed, PartsAreNamed, Holds, AllKeep}
@@ -45,8 +46,8 @@ use Rattle.viewed_soundness.proofs.Evaluated.{keep_both, matches_named, Ready, G
 other_base : (f x g y : ℕ) → OfVariable f x ≡ OfVariable g y → memory.OfVariable f x ≡ memory.OfVariable g y
 other_base f x g y e = (let a : f ≡ g = cc in let b : x ≡ y = cc in cc)
 
-module _ (h : Here) (settled : IsSettled h.typing.table) (leaks : List Leak) (waits : List (List machine.Word)) (other : Way → Type 0)
-    (alone : (w : Way) → other w → ⊥) (keeps : Keeps h.typing)
+module _ (h : Here) (settled : IsSettled h.typing.table) (leaks : List Leak) (waits : List (List machine.Word)) (other : Around (home h.typing h.frame))
+    (alone : (w : Way) → IsNear h.frame w → other.gone w → ⊥) (keeps : Keeps h.typing)
     (no_formals : (x : ℕ) → is_view_formal h.typing x ≡ false) (index_law : IndexLaw) (own_law : OwnsByShape h.typing.table)
     (v : Views) (parts_named : PartsAreNamed h.typing.table) where
   -- What it comes to: a state that is sound and typed once the value is stored after its leak
@@ -109,7 +110,7 @@ module _ (h : Here) (settled : IsSettled h.typing.table) (leaks : List Leak) (wa
         subst (λ z. Viewed (home h.typing h.frame) (is_observer h.typing) other v (seen h.typing (stored h.typing k ws z.memory) hands (leaks ++ leaks_at h.typing pos z.memory k)) (effect (act.Write (name_of x steps)) facts))
         (sym same)
         (subst (λ z. Viewed (home h.typing h.frame) (is_observer h.typing) other v (seen h.typing (stored h.typing k ws m) hands (leaks ++ leaks_at h.typing pos m k)) (effect (act.Write z) facts)) called
-        (stored_viewed h.typing settled (home h.typing h.frame) (is_observer h.typing) other v m (record { of = t; words = ws }) hands leaks facts k l w pos ready.viewed (λ z b u o. alone b o)
+        (stored_viewed h.typing settled (home h.typing h.frame) (is_observer h.typing) other v m (record { of = t; words = ws }) hands leaks facts k l w pos ready.viewed (λ z b u o. alone b (near_under h.frame (Object (OfHand z)) b u tt) o)
         ready.kept spot named (ap (is_observer h.typing) (number_along way (Object (OfVariable (home h.typing h.frame x) x))) ∙ plain)
         (is_place h.typing v (home h.typing h.frame x) x t way goes.lead own ready.holds.only) reaches
         (live_trunk h settled leaks waits other alone keeps no_formals index_law own_law v parts_named m (record { of = t; words = ws } ∷ hands) ready.viewed.owned (expand v w) l

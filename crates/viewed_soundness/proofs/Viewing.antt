@@ -25,7 +25,7 @@ use Rattle.soundness.proofs.Contents.{word_no}
 use Rattle.soundness.proofs.Joined.{trunk_trunk, not_inside}
 use Rattle.soundness.proofs.Memories.{put_same, put_other}
 use Rattle.soundness.proofs.Steps.{plain_end}
-use Rattle.owned_loans.specs.Views.{Views, expand_root, expand, ExcusedBy, Viewed, Becomes, Unused, AreClear, HasLoan}
+use Rattle.owned_loans.specs.Views.{Around, Views, expand_root, expand, ExcusedBy, Viewed, Becomes, Unused, AreClear, HasLoan}
 use Rattle.owned_loans.proofs.Ways.{Lifted, next_of}
 use Rattle.owned_loans.proofs.Taken.{rebound, borrowed, observed, observed_again, reborrowed}
 use Rattle.owned_ways.proofs.Locations.{same_loc}
@@ -68,7 +68,7 @@ designates v s u machine.Null is w e = cc
 -- ---- names that have the number of a cell
 
 module _ (h : Here) (settled : IsSettled h.typing.table) (hands : List Waiting) (leaks : List Leak) (m : Memory) (waits : List (List machine.Word))
-    (other : Way → Type 0) (facts : List Fact) (v : Views) (kept : Kept h.typing m hands)
+    (other : Around (home h.typing h.frame)) (facts : List Fact) (v : Views) (kept : Kept h.typing m hands)
     (viewed : Viewed (home h.typing h.frame) (is_observer h.typing) other v (seen h.typing m hands leaks) facts) (holds : Holds h.typing h.frame v m)
     (live : (w : Way) (l : Loc) → IsRooted w → Reaches (seen h.typing m hands leaks) w l → (content h.typing m hands (trunk l)).owns ≡ true) where
   abbrev view_here : View
@@ -242,7 +242,7 @@ module _ (s : Typing) (settled : IsSettled s.table) where
 
 -- ---- a borrower or observer is declared, or an observer gets another value
 
-module _ (s : Typing) (settled : IsSettled s.table) (frame : ℕ) (other : Way → Type 0) (v t : Views) (m : Memory) (hands : List Waiting) (leaks : List Leak)
+module _ (s : Typing) (settled : IsSettled s.table) (frame : ℕ) (other : Around (home s frame)) (v t : Views) (m : Memory) (hands : List Waiting) (leaks : List Leak)
     (facts : List Fact) (viewed : Viewed (home s frame) (is_observer s) other v (seen s m hands leaks) facts) (kept : Kept s m hands)
     (holds : Holds s frame v m) (x : ℕ) (z : machine.Word) (mine : home s frame x ≡ frame) (view : is_anonymous (view_of s x) ≡ true)
     (one : words s.table (object_at s x).of ≡ 1) (typed : IsOfType s settled m x z) where

@@ -19,15 +19,16 @@ use Rattle.machine.specs.States.{Waiting, Leak, State, Outcome}
 use Rattle.machine.specs.Step.{Turn, counted, typing, here, first_value, taken_by, goes, declare}
 use Rattle.machine.specs.Step as steps
 use Rattle.machine.specs.Owners.{waiting_in, WellOwned}
-use Rattle.owned_ways.specs.Ways.{Step, Root, OfVariable, OfHand, Loc, OfRoot, OfCell, Inside, Way, Object, Lost, Into, All, Empty, View, Reaches, Named, part, along, after, AllowsAll, number_of}
+use Rattle.owned_ways.specs.Ways.{Step, Root, OfVariable, OfHand, Loc, OfRoot, OfCell, Inside, Way, Object, Lost, Into, All, Empty, View, Reaches, Under, Named, part, along, base_of, after, AllowsAll, number_of}
 use Rattle.owned_ways.specs.Ways as ways
 use Rattle.owned_ways.proofs.Locations.{reaches_along, named_along as rooted_along}
 use Rattle.owned_ways.proofs.Assigned.{is_false}
 use Rattle.part_offsets.specs.Parts.{offset_in, is_leaf, IsSettled}
-use Rattle.soundness.specs.Seen.{is_view_formal, content, trunk, steps_in, word_in, owner_at, seen, home}
+use Rattle.soundness.specs.Seen.{IsNear, is_view_formal, content, trunk, steps_in, word_in, owner_at, seen, home}
 use Rattle.soundness.specs.Changes.{Alike}
 use Rattle.soundness.specs.Typed.{OwnsByShape, Kept}
 use Rattle.typed_laws.specs.Needed.{Source, FirstSource}
+use Rattle.soundness.proofs.Near.{near_under, near_along}
 use Rattle.soundness.proofs.Contents.{bool_cases, word_yes, word_no, word_root}
 use Rattle.soundness.proofs.Memories.{put_other}
 use Rattle.soundness.proofs.Moments.{declared_sound, number_part}
@@ -39,7 +40,7 @@ use Rattle.soundness.proofs.Lasting.{keeps, lengths, declared_kept}
 use Rattle.soundness.proofs.Numbers.{index_law}
 use Rattle.soundness.proofs.Scalars.{acts}
 use Rattle.soundness.proofs.Waits.{or_both}
-use Rattle.owned_loans.specs.Views.{Views, expand, ExcusedBy, Viewed}
+use Rattle.owned_loans.specs.Views.{Around, Views, expand, ExcusedBy, Viewed}
 use Rattle.owned_loans.proofs.Ways.{lifts, lifted_way, root_on}
 use Rattle.owned_loans.proofs.Moves.{as_sound, all_known, view_named, view_on, named_way}
 use Rattle.viewed_soundness.specs.Holds.{IsNamed, PartsAreNamed, Holds, AllKeep}
@@ -95,14 +96,36 @@ word_off s m a b leaks f x ws l off = by_trunk l (steps_in l) off
     by_trunk (OfCell c) p off = refl
     by_trunk (Inside l i) p off = by_trunk l p off
 
-module _ (s : Typing) (settled : IsSettled s.table) (home : ℕ → ℕ) (observer : ℕ → Bool) (other : Way → Type 0) (v : Views) where
+-- the same for a way from another variable
+far_there : (s : View) (f x g y : ℕ) (w : Way) (l : Loc) → base_of w ≡ OfRoot (OfVariable g y) → (OfVariable f x ≡ OfVariable g y → ⊥) → Reaches s w l → IsOff f x l
+far_there s f x g y (Object (OfVariable h z)) l base off r =
+    let same : OfVariable h z ≡ OfVariable g y = cc in
+    subst (IsOff f x) (sym r) (λ e. off (e ∙ same))
+far_there s f x g y (Object (OfHand h)) l base off r = cc
+far_there s f x g y (Lost c) l base off r = cc
+far_there s f x g y (Into w i) l base off (m, r, e) = subst (IsOff f x) (sym e) (far_there s f x g y w m base off r)
+far_there s f x g y (All w) l base off (m, c, r, held, e) = subst (IsOff f x) (sym e) tt
+
+far_off : (s t : View) (f x g y : ℕ) → ((l : Loc) → IsOff f x l → t.word l ≡ s.word l) → (w : Way) (l : Loc) → base_of w ≡ OfRoot (OfVariable g y)
+    → (OfVariable f x ≡ OfVariable g y → ⊥) → Reaches s w l → Reaches t w l
+far_off s t f x g y same (Object r) l base off reach = reach
+far_off s t f x g y same (Lost c) l base off reach = cc
+far_off s t f x g y same (Into w i) l base off (m, reach, e) = (m, far_off s t f x g y same w m base off reach, e)
+far_off s t f x g y same (All w) l base off (m, c, reach, held, e) =
+    (m, c, far_off s t f x g y same w m base off reach, same m (far_there s f x g y w m base off reach) ∙ held, e)
+
+-- A variable isn't one that a way of others begins at.
+abbrev pub IsApart : (home : ℕ → ℕ) → Around home → ℕ → ℕ → Type 0
+IsApart home other f x = (w : Way) (n : ℕ) → other.kept w n → base_of w ≡ OfRoot (OfVariable f x) → ⊥
+
+module _ (s : Typing) (settled : IsSettled s.table) (home : ℕ → ℕ) (observer : ℕ → Bool) (other : Around home) (v : Views) where
   pub declared_viewed : (m : Memory) (got : Waiting) (rest : List Waiting) (leaks : List Leak) (facts : List Fact) (f x : ℕ)
-      → Viewed home observer other v (seen s m (got ∷ rest) leaks) facts → ((w : Way) → other w → ⊥) → Kept s m (got ∷ rest)
+      → Viewed home observer other v (seen s m (got ∷ rest) leaks) facts → ((h : ℕ) (w : Way) → Under (Object (OfHand h)) w → other.gone w → ⊥) → Kept s m (got ∷ rest)
       → ((p : List Step) → word_in s.table (content s m (got ∷ rest) (OfRoot (OfVariable f x))) p ≡ Empty)
       → is_view_formal s x ≡ false → length got.words ≡ words s.table (object_at s x).of → Alike s.table got.of (object_at s x).of
-      → ((y : ℕ) (w : Way) → v.way y ≡ Some w → IsElsewhere home f x w)
+      → ((y : ℕ) (w : Way) → v.way y ≡ Some w → IsElsewhere home f x w) → IsApart home other f x
       → Viewed home observer other v (seen s (declared f x got.words m) rest leaks) facts
-  declared_viewed m got rest leaks facts f x viewed alone kept blank own long like free =
+  declared_viewed m got rest leaks facts f x viewed alone kept blank own long like free apart =
       let a : View = seen s m (got ∷ rest) leaks in
       let b : View = seen s (declared f x got.words m) rest leaks in
       let sound = declared_sound s settled home (ExcusedBy home v other facts) m got rest leaks [] f x (as_sound home observer other v a facts viewed)
@@ -116,6 +139,9 @@ module _ (s : Typing) (settled : IsSettled s.table) (home : ℕ → ℕ) (observ
             view_on home observer other v a b facts facts y w view (λ seen n loan. loan)
             (reaches_off home a b f x (λ l off. word_off s m (got ∷ rest) rest leaks f x got.words l off) w (OfCell (v.cell y))
             (view_named home observer other v a facts viewed.views y w has) (free y w has) view.reaches));
+        far = λ w n keeps. (let root = other.begins w n keeps in
+            far_off a b f x root.0 root.1 (λ l off. word_off s m (got ∷ rest) rest leaks f x got.words l off) w (OfCell n) root.2
+            (λ e. apart w n keeps (root.2 ∙ ap OfRoot (sym e))) (viewed.far w n keeps));
       }
 
 -- the root of what a name stands for
@@ -137,8 +163,8 @@ OthersStay s m f x n =
 
 -- ---- the outcome
 
-module _ (t : Turn) (settled : IsSettled (typing t).table) (own_law : OwnsByShape (typing t).table) (other : Way → Type 0)
-    (alone : (w : Way) → other w → ⊥) (no_formals : (x : ℕ) → is_view_formal (typing t) x ≡ false)
+module _ (t : Turn) (settled : IsSettled (typing t).table) (own_law : OwnsByShape (typing t).table) (other : Around (home (typing t) (length t.outer)))
+    (alone : (w : Way) → IsNear (length t.outer) w → other.gone w → ⊥) (no_formals : (x : ℕ) → is_view_formal (typing t) x ≡ false)
     (v : Views) (parts_named : PartsAreNamed (typing t).table) (may : ℕ → ℕ → Type 0)
     (frames : t.state.frames ≡ t.frame ∷ t.outer) (none : taken t.point.instr ≡ 0) where
   abbrev s : Typing
@@ -180,7 +206,7 @@ module _ (t : Turn) (settled : IsSettled (typing t).table) (own_law : OwnsByShap
   -- a part of it that is gone would be known as moved
   pub not_gone : (x : ℕ) (facts : List Fact) (z : View) → Viewed (home s depth) (is_observer s) other v z facts → IsUnmoved x facts → IsFree x
       → (p : List Step) → ExcusedBy (home s depth) v other facts (along (Object (OfVariable depth x)) p) → ⊥
-  not_gone x facts z viewed unmoved free p (inr o) = alone (along (Object (OfVariable depth x)) p) o
+  not_gone x facts z viewed unmoved free p (inr o) = alone (along (Object (OfVariable depth x)) p) (near_along depth (Object (OfVariable depth x)) p (inr refl)) o
   not_gone x facts z viewed unmoved free p (inl (u, moved, leads)) =
       let root : number_of (expand v u) ≡ x = ap number_of leads ∙ number_part (Object (OfVariable depth x)) p in
       let named : Named (home s depth) (along (Object (OfVariable depth x)) p) = subst (Named (home s depth)) leads
@@ -266,24 +292,25 @@ module _ (t : Turn) (settled : IsSettled (typing t).table) (own_law : OwnsByShap
 
   then_declared : ((n : Memory) → WellOwned s (counted (record t.state { memory = given_up t.state.memory n }))) → (x : ℕ) (facts : List Fact)
       → IsNamed s.table (object_at s x).of → (y : Evaluated (List machine.Word)) → Given_here (object_at s x).of facts y
-      → FadesTo (here t) m y → IsBlank x m → IsUnmoved x facts → IsFree x → LeadsHere facts (steps.evaluated t y (λ ws n. goes t (declared depth x ws n) 0))
-  then_declared well x facts named (Done ws n) (ready, long, same) faint new unmoved free =
+      → FadesTo (here t) m y → IsBlank x m → IsUnmoved x facts → IsFree x → IsApart (home s depth) other depth x
+      → LeadsHere facts (steps.evaluated t y (λ ws n. goes t (declared depth x ws n) 0))
+  then_declared well x facts named (Done ws n) (ready, long, same) faint new unmoved free apart =
       goes_to t settled own_law other alone no_formals v parts_named may frames none (declared depth x ws n.memory) 0 v facts
       (unturned t settled own_law other alone no_formals v parts_named may frames none facts)
       (declared_viewed s settled (home s depth) (is_observer s) other v n.memory (record { of = (object_at s x).of; words = ws }) hands t.state.leaks facts depth x
-      ready.viewed alone ready.kept (blank_after x facts ws n (ready, long, same) faint new unmoved free) (no_formals x) long
-      (alike s.table settled (object_at s x).of (object_at s x).of (inl refl)) free)
+      ready.viewed (λ h w under o. alone w (near_under depth (Object (OfHand h)) w under tt) o) ready.kept (blank_after x facts ws n (ready, long, same) faint new unmoved free) (no_formals x) long
+      (alike s.table settled (object_at s x).of (object_at s x).of (inl refl)) free apart)
       (declared_kept s settled n.memory depth x (record { of = (object_at s x).of; words = ws }) hands ready.kept long (inl refl))
       (holds_beside n.memory x ws named ready.holds)
-  then_declared well x facts named (Raises e n) given faint new unmoved free = (λ trap. trap, well n.memory)
-  then_declared well x facts named (Traps e n) never faint new unmoved free = absurd never
+  then_declared well x facts named (Raises e n) given faint new unmoved free apart = (λ trap. trap, well n.memory)
+  then_declared well x facts named (Traps e n) never faint new unmoved free apart = absurd never
 
   -- An object is declared. It has nothing yet, and no fact after the evaluation names it.
   pub declare_leads : (x : ℕ) (e : TypedTree) → IsNamed s.table (object_at s x).of → FirstSource s (object_at s x).of e → has_call e ≡ false → (facts : List Fact)
       → Good facts → AllowsAll facts (acts (declared_acts s x e)) → AllKeep (is_observer s) (acts (declared_acts s x e))
-      → IsBlank x m → IsUnmoved x (after (acts (declared_acts s x e)) facts) → IsFree x
+      → IsBlank x m → IsUnmoved x (after (acts (declared_acts s x e)) facts) → IsFree x → IsApart (home s depth) other depth x
       → LeadsHere (after (acts (declared_acts s x e)) facts) (declare t x e)
-  declare_leads x e named gives calls facts good allowed keep new unmoved free =
+  declare_leads x e named gives calls facts good allowed keep new unmoved free apart =
       let kinds = not_views s x named in
       let same : declared_acts s x e ≡ acts_in s e =
       ap (λ b. if b then source_acts s (first e) (act.Borrow x) else
@@ -295,7 +322,7 @@ module _ (t : Turn) (settled : IsSettled (typing t).table) (own_law : OwnsByShap
       (then_declared (raises t settled own_law other alone no_formals v parts_named may frames none facts good) x (after (acts (acts_in s e)) facts) named
       (first_value t (object_at s x).of e now)
       (first_given (object_at s x).of e named gives calls facts good (subst (λ z. AllowsAll facts (acts z)) same allowed) (subst (λ z. AllKeep (is_observer s) (acts z)) same keep))
-      (first_fades (object_at s x).of e gives) new (subst (λ z. IsUnmoved x (after (acts z) facts)) same unmoved) free))
+      (first_fades (object_at s x).of e gives) new (subst (λ z. IsUnmoved x (after (acts z) facts)) same unmoved) free apart))
 
   -- ---- variables of other objects
 

@@ -19,13 +19,13 @@ use Rattle.machine.specs.Owners.{waiting_in}
 use Rattle.owned_ways.specs.Ways.{OfVariable, Way, Allows, name_of, number_of}
 use Rattle.owned_ways.proofs.Assigned.{kept_fact}
 use Rattle.part_offsets.specs.Parts.{IsSettled}
-use Rattle.soundness.specs.Seen.{is_view_formal, home}
+use Rattle.soundness.specs.Seen.{IsNear, is_view_formal, home}
 use Rattle.soundness.specs.Typed.{OwnsByShape, Kept}
 use Rattle.soundness.specs.Sound as sound
 use Rattle.soundness.proofs.Defaults.{none_default}
 use Rattle.soundness.proofs.Keeping.{cell_has}
 use Rattle.soundness.proofs.Memories.{removed_same, removed_other}
-use Rattle.owned_loans.specs.Views.{Views, Viewed, Unused, with_view}
+use Rattle.owned_loans.specs.Views.{Around, Views, Viewed, Unused, with_view}
 use Rattle.owned_loans.proofs.Safe.{root_before}
 use Rattle.owned_loans.proofs.Taken.{becomes_with, given_up}
 use Rattle.viewed_soundness.specs.Holds.{PartsAreNamed}
@@ -74,8 +74,8 @@ rest_within x y (z ∷ rest) last within off =
     drop_none [] w = w
     drop_none (a ∷ rest) w = w
 
-module _ (t : Turn) (settled : IsSettled (typing t).table) (own_law : OwnsByShape (typing t).table) (other : Way → Type 0)
-    (alone : (w : Way) → other w → ⊥) (no_formals : (x : ℕ) → is_view_formal (typing t) x ≡ false)
+module _ (t : Turn) (settled : IsSettled (typing t).table) (own_law : OwnsByShape (typing t).table) (other : Around (home (typing t) (length t.outer)))
+    (alone : (w : Way) → IsNear (length t.outer) w → other.gone w → ⊥) (no_formals : (x : ℕ) → is_view_formal (typing t) x ≡ false)
     (v : Views) (parts_named : PartsAreNamed (typing t).table) (may : ℕ → ℕ → Type 0)
     (frames : t.state.frames ≡ t.frame ∷ t.outer) (none : taken t.point.instr ≡ 0)
     (p q : NamedPoint) (y : ℕ) (is : p.instr ≡ EndScope y) (mine : home (typing t) (length t.outer) y ≡ length t.outer)

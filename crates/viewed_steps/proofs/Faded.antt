@@ -2,7 +2,7 @@
 use Rattle.std.proofs.Common.{◌≡◌, refl, sym, ap, ◌∙◌, inl, inr, ℕ, Bool, true, false, List, Some, None, if◌then◌else◌}
 use Rattle.place_names.specs.declared.fact.Fact.{Fact}
 use Rattle.owned_ways.specs.Ways.{OfVariable, OfHand, Way, Object, Lost, Into, All, View, number_of, name_of}
-use Rattle.owned_loans.specs.Views.{Views, expand_root, expand, Viewed}
+use Rattle.owned_loans.specs.Views.{Around, Views, expand_root, expand, Viewed}
 
 abbrev pub without : Views → (ℕ → Bool) → Views
 without v fades = record {
@@ -26,7 +26,7 @@ has_way v fades x e = ap (λ b. if b then None else v.way x) e
 pub no_way : (v : Views) (fades : ℕ → Bool) (x : ℕ) → fades x ≡ true → (without v fades).way x ≡ None
 no_way v fades x e = ap (λ b. if b then None else v.way x) e
 
-module _ (home : ℕ → ℕ) (observer : ℕ → Bool) (other : Way → Type 0) (v : Views) (fades : ℕ → Bool)
+module _ (home : ℕ → ℕ) (observer : ℕ → Bool) (other : Around home) (v : Views) (fades : ℕ → Bool)
     (sees : (x : ℕ) → fades x ≡ true → observer x ≡ true) where
   abbrev left : Views
   left = without v fades
@@ -71,4 +71,5 @@ module _ (home : ℕ → ℕ) (observer : ℕ → Bool) (other : Way → Type 0)
           lent = view.lent;
           reaches = view.reaches;
         });
+    far = viewed.far;
   }

@@ -7,5 +7,9 @@ pub mod Lent
 pub mod Placed
 pub mod Ended
 pub mod Sources
+pub mod Beside
+pub mod Waiting
+pub mod Left
+pub mod Called
 pub mod Stepping
 pub mod Main

@@ -17,14 +17,14 @@ use Rattle.machine.specs.Owners.{WellOwned}
 use Rattle.machine.specs.Run.{empty_memory, frames_at_start, state_at_start, step, then_on, within, run_of, main_of, moment}
 use Rattle.owned_ways.specs.Ways.{Way, Lost}
 use Rattle.soundness.specs.Seen.{home, seen}
-use Rattle.soundness.specs.Sound.{Stage, Elsewhere, IsTrap, ending_of, RunIsSound}
+use Rattle.soundness.specs.Sound.{Stage, IsTrap, ending_of, RunIsSound}
 use Rattle.soundness.proofs.Defaults.{none_default}
 use Rattle.soundness.proofs.Keeping.{cell_has}
 use Rattle.soundness.proofs.Owners.{well_owned}
 use Rattle.soundness.proofs.Beginning.{empty_sound, empty_kept, empty_scope}
 use Rattle.soundness.proofs.Points.{sub_there}
-use Rattle.owned_loans.specs.Views.{Views, Viewed}
-use Rattle.viewed_steps.specs.Sound.{IsSound, LeadsOn}
+use Rattle.owned_loans.specs.Views.{known_gone, Views, Viewed}
+use Rattle.viewed_steps.specs.Sound.{GoneElsewhere, IsSound, LeadsOn}
 use Rattle.viewed_steps.specs.Ready.{IsReady}
 use Rattle.viewed_steps.proofs.Stepping.{stage, first_point, sound_step}
 
@@ -38,7 +38,7 @@ none_some : (w : Way) → None ≡ Some w → ⊥
 none_some w e = cc
 
 module _ (s : Typing) where
-  empty_viewed : (at_home : ℕ → ℕ) (other : Way → Type 0) → Viewed at_home (is_observer s) other no_views (seen s empty_memory [] []) []
+  empty_viewed : (at_home : ℕ → ℕ) (other : Way → Type 0) → Viewed at_home (is_observer s) (known_gone at_home other) no_views (seen s empty_memory [] []) []
   empty_viewed at_home other =
       let sound = empty_sound s at_home other [] in
       record {
@@ -52,6 +52,7 @@ module _ (s : Typing) where
           owned = λ n has. absurd has;
         };
         views = λ x w has. absurd (none_some w has);
+        far = λ w n none. absurd none;
       }
 
   empty_word : (f x n : ℕ) → (get_or (variable_slots s f x empty_memory.variables) 0 no_slot).word ≡ machine.Cell n → ⊥
@@ -74,12 +75,12 @@ module _ (table : Table) (typed : TypedProgram) (effects : Effects) (input : Lis
   packages_start : (p : NamedPoint) (rest : List NamedPoint) → ready.packages.points ≡ p ∷ rest → IsSound table typed effects (started (frame_at_start 0 [] ∷ []))
   packages_start p rest is = record {
     top = stage_of 0 0;
-    older = [];
     views = no_views;
+    older = [];
     stages = (refl, refl, tt);
-    running = (refl, (refl, refl, refl), (λ x. refl), (λ x n view e. empty_word s 1 x n e));
+    running = (refl, (refl, refl, refl), (λ x. refl));
     path = begins (first_point table typed effects input ready 0 ready.packages ready.stands p rest is);
-    viewed = empty_viewed s (home s 0) (Elsewhere program effects []);
+    viewed = empty_viewed s (home s 0) (GoneElsewhere program effects []);
     kept = empty_kept s;
     named = ready.packages;
     of_sub = ready.stands;
@@ -92,19 +93,20 @@ module _ (table : Table) (typed : TypedProgram) (effects : Effects) (input : Lis
       only = λ x w has. absurd (none_some w has);
     };
     placed = λ x w has. absurd (none_some w has);
+    none_above = λ f x n less view e. empty_word s f x n e;
   }
 
   -- without any, the main procedure begins
   main_start : IsSound table typed effects (started (frame_at_start ready.main [] ∷ (frame_at_start 0 [] ∷ [])))
   main_start = record {
     top = stage_of ready.main 1;
-    older = stage_of 0 0 ∷ [];
     views = no_views;
+    older = record { stage = stage_of 0 0; views = no_views } ∷ [];
     stages = (refl, refl, (refl, refl, tt));
-    running = (ready.main_there, (refl, refl, refl), refl, (refl, refl, refl));
+    running = (ready.main_there, (refl, refl, refl), (refl, (refl, refl, refl), (λ x. refl)));
     path = begins (first_point table typed effects input ready ready.main ready.main_there.named ready.main_there.stands
         ready.main_there.point ready.main_there.points ready.main_there.begins);
-    viewed = empty_viewed s (home s 1) (Elsewhere program effects (stage_of 0 0 ∷ []));
+    viewed = empty_viewed s (home s 1) (GoneElsewhere program effects (record { stage = stage_of 0 0; views = no_views } ∷ []));
     kept = empty_kept s;
     named = ready.main_there.named;
     of_sub = ready.main_there.stands;
@@ -117,6 +119,7 @@ module _ (table : Table) (typed : TypedProgram) (effects : Effects) (input : Lis
       only = λ x w has. absurd (none_some w has);
     };
     placed = λ x w has. absurd (none_some w has);
+    none_above = λ f x n less view e. empty_word s f x n e;
   }
 
   -- by the points of the package objects

@@ -1,5 +1,5 @@
 -- Where views are, their roots last.
-use Rattle.std.proofs.Common.{◌≡◌, refl, sym, ap, ◌∙◌, subst, ◌⊎◌, inl, inr, ℕ, Bool, true, false, not, ◌&&◌, ◌||◌, ◌==◌, eqb-true, List, [], ◌∷◌, Some}
+use Rattle.std.proofs.Common.{◌≡◌, refl, sym, ap, ◌∙◌, subst, ◌⊎◌, inl, inr, ℕ, Bool, true, false, not, ◌&&◌, ◌||◌, ◌==◌, eqb-true, List, [], ◌∷◌, Some, length}
 use Rattle.std.specs.List.{AllByRecursion}
 use Rattle.std.proofs.lemmas.List.Folds.{list_any-append}
 use Rattle.spark_base.specs.Lists.{Has}
@@ -17,12 +17,12 @@ use Rattle.machine.specs.Step.{Turn, typing}
 use Rattle.owned_ways.specs.Ways.{OfRoot, Held, Way, name_of, number_of}
 use Rattle.owned_ways.specs.Ways as ways
 use Rattle.part_offsets.specs.Parts.{IsSettled}
-use Rattle.soundness.specs.Seen.{is_view_formal, content, word_in}
+use Rattle.soundness.specs.Seen.{home, IsNear, is_view_formal, content, word_in}
 use Rattle.soundness.specs.Typed.{OwnsByShape}
 use Rattle.soundness.specs.Sound.{InScope}
 use Rattle.soundness.proofs.Contents.{word_no}
 use Rattle.soundness.proofs.Lasting.{ownerless}
-use Rattle.owned_loans.specs.Views.{Views}
+use Rattle.owned_loans.specs.Views.{Around, Views}
 use Rattle.viewed_soundness.specs.Holds.{PartsAreNamed}
 use Rattle.viewed_soundness.proofs.Names.{true_false}
 use Rattle.viewed_soundness.proofs.Outcomes.{Turned}
@@ -119,8 +119,8 @@ module _ (program : FlowProgram) where
     pub within : is_within x scope ≡ true
     pub view : is_anonymous (view_of s x) ≡ true
 
-module _ (t : Turn) (settled : IsSettled (typing t).table) (own_law : OwnsByShape (typing t).table) (other : Way → Type 0)
-    (alone : (w : Way) → other w → ⊥) (no_formals : (x : ℕ) → is_view_formal (typing t) x ≡ false)
+module _ (t : Turn) (settled : IsSettled (typing t).table) (own_law : OwnsByShape (typing t).table) (other : Around (home (typing t) (length t.outer)))
+    (alone : (w : Way) → IsNear (length t.outer) w → other.gone w → ⊥) (no_formals : (x : ℕ) → is_view_formal (typing t) x ≡ false)
     (v : Views) (parts_named : PartsAreNamed (typing t).table) (a b : List ℕ)
     (frames : t.state.frames ≡ t.frame ∷ t.outer) (none : taken t.point.instr ≡ 0)
     (transitive : (a b c : ℕ) → encloses t.program.scopes a b ≡ true → encloses t.program.scopes b c ≡ true → encloses t.program.scopes a c ≡ true)

@@ -29,14 +29,15 @@ use Rattle.machine.specs.States.{Waiting, Outcome, Goes}
 use Rattle.machine.specs.Step.{Turn, typing, here, start, waiting, goes, behind}
 use Rattle.machine.specs.Step as steps
 use Rattle.machine.specs.Owners.{waiting_in}
-use Rattle.owned_ways.specs.Ways.{OfVariable, Loc, Way, Object, Reaches, IsRooted, Named, Allows, after, AllowsAll, number_of}
+use Rattle.owned_ways.specs.Ways.{OfVariable, OfHand, Loc, Way, Object, Reaches, IsRooted, Named, Allows, after, AllowsAll, number_of}
 use Rattle.owned_ways.specs.Ways as ways
 use Rattle.owned_ways.proofs.Assigned.{named_rooted}
 use Rattle.part_offsets.specs.Parts.{IsSettled}
-use Rattle.soundness.specs.Seen.{is_view_formal, content, trunk, seen, home}
+use Rattle.soundness.specs.Seen.{IsNear, is_view_formal, content, trunk, seen, home}
 use Rattle.soundness.specs.Changes.{leaks_at}
 use Rattle.soundness.specs.Typed.{Matches, OwnsByShape, Spot}
 use Rattle.typed_laws.specs.Needed.{Leads}
+use Rattle.soundness.proofs.Near.{near_under}
 use Rattle.soundness.proofs.Contents.{bool_cases}
 use Rattle.soundness.proofs.Walks.{way_along, Walked}
 use Rattle.soundness.proofs.Steps.{plain_shape}
@@ -45,7 +46,7 @@ use Rattle.soundness.proofs.Stays.{Quiet}
 use Rattle.soundness.proofs.Numbers.{index_law}
 use Rattle.soundness.proofs.Lasting.{keeps, put_away}
 use Rattle.soundness.proofs.Freeing.{plain_parts, switched}
-use Rattle.owned_loans.specs.Views.{Views, expand, Viewed}
+use Rattle.owned_loans.specs.Views.{Around, Views, expand, Viewed}
 use Rattle.owned_loans.proofs.Allowed.{write_open}
 use Rattle.owned_loans.proofs.Moves.{named_way}
 use Rattle.viewed_soundness.specs.Holds.{IsNamed, PartsAreNamed}
@@ -63,8 +64,8 @@ scalar_named table u scalar d c n is = absurd (not_scalar d c n (sym (ap (λ z. 
     not_scalar : (d : ℕ) (c n : Bool) → is_scalar (view_of_shape (shape.Access d c n)) ≡ true → ⊥
     not_scalar d c n e = cc
 
-module _ (t : Turn) (settled : IsSettled (typing t).table) (own_law : OwnsByShape (typing t).table) (other : Way → Type 0)
-    (alone : (w : Way) → other w → ⊥) (no_formals : (x : ℕ) → is_view_formal (typing t) x ≡ false)
+module _ (t : Turn) (settled : IsSettled (typing t).table) (own_law : OwnsByShape (typing t).table) (other : Around (home (typing t) (length t.outer)))
+    (alone : (w : Way) → IsNear (length t.outer) w → other.gone w → ⊥) (no_formals : (x : ℕ) → is_view_formal (typing t) x ≡ false)
     (v : Views) (parts_named : PartsAreNamed (typing t).table) (may : ℕ → ℕ → Type 0)
     (frames : t.state.frames ≡ t.frame ∷ t.outer) (none : taken t.point.instr ≡ 0) where
   abbrev s : Typing
@@ -152,7 +153,7 @@ module _ (t : Turn) (settled : IsSettled (typing t).table) (own_law : OwnsByShap
           let rooted = named_rooted (home s depth) (expand v w) (named_way (home s depth) (is_observer s) other v
           (seen s m (value_in ∷ hands) t.state.leaks) facts ready_in.viewed.views (suc (number_of w)) w (omega arith) (named, seen_not)) in
           let viewed = stored_viewed s settled (home s depth) (is_observer s) other v m value_in hands t.state.leaks facts k l w t.point.pos ready_in.viewed
-          (λ z b q o. alone b o) ready_in.kept spot named seen_not
+          (λ z b q o. alone b (near_under depth (Object (OfHand z)) b q tt) o) ready_in.kept spot named seen_not
           (is_place s v (home s depth x) x u way along.lead (scalar_named s.table u scalar) good.holds.only) reaches (alive_trunk (expand v w) l rooted reaches)
           (subst (λ z. Allows facts (act.Write z)) (sym called) allowed) long like in
           goes_to t settled own_law other alone no_formals v parts_named may frames none (stored s k (machine.Int i ∷ []) m) 0 v fs

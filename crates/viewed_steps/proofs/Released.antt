@@ -34,10 +34,11 @@ use Rattle.owned_ways.proofs.Named.{under_leads, covered_under}
 use Rattle.owned_ways.proofs.Assigned.{either_left, kept_fact, is_false, named_rooted}
 use Rattle.part_offsets.specs.Parts.{type_in, offset_in, has_part, owns_one, is_leaf, IsSettled}
 use Rattle.part_offsets.proofs.Ranges.{leaf_end, leaf_part}
-use Rattle.soundness.specs.Seen.{is_view_formal, Content, content, trunk, steps_in, owner_at, owner_word, seen, home}
+use Rattle.soundness.specs.Seen.{IsNear, is_view_formal, Content, content, trunk, steps_in, owner_at, owner_word, seen, home}
 use Rattle.soundness.specs.Changes.{Alike as AlikeTypes, Checks, leaks_at}
 use Rattle.soundness.specs.Typed.{Matches, OwnsByShape, Spot}
 use Rattle.typed_laws.specs.Needed.{Leads}
+use Rattle.soundness.proofs.Near.{named_near}
 use Rattle.soundness.proofs.Contents.{bool_cases, word_yes, word_no, word_part, checks_made, all_checks}
 use Rattle.soundness.proofs.Joined.{trunk_trunk, below_cell}
 use Rattle.soundness.proofs.Walks.{both_true, way_along, Walked, slot_at, one_slot, type_is, slot_is, held_there, cell_spot}
@@ -50,7 +51,7 @@ use Rattle.soundness.proofs.Stays.{Quiet}
 use Rattle.soundness.proofs.Numbers.{index_law}
 use Rattle.soundness.proofs.Lasting.{keeps, stored_kept, freed_kept}
 use Rattle.owned_ways.proofs.Unique.{one_way, one_location}
-use Rattle.owned_loans.specs.Views.{Views, expand, ExcusedBy, IsMovedBy, Viewed}
+use Rattle.owned_loans.specs.Views.{Around, Views, expand, ExcusedBy, IsMovedBy, Viewed}
 use Rattle.owned_loans.proofs.Ways.{meet_overlaps, under_on}
 use Rattle.owned_loans.proofs.Meeting.{IsPlain, meeting}
 use Rattle.owned_loans.proofs.Clear.{refused, clear_same}
@@ -82,7 +83,7 @@ module _ (view : View) (k : Way) (at : Loc) (target : Reaches view k at) (empty 
         let no_number : Held c ≡ Empty = sym h ∙ ap view.word b.1 ∙ empty b.0 in cc)
   ]
 
-module _ (home : ℕ → ℕ) (observer : ℕ → Bool) (other : Way → Type 0) (v : Views) (s : View) (facts : List Fact)
+module _ (home : ℕ → ℕ) (observer : ℕ → Bool) (other : Around home) (v : Views) (s : View) (facts : List Fact)
     (viewed : Viewed home observer other v s facts) where
   -- what is freed wasn't moved
   pub free_clean : (k : Way) → Named home k → observer (number_of k) ≡ false → Allows facts (act.Free (ways.name_of k)) → IsMovedBy home v facts (expand v k) → ⊥
@@ -131,12 +132,13 @@ module _ (home : ℕ → ℕ) (observer : ℕ → Bool) (other : Way → Type 0)
         clear = clear_same observer facts viewed.clear a refl;
         views = λ x w has. (let own = viewed.views x w has in
             view_on home observer other v s s facts (effect a facts) x w own (λ seen n. loan_kept a facts (λ l h z. refl) seen x n) own.reaches);
+        far = viewed.far;
       }
 
 -- ---- the outcome
 
-module _ (t : Turn) (settled : IsSettled (typing t).table) (own_law : OwnsByShape (typing t).table) (other : Way → Type 0)
-    (alone : (w : Way) → other w → ⊥) (no_formals : (x : ℕ) → is_view_formal (typing t) x ≡ false)
+module _ (t : Turn) (settled : IsSettled (typing t).table) (own_law : OwnsByShape (typing t).table) (other : Around (home (typing t) (length t.outer)))
+    (alone : (w : Way) → IsNear (length t.outer) w → other.gone w → ⊥) (no_formals : (x : ℕ) → is_view_formal (typing t) x ≡ false)
     (v : Views) (parts_named : PartsAreNamed (typing t).table) (may : ℕ → ℕ → Type 0)
     (frames : t.state.frames ≡ t.frame ∷ t.outer) (none : taken t.point.instr ≡ 0) where
   abbrev s : Typing
@@ -260,15 +262,17 @@ module _ (t : Turn) (settled : IsSettled (typing t).table) (own_law : OwnsByShap
       abbrev fs : List Fact
       fs = effect (act.Free (ways.name_of w)) facts
 
-      rooted : IsRooted (expand v w)
-      rooted =
+      stands : Named (home s depth) (expand v w)
+      stands =
           let name : IsPlain (home s depth) (is_observer s) v seen_here facts good.viewed.views w = (named, plain) in
-          named_rooted (home s depth) (expand v w)
-          (named_way (home s depth) (is_observer s) other v seen_here facts good.viewed.views (suc (number_of w)) w (omega arith) name)
+          named_way (home s depth) (is_observer s) other v seen_here facts good.viewed.views (suc (number_of w)) w (omega arith) name
+
+      rooted : IsRooted (expand v w)
+      rooted = named_rooted (home s depth) (expand v w) stands
 
       clean : excused (expand v w) → ⊥
       clean (inl moved) = free_clean (home s depth) (is_observer s) other v seen_here facts good.viewed w named plain allowed moved
-      clean (inr o) = alone (expand v w) o
+      clean (inr o) = alone (expand v w) (named_near s depth (expand v w) stands) o
 
       nothing : (k : Place) (l : Loc) → Spot s m hands k l → Reaches seen_here (expand v w) l → k.of ≡ u
           → ((n : ℕ) → (slot_here k).word ≡ machine.Cell n → ⊥) → LeadsHere fs (goes t m 0)

@@ -19,7 +19,7 @@ use Rattle.machine.specs.Step as steps
 use Rattle.machine.specs.Owners.{waiting_in}
 use Rattle.owned_ways.specs.Ways.{OfVariable, Loc, OfRoot, Way, Reaches, IsRooted, after, AllowsAll}
 use Rattle.part_offsets.specs.Parts.{offset_in, IsSettled}
-use Rattle.soundness.specs.Seen.{is_view_formal, content, trunk, seen, home}
+use Rattle.soundness.specs.Seen.{IsNear, is_view_formal, content, trunk, seen, home}
 use Rattle.soundness.specs.Typed.{OwnsByShape, Kept, Spot}
 use Rattle.typed_laws.specs.Needed.{Stays, Writes}
 use Rattle.soundness.proofs.Contents.{bool_cases}
@@ -32,7 +32,7 @@ use Rattle.soundness.proofs.Numbers.{index_law}
 use Rattle.soundness.proofs.Lasting.{keeps, stored_kept, declared_kept, removed_kept}
 use Rattle.soundness.proofs.Loops.{scalar_same, value_plain}
 use Rattle.soundness.proofs.Waits.{or_both, waits_of, led_waits}
-use Rattle.owned_loans.specs.Views.{Views, Viewed}
+use Rattle.owned_loans.specs.Views.{Around, Views, Viewed}
 use Rattle.owned_loans.proofs.Moves.{same_viewed}
 use Rattle.viewed_soundness.specs.Holds.{PartsAreNamed, Holds}
 use Rattle.viewed_soundness.proofs.Names.{true_false}
@@ -50,8 +50,8 @@ value_long (machine.Int n ∷ ws) v = refl
 value_long (machine.Null ∷ ws) v = refl
 value_long (machine.Cell n ∷ ws) v = refl
 
-module _ (t : Turn) (settled : IsSettled (typing t).table) (own_law : OwnsByShape (typing t).table) (other : Way → Type 0)
-    (alone : (w : Way) → other w → ⊥) (no_formals : (x : ℕ) → is_view_formal (typing t) x ≡ false)
+module _ (t : Turn) (settled : IsSettled (typing t).table) (own_law : OwnsByShape (typing t).table) (other : Around (home (typing t) (length t.outer)))
+    (alone : (w : Way) → IsNear (length t.outer) w → other.gone w → ⊥) (no_formals : (x : ℕ) → is_view_formal (typing t) x ≡ false)
     (v : Views) (parts_named : PartsAreNamed (typing t).table) (may : ℕ → ℕ → Type 0)
     (frames : t.state.frames ≡ t.frame ∷ t.outer) (none : taken t.point.instr ≡ 0) where
   abbrev s : Typing

@@ -16,11 +16,11 @@ use Rattle.machine.specs.States.{Outcome}
 use Rattle.machine.specs.Step.{Turn, typing, declare, assign}
 use Rattle.owned_ways.specs.Ways.{Way, after, AllowsAll}
 use Rattle.part_offsets.specs.Parts.{IsSettled}
-use Rattle.soundness.specs.Seen.{is_view_formal, home}
+use Rattle.soundness.specs.Seen.{IsNear, is_view_formal, home}
 use Rattle.soundness.specs.Typed.{OwnsByShape}
 use Rattle.typed_laws.specs.Needed.{Leads, Gives, Source}
 use Rattle.soundness.proofs.Scalars.{acts}
-use Rattle.owned_loans.specs.Views.{Views, Unused}
+use Rattle.owned_loans.specs.Views.{Around, Views, Unused}
 use Rattle.viewed_soundness.specs.Holds.{IsNamed, PartsAreNamed}
 use Rattle.viewed_soundness.proofs.Outcomes.{IsGood, Leads_on, Observes, borrower_leads, observer_leads, observer_again_leads, assign_borrower_leads, assign_observer_leads}
 use Rattle.viewed_steps.proofs.Ended.{view_kinds}
@@ -88,8 +88,8 @@ leads_or s parts (Element index low high rest) t u (e, is, stays, lead) =
 leads_or s parts (Designated rest) t u (d, c, n, is, lead) = inr (leads_named s parts rest d u (parts.designated t d c n is) lead)
 leads_or s parts path t u lead = absurd lead
 
-module _ (t : Turn) (settled : IsSettled (typing t).table) (own_law : OwnsByShape (typing t).table) (other : Way → Type 0)
-    (alone : (w : Way) → other w → ⊥) (no_formals : (x : ℕ) → is_view_formal (typing t) x ≡ false)
+module _ (t : Turn) (settled : IsSettled (typing t).table) (own_law : OwnsByShape (typing t).table) (other : Around (home (typing t) (length t.outer)))
+    (alone : (w : Way) → IsNear (length t.outer) w → other.gone w → ⊥) (no_formals : (x : ℕ) → is_view_formal (typing t) x ≡ false)
     (v : Views) (parts_named : PartsAreNamed (typing t).table) (may : ℕ → ℕ → Type 0)
     (frames : t.state.frames ≡ t.frame ∷ t.outer) (none : taken t.point.instr ≡ 0) where
   abbrev s : Typing

@@ -1,5 +1,6 @@
 -- Each step of a sound state leads on, in a program with borrowers and observers that is ready.
-use Rattle.std.proofs.Common.{◌≡◌, refl, sym, ap, ◌∙◌, subst, ◌⊎◌, inl, inr, ℕ, zero, suc, ◌<◌, Bool, true, false, not, ◌&&◌, ◌||◌, ◌==◌, eq-eqb, List, [], ◌∷◌, ◌++◌, map, drop, length, get_or, arith, append-nil, Option, Some, None, if◌then◌else◌}
+use Rattle.std.proofs.Common.{◌≡◌, refl, sym, ap, ◌∙◌, subst, ◌⊎◌, inl, inr, ℕ, zero, suc, ◌<◌, ◌≤◌, Bool, true, false, not, ◌&&◌, ◌||◌, ◌==◌, eq-eqb, List, [], ◌∷◌, ◌++◌, map, drop, length, get_or, arith, append-nil, Option, Some, None, if◌then◌else◌}
+use Rattle.std.proofs.Math.Nat.{eq-or-lt_of_le}
 use Rattle.spark_base.specs.Lists.{Has}
 use Rattle.spark_base.specs.declared.position.Pos.{Pos}
 use Rattle.spark_base.proofs.Lists.{Has-append_cases, Has-map_from}
@@ -17,55 +18,85 @@ use Rattle.typed_tree.specs.Trees.{TypedTree, Name, NoMore, More}
 use Rattle.typed_tree.specs.Programs.{TypedProgram}
 use Rattle.flow_paths.specs.declared.report.Effects.{Effects}
 use Rattle.flow_paths.specs.Instructions.{Instruction, Skip, Declare, Assign, Call, Output, Input, Release, Test, Choose, Start, Next, Evaluate, LeaveLoop, Hold, EndScope, Finish, Fall}
-use Rattle.flow_paths.specs.Objects.{Typing, object_at, is_formal, is_anonymous, is_package_object, is_observer, view_of}
+use Rattle.flow_paths.specs.Objects.{Typing, object_at, sub_at, is_formal, is_anonymous, is_package_object, is_observer, view_of, passings, Passing}
 use Rattle.flow_paths.specs.Names.{has_call, name_of}
 use Rattle.flow_paths.specs.Acts as flow
 use Rattle.flow_paths.specs.Acts.{acts_of, acts_in}
 use Rattle.flow_paths.specs.Points.{NamedPoint, FlowPoint}
 use Rattle.flow_paths.specs.Laid.{FlowSub, FlowProgram, NamedSub, number_in, flow_sub, kept_roots, sub_facts, typing_of, flow_typing, flow_program, flow_named}
 use Rattle.flow_paths.specs.Paths.{PathPoint, is_some_point, path_point, ControlPath, begins, goes_on, acts_at, facts_before}
-use Rattle.flow_paths.specs.Effects.{path_points, called_acts}
+use Rattle.flow_paths.specs.Effects.{path_points, globals_of, called_acts}
 use Rattle.flow_paths.specs.Scopes.{taken, brought, scope_behind, is_within, is_last, is_ready, Leads}
 use Rattle.machine.specs.Words as machine
-use Rattle.machine.specs.Memory.{no_slot, variable_slots}
+use Rattle.machine.specs.Memory.{Memory, no_slot, variable_slots, without_frame}
+use Rattle.machine.specs.Evaluate.{Now}
 use Rattle.machine.specs.States.{Loop, Frame, State, Outcome, Goes, Ends, sub_of, frame_at_start}
-use Rattle.machine.specs.Step.{Turn, turn, led, successor, main_frame}
+use Rattle.machine.specs.Step.{Turn, turn, counted, led, successor, main_frame}
+use Rattle.machine.specs.Step as steps
 use Rattle.machine.specs.Typed.{successors}
-use Rattle.machine.specs.Owners.{is_in, waiting_in}
+use Rattle.machine.specs.Calls.{Passed, all_passed, with_formals, returns_of}
+use Rattle.machine.specs.Owners.{is_in, is_in_formal, waiting_in}
 use Rattle.machine.specs.Run.{no_point, stepped, step}
 use Rattle.owned_ways.specs.Ways.{Step, OfVariable, OfRoot, Way, Held, after, AllowsAll, along, number_of}
 use Rattle.owned_ways.specs.Ways as ways
 use Rattle.owned_ways.proofs.Locations.{reaches_along, named_along as rooted_along}
-use Rattle.soundness.specs.Seen.{is_view_formal, content, word_in, home}
+use Rattle.soundness.specs.Seen.{IsNear, is_view_formal, content, word_in, seen, home, trunk}
 use Rattle.soundness.specs.Typed.{Kept}
 use Rattle.typed_laws.specs.Needed.{IsFine, Source, FirstSource, FirstWrites, FirstStays}
-use Rattle.soundness.specs.Sound.{calls_nothing, Stage, facts_of, Elsewhere, AreStages, IsPlain, IsProcedure, InScope, IsNamedSub, IsAtPoint, view_of as view_here}
-use Rattle.soundness.specs.Ready.{stored_at}
-use Rattle.soundness.proofs.Contents.{bool_cases, word_root}
-use Rattle.soundness.proofs.Scalars.{acts, acts_append}
+use Rattle.soundness.specs.Sound.{calls_nothing, calls_procedures, Stage, facts_of, AreStages, IsPlain, IsProcedure, InScope, IsNamedSub, IsAtPoint, view_of as view_here}
+use Rattle.soundness.specs.Ready.{stored_at, IsCalled}
+use Rattle.soundness.proofs.Contents.{bool_cases, word_no, word_root}
+use Rattle.soundness.proofs.Steps.{no_leaf}
+use Rattle.soundness.proofs.Stays.{Quiet}
+use Rattle.soundness.proofs.Numbers.{index_law}
+use Rattle.soundness.proofs.Lasting.{keeps}
+use Rattle.soundness.proofs.Passing.{plain_type, way_of, AreReads, reads_keep, values_read, entered, call_leads, passed_to}
+use Rattle.soundness.proofs.Scalars.{acts, acts_append, after_append, allows_both}
 use Rattle.soundness.proofs.Paths.{accepted_point, facts_next}
 use Rattle.soundness.proofs.Points.{flow_at, named_has, point_has, sub_there, sub_has, typing_same, point_there, point_in, path_there, IsLaid, all_laid, next_there}
-use Rattle.soundness.proofs.Scoped.{MayHold}
-use Rattle.soundness.proofs.Used.{path_acts}
-use Rattle.soundness.proofs.Returning.{finish_ends, ended_owned}
+use Rattle.soundness.proofs.Scoped.{MayHold, Inside}
+use Rattle.soundness.proofs.Inherited.{AreGlobal, global_after}
+use Rattle.soundness.proofs.Used.{called_are, globals_are, path_acts, returns_whole}
+use Rattle.soundness.proofs.Around.{same_or_not}
+use Rattle.soundness.proofs.Returning.{returned_kept, left_held, finish_returns, finish_ends, left_waits, ended_owned}
 use Rattle.soundness.proofs.Following.{Each, GoesOn, Declares, declare_on, declare_follows, assign_follows, release_follows, input_follows, test_follows, choose_follows, stays_follows, output_follows, start_follows, next_follows, end_scope_follows}
 use Rattle.soundness.proofs.Waits.{drop_none, or_both}
-use Rattle.soundness.proofs.Successors.{not_true, both_not, takes_none, finish_or, below_one, below_two, successor_there, successor_cases, unmoved_after}
-use Rattle.owned_loans.specs.Views.{Views, Viewed, Unused}
-use Rattle.viewed_soundness.specs.Holds.{IsNamed, AllKeep}
+use Rattle.soundness.proofs.Successors.{not_true, both_not, calls_cases, procedures_take_none, finish_or, below_one, below_two, successor_there, successor_cases, unmoved_after}
+use Rattle.owned_loans.specs.Views.{Around, known_gone, Views, IsMovedBy, AreClear, AreViews, Viewed, Unused}
+use Rattle.owned_loans.proofs.Moves.{view_on, same_viewed}
+use Rattle.owned_loans.proofs.Ended.{stands_itself}
+use Rattle.viewed_soundness.specs.Holds.{IsNamed, Holds, AllKeep}
 use Rattle.viewed_soundness.proofs.Names.{plain_named, true_false}
-use Rattle.viewed_soundness.proofs.Evaluated.{keep_both}
-use Rattle.viewed_soundness.proofs.Outcomes.{named_plain, IsGood, Turned, Leads_on, Is_left, test_leads, choose_leads, assign_leads}
-use Rattle.viewed_steps.specs.Sound.{Lasts, HoldsAt, ArePlaced, HaveNone, IsRunning, IsSound, LeadsOn, StepsLeadOn}
+use Rattle.viewed_soundness.proofs.Evaluated.{live_trunk, keep_both}
+use Rattle.viewed_soundness.proofs.Outcomes.{named_plain, IsGood, Turned, Leads_on, Is_left, raises, start_is, hands_behind, test_leads, choose_leads, assign_leads}
+use Rattle.viewed_steps.specs.Sound.{Lasts, HoldsAt, ArePlaced, NoneAbove, ViewStage, stages_of, GoneElsewhere, AreOwn, IsWaiting, IsFirst, AreWaiting, IsRunning, IsSound, LeadsOn, StepsLeadOn}
 use Rattle.viewed_steps.specs.Ready.{AreOrderly, IsReady}
 use Rattle.viewed_steps.proofs.Declared.{IsElsewhere, OthersStay, not_gone, declare_leads, others_stay}
 use Rattle.viewed_steps.proofs.Released.{release_leads}
-use Rattle.viewed_steps.proofs.Read.{input_leads}
+use Rattle.viewed_steps.proofs.Read.{scalar_named, input_leads}
 use Rattle.viewed_steps.proofs.Rounds.{skip_leads, fall_leads, leave_loop_leads, output_leads, line_leads, next_leads, start_leads}
 use Rattle.viewed_steps.proofs.Lent.{loans_stay, spare_acts}
 use Rattle.viewed_steps.proofs.Placed.{scope_on, view_ends, placed_on, MayBe, turned_placed}
 use Rattle.viewed_steps.proofs.Ended.{none_some, views_left, ends_well, placed_left, holds_left}
 use Rattle.viewed_steps.proofs.Sources.{leads_or, view_declared, view_assigned}
+use Rattle.viewed_steps.proofs.Beside.{OthersKept, others_keep, end_scope_keeps}
+use Rattle.viewed_steps.proofs.Waiting.{StandsBetween, all_between, KeptElsewhere, around as concern, alone as near_alone, far, apart_elsewhere, all_on}
+use Rattle.viewed_steps.proofs.Left.{owned_left, covered_left, reach_left, reach_before, gone_before, own_whole, other_word, no_word}
+use Rattle.viewed_steps.proofs.Called.{AreValues, values_laid, values_return, AreIn, no_copies, all_values, Enters, all_entered}
+
+smaller : (f b low : ℕ) → f < suc b → (f ≡ low → ⊥) → low ≡ b → f < low
+smaller f b low less ne is =
+    let most : f ≤ b = omega (arith, less) in
+    elim (eq-or-lt_of_le most) [ inl same ↦ absurd (ne (same ∙ sym is)) | inr under ↦ omega (arith, under, is) ]
+
+higher : (f low b : ℕ) → low < f → low ≡ b → (f ≡ suc b → ⊥) → suc b < f
+higher f low b less is ne =
+    let most : suc b ≤ f = omega (arith, less, is) in
+    elim (eq-or-lt_of_le most) [ inl same ↦ absurd (ne (sym same)) | inr over ↦ over ]
+
+no_second : (a b : Bool) → b ≡ false → a && b ≡ false
+no_second true b e = e
+no_second false b e = refl
 
 or_right : (a b : Bool) → b ≡ true → a || b ≡ true
 or_right true b e = refl
@@ -127,7 +158,10 @@ module _ (table : Table) (typed : TypedProgram) (effects : Effects) (input : Lis
   same = typing_same table typed ready.scoped.objects
 
   no_in_formals : (x : ℕ) → is_view_formal s x ≡ false
-  no_in_formals x = ap (λ b. (b && is_in (object_at s x).mode) && is_owning s.table (object_at s x).of) (ready.class.no_formals x)
+  no_in_formals x = elim (bool_cases (is_formal s x)) [
+    | inl e ↦ no_second (is_in_formal s x) (is_owning s.table (object_at s x).of) (plain_type s ready.owns (object_at s x).of (ready.class.formals x e).1)
+    | inr e ↦ ap (λ b. (b && is_in (object_at s x).mode) && is_owning s.table (object_at s x).of) e
+  ]
 
   laid : (named : NamedSub) → Has (flow_named table typed) named → IsLaid own named
   laid named has = all_laid own typed.subs ready.scoped.bodies named has
@@ -138,7 +172,7 @@ module _ (table : Table) (typed : TypedProgram) (effects : Effects) (input : Lis
   -- ---- a point
 
   -- The innermost frame of a state, with those around it, at a point that is laid out.
-  module _ (state : State) (top : Stage) (older : List Stage) (outer : List Frame) (named : NamedSub) (p : NamedPoint)
+  module _ (state : State) (top : Stage) (older : List ViewStage) (outer : List Frame) (named : NamedSub) (p : NamedPoint)
       (frames : state.frames ≡ top.frame ∷ outer) (of_sub : IsNamedSub (flow_named table typed) top.frame.sub named)
       (at_point : IsAtPoint named.points top.frame.next p) where
     abbrev sub : FlowSub
@@ -174,11 +208,11 @@ module _ (table : Table) (typed : TypedProgram) (effects : Effects) (input : Lis
         ∙ ap (λ (q : FlowPoint). turn (record { program = program; input = input; point = q; state = state; frame = top.frame; outer = outer }) q.instr)
         (ap (λ (z : FlowSub). get_or z.points top.frame.next no_point) sub_is ∙ point_there own named top.frame.next p at_point)
 
-    calls_there : calls_nothing p.instr ≡ true
-    calls_there = ready.class.no_calls sub in_program here in_sub
+    calls_there : calls_procedures p.instr ≡ true
+    calls_there = ready.class.calls sub in_program here in_sub
 
     takes : taken here.instr ≡ 0
-    takes = takes_none p.instr calls_there
+    takes = procedures_take_none p.instr calls_there
 
     fine : IsFine s named.sub.result p.instr
     fine = ready.accepted.fine sub in_program here in_sub
@@ -215,11 +249,17 @@ module _ (table : Table) (typed : TypedProgram) (effects : Effects) (input : Lis
     abbrev pub acts_here : Instruction → List Act
     acts_here i = acts (acts_by s i)
 
-    acts_are : acts_at points top.frame.next ≡ acts_here p.instr
+    -- those of the instruction, and those of a call on package objects
+    abbrev whole_acts : Instruction → List Act
+    whole_acts i = acts (acts_by s i ++ called_acts program effects p.pos i)
+
+    acts_are : acts_at points top.frame.next ≡ whole_acts p.instr
     acts_are =
         ap (λ (z : PathPoint). acts z.acts) (path_there own named top.frame.next p at_point program effects)
         ∙ ap (λ z. acts (acts_by z p.instr ++ called_acts program effects p.pos p.instr)) (sym same)
-        ∙ ap (λ z. acts (acts_by s p.instr ++ z)) (no_callee p.instr calls_there) ∙ ap acts (append-nil (acts_by s p.instr))
+
+    acts_plain : calls_nothing p.instr ≡ true → whole_acts p.instr ≡ acts_here p.instr
+    acts_plain plain = ap (λ z. acts (acts_by s p.instr ++ z)) (no_callee p.instr plain) ∙ ap acts (append-nil (acts_by s p.instr))
 
     keeps_there : AllKeep (is_observer s) (acts_here p.instr)
     keeps_there = subst (λ z. AllKeep (is_observer s) (acts (acts_by z p.instr))) (sym same) (ready.orderly.kept sub in_program here in_sub)
@@ -234,11 +274,18 @@ module _ (table : Table) (typed : TypedProgram) (effects : Effects) (input : Lis
       facts_are : facts_of program effects top ≡ facts
       facts_are = ap (λ (z : FlowSub). facts_before (path_points program effects z) top.before) sub_is
 
-      allowed : AllowsAll facts (acts_here p.instr)
-      allowed = subst (AllowsAll facts) acts_are (accepted_point program effects ready.accepted.no_reports sub in_program top.before top.frame.next path_here)
+      allowed_whole : AllowsAll facts (whole_acts p.instr)
+      allowed_whole = subst (AllowsAll facts) acts_are (accepted_point program effects ready.accepted.no_reports sub in_program top.before top.frame.next path_here)
 
-      facts_on : facts_before points (top.frame.next ∷ top.before) ≡ after (acts_here p.instr) facts
-      facts_on = facts_next points top.before top.frame.next ∙ ap (λ z. after z facts) acts_are
+      facts_whole : facts_before points (top.frame.next ∷ top.before) ≡ after (whole_acts p.instr) facts
+      facts_whole = facts_next points top.before top.frame.next ∙ ap (λ z. after z facts) acts_are
+
+      -- of an instruction that calls nothing
+      allowed : calls_nothing p.instr ≡ true → AllowsAll facts (acts_here p.instr)
+      allowed plain = subst (AllowsAll facts) (acts_plain plain) allowed_whole
+
+      facts_on : calls_nothing p.instr ≡ true → facts_before points (top.frame.next ∷ top.before) ≡ after (acts_here p.instr) facts
+      facts_on plain = facts_whole ∙ ap (λ z. after z facts) (acts_plain plain)
 
       -- ---- a successor
 
@@ -255,29 +302,29 @@ module _ (table : Table) (typed : TypedProgram) (effects : Effects) (input : Lis
       next_at : (n : ℕ) → Has here.next n → (q : NamedPoint) × IsAtPoint named.points n q × Leads own (scope_behind p) q.scope
       next_at n next = next_there own named (laid named named_in) p point_in_named n next
 
-      goes_to_next : (after_step : State) (loops : List Loop) (n : ℕ) (next : Has here.next n) (q : NamedPoint) → IsAtPoint named.points n q
+      goes_to_next : calls_nothing p.instr ≡ true → (after_step : State) (loops : List Loop) (n : ℕ) (next : Has here.next n) (q : NamedPoint) → IsAtPoint named.points n q
           → after_step.frames ≡ record top.frame { waits = []; loops = loops; next = n } ∷ outer
-          → top.depth ≡ length outer → AreStages older outer → (views : Views)
-          → IsRunning table typed views after_step.memory (at_next loops n ∷ older)
-          → Viewed (home s (length outer)) (is_observer s) (Elsewhere program effects older) views (view_here s after_step) (after (acts_here p.instr) facts)
+          → top.depth ≡ length outer → AreStages (stages_of older) outer → (views : Views)
+          → IsRunning table typed effects after_step (record { stage = at_next loops n; views = views }) older
+          → Viewed (home s (length outer)) (is_observer s) (known_gone (home s (length outer)) (GoneElsewhere program effects older)) views (view_here s after_step) (after (acts_here p.instr) facts)
           → Kept s after_step.memory (waiting_in after_step) → InScope s after_step.memory (length outer) q.scope
           → HoldsAt s (length outer) views after_step.memory q → ArePlaced program (after (acts_here p.instr) facts) views q.scope
-          → IsSound table typed effects after_step
-      goes_to_next after_step loops n next q at is deep stages views running viewed kept scope holds placed =
+          → NoneAbove s (length outer) after_step.memory → IsSound table typed effects after_step
+      goes_to_next plain after_step loops n next q at is deep stages views running viewed kept scope holds placed above =
           let step_on : Has (path_point points top.frame.next).next n =
           subst (λ (z : PathPoint). Has z.next n) (sym (path_there own named top.frame.next p at_point program effects)) next in
           let facts_there : facts_of program effects (at_next loops n) ≡ after (acts_here p.instr) facts =
-          ap (λ (z : FlowSub). facts_before (path_points program effects z) (top.frame.next ∷ top.before)) sub_is ∙ facts_on in
+          ap (λ (z : FlowSub). facts_before (path_points program effects z) (top.frame.next ∷ top.before)) sub_is ∙ facts_on plain in
           record {
             top = at_next loops n;
-            older = older;
             views = views;
-            stages = subst (AreStages (at_next loops n ∷ older)) (sym is) (refl, deep, stages);
+            older = older;
+            stages = subst (AreStages (at_next loops n ∷ stages_of older)) (sym is) (refl, deep, stages);
             running = running;
             path = subst (λ (z : FlowSub). ControlPath (path_points program effects z) (top.frame.next ∷ top.before) n) (sym sub_is)
                 (goes_on top.before top.frame.next n path_here step_on);
-            viewed = subst (λ d. Viewed (home s d) (is_observer s) (Elsewhere program effects older) views (view_here s after_step) (facts_of program effects (at_next loops n))) (sym deep)
-                (subst (Viewed (home s (length outer)) (is_observer s) (Elsewhere program effects older) views (view_here s after_step)) (sym facts_there) viewed);
+            viewed = subst (λ d. Viewed (home s d) (is_observer s) (known_gone (home s d) (GoneElsewhere program effects older)) views (view_here s after_step) (facts_of program effects (at_next loops n))) (sym deep)
+                (subst (Viewed (home s (length outer)) (is_observer s) (known_gone (home s (length outer)) (GoneElsewhere program effects older)) views (view_here s after_step)) (sym facts_there) viewed);
             kept = kept;
             named = named;
             of_sub = of_sub;
@@ -286,6 +333,7 @@ module _ (table : Table) (typed : TypedProgram) (effects : Effects) (input : Lis
             scope = subst (λ d. InScope s after_step.memory d q.scope) (sym deep) scope;
             holds = subst (λ d. HoldsAt s d views after_step.memory q) (sym deep) holds;
             placed = subst (λ z. ArePlaced program z views q.scope) (sym facts_there) placed;
+            none_above = subst (λ d. NoneAbove s d after_step.memory) (sym deep) above;
           }
 
   -- ---- nothing is moved for the package objects
@@ -316,15 +364,8 @@ module _ (table : Table) (typed : TypedProgram) (effects : Effects) (input : Lis
   unmoved_stage e is name has =
       unmoved_along e.before name (subst (λ n. Has (facts_before (path_points program effects (sub_of program n)) e.before) (Moved name)) is has)
 
-  -- so nothing is moved elsewhere
-  pub none_elsewhere : (e : Stage) → e.frame.sub ≡ 0 → IsPlain e → (w : Way) → Elsewhere program effects (e ∷ []) w → ⊥
-  none_elsewhere e first plain w (g, inl is, inl moved) = unmoved_stage g (ap (λ (z : Stage). z.frame.sub) (sym is) ∙ first) (ways.name_of w) moved.1
-  none_elsewhere e first plain w (g, inl is, inr (to, returned, q, rest)) =
-      subst (λ z. Has z to) plain.2 (subst (λ (z : Stage). Has z.returns to) (sym is) returned)
-  none_elsewhere e first plain w (g, inr none, what) = none
-
   -- where an object is declared, its facts say so of nothing that it was moved
-  module _ (state : State) (top : Stage) (older : List Stage) (outer : List Frame) (named : NamedSub) (p : NamedPoint)
+  module _ (state : State) (top : Stage) (older : List ViewStage) (outer : List Frame) (named : NamedSub) (p : NamedPoint)
       (frames : state.frames ≡ top.frame ∷ outer) (of_sub : IsNamedSub (flow_named table typed) top.frame.sub named)
       (at_point : IsAtPoint named.points top.frame.next p)
       (path : ControlPath (path_points program effects (sub_of program top.frame.sub)) top.before top.frame.next)
@@ -337,34 +378,71 @@ module _ (table : Table) (typed : TypedProgram) (effects : Effects) (input : Lis
         (ready.new (flow_sub own named) (in_program state top older outer named p frames of_sub at_point) top.before top.frame.next
         (path_here state top older outer named p frames of_sub at_point path) x v declared_at name root).0 has
 
-    new_after : (name : PlaceName) → Has (after (acts_here state top older outer named p frames of_sub at_point p.instr) (facts state top older outer named p frames of_sub at_point path)) (Moved name)
+    new_after : calls_nothing p.instr ≡ true → (name : PlaceName) → Has (after (acts_here state top older outer named p frames of_sub at_point p.instr) (facts state top older outer named p frames of_sub at_point path)) (Moved name)
         → name.root ≡ x → ⊥
-    new_after name has root =
+    new_after plain name has root =
         (ready.new (flow_sub own named) (in_program state top older outer named p frames of_sub at_point) top.before top.frame.next
         (path_here state top older outer named p frames of_sub at_point path) x v declared_at name root).1
-        (subst (λ z. Has z (Moved name)) (sym (facts_on state top older outer named p frames of_sub at_point path)) has)
+        (subst (λ z. Has z (Moved name)) (sym (facts_on state top older outer named p frames of_sub at_point path plain)) has)
 
-  -- ---- a step of the main procedure
+  -- ---- frames at their start
 
-  module _ (state : State) (top below : Stage) (named : NamedSub) (p : NamedPoint) (frames : state.frames ≡ top.frame ∷ (below.frame ∷ []))
-      (deep : top.depth ≡ 1) (stages : AreStages (below ∷ []) (below.frame ∷ []))
-      (running : IsProcedure table typed top.frame.sub × IsPlain top × (below.frame.sub ≡ 0) × IsPlain below)
+  abbrev pub stage : ℕ → ℕ → Stage
+  stage n depth = record { frame = frame_at_start n []; depth = depth; before = []; returns = [] }
+
+  -- the points of a subprogram are laid out of those by name
+  pub first_point : (k : ℕ) (named : NamedSub) → IsNamedSub (flow_named table typed) k named → (p : NamedPoint) (rest : List NamedPoint) → named.points ≡ p ∷ rest
+      → is_some_point (path_points program effects (sub_of program k))
+  first_point k named stands p rest is =
+      subst (λ (z : FlowSub). is_some_point (path_points program effects z)) (sym (sub_there table typed k named stands)) (there named is)
+    where
+      there : (named : NamedSub) → named.points ≡ p ∷ rest → is_some_point (path_points program effects (flow_sub own named))
+      there named is = by_points named.points is
+        where
+          by_points : (points : List NamedPoint) → points ≡ p ∷ rest
+              → is_some_point (path_points program effects (flow_sub own (record named { points = points })))
+          by_points [] is = cc
+          by_points (q ∷ others) is = tt
+
+  -- a state without views
+  abbrev HasNone : Views → Type 0
+  HasNone v = (x : ℕ) → v.way x ≡ None
+
+  abbrev pub blank_views : Views
+  blank_views = record { way = λ x. None; loan = λ x. ways.Lost 0; up = λ x. ways.Lost 0; cell = λ x. 0 }
+
+  no_views : {A : Type 0} (v : Views) → HasNone v → (x : ℕ) (w : Way) → v.way x ≡ Some w → A
+  no_views v none x w has = absurd (none_some w (sym (none x) ∙ has))
+
+  -- ---- a step of a procedure
+
+  module _ (state : State) (top : Stage) (below : ViewStage) (more_frames : List ViewStage) (rest : List Frame) (named : NamedSub) (p : NamedPoint)
+      (frames : state.frames ≡ top.frame ∷ (below.stage.frame ∷ rest)) (deep : top.depth ≡ suc (length rest))
+      (stages : AreStages (stages_of (below ∷ more_frames)) (below.stage.frame ∷ rest))
+      (running : IsProcedure table typed top.frame.sub × IsPlain top × AreWaiting table typed effects state (below ∷ more_frames))
       (of_sub : IsNamedSub (flow_named table typed) top.frame.sub named) (at_point : IsAtPoint named.points top.frame.next p)
       (path : ControlPath (path_points program effects (sub_of program top.frame.sub)) top.before top.frame.next) (views : Views)
-      (viewed_before : Viewed (home s 1) (is_observer s) (Elsewhere program effects (below ∷ [])) views (view_here s state) (facts_of program effects top))
-      (kept : Kept s state.memory (waiting_in state)) (scope : InScope s state.memory 1 p.scope) (holds : HoldsAt s 1 views state.memory p)
-      (placed_before : ArePlaced program (facts_of program effects top) views p.scope) where
+      (viewed_before : Viewed (home s (suc (length rest))) (is_observer s) (known_gone (home s (suc (length rest))) (GoneElsewhere program effects (below ∷ more_frames))) views
+      (view_here s state) (facts_of program effects top))
+      (kept : Kept s state.memory (waiting_in state)) (scope : InScope s state.memory (suc (length rest)) p.scope) (holds : HoldsAt s (suc (length rest)) views state.memory p)
+      (placed_before : ArePlaced program (facts_of program effects top) views p.scope) (above : NoneAbove s (suc (length rest)) state.memory) where
     abbrev outer : List Frame
-    outer = below.frame ∷ []
+    outer = below.stage.frame ∷ rest
 
-    abbrev older : List Stage
-    older = below ∷ []
+    abbrev older : List ViewStage
+    older = below ∷ more_frames
 
-    abbrev other : Way → Type 0
-    other = Elsewhere program effects (below ∷ [])
+    abbrev depth : ℕ
+    depth = suc (length rest)
 
-    alone : (w : Way) → Elsewhere program effects (below ∷ []) w → ⊥
-    alone w o = none_elsewhere below running.2 running.3 w o
+    between : (g : ViewStage) → Has (below ∷ more_frames) g → StandsBetween table typed effects unmoved_stage local state (suc (length rest)) g
+    between g has = all_between table typed effects unmoved_stage local state (suc (length rest)) (below ∷ more_frames) (below.stage.frame ∷ rest) stages (omega arith) running.2 g has
+
+    abbrev other : Around (home s (suc (length rest)))
+    other = concern table typed effects unmoved_stage local state (suc (length rest)) (below ∷ more_frames) between
+
+    alone : (w : Way) → IsNear (suc (length rest)) w → GoneElsewhere program effects (below ∷ more_frames) w → ⊥
+    alone w near o = near_alone table typed effects unmoved_stage local state (suc (length rest)) (below ∷ more_frames) between w near o
 
     plain : top.frame.waits ≡ []
     plain = running.1.0
@@ -378,8 +456,31 @@ module _ (table : Table) (typed : TypedProgram) (effects : Effects) (input : Lis
     abbrev acts_of_main : Instruction → List Act
     acts_of_main i = acts_here state top older outer named p frames of_sub at_point i
 
-    viewed : Viewed (home s 1) (is_observer s) (Elsewhere program effects (below ∷ [])) views (view_here s state) facts_now
-    viewed = subst (Viewed (home s 1) (is_observer s) (Elsewhere program effects (below ∷ [])) views (view_here s state)) (facts_are state top older outer named p frames of_sub at_point path) viewed_before
+    viewed_own : Viewed (home s depth) (is_observer s) (known_gone (home s depth) (GoneElsewhere program effects older)) views (view_here s state) facts_now
+    viewed_own = subst (Viewed (home s depth) (is_observer s) (known_gone (home s depth) (GoneElsewhere program effects older)) views (view_here s state)) (facts_are state top older outer named p frames of_sub at_point path) viewed_before
+
+    -- with the views of those that wait
+    viewed : Viewed (home s depth) (is_observer s) other views (view_here s state) facts_now
+    viewed = record {
+      owned = viewed_own.owned;
+      covered = viewed_own.covered;
+      known = viewed_own.known;
+      clear = viewed_own.clear;
+      views = viewed_own.views;
+      far = λ w n keeps. far table typed effects unmoved_stage local state depth older between w n keeps;
+    }
+
+    -- and without them
+    apart_from_them : (v : Views) (view : ways.View) (fs : List Fact) → Viewed (home s depth) (is_observer s) other v view fs
+        → Viewed (home s depth) (is_observer s) (known_gone (home s depth) (GoneElsewhere program effects older)) v view fs
+    apart_from_them v view fs well = record {
+      owned = well.owned;
+      covered = well.covered;
+      known = well.known;
+      clear = well.clear;
+      views = well.views;
+      far = λ w n none. absurd none;
+    }
 
     placed : ArePlaced program facts_now views p.scope
     placed = subst (λ z. ArePlaced program z views p.scope) (facts_are state top older outer named p frames of_sub at_point path) placed_before
@@ -396,9 +497,6 @@ module _ (table : Table) (typed : TypedProgram) (effects : Effects) (input : Lis
     point_there_now : Has named.points p
     point_there_now = point_in_named state top older outer named p frames of_sub at_point
 
-    plain_calls : calls_nothing p.instr ≡ true
-    plain_calls = calls_there state top older outer named p frames of_sub at_point
-
     successors_there : length main_turn.point.next ≡ successors p.instr
     successors_there =
         (running.0).leads main_turn.point
@@ -413,20 +511,58 @@ module _ (table : Table) (typed : TypedProgram) (effects : Effects) (input : Lis
 
     -- ---- which variables own
 
+    -- Those of older frames that own something before the step, and package objects.
     abbrev IsOld : ℕ → ℕ → Type 0
-    IsOld f x = f < 1
+    IsOld f x =
+        (f < suc (length rest)) × ((f ≡ 0)
+        ⊎ ((q : List Step) × (k : ℕ) × (word_in s.table (content s state.memory [] (OfRoot (OfVariable f x))) q ≡ Held k)))
 
-    home_frame : (x : ℕ) → is_package_object s x ≡ false → home s 1 x ≡ 1
-    home_frame x own_frame = ap (λ b. if b then 0 else 1) own_frame
+    inside : Inside s IsOld state.memory depth p.scope
+    inside f x q n held = elim (scope f x q n held) [
+      | inl less ↦ inl (less, inr (q, n, held))
+      | inr mine ↦ inr mine
+    ]
 
-    may_hold : (x : ℕ) (in_there : List ℕ) → (is_package_object s x ≡ true) ⊎ (is_within x in_there ≡ true) → MayHold s IsOld 1 in_there (home s 1 x) x
+    in_scope : (m : Memory) (after_scope : List ℕ) → Inside s IsOld m depth after_scope → InScope s m depth after_scope
+    in_scope m after_scope in_there f x q n held = elim (in_there f x q n held) [ inl old ↦ inl old.0 | inr mine ↦ inr mine ]
+
+    still : (m : Memory) (after_scope : List ℕ) → Inside s IsOld m depth after_scope → (f x : ℕ) (q : List Step) (n : ℕ) → 0 < f → f < depth
+        → word_in s.table (content s m [] (OfRoot (OfVariable f x))) q ≡ Held n
+        → (r : List Step) × (k : ℕ) × (word_in s.table (content s state.memory [] (OfRoot (OfVariable f x))) r ≡ Held k)
+    still m after_scope in_there f x q n some less held = elim (in_there f x q n held) [
+      | inr mine ↦ (let is = mine.0 in absurd (omega (arith, less, is)))
+      | inl (below_it, inl none) ↦ absurd (omega (arith, some, none))
+      | inl (below_it, inr before) ↦ before
+    ]
+
+    home_frame : (x : ℕ) → is_package_object s x ≡ false → home s depth x ≡ depth
+    home_frame x own_frame = ap (λ b. if b then 0 else depth) own_frame
+
+    package_old : (x : ℕ) → is_package_object s x ≡ true → IsOld (home s depth x) x
+    package_old x of_package = subst (λ z. IsOld z x) (sym (ap (λ b. if b then 0 else depth) of_package)) (omega arith, inl refl)
+
+    may_hold : (x : ℕ) (in_there : List ℕ) → (is_package_object s x ≡ true) ⊎ (is_within x in_there ≡ true) → MayHold s IsOld depth in_there (home s depth x) x
     may_hold x in_there which = elim (bool_cases (is_package_object s x)) [
-      | inl of_package ↦ inl (subst (λ z. z < 1) (sym (ap (λ b. if b then 0 else 1) of_package)) (omega arith))
+      | inl of_package ↦ inl (package_old x of_package)
       | inr own_frame ↦ elim which [
         | inl of_package ↦ absurd (true_false (is_package_object s x) of_package own_frame)
         | inr within ↦ inr (home_frame x own_frame, within)
       ]
     ]
+
+    -- the variables of views above stay without numbers
+    still_above : (m : Memory) → OthersKept s depth state.memory m → NoneAbove s depth m
+    still_above m stay f x n less view e =
+        above f x n less view (sym (stay f x (λ first. omega (arith, less, first)) (λ same_depth. omega (arith, less, same_depth))) ∙ e)
+
+    -- those that wait do so still
+    wait_still : (next : State) (after_scope : List ℕ) → Inside s IsOld next.memory depth after_scope → OthersKept s depth state.memory next.memory
+        → ((w : Way) (n : ℕ) → KeptElsewhere table typed effects unmoved_stage local older w n → ways.Reaches (view_here s next) w (ways.OfCell n))
+        → AreWaiting table typed effects next older
+    wait_still next after_scope in_there stay reach =
+        all_on table typed effects unmoved_stage local state next depth (still next.memory after_scope in_there)
+        (λ f x some less view. stay f x (λ first. omega (arith, some, first)) (λ same_depth. omega (arith, less, same_depth)))
+        older outer stages (omega arith) (λ g has x w is. reach w (g.views.cell x) (g, has, x, is, refl)) running.2
 
     with_successors : (i : Instruction) (n : ℕ) → p.instr ≡ i → n < successors i → n < successors main_turn.point.instr
     with_successors i n e less = subst (λ z. n < successors z) (sym e) less
@@ -443,7 +579,7 @@ module _ (table : Table) (typed : TypedProgram) (effects : Effects) (input : Lis
     stored_which : (i : Instruction) → p.instr ≡ i → (x : ℕ) → Has (stored_at i) x → (is_package_object s x ≡ true) ⊎ (is_within x p.scope ≡ true)
     stored_which i e x has = ready.scoped.stored named named_there p point_there_now x (subst (λ z. Has (stored_at z) x) (sym e) has)
 
-    stored_there : (i : Instruction) → p.instr ≡ i → (x : ℕ) → Has (stored_at i) x → MayHold s IsOld 1 p.scope (home s 1 x) x
+    stored_there : (i : Instruction) → p.instr ≡ i → (x : ℕ) → Has (stored_at i) x → MayHold s IsOld depth p.scope (home s depth x) x
     stored_there i e x has = may_hold x p.scope (stored_which i e x has)
 
     ready_there : (i : Instruction) → p.instr ≡ i → is_ready p i ≡ true
@@ -451,7 +587,7 @@ module _ (table : Table) (typed : TypedProgram) (effects : Effects) (input : Lis
 
     -- ---- an instruction that isn't the end of a scope
 
-    module _ (going : (x : ℕ) → p.instr ≡ EndScope x → ⊥) where
+    module _ (going : (x : ℕ) → p.instr ≡ EndScope x → ⊥) (plain_calls : calls_nothing p.instr ≡ true) where
       abbrev may : ℕ → ℕ → Type 0
       may x y = MayBe program (scope_behind p) x y
 
@@ -467,7 +603,7 @@ module _ (table : Table) (typed : TypedProgram) (effects : Effects) (input : Lis
           (after (acts_of_main i) facts_now) outcome
 
       abbrev GoesFrom : Instruction → Outcome → Type 0
-      GoesFrom i outcome = Each (GoesOn main_turn plain IsOld p.scope (brought i p.scope) scope) outcome
+      GoesFrom i outcome = Each (GoesOn main_turn plain IsOld p.scope (brought i p.scope) inside) outcome
 
       abbrev Both : Instruction → Type 0
       Both i = LeadsFrom i (turn main_turn i) × GoesFrom i (turn main_turn i)
@@ -494,11 +630,11 @@ module _ (table : Table) (typed : TypedProgram) (effects : Effects) (input : Lis
       unrooted x v e r z mine (inl shared) same_root = true_false (is_package_object s x) (ap (is_package_object s) (sym same_root) ∙ shared) mine
       unrooted x v e r z mine (inr (within, end, around)) same_root = not_within x v e (subst (λ z. is_within z p.scope ≡ true) same_root within)
 
-      free : (x : ℕ) (v : TypedTree) → p.instr ≡ Declare x v → (y : ℕ) (w : Way) → views.way y ≡ Some w → IsElsewhere (home s 1) 1 x w
+      free : (x : ℕ) (v : TypedTree) → p.instr ≡ Declare x v → (y : ℕ) (w : Way) → views.way y ≡ Some w → IsElsewhere (home s depth) depth x w
       free x v e y w has at_home root = by_package (is_package_object s x) refl
         where
           by_package : (b : Bool) → is_package_object s x ≡ b → ⊥
-          by_package true shared = not_next 0 (sym (ap (λ b. if b then 0 else 1) shared) ∙ at_home)
+          by_package true shared = (let first : home s depth x ≡ 0 = ap (λ b. if b then 0 else depth) shared in omega (arith, first, at_home))
           by_package false mine = unrooted x v e (number_of w) y mine (placed y w has).root root
 
       unused : (x : ℕ) (v : TypedTree) → p.instr ≡ Declare x v → is_package_object s x ≡ false → Unused views facts_now x
@@ -508,15 +644,15 @@ module _ (table : Table) (typed : TypedProgram) (effects : Effects) (input : Lis
       }
 
       blank : (x : ℕ) (v : TypedTree) → p.instr ≡ Declare x v → (q : List Step) (w : ways.Word)
-          → word_in s.table (content s state.memory [] (OfRoot (OfVariable 1 x))) q ≡ w
-          → word_in s.table (content s state.memory [] (OfRoot (OfVariable 1 x))) q ≡ ways.Empty
+          → word_in s.table (content s state.memory [] (OfRoot (OfVariable depth x))) q ≡ w
+          → word_in s.table (content s state.memory [] (OfRoot (OfVariable depth x))) q ≡ ways.Empty
       blank x v e q ways.Empty is = is
-      blank x v e q (ways.Held n) is = absurd (elim (scope 1 x q n is) [
+      blank x v e q (ways.Held n) is = absurd (elim (scope depth x q n is) [
         | inl less ↦ omega (arith, less)
         | inr mine ↦ not_within x v e mine.1
       ])
       blank x v e q ways.Gone is =
-          let root : ways.Root = OfVariable 1 x in
+          let root : ways.Root = OfVariable depth x in
           let w : Way = along (ways.Object root) q in
           absurd (not_gone main_turn ready.accepted.settled ready.owns other alone no_in_formals views ready.class.parts_named may frames none_takes
           x facts_now (view_here s state) viewed (new_before state top older outer named p frames of_sub at_point path x v e) (free x v e) q
@@ -531,7 +667,7 @@ module _ (table : Table) (typed : TypedProgram) (effects : Effects) (input : Lis
         where
           after_it : (name : PlaceName) → Has (after (acts_of_main (Declare x v)) facts_now) (Moved name) → name.root ≡ x → ⊥
           after_it name has root =
-              new_after state top older outer named p frames of_sub at_point path x v e name
+              new_after state top older outer named p frames of_sub at_point path x v e plain_calls name
               (subst (λ i. Has (after (acts_of_main i) facts_now) (Moved name)) (sym e) has) root
 
           from_source : (w : TypedTree) → v ≡ w → (q : Pos) (y u : ℕ) (source : TypedTree) → w ≡ More (Name q y source u) NoMore → is_anonymous (view_of s x) ≡ true
@@ -561,7 +697,8 @@ module _ (table : Table) (typed : TypedProgram) (effects : Effects) (input : Lis
           by_view false owner =
               declare_leads main_turn ready.accepted.settled ready.owns other alone no_in_formals views ready.class.parts_named may frames none_takes
               x v (plain_named s.table (object_at s x).of owner) text (not_true (has_call v) calls) facts_now good allowed_there keep
-              (λ q. blank x v e q (word_in s.table (content s state.memory [] (OfRoot (OfVariable 1 x))) q) refl) after_it (free x v e)
+              (λ q. blank x v e q (word_in s.table (content s state.memory [] (OfRoot (OfVariable depth x))) q) refl) after_it (free x v e)
+              (λ w n keeps base. apart_elsewhere table typed effects unmoved_stage local state depth older between x w n keeps base)
 
       -- ---- assignments
 
@@ -575,7 +712,7 @@ module _ (table : Table) (typed : TypedProgram) (effects : Effects) (input : Lis
           let both = both_not (has_call steps) (has_call e) calls in
           let source_there : Source s u e = subst (λ z. Source s z e) (sym type) source in (
             by_view both source_there (is_anonymous (full s.table u)) refl,
-            assign_follows main_turn plain IsOld p.scope p.scope scope same_scope q x u steps e
+            assign_follows main_turn plain IsOld p.scope p.scope inside same_scope q x u steps e
                 (stored_there (Assign (Name q x steps u) e) is x (inl refl)) (with_successors (Assign (Name q x steps u) e) 0 is below_one),
           )
         where
@@ -654,7 +791,7 @@ module _ (table : Table) (typed : TypedProgram) (effects : Effects) (input : Lis
         input_leads main_turn ready.accepted.settled ready.owns other alone no_in_formals views ready.class.parts_named may frames none_takes
             q x u steps (subst (λ z. is_scalar (full s.table z) ≡ true) (sym type) scalar) leads (not_true (has_call steps) calls)
             (orderly.read q x u steps is) facts_now good allowed_there,
-        input_follows main_turn plain IsOld p.scope p.scope scope same_scope q x u steps
+        input_follows main_turn plain IsOld p.scope p.scope inside same_scope q x u steps
             (stored_there (Input (Name q x steps u)) is x (inl refl)) (with_successors (Input (Name q x steps u)) 0 is below_one),
       )
       reads target is (v, never, scalar) calls allowed_there = absurd never
@@ -666,7 +803,7 @@ module _ (table : Table) (typed : TypedProgram) (effects : Effects) (input : Lis
         release_leads main_turn ready.accepted.settled ready.owns other alone no_in_formals views ready.class.parts_named may frames none_takes
             q x u d steps (subst (λ z. shape_of s.table z ≡ shape.Access d false true) (sym type) access) leads (not_true (has_call steps) calls)
             (last_kept (acts_in s steps) keep) facts_now good allowed_there,
-        release_follows main_turn plain IsOld p.scope p.scope scope same_scope q x u steps
+        release_follows main_turn plain IsOld p.scope p.scope inside same_scope q x u steps
             (stored_there (Release (Name q x steps u)) is x (inl refl)) (with_successors (Release (Name q x steps u)) 0 is below_one),
       )
         where
@@ -682,11 +819,11 @@ module _ (table : Table) (typed : TypedProgram) (effects : Effects) (input : Lis
       leaves (More e rest) is (last, stays) calls allowed_there = (
         leave_loop_leads main_turn ready.accepted.settled ready.owns other alone no_in_formals views ready.class.parts_named may frames none_takes
             e rest last stays (or_both (has_call e) (has_call rest) (not_true (has_call e || has_call rest) calls)).0 facts_now good allowed_there,
-        test_follows main_turn plain IsOld p.scope p.scope scope same_scope e (with_successors (LeaveLoop (More e rest)) 1 is below_two),
+        test_follows main_turn plain IsOld p.scope p.scope inside same_scope e (with_successors (LeaveLoop (More e rest)) 1 is below_two),
       )
       leaves NoMore is text calls allowed_there = (
         skip_leads main_turn ready.accepted.settled ready.owns other alone no_in_formals views ready.class.parts_named may frames none_takes facts_now good,
-        stays_follows main_turn plain IsOld p.scope p.scope scope same_scope (with_successors (LeaveLoop NoMore) 0 is below_one),
+        stays_follows main_turn plain IsOld p.scope p.scope inside same_scope (with_successors (LeaveLoop NoMore) 0 is below_one),
       )
       leaves e is never calls allowed_there = absurd never
 
@@ -696,46 +833,46 @@ module _ (table : Table) (typed : TypedProgram) (effects : Effects) (input : Lis
         subst (λ z. Leads_on main_turn ready.accepted.settled ready.owns other alone no_in_formals views ready.class.parts_named may frames none_takes z (turn main_turn (Hold NoMore)))
             (sym (ap (λ r. after (acts (flow.returned_acts s r NoMore)) facts_now) no_result))
             (skip_leads main_turn ready.accepted.settled ready.owns other alone no_in_formals views ready.class.parts_named may frames none_takes facts_now good),
-        stays_follows main_turn plain IsOld p.scope p.scope scope same_scope (with_successors (Hold NoMore) 0 (is ∙ ap Hold none) below_one),
+        stays_follows main_turn plain IsOld p.scope p.scope inside same_scope (with_successors (Hold NoMore) 0 (is ∙ ap Hold none) below_one),
       )
 
       each_instruction : (i : Instruction) → p.instr ≡ i → (i ≡ Finish → ⊥) → IsFine s None i → calls_nothing i ≡ true → AllowsAll facts_now (acts_of_main i)
           → AllKeep (is_observer s) (acts_of_main i) → Both i
       each_instruction Skip is end text calls allowed_there keep = (
         skip_leads main_turn ready.accepted.settled ready.owns other alone no_in_formals views ready.class.parts_named may frames none_takes facts_now good,
-        stays_follows main_turn plain IsOld p.scope p.scope scope same_scope (with_successors Skip 0 is below_one),
+        stays_follows main_turn plain IsOld p.scope p.scope inside same_scope (with_successors Skip 0 is below_one),
       )
       each_instruction (Declare x v) is end text calls allowed_there keep = (
         declares x v is text calls allowed_there keep,
-        declare_follows main_turn plain IsOld p.scope (x ∷ p.scope) scope (one_more x) x v (new_one x) (with_successors (Declare x v) 0 is below_one),
+        declare_follows main_turn plain IsOld p.scope (x ∷ p.scope) inside (one_more x) x v (new_one x) (with_successors (Declare x v) 0 is below_one),
       )
       each_instruction (Assign target e) is end text calls allowed_there keep = assigns target e is text calls allowed_there keep
       each_instruction (Call sub actuals result) is end text calls allowed_there keep = cc
       each_instruction (Output text line) is end writing calls allowed_there keep = (
         writes text line writing calls allowed_there,
-        output_follows main_turn plain IsOld p.scope p.scope scope same_scope text line (with_successors (Output text line) 0 is below_one),
+        output_follows main_turn plain IsOld p.scope p.scope inside same_scope text line (with_successors (Output text line) 0 is below_one),
       )
       each_instruction (Input target) is end text calls allowed_there keep = reads target is text calls allowed_there
       each_instruction (Release e) is end text calls allowed_there keep = releases e is text calls allowed_there keep
       each_instruction (Test e) is end stays calls allowed_there keep = (
         test_leads main_turn ready.accepted.settled ready.owns other alone no_in_formals views ready.class.parts_named may frames none_takes
             e stays (not_true (has_call e) calls) facts_now good allowed_there,
-        test_follows main_turn plain IsOld p.scope p.scope scope same_scope e (with_successors (Test e) 1 is below_two),
+        test_follows main_turn plain IsOld p.scope p.scope inside same_scope e (with_successors (Test e) 1 is below_two),
       )
       each_instruction (Choose e choices) is end stays calls allowed_there keep = (
         choose_leads main_turn ready.accepted.settled ready.owns other alone no_in_formals views ready.class.parts_named may frames none_takes
             e choices stays (not_true (has_call e) calls) facts_now good allowed_there,
-        choose_follows main_turn plain IsOld p.scope p.scope scope same_scope e choices (ap successors (sym is)),
+        choose_follows main_turn plain IsOld p.scope p.scope inside same_scope e choices (ap successors (sym is)),
       )
       each_instruction (Start x reversed low high) is end (scalar, stays, stays') calls allowed_there keep =
           let both = both_not (has_call low) (has_call high) calls in (
             start_leads main_turn ready.accepted.settled ready.owns other alone no_in_formals views ready.class.parts_named may frames none_takes
                 x low high scalar stays stays' both.0 both.1 facts_now good allowed_there,
-            start_follows main_turn plain IsOld p.scope (x ∷ p.scope) scope (one_more x) x low high (new_one x) (with_successors (Start x reversed low high) 0 is below_one),
+            start_follows main_turn plain IsOld p.scope (x ∷ p.scope) inside (one_more x) x low high (new_one x) (with_successors (Start x reversed low high) 0 is below_one),
           )
       each_instruction (Next x reversed low high) is end scalar calls allowed_there keep = (
         next_leads main_turn ready.accepted.settled ready.owns other alone no_in_formals views ready.class.parts_named may frames none_takes x reversed scalar facts_now good,
-        next_follows main_turn plain IsOld p.scope p.scope scope same_scope x reversed
+        next_follows main_turn plain IsOld p.scope p.scope inside same_scope x reversed
             (may_hold x p.scope (inr (last_within x p.scope (ready_there (Next x reversed low high) is)))) (with_successors (Next x reversed low high) 1 is below_two),
       )
       each_instruction (Evaluate temporary e left) is end text calls allowed_there keep = cc
@@ -754,31 +891,34 @@ module _ (table : Table) (typed : TypedProgram) (effects : Effects) (input : Lis
       lent_on h n has =
           loans_stay (acts_by state top older outer named p frames of_sub at_point s p.instr) (spare_acts (record { typing = s; result = named.sub.result; roots = roots state top older outer named p frames of_sub at_point }) p.pos p.instr plain_calls going) facts_now Observed h n has
 
-      then_on : (outcome : Outcome) → LeadsFrom p.instr outcome → GoesFrom p.instr outcome → LeadsOn table typed effects outcome
-      then_on (Ends how after_step) leads on = leads
-      then_on (Goes after_step) (turned_views, turned, well) on =
+      then_on : (outcome : Outcome) → LeadsFrom p.instr outcome → GoesFrom p.instr outcome
+          → Each (λ (next : State). OthersKept s depth state.memory next.memory) outcome → LeadsOn table typed effects outcome
+      then_on (Ends how after_step) leads on stay = leads
+      then_on (Goes after_step) (turned_views, turned, well) on stay =
           let next = successor_there main_turn on.k (subst (λ z. on.k < z) (sym successors_there) on.less) in
           let q = next_at state top older outer named p frames of_sub at_point path next.0 next.2 in
           let lead : Leads s (scope_behind p) (q.0).scope = subst (λ z. Leads z (scope_behind p) (q.0).scope) (sym same) q.2 in
           let there = turned_placed main_turn ready.accepted.settled ready.owns other alone no_in_formals views ready.class.parts_named p.scope (scope_behind p) frames none_takes
           ready.orderly.transitive ready.orderly.itself local holds.only more turned_views facts_now (after (acts_of_main p.instr) facts_now) lent_on placed turned in
           let placed_next = placed_on program (after (acts_of_main p.instr) facts_now) turned_views (scope_behind p) (q.0).scope well.holds.only lead there in
-          goes_to_next state top older outer named p frames of_sub at_point path after_step on.loops next.0 next.2 q.0 q.1 (on.frames next.0 next.1) deep stages turned_views
-          (running.0, (refl, running.1.1, running.1.2), running.2, running.3) well.viewed well.kept
-          (scope_on s ready.owns after_step.memory 1 (scope_behind p) (q.0).scope (subst (InScope s after_step.memory 1) (sym scope_is) on.inside) lead)
+          goes_to_next state top older outer named p frames of_sub at_point path plain_calls after_step on.loops next.0 next.2 q.0 q.1 (on.frames next.0 next.1) deep stages turned_views
+          (running.0, (refl, running.1.1, running.1.2), wait_still after_step (brought p.instr p.scope) on.inside stay well.viewed.far)
+          (apart_from_them turned_views (view_here s after_step) (after (acts_of_main p.instr) facts_now) well.viewed) well.kept
+          (scope_on s ready.owns after_step.memory depth (scope_behind p) (q.0).scope
+          (subst (InScope s after_step.memory depth) (sym scope_is) (in_scope after_step.memory (brought p.instr p.scope) on.inside)) lead)
           (record {
             held = λ x n lasts view e. well.holds.held x n view e;
             within = λ x n view e. (let own_way = well.holds.held x n view e in (placed_next x own_way.0 own_way.1).within);
             only = well.holds.only;
           })
-          placed_next
+          placed_next (still_above after_step.memory stay)
 
       goes_plainly : (p.instr ≡ Finish → ⊥) → LeadsOn table typed effects (turn main_turn p.instr)
       goes_plainly end =
           let text = subst (λ r. IsFine s r p.instr) no_result (fine state top older outer named p frames of_sub at_point) in
-          let both = each_instruction p.instr refl end text plain_calls (allowed state top older outer named p frames of_sub at_point path)
+          let both = each_instruction p.instr refl end text plain_calls (allowed state top older outer named p frames of_sub at_point path plain_calls)
           (keeps_there state top older outer named p frames of_sub at_point) in
-          then_on (turn main_turn p.instr) both.0 both.1
+          then_on (turn main_turn p.instr) both.0 both.1 (others_keep main_turn p.instr text plain_calls end)
 
     -- ---- the end of a scope
 
@@ -800,7 +940,7 @@ module _ (table : Table) (typed : TypedProgram) (effects : Effects) (input : Lis
           (subst (λ z. Leads z (scope_behind p) (at_next_point.0).scope) (sym same) at_next_point.2)
 
       end_allowed : AllowsAll facts_now (acts_of_main (EndScope y))
-      end_allowed = subst (λ i. AllowsAll facts_now (acts_of_main i)) is (allowed state top older outer named p frames of_sub at_point path)
+      end_allowed = subst (λ i. AllowsAll facts_now (acts_of_main i)) is (allowed state top older outer named p frames of_sub at_point path (ap calls_nothing is))
 
       abbrev left_views : Views
       left_views =
@@ -812,16 +952,18 @@ module _ (table : Table) (typed : TypedProgram) (effects : Effects) (input : Lis
       then_left : (outcome : Outcome)
           → Is_left main_turn ready.accepted.settled ready.owns other alone no_in_formals views ready.class.parts_named no_source frames none_takes
           left_views y (after (acts_of_main (EndScope y)) facts_now) outcome
-          → Each (GoesOn main_turn plain IsOld p.scope (drop 1 p.scope) scope) outcome → LeadsOn table typed effects outcome
-      then_left (Ends how after_step) leads on = absurd leads
-      then_left (Goes after_step) (still_viewed, still_kept, memory) on =
+          → Each (GoesOn main_turn plain IsOld p.scope (drop 1 p.scope) inside) outcome
+          → Each (λ (next : State). OthersKept s depth state.memory next.memory) outcome → LeadsOn table typed effects outcome
+      then_left (Ends how after_step) leads on stay = absurd leads
+      then_left (Goes after_step) (still_viewed, still_kept, memory) on stay =
           let facts_are_there : after (acts_of_main (EndScope y)) facts_now ≡ after (acts_of_main p.instr) facts_now = ap (λ i. after (acts_of_main i) facts_now) (sym is) in
           let frames_there = on.frames next_point.0 (ap (successor main_turn) (only_first on.k (subst (λ z. on.k < z) (ap successors is) on.less)) ∙ next_point.1) in
-          goes_to_next state top older outer named p frames of_sub at_point path after_step on.loops next_point.0 next_point.2 at_next_point.0 at_next_point.1
-          frames_there deep stages left_views (running.0, (refl, running.1.1, running.1.2), running.2, running.3)
-          (subst (Viewed (home s 1) (is_observer s) other left_views (view_here s after_step)) facts_are_there still_viewed) still_kept
-          (scope_on s ready.owns after_step.memory 1 (drop 1 p.scope) (at_next_point.0).scope on.inside lead)
-          (subst (λ z. HoldsAt s 1 left_views z at_next_point.0) (sym memory)
+          goes_to_next state top older outer named p frames of_sub at_point path (ap calls_nothing is) after_step on.loops next_point.0 next_point.2 at_next_point.0 at_next_point.1
+          frames_there deep stages left_views (running.0, (refl, running.1.1, running.1.2), wait_still after_step (drop 1 p.scope) on.inside stay still_viewed.far)
+          (apart_from_them left_views (view_here s after_step) (after (acts_of_main p.instr) facts_now)
+          (subst (Viewed (home s depth) (is_observer s) other left_views (view_here s after_step)) facts_are_there still_viewed)) still_kept
+          (scope_on s ready.owns after_step.memory depth (drop 1 p.scope) (at_next_point.0).scope (in_scope after_step.memory (drop 1 p.scope) on.inside) lead)
+          (subst (λ z. HoldsAt s depth left_views z at_next_point.0) (sym memory)
           (holds_left main_turn ready.accepted.settled ready.owns other alone no_in_formals views ready.class.parts_named no_source frames none_takes
           p at_next_point.0 y is (home_frame y not_shared) not_shared (ready_there (EndScope y) is) ready.orderly.local (λ x within off. orderly.ended y x is within off)
           (λ x within sees region. orderly.followed y x is at_next_point.0 (next_point.0, next_point.2, at_next_point.1) within sees region)
@@ -830,7 +972,7 @@ module _ (table : Table) (typed : TypedProgram) (effects : Effects) (input : Lis
           (placed_left main_turn ready.accepted.settled ready.owns other alone no_in_formals views ready.class.parts_named no_source frames none_takes
           p at_next_point.0 y is (home_frame y not_shared) not_shared (ready_there (EndScope y) is) ready.orderly.local (λ x within off. orderly.ended y x is within off)
           (λ x within sees region. orderly.followed y x is at_next_point.0 (next_point.0, next_point.2, at_next_point.1) within sees region)
-          lead facts_now end_allowed.0 viewed kept holds placed))
+          lead facts_now end_allowed.0 viewed kept holds placed)) (still_above after_step.memory stay)
 
       ends_scope : LeadsOn table typed effects (turn main_turn (EndScope y))
       ends_scope =
@@ -839,78 +981,506 @@ module _ (table : Table) (typed : TypedProgram) (effects : Effects) (input : Lis
           p at_next_point.0 y is (home_frame y not_shared) not_shared (ready_there (EndScope y) is) ready.orderly.local (λ x within off. orderly.ended y x is within off)
           (λ x within sees region. orderly.followed y x is at_next_point.0 (next_point.0, next_point.2, at_next_point.1) within sees region)
           lead facts_now end_allowed.0 viewed kept holds placed)
-          (end_scope_follows main_turn plain IsOld p.scope (drop 1 p.scope) scope y (ready_there (EndScope y) is) refl (with_successors (EndScope y) 0 is below_one))
+          (end_scope_follows main_turn plain IsOld p.scope (drop 1 p.scope) inside y (ready_there (EndScope y) is) refl (with_successors (EndScope y) 0 is below_one))
+          (end_scope_keeps main_turn y)
 
-    -- ---- the end of the run
+    -- ---- the end of a call
 
     nothing_left : p.instr ≡ Finish → (x : ℕ) (q : List Step) (n : ℕ)
-        → word_in s.table (content s state.memory (waiting_in state) (OfRoot (OfVariable 1 x))) q ≡ Held n → ⊥
-    nothing_left is x q n held = elim (scope 1 x q n held) [
+        → word_in s.table (content s state.memory (waiting_in state) (OfRoot (OfVariable depth x))) q ≡ Held n → ⊥
+    nothing_left is x q n held = elim (scope depth x q n held) [
       | inl less ↦ omega (arith, less)
-      | inr mine ↦ true_false (is_formal s x) (ready.scoped.finishes named named_there p point_there_now is x mine.1) (ready.class.no_formals x)
+      | inr mine ↦ (
+          let formal = ready.scoped.finishes named named_there p point_there_now is x mine.1 in
+          let none = word_no s.table (content s state.memory (waiting_in state) (OfRoot (OfVariable depth x))) q
+          (no_leaf s.table ready.accepted.settled (object_at s x).of (ready.class.formals x formal).1 q) in
+          let no_number : ways.Empty ≡ Held n = sym none ∙ held in cc)
     ]
 
-    ends_run : p.instr ≡ Finish → LeadsOn table typed effects (turn main_turn Finish)
-    ends_run is =
-        subst (LeadsOn table typed effects) (sym (finish_ends main_turn below.frame refl running.1.1))
-        ((λ trap. trap), ended_owned s ready.accepted.settled ready.owns state top.frame outer 1 frames plain (nothing_left is) viewed.owned viewed.covered)
+    -- no view has a way then
+    no_view_left : p.instr ≡ Finish → (x : ℕ) → views.way x ≡ None
+    no_view_left is x = by_way (views.way x) refl
+      where
+        by_way : (o : Option Way) → views.way x ≡ o → views.way x ≡ None
+        by_way None e = e
+        by_way (Some w) e =
+            let formal = ready.scoped.finishes named named_there p point_there_now is x (placed x w e).within in
+            absurd (true_false (is_anonymous (view_of s x)) (holds.only x w e)
+            (named_plain s.table (object_at s x).of (scalar_named s.table (object_at s x).of (ready.class.formals x formal).1)))
+
+    -- no part of a package object is moved then
+    whole_packages : p.instr ≡ Finish → (name : PlaceName) → Has facts_now (Moved name) → is_package_object s name.root ≡ true → ⊥
+    whole_packages is name has shared =
+        let finishing : AllowsAll facts_now (acts_of_main Finish) =
+        subst (λ i. AllowsAll facts_now (acts_of_main i)) is (allowed state top older outer named p frames of_sub at_point path (ap calls_nothing is)) in
+        returns_whole program effects ready.accepted.effects_are own named top.before finishing.0 name has
+        (sym (ap (λ z. is_package_object z name.root) same) ∙ shared)
+
+    abbrev left_state : State
+    left_state = counted (record state { frames = below.stage.frame ∷ rest; memory = without_frame depth state.memory })
+
+    module _ (h : ViewStage) (others : List ViewStage) (stages_there : AreStages (stages_of (below ∷ (h ∷ others))) (below.stage.frame ∷ rest))
+        (waiting : AreWaiting table typed effects state (below ∷ (h ∷ others)))
+        (well : Viewed (home s depth) (is_observer s) (known_gone (home s depth) (GoneElsewhere program effects (below ∷ (h ∷ others)))) views (view_here s state) facts_now)
+        (is : p.instr ≡ Finish) where
+      abbrev left_memory : Memory
+      left_memory = without_frame depth state.memory
+
+      abbrev waits : IsWaiting table typed effects state below
+      waits = waiting.0
+
+      hands_left : waiting_in left_state ≡ waiting_in state
+      hands_left = left_waits state top.frame outer left_memory frames plain
+
+      abbrev left_view : ways.View
+      left_view = seen s left_memory (waiting_in state) state.leaks
+
+      view_left : left_view ≡ view_here s left_state
+      view_left = ap (λ z. seen s left_memory z state.leaks) (sym hands_left)
+
+      reach_on : (w : Way) (n : ℕ) → ways.Reaches (view_here s state) w (ways.OfCell n) → ways.Reaches (view_here s left_state) w (ways.OfCell n)
+      reach_on w n reach =
+          subst (λ z. ways.Reaches z w (ways.OfCell n)) view_left
+          (reach_left s state.memory depth (waiting_in state) state.leaks (nothing_left is) w (ways.OfCell n) reach)
+
+      -- what is in a variable of another frame was there before
+      held_before : (f x : ℕ) (q : List Step) (n : ℕ) → word_in s.table (content s left_memory [] (OfRoot (OfVariable f x))) q ≡ Held n
+          → (f ≡ depth → ⊥) × (word_in s.table (content s state.memory [] (OfRoot (OfVariable f x))) q ≡ Held n)
+      held_before f x q n held = left_held s state.memory depth (waiting_in state) state.leaks (nothing_left is) f x q n held
+
+      -- and views have there what they had
+      words_before : (f x : ℕ) → (f ≡ depth → ⊥)
+          → (get_or (variable_slots s f x left_memory.variables) 0 no_slot).word ≡ (get_or (variable_slots s f x state.memory.variables) 0 no_slot).word
+      words_before f x ne = other_word s state.memory depth f x ne
+
+      abbrev low : ℕ
+      low = below.stage.depth
+
+      low_is : below.stage.depth ≡ length rest
+      low_is = stages_there.1
+
+      scope_left : (f x : ℕ) (q : List Step) (n : ℕ) → word_in s.table (content s left_memory [] (OfRoot (OfVariable f x))) q ≡ Held n
+          → (f < low) ⊎ ((f ≡ low) × (is_within x (waits.point).scope ≡ true))
+      scope_left f x q n held =
+          let before = held_before f x q n held in
+          elim (same_or_not f low) [
+            | inl e ↦ inr (e, waits.scope x q n (subst (λ z. word_in s.table (content s state.memory [] (OfRoot (OfVariable z x))) q ≡ Held n) e before.1))
+            | inr other_low ↦ inl (elim (scope f x q n before.1) [
+              | inr mine ↦ absurd (before.0 mine.0)
+              | inl less ↦ smaller f (length rest) low less other_low low_is
+            ])
+          ]
+
+      -- what is gone is known to those that are left
+      known_left : (w : Way) (l : ways.Loc) → ways.IsRooted w → ways.Reaches left_view w l → left_view.word l ≡ ways.Gone
+          → IsMovedBy (home s low) below.views (facts_of program effects below.stage) w ⊎ GoneElsewhere program effects (h ∷ others) w
+      known_left w l rooted r gone =
+          elim (well.known w l rooted (reach_before s state.memory depth (waiting_in state) state.leaks (nothing_left is) w l r)
+          (gone_before s state.memory depth (waiting_in state) state.leaks (nothing_left is) l gone)) [
+            | inr (g, inl same_stage, what) ↦ inl (subst (λ (z : ViewStage). IsMovedBy (home s z.stage.depth) z.views (facts_of program effects z.stage) w) (sym same_stage) what)
+            | inr (g, inr has, what) ↦ inr (g, has, what)
+            | inl (u, moved, leads) ↦ absurd (
+                let same_way : u ≡ w =
+                sym (stands_itself (home s depth) (is_observer s) (known_gone (home s depth) (λ z. ⊥)) views u moved.0 (no_view_left is (number_of u))) ∙ leads in
+                elim (bool_cases (is_package_object s (number_of u))) [
+                  | inl shared ↦ whole_packages is (ways.name_of u) moved.1 shared
+                  | inr mine ↦ own_whole s state.memory depth (waiting_in state) state.leaks (nothing_left is) w l
+                      (subst (ways.Named (home s depth)) same_way moved.0) (ap (λ z. is_package_object s (number_of z)) (sym same_way) ∙ mine) r gone
+                ])
+          ]
+
+      viewed_left : Viewed (home s low) (is_observer s) (known_gone (home s low) (GoneElsewhere program effects (h ∷ others))) below.views left_view
+          (facts_of program effects below.stage)
+      viewed_left = record {
+        owned = owned_left s state.memory depth (waiting_in state) state.leaks (nothing_left is) well.owned;
+        covered = covered_left s state.memory depth (waiting_in state) state.leaks (nothing_left is) well.covered;
+        known = known_left;
+        clear = waits.clear;
+        views = λ x w has.
+            view_on (home s low) (is_observer s) (known_gone (home s low) (λ z. ⊥)) below.views (view_here s state) left_view
+            (facts_of program effects below.stage) (facts_of program effects below.stage) x w (waits.views x w has) (λ b n loan. loan)
+            (reach_left s state.memory depth (waiting_in state) state.leaks (nothing_left is) w (ways.OfCell (below.views.cell x)) (waits.views x w has).reaches);
+        far = λ w n none. absurd none;
+      }
+
+      holds_there : HoldsAt s low below.views left_memory waits.point
+      holds_there = record {
+        held = λ x n lasts view e. waits.holds.held x n lasts view (word_there x n view e);
+        within = λ x n view e. waits.holds.within x n view (word_there x n view e);
+        only = waits.holds.only;
+      }
+        where
+          word_there : (x n : ℕ) → is_anonymous (view_of s x) ≡ true
+              → (get_or (variable_slots s (home s low x) x left_memory.variables) 0 no_slot).word ≡ machine.Cell n
+              → (get_or (variable_slots s (home s low x) x state.memory.variables) 0 no_slot).word ≡ machine.Cell n
+          word_there x n view e =
+              let at_low : home s low x ≡ low = ap (λ b. if b then 0 else low) (local x view) in
+              let below_it = low_is in
+              sym (words_before (home s low x) x (λ same_depth. omega (arith, at_low, below_it, same_depth))) ∙ e
+
+      above_left : NoneAbove s low left_memory
+      above_left f x n less view e = elim (same_or_not f depth) [
+        | inl same_depth ↦ no_word s state.memory depth x n
+            (subst (λ z. (get_or (variable_slots s z x left_memory.variables) 0 no_slot).word ≡ machine.Cell n) same_depth e)
+        | inr ne ↦ above f x n (higher f low (length rest) less low_is ne) view (sym (words_before f x ne) ∙ e)
+      ]
+
+      others_left : AreWaiting table typed effects left_state (h ∷ others)
+      others_left =
+          all_on table typed effects unmoved_stage local state left_state depth
+          (λ f x q n some less held. (q, n, (held_before f x q n held).1))
+          (λ f x some less view. words_before f x (λ same_depth. omega (arith, less, same_depth)))
+          (h ∷ others) rest stages_there.2 (omega arith)
+          (λ g has x w there. elim (all_between table typed effects unmoved_stage local state depth (h ∷ others) rest stages_there.2 (omega arith) waiting.1 g has) [
+            | inl first ↦ absurd (none_some w (sym (first.2 x) ∙ there))
+            | inr (some, less, waits_there) ↦ reach_on w (g.views.cell x) (waits_there.views x w there).reaches
+          ]) waiting.1
+
+      -- the frame below goes on
+      returns_to : IsSound table typed effects left_state
+      returns_to = record {
+        top = below.stage;
+        views = below.views;
+        older = h ∷ others;
+        stages = stages_there;
+        running = (waits.procedure, waits.plain, others_left);
+        path = waits.path;
+        viewed = subst (λ z. Viewed (home s low) (is_observer s) (known_gone (home s low) (GoneElsewhere program effects (h ∷ others))) below.views z
+            (facts_of program effects below.stage)) view_left viewed_left;
+        kept = subst (Kept s left_memory) (sym hands_left)
+            (returned_kept s state.memory depth (waiting_in state) state.leaks (nothing_left is) kept);
+        named = waits.named;
+        of_sub = waits.of_sub;
+        point = waits.point;
+        at_point = waits.at_point;
+        scope = scope_left;
+        holds = holds_there;
+        placed = waits.placed;
+        none_above = above_left;
+      }
+
+    ends_call : p.instr ≡ Finish → LeadsOn table typed effects (turn main_turn Finish)
+    ends_call is = by_rest rest more_frames refl stages running.2 viewed_own
+      where
+        by_rest : (r : List Frame) (m : List ViewStage) → rest ≡ r → AreStages (stages_of (below ∷ m)) (below.stage.frame ∷ r)
+            → AreWaiting table typed effects state (below ∷ m)
+            → Viewed (home s depth) (is_observer s) (known_gone (home s depth) (GoneElsewhere program effects (below ∷ m))) views (view_here s state) facts_now
+            → LeadsOn table typed effects (turn main_turn Finish)
+        by_rest [] [] same_rest stages_there waiting well =
+            subst (LeadsOn table typed effects) (sym (finish_ends main_turn below.stage.frame (ap (λ z. below.stage.frame ∷ z) same_rest) running.1.1))
+            ((λ trap. trap), ended_owned s ready.accepted.settled ready.owns state top.frame outer depth frames plain (nothing_left is) well.owned well.covered)
+        by_rest [] (h ∷ m) same_rest stages_there waiting well = absurd stages_there.2
+        by_rest (k ∷ r) [] same_rest stages_there waiting well = absurd stages_there.2
+        by_rest (k ∷ r) (h ∷ m) same_rest stages_there waiting well =
+            subst (LeadsOn table typed effects) (sym (finish_returns main_turn below.stage.frame k r (ap (λ z. below.stage.frame ∷ z) same_rest) running.1.1))
+            (returns_to h m (subst (λ z. AreStages (stages_of (below ∷ (h ∷ m))) (below.stage.frame ∷ z)) (sym same_rest) stages_there) waiting well is)
+
+    -- ---- a call
+
+    module _ (n : ℕ) (actuals : TypedTree) (e : p.instr ≡ Call n actuals None) (no_call : has_call actuals ≡ false) where
+      called : IsCalled table typed n actuals
+      called =
+          ready.called (flow_sub own named) (in_program state top older outer named p frames of_sub at_point) main_turn.point
+          (in_sub state top older outer named p frames of_sub at_point) n actuals None e
+
+      abbrev formals : List ℕ
+      formals = (sub_of program n).formals
+
+      scalar_formals : (x : ℕ) → Has formals x → is_scalar (full s.table (object_at s x).of) ≡ true
+      scalar_formals x has = (ready.class.formals x (called.formals x has)).1
+
+      in_formals : AreIn s formals
+      in_formals x has = (ready.class.formals x (called.formals x has)).0
+
+      no_callee_result : (sub_of program n).result ≡ None
+      no_callee_result =
+          ap (λ (z : FlowSub). z.result) (sub_there table typed n called.procedure.named called.procedure.stands)
+          ∙ called.procedure.procedure called.procedure.named called.procedure.stands
+
+      abbrev ways_there : List Passing
+      ways_there = map (way_of s ready.owns) formals
+
+      ways_are : passings s (sub_at s n) ≡ ways_there
+      ways_are = passed_to program ready.owns n no_callee_result scalar_formals
+
+      -- the acts: actuals are read; then come those on package objects
+      abbrev values : List Placed
+      values = flow.actual_values s ways_there actuals
+
+      values_are : acts_by state top older outer named p frames of_sub at_point s p.instr ≡ values
+      values_are =
+          ap (acts_by state top older outer named p frames of_sub at_point s) e
+          ∙ ap (λ z. flow.actual_values s z actuals ++ flow.actual_acts z actuals) ways_are
+          ∙ ap (λ z. values ++ z) (no_copies s ready.owns formals actuals in_formals) ∙ append-nil values
+
+      reads_there : AreReads values
+      reads_there = values_read s ready.owns formals actuals called.actuals_stay
+
+      call_acts : whole_acts state top older outer named p frames of_sub at_point p.instr ≡ acts values ++ globals_of program effects n
+      call_acts =
+          ap (λ z. acts (z ++ called_acts program effects p.pos p.instr)) values_are
+          ∙ acts_append values (called_acts program effects p.pos p.instr)
+          ∙ ap (λ i. acts values ++ acts (called_acts program effects p.pos i)) e
+          ∙ ap (λ z. acts values ++ z) (called_are program effects ready.accepted.effects_are p.pos n actuals None)
+
+      values_allowed : AllowsAll facts_now (acts values)
+      values_allowed =
+          (allows_both facts_now (acts values) (globals_of program effects n)
+          (subst (AllowsAll facts_now) call_acts (allowed_whole state top older outer named p frames of_sub at_point path))).0
+
+      abbrev now : Now
+      now = record { memory = state.memory; waits = [] }
+
+      abbrev no_sources_here : ℕ → ℕ → Type 0
+      no_sources_here a b = ⊥
+
+      not_end : (x : ℕ) → p.instr ≡ EndScope x → ⊥
+      not_end x is = (let no : Call n actuals None ≡ EndScope x = sym e ∙ is in cc)
+
+      holds_now : Holds s depth views state.memory
+      holds_now = record {
+        held = λ x k view at. holds.held x k (λ fading. not_end fading.0 fading.1) view at;
+        only = holds.only;
+      }
+
+      good_call : IsGood main_turn ready.accepted.settled ready.owns other alone no_in_formals views ready.class.parts_named no_sources_here frames none_takes views facts_now state
+      good_call = record { viewed = viewed; kept = kept; holds = holds_now }
+
+      live_now : (w : Way) (l : ways.Loc) → ways.IsRooted w → ways.Reaches (seen s state.memory (waiting_in state) state.leaks) w l
+          → (content s state.memory (waiting_in state) (trunk l)).owns ≡ true
+      live_now =
+          live_trunk (steps.here main_turn) ready.accepted.settled state.leaks [] other alone (keeps s ready.accepted.settled ready.owns) no_in_formals index_law
+          ready.owns views ready.class.parts_named state.memory (waiting_in state) viewed.owned
+
+      passed_quiet : Quiet now AreValues (all_passed (steps.here main_turn) ways_there formals actuals now)
+      passed_quiet =
+          all_values (steps.here main_turn) ready.accepted.settled (waiting_in state) state.leaks state.memory [] other facts_now views kept viewed holds_now alone live_now
+          index_law ready.owns ready.class.parts_named formals actuals called.actuals_stay in_formals no_call values_allowed
+
+      globals : AreGlobal (globals_of program effects n)
+      globals = globals_are program effects ready.accepted.effects_are n
+
+      -- the successor, at which the frame waits
+      call_point : (k : ℕ) × (successor main_turn 0 ≡ Some k) × Has main_turn.point.next k
+      call_point = successor_there main_turn 0 (subst (λ z. 0 < z) (sym (successors_there ∙ ap successors e)) below_one)
+
+      abbrev waits_stage : Stage
+      waits_stage = record {
+        frame = record top.frame { waits = []; next = call_point.0 };
+        depth = top.depth;
+        before = top.frame.next ∷ top.before;
+        returns = top.returns;
+      }
+
+      abbrev waits_there : ViewStage
+      waits_there = record { stage = waits_stage; views = views }
+
+      facts_there : facts_of program effects waits_stage ≡ facts_now
+      facts_there =
+          ap (λ (z : FlowSub). facts_before (path_points program effects z) (top.frame.next ∷ top.before)) (sub_is state top older outer named p frames of_sub at_point)
+          ∙ facts_whole state top older outer named p frames of_sub at_point path
+          ∙ ap (λ z. after z facts_now) call_acts ∙ after_append (acts values) (globals_of program effects n) facts_now
+          ∙ ap (after (globals_of program effects n)) (reads_keep values reads_there facts_now)
+          ∙ global_after (globals_of program effects n) facts_now globals
+
+      own_there : AreOwn s (facts_of program effects waits_stage)
+      own_there =
+          subst (λ (z : FlowSub). AreOwn s (facts_before (path_points program effects z) (top.frame.next ∷ top.before)))
+          (sym (sub_is state top older outer named p frames of_sub at_point))
+          (ready.spared (flow_sub own named) (in_program state top older outer named p frames of_sub at_point) top.before top.frame.next
+          (path_here state top older outer named p frames of_sub at_point path) n actuals None
+          (ap (λ (q : FlowPoint). q.instr) (point_there own named top.frame.next p at_point) ∙ e))
+
+      no_waiting : steps.waiting main_turn ≡ []
+      no_waiting = ap (λ k. drop k top.frame.waits) none_takes ∙ drop_none top.frame.waits ∙ plain
+
+      at_successor : (q : NamedPoint) × IsAtPoint named.points call_point.0 q × Leads own (scope_behind p) q.scope
+      at_successor = next_at state top older outer named p frames of_sub at_point path call_point.0 call_point.2
+
+      call_scope : scope_behind p ≡ p.scope
+      call_scope = scope_is ∙ ap (λ i. brought i p.scope) e
+
+      lead_on : Leads s p.scope (at_successor.0).scope
+      lead_on = subst (λ z. Leads s z (at_successor.0).scope) call_scope (subst (λ z. Leads z (scope_behind p) (at_successor.0).scope) (sym same) at_successor.2)
+
+      next_scope : InScope s state.memory depth (at_successor.0).scope
+      next_scope = scope_on s ready.owns state.memory depth p.scope (at_successor.0).scope scope lead_on
+
+      next_placed : ArePlaced program facts_now views (at_successor.0).scope
+      next_placed = placed_on program facts_now views p.scope (at_successor.0).scope holds.only lead_on placed
+
+      -- ---- what is passed
+
+      module _ (passed : List Passed) (given : AreValues passed) where
+        abbrev with_all : Memory
+        with_all = with_formals s (suc depth) formals passed state.memory
+
+        abbrev after_call : State
+        after_call = steps.leaking [] (entered main_turn ready.accepted.settled n actuals passed)
+
+        abbrev called_stage : Stage
+        called_stage = record { frame = frame_at_start n (returns_of formals passed); depth = suc depth; before = []; returns = [] }
+
+        enters : Enters s ready.accepted.settled (suc depth) (waiting_in state) state.leaks state.memory with_all
+        enters = all_entered s ready.accepted.settled (suc depth) (waiting_in state) state.leaks formals passed state.memory scalar_formals given kept
+
+        frames_there : after_call.frames ≡ frame_at_start n (returns_of formals passed) ∷ (waits_stage.frame ∷ outer)
+        frames_there =
+            ap (λ z. frame_at_start n (returns_of formals passed) ∷ led main_turn (record top.frame { waits = steps.waiting main_turn }) z) call_point.1
+            ∙ ap (λ z. frame_at_start n (returns_of formals passed) ∷ (record top.frame { waits = z; next = call_point.0 } ∷ outer)) no_waiting
+
+        hands_there : waiting_in after_call ≡ waiting_in state
+        hands_there =
+            hands_behind main_turn ready.accepted.settled ready.owns other alone no_in_formals views ready.class.parts_named no_sources_here frames none_takes state.memory 0
+
+        abbrev called_view : ways.View
+        called_view = seen s with_all (waiting_in state) state.leaks
+
+        view_called : called_view ≡ view_here s after_call
+        view_called = (λ j. seen s with_all (sym hands_there j) (sym (append-nil state.leaks) j))
+
+        well_called : Viewed (home s depth) (is_observer s) other views (view_here s after_call) facts_now
+        well_called =
+            subst (λ z. Viewed (home s depth) (is_observer s) other views z facts_now) view_called
+            (same_viewed (home s depth) (is_observer s) other views (view_here s state) called_view facts_now enters.same viewed)
+
+        is_waiting : IsWaiting table typed effects after_call waits_there
+        is_waiting = record {
+          procedure = running.0;
+          plain = (refl, running.1.1, running.1.2);
+          path = subst (λ (z : FlowSub). ControlPath (path_points program effects z) (top.frame.next ∷ top.before) call_point.0)
+              (sym (sub_is state top older outer named p frames of_sub at_point))
+              (goes_on top.before top.frame.next call_point.0 (path_here state top older outer named p frames of_sub at_point path)
+              (subst (λ (z : PathPoint). Has z.next call_point.0) (sym (path_there own named top.frame.next p at_point program effects)) call_point.2));
+          named = named;
+          of_sub = of_sub;
+          point = at_successor.0;
+          at_point = at_successor.1;
+          scope = λ x q k held. elim (next_scope top.depth x q k (sym (enters.hold top.depth x q) ∙ held)) [
+            | inl less ↦ absurd (omega (arith, less, deep))
+            | inr mine ↦ mine.1
+          ];
+          own = own_there;
+          clear = subst (AreClear (is_observer s)) (sym facts_there) viewed.clear;
+          views = subst (λ z. AreViews (home s top.depth) (is_observer s) views (view_here s after_call) z) (sym facts_there)
+              (subst (λ d. AreViews (home s d) (is_observer s) views (view_here s after_call) facts_now) (sym deep) well_called.views);
+          holds = subst (λ d. HoldsAt s d views with_all at_successor.0) (sym deep) (record {
+            held = λ x k lasts view at. holds_now.held x k view (sym (enters.views (home s depth x) x view) ∙ at);
+            within = λ x k view at. (
+                let own_way = holds_now.held x k view (sym (enters.views (home s depth x) x view) ∙ at) in
+                (next_placed x own_way.0 own_way.1).within);
+            only = holds.only;
+          });
+          placed = subst (λ z. ArePlaced program z views (at_successor.0).scope) (sym facts_there) next_placed;
+        }
+
+        others_wait : AreWaiting table typed effects after_call older
+        others_wait =
+            all_on table typed effects unmoved_stage local state after_call depth
+            (λ f x q k some less held. (q, k, sym (enters.hold f x q) ∙ held))
+            (λ f x some less view. enters.views f x view)
+            older outer stages (omega arith) (λ g has x w is. well_called.far w (g.views.cell x) (g, has, x, is, refl)) running.2
+
+        -- what is gone then is known to those that wait
+        known_called : (w : Way) (l : ways.Loc) → ways.IsRooted w → ways.Reaches (view_here s after_call) w l → (view_here s after_call).word l ≡ ways.Gone
+            → GoneElsewhere program effects (waits_there ∷ older) w
+        known_called w l rooted r gone = elim (well_called.known w l rooted r gone) [
+          | inr (g, has, what) ↦ (g, inr has, what)
+          | inl moved ↦ (
+            waits_there,
+            inl refl,
+            subst (λ d. IsMovedBy (home s d) views (facts_of program effects waits_stage) w) (sym deep)
+                (subst (λ z. IsMovedBy (home s depth) views z w) (sym facts_there) moved),
+          )
+        ]
+
+        entered_sound : IsSound table typed effects after_call
+        entered_sound = record {
+          top = called_stage;
+          views = blank_views;
+          older = waits_there ∷ older;
+          stages = subst (AreStages (called_stage ∷ stages_of (waits_there ∷ older))) (sym frames_there) (refl, refl, (refl, deep, stages));
+          running = (called.procedure, (refl, values_return formals passed given, refl), (is_waiting, others_wait));
+          path = begins (first_point n called.procedure.named called.procedure.stands called.procedure.point called.procedure.points called.procedure.begins);
+          viewed = record {
+            owned = well_called.owned;
+            covered = well_called.covered;
+            known = λ w l rooted r gone. inr (known_called w l rooted r gone);
+            clear = record {
+              moved = λ l h k m has there over. has;
+              lent = λ b h k m has there off over. has;
+              seen = λ b h k m has there over. has;
+              owned = λ k has. absurd has;
+            };
+            views = λ x w has. absurd (none_some w has);
+            far = λ w k none. absurd none;
+          };
+          kept = subst (Kept s with_all) (sym hands_there) enters.typed;
+          named = called.procedure.named;
+          of_sub = called.procedure.stands;
+          point = called.procedure.point;
+          at_point = ([], called.procedure.points, called.procedure.begins, refl);
+          scope = λ f x q k held. elim (scope f x q k (sym (enters.hold f x q) ∙ held)) [
+            | inl less ↦ inl (omega (arith, less))
+            | inr mine ↦ (let is = mine.0 in inl (omega (arith, is)))
+          ];
+          holds = record {
+            held = λ x k lasts view at. absurd (no_view x k view at);
+            within = λ x k view at. absurd (no_view x k view at);
+            only = λ x w has. absurd (none_some w has);
+          };
+          placed = λ x w has. absurd (none_some w has);
+          none_above = λ f x k less view at. above f x k (omega (arith, less)) view (sym (enters.views f x view) ∙ at);
+        }
+          where
+            no_view : (x k : ℕ) → is_anonymous (view_of s x) ≡ true
+                → (get_or (variable_slots s (home s (suc depth) x) x with_all.variables) 0 no_slot).word ≡ machine.Cell k → ⊥
+            no_view x k view at =
+                let up : home s (suc depth) x ≡ suc depth = ap (λ b. if b then 0 else suc depth) (local x view) in
+                above (home s (suc depth) x) x k (omega (arith, up)) view (sym (enters.views (home s (suc depth) x) x view) ∙ at)
+
+      pub calls_it : LeadsOn table typed effects (turn main_turn (Call n actuals None))
+      calls_it =
+          call_leads main_turn ready.accepted.settled n actuals (LeadsOn table typed effects)
+          (λ how m. ((λ trap. trap), raises main_turn ready.accepted.settled ready.owns other alone no_in_formals views ready.class.parts_named no_sources_here frames none_takes facts_now good_call m))
+          AreValues (values_laid s) entered_sound ways_there ways_are now
+          (start_is main_turn ready.accepted.settled ready.owns other alone no_in_formals views ready.class.parts_named no_sources_here frames none_takes) refl passed_quiet
 
     pub main_step : LeadsOn table typed effects (step program input state)
     main_step =
         subst (LeadsOn table typed effects) (sym (step_is state top older outer named p frames of_sub at_point))
         (elim (finish_or p.instr) [
-          | inl is ↦ subst (λ i. LeadsOn table typed effects (turn main_turn i)) (sym is) (ends_run is)
+          | inl is ↦ subst (λ i. LeadsOn table typed effects (turn main_turn i)) (sym is) (ends_call is)
           | inr end ↦ elim (end_or p.instr) [
             | inl (y, is) ↦ subst (λ i. LeadsOn table typed effects (turn main_turn i)) (sym is) (ends_scope y is)
-            | inr going ↦ goes_plainly going end
+            | inr going ↦ elim (calls_cases p.instr (calls_there state top older outer named p frames of_sub at_point)) [
+              | inl calls ↦ goes_plainly going calls end
+              | inr call ↦ subst (λ i. LeadsOn table typed effects (turn main_turn i)) (sym call.2) (calls_it call.0 call.1 call.2 call.3)
+            ]
           ]
         ])
 
   -- ---- a step of the package objects
 
-  abbrev pub stage : ℕ → ℕ → Stage
-  stage n depth = record { frame = frame_at_start n []; depth = depth; before = []; returns = [] }
-
-  -- the points of a subprogram are laid out of those by name
-  pub first_point : (k : ℕ) (named : NamedSub) → IsNamedSub (flow_named table typed) k named → (p : NamedPoint) (rest : List NamedPoint) → named.points ≡ p ∷ rest
-      → is_some_point (path_points program effects (sub_of program k))
-  first_point k named stands p rest is =
-      subst (λ (z : FlowSub). is_some_point (path_points program effects z)) (sym (sub_there table typed k named stands)) (there named is)
-    where
-      there : (named : NamedSub) → named.points ≡ p ∷ rest → is_some_point (path_points program effects (flow_sub own named))
-      there named is = by_points named.points is
-        where
-          by_points : (points : List NamedPoint) → points ≡ p ∷ rest
-              → is_some_point (path_points program effects (flow_sub own (record named { points = points })))
-          by_points [] is = cc
-          by_points (q ∷ others) is = tt
-
-  -- a state without views
-  abbrev HasNone : Views → Type 0
-  HasNone v = (x : ℕ) → v.way x ≡ None
-
-  no_views : {A : Type 0} (v : Views) → HasNone v → (x : ℕ) (w : Way) → v.way x ≡ Some w → A
-  no_views v none x w has = absurd (none_some w (sym (none x) ∙ has))
-
   -- the main procedure begins, over the frame of the package objects
-  module _ (below : Stage) (first : below.frame.sub ≡ 0) (plain : IsPlain below) (deep : below.depth ≡ 0) (state : State) (views : Views) (none : HasNone views)
-      (begins_main : state.frames ≡ frame_at_start ready.main [] ∷ (below.frame ∷ [])) (facts_there : List Fact)
-      (viewed : Viewed (home s 0) (is_observer s) (Elsewhere program effects []) views (view_here s state) facts_there)
+  module _ (below : ViewStage) (first : IsFirst below) (deep : below.stage.depth ≡ 0) (state : State) (views : Views) (none : HasNone views)
+      (begins_main : state.frames ≡ frame_at_start ready.main [] ∷ (below.stage.frame ∷ [])) (facts_there : List Fact)
+      (viewed : Viewed (home s 0) (is_observer s) (known_gone (home s 0) (GoneElsewhere program effects [])) views (view_here s state) facts_there)
       (unmoved : (name : PlaceName) → Has facts_there (Moved name) → ⊥) (kept : Kept s state.memory (waiting_in state))
       (scope : (f x : ℕ) (q : List Step) (n : ℕ) → word_in s.table (content s state.memory [] (OfRoot (OfVariable f x))) q ≡ Held n → f < 1)
-      (have_none : HaveNone s state.memory) where
+      (above : NoneAbove s 0 state.memory) where
     nothing_there : (x n : ℕ) → is_anonymous (view_of s x) ≡ true → (get_or (variable_slots s (home s 1 x) x state.memory.variables) 0 no_slot).word ≡ machine.Cell n → ⊥
     nothing_there x n view e =
-        have_none x n view (subst (λ f. (get_or (variable_slots s f x state.memory.variables) 0 no_slot).word ≡ machine.Cell n)
+        above 1 x n (omega arith) view (subst (λ f. (get_or (variable_slots s f x state.memory.variables) 0 no_slot).word ≡ machine.Cell n)
         (ap (λ b. if b then 0 else 1) (local x view)) e)
 
     pub main_begun : IsSound table typed effects state
     main_begun = record {
       top = stage ready.main 1;
-      older = below ∷ [];
       views = views;
-      stages = subst (AreStages (stage ready.main 1 ∷ (below ∷ []))) (sym begins_main) (refl, refl, (refl, deep, tt));
-      running = (ready.main_there, (refl, refl, refl), first, plain);
+      older = below ∷ [];
+      stages = subst (AreStages (stage ready.main 1 ∷ (below.stage ∷ []))) (sym begins_main) (refl, refl, (refl, deep, tt));
+      running = (ready.main_there, (refl, refl, refl), first);
       path = begins (first_point ready.main ready.main_there.named ready.main_there.stands ready.main_there.point ready.main_there.points ready.main_there.begins);
       viewed = record {
         owned = viewed.owned;
@@ -926,6 +1496,7 @@ module _ (table : Table) (typed : TypedProgram) (effects : Effects) (input : Lis
           owned = λ n has. absurd has;
         };
         views = λ x w has. no_views views none x w has;
+        far = λ w n keeps. absurd keeps;
       };
       kept = kept;
       named = ready.main_there.named;
@@ -939,22 +1510,23 @@ module _ (table : Table) (typed : TypedProgram) (effects : Effects) (input : Lis
         only = λ x w has. no_views views none x w has;
       };
       placed = λ x w has. no_views views none x w has;
+      none_above = λ f x n less view e. above f x n (omega (arith, less)) view e;
     }
 
   module _ (state : State) (top : Stage) (named : NamedSub) (p : NamedPoint) (frames : state.frames ≡ top.frame ∷ []) (deep : top.depth ≡ 0) (views : Views)
-      (running : (top.frame.sub ≡ 0) × IsPlain top × ((x : ℕ) → views.way x ≡ None) × HaveNone s state.memory)
+      (running : (top.frame.sub ≡ 0) × IsPlain top × ((x : ℕ) → views.way x ≡ None)) (above : NoneAbove s 0 state.memory)
       (of_sub : IsNamedSub (flow_named table typed) top.frame.sub named) (at_point : IsAtPoint named.points top.frame.next p)
       (path : ControlPath (path_points program effects (sub_of program top.frame.sub)) top.before top.frame.next)
-      (viewed_before : Viewed (home s 0) (is_observer s) (Elsewhere program effects []) views (view_here s state) (facts_of program effects top))
+      (viewed_before : Viewed (home s 0) (is_observer s) (known_gone (home s 0) (GoneElsewhere program effects [])) views (view_here s state) (facts_of program effects top))
       (kept : Kept s state.memory (waiting_in state)) (scope : InScope s state.memory 0 p.scope) (holds : HoldsAt s 0 views state.memory p) where
     abbrev first_turn : Turn
     first_turn = t state top [] [] named p frames of_sub at_point
 
-    abbrev nowhere : Way → Type 0
-    nowhere = Elsewhere program effects []
+    abbrev nowhere : Around (home s 0)
+    nowhere = known_gone (home s 0) (GoneElsewhere program effects [])
 
-    alone_first : (w : Way) → Elsewhere program effects [] w → ⊥
-    alone_first w (g, has, what) = has
+    alone_first : (w : Way) → IsNear 0 w → GoneElsewhere program effects [] w → ⊥
+    alone_first w near (g, has, what) = has
 
     abbrev no_sources : ℕ → ℕ → Type 0
     no_sources a b = ⊥
@@ -965,8 +1537,8 @@ module _ (table : Table) (typed : TypedProgram) (effects : Effects) (input : Lis
     abbrev acts_first : Instruction → List Act
     acts_first i = acts_here state top [] [] named p frames of_sub at_point i
 
-    viewed_first : Viewed (home s 0) (is_observer s) (Elsewhere program effects []) views (view_here s state) facts_first
-    viewed_first = subst (Viewed (home s 0) (is_observer s) (Elsewhere program effects []) views (view_here s state)) (facts_are state top [] [] named p frames of_sub at_point path) viewed_before
+    viewed_first : Viewed (home s 0) (is_observer s) (known_gone (home s 0) (GoneElsewhere program effects [])) views (view_here s state) facts_first
+    viewed_first = subst (Viewed (home s 0) (is_observer s) (known_gone (home s 0) (GoneElsewhere program effects [])) views (view_here s state)) (facts_are state top [] [] named p frames of_sub at_point path) viewed_before
 
     first_takes : taken first_turn.point.instr ≡ 0
     first_takes = takes state top [] [] named p frames of_sub at_point
@@ -976,6 +1548,10 @@ module _ (table : Table) (typed : TypedProgram) (effects : Effects) (input : Lis
         subst (λ (z : FlowSub). Has z.points first_turn.point)
         (sym (sub_is state top [] [] named p frames of_sub at_point) ∙ ap (sub_of program) running.0)
         (in_sub state top [] [] named p frames of_sub at_point)
+
+    -- its instruction calls nothing
+    calls_plain : (x : ℕ) (v : TypedTree) → p.instr ≡ Declare x v → calls_nothing p.instr ≡ true
+    calls_plain x v e = ap calls_nothing e ∙ subst (λ i. calls_procedures i ≡ true) e (calls_there state top [] [] named p frames of_sub at_point)
 
     module _ (x : ℕ) (v : TypedTree) (e : p.instr ≡ Declare x v) where
       scope_first : scope_behind p ≡ x ∷ p.scope
@@ -1034,16 +1610,16 @@ module _ (table : Table) (typed : TypedProgram) (effects : Effects) (input : Lis
 
       first_leads : LeadsFirst (turn first_turn (Declare x v))
       first_leads =
-          let plain_calls = subst (λ i. calls_nothing i ≡ true) e (calls_there state top [] [] named p frames of_sub at_point) in
+          let plain_calls = subst (λ i. calls_nothing i ≡ true) e (calls_plain x v e) in
           declare_leads first_turn ready.accepted.settled ready.owns nowhere alone_first no_in_formals views ready.class.parts_named no_sources frames first_takes
           x v (plain_named s.table (object_at s x).of owner) (subst (IsFine s named.sub.result) e (fine state top [] [] named p frames of_sub at_point))
           (not_true (has_call v) plain_calls) facts_first good_first
-          (subst (λ i. AllowsAll facts_first (acts_first i)) e (allowed state top [] [] named p frames of_sub at_point path))
+          (subst (λ i. AllowsAll facts_first (acts_first i)) e (allowed state top [] [] named p frames of_sub at_point path (calls_plain x v e)))
           (subst (λ i. AllKeep (is_observer s) (acts_first i)) e (keeps_there state top [] [] named p frames of_sub at_point))
           (λ q. blank_first q (word_in s.table (content s state.memory [] (OfRoot (OfVariable 0 x))) q) refl)
-          (λ name has root. new_after state top [] [] named p frames of_sub at_point path x v e name
+          (λ name has root. new_after state top [] [] named p frames of_sub at_point path x v e (calls_plain x v e) name
           (subst (λ i. Has (after (acts_first i) facts_first) (Moved name)) (sym e) has) root)
-          free_first
+          free_first (λ w n keeps base. keeps)
 
       none_left : (turned_views : Views) → Turned first_turn ready.accepted.settled ready.owns nowhere alone_first no_in_formals views ready.class.parts_named no_sources frames first_takes
           turned_views (after (acts_first (Declare x v)) facts_first) → HasNone turned_views
@@ -1058,7 +1634,7 @@ module _ (table : Table) (typed : TypedProgram) (effects : Effects) (input : Lis
 
       moment_leads : (outcome : Outcome) → LeadsFirst outcome
           → Each (Declares first_turn running.1.0 (λ f y. f < 0) p.scope (x ∷ p.scope) scope) outcome
-          → Each (λ (st : State). HaveNone s st.memory) outcome → LeadsOn table typed effects outcome
+          → Each (λ (st : State). NoneAbove s 0 st.memory) outcome → LeadsOn table typed effects outcome
       moment_leads (Ends how after_step) leads on nones = leads
       moment_leads (Goes after_step) (turned_views, turned, well) on nones =
           let none_now : HasNone turned_views = none_left turned_views turned in
@@ -1067,9 +1643,9 @@ module _ (table : Table) (typed : TypedProgram) (effects : Effects) (input : Lis
             | inl found ↦ (
                 let q = next_at state top [] [] named p frames of_sub at_point path found.0 found.2 in
                 let lead : Leads s (scope_behind p) (q.0).scope = subst (λ z. Leads z (scope_behind p) (q.0).scope) (sym same) q.2 in
-                goes_to_next state top [] [] named p frames of_sub at_point path after_step top.frame.loops found.0 found.2 q.0 q.1
+                goes_to_next state top [] [] named p frames of_sub at_point path (calls_plain x v e) after_step top.frame.loops found.0 found.2 q.0 q.1
                 (on.frames ∙ ap (led first_turn (record top.frame { waits = [] })) found.1) deep tt turned_views
-                (running.0, (refl, running.1.1, running.1.2), none_now, nones)
+                (running.0, (refl, running.1.1, running.1.2), none_now)
                 (subst (Viewed (home s 0) (is_observer s) nowhere turned_views (view_here s after_step)) facts_on_e well.viewed) well.kept
                 (scope_on s ready.owns after_step.memory 0 (scope_behind p) (q.0).scope (subst (InScope s after_step.memory 0) (sym scope_first) on.inside) lead)
                 (record {
@@ -1077,16 +1653,16 @@ module _ (table : Table) (typed : TypedProgram) (effects : Effects) (input : Lis
                   within = λ y n view at. (let own_way = well.holds.held y n view at in no_views turned_views none_now y own_way.0 own_way.1);
                   only = well.holds.only;
                 })
-                (λ y w has. no_views turned_views none_now y w has))
+                (λ y w has. no_views turned_views none_now y w has) nones)
             | inr none ↦ (
                 let below : Stage = record { frame = record top.frame { waits = [] }; depth = 0; before = top.frame.next ∷ top.before; returns = [] } in
                 let begins_main : after_step.frames ≡ frame_at_start ready.main [] ∷ (record top.frame { waits = [] } ∷ []) =
                 on.frames ∙ ap (led first_turn (record top.frame { waits = [] })) none
                 ∙ ap (λ z. main_frame (record program { main = z }) ++ (record top.frame { waits = [] } ∷ [])) ready.is_main in
                 let same_facts : after (acts_first p.instr) facts_first ≡ facts_of program effects below =
-                sym (facts_on state top [] [] named p frames of_sub at_point path)
+                sym (facts_on state top [] [] named p frames of_sub at_point path (calls_plain x v e))
                 ∙ ap (λ (z : FlowSub). facts_before (path_points program effects z) (top.frame.next ∷ top.before)) (sym (sub_is state top [] [] named p frames of_sub at_point)) in
-                main_begun below running.0 (refl, running.1.1, refl) refl after_step turned_views none_now begins_main (after (acts_first (Declare x v)) facts_first) well.viewed
+                main_begun (record { stage = below; views = turned_views }) (running.0, (refl, running.1.1, refl), none_now) refl after_step turned_views none_now begins_main (after (acts_first (Declare x v)) facts_first) well.viewed
                 (λ name has. unmoved_stage below running.0 name (subst (λ z. Has z (Moved name)) (facts_on_e ∙ same_facts) has)) well.kept
                 (λ f y q n held. elim (on.inside f y q n held) [
                   | inl less ↦ absurd (omega (arith, less))
@@ -1094,16 +1670,17 @@ module _ (table : Table) (typed : TypedProgram) (effects : Effects) (input : Lis
                 ]) nones)
           ]
 
-      have_none_on : Each (λ (st : State). HaveNone s st.memory) (turn first_turn (Declare x v))
+      have_none_on : Each (λ (st : State). NoneAbove s 0 st.memory) (turn first_turn (Declare x v))
       have_none_on = each_on (turn first_turn (Declare x v))
           (others_stay first_turn ready.accepted.settled ready.owns nowhere alone_first no_in_formals views ready.class.parts_named no_sources frames first_takes
           x v (subst (IsFine s named.sub.result) e (fine state top [] [] named p frames of_sub at_point)))
         where
-          other_frame : (x y : ℕ) → OfVariable 0 x ≡ OfVariable 1 y → ⊥
-          other_frame x y same_there = cc
+          frame_is : (g x y : ℕ) → OfVariable 0 x ≡ OfVariable g y → 0 ≡ g
+          frame_is g x y same_there = cc
 
-          each_on : (outcome : Outcome) → Each (λ (st : State). OthersStay s state.memory 0 x st.memory) outcome → Each (λ (st : State). HaveNone s st.memory) outcome
-          each_on (Goes st) stay = λ y n view at. running.3 y n view (sym (stay 1 y (λ same_there. other_frame x y same_there)) ∙ at)
+          each_on : (outcome : Outcome) → Each (λ (st : State). OthersStay s state.memory 0 x st.memory) outcome → Each (λ (st : State). NoneAbove s 0 st.memory) outcome
+          each_on (Goes st) stay = λ g y n less view at.
+              above g y n less view (sym (stay g y (λ same_there. (let none = frame_is g x y same_there in omega (arith, less, none)))) ∙ at)
           each_on (Ends how st) stay = tt
 
       declares_first : LeadsOn table typed effects (turn first_turn (Declare x v))
@@ -1120,30 +1697,29 @@ module _ (table : Table) (typed : TypedProgram) (effects : Effects) (input : Lis
 
   -- ---- each step
 
-  by_stages : (state : State) (top : Stage) (older : List Stage) (fs : List Frame) → state.frames ≡ fs → AreStages (top ∷ older) fs → (views : Views)
-      → IsRunning table typed views state.memory (top ∷ older)
+  by_stages : (state : State) (top : Stage) (views : Views) (older : List ViewStage) (fs : List Frame) → state.frames ≡ fs → AreStages (top ∷ stages_of older) fs
+      → IsRunning table typed effects state (record { stage = top; views = views }) older
       → ControlPath (path_points program effects (sub_of program top.frame.sub)) top.before top.frame.next
-      → Viewed (home s top.depth) (is_observer s) (Elsewhere program effects older) views (view_here s state) (facts_of program effects top)
+      → Viewed (home s top.depth) (is_observer s) (known_gone (home s top.depth) (GoneElsewhere program effects older)) views (view_here s state) (facts_of program effects top)
       → Kept s state.memory (waiting_in state)
       → (named : NamedSub) → IsNamedSub (flow_named table typed) top.frame.sub named → (p : NamedPoint) → IsAtPoint named.points top.frame.next p
       → InScope s state.memory top.depth p.scope → HoldsAt s top.depth views state.memory p → ArePlaced program (facts_of program effects top) views p.scope
-      → LeadsOn table typed effects (step program input state)
-  by_stages state top [] (f ∷ []) is (frame, deep, none) views running path seen_well kept named of_sub p at_point scope holds there =
-      package_step state top named p (is ∙ ap (λ z. z ∷ []) (sym frame)) deep views running of_sub at_point path
-      (subst (λ d. Viewed (home s d) (is_observer s) (Elsewhere program effects []) views (view_here s state) (facts_of program effects top)) deep seen_well) kept
+      → NoneAbove s top.depth state.memory → LeadsOn table typed effects (step program input state)
+  by_stages state top views [] (f ∷ []) is (frame, deep, none) running path seen_well kept named of_sub p at_point scope holds there above =
+      package_step state top named p (is ∙ ap (λ z. z ∷ []) (sym frame)) deep views running (subst (λ d. NoneAbove s d state.memory) deep above) of_sub at_point path
+      (subst (λ d. Viewed (home s d) (is_observer s) (known_gone (home s d) (GoneElsewhere program effects [])) views (view_here s state) (facts_of program effects top)) deep seen_well) kept
       (subst (λ d. InScope s state.memory d p.scope) deep scope) (subst (λ d. HoldsAt s d views state.memory p) deep holds)
-  by_stages state top (below ∷ []) (f ∷ (g ∷ [])) is (frame, deep, (around, deeper, none)) views running path seen_well kept named of_sub p at_point scope holds there =
-      main_step state top below named p (is ∙ (λ j. sym frame j ∷ (sym around j ∷ []))) deep (refl, deeper, none) running of_sub at_point path views
-      (subst (λ d. Viewed (home s d) (is_observer s) (Elsewhere program effects (below ∷ [])) views (view_here s state) (facts_of program effects top)) deep seen_well) kept
+  by_stages state top views (below ∷ more) (f ∷ (g ∷ rest)) is (frame, deep, (around_frame, deeper, others)) running path seen_well kept named of_sub p at_point scope holds there above =
+      main_step state top below more rest named p (is ∙ (λ j. sym frame j ∷ (sym around_frame j ∷ rest))) deep (refl, deeper, others) running of_sub at_point path views
+      (subst (λ d. Viewed (home s d) (is_observer s) (known_gone (home s d) (GoneElsewhere program effects (below ∷ more))) views (view_here s state) (facts_of program effects top)) deep seen_well) kept
       (subst (λ d. InScope s state.memory d p.scope) deep scope) (subst (λ d. HoldsAt s d views state.memory p) deep holds) there
-  by_stages state top (below ∷ (more ∷ others)) fs is stages views running path seen_well kept named of_sub p at_point scope holds there = absurd running
-  by_stages state top [] [] is stages views running path seen_well kept named of_sub p at_point scope holds there = absurd stages
-  by_stages state top [] (f ∷ (g ∷ others)) is stages views running path seen_well kept named of_sub p at_point scope holds there = absurd stages.2
-  by_stages state top (below ∷ []) [] is stages views running path seen_well kept named of_sub p at_point scope holds there = absurd stages
-  by_stages state top (below ∷ []) (f ∷ []) is stages views running path seen_well kept named of_sub p at_point scope holds there = absurd stages.2
-  by_stages state top (below ∷ []) (f ∷ (g ∷ (h ∷ others))) is stages views running path seen_well kept named of_sub p at_point scope holds there = absurd stages.2.2
+      (subst (λ d. NoneAbove s d state.memory) deep above)
+  by_stages state top views [] [] is stages running path seen_well kept named of_sub p at_point scope holds there above = absurd stages
+  by_stages state top views [] (f ∷ (g ∷ others)) is stages running path seen_well kept named of_sub p at_point scope holds there above = absurd stages.2
+  by_stages state top views (below ∷ more) [] is stages running path seen_well kept named of_sub p at_point scope holds there above = absurd stages
+  by_stages state top views (below ∷ more) (f ∷ []) is stages running path seen_well kept named of_sub p at_point scope holds there above = absurd stages.2
 
   pub sound_step : StepsLeadOn table typed effects input
   sound_step state sound =
-      by_stages state sound.top sound.older state.frames refl sound.stages sound.views sound.running sound.path sound.viewed sound.kept sound.named sound.of_sub
-      sound.point sound.at_point sound.scope sound.holds sound.placed
+      by_stages state sound.top sound.views sound.older state.frames refl sound.stages sound.running sound.path sound.viewed sound.kept sound.named sound.of_sub
+      sound.point sound.at_point sound.scope sound.holds sound.placed sound.none_above

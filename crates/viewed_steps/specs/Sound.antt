@@ -1,14 +1,19 @@
 -- What holds at each moment of a run of an accepted program with borrowers and observers.
-use Rattle.std.specs.Prelude.{◌≡◌, ◌⊎◌, ℕ, true, false, List, [], ◌∷◌, get_or, Some, None}
+--
+-- A frame that waits for a call to end has its views still: it lends no part of a package object
+-- then, and what was called names no other object of the frame.
+use Rattle.std.specs.Prelude.{◌≡◌, ◌⊎◌, ◌<◌, ℕ, true, false, List, [], ◌∷◌, map, get_or, Some, None}
 use Rattle.spark_base.specs.Lists.{Has}
 use Rattle.place_names.specs.declared.fact.Fact.{Fact}
 use Rattle.place_names.specs.declared.fact.Fact.TheVariants.{Lent}
 use Rattle.place_names.specs.declared.rule.Loan.TheVariants.{Observed}
-use Rattle.type_definitions.specs.Types.{Table}
+use Rattle.place_names.specs.declared.act.Mode.TheVariants as mode
+use Rattle.place_names.specs.Facts.{place}
+use Rattle.type_definitions.specs.Types.{Table, full, is_scalar}
 use Rattle.typed_tree.specs.Programs.{TypedProgram}
 use Rattle.flow_paths.specs.declared.report.Effects.{Effects}
 use Rattle.flow_paths.specs.Instructions.{EndScope}
-use Rattle.flow_paths.specs.Objects.{Typing, is_formal, is_anonymous, is_observer, is_package_object, has_scope_end, view_of}
+use Rattle.flow_paths.specs.Objects.{Typing, object_at, is_formal, is_anonymous, is_observer, is_package_object, has_scope_end, view_of}
 use Rattle.flow_paths.specs.Points.{NamedPoint, FlowPoint}
 use Rattle.flow_paths.specs.Laid.{FlowSub, FlowProgram, NamedSub, flow_typing, flow_program, flow_named}
 use Rattle.flow_paths.specs.Paths.{ControlPath}
@@ -20,22 +25,23 @@ use Rattle.machine.specs.Memory.{Memory, variable_slots, no_slot}
 use Rattle.machine.specs.States.{State, Outcome, Goes, Ends, sub_of}
 use Rattle.machine.specs.Owners.{WellOwned, waiting_in}
 use Rattle.machine.specs.Run.{step}
-use Rattle.owned_ways.specs.Ways.{Way, name_of, number_of}
-use Rattle.soundness.specs.Seen.{home}
+use Rattle.owned_ways.specs.Ways.{Step, OfVariable, OfRoot, Held, Way, name_of, number_of}
+use Rattle.soundness.specs.Seen.{content, word_in, home}
 use Rattle.soundness.specs.Typed.{Kept}
-use Rattle.soundness.specs.Sound.{calls_nothing, IsNamedSub, IsAtPoint, IsProcedure, Stage, facts_of, Elsewhere, AreStages, IsPlain, InScope, IsTrap}
+use Rattle.soundness.specs.Sound.{calls_procedures, IsNamedSub, IsAtPoint, IsProcedure, Stage, facts_of, AreStages, IsPlain, InScope, IsTrap}
 use Rattle.soundness.specs.Sound as owners
-use Rattle.owned_loans.specs.Views.{Views, Viewed}
+use Rattle.owned_loans.specs.Views.{known_gone, Views, IsMovedBy, AreClear, AreViews, Viewed}
 use Rattle.viewed_soundness.specs.Holds.{PartsAreNamed}
 
 -- ---- the class
 
--- Anonymous access types are those of objects alone; there are no formals, and no subprogram is
--- called.
+-- Anonymous access types are those of objects alone. Procedures are called; their formals are of
+-- mode `in` and of scalar types.
 pub record IsViewClass (program : FlowProgram) : Type 0 where
   pub parts_named : PartsAreNamed program.table
-  pub no_calls : (sub : FlowSub) → Has program.subs sub → (p : FlowPoint) → Has sub.points p → calls_nothing p.instr ≡ true
-  pub no_formals : (x : ℕ) → is_formal (flow_typing program) x ≡ false
+  pub calls : (sub : FlowSub) → Has program.subs sub → (p : FlowPoint) → Has sub.points p → calls_procedures p.instr ≡ true
+  pub formals : (x : ℕ) → is_formal (flow_typing program) x ≡ true
+      → ((object_at (flow_typing program) x).mode ≡ mode.In) × (is_scalar (full program.table (object_at (flow_typing program) x).of) ≡ true)
 
 -- ---- where objects last
 
@@ -76,32 +82,80 @@ pub record IsPlaced (program : FlowProgram) (facts : List Fact) (v : Views) (sco
 abbrev pub ArePlaced : FlowProgram → List Fact → Views → List ℕ → Type 0
 ArePlaced program facts v scope = (x : ℕ) (w : Way) → v.way x ≡ Some w → IsPlaced program facts v scope x w
 
--- Before the main procedure begins, no view of its frame has a number.
-abbrev pub HaveNone : Typing → Memory → Type 0
-HaveNone s m = (x n : ℕ) → is_anonymous (view_of s x) ≡ true → (get_or (variable_slots s 1 x m.variables) 0 no_slot).word ≡ Cell n → ⊥
+-- Above a frame no variable of a view has a number.
+abbrev pub NoneAbove : Typing → ℕ → Memory → Type 0
+NoneAbove s depth m =
+    (f x n : ℕ) → depth < f → is_anonymous (view_of s x) ≡ true → (get_or (variable_slots s f x m.variables) 0 no_slot).word ≡ Cell n → ⊥
+
+-- ---- frames that wait
+
+-- A frame with its executed points and the ways of its views.
+pub record ViewStage : Type 0 where
+  pub stage : Stage
+  pub views : Views
+
+abbrev pub stages_of : List ViewStage → List Stage
+stages_of older = map (λ (g : ViewStage). g.stage) older
+
+-- What is gone elsewhere is moved by a fact of a frame that waits, perhaps through a view of it.
+abbrev pub GoneElsewhere : FlowProgram → Effects → List ViewStage → Way → Type 0
+GoneElsewhere program effects older w =
+    (g : ViewStage) × Has older g × IsMovedBy (home (flow_typing program) g.stage.depth) g.views (facts_of program effects g.stage) w
+
+-- Each fact is on an object of the frame.
+abbrev pub AreOwn : Typing → List Fact → Type 0
+AreOwn s facts = (f : Fact) → Has facts f → is_package_object s (place f).root ≡ false
+
+-- A frame that waits for a call to end. The points that it has executed form a control path to its
+-- next point. What it owns is in scope there, and so are its views, which have their ways still. No
+-- fact is on a package object.
+pub record IsWaiting (table : Table) (typed : TypedProgram) (effects : Effects) (state : State) (g : ViewStage) : Type 0 where
+  pub procedure : IsProcedure table typed g.stage.frame.sub
+  pub plain : IsPlain g.stage
+  pub path : ControlPath (path_points (flow_program table typed) effects (sub_of (flow_program table typed) g.stage.frame.sub)) g.stage.before g.stage.frame.next
+  pub named : NamedSub
+  pub of_sub : IsNamedSub (flow_named table typed) g.stage.frame.sub named
+  pub point : NamedPoint
+  pub at_point : IsAtPoint named.points g.stage.frame.next point
+  pub scope : (x : ℕ) (p : List Step) (n : ℕ)
+      → word_in (flow_program table typed).table (content (flow_typing (flow_program table typed)) state.memory [] (OfRoot (OfVariable g.stage.depth x))) p ≡ Held n
+      → is_within x point.scope ≡ true
+  pub own : AreOwn (flow_typing (flow_program table typed)) (facts_of (flow_program table typed) effects g.stage)
+  pub clear : AreClear (is_observer (flow_typing (flow_program table typed))) (facts_of (flow_program table typed) effects g.stage)
+  pub views : AreViews (home (flow_typing (flow_program table typed)) g.stage.depth) (is_observer (flow_typing (flow_program table typed))) g.views
+      (owners.view_of (flow_typing (flow_program table typed)) state) (facts_of (flow_program table typed) effects g.stage)
+  pub holds : HoldsAt (flow_typing (flow_program table typed)) g.stage.depth g.views state.memory point
+  pub placed : ArePlaced (flow_program table typed) (facts_of (flow_program table typed) effects g.stage) g.views point.scope
+
+-- The frame of the package objects has no views, and nothing waits in it.
+abbrev pub IsFirst : ViewStage → Type 0
+IsFirst e = (e.stage.frame.sub ≡ 0) × IsPlain e.stage × ((x : ℕ) → e.views.way x ≡ None)
+
+-- The frames around one that runs a procedure.
+abbrev pub AreWaiting : Table → TypedProgram → Effects → State → List ViewStage → Type 0
+AreWaiting table typed effects state [] = ⊥
+AreWaiting table typed effects state (e ∷ []) = IsFirst e
+AreWaiting table typed effects state (g ∷ (h ∷ older)) = IsWaiting table typed effects state g × AreWaiting table typed effects state (h ∷ older)
 
 -- ---- a state
 
--- The frame of the package objects alone, which have no views; or that of the main procedure over
--- it.
-abbrev pub IsRunning : Table → TypedProgram → Views → Memory → List Stage → Type 0
-IsRunning table typed v m [] = ⊥
-IsRunning table typed v m (e ∷ []) =
-    (e.frame.sub ≡ 0) × IsPlain e × ((x : ℕ) → v.way x ≡ None) × HaveNone (flow_typing (flow_program table typed)) m
-IsRunning table typed v m (top ∷ (e ∷ [])) = IsProcedure table typed top.frame.sub × IsPlain top × (e.frame.sub ≡ 0) × IsPlain e
-IsRunning table typed v m _ = ⊥
+-- The frame of the package objects alone; or that of a procedure with those around it.
+abbrev pub IsRunning : Table → TypedProgram → Effects → State → ViewStage → List ViewStage → Type 0
+IsRunning table typed effects state top [] = IsFirst top
+IsRunning table typed effects state top (g ∷ older) =
+    IsProcedure table typed top.stage.frame.sub × IsPlain top.stage × AreWaiting table typed effects state (g ∷ older)
 
--- The innermost frame with its views, the one around it, and what holds of both.
+-- The innermost frame with its views, those around it, and what holds of them.
 pub record IsSound (table : Table) (typed : TypedProgram) (effects : Effects) (state : State) : Type 0 where
   pub top : Stage
-  pub older : List Stage
   pub views : Views
-  pub stages : AreStages (top ∷ older) state.frames
-  pub running : IsRunning table typed views state.memory (top ∷ older)
+  pub older : List ViewStage
+  pub stages : AreStages (top ∷ stages_of older) state.frames
+  pub running : IsRunning table typed effects state (record { stage = top; views = views }) older
   pub path : ControlPath (path_points (flow_program table typed) effects (sub_of (flow_program table typed) top.frame.sub)) top.before top.frame.next
   -- the state is well owned, each view has a way to its cell, and what ways find gone is moved
   pub viewed : Viewed (home (flow_typing (flow_program table typed)) top.depth) (is_observer (flow_typing (flow_program table typed)))
-      (Elsewhere (flow_program table typed) effects older) views
+      (known_gone (home (flow_typing (flow_program table typed)) top.depth) (GoneElsewhere (flow_program table typed) effects older)) views
       (owners.view_of (flow_typing (flow_program table typed)) state) (facts_of (flow_program table typed) effects top)
   -- words have the types of what they stand in
   pub kept : Kept (flow_typing (flow_program table typed)) state.memory (waiting_in state)
@@ -113,6 +167,7 @@ pub record IsSound (table : Table) (typed : TypedProgram) (effects : Effects) (s
   pub scope : InScope (flow_typing (flow_program table typed)) state.memory top.depth point.scope
   pub holds : HoldsAt (flow_typing (flow_program table typed)) top.depth views state.memory point
   pub placed : ArePlaced (flow_program table typed) (facts_of (flow_program table typed) effects top) views point.scope
+  pub none_above : NoneAbove (flow_typing (flow_program table typed)) top.depth state.memory
 
 -- ---- what is to be proved
 

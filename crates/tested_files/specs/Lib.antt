@@ -1,0 +1,2 @@
+-- what the tests say of a program
+pub mod Tested

@@ -1,0 +1,107 @@
+-- The end of a call: the variables of its frame are removed, and what the others have stays.
+use Rattle.std.proofs.Common.{◌≡◌, sym, ap, ◌∙◌, subst, inl, inr, ℕ, false, not, List, get_or, if◌then◌else◌}
+use Rattle.flow_paths.specs.Objects.{Typing, object_at, is_package_object}
+use Rattle.machine.specs.Words.{default}
+use Rattle.machine.specs.Words as machine
+use Rattle.machine.specs.Memory.{Memory, Slot, no_slot, variable_slots, without_frame}
+use Rattle.machine.specs.States.{Waiting, Leak}
+use Rattle.owned_ways.specs.Ways.{Step, OfVariable, OfHand, Loc, OfRoot, OfCell, Inside, Way, Object, Lost, Into, All, Empty, Gone, Held, View, Reaches, Named, Owned, Covered, base_of, number_of}
+use Rattle.soundness.specs.Seen.{content, trunk, steps_in, word_in, seen, home, is_view_formal}
+use Rattle.soundness.proofs.Joined.{trunk_trunk, not_inside}
+use Rattle.soundness.proofs.Defaults.{none_default, blank_word}
+use Rattle.soundness.proofs.Keeping.{cell_has}
+use Rattle.soundness.proofs.Around.{same_or_not}
+use Rattle.soundness.proofs.Endings.{SameNumbers, numbers_owned, numbers_covered, reaches_on, frame_other, frame_same, frame_ends, left_blank}
+
+module _ (s : Typing) (m : Memory) (f : ℕ) (hands : List Waiting) (leaks : List Leak)
+    (nothing : (x : ℕ) (p : List Step) (n : ℕ) → word_in s.table (content s m hands (OfRoot (OfVariable f x))) p ≡ Held n → ⊥) where
+  abbrev left : Memory
+  left = without_frame f m
+
+  abbrev now : View
+  now = seen s (without_frame f m) hands leaks
+
+  abbrev was : View
+  was = seen s m hands leaks
+
+  same : SameNumbers was now
+  same = frame_ends s m f hands leaks nothing
+
+  same_back : SameNumbers now was
+  same_back = record {
+    on = same.back;
+    back = same.on;
+    made = sym same.made;
+    freed = λ n. sym (same.freed n);
+    leaked = λ n. sym (same.leaked n);
+  }
+
+  pub owned_left : Owned was → Owned now
+  owned_left owned = numbers_owned was now same owned
+
+  pub covered_left : Covered was → Covered now
+  covered_left covered = numbers_covered was now same covered
+
+  pub reach_left : (w : Way) (l : Loc) → Reaches was w l → Reaches now w l
+  reach_left w l reach = reaches_on was now same w l reach
+
+  pub reach_before : (w : Way) (l : Loc) → Reaches now w l → Reaches was w l
+  reach_before w l reach = reaches_on now was same_back w l reach
+
+  blank : (x : ℕ) (p : List Step) → word_in s.table (content s left hands (OfRoot (OfVariable f x))) p ≡ Empty
+  blank x p =
+      blank_word s.table (content s left hands (OfRoot (OfVariable f x))) (default s.table (object_at s x).of)
+      (frame_same s f x m.variables) (none_default s.table (object_at s x).of) p
+
+  gone_there : (l : Loc) (p : List Step) → trunk l ≡ l → word_in s.table (content s left hands l) p ≡ Gone → word_in s.table (content s m hands l) p ≡ Gone
+  gone_there (OfRoot (OfVariable g y)) p t gone = elim (same_or_not g f) [
+    | inl e ↦ (
+        let there : word_in s.table (content s left hands (OfRoot (OfVariable f y))) p ≡ Gone =
+        subst (λ z. word_in s.table (content s left hands (OfRoot (OfVariable z y))) p ≡ Gone) e gone in
+        let no : Empty ≡ Gone = sym (blank y p) ∙ there in cc)
+    | inr ne ↦ ap (λ z. word_in s.table (record { of = (object_at s y).of; slots = z; owns = not (is_view_formal s y) }) p) (sym (frame_other s f g y ne m.variables)) ∙ gone
+  ]
+  gone_there (OfRoot (OfHand h)) p t gone = gone
+  gone_there (OfCell c) p t gone = gone
+  gone_there (Inside l i) p t gone = absurd (not_inside l l i t)
+
+  -- what is gone then was gone before
+  pub gone_before : (l : Loc) → now.word l ≡ Gone → was.word l ≡ Gone
+  gone_before l gone = gone_there (trunk l) (steps_in l) (trunk_trunk l) gone
+
+  -- a way from the frame stays in its variable, which is whole
+  stays_there : (w : Way) (l : Loc) (x : ℕ) → base_of w ≡ OfRoot (OfVariable f x) → Reaches now w l → trunk l ≡ OfRoot (OfVariable f x)
+  stays_there (Object r) l x base e = ap trunk e ∙ base
+  stays_there (Lost n) l x base e = cc
+  stays_there (Into w i) l x base (k, r, e) = ap trunk e ∙ stays_there w k x base r
+  stays_there (All w) l x base (k, c, r, held, e) =
+      absurd (left_blank s m f hands leaks nothing x (steps_in k) c
+      (subst (λ z. word_in s.table (content s left hands z) (steps_in k) ≡ Held c) (stays_there w k x base r) held))
+
+  whole_there : (w : Way) (l : Loc) (x : ℕ) → base_of w ≡ OfRoot (OfVariable f x) → Reaches now w l → now.word l ≡ Gone → ⊥
+  whole_there w l x base r gone =
+      let there : word_in s.table (content s left hands (OfRoot (OfVariable f x))) (steps_in l) ≡ Gone =
+      subst (λ z. word_in s.table (content s left hands z) (steps_in l) ≡ Gone) (stays_there w l x base r) gone in
+      let no : Empty ≡ Gone = sym (blank x (steps_in l)) ∙ there in cc
+
+  base_there : (w : Way) → Named (home s f) w → is_package_object s (number_of w) ≡ false → base_of w ≡ OfRoot (OfVariable f (number_of w))
+  base_there (Object (OfVariable g x)) named own = (let e : g ≡ f = named ∙ ap (λ b. if b then 0 else f) own in ap (λ z. OfRoot (OfVariable z x)) e)
+  base_there (Object (OfHand h)) named own = absurd named
+  base_there (Lost n) named own = absurd named
+  base_there (Into w i) named own = base_there w named own
+  base_there (All w) named own = base_there w named own
+
+  -- nothing that the frame named of its own is gone
+  pub own_whole : (w : Way) (l : Loc) → Named (home s f) w → is_package_object s (number_of w) ≡ false → Reaches now w l → now.word l ≡ Gone → ⊥
+  own_whole w l named own r gone = whole_there w l (number_of w) (base_there w named own) r gone
+
+-- the variables of other frames stay, and those of the frame have no number
+module _ (s : Typing) (m : Memory) (f : ℕ) where
+  pub other_word : (g y : ℕ) → (g ≡ f → ⊥)
+      → (get_or (variable_slots s g y (without_frame f m).variables) 0 no_slot).word ≡ (get_or (variable_slots s g y m.variables) 0 no_slot).word
+  other_word g y ne = ap (λ z. (get_or z 0 no_slot).word) (frame_other s f g y ne m.variables)
+
+  pub no_word : (y n : ℕ) → (get_or (variable_slots s f y (without_frame f m).variables) 0 no_slot).word ≡ machine.Cell n → ⊥
+  no_word y n e =
+      none_default s.table (object_at s y).of n (cell_has (default s.table (object_at s y).of) 0 n
+      (ap (λ (z : List Slot). (get_or z 0 no_slot).word) (sym (frame_same s f y m.variables)) ∙ e))
