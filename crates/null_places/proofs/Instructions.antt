@@ -1,5 +1,5 @@
 -- Instructions lead to the same in memories that agree.
-use Rattle.std.proofs.Common.{◌≡◌, refl, sym, ap, ◌∙◌, subst, inl, inr, ℕ, ◌+◌, Bool, true, false, not, ◌&&◌, List, [], ◌∷◌, ◌++◌, length, nat_lt, append_assoc, append-nil, ℤ, Option, Some, None, if◌then◌else◌}
+use Rattle.std.proofs.Common.{◌≡◌, refl, sym, ap, ◌∙◌, subst, inl, inr, ℕ, ◌+◌, Bool, true, false, not, ◌&&◌, List, [], ◌∷◌, ◌++◌, drop, length, nat_lt, append_assoc, append-nil, ℤ, Option, Some, None, if◌then◌else◌}
 use Rattle.std.specs.Prelude.{int_le}
 use Rattle.spark_base.specs.declared.position.Pos.{Pos}
 use Rattle.place_names.specs.declared.act.Act.{Act}
@@ -10,6 +10,7 @@ use Rattle.place_names.specs.Names.{Name as PlaceName}
 use Rattle.place_names.specs.Rules.{breaks_O3}
 use Rattle.type_definitions.specs.declared.table.Shape.TheVariants as shape
 use Rattle.type_definitions.specs.Types.{shape_of, full, is_scalar}
+use Rattle.typed_tree.specs.declared.node.ShortCircuit.{ShortCircuit}
 use Rattle.typed_tree.specs.Trees.{TypedTree, TypedCode, Name, NoMore, More}
 use Rattle.flow_paths.specs.Instructions.{Skip, Fall}
 use Rattle.flow_paths.specs.Objects.{Typing, object_at, designated, is_observer}
@@ -261,7 +262,7 @@ module _ (t : Turn) (settled : IsSettled (typing t).table) (own_law : OwnsByShap
 
   -- ---- values that are taken
 
-  source_same : (on : List (List machine.Word)) (u : ℕ) (e : TypedTree) → Source (typing t) u e → TakesPlainly (typing t) (has_call e) → Takes (waits_in e) (start t).waits on → Compares (typing t) e → AllowsAll facts (acts (acts_in (typing t) e))
+  pub source_same : (on : List (List machine.Word)) (u : ℕ) (e : TypedTree) → Source (typing t) u e → TakesPlainly (typing t) (has_call e) → Takes (waits_in e) (start t).waits on → Compares (typing t) e → AllowsAll facts (acts (acts_in (typing t) e))
       → SameTo (typing t) (taken_by t u e at) (taken_by t u e (start (twin t n)))
   source_same on u e (inl (view, is)) calls takes compares allowed = (let no : true ≡ false = sym view ∙ not_anonymous (typing t) all_named u in cc)
   source_same on u e (inr gives) calls takes compares allowed =
@@ -549,6 +550,22 @@ module _ (t : Turn) (settled : IsSettled (typing t).table) (own_law : OwnsByShap
   pub leave_loop_same : (e rest : TypedTree) → rest ≡ NoMore → Stays (typing t) e → has_call e ≡ false → Compares (typing t) e
       → AllowsAll facts (acts (acts_in (typing t) (More e rest))) → Step (steps.leave_loop t (More e rest)) (steps.leave_loop (twin t n) (More e rest))
   leave_loop_same e rest last stays calls compares allowed = leave_loop_on (start t).waits e rest last stays (no_takes e calls (start t).waits) compares allowed
+
+  -- the operand of a short circuit, whose value waits
+  pub operand_on : (on : List (List machine.Word)) (e : TypedTree) (op : Option ShortCircuit) → Stays (typing t) e → Takes (waits_in e) (start t).waits on → Compares (typing t) e
+      → AllowsAll facts (acts (acts_in (typing t) e)) → Step (steps.operand t e op) (steps.operand (twin t n) e op)
+  operand_on on e (Some o) stays takes compares allowed =
+      step_simply t n agrees (value h e at) (value h e (start (twin t n)))
+      (λ ws m. Goes (behind t (steps.truth_waiting ws ∷ waiting t) m (if run.decides o ws then 1 else 0)))
+      (λ ws m. Goes (behind (twin t n) (steps.truth_waiting ws ∷ waiting (twin t n)) m (if run.decides o ws then 1 else 0)))
+      (scalar (start t).waits on e stays takes compares allowed (start (twin t n)) at_start)
+      (λ ws i j now. ((refl, now.0), now.2))
+  operand_on on e None stays takes compares allowed =
+      step_simply t n agrees (value h e at) (value h e (start (twin t n)))
+      (λ ws m. Goes (behind t (steps.truth_waiting ws ∷ drop 1 (waiting t)) m 0))
+      (λ ws m. Goes (behind (twin t n) (steps.truth_waiting ws ∷ drop 1 (waiting (twin t n))) m 0))
+      (scalar (start t).waits on e stays takes compares allowed (start (twin t n)) at_start)
+      (λ ws i j now. ((refl, now.0), now.2))
 
   -- ---- output
 

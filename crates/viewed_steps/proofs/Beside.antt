@@ -60,7 +60,7 @@ module _ (s : Typing) (depth : ℕ) where
   by_fading : (m n : Memory) → Fades s m n → OthersKept s depth m n
   by_fading m n faint f y some other = (faint f y 0).word
 
-  put_beside : (b : Base) (slots : List Slot) (m : Memory) (f y : ℕ) → (b ≡ memory.OfVariable f y → ⊥)
+  pub put_beside : (b : Base) (slots : List Slot) (m : Memory) (f y : ℕ) → (b ≡ memory.OfVariable f y → ⊥)
       → variable_slots s f y (memory.put b slots m).variables ≡ variable_slots s f y m.variables
   put_beside (memory.OfCell n) slots m f y ne = refl
   put_beside (memory.OfVariable g z) slots m f y ne = put_other s g z f y (λ e. ne (same_base g z f y e)) slots m.variables
