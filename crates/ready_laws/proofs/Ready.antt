@@ -14,12 +14,11 @@ use Rattle.typed_tree.specs.Trees.{TypedTree, Name}
 use Rattle.typed_tree.specs.declared.object.Object.{Object}
 use Rattle.typed_tree.specs.Programs.{TypedSub, TypedProgram, text_io}
 use Rattle.flow_paths.specs.declared.report.Effects.{Effects}
-use Rattle.flow_paths.specs.Instructions.{Instruction, Declare, Assign, Call, Input, Release, Start, Evaluate, Hold, EndScope, Finish}
+use Rattle.flow_paths.specs.Instructions.{Instruction, Declare, Assign, Call, Input, Release, Evaluate, EndScope, Finish}
 use Rattle.flow_paths.specs.Objects.{Typing, object_at, is_formal, is_package_object}
 use Rattle.flow_paths.specs.Points.{NamedPoint, FlowPoint}
 use Rattle.flow_paths.specs.Laid.{Temporary, temporary_object, FlowSub, FlowProgram, NamedSub, unnumbered, named_sub, named_subs, elaborated, all_named, sub_temporaries, kept_roots, sub_facts, sub_points, elaboration_points, number_in, flow_sub, typing_of, flow_typing, flow_program, flow_named}
 use Rattle.flow_paths.specs.Paths.{ControlPath, facts_before}
-use Rattle.flow_paths.specs.Acts.{acts_of}
 use Rattle.machine.specs.Run.{no_point}
 use Rattle.flow_paths.specs.Effects.{path_points}
 use Rattle.flow_paths.specs.Scopes.{is_within, is_ready, is_settled, is_temporary, taken}
@@ -196,9 +195,9 @@ module _ (table : Table) (typed : TypedProgram) (effects : Effects) (accepted : 
   stored_there named has p there x stored = elim (cases named has) [
     | inl e ↦ (let declared = declares named e p there (still_there named e p there) in absurd (subst (λ i. Has (stored_at i) x) declared.2 stored))
     | inr b ↦ elim (seen_has (is_package_object own) (drop (taken p.instr) p.scope) (named_in p.instr) x (body_is_left named b p there) (stored_named p.instr x stored)) [
-          | inl outer ↦ inl (package_same s own alike x ∙ outer)
-          | inr within ↦ inr within
-        ]
+      | inl outer ↦ inl (package_same s own alike x ∙ outer)
+      | inr within ↦ inr within
+    ]
   ]
 
   ends_there : (named : NamedSub) → Has (flow_named table typed) named → (p : NamedPoint) → Has named.points p → (x : ℕ) → p.instr ≡ EndScope x

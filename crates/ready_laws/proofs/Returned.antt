@@ -1,5 +1,5 @@
 -- Along the control paths of a function no return comes after another one, and the end of the call comes after one.
-use Rattle.std.proofs.Common.{◌≡◌, refl, sym, ap, ◌∙◌, subst, ◌⊎◌, inl, inr, ℕ, suc, ◌+◌, ◌≤◌, Bool, true, false, cond, not, ◌&&◌, ◌||◌, ◌==◌, eqb-true, eq-eqb, List, [], ◌∷◌, ◌++◌, map, length, get_or, arith, Option, None, Some, is_some}
+use Rattle.std.proofs.Common.{◌≡◌, refl, sym, ap, ◌∙◌, subst, ◌⊎◌, inl, inr, ℕ, suc, ◌+◌, Bool, true, false, cond, not, ◌&&◌, ◌||◌, ◌==◌, eqb-true, eq-eqb, List, [], ◌∷◌, map, length, get_or, arith, Option, None, Some, is_some}
 use Rattle.std.specs.Bool.{Decides}
 use Rattle.std.specs.List.{AllByRecursion, position_or_len}
 use Rattle.std.specs.Cmp.Lexicographic.{pointwise_decides}
@@ -10,7 +10,7 @@ use Rattle.typed_tree.specs.Programs.{TypedProgram}
 use Rattle.flow_paths.specs.declared.report.Effects.{Effects}
 use Rattle.flow_paths.specs.Instructions.{Instruction, Hold, Finish}
 use Rattle.flow_paths.specs.Objects.{Typing}
-use Rattle.flow_paths.specs.Points.{PointName, row_at, same_place, same_point, NamedPoint, FlowPoint}
+use Rattle.flow_paths.specs.Points.{PointName, same_place, same_point, NamedPoint, FlowPoint}
 use Rattle.flow_paths.specs.Laid.{FlowSub, FlowProgram, NamedSub, number_in, flow_sub, typing_of, flow_program}
 use Rattle.flow_paths.specs.Paths.{PathPoint, ControlPath, begins, goes_on, is_some_point}
 use Rattle.flow_paths.specs.Effects.{path_points}
@@ -19,7 +19,7 @@ use Rattle.machine.specs.Run.{no_point}
 use Rattle.soundness.specs.Needed.{IsFine}
 use Rattle.soundness.specs.Sound.{IsAtPoint, returns_value, has_returned}
 use Rattle.soundness.proofs.Points.{IsLaid, flow_at, point_has, point_there, path_there}
-use Rattle.scope_laws.specs.Returning.{is_return, is_finish, HasFirst, IsReturned, IsOpen, Stands, StartsAtZero, returns, closes, goes}
+use Rattle.scope_laws.specs.Returning.{is_return, is_finish, IsReturned, IsOpen, Stands, StartsAtZero, returns, closes, goes}
 use Rattle.scope_laws.proofs.Lists.{all_has}
 
 -- ---- the number of a name
