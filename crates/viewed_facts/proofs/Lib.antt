@@ -3,3 +3,4 @@ pub mod Checks
 pub mod Memories
 pub mod Evaluated
 pub mod Stored
+pub mod Instructions
