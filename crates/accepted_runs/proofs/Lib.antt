@@ -1,3 +1,4 @@
 pub mod Passing
 pub mod Parsed
 pub mod Main
+pub mod Views

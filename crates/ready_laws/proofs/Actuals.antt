@@ -70,15 +70,20 @@ module _ (program : FlowProgram) where
   abbrev s : Typing
   s = flow_typing program
 
-  -- where typing finds no fault
-  pub typed_passed : IsProcedureClass program → counts (shape_of program.table integer) ≡ true → lists (shape_of program.table boolean) ≡ true
-      → ((t : ℕ) → words program.table t ≡ words_of (words program.table) (shape_of program.table t)) → AreTyped program → ArePassed program
-  typed_passed class whole listed word_law typed sub has p there n actuals result is known =
+  -- where typing finds no fault, and formals are of scalar types
+  pub scalar_passed : ((x : ℕ) → is_formal s x ≡ true → is_scalar (full program.table (object_at s x).of) ≡ true) → counts (shape_of program.table integer) ≡ true
+      → lists (shape_of program.table boolean) ≡ true → ((t : ℕ) → words program.table t ≡ words_of (words program.table) (shape_of program.table t)) → AreTyped program
+      → ArePassed program
+  scalar_passed formals whole listed word_law typed sub has p there n actuals result is known =
       let call = subst (λ i. IsTypedStep (flow_typing program) sub.result i) is (typed sub has p there) in
       let same : (sub_at (flow_typing program) n).formals ≡ (sub_of program n).formals = ap (λ (z : Signature). z.formals) (signature_there program.subs n) in
       subst (λ fs. AreActuals (flow_typing program) fs actuals) same
       (actuals_stay (flow_typing program) whole listed word_law (sub_at (flow_typing program) n).formals actuals
-      (λ x formal. class.formals x (known x (subst (λ fs. Has fs x) same formal))) call.0)
+      (λ x formal. formals x (known x (subst (λ fs. Has fs x) same formal))) call.0)
+
+  pub typed_passed : IsProcedureClass program → counts (shape_of program.table integer) ≡ true → lists (shape_of program.table boolean) ≡ true
+      → ((t : ℕ) → words program.table t ≡ words_of (words program.table) (shape_of program.table t)) → AreTyped program → ArePassed program
+  typed_passed class = scalar_passed class.formals
 
   -- where there are no formals
   pub formless_passed : ((x : ℕ) → is_formal (flow_typing program) x ≡ false) → ArePassed program

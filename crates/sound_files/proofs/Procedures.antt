@@ -90,7 +90,7 @@ module _ (p : Program) (bodies : HaveBodies p) (procedures : HasNoFunction p) wh
       ∙ all_long (typing_of table_of_text (typed_of p)) (typed_of p).subs
 
   -- It is a procedure with a body.
-  callees : AreCallees table_of_text (typed_of p) (bodies_of p)
+  pub callees : AreCallees table_of_text (typed_of p) (bodies_of p)
   callees sub has q there n actuals result is =
       let i = at_number flow_of_text.subs sub no_sub has in
       let k = at_number sub.points q no_point there in
@@ -120,7 +120,7 @@ module _ (files : List (List SourceUnit)) where
   flow = flow_program table (typed_of p)
 
   -- Each subprogram that is declared has a body, since no rule of names is broken.
-  files_bodies : Ascends (event_positions (source_events files)) → name_fault files ≡ None → HaveBodies p
+  pub files_bodies : Ascends (event_positions (source_events files)) → name_fault files ≡ None → HaveBodies p
   unfolding name_fault
   files_bodies up named d has = files_have_bodies files (identified files) (files_followed files up named) named d has
 

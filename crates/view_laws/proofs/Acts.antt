@@ -7,6 +7,7 @@ use Rattle.spark_base.specs.declared.position.Pos.{Pos}
 use Rattle.place_names.specs.declared.act.Act.{Act}
 use Rattle.place_names.specs.declared.act.Act.TheVariants as act
 use Rattle.place_names.specs.declared.act.Placed.{Placed}
+use Rattle.place_names.specs.declared.act.Mode.{Mode}
 use Rattle.place_names.specs.declared.act.Mode.TheVariants as mode
 use Rattle.place_names.specs.declared.fact.Fact.TheVariants.{Moved}
 use Rattle.place_names.specs.declared.selector.Sel.{Sel}
@@ -22,12 +23,13 @@ use Rattle.flow_paths.specs.Instructions.{Instruction, Skip, Declare, Assign, Ou
 use Rattle.flow_paths.specs.Instructions as instruction
 use Rattle.flow_paths.specs.Objects.{Typing, object_at, is_variable, is_borrower, is_observer, is_borrowing, is_observing, is_anonymous, view_of, traverses}
 use Rattle.flow_paths.specs.Names.{Written, name_of, selectors, written, first, source, whole, has_call}
-use Rattle.flow_paths.specs.Acts.{acts_in, acts_of, used, placed, naming, observe, reborrow, target_pos, index_acts, source_acts, assigned_to, stored_acts, declared_acts, returned_acts, gives_variable}
+use Rattle.flow_paths.specs.Acts.{acts_in, acts_of, used, placed, naming, observe, reborrow, target_pos, index_acts, source_acts, assigned_to, stored_acts, declared_acts, returned_acts, gives_variable, actual_act, actual_acts}
 use Rattle.flow_paths.specs.Views.{changes}
 use Rattle.machine.specs.Words.{component_type, element_of, no_component}
 use Rattle.soundness.specs.Typed.{OwnsByShape}
 use Rattle.soundness.specs.Sound.{calls_nothing}
-use Rattle.soundness.proofs.Passing.{IsRead, AreReads}
+use Rattle.soundness.specs.Ready.{IsActualBy, AreActuals}
+use Rattle.soundness.proofs.Passing.{IsRead, AreReads, way_by, way_of}
 use Rattle.typed_laws.specs.Needed.{Stays, Leads, Gives, GivesParts, GivesFirst, Writes, FirstWrites, Source, FirstSource, IsPlace, FirstStays, Returns, IsFine}
 use Rattle.viewed_soundness.specs.Holds.{IsNamed, PartsAreNamed}
 use Rattle.scope_laws.specs.Code.{roots}
@@ -574,3 +576,31 @@ module _ (s : Typing) (own_law : OwnsByShape s.table) (parts_named : PartsAreNam
       by : (a : Placed) → IsRead a → IsGood xs a.act
       by a (m, inl e) = subst (IsGood xs) (sym e) (good_quiet xs (act.Read m) ((λ name none. none), (λ k f. cc)))
       by a (m, inr e) = subst (IsGood xs) (sym e) (good_quiet xs (act.Look m) ((λ name none. none), (λ k f. cc)))
+
+  -- A place that is copied back to: nothing is moved, and no observer is changed.
+  copied_good : (m : Mode) (e : TypedTree) (xs : List ℕ) → IsActualBy s m e → AreGood (actual_act (way_by s own_law m) e) xs
+  copied_good mode.In e xs actual = λ a has. absurd has
+  copied_good mode.Out (Name p x steps t) xs (u, there, plain) =
+      good_one (placed p (act.Actual (name_of x steps) mode.Out false false)) xs (
+        (λ name none. absurd none),
+        (λ m e empty. changed_whole x steps t m there.0 (ap (λ z. is_anonymous (full s.table z)) there.1 ∙ scalar_plain u plain)
+            (let same : name_of x steps ≡ m = cc in same) empty),
+      )
+  copied_good mode.Out e xs (u, never, plain) = absurd never
+  copied_good mode.InOut (Name p x steps t) xs (u, there, plain) =
+      good_one (placed p (act.Actual (name_of x steps) mode.InOut false false)) xs (
+        (λ name none. absurd none),
+        (λ m e empty. changed_whole x steps t m there.0 (ap (λ z. is_anonymous (full s.table z)) there.1 ∙ scalar_plain u plain)
+            (let same : name_of x steps ≡ m = cc in same) empty),
+      )
+  copied_good mode.InOut e xs (u, never, plain) = absurd never
+
+  pub copies_good : (formals : List ℕ) (actuals : TypedTree) (xs : List ℕ) → AreActuals s formals actuals
+      → AreGood (actual_acts (map (way_of s own_law) formals) actuals) xs
+  copies_good [] actuals xs stay a has = absurd has
+  copies_good (x ∷ formals) (More e rest) xs stay a has =
+      elim (Has-append_cases (actual_act (way_of s own_law x) e) (actual_acts (map (way_of s own_law) formals) rest) a has) [
+        | inl mine ↦ copied_good (object_at s x).mode e xs stay.0 a mine
+        | inr others ↦ copies_good formals rest xs stay.1 a others
+      ]
+  copies_good (x ∷ formals) actuals xs stay a has = absurd has

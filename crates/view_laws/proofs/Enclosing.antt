@@ -86,3 +86,12 @@ module _ (scopes : List ℕ) where
         room : (c < length scopes) ⊎ (length scopes ≤ c) → (c ≤ length scopes) ⊎ (around c ≡ c)
         room (inl less) = inl (omega (arith, less))
         room (inr more) = inr (past_end scopes c c more)
+
+    -- The scope around one encloses it.
+    pub outward : (b : ℕ) → encloses scopes (around b) b ≡ true
+    unfolding encloses_within
+    outward b = enough (length scopes) 1 (around b) b (room (cases_lt b (length scopes))) (or_right (around b == b) _ (here 0 (around b)))
+      where
+        room : (b < length scopes) ⊎ (length scopes ≤ b) → (b ≤ length scopes) ⊎ (around b ≡ b)
+        room (inl less) = inl (omega (arith, less))
+        room (inr more) = inr (past_end scopes b b more)

@@ -38,7 +38,8 @@ use Rattle.soundness.proofs.Used.{called_add_none}
 use Rattle.soundness.proofs.Waits.{drop_none}
 use Rattle.scope_laws.specs.Order.{IsOrdered, named_in}
 use Rattle.viewed_soundness.specs.Holds.{PartsAreNamed}
-use Rattle.view_laws.proofs.Calls.{AreReadCalls, point_good}
+use Rattle.ready_laws.proofs.Facts.{ArePlainCalls}
+use Rattle.view_laws.proofs.Calls.{point_good}
 
 -- ---- scopes
 
@@ -131,7 +132,7 @@ module _ (table : Table) (typed : TypedProgram) (effects : Effects)
     (effects_are : AreEffects (flow_program table typed) effects)
     (local : (x : ℕ) → is_anonymous (view_of (flow_typing (flow_program table typed)) x) ≡ true
     → is_variable (object_at (flow_typing (flow_program table typed)) x).kind ≡ true)
-    (plainly : AreReadCalls (flow_program table typed) owns) where
+    (plainly : ArePlainCalls (flow_program table typed) owns) where
   abbrev program : FlowProgram
   program = flow_program table typed
 

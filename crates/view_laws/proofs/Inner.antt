@@ -7,12 +7,12 @@ use Rattle.typed_tree.specs.Statements.{scope_count}
 use Rattle.typed_tree.specs.Programs.{over_units, scopes_in, typed_program}
 
 -- Each of these numbers is that of its place or less, counted from n on.
-abbrev AreInner : ℕ → List ℕ → Type 0
+abbrev pub AreInner : ℕ → List ℕ → Type 0
 AreInner n [] = Unit {0}
 AreInner n (x ∷ xs) = (x ≤ n) × AreInner (suc n) xs
 
 -- So many scopes, the scope around each of which is inner.
-abbrev Counted : ℕ → ℕ → List ℕ → Type 0
+abbrev pub Counted : ℕ → ℕ → List ℕ → Type 0
 Counted n k xs = AreInner n xs × (length xs ≡ k)
 
 inner_at : (n m : ℕ) (xs : List ℕ) → n ≡ m → AreInner n xs → AreInner m xs
@@ -35,7 +35,7 @@ two n k l xs ys h g =
 begun : (a n k : ℕ) (xs : List ℕ) → a ≤ n → Counted (n + 1) k xs → Counted n (1 + k) (a ∷ xs)
 begun a n k xs less h = (let long = h.1 in ((less, inner_at (n + 1) (suc n) xs (omega arith) h.0), omega (arith, long)))
 
-code_inner : (a n : ℕ) (c : Code) → a ≤ n → Counted n (scope_count c) (scopes_in a n c)
+pub code_inner : (a n : ℕ) (c : Code) → a ≤ n → Counted n (scope_count c) (scopes_in a n c)
 unfolding scopes_in scope_count
 code_inner a n (SubBody front items stmts end) less =
     begun a n (scope_count items + scope_count stmts) _ less

@@ -25,13 +25,13 @@ use Rattle.typed_tree.specs.Programs.{TypedSub, TypedProgram}
 use Rattle.flow_paths.specs.declared.report.Effects.{Effects}
 use Rattle.flow_paths.specs.Instructions.{Instruction, Declare, Assign, Input, EndScope}
 use Rattle.flow_paths.specs.Objects.{Typing, object_at, is_variable, is_borrower, is_observer, is_borrowing, is_observing, is_anonymous, is_formal, is_package_object, has_scope_end, view_of}
-use Rattle.flow_paths.specs.Names.{name_of, written, source}
+use Rattle.flow_paths.specs.Names.{name_of, written, source, has_call}
 use Rattle.flow_paths.specs.Acts.{placed, observe, reborrow, target_pos, index_acts, source_acts, assigned_to, stored_acts, declared_acts, acts_in, acts_of}
 use Rattle.flow_paths.specs.Points.{PointName, same_place, same_point, NamedPoint, FlowPoint}
 use Rattle.flow_paths.specs.Laid.{FlowSub, FlowProgram, NamedSub, number_in, kept_roots, sub_facts, flow_sub, typing_of, flow_typing, flow_program, flow_named}
 use Rattle.flow_paths.specs.Scopes.{Differ, is_last, is_within, is_ready, brought, scope_behind, taken}
 use Rattle.flow_paths.specs.Views.{changes, encloses, scope_of, is_assignment}
-use Rattle.soundness.specs.Sound.{IsAtPoint}
+use Rattle.soundness.specs.Sound.{IsAtPoint, calls_procedures}
 use Rattle.soundness.proofs.Points.{flow_at, next_there}
 use Rattle.soundness.proofs.Successors.{procedures_take_none}
 use Rattle.soundness.proofs.Waits.{drop_none}
@@ -78,6 +78,11 @@ bool_cases false = inr refl
 true_false : (b : Bool) → b ≡ true → b ≡ false → ⊥
 true_false true e f = cc
 true_false false e f = cc
+
+or_first : (a b : Bool) → not b ≡ true → a || b ≡ true → a ≡ true
+or_first a true none e = cc
+or_first true false none e = refl
+or_first false false none e = cc
 
 both_second : (a b : Bool) → a && b ≡ true → b ≡ true
 both_second true b e = e
@@ -420,8 +425,9 @@ module _ (table : Table) (typed : TypedProgram) (effects : Effects) (given : IsV
       declared_there x e is anonymous =
           let test : ℕ → Bool = λ y. is_observer own x || nat_lt y x in
           let mine : is_anonymous (view_of own x) ≡ true = ap (λ z. is_anonymous (view_of z x)) (sym same) ∙ anonymous in
-          let found = one_name_is test e (not_test (is_anonymous (view_of own x)) (is_one_name_of test e) mine
-          (sym (ap (fits own) is) ∙ above.declared x e is)) in
+          let silent : not (has_call e) ≡ true = sym (ap calls_procedures is) ∙ scoped.calls_there table typed effects given named has p there in
+          let found = one_name_is test e (or_first (is_one_name_of test e) (has_call e) silent
+          (not_test (is_anonymous (view_of own x)) (is_one_name_of test e || has_call e) mine (sym (ap (fits own) is) ∙ above.declared x e is))) in
           let value : TypedTree = More (Name found.0 found.1 found.2 found.3) NoMore in
           let whole_is : p.instr ≡ Declare x value = is ∙ ap (Declare x) found.4 in
           let fine : IsFine s named.sub.result (Declare x value) = subst (IsFine s named.sub.result) whole_is (fine_there named has p there) in (
@@ -443,8 +449,10 @@ module _ (table : Table) (typed : TypedProgram) (effects : Effects) (given : IsV
       assigned_there q x w e is anonymous =
           let target : TypedTree = Name q x NoMore w in
           let mine : is_anonymous (view_of own x) ≡ true = ap (λ z. is_anonymous (view_of z x)) (sym same) ∙ anonymous in
+          let silent : not (has_call e) ≡ true =
+          and_second (not (has_call target)) (not (has_call e)) (sym (ap calls_procedures is) ∙ scoped.calls_there table typed effects given named has p there) in
           let found = name_is is_any e (not_test (is_anonymous (view_of own x)) (is_name_of is_any e) mine
-          (sym (ap (fits own) is) ∙ above.assigned target e is)) in
+          (or_first (not (is_anonymous (view_of own x)) || is_name_of is_any e) (has_call e) silent (sym (ap (fits own) is) ∙ above.assigned target e is))) in
           let y : ℕ = found.1 in
           let n : TypedTree = Name found.0 y found.2 found.3 in
           let whole_is : p.instr ≡ Assign target n = is ∙ ap (Assign target) found.4 in

@@ -112,6 +112,7 @@ module _ (table : Table) (typed : TypedProgram) (effects : Effects) (given : IsV
     parts_named = given.parts_named;
     calls = given.calls;
     formals = given.formals;
+    copied = given.copied;
   }
 
   pub views_ready : IsReady table typed effects

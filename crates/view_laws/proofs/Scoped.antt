@@ -26,7 +26,8 @@ use Rattle.flow_paths.specs.Scopes.{is_within, is_ready}
 use Rattle.machine.specs.States.{sub_of}
 use Rattle.machine.specs.Typed.{successors}
 use Rattle.soundness.specs.Sound.{IsNamedSub, IsProcedure, calls_procedures}
-use Rattle.soundness.specs.Ready.{root_of, stored_at, AreScoped, AreNew, AreElaborated, AreCalled}
+use Rattle.soundness.specs.Ready.{root_of, stored_at, AreNew}
+use Rattle.viewed_steps.specs.Ready.{AreScoped, AreElaborated, AreCalled}
 use Rattle.soundness.proofs.Points.{IsLaid, all_laid, flow_at, typing_same, sub_there, named_has}
 use Rattle.scope_laws.specs.Code.{roots, are_seen}
 use Rattle.scope_laws.specs.Order.{IsCounted, IsOrdered, named_in, IsSeen}
@@ -41,7 +42,8 @@ use Rattle.ready_laws.proofs.Subs.{setting_from, IsOfBody, named_cases, body_at,
 use Rattle.typed_laws.specs.Needed.{IsFine}
 use Rattle.view_laws.specs.InOrder.{no_views}
 use Rattle.view_laws.specs.Program.{IsViewProgram}
-use Rattle.view_laws.proofs.Calls.{AreReadCalls, point_good}
+use Rattle.ready_laws.proofs.Facts.{ArePlainCalls}
+use Rattle.view_laws.proofs.Calls.{point_good}
 use Rattle.view_laws.proofs.Packages.{IsPlain, package_plain, no_view}
 use Rattle.view_laws.proofs.Facts.{new_there}
 
@@ -282,17 +284,14 @@ module _ (table : Table) (typed : TypedProgram) (effects : Effects) (given : IsV
       let found = given.callees sub has p there n actuals result is in
       formals_at found.0 found.1 found.3 x (subst (λ m. Has (sub_of program m).formals x) found.2 formal)
 
-  pub plainly : AreReadCalls program given.owns
+  pub plainly : ArePlainCalls program given.owns
   plainly sub has p there n actuals result is =
       let found = given.callees sub has p there n actuals result is in
       let known = formals_known sub has p there n actuals result is in
       record {
-        plain = record {
-          result = ap (λ m. (sub_of program m).result) found.2 ∙ result_at found.0 found.1 found.3 found.4;
-          formals = λ x formal. (given.formals x (known x formal)).1;
-          actuals_stay = given.passed sub has p there n actuals result is known;
-        };
-        inward = λ x formal. (given.formals x (known x formal)).0;
+        result = ap (λ m. (sub_of program m).result) found.2 ∙ result_at found.0 found.1 found.3 found.4;
+        formals = λ x formal. given.formals x (known x formal);
+        actuals_stay = given.passed sub has p there n actuals result is known;
       }
 
   pub are_called : AreCalled table typed

@@ -9,7 +9,7 @@ use Rattle.typed_tree.specs.Trees as typed
 use Rattle.typed_tree.specs.Programs.{TypedSub, TypedProgram}
 use Rattle.flow_paths.specs.Instructions.{Instruction, Declare, Assign}
 use Rattle.flow_paths.specs.Objects.{Typing, object_at, is_variable, is_anonymous, is_observer, is_package_object, view_of}
-use Rattle.flow_paths.specs.Names.{whole}
+use Rattle.flow_paths.specs.Names.{whole, has_call}
 use Rattle.flow_paths.specs.Laid.{typing_of}
 use Rattle.scope_laws.specs.Code.{roots}
 use Rattle.layered_scopes.specs.Layered.{is_older, is_body_layered}
@@ -38,10 +38,10 @@ stores_name s None e = true
 stores_name s (Some x) e = not (is_anonymous (view_of s x)) || is_name_of is_any e
 
 -- A view is declared with a name, and a borrower with one that is rooted in an older object; a view is
--- assigned a name.
+-- assigned a name. Or a function is called.
 abbrev pub fits : Typing → Instruction → Bool
-fits s (Declare x v) = not (is_anonymous (view_of s x)) || is_one_name_of (λ y. is_observer s x || nat_lt y x) v
-fits s (Assign target e) = stores_name s (whole target) e
+fits s (Declare x v) = not (is_anonymous (view_of s x)) || (is_one_name_of (λ y. is_observer s x || nat_lt y x) v || has_call v)
+fits s (Assign target e) = stores_name s (whole target) e || has_call e
 fits s i = true
 
 -- ---- the package objects

@@ -1,22 +1,25 @@
 -- A program with borrowers and observers and what is known of it.
-use Rattle.std.specs.Prelude.{◌≡◌, ℕ, true}
+use Rattle.std.specs.Prelude.{◌≡◌, ℕ, true, Option}
 use Rattle.spark_base.specs.Lists.{Has}
-use Rattle.place_names.specs.declared.act.Mode.TheVariants as mode
 use Rattle.type_definitions.specs.Types.{Table, full, is_scalar}
+use Rattle.typed_tree.specs.Trees.{TypedTree}
 use Rattle.typed_tree.specs.Programs.{TypedProgram}
 use Rattle.flow_paths.specs.declared.report.Effects.{Effects}
+use Rattle.flow_paths.specs.Instructions.{Call}
 use Rattle.flow_paths.specs.Objects.{object_at, is_formal}
 use Rattle.flow_paths.specs.Points.{FlowPoint}
 use Rattle.flow_paths.specs.Laid.{FlowSub, flow_typing, flow_program}
+use Rattle.machine.specs.States.{sub_of}
 use Rattle.soundness.specs.Typed.{OwnsByShape}
-use Rattle.soundness.specs.Sound.{Accepted, calls_procedures}
+use Rattle.soundness.specs.Sound.{Accepted, calls_procedures, AreCopied}
 use Rattle.ready_laws.specs.InOrder.{IsInOrder, AreCallees, ArePassed}
 use Rattle.viewed_soundness.specs.Holds.{PartsAreNamed}
 use Rattle.viewed_steps.specs.Ready.{AreSpared}
 use Rattle.view_laws.specs.InOrder.{AreViewsInOrder}
 
 -- It is accepted and typed, anonymous access types are those of objects alone, procedures alone are
--- called, whose formals are of mode `in` and of scalar types, and its subprograms and views are in order.
+-- called, whose formals are of scalar types, actuals that are copied back to go through no access value,
+-- and its subprograms and views are in order.
 -- Where a procedure is called, no fact is on a package object.
 pub record IsViewProgram (table : Table) (typed : TypedProgram) (effects : Effects) : Type 0 where
   pub accepted : Accepted table typed effects
@@ -24,8 +27,11 @@ pub record IsViewProgram (table : Table) (typed : TypedProgram) (effects : Effec
   pub parts_named : PartsAreNamed (flow_program table typed).table
   pub calls : (sub : FlowSub) → Has (flow_program table typed).subs sub → (p : FlowPoint) → Has sub.points p → calls_procedures p.instr ≡ true
   pub formals : (x : ℕ) → is_formal (flow_typing (flow_program table typed)) x ≡ true
-      → ((object_at (flow_typing (flow_program table typed)) x).mode ≡ mode.In)
-      × (is_scalar (full (flow_program table typed).table (object_at (flow_typing (flow_program table typed)) x).of) ≡ true)
+      → is_scalar (full (flow_program table typed).table (object_at (flow_typing (flow_program table typed)) x).of) ≡ true
+  pub copied : (sub : FlowSub) → Has (flow_program table typed).subs sub → (p : FlowPoint) → Has sub.points p → (n : ℕ) (actuals : TypedTree)
+      (result : Option ℕ) → p.instr ≡ Call n actuals result
+      → ((x : ℕ) → Has (sub_of (flow_program table typed) n).formals x → is_formal (flow_typing (flow_program table typed)) x ≡ true)
+      → AreCopied (flow_typing (flow_program table typed)) (sub_of (flow_program table typed) n).formals actuals
   pub order : IsInOrder table typed
   pub callees : AreCallees table typed order.rest
   pub passed : ArePassed (flow_program table typed)

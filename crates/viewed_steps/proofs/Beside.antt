@@ -27,7 +27,8 @@ use Rattle.soundness.specs.Sound.{calls_nothing}
 use Rattle.soundness.proofs.Contents.{bool_cases}
 use Rattle.soundness.proofs.Memories.{put_other, removed_other}
 use Rattle.soundness.proofs.Fading.{FadesTo, Fades, still, then_fades, if_fades, checked_fades, fades, steps_fade}
-use Rattle.soundness.proofs.Following.{Each, Gets}
+use Rattle.soundness.proofs.Following.{Each}
+use Rattle.soundness.proofs.Onward.{Gets}
 use Rattle.soundness.proofs.Scoped.{IsFrom, LeadsFrom, walked_from}
 
 -- The first words of the variables of other frames stay.
@@ -59,7 +60,7 @@ module _ (s : Typing) (depth : ℕ) where
   by_fading : (m n : Memory) → Fades s m n → OthersKept s depth m n
   by_fading m n faint f y some other = (faint f y 0).word
 
-  put_beside : (b : Base) (slots : List Slot) (m : Memory) (f y : ℕ) → (b ≡ memory.OfVariable f y → ⊥)
+  pub put_beside : (b : Base) (slots : List Slot) (m : Memory) (f y : ℕ) → (b ≡ memory.OfVariable f y → ⊥)
       → variable_slots s f y (memory.put b slots m).variables ≡ variable_slots s f y m.variables
   put_beside (memory.OfCell n) slots m f y ne = refl
   put_beside (memory.OfVariable g z) slots m f y ne = put_other s g z f y (λ e. ne (same_base g z f y e)) slots m.variables

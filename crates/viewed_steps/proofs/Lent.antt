@@ -52,7 +52,7 @@ abbrev pub Spare : List Placed → Type 0
 Spare [] = Unit {0}
 Spare (a ∷ rest) = (ends a.act ≡ false) × Spare rest
 
-spare_both : (a b : List Placed) → Spare a → Spare b → Spare (a ++ b)
+pub spare_both : (a b : List Placed) → Spare a → Spare b → Spare (a ++ b)
 spare_both [] b x y = y
 spare_both (p ∷ a) b (e, x) y = (e, spare_both a b x y)
 
@@ -63,7 +63,7 @@ loans_stay (a ∷ done) (e, x) facts l h n has =
 
 -- ---- expressions
 
-spare_naming : (w : Option Written) (a : PlaceName → Act) → ((n : PlaceName) → ends (a n) ≡ false) → Spare (naming w a)
+pub spare_naming : (w : Option Written) (a : PlaceName → Act) → ((n : PlaceName) → ends (a n) ≡ false) → Spare (naming w a)
 spare_naming None a e = tt
 spare_naming (Some w) a e = (e w.name, tt)
 

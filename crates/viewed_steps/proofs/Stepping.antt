@@ -29,7 +29,7 @@ use Rattle.flow_paths.specs.Effects.{path_points, globals_of, called_acts}
 use Rattle.flow_paths.specs.Scopes.{taken, brought, scope_behind, is_within, is_last, is_ready, Leads}
 use Rattle.machine.specs.Words as machine
 use Rattle.machine.specs.Memory.{Memory, no_slot, variable_slots, without_frame}
-use Rattle.machine.specs.Evaluate.{Now}
+use Rattle.machine.specs.Evaluate.{Now, Exception}
 use Rattle.machine.specs.States.{Loop, Frame, State, Outcome, Goes, Ends, sub_of, frame_at_start}
 use Rattle.machine.specs.Step.{Turn, turn, counted, led, successor, main_frame}
 use Rattle.machine.specs.Step as steps
@@ -43,14 +43,14 @@ use Rattle.owned_ways.proofs.Locations.{reaches_along, named_along as rooted_alo
 use Rattle.soundness.specs.Seen.{IsNear, is_view_formal, content, word_in, seen, home, trunk}
 use Rattle.soundness.specs.Typed.{Kept}
 use Rattle.typed_laws.specs.Needed.{IsFine, Source, FirstSource, FirstWrites, FirstStays}
-use Rattle.soundness.specs.Sound.{calls_nothing, calls_procedures, Stage, facts_of, AreStages, IsPlain, IsProcedure, InScope, IsNamedSub, IsAtPoint, view_of as view_here}
-use Rattle.soundness.specs.Ready.{stored_at, IsCalled}
+use Rattle.soundness.specs.Sound.{calls_nothing, calls_procedures, Stage, facts_of, AreStages, AreCopied, IsPlain, IsProcedure, InScope, IsNamedSub, IsAtPoint, view_of as view_here}
+use Rattle.soundness.specs.Ready.{stored_at}
 use Rattle.soundness.proofs.Contents.{bool_cases, word_no, word_root}
 use Rattle.soundness.proofs.Steps.{no_leaf}
 use Rattle.soundness.proofs.Stays.{Quiet}
 use Rattle.soundness.proofs.Numbers.{index_law}
 use Rattle.soundness.proofs.Lasting.{keeps}
-use Rattle.soundness.proofs.Passing.{plain_type, way_of, AreReads, reads_keep, values_read, entered, call_leads, passed_to}
+use Rattle.soundness.proofs.Passing.{plain_type, way_of, AreReads, reads_keep, values_read, AreLaid, returns_copied, entered, call_leads, passed_to}
 use Rattle.soundness.proofs.Scalars.{acts, acts_append, after_append, allows_both}
 use Rattle.soundness.proofs.Paths.{accepted_point, facts_next}
 use Rattle.soundness.proofs.Points.{flow_at, named_has, point_has, sub_there, sub_has, typing_same, point_there, point_in, path_there, IsLaid, all_laid, next_there}
@@ -58,7 +58,7 @@ use Rattle.soundness.proofs.Scoped.{MayHold, Inside}
 use Rattle.soundness.proofs.Inherited.{AreGlobal, global_after}
 use Rattle.soundness.proofs.Used.{called_are, globals_are, path_acts, returns_whole}
 use Rattle.soundness.proofs.Around.{same_or_not}
-use Rattle.soundness.proofs.Returning.{returned_kept, left_held, finish_returns, finish_ends, left_waits, ended_owned}
+use Rattle.soundness.proofs.Returning.{returned_kept, left_held, returns_lead, ends_lead, left_waits, ended_owned}
 use Rattle.soundness.proofs.Following.{Each, GoesOn, Declares, declare_on, declare_follows, assign_follows, release_follows, input_follows, test_follows, choose_follows, stays_follows, output_follows, start_follows, next_follows, end_scope_follows}
 use Rattle.soundness.proofs.Waits.{drop_none, or_both}
 use Rattle.soundness.proofs.Successors.{not_true, both_not, calls_cases, procedures_take_none, finish_or, below_one, below_two, successor_there, successor_cases, unmoved_after}
@@ -69,20 +69,20 @@ use Rattle.viewed_soundness.specs.Holds.{IsNamed, Holds, AllKeep}
 use Rattle.viewed_soundness.proofs.Names.{plain_named, true_false}
 use Rattle.viewed_soundness.proofs.Evaluated.{live_trunk, keep_both}
 use Rattle.viewed_soundness.proofs.Outcomes.{named_plain, IsGood, Turned, Leads_on, Is_left, raises, start_is, hands_behind, test_leads, choose_leads, assign_leads}
-use Rattle.viewed_steps.specs.Sound.{Lasts, HoldsAt, ArePlaced, NoneAbove, ViewStage, stages_of, GoneElsewhere, AreOwn, IsWaiting, IsFirst, AreWaiting, IsRunning, IsSound, LeadsOn, StepsLeadOn}
-use Rattle.viewed_steps.specs.Ready.{AreOrderly, IsReady}
+use Rattle.viewed_steps.specs.Sound.{IsResting, Lasts, HoldsAt, ArePlaced, NoneAbove, ViewStage, stages_of, GoneElsewhere, AreOwn, IsWaiting, IsFirst, AreWaiting, IsRunning, IsSound, LeadsOn, StepsLeadOn}
+use Rattle.viewed_steps.specs.Ready.{IsCalled, AreOrderly, IsReady}
 use Rattle.viewed_steps.proofs.Declared.{IsElsewhere, OthersStay, not_gone, declare_leads, others_stay}
 use Rattle.viewed_steps.proofs.Released.{release_leads}
 use Rattle.viewed_steps.proofs.Read.{scalar_named, input_leads}
 use Rattle.viewed_steps.proofs.Rounds.{skip_leads, fall_leads, leave_loop_leads, output_leads, line_leads, next_leads, start_leads}
-use Rattle.viewed_steps.proofs.Lent.{loans_stay, spare_acts}
+use Rattle.viewed_steps.proofs.Lent.{spare_both, loans_stay, spare_acts}
 use Rattle.viewed_steps.proofs.Placed.{scope_on, view_ends, placed_on, MayBe, turned_placed}
 use Rattle.viewed_steps.proofs.Ended.{none_some, views_left, ends_well, placed_left, holds_left}
 use Rattle.viewed_steps.proofs.Sources.{leads_or, view_declared, view_assigned}
 use Rattle.viewed_steps.proofs.Beside.{OthersKept, others_keep, end_scope_keeps}
-use Rattle.viewed_steps.proofs.Waiting.{StandsBetween, all_between, KeptElsewhere, around as concern, alone as near_alone, far, apart_elsewhere, all_on}
+use Rattle.viewed_steps.proofs.Waiting.{StandsBetween, all_between, KeptElsewhere, around as concern, alone as near_alone, far, apart_elsewhere, all_on, all_same}
 use Rattle.viewed_steps.proofs.Left.{owned_left, covered_left, reach_left, reach_before, gone_before, own_whole, other_word, no_word}
-use Rattle.viewed_steps.proofs.Called.{AreValues, values_laid, values_return, AreIn, no_copies, all_values, Enters, all_entered}
+use Rattle.viewed_steps.proofs.Called.{AreGiven, all_given, all_laid as all_laid_out, all_acted, spare_reads, spare_copies, Enters, all_entered, all_back}
 
 smaller : (f b low : ℕ) → f < suc b → (f ≡ low → ⊥) → low ≡ b → f < low
 smaller f b low less ne is =
@@ -159,7 +159,7 @@ module _ (table : Table) (typed : TypedProgram) (effects : Effects) (input : Lis
 
   no_in_formals : (x : ℕ) → is_view_formal s x ≡ false
   no_in_formals x = elim (bool_cases (is_formal s x)) [
-    | inl e ↦ no_second (is_in_formal s x) (is_owning s.table (object_at s x).of) (plain_type s ready.owns (object_at s x).of (ready.class.formals x e).1)
+    | inl e ↦ no_second (is_in_formal s x) (is_owning s.table (object_at s x).of) (plain_type s ready.owns (object_at s x).of (ready.class.formals x e))
     | inr e ↦ ap (λ b. (b && is_in (object_at s x).mode) && is_owning s.table (object_at s x).of) e
   ]
 
@@ -419,7 +419,7 @@ module _ (table : Table) (typed : TypedProgram) (effects : Effects) (input : Lis
   module _ (state : State) (top : Stage) (below : ViewStage) (more_frames : List ViewStage) (rest : List Frame) (named : NamedSub) (p : NamedPoint)
       (frames : state.frames ≡ top.frame ∷ (below.stage.frame ∷ rest)) (deep : top.depth ≡ suc (length rest))
       (stages : AreStages (stages_of (below ∷ more_frames)) (below.stage.frame ∷ rest))
-      (running : IsProcedure table typed top.frame.sub × IsPlain top × AreWaiting table typed effects state (below ∷ more_frames))
+      (running : IsProcedure table typed top.frame.sub × IsResting s top × AreWaiting table typed effects state (below ∷ more_frames))
       (of_sub : IsNamedSub (flow_named table typed) top.frame.sub named) (at_point : IsAtPoint named.points top.frame.next p)
       (path : ControlPath (path_points program effects (sub_of program top.frame.sub)) top.before top.frame.next) (views : Views)
       (viewed_before : Viewed (home s (suc (length rest))) (is_observer s) (known_gone (home s (suc (length rest))) (GoneElsewhere program effects (below ∷ more_frames))) views
@@ -993,7 +993,7 @@ module _ (table : Table) (typed : TypedProgram) (effects : Effects) (input : Lis
       | inr mine ↦ (
           let formal = ready.scoped.finishes named named_there p point_there_now is x mine.1 in
           let none = word_no s.table (content s state.memory (waiting_in state) (OfRoot (OfVariable depth x))) q
-          (no_leaf s.table ready.accepted.settled (object_at s x).of (ready.class.formals x formal).1 q) in
+          (no_leaf s.table ready.accepted.settled (object_at s x).of (ready.class.formals x formal) q) in
           let no_number : ways.Empty ≡ Held n = sym none ∙ held in cc)
     ]
 
@@ -1006,7 +1006,7 @@ module _ (table : Table) (typed : TypedProgram) (effects : Effects) (input : Lis
         by_way (Some w) e =
             let formal = ready.scoped.finishes named named_there p point_there_now is x (placed x w e).within in
             absurd (true_false (is_anonymous (view_of s x)) (holds.only x w e)
-            (named_plain s.table (object_at s x).of (scalar_named s.table (object_at s x).of (ready.class.formals x formal).1)))
+            (named_plain s.table (object_at s x).of (scalar_named s.table (object_at s x).of (ready.class.formals x formal))))
 
     -- no part of a package object is moved then
     whole_packages : p.instr ≡ Finish → (name : PlaceName) → Has facts_now (Moved name) → is_package_object s name.root ≡ true → ⊥
@@ -1016,18 +1016,41 @@ module _ (table : Table) (typed : TypedProgram) (effects : Effects) (input : Lis
         returns_whole program effects ready.accepted.effects_are own named top.before finishing.0 name has
         (sym (ap (λ z. is_package_object z name.root) same) ∙ shared)
 
-    abbrev left_state : State
-    left_state = counted (record state { frames = below.stage.frame ∷ rest; memory = without_frame depth state.memory })
-
     module _ (h : ViewStage) (others : List ViewStage) (stages_there : AreStages (stages_of (below ∷ (h ∷ others))) (below.stage.frame ∷ rest))
         (waiting : AreWaiting table typed effects state (below ∷ (h ∷ others)))
         (well : Viewed (home s depth) (is_observer s) (known_gone (home s depth) (GoneElsewhere program effects (below ∷ (h ∷ others)))) views (view_here s state) facts_now)
-        (is : p.instr ≡ Finish) where
-      abbrev left_memory : Memory
-      left_memory = without_frame depth state.memory
+        (is : p.instr ≡ Finish) (mid : Memory)
+        (on : Enters s ready.accepted.settled ready.owns (waiting_in state) state.leaks state.memory mid) where
+      abbrev mid_state : State
+      mid_state = record state { memory = mid }
 
-      abbrev waits : IsWaiting table typed effects state below
-      waits = waiting.0
+      abbrev left_state : State
+      left_state = counted (record state { frames = below.stage.frame ∷ rest; memory = without_frame depth mid })
+
+      nothing_mid : (x : ℕ) (q : List Step) (n : ℕ) → word_in s.table (content s mid (waiting_in state) (OfRoot (OfVariable depth x))) q ≡ Held n → ⊥
+      nothing_mid x q n held = nothing_left is x q n (sym (on.hold depth x q) ∙ held)
+
+      well_mid : Viewed (home s depth) (is_observer s) (known_gone (home s depth) (GoneElsewhere program effects (below ∷ (h ∷ others)))) views (view_here s mid_state) facts_now
+      well_mid =
+          same_viewed (home s depth) (is_observer s) (known_gone (home s depth) (GoneElsewhere program effects (below ∷ (h ∷ others)))) views
+          (view_here s state) (view_here s mid_state) facts_now on.same well
+
+      scope_mid : InScope s mid depth p.scope
+      scope_mid f x q n held = scope f x q n (sym (on.hold f x q) ∙ held)
+
+      above_mid : NoneAbove s depth mid
+      above_mid f x n less view e = above f x n less view (sym (on.views f x view) ∙ e)
+
+      waiting_mid : AreWaiting table typed effects mid_state (below ∷ (h ∷ others))
+      waiting_mid =
+          all_same table typed effects unmoved_stage local state mid_state depth (λ f x q n some less held. (q, n, sym (on.hold f x q) ∙ held))
+          (λ f x some less view. on.views f x view) on.same (below ∷ (h ∷ others)) (below.stage.frame ∷ rest) stages_there (omega arith) waiting
+
+      abbrev left_memory : Memory
+      left_memory = without_frame depth mid
+
+      abbrev waits : IsWaiting table typed effects mid_state below
+      waits = waiting_mid.0
 
       hands_left : waiting_in left_state ≡ waiting_in state
       hands_left = left_waits state top.frame outer left_memory frames plain
@@ -1038,20 +1061,20 @@ module _ (table : Table) (typed : TypedProgram) (effects : Effects) (input : Lis
       view_left : left_view ≡ view_here s left_state
       view_left = ap (λ z. seen s left_memory z state.leaks) (sym hands_left)
 
-      reach_on : (w : Way) (n : ℕ) → ways.Reaches (view_here s state) w (ways.OfCell n) → ways.Reaches (view_here s left_state) w (ways.OfCell n)
+      reach_on : (w : Way) (n : ℕ) → ways.Reaches (view_here s mid_state) w (ways.OfCell n) → ways.Reaches (view_here s left_state) w (ways.OfCell n)
       reach_on w n reach =
           subst (λ z. ways.Reaches z w (ways.OfCell n)) view_left
-          (reach_left s state.memory depth (waiting_in state) state.leaks (nothing_left is) w (ways.OfCell n) reach)
+          (reach_left s mid depth (waiting_in state) state.leaks nothing_mid w (ways.OfCell n) reach)
 
       -- what is in a variable of another frame was there before
       held_before : (f x : ℕ) (q : List Step) (n : ℕ) → word_in s.table (content s left_memory [] (OfRoot (OfVariable f x))) q ≡ Held n
-          → (f ≡ depth → ⊥) × (word_in s.table (content s state.memory [] (OfRoot (OfVariable f x))) q ≡ Held n)
-      held_before f x q n held = left_held s state.memory depth (waiting_in state) state.leaks (nothing_left is) f x q n held
+          → (f ≡ depth → ⊥) × (word_in s.table (content s mid [] (OfRoot (OfVariable f x))) q ≡ Held n)
+      held_before f x q n held = left_held s mid depth (waiting_in state) state.leaks nothing_mid f x q n held
 
       -- and views have there what they had
       words_before : (f x : ℕ) → (f ≡ depth → ⊥)
-          → (get_or (variable_slots s f x left_memory.variables) 0 no_slot).word ≡ (get_or (variable_slots s f x state.memory.variables) 0 no_slot).word
-      words_before f x ne = other_word s state.memory depth f x ne
+          → (get_or (variable_slots s f x left_memory.variables) 0 no_slot).word ≡ (get_or (variable_slots s f x mid.variables) 0 no_slot).word
+      words_before f x ne = other_word s mid depth f x ne
 
       abbrev low : ℕ
       low = below.stage.depth
@@ -1064,8 +1087,8 @@ module _ (table : Table) (typed : TypedProgram) (effects : Effects) (input : Lis
       scope_left f x q n held =
           let before = held_before f x q n held in
           elim (same_or_not f low) [
-            | inl e ↦ inr (e, waits.scope x q n (subst (λ z. word_in s.table (content s state.memory [] (OfRoot (OfVariable z x))) q ≡ Held n) e before.1))
-            | inr other_low ↦ inl (elim (scope f x q n before.1) [
+            | inl e ↦ inr (e, waits.scope x q n (subst (λ z. word_in s.table (content s mid [] (OfRoot (OfVariable z x))) q ≡ Held n) e before.1))
+            | inr other_low ↦ inl (elim (scope_mid f x q n before.1) [
               | inr mine ↦ absurd (before.0 mine.0)
               | inl less ↦ smaller f (length rest) low less other_low low_is
             ])
@@ -1075,8 +1098,8 @@ module _ (table : Table) (typed : TypedProgram) (effects : Effects) (input : Lis
       known_left : (w : Way) (l : ways.Loc) → ways.IsRooted w → ways.Reaches left_view w l → left_view.word l ≡ ways.Gone
           → IsMovedBy (home s low) below.views (facts_of program effects below.stage) w ⊎ GoneElsewhere program effects (h ∷ others) w
       known_left w l rooted r gone =
-          elim (well.known w l rooted (reach_before s state.memory depth (waiting_in state) state.leaks (nothing_left is) w l r)
-          (gone_before s state.memory depth (waiting_in state) state.leaks (nothing_left is) l gone)) [
+          elim (well_mid.known w l rooted (reach_before s mid depth (waiting_in state) state.leaks nothing_mid w l r)
+          (gone_before s mid depth (waiting_in state) state.leaks nothing_mid l gone)) [
             | inr (g, inl same_stage, what) ↦ inl (subst (λ (z : ViewStage). IsMovedBy (home s z.stage.depth) z.views (facts_of program effects z.stage) w) (sym same_stage) what)
             | inr (g, inr has, what) ↦ inr (g, has, what)
             | inl (u, moved, leads) ↦ absurd (
@@ -1084,7 +1107,7 @@ module _ (table : Table) (typed : TypedProgram) (effects : Effects) (input : Lis
                 sym (stands_itself (home s depth) (is_observer s) (known_gone (home s depth) (λ z. ⊥)) views u moved.0 (no_view_left is (number_of u))) ∙ leads in
                 elim (bool_cases (is_package_object s (number_of u))) [
                   | inl shared ↦ whole_packages is (ways.name_of u) moved.1 shared
-                  | inr mine ↦ own_whole s state.memory depth (waiting_in state) state.leaks (nothing_left is) w l
+                  | inr mine ↦ own_whole s mid depth (waiting_in state) state.leaks nothing_mid w l
                       (subst (ways.Named (home s depth)) same_way moved.0) (ap (λ z. is_package_object s (number_of z)) (sym same_way) ∙ mine) r gone
                 ])
           ]
@@ -1092,14 +1115,14 @@ module _ (table : Table) (typed : TypedProgram) (effects : Effects) (input : Lis
       viewed_left : Viewed (home s low) (is_observer s) (known_gone (home s low) (GoneElsewhere program effects (h ∷ others))) below.views left_view
           (facts_of program effects below.stage)
       viewed_left = record {
-        owned = owned_left s state.memory depth (waiting_in state) state.leaks (nothing_left is) well.owned;
-        covered = covered_left s state.memory depth (waiting_in state) state.leaks (nothing_left is) well.covered;
+        owned = owned_left s mid depth (waiting_in state) state.leaks nothing_mid well_mid.owned;
+        covered = covered_left s mid depth (waiting_in state) state.leaks nothing_mid well_mid.covered;
         known = known_left;
         clear = waits.clear;
         views = λ x w has.
-            view_on (home s low) (is_observer s) (known_gone (home s low) (λ z. ⊥)) below.views (view_here s state) left_view
+            view_on (home s low) (is_observer s) (known_gone (home s low) (λ z. ⊥)) below.views (view_here s mid_state) left_view
             (facts_of program effects below.stage) (facts_of program effects below.stage) x w (waits.views x w has) (λ b n loan. loan)
-            (reach_left s state.memory depth (waiting_in state) state.leaks (nothing_left is) w (ways.OfCell (below.views.cell x)) (waits.views x w has).reaches);
+            (reach_left s mid depth (waiting_in state) state.leaks nothing_mid w (ways.OfCell (below.views.cell x)) (waits.views x w has).reaches);
         far = λ w n none. absurd none;
       }
 
@@ -1112,7 +1135,7 @@ module _ (table : Table) (typed : TypedProgram) (effects : Effects) (input : Lis
         where
           word_there : (x n : ℕ) → is_anonymous (view_of s x) ≡ true
               → (get_or (variable_slots s (home s low x) x left_memory.variables) 0 no_slot).word ≡ machine.Cell n
-              → (get_or (variable_slots s (home s low x) x state.memory.variables) 0 no_slot).word ≡ machine.Cell n
+              → (get_or (variable_slots s (home s low x) x mid.variables) 0 no_slot).word ≡ machine.Cell n
           word_there x n view e =
               let at_low : home s low x ≡ low = ap (λ b. if b then 0 else low) (local x view) in
               let below_it = low_is in
@@ -1120,21 +1143,21 @@ module _ (table : Table) (typed : TypedProgram) (effects : Effects) (input : Lis
 
       above_left : NoneAbove s low left_memory
       above_left f x n less view e = elim (same_or_not f depth) [
-        | inl same_depth ↦ no_word s state.memory depth x n
+        | inl same_depth ↦ no_word s mid depth x n
             (subst (λ z. (get_or (variable_slots s z x left_memory.variables) 0 no_slot).word ≡ machine.Cell n) same_depth e)
-        | inr ne ↦ above f x n (higher f low (length rest) less low_is ne) view (sym (words_before f x ne) ∙ e)
+        | inr ne ↦ above_mid f x n (higher f low (length rest) less low_is ne) view (sym (words_before f x ne) ∙ e)
       ]
 
       others_left : AreWaiting table typed effects left_state (h ∷ others)
       others_left =
-          all_on table typed effects unmoved_stage local state left_state depth
+          all_on table typed effects unmoved_stage local mid_state left_state depth
           (λ f x q n some less held. (q, n, (held_before f x q n held).1))
           (λ f x some less view. words_before f x (λ same_depth. omega (arith, less, same_depth)))
           (h ∷ others) rest stages_there.2 (omega arith)
-          (λ g has x w there. elim (all_between table typed effects unmoved_stage local state depth (h ∷ others) rest stages_there.2 (omega arith) waiting.1 g has) [
+          (λ g has x w there. elim (all_between table typed effects unmoved_stage local mid_state depth (h ∷ others) rest stages_there.2 (omega arith) waiting_mid.1 g has) [
             | inl first ↦ absurd (none_some w (sym (first.2 x) ∙ there))
             | inr (some, less, waits_there) ↦ reach_on w (g.views.cell x) (waits_there.views x w there).reaches
-          ]) waiting.1
+          ]) waiting_mid.1
 
       -- the frame below goes on
       returns_to : IsSound table typed effects left_state
@@ -1148,7 +1171,7 @@ module _ (table : Table) (typed : TypedProgram) (effects : Effects) (input : Lis
         viewed = subst (λ z. Viewed (home s low) (is_observer s) (known_gone (home s low) (GoneElsewhere program effects (h ∷ others))) below.views z
             (facts_of program effects below.stage)) view_left viewed_left;
         kept = subst (Kept s left_memory) (sym hands_left)
-            (returned_kept s state.memory depth (waiting_in state) state.leaks (nothing_left is) kept);
+            (returned_kept s mid depth (waiting_in state) state.leaks nothing_mid on.typed);
         named = waits.named;
         of_sub = waits.of_sub;
         point = waits.point;
@@ -1159,21 +1182,48 @@ module _ (table : Table) (typed : TypedProgram) (effects : Effects) (input : Lis
         none_above = above_left;
       }
 
+    abbrev none_taken : ℕ → ℕ → Type 0
+    none_taken a b = ⊥
+
+    -- an exception ends the run
+    ends_raised : ((x : ℕ) → p.instr ≡ EndScope x → ⊥) → (how : Exception) (m : Memory) → LeadsOn table typed effects (steps.raised main_turn how m)
+    ends_raised not_end how m = (
+      (λ trap. trap),
+      raises main_turn ready.accepted.settled ready.owns other alone no_in_formals views ready.class.parts_named none_taken frames none_takes facts_now (record {
+        viewed = viewed;
+        kept = kept;
+        holds = record { held = λ x k view at. holds.held x k (λ fading. not_end fading.0 fading.1) view at; only = holds.only };
+      }) m,
+    )
+
     ends_call : p.instr ≡ Finish → LeadsOn table typed effects (turn main_turn Finish)
     ends_call is = by_rest rest more_frames refl stages running.2 viewed_own
       where
+        no_end : (x : ℕ) → p.instr ≡ EndScope x → ⊥
+        no_end x end = (let no : Finish ≡ EndScope x = sym is ∙ end in cc)
+
         by_rest : (r : List Frame) (m : List ViewStage) → rest ≡ r → AreStages (stages_of (below ∷ m)) (below.stage.frame ∷ r)
             → AreWaiting table typed effects state (below ∷ m)
             → Viewed (home s depth) (is_observer s) (known_gone (home s depth) (GoneElsewhere program effects (below ∷ m))) views (view_here s state) facts_now
             → LeadsOn table typed effects (turn main_turn Finish)
         by_rest [] [] same_rest stages_there waiting well =
-            subst (LeadsOn table typed effects) (sym (finish_ends main_turn below.stage.frame (ap (λ z. below.stage.frame ∷ z) same_rest) running.1.1))
-            ((λ trap. trap), ended_owned s ready.accepted.settled ready.owns state top.frame outer depth frames plain (nothing_left is) well.owned well.covered)
+            ends_lead main_turn (LeadsOn table typed effects) (λ m. Enters s ready.accepted.settled ready.owns (waiting_in state) state.leaks state.memory m)
+            (ends_raised no_end) below.stage.frame (ap (λ z. below.stage.frame ∷ z) same_rest)
+            (λ m on. (
+            let well_then = same_viewed (home s depth) (is_observer s) (known_gone (home s depth) (GoneElsewhere program effects (below ∷ []))) views
+            (view_here s state) (view_here s (record state { memory = m })) facts_now on.same well in (
+              (λ trap. trap),
+              ended_owned s ready.accepted.settled ready.owns (record state { memory = m }) top.frame outer depth frames plain
+                  (λ x q n held. nothing_left is x q n (sym (on.hold depth x q) ∙ held)) well_then.owned well_then.covered,
+            )))
+            (all_back main_turn ready.accepted.settled ready.owns (waiting_in state) state.leaks top.frame.returns running.1.1 (steps.start main_turn) kept)
         by_rest [] (h ∷ m) same_rest stages_there waiting well = absurd stages_there.2
         by_rest (k ∷ r) [] same_rest stages_there waiting well = absurd stages_there.2
         by_rest (k ∷ r) (h ∷ m) same_rest stages_there waiting well =
-            subst (LeadsOn table typed effects) (sym (finish_returns main_turn below.stage.frame k r (ap (λ z. below.stage.frame ∷ z) same_rest) running.1.1))
-            (returns_to h m (subst (λ z. AreStages (stages_of (below ∷ (h ∷ m))) (below.stage.frame ∷ z)) (sym same_rest) stages_there) waiting well is)
+            returns_lead main_turn (LeadsOn table typed effects) (λ m. Enters s ready.accepted.settled ready.owns (waiting_in state) state.leaks state.memory m)
+            (ends_raised no_end) below.stage.frame k r (ap (λ z. below.stage.frame ∷ z) same_rest)
+            (λ mid on. returns_to h m (subst (λ z. AreStages (stages_of (below ∷ (h ∷ m))) (below.stage.frame ∷ z)) (sym same_rest) stages_there) waiting well is mid on)
+            (all_back main_turn ready.accepted.settled ready.owns (waiting_in state) state.leaks top.frame.returns running.1.1 (steps.start main_turn) kept)
 
     -- ---- a call
 
@@ -1187,10 +1237,12 @@ module _ (table : Table) (typed : TypedProgram) (effects : Effects) (input : Lis
       formals = (sub_of program n).formals
 
       scalar_formals : (x : ℕ) → Has formals x → is_scalar (full s.table (object_at s x).of) ≡ true
-      scalar_formals x has = (ready.class.formals x (called.formals x has)).1
+      scalar_formals x has = ready.class.formals x (called.formals x has)
 
-      in_formals : AreIn s formals
-      in_formals x has = (ready.class.formals x (called.formals x has)).0
+      copied_there : AreCopied s formals actuals
+      copied_there =
+          ready.class.copied (flow_sub own named) (in_program state top older outer named p frames of_sub at_point) main_turn.point
+          (in_sub state top older outer named p frames of_sub at_point) n actuals None e called.formals
 
       no_callee_result : (sub_of program n).result ≡ None
       no_callee_result =
@@ -1203,36 +1255,40 @@ module _ (table : Table) (typed : TypedProgram) (effects : Effects) (input : Lis
       ways_are : passings s (sub_at s n) ≡ ways_there
       ways_are = passed_to program ready.owns n no_callee_result scalar_formals
 
-      -- the acts: actuals are read; then come those on package objects
+      -- the acts: actuals are read, or their indexes are; then come those of what is copied back, and
+      -- those on package objects
       abbrev values : List Placed
       values = flow.actual_values s ways_there actuals
 
-      values_are : acts_by state top older outer named p frames of_sub at_point s p.instr ≡ values
+      abbrev copies : List Placed
+      copies = flow.actual_acts ways_there actuals
+
+      values_are : acts_by state top older outer named p frames of_sub at_point s p.instr ≡ values ++ copies
       values_are =
           ap (acts_by state top older outer named p frames of_sub at_point s) e
           ∙ ap (λ z. flow.actual_values s z actuals ++ flow.actual_acts z actuals) ways_are
-          ∙ ap (λ z. values ++ z) (no_copies s ready.owns formals actuals in_formals) ∙ append-nil values
 
       reads_there : AreReads values
       reads_there = values_read s ready.owns formals actuals called.actuals_stay
 
-      call_acts : whole_acts state top older outer named p frames of_sub at_point p.instr ≡ acts values ++ globals_of program effects n
+      call_acts : whole_acts state top older outer named p frames of_sub at_point p.instr ≡ acts (values ++ copies) ++ globals_of program effects n
       call_acts =
           ap (λ z. acts (z ++ called_acts program effects p.pos p.instr)) values_are
-          ∙ acts_append values (called_acts program effects p.pos p.instr)
-          ∙ ap (λ i. acts values ++ acts (called_acts program effects p.pos i)) e
-          ∙ ap (λ z. acts values ++ z) (called_are program effects ready.accepted.effects_are p.pos n actuals None)
+          ∙ acts_append (values ++ copies) (called_acts program effects p.pos p.instr)
+          ∙ ap (λ i. acts (values ++ copies) ++ acts (called_acts program effects p.pos i)) e
+          ∙ ap (λ z. acts (values ++ copies) ++ z) (called_are program effects ready.accepted.effects_are p.pos n actuals None)
+
+      abbrev facts_called : List Fact
+      facts_called = after (acts (values ++ copies)) facts_now
 
       values_allowed : AllowsAll facts_now (acts values)
       values_allowed =
-          (allows_both facts_now (acts values) (globals_of program effects n)
-          (subst (AllowsAll facts_now) call_acts (allowed_whole state top older outer named p frames of_sub at_point path))).0
+          (allows_both facts_now (acts values) (acts copies) (subst (AllowsAll facts_now) (acts_append values copies)
+          (allows_both facts_now (acts (values ++ copies)) (globals_of program effects n)
+          (subst (AllowsAll facts_now) call_acts (allowed_whole state top older outer named p frames of_sub at_point path))).0)).0
 
       abbrev now : Now
       now = record { memory = state.memory; waits = [] }
-
-      abbrev no_sources_here : ℕ → ℕ → Type 0
-      no_sources_here a b = ⊥
 
       not_end : (x : ℕ) → p.instr ≡ EndScope x → ⊥
       not_end x is = (let no : Call n actuals None ≡ EndScope x = sym e ∙ is in cc)
@@ -1243,19 +1299,40 @@ module _ (table : Table) (typed : TypedProgram) (effects : Effects) (input : Lis
         only = holds.only;
       }
 
-      good_call : IsGood main_turn ready.accepted.settled ready.owns other alone no_in_formals views ready.class.parts_named no_sources_here frames none_takes views facts_now state
-      good_call = record { viewed = viewed; kept = kept; holds = holds_now }
-
       live_now : (w : Way) (l : ways.Loc) → ways.IsRooted w → ways.Reaches (seen s state.memory (waiting_in state) state.leaks) w l
           → (content s state.memory (waiting_in state) (trunk l)).owns ≡ true
       live_now =
           live_trunk (steps.here main_turn) ready.accepted.settled state.leaks [] other alone (keeps s ready.accepted.settled ready.owns) no_in_formals index_law
           ready.owns views ready.class.parts_named state.memory (waiting_in state) viewed.owned
 
-      passed_quiet : Quiet now AreValues (all_passed (steps.here main_turn) ways_there formals actuals now)
+      abbrev Given : List Passed → Type 0
+      Given passed =
+          AreGiven (steps.here main_turn) ready.accepted.settled (waiting_in state) state.leaks state.memory [] other facts_now views kept viewed holds_now alone live_now
+          index_law ready.owns ready.class.parts_named formals actuals passed
+
+      passed_quiet : Quiet now Given (all_passed (steps.here main_turn) ways_there formals actuals now)
       passed_quiet =
-          all_values (steps.here main_turn) ready.accepted.settled (waiting_in state) state.leaks state.memory [] other facts_now views kept viewed holds_now alone live_now
-          index_law ready.owns ready.class.parts_named formals actuals called.actuals_stay in_formals no_call values_allowed
+          all_given (steps.here main_turn) ready.accepted.settled (waiting_in state) state.leaks state.memory [] other facts_now views kept viewed holds_now alone live_now
+          index_law ready.owns ready.class.parts_named formals actuals called.actuals_stay copied_there no_call values_allowed
+
+      given_laid : (passed : List Passed) → Given passed → AreLaid s passed
+      given_laid passed given =
+          all_laid_out (steps.here main_turn) ready.accepted.settled (waiting_in state) state.leaks state.memory [] other facts_now views kept viewed holds_now alone live_now
+          index_law ready.owns ready.class.parts_named formals actuals passed given
+
+      -- the state is sound with views under the facts after the acts
+      acted_now : (passed : List Passed) → Given passed → Viewed (home s depth) (is_observer s) other views (view_here s state) facts_called
+      acted_now passed given =
+          subst (Viewed (home s depth) (is_observer s) other views (view_here s state))
+          (sym (ap (λ z. after z facts_now) (acts_append values copies) ∙ after_append (acts values) (acts copies) facts_now
+          ∙ ap (after (acts copies)) (reads_keep values reads_there facts_now)))
+          (all_acted (steps.here main_turn) ready.accepted.settled (waiting_in state) state.leaks state.memory [] other facts_now views kept viewed holds_now alone live_now
+          index_law ready.owns ready.class.parts_named formals actuals passed facts_now given viewed)
+
+      -- loans stay
+      loans_called : (h : ℕ) (m : PlaceName) → Has facts_now (Lent Observed h m) → Has facts_called (Lent Observed h m)
+      loans_called h m has =
+          loans_stay (values ++ copies) (spare_both values copies (spare_reads values reads_there) (spare_copies s ready.owns formals actuals)) facts_now Observed h m has
 
       globals : AreGlobal (globals_of program effects n)
       globals = globals_are program effects ready.accepted.effects_are n
@@ -1275,13 +1352,12 @@ module _ (table : Table) (typed : TypedProgram) (effects : Effects) (input : Lis
       abbrev waits_there : ViewStage
       waits_there = record { stage = waits_stage; views = views }
 
-      facts_there : facts_of program effects waits_stage ≡ facts_now
+      facts_there : facts_of program effects waits_stage ≡ facts_called
       facts_there =
           ap (λ (z : FlowSub). facts_before (path_points program effects z) (top.frame.next ∷ top.before)) (sub_is state top older outer named p frames of_sub at_point)
           ∙ facts_whole state top older outer named p frames of_sub at_point path
-          ∙ ap (λ z. after z facts_now) call_acts ∙ after_append (acts values) (globals_of program effects n) facts_now
-          ∙ ap (after (globals_of program effects n)) (reads_keep values reads_there facts_now)
-          ∙ global_after (globals_of program effects n) facts_now globals
+          ∙ ap (λ z. after z facts_now) call_acts ∙ after_append (acts (values ++ copies)) (globals_of program effects n) facts_now
+          ∙ global_after (globals_of program effects n) facts_called globals
 
       own_there : AreOwn s (facts_of program effects waits_stage)
       own_there =
@@ -1306,12 +1382,19 @@ module _ (table : Table) (typed : TypedProgram) (effects : Effects) (input : Lis
       next_scope : InScope s state.memory depth (at_successor.0).scope
       next_scope = scope_on s ready.owns state.memory depth p.scope (at_successor.0).scope scope lead_on
 
-      next_placed : ArePlaced program facts_now views (at_successor.0).scope
-      next_placed = placed_on program facts_now views p.scope (at_successor.0).scope holds.only lead_on placed
+      next_placed : ArePlaced program facts_called views (at_successor.0).scope
+      next_placed =
+          placed_on program facts_called views p.scope (at_successor.0).scope holds.only lead_on
+          (λ x w has. (let own_place = placed x w has in record {
+            within = own_place.within;
+            up = own_place.up;
+            root = own_place.root;
+            holder = λ sees. (let h = own_place.holder sees in (h.0, loans_called h.0 (ways.name_of (views.loan x)) h.1, h.2));
+          }))
 
       -- ---- what is passed
 
-      module _ (passed : List Passed) (given : AreValues passed) where
+      module _ (passed : List Passed) (given : Given passed) where
         abbrev with_all : Memory
         with_all = with_formals s (suc depth) formals passed state.memory
 
@@ -1321,8 +1404,8 @@ module _ (table : Table) (typed : TypedProgram) (effects : Effects) (input : Lis
         abbrev called_stage : Stage
         called_stage = record { frame = frame_at_start n (returns_of formals passed); depth = suc depth; before = []; returns = [] }
 
-        enters : Enters s ready.accepted.settled (suc depth) (waiting_in state) state.leaks state.memory with_all
-        enters = all_entered s ready.accepted.settled (suc depth) (waiting_in state) state.leaks formals passed state.memory scalar_formals given kept
+        enters : Enters s ready.accepted.settled ready.owns (waiting_in state) state.leaks state.memory with_all
+        enters = all_entered s ready.accepted.settled ready.owns (waiting_in state) state.leaks (suc depth) formals passed state.memory scalar_formals (given_laid passed given) kept
 
         frames_there : after_call.frames ≡ frame_at_start n (returns_of formals passed) ∷ (waits_stage.frame ∷ outer)
         frames_there =
@@ -1331,7 +1414,7 @@ module _ (table : Table) (typed : TypedProgram) (effects : Effects) (input : Lis
 
         hands_there : waiting_in after_call ≡ waiting_in state
         hands_there =
-            hands_behind main_turn ready.accepted.settled ready.owns other alone no_in_formals views ready.class.parts_named no_sources_here frames none_takes state.memory 0
+            hands_behind main_turn ready.accepted.settled ready.owns other alone no_in_formals views ready.class.parts_named none_taken frames none_takes state.memory 0
 
         abbrev called_view : ways.View
         called_view = seen s with_all (waiting_in state) state.leaks
@@ -1339,10 +1422,10 @@ module _ (table : Table) (typed : TypedProgram) (effects : Effects) (input : Lis
         view_called : called_view ≡ view_here s after_call
         view_called = (λ j. seen s with_all (sym hands_there j) (sym (append-nil state.leaks) j))
 
-        well_called : Viewed (home s depth) (is_observer s) other views (view_here s after_call) facts_now
+        well_called : Viewed (home s depth) (is_observer s) other views (view_here s after_call) facts_called
         well_called =
-            subst (λ z. Viewed (home s depth) (is_observer s) other views z facts_now) view_called
-            (same_viewed (home s depth) (is_observer s) other views (view_here s state) called_view facts_now enters.same viewed)
+            subst (λ z. Viewed (home s depth) (is_observer s) other views z facts_called) view_called
+            (same_viewed (home s depth) (is_observer s) other views (view_here s state) called_view facts_called enters.same (acted_now passed given))
 
         is_waiting : IsWaiting table typed effects after_call waits_there
         is_waiting = record {
@@ -1361,9 +1444,9 @@ module _ (table : Table) (typed : TypedProgram) (effects : Effects) (input : Lis
             | inr mine ↦ mine.1
           ];
           own = own_there;
-          clear = subst (AreClear (is_observer s)) (sym facts_there) viewed.clear;
+          clear = subst (AreClear (is_observer s)) (sym facts_there) well_called.clear;
           views = subst (λ z. AreViews (home s top.depth) (is_observer s) views (view_here s after_call) z) (sym facts_there)
-              (subst (λ d. AreViews (home s d) (is_observer s) views (view_here s after_call) facts_now) (sym deep) well_called.views);
+              (subst (λ d. AreViews (home s d) (is_observer s) views (view_here s after_call) facts_called) (sym deep) well_called.views);
           holds = subst (λ d. HoldsAt s d views with_all at_successor.0) (sym deep) (record {
             held = λ x k lasts view at. holds_now.held x k view (sym (enters.views (home s depth x) x view) ∙ at);
             within = λ x k view at. (
@@ -1400,7 +1483,11 @@ module _ (table : Table) (typed : TypedProgram) (effects : Effects) (input : Lis
           views = blank_views;
           older = waits_there ∷ older;
           stages = subst (AreStages (called_stage ∷ stages_of (waits_there ∷ older))) (sym frames_there) (refl, refl, (refl, deep, stages));
-          running = (called.procedure, (refl, values_return formals passed given, refl), (is_waiting, others_wait));
+          running = (
+            called.procedure,
+            (refl, returns_copied s ready.accepted.settled formals passed scalar_formals (given_laid passed given), refl),
+            (is_waiting, others_wait),
+          );
           path = begins (first_point n called.procedure.named called.procedure.stands called.procedure.point called.procedure.points called.procedure.begins);
           viewed = record {
             owned = well_called.owned;
@@ -1441,10 +1528,8 @@ module _ (table : Table) (typed : TypedProgram) (effects : Effects) (input : Lis
 
       pub calls_it : LeadsOn table typed effects (turn main_turn (Call n actuals None))
       calls_it =
-          call_leads main_turn ready.accepted.settled n actuals (LeadsOn table typed effects)
-          (λ how m. ((λ trap. trap), raises main_turn ready.accepted.settled ready.owns other alone no_in_formals views ready.class.parts_named no_sources_here frames none_takes facts_now good_call m))
-          AreValues (values_laid s) entered_sound ways_there ways_are now
-          (start_is main_turn ready.accepted.settled ready.owns other alone no_in_formals views ready.class.parts_named no_sources_here frames none_takes) refl passed_quiet
+          call_leads main_turn ready.accepted.settled n actuals (LeadsOn table typed effects) (ends_raised not_end) Given given_laid entered_sound ways_there ways_are now
+          (start_is main_turn ready.accepted.settled ready.owns other alone no_in_formals views ready.class.parts_named none_taken frames none_takes) refl passed_quiet
 
     pub main_step : LeadsOn table typed effects (step program input state)
     main_step =
@@ -1480,7 +1565,7 @@ module _ (table : Table) (typed : TypedProgram) (effects : Effects) (input : Lis
       views = views;
       older = below ∷ [];
       stages = subst (AreStages (stage ready.main 1 ∷ (below.stage ∷ []))) (sym begins_main) (refl, refl, (refl, deep, tt));
-      running = (ready.main_there, (refl, refl, refl), first);
+      running = (ready.main_there, (refl, (λ r has. absurd has), refl), first);
       path = begins (first_point ready.main ready.main_there.named ready.main_there.stands ready.main_there.point ready.main_there.points ready.main_there.begins);
       viewed = record {
         owned = viewed.owned;

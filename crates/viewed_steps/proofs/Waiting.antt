@@ -15,7 +15,7 @@ use Rattle.flow_paths.specs.Laid.{FlowProgram, flow_typing, flow_program}
 use Rattle.machine.specs.Words as machine
 use Rattle.machine.specs.Memory.{variable_slots, no_slot}
 use Rattle.machine.specs.States.{Frame, State}
-use Rattle.owned_ways.specs.Ways.{Step, OfVariable, OfHand, OfRoot, OfCell, Way, Object, Lost, Into, All, Held, View, Reaches, Named, base_of, number_of, name_of}
+use Rattle.owned_ways.specs.Ways.{Loc, IsSame, Step, OfVariable, OfHand, OfRoot, OfCell, Way, Object, Lost, Into, All, Held, View, Reaches, Named, base_of, number_of, name_of}
 use Rattle.owned_ways.proofs.Named.{longer}
 use Rattle.owned_ways.proofs.Dropped.{named_base}
 use Rattle.soundness.specs.Seen.{IsNear, content, word_in, home}
@@ -85,6 +85,12 @@ module _ (s : Typing) (a b : ℕ) (some : 0 < a) (less : a < b) where
 
 same_frame : (f x g y : ℕ) → OfRoot (OfVariable f x) ≡ OfRoot (OfVariable g y) → f ≡ g
 same_frame f x g y e = cc
+
+same_reaches : (s t : View) → IsSame s t → (w : Way) (l : Loc) → Reaches s w l → Reaches t w l
+same_reaches s t e (Object r) l h = h
+same_reaches s t e (Lost n) l h = (e.leaked n ∙ h.0, h.1)
+same_reaches s t e (Into w i) l (m, h, is) = (m, same_reaches s t e w m h, is)
+same_reaches s t e (All w) l (m, n, h, held, is) = (m, n, same_reaches s t e w m h, e.word m ∙ held, is)
 
 -- ---- frames that wait
 
@@ -245,3 +251,13 @@ module _ (table : Table) (typed : TypedProgram) (effects : Effects)
           waits_on g (omega (arith, some, deep)) (omega (arith, less, deep)) (reach g (inl refl)) waiting.0,
           all_on (h ∷ older) outer stages.2 (omega (arith, less)) (λ k has. reach k (inr has)) waiting.1,
         )
+
+    -- where owners see the same
+    pub all_same : IsSame (view_here s state) (view_here s next) → (older : List ViewStage) (outer : List Frame) → AreStages (stages_of older) outer
+        → length outer ≤ depth → AreWaiting table typed effects state older → AreWaiting table typed effects next older
+    all_same same older outer stages less waiting =
+        all_on older outer stages less
+        (λ g has x w there. elim (all_between state depth older outer stages less waiting g has) [
+          | inl first ↦ none_some x w g.views (first.2 x) there
+          | inr (some, under, waits) ↦ same_reaches (view_here s state) (view_here s next) same w (OfCell (g.views.cell x)) (waits.views x w there).reaches
+        ]) waiting

@@ -2,17 +2,17 @@
 --
 -- A frame that waits for a call to end has its views still: it lends no part of a package object
 -- then, and what was called names no other object of the frame.
-use Rattle.std.specs.Prelude.{◌≡◌, ◌⊎◌, ◌<◌, ℕ, true, false, List, [], ◌∷◌, map, get_or, Some, None}
+use Rattle.std.specs.Prelude.{◌≡◌, ◌⊎◌, ◌<◌, ℕ, true, false, List, [], ◌∷◌, map, get_or, Option, Some, None}
 use Rattle.spark_base.specs.Lists.{Has}
 use Rattle.place_names.specs.declared.fact.Fact.{Fact}
 use Rattle.place_names.specs.declared.fact.Fact.TheVariants.{Lent}
 use Rattle.place_names.specs.declared.rule.Loan.TheVariants.{Observed}
-use Rattle.place_names.specs.declared.act.Mode.TheVariants as mode
 use Rattle.place_names.specs.Facts.{place}
 use Rattle.type_definitions.specs.Types.{Table, full, is_scalar}
+use Rattle.typed_tree.specs.Trees.{TypedTree}
 use Rattle.typed_tree.specs.Programs.{TypedProgram}
 use Rattle.flow_paths.specs.declared.report.Effects.{Effects}
-use Rattle.flow_paths.specs.Instructions.{EndScope}
+use Rattle.flow_paths.specs.Instructions.{Call, EndScope}
 use Rattle.flow_paths.specs.Objects.{Typing, object_at, is_formal, is_anonymous, is_observer, is_package_object, has_scope_end, view_of}
 use Rattle.flow_paths.specs.Points.{NamedPoint, FlowPoint}
 use Rattle.flow_paths.specs.Laid.{FlowSub, FlowProgram, NamedSub, flow_typing, flow_program, flow_named}
@@ -22,13 +22,13 @@ use Rattle.flow_paths.specs.Scopes.{is_within}
 use Rattle.flow_paths.specs.Views.{encloses, scope_of}
 use Rattle.machine.specs.Words.{Cell}
 use Rattle.machine.specs.Memory.{Memory, variable_slots, no_slot}
-use Rattle.machine.specs.States.{State, Outcome, Goes, Ends, sub_of}
+use Rattle.machine.specs.States.{Return, State, Outcome, Goes, Ends, sub_of}
 use Rattle.machine.specs.Owners.{WellOwned, waiting_in}
 use Rattle.machine.specs.Run.{step}
 use Rattle.owned_ways.specs.Ways.{Step, OfVariable, OfRoot, Held, Way, name_of, number_of}
 use Rattle.soundness.specs.Seen.{content, word_in, home}
 use Rattle.soundness.specs.Typed.{Kept}
-use Rattle.soundness.specs.Sound.{calls_procedures, IsNamedSub, IsAtPoint, IsProcedure, Stage, facts_of, AreStages, IsPlain, InScope, IsTrap}
+use Rattle.soundness.specs.Sound.{calls_procedures, AreCopied, IsCopied, IsNamedSub, IsAtPoint, IsProcedure, Stage, facts_of, AreStages, IsPlain, InScope, IsTrap}
 use Rattle.soundness.specs.Sound as owners
 use Rattle.owned_loans.specs.Views.{known_gone, Views, IsMovedBy, AreClear, AreViews, Viewed}
 use Rattle.viewed_soundness.specs.Holds.{PartsAreNamed}
@@ -36,12 +36,14 @@ use Rattle.viewed_soundness.specs.Holds.{PartsAreNamed}
 -- ---- the class
 
 -- Anonymous access types are those of objects alone. Procedures are called; their formals are of
--- mode `in` and of scalar types.
+-- scalar types, and actuals that are copied back to go through no access value.
 pub record IsViewClass (program : FlowProgram) : Type 0 where
   pub parts_named : PartsAreNamed program.table
   pub calls : (sub : FlowSub) → Has program.subs sub → (p : FlowPoint) → Has sub.points p → calls_procedures p.instr ≡ true
-  pub formals : (x : ℕ) → is_formal (flow_typing program) x ≡ true
-      → ((object_at (flow_typing program) x).mode ≡ mode.In) × (is_scalar (full program.table (object_at (flow_typing program) x).of) ≡ true)
+  pub formals : (x : ℕ) → is_formal (flow_typing program) x ≡ true → is_scalar (full program.table (object_at (flow_typing program) x).of) ≡ true
+  pub copied : (sub : FlowSub) → Has program.subs sub → (p : FlowPoint) → Has sub.points p → (n : ℕ) (actuals : TypedTree) (result : Option ℕ)
+      → p.instr ≡ Call n actuals result → ((x : ℕ) → Has (sub_of program n).formals x → is_formal (flow_typing program) x ≡ true)
+      → AreCopied (flow_typing program) (sub_of program n).formals actuals
 
 -- ---- where objects last
 
@@ -89,6 +91,10 @@ NoneAbove s depth m =
 
 -- ---- frames that wait
 
+-- Nothing waits in a frame between two steps, and nothing that owns is copied back.
+abbrev pub IsResting : Typing → Stage → Type 0
+IsResting s g = (g.frame.waits ≡ []) × ((r : Return) → Has g.frame.returns r → IsCopied s r) × (g.returns ≡ [])
+
 -- A frame with its executed points and the ways of its views.
 pub record ViewStage : Type 0 where
   pub stage : Stage
@@ -111,7 +117,7 @@ AreOwn s facts = (f : Fact) → Has facts f → is_package_object s (place f).ro
 -- fact is on a package object.
 pub record IsWaiting (table : Table) (typed : TypedProgram) (effects : Effects) (state : State) (g : ViewStage) : Type 0 where
   pub procedure : IsProcedure table typed g.stage.frame.sub
-  pub plain : IsPlain g.stage
+  pub plain : IsResting (flow_typing (flow_program table typed)) g.stage
   pub path : ControlPath (path_points (flow_program table typed) effects (sub_of (flow_program table typed) g.stage.frame.sub)) g.stage.before g.stage.frame.next
   pub named : NamedSub
   pub of_sub : IsNamedSub (flow_named table typed) g.stage.frame.sub named
@@ -143,7 +149,7 @@ AreWaiting table typed effects state (g ∷ (h ∷ older)) = IsWaiting table typ
 abbrev pub IsRunning : Table → TypedProgram → Effects → State → ViewStage → List ViewStage → Type 0
 IsRunning table typed effects state top [] = IsFirst top
 IsRunning table typed effects state top (g ∷ older) =
-    IsProcedure table typed top.stage.frame.sub × IsPlain top.stage × AreWaiting table typed effects state (g ∷ older)
+    IsProcedure table typed top.stage.frame.sub × IsResting (flow_typing (flow_program table typed)) top.stage × AreWaiting table typed effects state (g ∷ older)
 
 -- The innermost frame with its views, those around it, and what holds of them.
 pub record IsSound (table : Table) (typed : TypedProgram) (effects : Effects) (state : State) : Type 0 where

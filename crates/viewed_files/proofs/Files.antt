@@ -1,0 +1,276 @@
+-- Borrowers and observers of files that break no rule are in order, and the runs of their program are sound where
+-- nothing is reported: without formals and calls, or where procedures are called.
+use Rattle.std.proofs.Common.{◌≡◌, refl, sym, ap, ◌∙◌, subst, ℕ, Bool, true, false, List, [], ◌∷◌, Option, Some, None}
+use Rattle.spark_base.specs.Lists.{Has}
+use Rattle.ada_lexer.specs.Tokens.{Cut}
+use Rattle.ada_tree.specs.declared.unit.SourceUnit.{SourceUnit}
+use Rattle.name_events.specs.Outline.{source_events}
+use Rattle.name_events.specs.Identified.{identified}
+use Rattle.name_events.specs.Denotes.{known_of as names_known}
+use Rattle.name_events.specs.Faults.{name_fault}
+use Rattle.resolved_tree.specs.declared.node.Mark.{Mark}
+use Rattle.resolved_tree.specs.Trees.{Code, Program}
+use Rattle.typing_steps.specs.Programs.{program_of}
+use Rattle.type_definitions.specs.declared.table.Shape.{Shape}
+use Rattle.type_definitions.specs.declared.table.Shape.TheVariants as shape
+use Rattle.type_definitions.specs.declared.judgement.View.{View}
+use Rattle.type_definitions.specs.declared.judgement.View.TheVariants as view
+use Rattle.type_definitions.specs.Types.{Table, full, shape_of, words, words_of}
+use Rattle.type_definitions.specs.Entries.{integer, boolean, marked}
+use Rattle.type_definitions.specs.Expressions.{is_anonymous}
+use Rattle.type_definitions.specs.Whole.{outside, known_of, type_fault}
+use Rattle.type_rules.proofs.Formed.{files_formed}
+use Rattle.typed_tree.specs.Trees.{TypedTree}
+use Rattle.typed_tree.specs.Programs.{TypedSub, site_of, elaboration, typed_program}
+use Rattle.flow_paths.specs.declared.report.Effects.{Effects}
+use Rattle.flow_paths.specs.Effects.{AreEffects}
+use Rattle.flow_paths.specs.Objects as flow
+use Rattle.flow_paths.specs.Instructions.{Call}
+use Rattle.flow_paths.specs.Points.{FlowPoint}
+use Rattle.flow_paths.specs.Laid.{FlowSub, FlowProgram, flow_typing, flow_program}
+use Rattle.flow_paths.specs.Reports.{AreReports}
+use Rattle.settled_types.specs.Orderly.{at_start, IsOrderly as IsInOrderText}
+use Rattle.orderly_files.specs.Apart.{AreApart}
+use Rattle.orderly_files.specs.Ended.{AllEnded}
+use Rattle.orderly_files.proofs.Main.{files_in_order}
+use Rattle.file_positions.specs.Order.{Ascends, event_positions}
+use Rattle.file_positions.specs.Texts.{AreParsed}
+use Rattle.file_positions.proofs.Ascending.{events_ascend}
+use Rattle.file_positions.proofs.Main.{files_apart, files_ended}
+use Rattle.ready_types.proofs.Files.{files_settled, files_own}
+use Rattle.machine.specs.Words.{component_type, element_type, element_of}
+use Rattle.gathered_laws.specs.Made.{IsMade}
+use Rattle.gathered_laws.specs.Views.{AreViews}
+use Rattle.gathered_laws.proofs.Parts as parts
+use Rattle.anonymous_types.proofs.Main as anonymous
+use Rattle.typed_laws.specs.Fine.{Laws, counts, lists}
+use Rattle.typed_steps.specs.Steps.{AreTyped as AreStepsTyped}
+use Rattle.typed_points.specs.Meant.{AreMeantUnits, typing_meant}
+use Rattle.soundness.specs.Typed.{OwnsByShape}
+use Rattle.soundness.specs.Sound.{Accepted, calls_nothing, RunIsSound}
+use Rattle.soundness.proofs.Points.{flow_table, typing_same}
+use Rattle.soundness.proofs.Successors.{nothing_procedures}
+use Rattle.viewed_soundness.specs.Holds.{PartsAreNamed}
+use Rattle.ready_laws.specs.InOrder.{IsInOrder, AreCallees, ArePassed}
+use Rattle.ready_laws.proofs.Temporaries.{few_temporaries}
+use Rattle.ready_laws.proofs.Actuals.{scalar_passed, formless_passed}
+use Rattle.order_laws.specs.Orderly.{typed_of, typing_in, bodies_of, IsOrderly}
+use Rattle.order_laws.proofs.Faults.{units_faultless}
+use Rattle.order_laws.proofs.Unmoved.{package_values}
+use Rattle.order_laws.proofs.Whole.{in_order}
+use Rattle.seen_files.specs.Reached.{IsObjectIn}
+use Rattle.seen_files.proofs.Files.{files_fit}
+use Rattle.seen_files.proofs.Entries.{known_keeps}
+use Rattle.seen_files.proofs.Main.{files_values_seen}
+use Rattle.meant_files.specs.Typed.{AreTyped}
+use Rattle.meant_files.proofs.Main.{files_denote}
+use Rattle.meant_files.proofs.Main as meant
+use Rattle.meant_files.proofs.Codes as codes
+use Rattle.sound_files.specs.Class.{CallsNothing, CallsProcedures, HasNoFunction, HasScalarFormals, CopiesToVariables}
+use Rattle.sound_files.proofs.Formals.{no_formals}
+use Rattle.sound_files.proofs.Fine.{table_laws, files_declared, procedures_fine}
+use Rattle.sound_files.proofs.Procedures.{callees, files_bodies}
+use Rattle.sound_files.proofs.Main.{files_orderly}
+use Rattle.view_laws.specs.InOrder.{AreViewsInOrder}
+use Rattle.viewed_steps.specs.Ready.{AreSpared}
+use Rattle.view_laws.proofs.Ready.{uncalled_spared, views_sound}
+use Rattle.viewed_files.specs.Class.{IsFormlessText}
+use Rattle.viewed_files.proofs.Sources.{scalar_plain}
+use Rattle.viewed_files.proofs.Main.{IsGiven, views_in_order}
+
+heads : (x y : TypedSub) (xs ys : List TypedSub) → x ∷ xs ≡ y ∷ ys → x ≡ y
+heads x y xs ys e = cc
+
+tails : (x y : TypedSub) (xs ys : List TypedSub) → x ∷ xs ≡ y ∷ ys → xs ≡ ys
+tails x y xs ys e = cc
+
+same_anonymous : (w : View) → is_anonymous w ≡ false → flow.is_anonymous w ≡ false
+same_anonymous (view.Access d k true) e = refl
+same_anonymous (view.Access d k false) e = cc
+same_anonymous w e = refl
+
+whole_named : (z : Shape) (d : ℕ) (c n : Bool) → counts z ≡ true → z ≡ shape.Access d c n → n ≡ true
+whole_named (shape.Access e k m) d c n whole is = cc
+whole_named z d c n whole is = cc
+
+module _ (files : List (List SourceUnit)) where
+  abbrev p : Program
+  p = program_of files
+
+  abbrev table : Table
+  table = (known_of p).table
+
+  abbrev flow_of_files : FlowProgram
+  flow_of_files = flow_program table (typed_of p)
+
+  module _ (apart : AreApart (identified files)) (ended : AllEnded at_start p.units) (up : Ascends (event_positions (source_events files))) (named : name_fault files ≡ None)
+      (no_fault : type_fault p ≡ None) where
+    in_order_text : IsInOrderText p
+    in_order_text = files_in_order files apart ended
+
+    pub files_views : AreViews p.units table
+    files_views = anonymous.are_views p (files_formed (identified files) files) in_order_text no_fault (meant.files_apart files up named)
+
+    laws : Laws (known_of p) (IsMade p.units)
+    laws = table_laws files apart ended up named no_fault files_views
+
+    declared : (u : Code) → Has p.units u → AreTyped (IsMade p.units) (outside (known_of p)) u
+    declared = files_declared files apart ended up named no_fault files_views
+
+    meant_units : AreMeantUnits (known_of p) (IsMade p.units) p.units
+    meant_units =
+        codes.files_meant (identified files) (typing_meant (known_of p) p.units) (IsMade p.units) (site_of (known_of p) p.units) files (files_denote files up named) declared
+
+    marks : (m : Mark) → flow.is_anonymous (full table (marked (known_of p) m)) ≡ false
+    marks m = same_anonymous (full table (marked (known_of p) m)) (anonymous.mark_plain p (files_formed (identified files) files) in_order_text no_fault (meant.files_apart files up named) m)
+
+    -- ---- types
+
+    component_named : (t i d : ℕ) (c n : Bool) → shape_of table (component_type table t i) ≡ shape.Access d c n → n ≡ true
+    component_named t i = parts.component_named p (files_formed (identified files) files) in_order_text no_fault files_views t i
+
+    target_named : (t d : ℕ) (c n : Bool) → shape_of table t ≡ shape.Access d c n → (e : ℕ) (b k : Bool) → shape_of table d ≡ shape.Access e b k → k ≡ true
+    target_named t d c n is = parts.target_named p (files_formed (identified files) files) in_order_text no_fault files_views t d c n is
+
+    integer_named : (d : ℕ) (c n : Bool) → shape_of table integer ≡ shape.Access d c n → n ≡ true
+    integer_named d c n is = whole_named (shape_of table integer) d c n laws.whole is
+
+    element_named : (t d : ℕ) (c n : Bool) → shape_of table (element_type table t) ≡ shape.Access d c n → n ≡ true
+    element_named t d c n = by (shape_of table t) refl
+      where
+        by : (z : Shape) → shape_of table t ≡ z → shape_of table (element_of z) ≡ shape.Access d c n → n ≡ true
+        by (shape.Elements low high of) is = parts.array_named p (files_formed (identified files) files) in_order_text no_fault files_views t of low high is d c n
+        by z is = integer_named d c n
+
+    parts_named : PartsAreNamed table
+    parts_named = record { component = component_named; element = element_named; designated = target_named }
+
+    -- ---- views
+
+    module _ (main : ℕ) (is_main : (typed_of p).main ≡ Some main) (plain : (x : ℕ) → flow.is_formal (typing_in p) x ≡ true → flow.is_anonymous (flow.view_of (typing_in p) x) ≡ false) where
+      orderly : IsOrderly p
+      orderly = files_orderly files apart ended up named no_fault files_views main is_main
+
+      given : IsGiven p (IsMade p.units) laws (IsObjectIn (names_known files))
+      given = record {
+        marks = marks;
+        formals = orderly.formals;
+        plain = plain;
+        written = orderly.written;
+        once = orderly.once;
+        meant = meant_units;
+        typed = declared;
+        none = units_faultless p no_fault;
+        names = known_keeps (IsObjectIn (names_known files)) p (files_fit files up named);
+        fits = files_fit files up named;
+        values = files_values_seen files up named orderly.once;
+      }
+
+      -- Where no formal is of an anonymous access type, borrowers and observers are in order.
+      pub files_views_in_order : AreViewsInOrder table (typed_of p) (elaboration (site_of (known_of p) p.units) p.units) (bodies_of p)
+      files_views_in_order = views_in_order p (IsMade p.units) laws (IsObjectIn (names_known files)) given
+
+    -- ---- programs
+
+    subs_are : (typed_of p).subs ≡ elaboration (site_of (known_of p) p.units) p.units ∷ bodies_of p
+    unfolding typed_program
+    subs_are = refl
+
+    -- Procedures alone are called, and their formals are of scalar types.
+    module _ (main : ℕ) (is_main : (typed_of p).main ≡ Some main) (effects : Effects) (are : AreEffects flow_of_files effects) (none : AreReports flow_of_files effects [])
+        (calls : CallsProcedures flow_of_files) (formals : HasScalarFormals flow_of_files) where
+      same_objects : flow_of_files.objects ≡ (typed_of p).objects
+      same_objects = few_temporaries table (typed_of p) calls
+
+      same_typing : flow_typing flow_of_files ≡ typing_in p
+      same_typing = typing_same table (typed_of p) same_objects
+
+      formals_plain : (x : ℕ) → flow.is_formal (typing_in p) x ≡ true → flow.is_anonymous (flow.view_of (typing_in p) x) ≡ false
+      formals_plain x is =
+          subst (λ z. flow.is_anonymous (flow.view_of z x) ≡ false) same_typing
+          (scalar_plain (flow.view_of (flow_typing flow_of_files) x) (formals x (ap (λ z. flow.is_formal z x) same_typing ∙ is)))
+
+      accepted : Accepted table (typed_of p) effects
+      accepted = record {
+        no_reports = none;
+        effects_are = are;
+        settled = files_settled files apart ended no_fault (typed_of p);
+        fine = procedures_fine files apart ended up named no_fault files_views calls;
+      }
+
+      text_orderly : IsOrderly p
+      text_orderly = files_orderly files apart ended up named no_fault files_views main is_main
+
+      order : IsInOrder table (typed_of p)
+      order =
+          in_order table (known_of p) p.units text_orderly.written text_orderly.once (subst OwnsByShape (flow_table table (typed_of p)) (files_own files apart ended no_fault (typed_of p)))
+          accepted.fine same_objects text_orderly.formals text_orderly.seen
+          (package_values (known_of p) p.units text_orderly.whole text_orderly.written (units_faultless p no_fault)) (units_faultless p no_fault) main is_main
+
+      rest_is : bodies_of p ≡ order.rest
+      rest_is = tails _ _ _ _ (sym subs_are ∙ order.subs)
+
+      views_here : AreViewsInOrder table (typed_of p) order.first order.rest
+      views_here =
+          subst (λ first. AreViewsInOrder table (typed_of p) first order.rest) (heads _ _ _ _ (sym subs_are ∙ order.subs))
+          (subst (λ rest. AreViewsInOrder table (typed_of p) (elaboration (site_of (known_of p) p.units) p.units) rest) rest_is (files_views_in_order main is_main formals_plain))
+
+      called_sound : AreCallees table (typed_of p) (bodies_of p) → CopiesToVariables flow_of_files → ArePassed flow_of_files → AreSpared flow_of_files effects
+          → (input : List ℕ) → RunIsSound table (typed_of p) input
+      called_sound callees copied passed spared =
+          views_sound table (typed_of p) effects
+          (record {
+            accepted = accepted;
+            owns = files_own files apart ended no_fault (typed_of p);
+            parts_named = subst PartsAreNamed (sym (flow_table table (typed_of p))) parts_named;
+            calls = calls;
+            formals = formals;
+            copied = λ sub has q there n actuals result is known. copied sub has q there n actuals result is;
+            order = order;
+            callees = subst (AreCallees table (typed_of p)) rest_is callees;
+            passed = passed;
+            spared = spared;
+            views = views_here;
+          })
+
+      -- Where procedures are called that have bodies, and no fact is on a package object then, each moment of each run is
+      -- well owned, and none is a trap.
+      pub files_called_sound : HasNoFunction p → AreStepsTyped flow_of_files → CopiesToVariables flow_of_files → AreSpared flow_of_files effects
+          → (input : List ℕ) → RunIsSound table (typed_of p) input
+      files_called_sound procedures typed copied =
+          let same : table ≡ flow_of_files.table = sym (flow_table table (typed_of p)) in
+          called_sound (callees p (files_bodies files up named) procedures) copied
+          (scalar_passed flow_of_files formals (subst (λ (rows : Table). counts (shape_of rows integer) ≡ true) same laws.whole)
+          (subst (λ (rows : Table). lists (shape_of rows boolean) ≡ true) same laws.listed)
+          (subst (λ (rows : Table). (t : ℕ) → words rows t ≡ words_of (words rows) (shape_of rows t)) same laws.word_law) typed)
+
+    -- So it is where there are no formals and nothing is called.
+    module _ (text : IsFormlessText p) (effects : Effects) (are : AreEffects flow_of_files effects) (none : AreReports flow_of_files effects []) (calls : CallsNothing flow_of_files) where
+      calls_procedures : CallsProcedures flow_of_files
+      calls_procedures sub has q there = nothing_procedures q.instr (calls sub has q there)
+
+      unformed : (x : ℕ) → flow.is_formal (flow_typing flow_of_files) x ≡ false
+      unformed x = ap (λ z. flow.is_formal z x) (typing_same table (typed_of p) (few_temporaries table (typed_of p) calls_procedures)) ∙ no_formals p text.formless x
+
+      no_call : (sub : FlowSub) → Has flow_of_files.subs sub → (q : FlowPoint) → Has sub.points q → (n : ℕ) (actuals : TypedTree) (result : Option ℕ) → q.instr ≡ Call n actuals result → ⊥
+      no_call sub has q there n actuals result is = (let never : false ≡ true = sym (ap calls_nothing is) ∙ calls sub has q there in cc)
+
+      pub files_views_sound : (input : List ℕ) → RunIsSound table (typed_of p) input
+      files_views_sound =
+          called_sound text.main text.is_main effects are none calls_procedures (λ x is. (let no : true ≡ false = sym is ∙ unformed x in cc))
+          (λ sub has q there n actuals result is. absurd (no_call sub has q there n actuals result is))
+          (λ sub has q there n actuals result is. absurd (no_call sub has q there n actuals result is))
+          (formless_passed flow_of_files unformed) (uncalled_spared flow_of_files effects calls)
+
+  -- So it is if the files are parsed from texts: then their positions are as in a text.
+  pub parsed_views_sound : (texts : List (List Cut)) → AreParsed 0 texts files → name_fault files ≡ None → type_fault p ≡ None → IsFormlessText p
+      → (effects : Effects) → AreEffects flow_of_files effects → AreReports flow_of_files effects [] → CallsNothing flow_of_files
+      → (input : List ℕ) → RunIsSound table (typed_of p) input
+  parsed_views_sound texts parsed named no_fault =
+      files_views_sound (files_apart texts files parsed) (files_ended (identified files) texts files parsed) (events_ascend texts files parsed) named no_fault
+
+  pub parsed_called_sound : (texts : List (List Cut)) → AreParsed 0 texts files → name_fault files ≡ None → type_fault p ≡ None → (main : ℕ) → (typed_of p).main ≡ Some main
+      → (effects : Effects) → AreEffects flow_of_files effects → AreReports flow_of_files effects [] → CallsProcedures flow_of_files → HasScalarFormals flow_of_files
+      → HasNoFunction p → AreStepsTyped flow_of_files → CopiesToVariables flow_of_files → AreSpared flow_of_files effects → (input : List ℕ) → RunIsSound table (typed_of p) input
+  parsed_called_sound texts parsed named no_fault =
+      files_called_sound (files_apart texts files parsed) (files_ended (identified files) texts files parsed) (events_ascend texts files parsed) named no_fault
