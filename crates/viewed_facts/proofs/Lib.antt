@@ -4,3 +4,4 @@ pub mod Memories
 pub mod Evaluated
 pub mod Stored
 pub mod Instructions
+pub mod Releases
