@@ -26,7 +26,7 @@ use Rattle.machine.specs.States.{Waiting, Outcome, Goes, Ends}
 use Rattle.machine.specs.Step.{Turn, typing, here, start, Stored, taken_by, assign, end_scope, goes, leaking_goes, target_pos}
 use Rattle.machine.specs.Step as steps
 use Rattle.machine.specs.Owners.{waiting_in}
-use Rattle.owned_ways.specs.Ways.{OfVariable, OfRoot, Way, Object, Under, Named, after, AllowsAll, number_of}
+use Rattle.owned_ways.specs.Ways.{OfVariable, OfRoot, Way, Object, Under, Named, IsSame, after, AllowsAll, number_of}
 use Rattle.part_offsets.specs.Parts.{IsSettled}
 use Rattle.soundness.specs.Seen.{content, home, seen, IsNear, is_view_formal}
 use Rattle.soundness.specs.Typed.{OwnsByShape}
@@ -188,18 +188,22 @@ module _ (t : Turn) (settled : IsSettled (typing t).table) (own_law : OwnsByShap
   then_declared x facts (Raises e n) given exact no_fact = tt
   then_declared x facts (Traps e n) never exact no_fact = tt
 
-  -- ---- the variable of a view gets a word, and nothing is moved
+  -- ---- what owners don't see
 
+  pub same_exact : (next : Memory) (facts : List Fact) → Good facts → IsSame (seen s m hands t.state.leaks) (seen s next hands t.state.leaks) → Exact m facts → Exact next facts
+  same_exact next facts good same exact =
+      exact_from s settled (home s depth) (is_observer s) other v elsewhere apart (seen s next hands t.state.leaks) next hands facts
+      (definite_variable (home s depth) (is_observer s) other v elsewhere apart (seen s m hands t.state.leaks) facts good.viewed) (λ l. refl)
+      (told_still (home s depth) (is_observer s) other v elsewhere apart (seen s m hands t.state.leaks) (seen s next hands t.state.leaks) IsPlaced facts good.viewed
+      (λ g y. tt) (keeps_placed (seen s m hands t.state.leaks) (seen s next hands t.state.leaks) (λ l n placed held. sym (same.word l) ∙ held))
+      (λ l placed gone. same.word l ∙ gone) (told_seen s settled (home s depth) (is_observer s) other v elsewhere apart m hands t.state.leaks facts good.viewed exact))
+
+  -- the variable of a view gets a word, and nothing is moved
   pub view_stored : (f x : ℕ) (ws : List machine.Word) → is_anonymous (view_of s x) ≡ true → (facts facts' : List Fact) → Good facts
       → ((n : PlaceName) → Has facts' (Moved n) → Has facts (Moved n)) → Exact m facts → Exact (declared f x ws m) facts'
   view_stored f x ws view facts facts' good less exact =
-      let same = view_unseen s settled m hands t.state.leaks f x ws view in
-      let variables = definite_variable (home s depth) (is_observer s) other v elsewhere apart (seen s m hands t.state.leaks) facts good.viewed in
       told_fewer (home s depth) (is_observer s) other v elsewhere apart (seen s (declared f x ws m) [] []) facts facts' less
-      (exact_from s settled (home s depth) (is_observer s) other v elsewhere apart (seen s (declared f x ws m) hands t.state.leaks) (declared f x ws m) hands facts variables (λ l. refl)
-      (told_still (home s depth) (is_observer s) other v elsewhere apart (seen s m hands t.state.leaks) (seen s (declared f x ws m) hands t.state.leaks) IsPlaced facts good.viewed
-      (λ g y. tt) (keeps_placed (seen s m hands t.state.leaks) (seen s (declared f x ws m) hands t.state.leaks) (λ l n placed held. sym (same.word l) ∙ held))
-      (λ l placed gone. same.word l ∙ gone) (told_seen s settled (home s depth) (is_observer s) other v elsewhere apart m hands t.state.leaks facts good.viewed exact)))
+      (same_exact (declared f x ws m) facts good (view_unseen s settled m hands t.state.leaks f x ws view) exact)
 
   -- ---- the end of a scope, where no view begins
 

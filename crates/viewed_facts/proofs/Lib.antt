@@ -5,3 +5,4 @@ pub mod Evaluated
 pub mod Stored
 pub mod Instructions
 pub mod Releases
+pub mod Loops
