@@ -205,6 +205,15 @@ module _ (t : Turn) (settled : IsSettled (typing t).table) (own_law : OwnsByShap
       told_fewer (home s depth) (is_observer s) other v elsewhere apart (seen s (declared f x ws m) [] []) facts facts' less
       (same_exact (declared f x ws m) facts good (view_unseen s settled m hands t.state.leaks f x ws view) exact)
 
+  -- a view is declared, from a source that changes nothing
+  pub view_declared : (P : List machine.Word → Type 0) (x : ℕ) → is_anonymous (view_of s x) ≡ true → (facts facts' : List Fact) → Good facts
+      → ((n : PlaceName) → Has facts' (Moved n) → Has facts (Moved n)) → Exact m facts → (y : Evaluated (List machine.Word)) → Quiet now P y
+      → ExactOn facts' [] (steps.evaluated t y (λ ws n. goes t (declared depth x ws n) 0))
+  view_declared P x view facts facts' good less exact (Done ws n) (same, p) =
+      subst (λ (z : Now). ExactOn facts' [] (goes t (declared depth x ws z.memory) 0)) (sym same) (view_stored depth x ws view facts facts' good less exact, tt)
+  view_declared P x view facts facts' good less exact (Raises e n) is = tt
+  view_declared P x view facts facts' good less exact (Traps e n) never = tt
+
   -- ---- the end of a scope, where no view begins
 
   -- `mine`: the object is one of the frame
