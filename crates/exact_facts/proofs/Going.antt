@@ -1,6 +1,6 @@
 -- Each step of a sound state whose facts are exact leads to such a state, in a program that is
 -- ready.
-use Rattle.std.proofs.Common.{◌≡◌, refl, sym, ◌∙◌, subst, inl, inr, ℕ, suc, true, List, [], ◌∷◌, length, arith}
+use Rattle.std.proofs.Common.{◌≡◌, refl, sym, ◌∙◌, subst, inl, inr, ℕ, suc, List, [], ◌∷◌, length, arith}
 use Rattle.spark_base.specs.Lists.{Has}
 use Rattle.place_names.specs.declared.fact.Fact.{Fact}
 use Rattle.place_names.specs.declared.fact.Fact.TheVariants.{Moved}
@@ -20,7 +20,7 @@ use Rattle.machine.specs.Run.{step}
 use Rattle.owned_ways.specs.Ways.{Way, Sound, Told, name_of}
 use Rattle.soundness.specs.Seen.{seen, home}
 use Rattle.soundness.specs.Typed.{Kept}
-use Rattle.soundness.specs.Sound.{calls_nothing, Stage, facts_of, Elsewhere, AreStages, AreRunning, InScope, IsNamedSub, IsAtPoint, view_of, IsDefinite, IsDefiniteOf, IsOnward, AreSameWords, Follows, steps_on, begins_main, calls_one, ends_one, LeadsAlong}
+use Rattle.soundness.specs.Sound.{Stage, facts_of, Elsewhere, AreStages, AreRunning, AreAwaited, InScope, IsNamedSub, IsAtPoint, view_of, IsDefinite, IsDefiniteOf, IsOnward, AreSameWords, Follows, steps_on, begins_main, calls_one, returns_one, ends_one, IsNoCall, LeadsAlong}
 use Rattle.soundness.specs.Ready.{IsReady}
 use Rattle.soundness.proofs.Points.{sub_there}
 use Rattle.soundness.proofs.Around.{IsBetween, all_between}
@@ -102,7 +102,7 @@ module _ (table : Table) (typed : TypedProgram) (effects : Effects) (input : Lis
 
   module _ (i : Instruction) (state after_step : State) (top : Stage) (older : List Stage)
       (packages : older ≡ [] → top.frame.sub ≡ 0) (between : (g : Stage) → Has older g → IsBetween (flow_program table typed) effects top.depth g)
-      (told_step : calls_nothing i ≡ true → (i ≡ Finish → ⊥)
+      (told_step : IsNoCall i → (i ≡ Finish → ⊥)
       → Told (view_of (flow_typing (flow_program table typed)) after_step) (IsDefiniteHere (flow_program table typed) effects top.depth
       (facts_before (path_points (flow_program table typed) effects (sub_of (flow_program table typed) top.frame.sub)) (top.frame.next ∷ top.before)) older))
       (told : Told (view_of (flow_typing (flow_program table typed)) state) (IsDefiniteOf (flow_program table typed) effects (top ∷ older))) where
@@ -131,6 +131,17 @@ module _ (table : Table) (typed : TypedProgram) (effects : Effects) (input : Lis
               let before : IsDefinite (home s waits.depth) (facts_of program effects top) w = ((waiting.0.0, fewer (Moved (name_of w)) waiting.0.1), waiting.1) in
               all w l (top, inl refl, subst (λ d. IsDefinite (home s d) (facts_of program effects top) w) on.1 before) reaches)
         ]
+    follows_told next around (returns_one calls going below more waits same on around_is) w l (g, inl is, definite) reaches =
+        told_step calls going w l (inl (then_there top next on w (same_stage next g is w definite))) reaches
+    follows_told next around (returns_one calls going below more waits same on around_is) w l (g, inr has, definite) reaches =
+        told_step calls going w l (inr (elim (subst (λ gs. Has gs g) around_is has) [
+          | inl is ↦ (
+            below,
+            subst (λ gs. Has gs below) (sym same) (inl refl),
+            same_stage (record below { frame = record below.frame { waits = waits } }) g is w definite,
+          )
+          | inr there ↦ (g, subst (λ gs. Has gs g) (sym same) (inr there), definite)
+        ])) reaches
     follows_told next around (ends_one same words) w l (g, has, definite) reaches =
         whole after_step older
         (told_ended top.depth state.memory after_step.memory older between words (bare state older (λ v k (h, there, is) r. told v k (h, inr there, is) r)))
@@ -156,24 +167,24 @@ module _ (table : Table) (typed : TypedProgram) (effects : Effects) (input : Lis
       unmoved (record { frame = top.frame; depth = top.depth; before = top.frame.next ∷ top.before; returns = top.returns }) first w definite
 
   step_told : (state : State) (top : Stage) (older : List Stage) (fs : List Frame) → state.frames ≡ fs → AreStages (top ∷ older) fs
-      → AreRunning table typed effects state.memory (top ∷ older)
+      → AreRunning table typed effects state.memory (top ∷ older) → AreAwaited table typed 0 (top ∷ older)
       → ControlPath (path_points program effects (sub_of program top.frame.sub)) top.before top.frame.next
       → Sound (home s top.depth) (Elsewhere program effects older) (view_of s state) (facts_of program effects top) → Kept s state.memory (waiting_in state)
       → (named : NamedSub) → IsNamedSub (flow_named table typed) top.frame.sub named → (p : NamedPoint) → IsAtPoint named.points top.frame.next p
       → InScope s state.memory top.depth p.scope → Told (view_of s state) (IsDefiniteOf program effects (top ∷ older))
-      → (next : State) → step program input state ≡ Goes next → calls_nothing p.instr ≡ true → (p.instr ≡ Finish → ⊥)
+      → (next : State) → step program input state ≡ Goes next → IsNoCall p.instr → (p.instr ≡ Finish → ⊥)
       → Told (view_of s next) (IsDefiniteHere program effects top.depth (facts_then top) older)
-  step_told state top [] fs is stages running path well kept named of_sub p at_point scope told next goes calls going =
+  step_told state top [] fs is stages running awaiting path well kept named of_sub p at_point scope told next goes calls going =
       λ w l definite reaches. absurd (none_then top running.0 w definite)
-  step_told state top (below ∷ more) (f ∷ (g ∷ rest)) is (frame, deep, (caller, deeper, others)) running path well kept named of_sub p at_point scope told next goes calls going =
+  step_told state top (below ∷ more) (f ∷ (g ∷ rest)) is (frame, deep, (caller, deeper, others)) running awaiting path well kept named of_sub p at_point scope told next goes calls going =
       subst (λ d. Told (view_of s next) (IsDefiniteHere program effects d (facts_then top) (below ∷ more))) (sym deep)
       (subst (λ (z : FlowSub). Told (view_of s next) (IsDefiniteHere program effects (suc (length rest)) (facts_before (path_points program effects z) (top.frame.next ∷ top.before)) (below ∷ more)))
       (sym (sub_there table typed top.frame.sub named of_sub))
-      (told_next table typed effects input ready state top below more rest named p (is ∙ (λ j. sym frame j ∷ (sym caller j ∷ rest))) deep (refl, deeper, others) running
+      (told_next table typed effects input ready state top below more rest named p (is ∙ (λ j. sym frame j ∷ (sym caller j ∷ rest))) deep (refl, deeper, others) running awaiting
       of_sub at_point path (subst (λ d. Sound (home s d) (Elsewhere program effects (below ∷ more)) (view_of s state) (facts_of program effects top)) deep well) kept
       (subst (λ d. InScope s state.memory d p.scope) deep scope) told calls going next goes))
-  step_told state top (below ∷ more) [] is stages running path well kept named of_sub p at_point scope told next goes calls going = absurd stages
-  step_told state top (below ∷ more) (f ∷ []) is stages running path well kept named of_sub p at_point scope told next goes calls going = absurd stages.2
+  step_told state top (below ∷ more) [] is stages running awaiting path well kept named of_sub p at_point scope told next goes calls going = absurd stages
+  step_told state top (below ∷ more) (f ∷ []) is stages running awaiting path well kept named of_sub p at_point scope told next goes calls going = absurd stages.2
 
   pub exactly_step : StepsLeadExactly table typed effects input
   exactly_step state (sound, exact) = by (step program input state) refl (sound_along table typed effects input ready state sound)
@@ -185,7 +196,7 @@ module _ (table : Table) (typed : TypedProgram) (effects : Effects) (input : Lis
         leads.0,
         follows_told sound.point.instr state after_step sound.top sound.older (packages_of state.memory sound.top sound.older sound.running)
             (between_of state.memory sound.top sound.older state.frames sound.stages sound.running)
-            (step_told state sound.top sound.older state.frames refl sound.stages sound.running sound.path sound.sound sound.kept sound.named sound.of_sub sound.point
+            (step_told state sound.top sound.older state.frames refl sound.stages sound.running sound.waiting sound.path sound.sound sound.kept sound.named sound.of_sub sound.point
             sound.at_point sound.scope exact after_step is)
             exact (leads.0).top (leads.0).older leads.1,
       )

@@ -16,6 +16,7 @@ pub mod Loops
 pub mod Frames
 pub mod Calls
 -- steps, and the law
+pub mod Spots
 pub mod Stepping
 pub mod Main
 pub mod Going

@@ -19,7 +19,7 @@ use Rattle.soundness.specs.Seen.{home}
 use Rattle.soundness.specs.Sound.{Stage, Elsewhere, AreStages, IsDefiniteOf}
 use Rattle.soundness.specs.Ready.{IsReady}
 use Rattle.soundness.proofs.Points.{sub_there}
-use Rattle.soundness.proofs.Beginning.{empty_sound, empty_kept, empty_scope, stage, first_point}
+use Rattle.soundness.proofs.Beginning.{empty_sound, empty_kept, empty_scope, stage, first_point, first_waits, main_runs, main_awaits}
 use Rattle.exact_facts.specs.Exact.{NoneFails, checks_of, IsExactly, LeadsExactly, StepHolds, RunHolds}
 use Rattle.exact_facts.proofs.Main.{excused_hold}
 use Rattle.exact_facts.proofs.Going.{exactly_step}
@@ -59,7 +59,8 @@ module _ (table : Table) (typed : TypedProgram) (effects : Effects) (ready : IsR
       top = stage table typed effects ready 0 0;
       older = [];
       stages = (refl, refl, tt);
-      running = (refl, (refl, (λ r has. absurd has), refl));
+      running = (refl, ((λ r has. absurd has), refl));
+      waiting = (refl, refl);
       path = begins (first_point table typed effects ready 0 ready.packages ready.stands p rest is);
       sound = empty_sound (flow_typing program) (home (flow_typing program) 0) (Elsewhere program effects []) [];
       kept = empty_kept (flow_typing program);
@@ -78,7 +79,12 @@ module _ (table : Table) (typed : TypedProgram) (effects : Effects) (ready : IsR
       top = stage table typed effects ready ready.main 1;
       older = stage table typed effects ready 0 0 ∷ [];
       stages = (refl, refl, (refl, refl, tt));
-      running = (ready.main_there, (refl, (λ r has. absurd has), refl), (refl, (refl, (λ r has. absurd has), refl)));
+      running = (main_runs table typed effects ready, ((λ r has. absurd has), refl), (refl, ((λ r has. absurd has), refl)));
+      waiting = (
+        first_waits table typed effects ready 1 ready.main ready.main_there.named ready.main_there.stands ready.main_there.point
+            ready.main_there.points ready.main_there.begins,
+        (main_awaits table typed effects ready, refl),
+      );
       path = begins (first_point table typed effects ready ready.main ready.main_there.named ready.main_there.stands ready.main_there.point
           ready.main_there.points ready.main_there.begins);
       sound = empty_sound (flow_typing program) (home (flow_typing program) 1) (Elsewhere program effects (stage table typed effects ready 0 0 ∷ [])) [];

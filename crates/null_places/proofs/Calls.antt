@@ -1,4 +1,4 @@
--- Calls of procedures with formals of scalar types, and their ends, lead to the same in memories that
+-- Calls of subprograms with formals of scalar types, and their ends, lead to the same in memories that
 -- agree.
 use Rattle.std.proofs.Common.{◌≡◌, refl, sym, inl, inr, subst, ℕ, suc, Bool, true, false, List, [], ◌∷◌, ◌++◌, map, length, nat_le, if◌then◌else◌}
 use Rattle.spark_base.specs.Lists.{Has}
@@ -8,7 +8,7 @@ use Rattle.type_definitions.specs.declared.table.Shape.TheVariants as shape
 use Rattle.type_definitions.specs.Types.{shape_of, full, is_scalar}
 use Rattle.typed_tree.specs.Trees.{TypedTree, More}
 use Rattle.flow_paths.specs.Objects.{Typing, object_at, sub_at, Passing, passings}
-use Rattle.flow_paths.specs.Names.{has_call, written}
+use Rattle.flow_paths.specs.Names.{written, waiting as waits_in}
 use Rattle.flow_paths.specs.Acts.{actual_values}
 use Rattle.machine.specs.Words.{fits_type}
 use Rattle.machine.specs.Words as machine
@@ -26,20 +26,21 @@ use Rattle.soundness.specs.Typed.{OwnsByShape, Kept, IsFixed}
 use Rattle.soundness.specs.Sound.{view_of, IsCopied, AreCopied}
 use Rattle.soundness.specs.Ready.{AreActuals}
 use Rattle.soundness.proofs.Scalars.{acts}
+use Rattle.soundness.proofs.Taking.{Takes}
 use Rattle.soundness.proofs.Stays.{Quiet}
 use Rattle.soundness.proofs.Numbers.{index_law}
 use Rattle.soundness.proofs.Lasting.{keeps}
 use Rattle.soundness.proofs.Evaluated.{live_trunk}
 use Rattle.soundness.proofs.Steps.{no_leaf}
 use Rattle.soundness.proofs.Fixed.{fixed_at, fixed_spot, fixed_one, Good, moved_good, stored_good}
-use Rattle.soundness.proofs.Passing.{way_of, IsLaid, AreLaid, with_one, AreGiven, all_given, all_laid, Enters}
+use Rattle.soundness.proofs.Passing.{way_of, IsLaid, AreLaid, with_one, AreGiven, takes_each, all_on as all_given, all_laid, Enters}
 use Rattle.soundness.proofs.Returning.{copied_is, formal_fixed}
 use Rattle.null_places.specs.Agrees.{Agrees}
 use Rattle.null_places.specs.Compares.{Compares}
 use Rattle.null_places.proofs.Memories.{NoneGone, words_agree, checks_agree, declared_agree, moved_agree, stored_agree, frame_agree}
 use Rattle.null_places.proofs.Only.{OnlyOwners, stored_only, declared_only, frame_only}
 use Rattle.null_places.proofs.Places.{spot_whole, plain_whole, moved_only}
-use Rattle.null_places.proofs.Scalars.{all_same}
+use Rattle.null_places.proofs.Scalars.{all_on as all_same}
 use Rattle.null_places.proofs.Instructions.{SameStep, twin, both_are, leaking_same, raised_same, step_then}
 
 -- ---- formals
@@ -147,29 +148,33 @@ module _ (t : Turn) (settled : IsSettled (typing t).table) (own_law : OwnsByShap
           ((refl, declared_there.0), declared_there.1))
 
   called_by : (f g : List Passed → Memory → Outcome) → Enters t settled k actuals f → Enters (twin t n) settled k actuals g → passings (typing t) (sub_at (typing t) k) ≡ ways_of
-      → AreActuals (typing t) formals actuals → AreCopied (typing t) formals actuals → has_call actuals ≡ false → Compares (typing t) actuals
-      → AllowsAll facts (acts (actual_values (typing t) ways_of actuals))
+      → AreActuals (typing t) formals actuals → AreCopied (typing t) formals actuals → (on : List (List machine.Word)) → Takes (waits_in actuals) (start t).waits on
+      → Compares (typing t) actuals → AllowsAll facts (acts (actual_values (typing t) ways_of actuals))
       → SameStep t (steps.evaluated t (all_passed h (passings (typing t) (sub_at (typing t) k)) formals actuals (start t)) f)
       (steps.evaluated (twin t n) (all_passed h (passings (typing t) (sub_at (typing t) k)) formals actuals (start (twin t n))) g)
-  called_by f g one two ways stay copied none compares allowed =
+  called_by f g one two ways stay copied on takes compares allowed =
       let live = live_trunk h settled t.state.leaks (start t).waits other alone (keeps (typing t) settled own_law) no_formals index_law own_law all_named t.state.memory hands sound.owned in
+      let each = takes_each formals actuals (start t).waits on takes in
       subst (λ z. SameStep t (steps.evaluated t (all_passed h z formals actuals at) f) (steps.evaluated (twin t n) (all_passed h z formals actuals (start (twin t n))) g)) (sym ways)
       (step_then t n agrees
-      (λ y. Quiet at (λ passed. AreGiven h settled hands t.state.leaks t.state.memory (start t).waits other facts kept sound alone live index_law own_law all_named formals actuals passed) y)
+      (λ y. Quiet (record { memory = t.state.memory; waits = each.0 })
+      (λ passed. AreGiven h settled hands t.state.leaks t.state.memory (start t).waits other facts kept sound alone live index_law own_law all_named formals actuals passed) y)
       (all_passed h ways_of formals actuals at) (all_passed h ways_of formals actuals (start (twin t n))) f g
-      (all_given h settled hands t.state.leaks t.state.memory (start t).waits other facts kept sound alone live index_law own_law all_named formals actuals stay copied none allowed)
-      (all_same h settled hands t.state.leaks t.state.memory (start t).waits other facts kept sound alone live index_law own_law all_named only formals actuals stay copied none compares allowed
+      (all_given h settled hands t.state.leaks t.state.memory (start t).waits other facts kept sound alone live index_law own_law all_named (start t).waits each.0 formals actuals stay copied each.1 allowed)
+      (all_same h settled hands t.state.leaks t.state.memory (start t).waits other facts kept sound alone live index_law own_law all_named only (start t).waits on formals actuals stay copied takes compares allowed
       (start (twin t n)) (agrees, refl, only))
       (λ passed i j given now. entered_same f g one two passed
       (all_laid h settled hands t.state.leaks t.state.memory (start t).waits other facts kept sound alone live index_law own_law all_named formals actuals passed given.1)
       i.memory j.memory (subst (λ (z : Now). Good (typing t) settled own_law hands t.state.leaks (home (typing t) (length t.outer)) other facts z.memory) (sym given.0) (sound, kept))
       now.0 now.2))
 
-  pub call_same : passings (typing t) (sub_at (typing t) k) ≡ ways_of → AreActuals (typing t) formals actuals → AreCopied (typing t) formals actuals → has_call actuals ≡ false
+  -- with values that are taken
+  pub call_same : passings (typing t) (sub_at (typing t) k) ≡ ways_of → AreActuals (typing t) formals actuals → AreCopied (typing t) formals actuals
+      → (on : List (List machine.Word)) → Takes (waits_in actuals) (start t).waits on
       → Compares (typing t) actuals → AllowsAll facts (acts (actual_values (typing t) ways_of actuals)) → SameStep t (call t k actuals) (call (twin t n) k actuals)
-  call_same ways stay copied none compares allowed =
+  call_same ways stay copied on takes compares allowed =
       called_by _ _ (record { fits = λ passed m e. rw e refl; full = λ passed m e. rw e refl }) (record { fits = λ passed m e. rw e refl; full = λ passed m e. rw e refl })
-      ways stay copied none compares allowed
+      ways stay copied on takes compares allowed
 
 -- ---- the end of a call
 

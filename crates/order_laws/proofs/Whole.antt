@@ -273,5 +273,6 @@ module _ (table : Table) (known : Known) (units : List Code) (written : (u : Cod
         procedure = there.4 ∙ procedure_result (outside known) unit.0 unit.1 unit.2 unit.3
             (and_first (is_procedure unit.0) (are_declarations unit.1 && are_statements false unit.2) (written (SubBody unit.0 unit.1 unit.2 unit.3) unit.4))
             (faults (SubBody unit.0 unit.1 unit.2 unit.3) unit.4);
+        lasting = lasting;
         text_io = ap (λ os. is_package_object (record own { objects = os }) 0) objects_are;
       }

@@ -1,5 +1,5 @@
 -- An accepted program of the second class whose subprograms are in order is ready.
-use Rattle.std.proofs.Common.{◌≡◌, refl, sym, ap, ◌∙◌, subst, ◌⊎◌, inl, inr, ℕ, suc, ◌≤◌, ◌<◌, Bool, true, false, ◌||◌, List, [], ◌∷◌, length, get_or, arith, Option, None, Some}
+use Rattle.std.proofs.Common.{◌≡◌, refl, sym, ap, ◌∙◌, subst, ◌⊎◌, inl, inr, ℕ, suc, ◌≤◌, ◌<◌, Bool, true, false, ◌||◌, List, [], ◌∷◌, take, drop, length, get_or, arith, Option, None, Some, is_some}
 use Rattle.std.specs.Prelude.{reverse}
 use Rattle.std.proofs.lemmas.List.{length-map}
 use Rattle.spark_base.specs.Lists.{Has}
@@ -12,7 +12,7 @@ use Rattle.type_definitions.specs.Types.{Table, is_owning}
 use Rattle.typed_tree.specs.Trees.{TypedTree, Name}
 use Rattle.typed_tree.specs.Programs.{TypedSub, TypedProgram}
 use Rattle.flow_paths.specs.declared.report.Effects.{Effects}
-use Rattle.flow_paths.specs.Instructions.{Instruction, Declare, Assign, Call, Input, Release, EndScope, Finish}
+use Rattle.flow_paths.specs.Instructions.{Instruction, Declare, Assign, Call, Input, Release, Start, Evaluate, Hold, EndScope, Finish}
 use Rattle.flow_paths.specs.Objects.{Typing, object_at, is_formal, is_package_object}
 use Rattle.flow_paths.specs.Points.{NamedPoint, FlowPoint}
 use Rattle.flow_paths.specs.Laid.{FlowSub, FlowProgram, NamedSub, unnumbered, named_sub, named_subs, elaborated, all_named, sub_temporaries, kept_roots, sub_facts, sub_points, elaboration_points, number_in, flow_sub, typing_of, flow_typing, flow_program, flow_named}
@@ -20,12 +20,12 @@ use Rattle.flow_paths.specs.Paths.{ControlPath, facts_before}
 use Rattle.flow_paths.specs.Acts.{acts_of}
 use Rattle.machine.specs.Run.{no_point}
 use Rattle.flow_paths.specs.Effects.{path_points}
-use Rattle.flow_paths.specs.Scopes.{is_within, is_ready}
+use Rattle.flow_paths.specs.Scopes.{is_within, is_ready, taken}
 use Rattle.machine.specs.States.{sub_of}
 use Rattle.machine.specs.Typed.{successors}
 use Rattle.soundness.specs.Typed.{OwnsByShape}
-use Rattle.soundness.specs.Sound.{Accepted, IsProcedureClass, IsNamedSub, IsProcedure, calls_nothing, calls_procedures}
-use Rattle.soundness.specs.Ready.{root_of, stored_at, AreScoped, AreNew, AreElaborated, AreCalled, IsReady}
+use Rattle.soundness.specs.Sound.{Accepted, IsProcedureClass, IsNamedSub, IsProcedure, calls_nothing, calls_procedures, IsRunnable, IsEntered, is_temporary_object, temporaries_in}
+use Rattle.soundness.specs.Ready.{root_of, stored_at, AreScoped, AreNew, AreElaborated, AreCalled, IsReady, Fills, IsSupplied, AreReturning}
 use Rattle.soundness.proofs.Points.{IsLaid, all_laid, flow_at, typing_same, sub_there, named_has}
 use Rattle.scope_laws.specs.Code.{roots, are_seen}
 use Rattle.scope_laws.specs.Order.{IsCounted, IsOrdered, named_in, IsSeen}
@@ -39,6 +39,10 @@ use Rattle.ready_laws.proofs.Moves.{instruction_owned}
 use Rattle.ready_laws.proofs.Facts.{ArePlainCalls, new_there}
 use Rattle.ready_laws.proofs.Elaborated.{Declares, package_declares, owns_none}
 use Rattle.ready_laws.proofs.Subs.{setting_from, IsOfBody, named_cases, body_at, one_named}
+use Rattle.soundness.proofs.Successors.{third_class, no_temporary, procedures_take_none, not_true}
+use Rattle.soundness.proofs.Waited.{plain_more}
+use Rattle.soundness.proofs.Waits.{drop_none}
+use Rattle.flow_paths.specs.Names.{has_call}
 
 -- ---- what instructions name
 
@@ -194,12 +198,41 @@ module _ (table : Table) (typed : TypedProgram) (effects : Effects) (accepted : 
         ∙ (order.local b.0 b.1).formals x (has_reverse (b.0).formals x (within_has x (reverse (b.0).formals) (subst (λ z. is_within x z ≡ true) scope within))))
   ]
 
+  -- ---- temporaries: there are none
+
+  lasts : (x : ℕ) → is_temporary_object s x ≡ false
+  lasts x = ap (λ z. is_temporary_object z x) same ∙ order.lasting x
+
+  none_in : (scope : List ℕ) → temporaries_in s scope ≡ 0
+  none_in [] = refl
+  none_in (x ∷ scope) = plain_more s x scope (lasts x) ∙ none_in scope
+
+  takes_none : (named : NamedSub) → Has (flow_named table typed) named → (p : NamedPoint) → Has named.points p → taken p.instr ≡ 0
+  takes_none named has p there = procedures_take_none p.instr (calls_there named has p there)
+
+  fills_none : (i : Instruction) (scope : List ℕ) → calls_procedures i ≡ true → Fills s i scope
+  fills_none (Declare x v) scope calls = lasts x
+  fills_none (Start x reversed low high) scope calls = lasts x
+  fills_none (EndScope x) scope calls = lasts x
+  fills_none (Call n actuals None) scope calls = tt
+  fills_none (Call n actuals (Some t)) scope calls = cc
+  fills_none (Evaluate t e op) scope calls = cc
+  fills_none (Hold v) scope calls = none_in scope
+  fills_none i scope calls = tt
+
+  supplied_there : (named : NamedSub) → Has (flow_named table typed) named → (p : NamedPoint) → Has named.points p → IsSupplied s p
+  supplied_there named has p there =
+      (none_in (take (taken p.instr) p.scope) ∙ sym (takes_none named has p there), fills_none p.instr (drop (taken p.instr) p.scope) (calls_there named has p there))
+
   pub are_scoped : AreScoped table typed
   are_scoped = record {
-    objects = objects;
-    bodies = λ sub has. (order.bodies sub has).settled;
+    goes = λ named has. subst (λ z. IsLaid z named) (sym same) (laid named has);
+    starts = λ named has p rest is. none_in p.scope;
+    supplied = supplied_there;
     ready = ready_there;
-    stored = stored_there;
+    stored = λ named has p there x stored.
+        subst (λ scope. (is_package_object s x ≡ true) ⊎ (is_within x scope ≡ true))
+        (sym (ap (λ n. drop n p.scope) (takes_none named has p there) ∙ drop_none p.scope)) (stored_there named has p there x stored);
     ends = ends_there;
     finishes = finishes_there;
   }
@@ -282,12 +315,46 @@ module _ (table : Table) (typed : TypedProgram) (effects : Effects) (accepted : 
   are_called sub has p there n actuals result is =
       let found = callees sub has p there n actuals result is in
       let known = formals_known sub has p there n actuals result is in
+      let procedure = is_procedure found.0 found.1 found.3 found.4 in
       record {
-        procedure = subst (IsProcedure table typed) (sym found.2) (is_procedure found.0 found.1 found.3 found.4);
+        runs = subst (IsRunnable table typed) (sym found.2) (record {
+          named = procedure.named;
+          stands = procedure.stands;
+          entered = inr (sub, has, p, there, actuals, result, is ∙ ap (λ m. Call m actuals result) found.2);
+          point = procedure.point;
+          points = procedure.points;
+          begins = procedure.begins;
+          leads = procedure.leads;
+        });
+        answers = ap is_some (ap (λ m. (sub_of program m).result) found.2 ∙ result_at found.0 found.1 found.3 found.4)
+            ∙ sym (ap is_some (no_temporary n actuals result (sym (ap calls_procedures is) ∙ class.calls sub has p there)));
         formals = known;
         actuals_stay = passed sub has p there n actuals result is known;
         text_io = ap (λ z. is_package_object z 0) same ∙ order.text_io;
       }
+
+  main_is : program.main ≡ Some (suc order.number)
+  unfolding flow_program
+  main_is = order.is_main
+
+  -- no function runs
+  are_returning : AreReturning program effects
+  are_returning k entered some before last path = absurd (no_result entered)
+    where
+      main_result : (sub_of program (suc order.number)).result ≡ None
+      main_result = result_at order.number order.main order.stands order.procedure
+
+      no_truth : false ≡ true → ⊥
+      no_truth e = cc
+
+      no_result : IsEntered program k → ⊥
+      no_result (inl main) =
+          let same_number : Some k ≡ Some (suc order.number) = sym main ∙ main_is in
+          let number : k ≡ suc order.number = cc in
+          no_truth (sym (ap is_some main_result) ∙ ap (λ m. is_some (sub_of program m).result) (sym number) ∙ some)
+      no_result (inr (sub, has, p, there, actuals, result, is)) =
+          let found = callees sub has p there k actuals result is in
+          no_truth (sym (ap is_some (result_at found.0 found.1 found.3 found.4)) ∙ ap (λ m. is_some (sub_of program m).result) (sym found.2) ∙ some)
 
   -- ---- facts
 
@@ -340,11 +407,15 @@ module _ (table : Table) (typed : TypedProgram) (effects : Effects) (accepted : 
   pub are_elaborated : AreElaborated program
   are_elaborated = record { declared = declared_there; unmoved = unmoved_there }
     where
-      declared_there : (p : FlowPoint) → Has (sub_of program 0).points p → (x : ℕ) × (v : TypedTree) × (p.instr ≡ Declare x v)
+      declared_there : (p : FlowPoint) → Has (sub_of program 0).points p → (x : ℕ) × (v : TypedTree) × (p.instr ≡ Declare x v) × (has_call v ≡ false)
       declared_there p has =
           let q = package_point p has in
-          let found = declares packages refl q.0 q.1 (calls_there packages packages_in q.0 q.1) in
-          (found.0, found.1, sym (ap (λ (z : FlowPoint). z.instr) q.2) ∙ found.2)
+          let found = declares packages refl q.0 q.1 (calls_there packages packages_in q.0 q.1) in (
+            found.0,
+            found.1,
+            sym (ap (λ (z : FlowPoint). z.instr) q.2) ∙ found.2,
+            not_true (has_call found.1) (sym (ap calls_procedures found.2) ∙ calls_there packages packages_in q.0 q.1),
+          )
 
       unmoved_there : (p : FlowPoint) → Has (sub_of program 0).points p → (a : Placed) → Has p.acts a → (name : PlaceName) → Has (adds a.act) (Moved name) → ⊥
       unmoved_there p has a acts name moved =
@@ -360,21 +431,18 @@ module _ (table : Table) (typed : TypedProgram) (effects : Effects) (accepted : 
           (subst (λ (z : FlowPoint). Has z.acts a) (sym q.2) acts)) name moved in
           names_none packages packages_in refl q.0 q.1 name.root found.0 found.1
 
-  main_is : program.main ≡ Some (suc order.number)
-  unfolding flow_program
-  main_is = order.is_main
-
   pub is_ready_program : IsReady table typed effects
   is_ready_program = record {
     accepted = accepted;
     owns = owns;
-    class = class;
+    class = third_class program lasts class;
     scoped = are_scoped;
     new = are_new;
     elaborated = are_elaborated;
     packages = packages;
     stands = packages_stand;
     called = are_called;
+    returning = are_returning;
     main = suc order.number;
     is_main = main_is;
     main_there = has_main;

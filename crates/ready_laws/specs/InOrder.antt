@@ -11,7 +11,7 @@ use Rattle.flow_paths.specs.Objects.{Typing, object_at, is_formal, is_package_ob
 use Rattle.flow_paths.specs.Instructions.{Call}
 use Rattle.flow_paths.specs.Points.{FlowPoint}
 use Rattle.flow_paths.specs.Laid.{FlowSub, FlowProgram, typing_of, flow_typing, flow_program}
-use Rattle.flow_paths.specs.Scopes.{is_settled}
+use Rattle.flow_paths.specs.Scopes.{is_settled, is_temporary}
 use Rattle.machine.specs.States.{sub_of}
 use Rattle.soundness.specs.Ready.{AreActuals}
 use Rattle.scope_laws.specs.Code.{is_formed, Once, objects_of, roots, body_seen}
@@ -70,6 +70,8 @@ pub record IsInOrder (table : Table) (program : TypedProgram) : Type 0 where
   pub is_main : program.main ≡ Some (suc number)
   pub stands : IsSub rest number main
   pub procedure : main.result ≡ None
+  -- no object of the text is a temporary
+  pub lasting : (x : ℕ) → is_temporary (object_at (typing_of table program) x).kind ≡ false
   -- object 0 is Ada.Text_IO
   pub text_io : is_package_object (typing_of table program) 0 ≡ false
 

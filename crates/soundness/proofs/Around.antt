@@ -190,12 +190,12 @@ module _ (table : Table) (typed : TypedProgram) (effects : Effects)
       → AreCallers table typed effects m callee older → (g : Stage) → Has older g → IsBetween (flow_program table typed) effects depth g
   all_between m callee depth [] outer stages less callers g has = absurd has
   all_between m callee depth (e ∷ []) outer stages less callers g (inl same) =
-      subst (IsBetween program effects depth) same (record { returns = callers.1.2; placed = inr (none e callers.0) })
+      subst (IsBetween program effects depth) same (record { returns = callers.1.1; placed = inr (none e callers.0) })
   all_between m callee depth (e ∷ []) outer stages less callers g (inr never) = absurd never
   all_between m callee depth (h ∷ (k ∷ older)) [] stages less callers g has = absurd stages
   all_between m callee depth (h ∷ (k ∷ older)) (f ∷ outer) stages less callers g (inl same) =
       subst (IsBetween program effects depth) same (record {
-        returns = (callers.0).plain.2;
+        returns = (callers.0).plain.1;
         placed = inl (
           (let some = some_frames k older outer stages.2 in let deep = stages.1 in omega (arith, some, deep)),
           (let deep = stages.1 in omega (arith, less, deep)),
@@ -224,7 +224,7 @@ module _ (table : Table) (typed : TypedProgram) (effects : Effects)
       let some = some_frames h older outer stages.2 in
       let deep = stages.1 in (
         record {
-          procedure = caller.procedure;
+          runs = caller.runs;
           plain = caller.plain;
           path = caller.path;
           named = caller.named;

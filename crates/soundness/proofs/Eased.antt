@@ -1,10 +1,9 @@
 -- A step that takes values which wait is like one at a point that takes none, once the values are
 -- out of the frame. They are of scalar types, and owners don't see them.
-use Rattle.std.proofs.Common.{◌≡◌, refl, sym, ap, ◌∙◌, subst, ℕ, zero, suc, true, List, [], ◌∷◌, ◌++◌, map, flat_map, reverse, take, drop, length, append_assoc}
+use Rattle.std.proofs.Common.{◌≡◌, refl, sym, ap, ◌∙◌, subst, ℕ, zero, suc, List, [], ◌∷◌, ◌++◌, map, flat_map, reverse, take, drop, length, append_assoc}
 use Rattle.std.specs.List.{AllByRecursion}
 use Rattle.std.proofs.lemmas.List.{length-reverse}
 use mathlib.Core.List.{reverse_aux}
-use Rattle.type_definitions.specs.Types.{is_scalar, full}
 use Rattle.flow_paths.specs.Instructions.{Skip}
 use Rattle.flow_paths.specs.Objects.{Typing}
 use Rattle.flow_paths.specs.Scopes.{taken}
@@ -21,6 +20,7 @@ use Rattle.owned_ways.proofs.Assigned.{same_sound}
 use Rattle.part_offsets.specs.Parts.{IsSettled}
 use Rattle.soundness.specs.Seen.{in_hand, seen}
 use Rattle.soundness.specs.Typed.{Kept}
+use Rattle.soundness.specs.Sound.{IsPlainValue}
 use Rattle.soundness.proofs.Contents.{word_no}
 use Rattle.soundness.proofs.Steps.{no_leaf}
 use Rattle.soundness.proofs.Lasting.{less_kept}
@@ -49,17 +49,13 @@ module _ (t : Turn) where
 
   -- What the eased step leads to, the step does, if it does what is asked where it raises.
   module _ (P : Outcome → Type 0) (raising : (e : Exception) (m : Memory) → P (raised t e m)) (never : (trap : Trap) (m : Memory) → P (trapped eased trap m) → ⊥) where
-    pub from_eased : {A : Type 0} (y : Evaluated A) (f g : A → Memory → Outcome) → ((a : A) (m : Memory) → f a m ≡ g a m)
+    pub from_eased : {A : Type 0} (y : Evaluated A) (f g : A → Memory → Outcome) → ((a : A) (m : Memory) → P (f a m) → P (g a m))
         → P (steps.evaluated eased y f) → P (steps.evaluated t y g)
-    from_eased (Done a n) f g same on = subst P (same a n.memory) on
+    from_eased (Done a n) f g same on = same a n.memory on
     from_eased (Raises e n) f g same on = raising e n.memory
     from_eased (Traps trap n) f g same on = absurd (never trap n.memory on)
 
 -- ---- values that wait, of scalar types
-
--- A value of a scalar type, in one word.
-abbrev pub IsPlainValue : Typing → Waiting → Type 0
-IsPlainValue s v = (is_scalar (full s.table v.of) ≡ true) × (length v.words ≡ 1)
 
 module _ (s : Typing) (settled : IsSettled s.table) (m : Memory) (leaks : List Leak) (at_home : ℕ → ℕ) (other : Way → Type 0) (facts : List Fact) where
   same_back : (a b : ways.View) → IsSame a b → IsSame b a

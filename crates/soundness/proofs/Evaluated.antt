@@ -543,7 +543,7 @@ module _ (h : Here) (settled : IsSettled h.typing.table) (leaks : List Leak) (wa
     -- the result of a function waits
     evaluated_on (Call p sub actuals) want gives (inl none) before on takes m hands facts ready allowed = cc
     evaluated_on (Call p sub actuals) want (t, result, fits) (inr plain) before on takes m hands facts ready allowed =
-        scalar_on on m hands facts facts want ready refl (matches_plain t want fits (plain sub t result)) (run.waited (record { memory = m; waits = before }))
+        scalar_on on m hands facts facts want ready refl (matches_plain t want fits (plain.0 sub t result)) (run.waited (record { memory = m; waits = before }))
         (waited_quiet h settled hands leaks m waits other facts ready.kept ready.sound alone (live_trunk m hands ready.sound.owned) index_law own_law all_named before on takes)
     evaluated_on e want gives calls before on takes m hands facts ready allowed = absurd gives
 

@@ -37,6 +37,7 @@ pub mod Instructions
 pub mod Loops
 pub mod Operands
 pub mod Eased
+pub mod Continued
 pub mod Endings
 -- where steps go on, with which variables; points by number
 pub mod Scoped
@@ -45,6 +46,9 @@ pub mod Following
 pub mod Points
 pub mod Typings
 pub mod Successors
+pub mod Waited
+pub mod Temporaries
+pub mod Second
 -- calls: facts of the frames around, acts on package objects, formals, the ends of calls
 pub mod Inherited
 pub mod Opened

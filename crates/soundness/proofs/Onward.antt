@@ -341,25 +341,21 @@ module _ (t : Turn) (Left : List Waiting → Type 0) (left : Left (waiting t)) (
 
     -- ---- operands
 
-    -- the value of one waits
-    pub operand_follows : (waits : List machine.Word → List Waiting) (k : List machine.Word → ℕ) (e : TypedTree) → ((ws : List machine.Word) → k ws < successors t.point.instr)
-        → ((ws : List machine.Word) (n : Now) → value (here t) e (start t) ≡ Done ws n → Left (waits ws))
-        → Follows (steps.evaluated t (value (here t) e (start t)) (λ ws m. Goes (behind t (waits ws) m (k ws))))
-    operand_follows waits k e less are = by_value (value (here t) e (start t)) refl (fades (here t) AsValue e (start t))
+    pub value_inside : (e : TypedTree) → Gets (λ ws m. Inside s older m depth scope') (value (here t) e (start t))
+    value_inside e = by_value (value (here t) e (start t)) (fades (here t) AsValue e (start t))
       where
-        by_value : (y : Evaluated (List machine.Word)) → value (here t) e (start t) ≡ y → FadesTo (here t) before y
-            → Follows (steps.evaluated t y (λ ws m. Goes (behind t (waits ws) m (k ws))))
-        by_value (Done ws n) is faint = record {
-          k = k ws;
-          less = less ws;
-          waits = waits ws;
-          are = are ws n is;
-          loops = t.frame.loops;
-          frames = frames_behind (waits ws) n.memory (k ws);
-          inside = unstored_scope n.memory (only_fades s before n.memory faint);
-        }
-        by_value (Raises x n) is faint = tt
-        by_value (Traps x n) is faint = tt
+        by_value : (y : Evaluated (List machine.Word)) → FadesTo (here t) before y → Gets (λ ws m. Inside s older m depth scope') y
+        by_value (Done ws n) faint = unstored_scope n.memory (only_fades s before n.memory faint)
+        by_value (Raises x n) faint = tt
+        by_value (Traps x n) faint = tt
+
+    pub source_inside : (u : ℕ) (e : TypedTree) → Gets (λ ws m. Inside s older m depth scope') (taken_by t u e (start t))
+    source_inside u e = by_value (taken_by t u e (start t)) (taken_fades u e)
+      where
+        by_value : (y : Evaluated (List machine.Word)) → FadesTo (here t) before y → Gets (λ ws m. Inside s older m depth scope') y
+        by_value (Done ws n) faint = unstored_scope n.memory (only_fades s before n.memory faint)
+        by_value (Raises x n) faint = tt
+        by_value (Traps x n) faint = tt
 
     -- ---- instructions that store nothing
 

@@ -18,7 +18,7 @@ use Rattle.flow_paths.specs.Instructions as instruction
 use Rattle.flow_paths.specs.Objects.{Typing, is_observer, is_borrower, traverses}
 use Rattle.flow_paths.specs.Names.{Written, name_of, written, first, source, whole, has_call}
 use Rattle.flow_paths.specs.Acts.{placed, naming, used, acts_in, index_acts, source_acts, stored_acts, declared_acts, assigned_to, returned_acts, gives_variable, acts_of}
-use Rattle.soundness.specs.Sound.{calls_nothing}
+use Rattle.soundness.specs.Sound.{IsNoCall}
 use Rattle.soundness.proofs.Inherited.{is_open}
 use Rattle.soundness.proofs.Instructions.{not_anonymous, not_borrower, not_observer}
 
@@ -115,13 +115,13 @@ module _ (ok : Act → Bool) (of : IsOpenTest ok) where
       returned_open (Some t) v =
           otherwise (traverses s.table (Some t)) (source_acts s (first v) (λ m. act.Give m (gives_variable s (Some t)))) (acts_in s v) (not_anonymous s all_named t) (acts_open v)
 
-      pub instruction_acts : (result : Option ℕ) (kept : List ℕ) (pos : Pos) (i : Instruction) → calls_nothing i ≡ true → (i ≡ Finish → ⊥)
+      pub instruction_acts : (result : Option ℕ) (kept : List ℕ) (pos : Pos) (i : Instruction) → IsNoCall i → (i ≡ Finish → ⊥)
           → ((x : ℕ) → i ≡ EndScope x → ok (act.EndScope x (is_borrower s x)) ≡ true)
           → AreOpen ok (acts_of (record { typing = s; result = result; roots = kept }) pos i)
       instruction_acts result kept pos Skip calls other ends = none_open
       instruction_acts result kept pos (Declare x v) calls other ends = declared_open x v
       instruction_acts result kept pos (Assign target e) calls other ends = assigned_open pos (whole target) target e
-      instruction_acts result kept pos (instruction.Call sub actuals temporary) calls other ends = cc
+      instruction_acts result kept pos (instruction.Call sub actuals temporary) calls other ends = absurd (calls sub actuals temporary refl)
       instruction_acts result kept pos (Output text line) calls other ends = acts_open text
       instruction_acts result kept pos (Input target) calls other ends = source_open target (λ m. act.Actual m mode.Out false false) of.outs
       instruction_acts result kept pos (Release e) calls other ends = source_open e act.Free of.frees
@@ -129,7 +129,7 @@ module _ (ok : Act → Bool) (of : IsOpenTest ok) where
       instruction_acts result kept pos (Choose e choices) calls other ends = acts_open e
       instruction_acts result kept pos (Start x reversed low high) calls other ends = both_open (acts_in s low) (acts_in s high) (acts_open low) (acts_open high)
       instruction_acts result kept pos (Next x reversed low high) calls other ends = none_open
-      instruction_acts result kept pos (Evaluate temporary e left) calls other ends = cc
+      instruction_acts result kept pos (Evaluate temporary e left) calls other ends = acts_open e
       instruction_acts result kept pos (LeaveLoop e) calls other ends = acts_open e
       instruction_acts result kept pos (Hold v) calls other ends = returned_open result v
       instruction_acts result kept pos (EndScope x) calls other ends = one_open (placed pos (act.EndScope x (is_borrower s x))) (ends x refl)
@@ -137,7 +137,7 @@ module _ (ok : Act → Bool) (of : IsOpenTest ok) where
       instruction_acts result kept pos Fall calls other ends = none_open
 
 pub instruction_open : (s : Typing) → ((u d : ℕ) (c n : Bool) → shape_of s.table u ≡ shape.Access d c n → n ≡ true)
-    → (result : Option ℕ) (kept : List ℕ) (pos : Pos) (i : Instruction) → calls_nothing i ≡ true → (i ≡ Finish → ⊥)
+    → (result : Option ℕ) (kept : List ℕ) (pos : Pos) (i : Instruction) → IsNoCall i → (i ≡ Finish → ⊥)
     → AreOpen is_open (acts_of (record { typing = s; result = result; roots = kept }) pos i)
 instruction_open s all_named result kept pos i calls other =
     instruction_acts is_open (record { reads = λ m. refl; looks = λ m. refl; writes = λ m. refl; moves = λ m parts. refl; frees = λ m. refl; outs = λ m. refl })

@@ -1,11 +1,11 @@
 -- What the operand of a short circuit leads to, whose value waits, and what a return leads to.
-use Rattle.std.proofs.Common.{◌≡◌, refl, sym, ap, ◌∙◌, subst, ℕ, Bool, true, false, List, [], ◌∷◌, ◌++◌, flat_map, drop, length, get_or, if◌then◌else◌}
+use Rattle.std.proofs.Common.{◌≡◌, refl, sym, ap, ◌∙◌, subst, ℕ, Bool, true, false, List, [], ◌∷◌, ◌++◌, flat_map, drop, length, get_or, if◌then◌else◌, Some}
 use Rattle.place_names.specs.declared.fact.Fact.{Fact}
 use Rattle.type_definitions.specs.declared.table.Shape.TheVariants as shape
 use Rattle.type_definitions.specs.Entries.{boolean}
 use Rattle.type_definitions.specs.Types.{shape_of, is_scalar, full}
 use Rattle.typed_tree.specs.declared.node.ShortCircuit.{ShortCircuit}
-use Rattle.typed_tree.specs.Trees.{TypedTree, NoMore}
+use Rattle.typed_tree.specs.Trees.{TypedTree, NoMore, More}
 use Rattle.flow_paths.specs.Instructions.{Hold}
 use Rattle.flow_paths.specs.Objects.{Typing}
 use Rattle.flow_paths.specs.Names.{has_call, waiting as waits_in}
@@ -17,7 +17,7 @@ use Rattle.machine.specs.Words as machine
 use Rattle.machine.specs.Memory.{Memory}
 use Rattle.machine.specs.Evaluate.{Now, AsValue, Evaluated, Done, Raises, Traps, value}
 use Rattle.machine.specs.Evaluate as run
-use Rattle.machine.specs.States.{Waiting, Frame, State, Outcome, Goes}
+use Rattle.machine.specs.States.{Waiting, Frame, State, Outcome, Goes, sub_of}
 use Rattle.machine.specs.Step.{Turn, typing, here, start, waiting, behind, led, successor, taken_by}
 use Rattle.machine.specs.Step as steps
 use Rattle.machine.specs.Owners.{waiting_in}
@@ -152,6 +152,16 @@ module _ (program : FlowProgram) (input : List ℕ) (point : FlowPoint) (state :
   abbrev returning : Turn
   returning = record { program = program; input = input; point = point; state = state; frame = frame; outer = caller ∷ outer }
 
+  abbrev pub handed_over : ℕ → List machine.Word → Memory → State
+  handed_over of ws m = record (behind returning (waiting returning) m 0) {
+    frames = record frame { waits = waiting returning; next = get_or point.next 0 0 }
+        ∷ record caller { waits = record { of = of; words = ws } ∷ caller.waits } ∷ outer;
+  }
+
+  pub hold_is : (e rest : TypedTree) (of : ℕ) → (sub_of program frame.sub).result ≡ Some of
+      → steps.hold returning (More e rest) ≡ steps.evaluated returning (taken_by returning of e (start returning)) (λ ws m. Goes (handed_over of ws m))
+  hold_is e rest of result = rw result refl
+
   module _ (settled : IsSettled (typing returning).table) (own_law : OwnsByShape (typing returning).table) (other : Way → Type 0)
       (alone : (w : Way) → IsNear (length returning.outer) w → other w → ⊥) (no_formals : (x : ℕ) → is_view_formal (typing returning) x ≡ false)
       (all_named : (u d : ℕ) (c n : Bool) → shape_of (typing returning).table u ≡ shape.Access d c n → n ≡ true)
@@ -194,12 +204,6 @@ module _ (program : FlowProgram) (input : List ℕ) (point : FlowPoint) (state :
         let all : waiting_in state ≡ caller.waits ++ flat_map waits_of outer =
         ap (flat_map waits_of) frames ∙ ap (λ z. z ++ (caller.waits ++ flat_map waits_of outer)) nothing in
         ap (λ z. z ++ (v ∷ (caller.waits ++ flat_map waits_of outer))) here_none ∙ ap (λ z. v ∷ z) (sym all)
-
-    abbrev pub handed_over : ℕ → List machine.Word → Memory → State
-    handed_over of ws m = record (behind returning (waiting returning) m 0) {
-      frames = record frame { waits = waiting returning; next = get_or point.next 0 0 }
-          ∷ record caller { waits = record { of = of; words = ws } ∷ caller.waits } ∷ outer;
-    }
 
     -- The value that a function returns waits in the frame of the caller.
     pub hold_on : (ws : List (List machine.Word)) (e : TypedTree) (of : ℕ) → Source (typing returning) of e → TakesPlainly (typing returning) (has_call e)

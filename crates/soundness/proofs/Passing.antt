@@ -54,7 +54,7 @@ use Rattle.soundness.proofs.Freeing.{plain_parts}
 use Rattle.soundness.proofs.Walks.{way_along, Walked, walk}
 use Rattle.soundness.proofs.Scalars.{acts, acts_append, after_append, allows_both, read_effect, look_effect, number_along, named_along}
 use Rattle.soundness.proofs.Inherited.{is_open}
-use Rattle.soundness.proofs.Taking.{Takes, no_takes}
+use Rattle.soundness.proofs.Taking.{Takes, takes_both, no_takes}
 use Rattle.soundness.proofs.Stays.{Quiet, One, Goes as GoesAlong, quiet_then, quiet_from, taking, steps_taking, scalar_owns}
 use Rattle.soundness.proofs.Waits.{or_both}
 use Rattle.soundness.proofs.Loops.{same_word, scalar_same}
@@ -187,11 +187,15 @@ module _ (s : Typing) (own_law : OwnsByShape s.table) where
       let others = passes_plain procedure formals (λ y has. are y (inr has)) in
       (λ j. passing_by (object_at s x).mode (owns j) (access j) ∷ others j)
 
+  -- where the result isn't of an anonymous access type
+  pub all_pass : (sub : Signature) → traverses s.table sub.result ≡ false → ArePlain sub.formals → passings s sub ≡ map way_of sub.formals
+  all_pass sub plain are =
+      ap (λ b. if b then first_traversed (map (passing s (not (is_some sub.result))) sub.formals) else map (passing s (not (is_some sub.result))) sub.formals) plain
+      ∙ passes_plain (not (is_some sub.result)) sub.formals are
+
   -- that of a procedure
   pub procedure_passes : (sub : Signature) → sub.result ≡ None → ArePlain sub.formals → passings s sub ≡ map way_of sub.formals
-  procedure_passes sub none are =
-      ap (λ r. if traverses s.table r then first_traversed (map (passing s (not (is_some r))) sub.formals) else map (passing s (not (is_some r))) sub.formals) none
-      ∙ passes_plain true sub.formals are
+  procedure_passes sub none are = all_pass sub (ap (traverses s.table) none) are
 
   -- ---- the acts of a call
 
@@ -362,6 +366,15 @@ module _ (s : Typing) (settled : IsSettled s.table) (own_law : OwnsByShape s.tab
 abbrev pub TakesAll : List ℕ → TypedTree → List (List machine.Word) → List (List machine.Word) → Type 0
 TakesAll (x ∷ formals) (More e rest) before on = (mid : List (List machine.Word)) × Takes (waits_in e) before mid × TakesAll formals rest mid on
 TakesAll formals actuals before on = before ≡ on
+
+pub takes_each : (formals : List ℕ) (actuals : TypedTree) (before on : List (List machine.Word)) → Takes (waits_in actuals) before on
+    → (end : List (List machine.Word)) × TakesAll formals actuals before end
+unfolding waits_in
+takes_each (x ∷ formals) (More e rest) before on takes =
+    let two = takes_both (waits_in e) (waits_in rest) before on takes in
+    let later = takes_each formals rest two.0 on two.2 in (later.0, (two.0, two.1, later.1))
+takes_each [] actuals before on takes = (before, refl)
+takes_each (x ∷ formals) actuals before on takes = (before, refl)
 
 none_taken : (ws : List (List machine.Word)) (formals : List ℕ) (actuals : TypedTree) → has_call actuals ≡ false → TakesAll formals actuals ws ws
 unfolding has_call
@@ -753,13 +766,25 @@ module _ (t : Turn) (settled : IsSettled (typing t).table) (n : ℕ) (actuals : 
 
 -- ---- signatures
 
-abbrev signature_of : FlowSub → Signature
+abbrev pub signature_of : FlowSub → Signature
 signature_of sub = record { formals = sub.formals; result = sub.result }
 
 pub signature_there : (subs : List FlowSub) (n : ℕ) → get_or (map signature_of subs) n (signature_of no_sub) ≡ signature_of (get_or subs n no_sub)
 signature_there [] n = refl
 signature_there (sub ∷ subs) zero = refl
 signature_there (sub ∷ subs) (suc n) = signature_there subs n
+
+pub signature_is : (program : FlowProgram) (n : ℕ) → sub_at (flow_typing program) n ≡ signature_of (sub_of program n)
+signature_is program n = signature_there program.subs n
+
+-- how actuals are passed to a subprogram of plain formals
+pub passed_by : (program : FlowProgram) (own_law : OwnsByShape (flow_typing program).table) (n : ℕ)
+    → traverses (flow_typing program).table (sub_of program n).result ≡ false
+    → ArePlain (flow_typing program) own_law (sub_of program n).formals
+    → passings (flow_typing program) (sub_at (flow_typing program) n) ≡ map (way_of (flow_typing program) own_law) (sub_of program n).formals
+passed_by program own_law n plain are =
+    ap (passings (flow_typing program)) (signature_is program n)
+    ∙ all_pass (flow_typing program) own_law (signature_of (sub_of program n)) plain are
 
 -- how actuals are passed to a procedure of plain formals
 pub passed_to : (program : FlowProgram) (own_law : OwnsByShape (flow_typing program).table) (n : ℕ) → (sub_of program n).result ≡ None

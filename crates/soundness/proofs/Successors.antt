@@ -1,5 +1,5 @@
 -- What instructions without calls take, the successors of points, and facts where nothing is moved.
-use Rattle.std.proofs.Common.{◌≡◌, refl, sym, ap, ◌∙◌, ◌⊎◌, inl, inr, ℕ, zero, suc, ◌+◌, ◌<◌, Bool, true, false, not, ◌&&◌, List, [], ◌∷◌, length, arith, Some, None}
+use Rattle.std.proofs.Common.{◌≡◌, refl, sym, ap, ◌∙◌, ◌⊎◌, inl, inr, ℕ, zero, suc, ◌+◌, ◌<◌, Bool, true, false, not, ◌&&◌, List, [], ◌∷◌, length, arith, Option, Some, None}
 use Rattle.std.specs.Prelude.{filter}
 use Rattle.spark_base.specs.Lists.{Has}
 use Rattle.spark_base.proofs.Lists.{Has-append_cases, Has-filter}
@@ -15,8 +15,8 @@ use Rattle.flow_paths.specs.Names as flow_names
 use Rattle.flow_paths.specs.Scopes.{taken}
 use Rattle.machine.specs.Step.{Turn, successor}
 use Rattle.owned_ways.specs.Ways.{after}
-use Rattle.soundness.specs.Sound.{calls_nothing, calls_procedures, IsFirstClass, IsProcedureClass}
-use Rattle.flow_paths.specs.Laid.{FlowProgram}
+use Rattle.soundness.specs.Sound.{calls_nothing, calls_procedures, IsNoCall, IsFirstClass, IsProcedureClass, IsFunctionClass, is_temporary_object}
+use Rattle.flow_paths.specs.Laid.{FlowProgram, flow_typing}
 use Rattle.soundness.proofs.Waits.{no_waits}
 
 -- ---- texts without calls take nothing that waits
@@ -88,6 +88,21 @@ second_class program class = record {
   copied = λ sub has p there n actuals result is known. (let no : false ≡ true = sym (ap calls_nothing is) ∙ class.no_calls sub has p there in cc);
 }
 
+-- So is the second one of the third, where no object is a temporary.
+pub third_class : (program : FlowProgram) → ((x : ℕ) → is_temporary_object (flow_typing program) x ≡ false) → IsProcedureClass program → IsFunctionClass program
+third_class program none class = record {
+  all_named = class.all_named;
+  results = inl class.calls;
+  temporaries = λ x is. (let never : true ≡ false = sym is ∙ none x in cc);
+  formals = class.formals;
+  copied = class.copied;
+}
+
+-- A call of the second class has no result.
+pub no_temporary : (n : ℕ) (actuals : TypedTree) (result : Option ℕ) → calls_procedures (Call n actuals result) ≡ true → result ≡ None
+no_temporary n actuals None calls = refl
+no_temporary n actuals (Some t) calls = cc
+
 pub finish_or : (i : Instruction) → (i ≡ Finish) ⊎ (i ≡ Finish → ⊥)
 finish_or Finish = inl refl
 finish_or i = inr (λ e. cc)
@@ -135,3 +150,12 @@ unmoved_after (a ∷ more) facts none each name has =
       | inl old ↦ none other (Has-filter (λ f. not (removes a f)) facts (Moved other) old).0
       | inr new ↦ each a (inl refl) other new
     ]) (λ b has. each b (inr has)) name has
+
+-- ---- calls
+
+pub call_or : (i : Instruction) → ((n : ℕ) × (actuals : TypedTree) × (result : Option ℕ) × (i ≡ Call n actuals result)) ⊎ IsNoCall i
+call_or (Call n actuals result) = inl (n, actuals, result, refl)
+call_or i = inr (λ n actuals result e. cc)
+
+pub nothing_calls : (i : Instruction) → calls_nothing i ≡ true → IsNoCall i
+nothing_calls i calls n actuals result e = (let no_truth : false ≡ true = sym (ap calls_nothing e) ∙ calls in cc)

@@ -1,11 +1,11 @@
 -- Expressions take values that wait, the first ones, each of one word.
-use Rattle.std.proofs.Common.{◌≡◌, refl, sym, ap, ◌∙◌, subst, ◌⊎◌, inl, inr, ℕ, zero, suc, ◌+◌, Bool, true, false, ◌||◌, List, [], ◌∷◌, ◌++◌, length, drop, get_or, arith, Some}
+use Rattle.std.proofs.Common.{◌≡◌, refl, sym, ap, ◌∙◌, subst, ◌⊎◌, inl, inr, ℕ, zero, suc, ◌+◌, Bool, true, false, ◌||◌, List, [], ◌∷◌, ◌++◌, length, drop, get_or, arith}
 use Rattle.std.specs.List.{AllByRecursion}
-use Rattle.type_definitions.specs.Types.{is_scalar, full}
 use Rattle.typed_tree.specs.Trees.{TypedTree}
-use Rattle.flow_paths.specs.Objects.{Typing, sub_at}
+use Rattle.flow_paths.specs.Objects.{Typing}
 use Rattle.flow_paths.specs.Names.{has_call, waiting}
 use Rattle.machine.specs.Words.{Word}
+use Rattle.soundness.specs.Sound.{ArePlainResults}
 use Rattle.soundness.proofs.Waits.{no_waits, drop_none}
 
 -- a value of one word
@@ -73,10 +73,6 @@ first_is before behind takes =
     (subst (λ z. IsWord (get_or z 0 [])) (sym first.2) first.1, ap (drop 1) first.2 ∙ drop_none behind)
 
 -- ---- which results are taken
-
--- Functions have results of scalar types.
-abbrev pub ArePlainResults : Typing → Type 0
-ArePlainResults s = (n t : ℕ) → (sub_at s n).result ≡ Some t → is_scalar (full s.table t) ≡ true
 
 -- An expression has no call, or the results of all functions are of scalar types.
 abbrev pub TakesPlainly : Typing → Bool → Type 0

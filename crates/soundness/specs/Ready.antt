@@ -1,6 +1,6 @@
 -- What is asked of an accepted program so that its runs are sound: what typing, the layout and the
 -- rules see to. Nothing here speaks of a run.
-use Rattle.std.specs.Prelude.{◌≡◌, ◌⊎◌, ℕ, true, false, List, [], ◌∷◌, get_or, Option, Some}
+use Rattle.std.specs.Prelude.{◌≡◌, ◌⊎◌, ℕ, true, false, List, [], ◌∷◌, take, drop, get_or, Option, Some, None, is_some}
 use Rattle.spark_base.specs.Lists.{Has}
 use Rattle.place_names.specs.declared.act.Mode.{Mode}
 use Rattle.place_names.specs.declared.act.Mode.TheVariants as mode
@@ -10,20 +10,21 @@ use Rattle.place_names.specs.Facts.{adds}
 use Rattle.place_names.specs.Names.{Name as PlaceName}
 use Rattle.type_definitions.specs.Types.{Table, full, is_scalar}
 use Rattle.typed_tree.specs.Trees.{TypedTree, Name, More}
-use Rattle.typed_tree.specs.Programs.{TypedSub, TypedProgram}
+use Rattle.typed_tree.specs.Programs.{TypedProgram}
 use Rattle.flow_paths.specs.declared.report.Effects.{Effects}
-use Rattle.flow_paths.specs.Instructions.{Instruction, Declare, Assign, Call, Input, Release, EndScope, Finish}
+use Rattle.flow_paths.specs.Instructions.{Instruction, Declare, Assign, Call, Input, Release, Start, Evaluate, Hold, EndScope, Finish}
 use Rattle.flow_paths.specs.Objects.{Typing, object_at, is_formal, is_package_object}
 use Rattle.flow_paths.specs.Points.{NamedPoint, FlowPoint}
-use Rattle.flow_paths.specs.Laid.{FlowSub, FlowProgram, NamedSub, typing_of, flow_typing, flow_program, flow_named}
+use Rattle.flow_paths.specs.Laid.{FlowSub, FlowProgram, NamedSub, flow_typing, flow_program, flow_named}
 use Rattle.flow_paths.specs.Paths.{ControlPath, facts_before}
 use Rattle.flow_paths.specs.Effects.{path_points}
-use Rattle.flow_paths.specs.Scopes.{is_ready, is_within, is_settled}
+use Rattle.flow_paths.specs.Names.{has_call}
+use Rattle.flow_paths.specs.Scopes.{taken, is_ready, is_within, Differ, ScopesHold}
 use Rattle.machine.specs.States.{sub_of}
 use Rattle.machine.specs.Run.{no_point}
 use Rattle.typed_laws.specs.Needed.{Stays, IsPlace}
 use Rattle.soundness.specs.Typed.{OwnsByShape}
-use Rattle.soundness.specs.Sound.{Accepted, IsProcedureClass, IsNamedSub, IsProcedure}
+use Rattle.soundness.specs.Sound.{Accepted, IsFunctionClass, IsNamedSub, IsProcedure, IsRunnable, IsEntered, is_temporary_object, temporaries_in, returns_value, has_returned}
 
 -- ---- scopes
 
@@ -39,16 +40,35 @@ stored_at (Input target) = root_of target
 stored_at (Release e) = root_of e
 stored_at _ = []
 
--- There are no temporaries, which hold the values of calls. Code is settled. At each point: the
--- object that is declared isn't in scope, and the one whose scope ends is the last one in scope
--- (`is_ready`); what is stored at is in scope or belongs to a package; the objects of packages have
--- no end of scope; and where a procedure ends its formals alone are in scope.
+-- What an instruction does with temporaries, after those that it takes: it declares and ends none,
+-- and fills its own; a right operand finds that of the left one; at a return no other one is full.
+abbrev pub Fills : Typing → Instruction → List ℕ → Type 0
+Fills s (Declare x v) scope = is_temporary_object s x ≡ false
+Fills s (Start x reversed low high) scope = is_temporary_object s x ≡ false
+Fills s (EndScope x) scope = is_temporary_object s x ≡ false
+Fills s (Call sub actuals (Some t)) scope = is_temporary_object s t ≡ true
+Fills s (Evaluate t e (Some op)) scope = is_temporary_object s t ≡ true
+Fills s (Evaluate t e None) scope = (x : ℕ) × (rest : List ℕ) × (scope ≡ x ∷ rest) × (is_temporary_object s x ≡ true)
+Fills s (Hold v) scope = temporaries_in s scope ≡ 0
+Fills s i scope = Unit {0}
+
+-- The temporaries that are taken are the last ones in scope.
+abbrev pub IsSupplied : Typing → NamedPoint → Type 0
+IsSupplied s p = (temporaries_in s (take (taken p.instr) p.scope) ≡ taken p.instr) × Fills s p.instr (drop (taken p.instr) p.scope)
+
+-- What is in scope goes on to successors, but for objects that leave silently, and no temporary is at
+-- first. At each point: temporaries are supplied; the object that is declared isn't in scope, and the one whose scope ends
+-- is the last one in scope (`is_ready`); what is stored at is in scope or belongs to a package; the
+-- objects of packages have no end of scope; and where a procedure ends its formals alone are in scope.
 pub record AreScoped (table : Table) (typed : TypedProgram) : Type 0 where
-  pub objects : (flow_program table typed).objects ≡ typed.objects
-  pub bodies : (sub : TypedSub) → Has typed.subs sub → is_settled (typing_of table typed) sub.body ≡ true
+  pub goes : (sub : NamedSub) → Has (flow_named table typed) sub → Differ sub.points × ScopesHold (flow_typing (flow_program table typed)) sub.points
+  pub starts : (sub : NamedSub) → Has (flow_named table typed) sub → (p : NamedPoint) (rest : List NamedPoint) → sub.points ≡ p ∷ rest
+      → temporaries_in (flow_typing (flow_program table typed)) p.scope ≡ 0
+  pub supplied : (sub : NamedSub) → Has (flow_named table typed) sub → (p : NamedPoint) → Has sub.points p
+      → IsSupplied (flow_typing (flow_program table typed)) p
   pub ready : (sub : NamedSub) → Has (flow_named table typed) sub → (p : NamedPoint) → Has sub.points p → is_ready p p.instr ≡ true
   pub stored : (sub : NamedSub) → Has (flow_named table typed) sub → (p : NamedPoint) → Has sub.points p → (x : ℕ) → Has (stored_at p.instr) x
-      → (is_package_object (flow_typing (flow_program table typed)) x ≡ true) ⊎ (is_within x p.scope ≡ true)
+      → (is_package_object (flow_typing (flow_program table typed)) x ≡ true) ⊎ (is_within x (drop (taken p.instr) p.scope) ≡ true)
   pub ends : (sub : NamedSub) → Has (flow_named table typed) sub → (p : NamedPoint) → Has sub.points p → (x : ℕ) → p.instr ≡ EndScope x
       → is_package_object (flow_typing (flow_program table typed)) x ≡ false
   pub finishes : (sub : NamedSub) → Has (flow_named table typed) sub → (p : NamedPoint) → Has sub.points p → p.instr ≡ Finish
@@ -66,9 +86,10 @@ AreNew program effects =
 
 -- ---- the package objects
 
--- The package objects are declared one by one, and nothing is moved for them.
+-- The package objects are declared one by one, from values without calls, and nothing is moved for
+-- them.
 pub record AreElaborated (program : FlowProgram) : Type 0 where
-  pub declared : (p : FlowPoint) → Has (sub_of program 0).points p → (x : ℕ) × (v : TypedTree) × (p.instr ≡ Declare x v)
+  pub declared : (p : FlowPoint) → Has (sub_of program 0).points p → (x : ℕ) × (v : TypedTree) × (p.instr ≡ Declare x v) × (has_call v ≡ false)
   pub unmoved : (p : FlowPoint) → Has (sub_of program 0).points p → (a : Placed) → Has p.acts a → (name : PlaceName) → Has (adds a.act) (Moved name) → ⊥
 
 -- ---- calls
@@ -83,10 +104,11 @@ abbrev pub AreActuals : Typing → List ℕ → TypedTree → Type 0
 AreActuals s (x ∷ formals) (More e rest) = IsActualBy s (object_at s x).mode e × AreActuals s formals rest
 AreActuals s formals actuals = Unit {0}
 
--- A subprogram that is called is a procedure. (Where none is called, nothing is asked of object 0,
--- which is Ada.Text_IO.)
-pub record IsCalled (table : Table) (typed : TypedProgram) (n : ℕ) (actuals : TypedTree) : Type 0 where
-  pub procedure : IsProcedure table typed n
+-- A subprogram that is called can run; it is a function where the call has a result. (Where none is
+-- called, nothing is asked of object 0, which is Ada.Text_IO.)
+pub record IsCalled (table : Table) (typed : TypedProgram) (n : ℕ) (actuals : TypedTree) (result : Option ℕ) : Type 0 where
+  pub runs : IsRunnable table typed n
+  pub answers : is_some (sub_of (flow_program table typed) n).result ≡ is_some result
   pub formals : (x : ℕ) → Has (sub_of (flow_program table typed) n).formals x → is_formal (flow_typing (flow_program table typed)) x ≡ true
   pub actuals_stay : AreActuals (flow_typing (flow_program table typed)) (sub_of (flow_program table typed) n).formals actuals
   pub text_io : is_package_object (flow_typing (flow_program table typed)) 0 ≡ false
@@ -94,21 +116,31 @@ pub record IsCalled (table : Table) (typed : TypedProgram) (n : ℕ) (actuals : 
 abbrev pub AreCalled : Table → TypedProgram → Type 0
 AreCalled table typed =
     (sub : FlowSub) → Has (flow_program table typed).subs sub → (p : FlowPoint) → Has sub.points p
-    → (n : ℕ) (actuals : TypedTree) (result : Option ℕ) → p.instr ≡ Call n actuals result → IsCalled table typed n actuals
+    → (n : ℕ) (actuals : TypedTree) (result : Option ℕ) → p.instr ≡ Call n actuals result → IsCalled table typed n actuals result
+
+-- On each control path of a subprogram that may run and gives a result: no return with a value comes
+-- after another one, and the end of the call comes after one.
+abbrev pub AreReturning : FlowProgram → Effects → Type 0
+AreReturning program effects =
+    (k : ℕ) → IsEntered program k → is_some (sub_of program k).result ≡ true → (before : List ℕ) (last : ℕ)
+    → ControlPath (path_points program effects (sub_of program k)) before last
+    → (returns_value (get_or (sub_of program k).points last no_point).instr ≡ true → has_returned (sub_of program k) before ≡ false)
+    × ((get_or (sub_of program k).points last no_point).instr ≡ Finish → has_returned (sub_of program k) before ≡ true)
 
 -- ---- all of it
 
--- An accepted program of the second class, of which this holds.
+-- An accepted program of the third class, of which this holds.
 pub record IsReady (table : Table) (typed : TypedProgram) (effects : Effects) : Type 0 where
   pub accepted : Accepted table typed effects
   pub owns : OwnsByShape (flow_program table typed).table
-  pub class : IsProcedureClass (flow_program table typed)
+  pub class : IsFunctionClass (flow_program table typed)
   pub scoped : AreScoped table typed
   pub new : AreNew (flow_program table typed) effects
   pub elaborated : AreElaborated (flow_program table typed)
   pub packages : NamedSub
   pub stands : IsNamedSub (flow_named table typed) 0 packages
   pub called : AreCalled table typed
+  pub returning : AreReturning (flow_program table typed) effects
   pub main : ℕ
   pub is_main : (flow_program table typed).main ≡ Some main
   pub main_there : IsProcedure table typed main
