@@ -524,7 +524,7 @@ def processor_seconds(command, folder, status, written):
     """Processor seconds and MiB of one run of a command that reads the file `input`, which has to end as it should."""
     timed = ["/usr/bin/time", "-q", "-o", "times", "-f", "%U %S %M"] + command
     with open(folder / "input", "rb") as reads, open(folder / "output", "wb") as writes:
-        run = subprocess.run(timed, cwd=folder, stdin=reads, stdout=writes, check=False)
+        run = subprocess.run(timed, cwd=folder, stdin=reads, stdout=writes, stderr=subprocess.DEVNULL, check=False)
     size = (folder / "output").stat().st_size
     if run.returncode != status or written not in (size, None):
         sys.exit("%s: status %d and %d bytes in place of %d and %d" % (command, run.returncode, size, status, written or size))
@@ -545,33 +545,35 @@ def beside(folder, lua):
             yield "GNAT %s" % level, ["./main%s" % level], None
 
 
-def run_row(folder, by, steps, written, command, before):
-    """The least of five runs, each after one that only reads the text. The rate is that of the rest."""
-    reading, whole, most = 0.0 if before is None else float("inf"), float("inf"), 0.0
+def run_row(folder, by, steps, written, command, readings):
+    """The least of five runs, each after those of commands that make no step or one: only read the text, or get ready for
+    the first step too. Each command has its status. The rate is that of what is left after the last of them."""
+    least, whole, most = [float("inf")] * len(readings), float("inf"), 0.0
     for _ in range(5):
-        if before is not None:
-            reading = min(reading, processor_seconds(before, folder, 0, None)[0])
+        for i, (reading, status) in enumerate(readings):
+            least[i] = min(least[i], processor_seconds(reading, folder, status, None)[0])
         seconds, mib = processor_seconds(command, folder, 0, written)
         whole, most = min(whole, seconds), max(most, mib)
-    rate = steps / 1_000_000 / max(whole - reading, 0.001)
-    print("| %s | %s | %d | %.2f | %.2f | %.1f | %.0f |" % (folder.name, by, steps, whole, reading, rate, most), flush=True)
+    rate = steps / 1_000_000 / max(whole - (least or [0.0])[-1], 0.001)
+    parts = " | ".join(["%.2f" % seconds for seconds in least] + ["-"] * (2 - len(least)))
+    print("| %s | %s | %d | %.2f | %s | %.1f | %.0f |" % (folder.name, by, steps, whole, parts, rate, most), flush=True)
 
 
 def bench_runs(folder):
     """A row for each run, by `spark` and by what is beside it."""
     subprocess.run([str(TOP / "spark")], stdin=subprocess.DEVNULL, capture_output=True)
-    print("| program | by | steps | seconds | of them reading | million steps a second | MiB |")
-    print("|---|---|---|---|---|---|---|")
+    print("| program | by | steps | seconds | of them reading | before the first step | million steps a second | MiB |")
+    print("|---|---|---|---|---|---|---|---|")
     for name, text, given, steps, written, lua in runs():
         here = folder / name
         here.mkdir(exist_ok=True)
         (here / "main_all.ada").write_text(text)
         (here / "input").write_text(given)
         checked = [str(program()), "check", "main_all.ada"]
-        executed = [str(program()), "run", "--steps=%d" % steps, "main_all.ada"]
-        run_row(here, "spark run", steps, written, executed, checked)
+        begun, executed = [[str(program()), "run", "--steps=%d" % made, "main_all.ada"] for made in (1, steps)]
+        run_row(here, "spark run", steps, written, executed, [(checked, 0), (begun, 4)])
         for by, command, before in beside(here, lua):
-            run_row(here, by, steps, written, command, before)
+            run_row(here, by, steps, written, command, [(before, 0)] * 2 if before else [])
 
 
 # ---- checks

@@ -19,3 +19,9 @@ pub mod There
 -- values
 pub mod Outcomes
 pub mod Filled
+-- leak checks, and stores at spots
+pub mod Leaks
+-- values that go to places
+pub mod Assigned
+-- cells that are released
+pub mod Released

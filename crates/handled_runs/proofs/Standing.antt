@@ -104,31 +104,45 @@ kinds_front (k ∷ ks) (v ∷ ws) e =
 -- ---- the law
 
 module _ (handles : List ℕ) (kinds taken : List Kind) (m : Flat) (s : Slots) (beside : Beside handles kinds taken m s) where
-  -- Where no word there is gone, what stands in the stack is what is held.
-  pub stack_held : (n : ℕ) (ks : List Kind) (zs : List ℤ) → IsFront ks (drop n kinds) → flat.words_at m (InStack n) ks ≡ Given zs → AreKept ks zs
-      → (flat.held m (InStack n) ks ≡ Given zs) × (slots.held s (InStack n) ks ≡ Given (all_renamed handles ks zs))
-  stack_held n ks zs is e kept = (
-    ap (λ g. and_then g (λ us. Given (all_fresh ks us))) e ∙ ap Given (fresh_same ks zs (front_long ks (drop n m.stack) zs e) kept),
-    ap (λ all. slots.front ks (drop n all)) beside.stack
-        ∙ (ap (slots.front ks) (drop_renamed handles n kinds m.stack) ∙ front_same handles ks (drop n kinds) (drop n m.stack) zs is e),
-  )
+  -- What is gone is null.
+  pub stack_words : (n : ℕ) (ks : List Kind) (zs : List ℤ) → IsFront ks (drop n kinds) → flat.words_at m (InStack n) ks ≡ Given zs → slots.held s (InStack n) ks ≡ Given (all_renamed handles ks zs)
+  stack_words n ks zs is e =
+      ap (λ all. slots.front ks (drop n all)) beside.stack
+      ∙ (ap (slots.front ks) (drop_renamed handles n kinds m.stack) ∙ front_same handles ks (drop n kinds) (drop n m.stack) zs is e)
 
   -- So it is in a cell that is there.
-  pub cell_held : (n o : ℕ) (ws : List Value) (ks : List Kind) (zs : List ℤ) → IsThere m.cells n ws → flat.words_at m (InCell n o) ks ≡ Given zs → AreKept ks zs
-      → (flat.held m (InCell n o) ks ≡ Given zs) × (slots.held s (InCell (get_or handles n 0) o) ks ≡ Given (all_renamed handles ks zs))
-  cell_held n o ws ks zs there e kept =
+  pub cell_words_same : (n o : ℕ) (ws : List Value) (ks : List Kind) (zs : List ℤ) → IsThere m.cells n ws → flat.words_at m (InCell n o) ks ≡ Given zs
+      → (slots.held s (InCell (get_or handles n 0) o) ks ≡ Given (all_renamed handles ks zs)) × (length ks ≡ length zs)
+  cell_words_same n o ws ks zs there e =
       by (nat_lt (o + length ks) most_offsets) (have_kinds ks (drop o ws)) refl (sym (ap (λ x. touched x (front_of_cell o ks)) there) ∙ e)
     where
       by : (a b : Bool) → have_kinds ks (drop o ws) ≡ b → (if a && b then flat.front ks (drop o (words_in ws)) else Broken) ≡ Given zs
-          → (flat.held m (InCell n o) ks ≡ Given zs) × (slots.held s (InCell (get_or handles n 0) o) ks ≡ Given (all_renamed handles ks zs))
+          → (slots.held s (InCell (get_or handles n 0) o) ks ≡ Given (all_renamed handles ks zs)) × (length ks ≡ length zs)
       by true true have f = (
-        ap (λ g. and_then g (λ us. Given (all_fresh ks us))) e ∙ ap Given (fresh_same ks zs (front_long ks (drop o (words_in ws)) zs f) kept),
         ap (cell_words ks o) (beside.cells.live n ws there)
             ∙ (ap (λ b. if b then slots.front ks (drop o (map slot_word (map (handled handles) ws))) else Broken)
             (ap (have_kinds ks) (drop_map (handled handles) o ws) ∙ (kinds_handled handles ks (drop o ws) ∙ have))
             ∙ (ap (λ all. slots.front ks (drop o all)) (words_renamed handles ws)
             ∙ (ap (slots.front ks) (drop_renamed handles o (map kind ws) (words_in ws))
             ∙ front_same handles ks (drop o (map kind ws)) (drop o (words_in ws)) zs (subst (IsFront ks) (sym (drop_map kind o ws)) (kinds_front ks (drop o ws) have)) f))),
+        front_long ks (drop o (words_in ws)) zs f,
       )
       by true false have f = cc
       by false b have f = cc
+
+  -- Where no word there is gone, what stands in the stack is what is held.
+  pub stack_held : (n : ℕ) (ks : List Kind) (zs : List ℤ) → IsFront ks (drop n kinds) → flat.words_at m (InStack n) ks ≡ Given zs → AreKept ks zs
+      → (flat.held m (InStack n) ks ≡ Given zs) × (slots.held s (InStack n) ks ≡ Given (all_renamed handles ks zs))
+  stack_held n ks zs is e kept = (
+    ap (λ g. and_then g (λ us. Given (all_fresh ks us))) e ∙ ap Given (fresh_same ks zs (front_long ks (drop n m.stack) zs e) kept),
+    stack_words n ks zs is e,
+  )
+
+  -- So it is in a cell that is there.
+  pub cell_held : (n o : ℕ) (ws : List Value) (ks : List Kind) (zs : List ℤ) → IsThere m.cells n ws → flat.words_at m (InCell n o) ks ≡ Given zs → AreKept ks zs
+      → (flat.held m (InCell n o) ks ≡ Given zs) × (slots.held s (InCell (get_or handles n 0) o) ks ≡ Given (all_renamed handles ks zs))
+  cell_held n o ws ks zs there e kept =
+      let same = cell_words_same n o ws ks zs there e in (
+        ap (λ g. and_then g (λ us. Given (all_fresh ks us))) e ∙ ap Given (fresh_same ks zs same.1 kept),
+        same.0,
+      )

@@ -32,7 +32,7 @@ front_goes (k ∷ ks) (z ∷ zs) t e = by (is_word k z) (flat.front ks zs) refl 
     by true Broken found e on = cc
     by false g found e on = cc
 
-words_go : (m : Flat) (here : List Kind) (p : Spot) (ks : List Kind) (t : Stop) → StandAt m here p ks → flat.words_at m p ks ≡ Stops t → ⊥
+pub words_go : (m : Flat) (here : List Kind) (p : Spot) (ks : List Kind) (t : Stop) → StandAt m here p ks → flat.words_at m p ks ≡ Stops t → ⊥
 words_go m here (InStack n) ks t stand e = front_goes ks (drop n m.stack) t e
 words_go m here (InCell n o) ks t stand e =
     by (nat_lt (o + length ks) most_offsets && have_kinds ks (drop o stand.0)) (sym (ap (λ x. touched x (front_of_cell o ks)) stand.1) ∙ e)

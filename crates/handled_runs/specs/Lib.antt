@@ -8,3 +8,9 @@ pub mod Looks
 -- values, and the same outcome
 pub mod Values
 pub mod Alike
+-- leak checks
+pub mod Leaks
+-- values that go to places
+pub mod Assigned
+-- cells that are released
+pub mod Released

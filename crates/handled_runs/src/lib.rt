@@ -9,5 +9,7 @@
 //! is in no freed cell and isn't gone (`specs/Looks.antt`), both give the same, but for these names
 //! (`proofs/Words.antt`, `Places.antt`, `Standing.antt`), and each change leaves them beside each other
 //! (`Stacks.antt`, `Cells.antt`, `Moves.antt`). So it is with values, which may move and make
-//! (`specs/Values.antt`, `Alike.antt`, `proofs/Filled.antt`). Nothing here runs.
+//! (`specs/Values.antt`, `Alike.antt`, `proofs/Filled.antt`), and where a value goes to a place or a cell
+//! is released, with the leak checks (`Leaks.antt`, `Assigned.antt`, `Released.antt` of both). Nothing
+//! here runs.
 #![tactic(auto)]

@@ -3,3 +3,6 @@ pub mod Checks
 pub mod Memories
 pub mod Evaluated
 pub mod Stored
+pub mod Instructions
+pub mod Releases
+pub mod Loops

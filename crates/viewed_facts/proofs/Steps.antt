@@ -1,5 +1,5 @@
 -- Facts without an element stay exact in each of the four steps, under its act, and where a view gets another way.
-use Rattle.std.proofs.Common.{◌≡◌, refl, sym, ap, ◌∙◌, subst, ◌⊎◌, inl, inr, ℕ, suc, Bool, false, eq-eqb, List, arith, Option, Some}
+use Rattle.std.proofs.Common.{◌≡◌, refl, sym, ap, ◌∙◌, subst, ◌⊎◌, inl, inr, ℕ, suc, Bool, false, eq-eqb, List, [], ◌∷◌, arith, Option, Some}
 use Rattle.spark_base.specs.Lists.{Has}
 use Rattle.place_names.specs.declared.selector.Sel.{Sel}
 use Rattle.place_names.specs.declared.rule.Loan.TheVariants.{Borrowed}
@@ -9,14 +9,14 @@ use Rattle.place_names.specs.declared.fact.Fact.{Fact}
 use Rattle.place_names.specs.declared.fact.Fact.TheVariants.{Moved}
 use Rattle.place_names.specs.Names.{Name, has_elem}
 use Rattle.place_names.specs.Facts.{adds, effect}
-use Rattle.owned_ways.specs.Ways.{Step, OfVariable, OfHand, Loc, OfRoot, OfCell, Way, Object, Lost, Into, All, Empty, Gone, Held, View, part, along, Reaches, IsRooted, Under, Told, IsRelease, IsDrop, base_of, number_of, sels_of, name_of, Named, IsMoved, Allows}
+use Rattle.owned_ways.specs.Ways.{Step, Root, OfVariable, OfHand, Loc, OfRoot, OfCell, Way, Object, Lost, Into, All, Empty, Gone, Held, View, part, along, Reaches, IsRooted, Under, Told, IsRelease, IsDrop, base_of, number_of, sels_of, name_of, Named, IsMoved, Allows}
 use Rattle.owned_ways.proofs.Locations.{under_itself, under_along, reaches_along}
 use Rattle.owned_ways.proofs.Unique.{one_way}
 use Rattle.owned_ways.proofs.Named.{longer}
 use Rattle.owned_ways.proofs.Moving.{Given}
 use Rattle.owned_ways.proofs.Told.{told_after}
-use Rattle.owned_loans.specs.Views.{Views, Around, expand, expand_root, Viewed, Becomes, Unused}
-use Rattle.owned_loans.proofs.Ways.{flip, under_on, meet_overlaps, root_on, lifts, lifted_way}
+use Rattle.owned_loans.specs.Views.{Go, Part, Down, on, Views, Around, expand, expand_root, Viewed, Becomes, Unused}
+use Rattle.owned_loans.proofs.Ways.{flip, under_on, meet_overlaps, root_on, on_named, Lifted, lifts, lifted_root, lifted_way}
 use Rattle.owned_loans.proofs.Meeting.{IsPlain, meeting}
 use Rattle.owned_loans.proofs.Safe.{Unborrowed, loan_of, clean_below}
 use Rattle.owned_loans.proofs.Allowed.{move_unlent, move_unmoved, write_unlent, free_unlent}
@@ -276,3 +276,36 @@ module _ (home : ℕ → ℕ) (observer : ℕ → Bool) (other : Around home) (v
       let moved : Has facts (Moved (name_of d.0)) = less (name_of d.0) d.1.1 in
       let same = expand_other v t b o loan up n becomes d.0 (unused.unmoved (name_of d.0) moved) in
       told w l (inl (d.0, (d.1.0, moved), d.2, sym same ∙ d.3)) reach
+
+  -- ---- views with other ways
+
+  -- a name that goes through what an object designates finds a number there
+  root_held : (rest : List Go) (s : View) (r : Root) (l : Loc) → Reaches s (on (All (Object r)) rest) l → (n : ℕ) × (s.word (OfRoot r) ≡ Held n)
+  root_held [] s r l reach = (reach.1, ap s.word (sym reach.2) ∙ reach.3)
+  root_held (Part i ∷ rest) s r l reach = root_held rest s r reach.0 reach.1
+  root_held (Down ∷ rest) s r l reach = root_held rest s r reach.0 reach.2
+
+  -- Each view with a way has the one that it had, or no moved name is rooted in it. (Variables of views own nothing.)
+  pub told_turned : (s : View) (t : Views) (facts : List Fact)
+      → ((x : ℕ) (w : Way) → t.way x ≡ Some w → (v.way x ≡ Some w) ⊎ ((n : Name) → Has facts (Moved n) → n.root ≡ x → ⊥))
+      → ((x : ℕ) (w : Way) (n : ℕ) → v.way x ≡ Some w → s.word (OfRoot (OfVariable (home x) x)) ≡ Held n → ⊥)
+      → Told s (IsDefinite home v elsewhere facts) → Told s (IsDefinite home t elsewhere facts)
+  told_turned s t facts turned empty told w l (inr e) reach = told w l (inr e) reach
+  told_turned s t facts turned empty told w l (inl d) reach = by_name d.0 d.1 d.2 d.3
+    where
+      by_name : (u : Way) → IsMoved home facts u → has_elem (sels_of u) ≡ false → expand t u ≡ w → s.word l ≡ Gone
+      by_name u moved plain same = elim (lifts t u) [
+        | inr a ↦ elim (turned a.object a.way a.has) [
+          | inr unmoved ↦ absurd (unmoved (name_of u) moved.1 (lifted_root t u a))
+          | inl old ↦ (let before : Lifted v u = record { frame = a.frame; object = a.object; rest = a.rest; way = a.way; is = a.is; has = old } in
+              told w l (inl (u, moved, plain, lifted_way v u before ∙ sym (lifted_way t u a) ∙ same)) reach)
+        ]
+        | inl e ↦ elim (lifts v u) [
+          | inl f ↦ told w l (inl (u, moved, plain, f ∙ sym e ∙ same)) reach
+          | inr b ↦ absurd (
+              let at : Reaches s (on (All (Object (OfVariable b.frame b.object))) b.rest) l = subst (λ z. Reaches s z l) (sym same ∙ e ∙ b.is) reach in
+              let frame : b.frame ≡ home b.object = on_named home (All (Object (OfVariable b.frame b.object))) b.rest (subst (Named home) b.is moved.0) in
+              let held = root_held b.rest s (OfVariable b.frame b.object) l at in
+              empty b.object b.way held.0 b.has (subst (λ f. s.word (OfRoot (OfVariable f b.object)) ≡ Held held.0) frame held.1))
+        ]
+      ]

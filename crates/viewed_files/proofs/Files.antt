@@ -204,7 +204,7 @@ module _ (files : List (List SourceUnit)) where
       order : IsInOrder table (typed_of p)
       order =
           in_order table (known_of p) p.units text_orderly.written text_orderly.once (subst OwnsByShape (flow_table table (typed_of p)) (files_own files apart ended no_fault (typed_of p)))
-          accepted.fine same_objects text_orderly.formals text_orderly.seen
+          accepted.fine text_orderly.formals text_orderly.seen
           (package_values (known_of p) p.units text_orderly.whole text_orderly.written (units_faultless p no_fault)) (units_faultless p no_fault) main is_main
 
       rest_is : bodies_of p ≡ order.rest

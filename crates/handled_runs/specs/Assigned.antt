@@ -1,0 +1,54 @@
+-- What stores and releases change: over numbers, as points do it, and over a heap that uses its slots again.
+use Rattle.std.specs.Prelude.{◌≡◌, ℕ, List, [], Option, Some, None, ℤ}
+use Rattle.spark_base.specs.declared.position.Pos.{Pos}
+use Rattle.type_definitions.specs.Types.{Table}
+use Rattle.run_values.specs.declared.value.Kind.{Kind}
+use Rattle.machine.specs.Words.{access_offsets}
+use Rattle.machine.specs.States.{Leak}
+use Rattle.run_codes.specs.Codes.{Place}
+use Rattle.run_codes.specs.Flat.{Flat, Got, Given, Stops, Broken, Stop, Traps, and_then, kinds, are_pointers, most_cells, Spot, InStack, InCell}
+use Rattle.run_codes.specs.Flat as flat
+use Rattle.run_codes.specs.Points as points
+use Rattle.handled_runs.specs.Slots.{Slots, spot}
+use Rattle.handled_runs.specs.Changes.{stored}
+use Rattle.handled_runs.specs.Leaks.{leaks_at, AreLeaked}
+use Rattle.handled_runs.specs.Beside.{Beside}
+use Rattle.handled_runs.specs.Looks.{LooksAt}
+use Rattle.handled_runs.specs.Alike.{StandAt}
+
+-- The leak checks that were made, and the memory then.
+pub record Left (M : Type 0) : Type 0 where
+  pub leaks : List Leak
+  pub memory : M
+
+-- ---- a value of a type goes to a place
+
+abbrev pub flat_assigned : Table → Place → ℕ → Option Pos → List ℤ → Flat → Got (Left Flat)
+flat_assigned table p of checks zs m =
+    and_then (flat.spot m p) (λ q. and_then (points.checked_at table m q of checks)
+    (λ leaks. and_then (flat.stored m q (kinds table of) zs) (λ n. Given (record { leaks = leaks; memory = n }))))
+
+abbrev pub checked_at : (ℕ → ℕ) → Table → Slots → Spot → ℕ → Option Pos → Got (List Leak)
+checked_at number table s q of None = Given []
+checked_at number table s q of (Some p) = leaks_at number table s q of p
+
+abbrev pub assigned : (ℕ → ℕ) → Table → Place → ℕ → Option Pos → List ℤ → Slots → Got (Left Slots)
+assigned number table p of checks zs s =
+    and_then (spot s p) (λ q. and_then (checked_at number table s q of checks)
+    (λ leaks. and_then (stored s q (kinds table of) zs) (λ t. Given (record { leaks = leaks; memory = t }))))
+
+-- What is asked of the place: words of the type stand there, and what isn't gone of them names a cell that is there.
+abbrev pub LooksTo : Table → Flat → List Kind → List Kind → Place → ℕ → Type 0
+LooksTo table m here taken p of =
+    LooksAt m here taken p
+    × ((q : Spot) → flat.spot m p ≡ Given q → StandAt m here q (kinds table of)
+    × ((zs : List ℤ) → flat.words_at m q (kinds table of) ≡ Given zs → AreLeaked m.cells zs (access_offsets table of)))
+
+-- ---- the same outcome
+
+abbrev pub LeftAlike : List ℕ → List Kind → List Kind → Got (Left Flat) → Got (Left Slots) → Type 0
+LeftAlike handles here taken (Given a) (Given b) = (b.leaks ≡ a.leaks) × Beside handles here taken a.memory b.memory
+LeftAlike handles here taken (Given a) (Stops y) = ⊥
+LeftAlike handles here taken (Given a) Broken = ⊥
+LeftAlike handles here taken (Stops x) g = g ≡ Stops x
+LeftAlike handles here taken Broken g = Unit {0}

@@ -1,0 +1,233 @@
+-- Facts without an element stay exact in instructions of programs with borrowers and observers, and their excused leak
+-- checks don't fail. What is exact is said with the ways that views had before; that a view got another way is
+-- `told_turned` of `Steps`.
+use Rattle.std.proofs.Common.{◌≡◌, refl, sym, ap, ◌∙◌, subst, inl, ℕ, Bool, true, false, not, List, [], ◌∷◌, ◌++◌, map, length, nat_lt, append-nil, Some, if◌then◌else◌}
+use Rattle.spark_base.specs.Lists.{Has}
+use Rattle.spark_base.specs.declared.position.Pos.{Pos}
+use Rattle.place_names.specs.declared.act.Act.TheVariants as act
+use Rattle.place_names.specs.declared.fact.Fact.{Fact}
+use Rattle.place_names.specs.declared.fact.Fact.TheVariants.{Moved}
+use Rattle.place_names.specs.Names.{Name as PlaceName, object}
+use Rattle.place_names.specs.Facts.{effect}
+use Rattle.type_definitions.specs.Types.{parts}
+use Rattle.typed_tree.specs.Trees.{TypedTree, TypedCode, Name, NoMore, More}
+use Rattle.flow_paths.specs.declared.point.LeakSpot.{LeakSpot}
+use Rattle.flow_paths.specs.Instructions.{Skip}
+use Rattle.flow_paths.specs.Objects.{Typing, object_at, is_observer, is_anonymous, view_of}
+use Rattle.flow_paths.specs.Names.{has_call, name_of}
+use Rattle.flow_paths.specs.Scopes.{taken}
+use Rattle.flow_paths.specs.Acts.{acts_in, stored_acts, spot}
+use Rattle.machine.specs.Words as machine
+use Rattle.machine.specs.Memory.{Memory, declared, undeclared, stored}
+use Rattle.machine.specs.Evaluate.{Here, Now, AsValue, Evaluated, Done, Raises, Traps, followed_by, evaluate, checked, value, viewed, place_of, variable_place}
+use Rattle.machine.specs.Evaluate as run
+use Rattle.machine.specs.Calls.{checks_at}
+use Rattle.machine.specs.States.{Waiting, Outcome, Goes, Ends}
+use Rattle.machine.specs.Step.{Turn, typing, here, start, Stored, taken_by, assign, end_scope, goes, leaking_goes, target_pos}
+use Rattle.machine.specs.Step as steps
+use Rattle.machine.specs.Owners.{waiting_in}
+use Rattle.owned_ways.specs.Ways.{OfVariable, OfRoot, Way, Object, Under, Named, IsSame, after, AllowsAll, number_of}
+use Rattle.part_offsets.specs.Parts.{IsSettled}
+use Rattle.soundness.specs.Seen.{content, home, seen, IsNear, is_view_formal}
+use Rattle.soundness.specs.Typed.{OwnsByShape}
+use Rattle.typed_laws.specs.Needed.{Stays, Gives, Leads}
+use Rattle.soundness.proofs.Contents.{checks_made}
+use Rattle.soundness.proofs.Steps.{alike}
+use Rattle.soundness.proofs.Scalars.{acts}
+use Rattle.soundness.proofs.Stays.{Quiet, One}
+use Rattle.soundness.proofs.Numbers.{index_law}
+use Rattle.soundness.proofs.Lasting.{keeps}
+use Rattle.owned_loans.specs.Views.{Around, Views}
+use Rattle.viewed_soundness.specs.Holds.{IsNamed, PartsAreNamed, AllKeep}
+use Rattle.viewed_soundness.proofs.Stays.{quiet}
+use Rattle.viewed_soundness.proofs.Evaluated.{Given}
+use Rattle.viewed_soundness.proofs.Viewing.{view_unseen}
+use Rattle.viewed_soundness.proofs.Outcomes.{named_plain, IsGood, start_is, live}
+use Rattle.exact_facts.specs.Exact.{NoneFails, Knows}
+use Rattle.exact_facts.proofs.Steps.{IsPlaced, keeps_placed}
+use Rattle.exact_facts.proofs.Memories.{clear_names}
+use Rattle.exact_facts.proofs.Instructions.{none_made}
+use Rattle.viewed_facts.specs.Exact.{IsDefinite, IsExact}
+use Rattle.viewed_facts.proofs.Steps.{definite_variable, told_still, told_fewer}
+use Rattle.viewed_facts.proofs.Memories.{told_seen, exact_from, declared_exact, ended_exact}
+use Rattle.viewed_facts.proofs.Evaluated.{ExactTo}
+use Rattle.viewed_facts.proofs.Stored.{StoresExact, assigned_exact}
+use Rattle.viewed_facts.proofs.Checks.{place_holds}
+
+module _ (t : Turn) (settled : IsSettled (typing t).table) (own_law : OwnsByShape (typing t).table) (other : Around (home (typing t) (length t.outer)))
+    (alone : (w : Way) → IsNear (length t.outer) w → other.gone w → ⊥) (no_formals : (x : ℕ) → is_view_formal (typing t) x ≡ false)
+    (v : Views) (parts_named : PartsAreNamed (typing t).table) (may : ℕ → ℕ → Type 0)
+    (frames : t.state.frames ≡ t.frame ∷ t.outer) (none : taken t.point.instr ≡ 0)
+    (elsewhere : Way → Type 0) (away : (w : Way) → IsNear (length t.outer) w → elsewhere w → ⊥) (Excused : LeakSpot → Type 0) where
+  abbrev s : Typing
+  s = typing t
+
+  abbrev depth : ℕ
+  depth = length t.outer
+
+  abbrev hands : List Waiting
+  hands = waiting_in t.state
+
+  abbrev m : Memory
+  m = t.state.memory
+
+  abbrev now : Now
+  now = record { memory = t.state.memory; waits = [] }
+
+  abbrev Good : List Fact → Type 0
+  Good facts = IsGood t settled own_law other alone no_formals v parts_named may frames none v facts t.state
+
+  abbrev Exact : Memory → List Fact → Type 0
+  Exact n facts = IsExact s (home s depth) v elsewhere n facts
+
+  apart : (k w : Way) → Under k w → Named (home s depth) k → elsewhere w → ⊥
+  apart = clear_names s depth elsewhere away
+
+  started : start t ≡ record { memory = t.state.memory; waits = [] }
+  started = start_is t settled own_law other alone no_formals v parts_named may frames none
+
+  -- Facts are exact where the step goes on, and of these leak checks none fails that is excused.
+  abbrev pub ExactOn : List Fact → List LeakSpot → Outcome → Type 0
+  ExactOn facts spots (Goes state) = IsExact (typing t) (home (typing t) (length t.outer)) v elsewhere state.memory facts × NoneFails Excused spots state.checks
+  ExactOn facts spots (Ends e state) = NoneFails Excused spots state.checks
+
+  -- ---- what changes nothing
+
+  quiet_on : {A : Type 0} (P : A → Type 0) (facts : List Fact) → Exact m facts → (y : Evaluated A) → Quiet now P y → (f : A → Memory → Outcome)
+      → ((a : A) → P a → ExactOn facts [] (f a m)) → ExactOn facts [] (steps.evaluated t y f)
+  quiet_on P facts exact (Done a n) (same, p) f next = subst (λ (z : Now). ExactOn facts [] (f a z.memory)) (sym same) (next a p)
+  quiet_on P facts exact (Raises e n) is f next = tt
+  quiet_on P facts exact (Traps e n) never f next = tt
+
+  -- a scalar expression, and what is done with its value
+  pub value_exact : (e : TypedTree) → Stays s e → has_call e ≡ false → (facts : List Fact) → Good facts → AllowsAll facts (acts (acts_in s e))
+      → Exact m facts → (f : List machine.Word → Memory → Outcome) → ((ws : List machine.Word) → ExactOn facts [] (f ws m))
+      → ExactOn (after (acts (acts_in s e)) facts) [] (steps.evaluated t (value (here t) e (start t)) f)
+  value_exact e stays calls facts good allowed exact f next =
+      let q = quiet (here t) settled hands t.state.leaks m [] other facts v good.kept good.viewed good.holds alone
+      (live t settled own_law other alone no_formals v parts_named may frames none facts good) index_law own_law parts_named AsValue e stays calls allowed in
+      subst (λ z. ExactOn (after (acts (acts_in s e)) facts) [] (steps.evaluated t (value (here t) e z) f)) (sym started)
+      (subst (λ z. ExactOn z [] (steps.evaluated t (value (here t) e now) f)) (sym q.1)
+      (quiet_on One facts exact (value (here t) e now) q.0 f (λ ws one. next ws)))
+
+  pub test_exact : (e : TypedTree) → Stays s e → has_call e ≡ false → (facts : List Fact) → Good facts → AllowsAll facts (acts (acts_in s e))
+      → Exact m facts → ExactOn (after (acts (acts_in s e)) facts) [] (steps.test t e 0 1)
+  test_exact e stays calls facts good allowed exact =
+      value_exact e stays calls facts good allowed exact (λ ws n. goes t n (if run.is_true ws then 0 else 1)) (λ ws. (exact, tt))
+
+  -- where there is such an alternative
+  chosen_exact : (facts : List Fact) → Exact m facts → (count k : ℕ) → ExactOn facts [] (steps.chosen t count k m)
+  chosen_exact facts exact count k = by_test (nat_lt k count)
+    where
+      by_test : (b : Bool) → ExactOn facts [] (if b then goes t m k else steps.raised t run.ConstraintError m)
+      by_test true = (exact, tt)
+      by_test false = tt
+
+  pub choose_exact : (e : TypedTree) (choices : List TypedCode) → Stays s e → has_call e ≡ false → (facts : List Fact) → Good facts
+      → AllowsAll facts (acts (acts_in s e)) → Exact m facts → ExactOn (after (acts (acts_in s e)) facts) [] (steps.choose t e choices)
+  choose_exact e choices stays calls facts good allowed exact =
+      value_exact e stays calls facts good allowed exact (λ ws n. steps.chosen t (length choices) (steps.choice choices ws) n)
+      (λ ws. chosen_exact facts exact (length choices) (steps.choice choices ws))
+
+  pub leave_loop_exact : (e rest : TypedTree) → rest ≡ NoMore → Stays s e → has_call e ≡ false → (facts : List Fact) → Good facts
+      → AllowsAll facts (acts (acts_in s (More e rest))) → Exact m facts
+      → ExactOn (after (acts (acts_in s (More e rest))) facts) [] (steps.leave_loop t (More e rest))
+  unfolding acts_in
+  leave_loop_exact e rest last stays calls facts good allowed exact =
+      let same : acts_in s e ++ acts_in s rest ≡ acts_in s e = ap (λ z. acts_in s e ++ acts_in s z) last ∙ append-nil (acts_in s e) in
+      subst (λ z. ExactOn (after (acts z) facts) [] (steps.test t e 0 1)) (sym same)
+      (test_exact e stays calls facts good (subst (λ z. AllowsAll facts (acts z)) same allowed) exact)
+
+  pub skip_exact : (facts : List Fact) → Exact m facts → ExactOn facts [] (steps.turn t Skip)
+  skip_exact facts exact = (exact, tt)
+
+  -- ---- assignments to what isn't a view
+
+  then_stored : (name : PlaceName) (u : ℕ) (before facts : List Fact) (pos pos' : Pos) (count : ℕ) → Knows Excused pos' name count before (parts s.table u)
+      → (y : Evaluated Stored)
+      → StoresExact (here t) settled t.state.leaks [] other alone (keeps s settled own_law) no_formals index_law own_law v parts_named elsewhere away Excused name u before facts y
+      → ExactOn facts (map (spot pos' name count) (parts s.table u))
+      (steps.evaluated t y (λ (st : Stored) n. leaking_goes (checks_at s pos n st.place) (goes t (stored s st.place st.words n) 0)))
+  then_stored name u before facts pos pos' count known (Done st n) given = (given.0, given.1 pos pos' count known)
+  then_stored name u before facts pos pos' count known (Raises e n) given = none_made Excused (map (spot pos' name count) (parts s.table u))
+  then_stored name u before facts pos pos' count known (Traps e n) given = none_made Excused (map (spot pos' name count) (parts s.table u))
+
+  pub assign_exact : (p : Pos) (x u : ℕ) (path e : TypedTree) → IsNamed s.table u → Gives s u e → Leads s (object_at s x).of path u
+      → has_call e ≡ false → has_call path ≡ false → (facts : List Fact) → Good facts
+      → AllowsAll facts (acts (stored_acts s (Name p x path u) e)) → AllKeep (is_observer s) (acts (stored_acts s (Name p x path u) e))
+      → Exact m facts
+      → (count : ℕ) → Knows Excused p (name_of x path) count (after (acts (acts_in s e ++ acts_in s path)) facts) (parts s.table u)
+      → ExactOn (after (acts (stored_acts s (Name p x path u) e)) facts) (map (spot p (name_of x path) count) (parts s.table u)) (assign t (Name p x path u) e)
+  assign_exact p x u path e named gives lead calls calls' facts good allowed keep exact count known =
+      let target : TypedTree = Name p x path u in
+      let h : Here = here t in
+      let spots : List LeakSpot = map (spot p (name_of x path) count) (parts s.table u) in
+      let placed : List machine.Word → Now → Evaluated Stored = (λ ws n. followed_by (place_of h target n) (λ k n. Done (record { words = ws; place = k }) n)) in
+      subst (λ z. ExactOn (after (acts (stored_acts s target e)) facts) spots (steps.evaluated t (followed_by (taken_by t u e z) placed)
+      (λ (st : Stored) n. leaking_goes (checks_at s (target_pos t target) n st.place) (goes t (stored s st.place st.words n) 0)))) (sym started)
+      (subst (λ b. ExactOn (after (acts (stored_acts s target e)) facts) spots
+      (steps.evaluated t (followed_by (if b then viewed h e now else followed_by (value h e now) (checked h u)) placed)
+      (λ (st : Stored) n. leaking_goes (checks_at s (target_pos t target) n st.place) (goes t (stored s st.place st.words n) 0)))) (sym (named_plain s.table u named))
+      (then_stored (name_of x path) u (after (acts (acts_in s e ++ acts_in s path)) facts) (after (acts (stored_acts s target e)) facts) (target_pos t target) p count known
+      (followed_by (followed_by (evaluate h AsValue e now) (checked h u)) placed)
+      (assigned_exact h settled t.state.leaks [] other alone (keeps s settled own_law) no_formals index_law own_law v parts_named elsewhere away Excused p x u path e named gives lead
+      calls calls' m hands facts (record { viewed = good.viewed; kept = good.kept; holds = good.holds }) allowed keep exact)))
+
+  -- ---- a variable is declared that no fact speaks of
+
+  pub then_declared : (x : ℕ) (facts : List Fact) (y : Evaluated (List machine.Word))
+      → Given (here t) settled t.state.leaks [] other alone (keeps s settled own_law) no_formals index_law own_law v parts_named (object_at s x).of hands facts y
+      → ExactTo (here t) settled t.state.leaks [] other alone (keeps s settled own_law) no_formals index_law own_law v parts_named elsewhere away facts y
+      → ((w : Way) → IsDefinite (home s depth) v elsewhere facts w → Under (Object (OfVariable depth x)) w → ⊥)
+      → ExactOn facts [] (steps.evaluated t y (λ ws n. goes t (declared depth x ws n) 0))
+  then_declared x facts (Done ws n) (ready, long, same) exact no_fact = (
+    declared_exact s settled (home s depth) (is_observer s) other v elsewhere apart n.memory (record { of = (object_at s x).of; words = ws }) hands t.state.leaks facts depth x
+        t.point.pos ready.viewed ready.kept (no_formals x) long (alike s.table settled (object_at s x).of (object_at s x).of (inl refl)) no_fact exact,
+    tt,
+  )
+  then_declared x facts (Raises e n) given exact no_fact = tt
+  then_declared x facts (Traps e n) never exact no_fact = tt
+
+  -- ---- what owners don't see
+
+  pub same_exact : (next : Memory) (facts : List Fact) → Good facts → IsSame (seen s m hands t.state.leaks) (seen s next hands t.state.leaks) → Exact m facts → Exact next facts
+  same_exact next facts good same exact =
+      exact_from s settled (home s depth) (is_observer s) other v elsewhere apart (seen s next hands t.state.leaks) next hands facts
+      (definite_variable (home s depth) (is_observer s) other v elsewhere apart (seen s m hands t.state.leaks) facts good.viewed) (λ l. refl)
+      (told_still (home s depth) (is_observer s) other v elsewhere apart (seen s m hands t.state.leaks) (seen s next hands t.state.leaks) IsPlaced facts good.viewed
+      (λ g y. tt) (keeps_placed (seen s m hands t.state.leaks) (seen s next hands t.state.leaks) (λ l n placed held. sym (same.word l) ∙ held))
+      (λ l placed gone. same.word l ∙ gone) (told_seen s settled (home s depth) (is_observer s) other v elsewhere apart m hands t.state.leaks facts good.viewed exact))
+
+  -- the variable of a view gets a word, and nothing is moved
+  pub view_stored : (f x : ℕ) (ws : List machine.Word) → is_anonymous (view_of s x) ≡ true → (facts facts' : List Fact) → Good facts
+      → ((n : PlaceName) → Has facts' (Moved n) → Has facts (Moved n)) → Exact m facts → Exact (declared f x ws m) facts'
+  view_stored f x ws view facts facts' good less exact =
+      told_fewer (home s depth) (is_observer s) other v elsewhere apart (seen s (declared f x ws m) [] []) facts facts' less
+      (same_exact (declared f x ws m) facts good (view_unseen s settled m hands t.state.leaks f x ws view) exact)
+
+  -- a view is declared, from a source that changes nothing
+  pub view_declared : (P : List machine.Word → Type 0) (x : ℕ) → is_anonymous (view_of s x) ≡ true → (facts facts' : List Fact) → Good facts
+      → ((n : PlaceName) → Has facts' (Moved n) → Has facts (Moved n)) → Exact m facts → (y : Evaluated (List machine.Word)) → Quiet now P y
+      → ExactOn facts' [] (steps.evaluated t y (λ ws n. goes t (declared depth x ws n) 0))
+  view_declared P x view facts facts' good less exact (Done ws n) (same, p) =
+      subst (λ (z : Now). ExactOn facts' [] (goes t (declared depth x ws z.memory) 0)) (sym same) (view_stored depth x ws view facts facts' good less exact, tt)
+  view_declared P x view facts facts' good less exact (Raises e n) is = tt
+  view_declared P x view facts facts' good less exact (Traps e n) never = tt
+
+  -- ---- the end of a scope, where no view begins
+
+  -- `mine`: the object is one of the frame
+  pub end_scope_exact : (x : ℕ) (borrower : Bool) → home s depth x ≡ depth → (facts : List Fact) → Good facts
+      → ((y : ℕ) (w : Way) → v.way y ≡ Some w → number_of w ≡ x → ⊥) → Exact m facts
+      → (pos : Pos) (count : ℕ) → Knows Excused pos (object x) count facts (parts s.table (object_at s x).of)
+      → ExactOn (effect (act.EndScope x borrower) facts) (map (spot pos (object x) count) (parts s.table (object_at s x).of)) (end_scope t x)
+  end_scope_exact x borrower mine facts good roots exact pos count known =
+      let checks = checks_made s.table settled (content s m hands (OfRoot (OfVariable (home s depth x) x))) [] (object_at s x).of t.point.pos t.state.leaks refl
+      (ap not (no_formals x)) (alike s.table settled (object_at s x).of (object_at s x).of (inl refl)) in (
+        subst (λ f. Exact (undeclared f x m) (effect (act.EndScope x borrower) facts)) mine
+            (ended_exact s settled (home s depth) (is_observer s) other v elsewhere apart m hands t.state.leaks _ facts x borrower good.viewed checks roots exact),
+        place_holds s settled (home s depth) v elsewhere m hands t.state.leaks facts
+            (definite_variable (home s depth) (is_observer s) other v elsewhere apart (seen s m hands t.state.leaks) facts good.viewed) exact
+            (variable_place (here t) x) (OfRoot (OfVariable (home s depth x) x)) (Object (OfVariable (home s depth x) x))
+            (record { base = refl; made = tt; at = refl; there = refl; of = inl refl }) refl refl Excused t.point.pos pos count known,
+      )
