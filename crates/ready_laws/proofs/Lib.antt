@@ -3,5 +3,6 @@ pub mod Moves
 pub mod Facts
 pub mod Elaborated
 pub mod Subs
+pub mod Returned
 pub mod Actuals
 pub mod Ready

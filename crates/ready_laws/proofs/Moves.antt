@@ -25,7 +25,7 @@ use Rattle.flow_paths.specs.Acts.{acts_in, acts_of, used, placed, naming, index_
 use Rattle.machine.specs.Words.{component_type, no_component}
 use Rattle.soundness.specs.Typed.{OwnsByShape}
 use Rattle.soundness.specs.Needed.{Stays, Leads, Gives, GivesParts, GivesFirst, Writes, FirstWrites, Source, FirstSource, IsPlace, FirstStays, Returns, IsFine}
-use Rattle.soundness.specs.Sound.{calls_nothing}
+use Rattle.soundness.specs.Sound.{IsNoCall}
 use Rattle.soundness.proofs.Instructions.{not_anonymous, not_borrower, not_observer}
 use Rattle.scope_laws.specs.Code.{roots}
 use Rattle.scope_laws.specs.Order.{named_in}
@@ -273,27 +273,27 @@ module _ (s : Typing) (own_law : OwnsByShape s.table)
       by_result true given none h = cc
       by_result false given none h = h
 
-  pub instruction_owned : (result : Option ℕ) (kept : List ℕ) (pos : Pos) (i : Instruction) → IsFine s result i → calls_nothing i ≡ true
+  pub instruction_owned : (result : Option ℕ) (kept : List ℕ) (pos : Pos) (i : Instruction) → IsFine s result i → IsNoCall i
       → Owned (acts_of (record { typing = s; result = result; roots = kept }) pos i) (named_in i)
-  instruction_owned result kept pos Skip fine calls = owned_none []
-  instruction_owned result kept pos (Declare x v) fine calls =
+  instruction_owned result kept pos Skip fine no_call = owned_none []
+  instruction_owned result kept pos (Declare x v) fine no_call =
       subst (λ ps. Owned ps (roots v)) (sym (declared_plain x v)) (first_source (object_at s x).of v fine)
-  instruction_owned result kept pos (Assign target e) fine calls =
+  instruction_owned result kept pos (Assign target e) fine no_call =
       subst (λ ps. Owned ps (roots e ++ roots target)) (sym (assigned_plain pos (whole target) target e))
       (place_owned target fine.0 fine.1 act.Write (λ m name none. none) (acts_in s e) (roots e) (source_owned fine.0 e fine.2))
-  instruction_owned result kept pos (instruction.Call sub actuals temporary) fine calls = cc
-  instruction_owned result kept pos (Output text line) fine calls = first_writes text fine
-  instruction_owned result kept pos (Input target) fine calls =
+  instruction_owned result kept pos (instruction.Call sub actuals temporary) fine no_call = absurd (no_call sub actuals temporary refl)
+  instruction_owned result kept pos (Output text line) fine no_call = first_writes text fine
+  instruction_owned result kept pos (Input target) fine no_call =
       source_place target fine.0 fine.1 (λ m. act.Actual m mode.Out false false) (λ m name none. none)
-  instruction_owned result kept pos (Release e) fine calls = source_place e fine.0 fine.2 act.Free (λ m name none. none)
-  instruction_owned result kept pos (Test e) fine calls = stays_owned e fine
-  instruction_owned result kept pos (Choose e choices) fine calls = stays_owned e fine
-  instruction_owned result kept pos (Start x reversed low high) fine calls =
+  instruction_owned result kept pos (Release e) fine no_call = source_place e fine.0 fine.2 act.Free (λ m name none. none)
+  instruction_owned result kept pos (Test e) fine no_call = stays_owned e fine
+  instruction_owned result kept pos (Choose e choices) fine no_call = stays_owned e fine
+  instruction_owned result kept pos (Start x reversed low high) fine no_call =
       owned_both (acts_in s low) (acts_in s high) (roots low) (roots high) (stays_owned low fine.1) (stays_owned high fine.2)
-  instruction_owned result kept pos (Next x reversed low high) fine calls = owned_none []
-  instruction_owned result kept pos (Evaluate temporary e left) fine calls = cc
-  instruction_owned result kept pos (LeaveLoop e) fine calls = first_stays e fine
-  instruction_owned result kept pos (Hold v) fine calls = returned_owned result v fine
-  instruction_owned result kept pos (EndScope x) fine calls = owned_end [] (placed pos (act.EndScope x (is_borrower s x))) [] (owned_none []) (λ name none. none)
-  instruction_owned result kept pos Finish fine calls = owned_end [] (placed pos (act.Return kept)) [] (owned_none []) (λ name none. none)
-  instruction_owned result kept pos Fall fine calls = owned_none []
+  instruction_owned result kept pos (Next x reversed low high) fine no_call = owned_none []
+  instruction_owned result kept pos (Evaluate temporary e left) fine no_call = stays_owned e fine
+  instruction_owned result kept pos (LeaveLoop e) fine no_call = first_stays e fine
+  instruction_owned result kept pos (Hold v) fine no_call = returned_owned result v fine
+  instruction_owned result kept pos (EndScope x) fine no_call = owned_end [] (placed pos (act.EndScope x (is_borrower s x))) [] (owned_none []) (λ name none. none)
+  instruction_owned result kept pos Finish fine no_call = owned_end [] (placed pos (act.Return kept)) [] (owned_none []) (λ name none. none)
+  instruction_owned result kept pos Fall fine no_call = owned_none []

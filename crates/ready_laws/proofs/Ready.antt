@@ -1,6 +1,7 @@
--- An accepted program of the second class whose subprograms are in order is ready.
-use Rattle.std.proofs.Common.{◌≡◌, refl, sym, ap, ◌∙◌, subst, ◌⊎◌, inl, inr, ℕ, suc, ◌≤◌, ◌<◌, Bool, true, false, ◌||◌, List, [], ◌∷◌, take, drop, length, get_or, arith, Option, None, Some, is_some}
+-- An accepted program of the third class whose subprograms are in order is ready; so is one of the second class.
+use Rattle.std.proofs.Common.{◌≡◌, refl, sym, ap, ◌∙◌, subst, ◌⊎◌, inl, inr, ℕ, zero, suc, ◌≤◌, ◌<◌, Bool, true, false, ◌||◌, List, [], ◌∷◌, ◌++◌, map, drop, length, get_or, arith, Option, None, Some, is_some}
 use Rattle.std.specs.Prelude.{reverse}
+use Rattle.std.specs.List.{AllByRecursion}
 use Rattle.std.proofs.lemmas.List.{length-map}
 use Rattle.spark_base.specs.Lists.{Has}
 use Rattle.spark_base.proofs.Lists.{Has-append_right, Has-map, Has-map_from}
@@ -10,38 +11,45 @@ use Rattle.place_names.specs.Facts.{adds}
 use Rattle.place_names.specs.Names.{Name as PlaceName}
 use Rattle.type_definitions.specs.Types.{Table, is_owning}
 use Rattle.typed_tree.specs.Trees.{TypedTree, Name}
-use Rattle.typed_tree.specs.Programs.{TypedSub, TypedProgram}
+use Rattle.typed_tree.specs.declared.object.Object.{Object}
+use Rattle.typed_tree.specs.Programs.{TypedSub, TypedProgram, text_io}
 use Rattle.flow_paths.specs.declared.report.Effects.{Effects}
-use Rattle.flow_paths.specs.Instructions.{Instruction, Declare, Assign, Call, Input, Release, Start, Evaluate, Hold, EndScope, Finish}
+use Rattle.flow_paths.specs.Instructions.{Instruction, Declare, Assign, Call, Input, Release, Evaluate, EndScope, Finish}
 use Rattle.flow_paths.specs.Objects.{Typing, object_at, is_formal, is_package_object}
 use Rattle.flow_paths.specs.Points.{NamedPoint, FlowPoint}
-use Rattle.flow_paths.specs.Laid.{FlowSub, FlowProgram, NamedSub, unnumbered, named_sub, named_subs, elaborated, all_named, sub_temporaries, kept_roots, sub_facts, sub_points, elaboration_points, number_in, flow_sub, typing_of, flow_typing, flow_program, flow_named}
+use Rattle.flow_paths.specs.Laid.{Temporary, temporary_object, FlowSub, FlowProgram, NamedSub, unnumbered, named_sub, named_subs, elaborated, all_named, sub_temporaries, kept_roots, sub_facts, sub_points, elaboration_points, number_in, flow_sub, typing_of, flow_typing, flow_program, flow_named}
 use Rattle.flow_paths.specs.Paths.{ControlPath, facts_before}
-use Rattle.flow_paths.specs.Acts.{acts_of}
 use Rattle.machine.specs.Run.{no_point}
 use Rattle.flow_paths.specs.Effects.{path_points}
-use Rattle.flow_paths.specs.Scopes.{is_within, is_ready, taken}
+use Rattle.flow_paths.specs.Scopes.{is_within, is_ready, is_settled, is_temporary, taken}
 use Rattle.machine.specs.States.{sub_of}
 use Rattle.machine.specs.Typed.{successors}
 use Rattle.soundness.specs.Typed.{OwnsByShape}
-use Rattle.soundness.specs.Sound.{Accepted, IsProcedureClass, IsNamedSub, IsProcedure, calls_nothing, calls_procedures, IsRunnable, IsEntered, is_temporary_object, temporaries_in}
+use Rattle.soundness.specs.Sound.{Accepted, IsProcedureClass, IsFunctionClass, IsNamedSub, IsProcedure, IsNoCall, calls_procedures, IsRunnable, IsEntered, is_temporary_object, temporaries_in, returns_value, has_returned}
 use Rattle.soundness.specs.Ready.{root_of, stored_at, AreScoped, AreNew, AreElaborated, AreCalled, IsReady, Fills, IsSupplied, AreReturning}
-use Rattle.soundness.proofs.Points.{IsLaid, all_laid, flow_at, typing_same, sub_there, named_has}
-use Rattle.scope_laws.specs.Code.{roots, are_seen}
+use Rattle.soundness.proofs.Points.{IsLaid, flow_at, typing_same, sub_there, named_has}
+use Rattle.soundness.proofs.Typings.{Agree, flow_agrees, package_same, formal_same, instruction_same}
+use Rattle.soundness.proofs.Passing.{plain_type}
+use Rattle.scope_laws.specs.Code.{objects_of, roots, are_seen}
 use Rattle.scope_laws.specs.Order.{IsCounted, IsOrdered, named_in, IsSeen}
 use Rattle.scope_laws.proofs.Lists.{and_first, and_second, all_has, has_reverse, within_has}
 use Rattle.scope_laws.proofs.Successors.{sub_counted, has_first}
 use Rattle.scope_laws.proofs.Ordered.{sub_ordered, package_ordered}
+use Rattle.scope_laws.specs.Supplied.{IsLeft, FillsOne, IsFilling, StartsWithNone}
+use Rattle.scope_laws.specs.Supplied as scope
 use Rattle.scope_laws.proofs.Seen.{sub_seen}
-use Rattle.ready_laws.specs.InOrder.{own_nothing, IsSub, IsInOrder, AreCallees, ArePassed}
+use Rattle.scope_laws.proofs.Left.{sub_left}
+use Rattle.scope_laws.proofs.Filled.{temporaries_of}
+use Rattle.scope_laws.proofs.Temporaries.{named_supplied, named_goes}
+use Rattle.scope_laws.proofs.Returning.{function_stands, function_zero}
+use Rattle.ready_laws.specs.InOrder.{IsSub, IsInOrder, AreCallees, AreAnswered, AreStill, ArePassed}
 use Rattle.ready_laws.proofs.Temporaries.{few_temporaries}
 use Rattle.ready_laws.proofs.Moves.{instruction_owned}
-use Rattle.ready_laws.proofs.Facts.{ArePlainCalls, new_there}
+use Rattle.ready_laws.proofs.Facts.{AreScalarCalls, new_there}
+use Rattle.ready_laws.proofs.Returned.{valued, returned_once}
 use Rattle.ready_laws.proofs.Elaborated.{Declares, package_declares, owns_none}
 use Rattle.ready_laws.proofs.Subs.{setting_from, IsOfBody, named_cases, body_at, one_named}
-use Rattle.soundness.proofs.Successors.{third_class, no_temporary, procedures_take_none, not_true}
-use Rattle.soundness.proofs.Waited.{plain_more}
-use Rattle.soundness.proofs.Waits.{drop_none}
+use Rattle.soundness.proofs.Successors.{third_class, no_temporary, not_true}
 use Rattle.flow_paths.specs.Names.{has_call}
 
 -- ---- what instructions name
@@ -72,11 +80,21 @@ seen_has outer scope (y ∷ xs) x seen (inr has) = seen_has outer scope xs x (an
 sub_in : (subs : List TypedSub) (k : ℕ) (sub : TypedSub) → IsSub subs k sub → Has subs sub
 sub_in subs k sub (front, rest, is, long) = subst (λ z. Has z sub) (sym is) (Has-append_right front (sub ∷ rest) sub (inl refl))
 
+-- ---- objects
+
+after_or : (xs : List Object) (ts : List Temporary) (x : ℕ)
+    → (get_or (xs ++ map temporary_object ts) x text_io ≡ get_or xs x text_io) ⊎ (is_temporary (get_or (xs ++ map temporary_object ts) x text_io).kind ≡ true)
+after_or [] [] x = inl refl
+after_or [] (t ∷ ts) zero = inr refl
+after_or [] (t ∷ ts) (suc x) = after_or [] ts x
+after_or (o ∷ xs) ts zero = inl refl
+after_or (o ∷ xs) ts (suc x) = after_or xs ts x
+
 -- ---- the program
 
 module _ (table : Table) (typed : TypedProgram) (effects : Effects) (accepted : Accepted table typed effects)
-    (owns : OwnsByShape (flow_program table typed).table) (class : IsProcedureClass (flow_program table typed)) (order : IsInOrder table typed)
-    (callees : AreCallees table typed order.rest) (passed : ArePassed (flow_program table typed)) where
+    (owns : OwnsByShape (flow_program table typed).table) (class : IsFunctionClass (flow_program table typed)) (order : IsInOrder table typed)
+    (answered : AreAnswered table typed order.rest) (passed : ArePassed (flow_program table typed)) (still : AreStill table typed order.first) where
   abbrev program : FlowProgram
   program = flow_program table typed
 
@@ -86,22 +104,12 @@ module _ (table : Table) (typed : TypedProgram) (effects : Effects) (accepted : 
   abbrev own : Typing
   own = typing_of table typed
 
-  objects : program.objects ≡ typed.objects
-  objects = few_temporaries table typed class.calls
-
-  same : s ≡ own
-  same = typing_same table typed objects
-
-  laid : (named : NamedSub) → Has (flow_named table typed) named → IsLaid own named
-  laid named has = all_laid own typed.subs (λ sub there. (order.bodies sub there).settled) named has
+  alike : Agree s own
+  alike = flow_agrees table typed
 
   in_program : (named : NamedSub) → Has (flow_named table typed) named → Has program.subs (flow_sub own named)
   unfolding flow_program
   in_program named has = Has-map (flow_sub own) (flow_named table typed) named has
-
-  calls_there : (named : NamedSub) → Has (flow_named table typed) named → (p : NamedPoint) → Has named.points p → calls_procedures p.instr ≡ true
-  calls_there named has p there =
-      class.calls (flow_sub own named) (in_program named has) (flow_at own named p) (Has-map (λ (q : NamedPoint). flow_at own named q) named.points p there)
 
   -- the package objects, or a body
   abbrev Elaborates : NamedSub → Type 0
@@ -124,6 +132,9 @@ module _ (table : Table) (typed : TypedProgram) (effects : Effects) (accepted : 
   declares : (named : NamedSub) → Elaborates named → (p : NamedPoint) → Has named.points p → Declares own p
   declares named e p there =
       package_declares own (unnumbered own) order.first order.declares order.unmoved p (subst (λ (z : NamedSub). Has z.points p) (sym e) there)
+
+  still_there : (named : NamedSub) → Elaborates named → (p : NamedPoint) → Has named.points p → calls_procedures p.instr ≡ true
+  still_there named e p there = still p (subst (λ (z : NamedSub). Has z.points p) (sym e) there)
 
   -- An object with a number other than that of Ada.Text_IO.
   abbrev IsNumbered : ℕ → Type 0
@@ -153,6 +164,12 @@ module _ (table : Table) (typed : TypedProgram) (effects : Effects) (accepted : 
       ))
       (subst (λ (z : NamedSub). Has z.points p) (sym e) there)
 
+  body_is_left : (named : NamedSub) → OfBody named → (p : NamedPoint) → Has named.points p → IsLeft (is_package_object own) p
+  body_is_left named (sub, has, n, above, e) p there =
+      all_has (IsLeft (is_package_object own)) (sub_points (setting_from own n sub) sub) p
+      (sub_left (is_package_object own) (setting_from own n sub) sub (order.local sub has).seen)
+      (subst (λ (z : NamedSub). Has z.points p) (sym e) there)
+
   body_is_seen : (named : NamedSub) → OfBody named → (p : NamedPoint) → Has named.points p → IsSeen (is_package_object own) p
   body_is_seen named (sub, has, n, above, e) p there =
       all_has (IsSeen (is_package_object own)) (sub_points (setting_from own n sub) sub) p
@@ -174,65 +191,90 @@ module _ (table : Table) (typed : TypedProgram) (effects : Effects) (accepted : 
   ]
 
   stored_there : (named : NamedSub) → Has (flow_named table typed) named → (p : NamedPoint) → Has named.points p → (x : ℕ) → Has (stored_at p.instr) x
-      → (is_package_object s x ≡ true) ⊎ (is_within x p.scope ≡ true)
+      → (is_package_object s x ≡ true) ⊎ (is_within x (drop (taken p.instr) p.scope) ≡ true)
   stored_there named has p there x stored = elim (cases named has) [
-    | inl e ↦ (let declared = declares named e p there (calls_there named has p there) in absurd (subst (λ i. Has (stored_at i) x) declared.2 stored))
-    | inr b ↦ subst (λ (z : Typing). (is_package_object z x ≡ true) ⊎ (is_within x p.scope ≡ true)) (sym same)
-        (seen_has (is_package_object own) p.scope (named_in p.instr) x (body_is_seen named b p there) (stored_named p.instr x stored))
+    | inl e ↦ (let declared = declares named e p there (still_there named e p there) in absurd (subst (λ i. Has (stored_at i) x) declared.2 stored))
+    | inr b ↦ elim (seen_has (is_package_object own) (drop (taken p.instr) p.scope) (named_in p.instr) x (body_is_left named b p there) (stored_named p.instr x stored)) [
+      | inl outer ↦ inl (package_same s own alike x ∙ outer)
+      | inr within ↦ inr within
+    ]
   ]
 
   ends_there : (named : NamedSub) → Has (flow_named table typed) named → (p : NamedPoint) → Has named.points p → (x : ℕ) → p.instr ≡ EndScope x
       → is_package_object s x ≡ false
   ends_there named has p there x is = elim (cases named has) [
-    | inl e ↦ (let declared = declares named e p there (calls_there named has p there) in absurd (two_texts p.instr declared.0 x declared.1 declared.2 is))
-    | inr b ↦ ap (λ z. is_package_object z x) same ∙ ((body_is_ordered named b p there).ends x is).1
+    | inl e ↦ (let declared = declares named e p there (still_there named e p there) in absurd (two_texts p.instr declared.0 x declared.1 declared.2 is))
+    | inr b ↦ package_same s own alike x ∙ ((body_is_ordered named b p there).ends x is).1
   ]
 
   finishes_there : (named : NamedSub) → Has (flow_named table typed) named → (p : NamedPoint) → Has named.points p → p.instr ≡ Finish
       → (x : ℕ) → is_within x p.scope ≡ true → is_formal s x ≡ true
   finishes_there named has p there is x within = elim (cases named has) [
-    | inl e ↦ (let declared = declares named e p there (calls_there named has p there) in absurd (no_finish p.instr declared.0 declared.1 declared.2 is))
+    | inl e ↦ (let declared = declares named e p there (still_there named e p there) in absurd (no_finish p.instr declared.0 declared.1 declared.2 is))
     | inr b ↦ (
         let scope : p.scope ≡ reverse (b.0).formals = (body_is_ordered named b p there).finishes is in
-        ap (λ z. is_formal z x) same
+        formal_same s own alike x
         ∙ (order.local b.0 b.1).formals x (has_reverse (b.0).formals x (within_has x (reverse (b.0).formals) (subst (λ z. is_within x z ≡ true) scope within))))
   ]
 
-  -- ---- temporaries: there are none
+  -- ---- temporaries
 
-  lasts : (x : ℕ) → is_temporary_object s x ≡ false
-  lasts x = ap (λ z. is_temporary_object z x) same ∙ order.lasting x
+  formals_last : (sub : TypedSub) → Has typed.subs sub → (x : ℕ) → Has sub.formals x → is_temporary (object_at own x).kind ≡ false
+  formals_last sub has x there = order.lasting x
 
-  none_in : (scope : List ℕ) → temporaries_in s scope ≡ 0
-  none_in [] = refl
-  none_in (x ∷ scope) = plain_more s x scope (lasts x) ∙ none_in scope
+  settled : (sub : TypedSub) → Has typed.subs sub → is_settled own sub.body ≡ true
+  settled sub has = (order.bodies sub has).settled
 
-  takes_none : (named : NamedSub) → Has (flow_named table typed) named → (p : NamedPoint) → Has named.points p → taken p.instr ≡ 0
-  takes_none named has p there = procedures_take_none p.instr (calls_there named has p there)
+  numbered : (sub : TypedSub) → Has typed.subs sub → (x : ℕ) → Has (objects_of sub) x → x < length typed.objects
+  numbered sub has x there = ((order.bodies sub has).numbered x there).1
 
-  fills_none : (i : Instruction) (scope : List ℕ) → calls_procedures i ≡ true → Fills s i scope
-  fills_none (Declare x v) scope calls = lasts x
-  fills_none (Start x reversed low high) scope calls = lasts x
-  fills_none (EndScope x) scope calls = lasts x
-  fills_none (Call n actuals None) scope calls = tt
-  fills_none (Call n actuals (Some t)) scope calls = cc
-  fills_none (Evaluate t e op) scope calls = cc
-  fills_none (Hold v) scope calls = none_in scope
-  fills_none i scope calls = tt
+  laid : (named : NamedSub) → Has (flow_named table typed) named → IsLaid s named
+  laid named has = named_goes table typed settled formals_last numbered named has
+
+  -- what does without calls fills nothing
+  still_fills : (i : Instruction) → calls_procedures i ≡ true → FillsOne (is_temporary_object s) i
+  still_fills (Call n actuals (Some t)) calls = cc
+  still_fills (Evaluate t e (Some op)) calls = cc
+  still_fills i calls = tt
+
+  package_fills : (sub : TypedSub) (rest : List TypedSub) → typed.subs ≡ sub ∷ rest → AllByRecursion (IsFilling (is_temporary_object s)) (elaboration_points (unnumbered own) sub)
+  package_fills sub rest is =
+      let same : order.first ≡ sub = first_one (sym order.subs ∙ is) in
+      subst (λ (z : TypedSub). AllByRecursion (IsFilling (is_temporary_object s)) (elaboration_points (unnumbered own) z)) same
+      (each (elaboration_points (unnumbered own) order.first) (λ p there. still_fills p.instr (still p there)))
+    where
+      first_one : order.first ∷ order.rest ≡ sub ∷ rest → order.first ≡ sub
+      first_one e = cc
+
+      each : (ps : List NamedPoint) → ((p : NamedPoint) → Has ps p → IsFilling (is_temporary_object s) p) → AllByRecursion (IsFilling (is_temporary_object s)) ps
+      each [] h = tt
+      each (p ∷ ps) h = (h p (inl refl), each ps (λ q there. h q (inr there)))
+
+  held : (named : NamedSub) → Has (flow_named table typed) named → AllByRecursion (scope.IsSupplied (is_temporary_object s)) named.points × StartsWithNone (is_temporary_object s) named.points
+  held named has = named_supplied table typed settled formals_last numbered package_fills named has
+
+  fills_same : (i : Instruction) (left : List ℕ) → scope.Fills (is_temporary_object s) i left → Fills s i left
+  fills_same (Call n actuals None) left h = tt
+  fills_same (Call n actuals (Some t)) left h = h
+  fills_same (Evaluate t e None) left h = h
+  fills_same (Evaluate t e (Some op)) left h = h
+  fills_same i left h = h
 
   supplied_there : (named : NamedSub) → Has (flow_named table typed) named → (p : NamedPoint) → Has named.points p → IsSupplied s p
   supplied_there named has p there =
-      (none_in (take (taken p.instr) p.scope) ∙ sym (takes_none named has p there), fills_none p.instr (drop (taken p.instr) p.scope) (calls_there named has p there))
+      let known = all_has (scope.IsSupplied (is_temporary_object s)) named.points p (held named has).0 there in
+      (known.0, fills_same p.instr (drop (taken p.instr) p.scope) known.1)
+
+  starts_there : (named : NamedSub) → Has (flow_named table typed) named → (p : NamedPoint) (rest : List NamedPoint) → named.points ≡ p ∷ rest → temporaries_in s p.scope ≡ 0
+  starts_there named has p rest is = subst (StartsWithNone (is_temporary_object s)) is (held named has).1
 
   pub are_scoped : AreScoped table typed
   are_scoped = record {
-    goes = λ named has. subst (λ z. IsLaid z named) (sym same) (laid named has);
-    starts = λ named has p rest is. none_in p.scope;
+    goes = laid;
+    starts = starts_there;
     supplied = supplied_there;
     ready = ready_there;
-    stored = λ named has p there x stored.
-        subst (λ scope. (is_package_object s x ≡ true) ⊎ (is_within x scope ≡ true))
-        (sym (ap (λ n. drop n p.scope) (takes_none named has p there) ∙ drop_none p.scope)) (stored_there named has p there x stored);
+    stored = stored_there;
     ends = ends_there;
     finishes = finishes_there;
   }
@@ -242,36 +284,54 @@ module _ (table : Table) (typed : TypedProgram) (effects : Effects) (accepted : 
   abbrev layout_at : (k : ℕ) (sub : TypedSub) → IsSub order.rest k sub → (m : ℕ) × IsNamedSub (all_named own (order.first ∷ order.rest)) (suc k) (named_sub own m (sub_temporaries own sub) sub)
   layout_at k sub stands = body_at own order.first order.rest k sub stands
 
-  is_procedure : (k : ℕ) (sub : TypedSub) → IsSub order.rest k sub → sub.result ≡ None → IsProcedure table typed (suc k)
-  unfolding flow_program
-  is_procedure k sub is_sub none =
-      let there = layout_at k sub is_sub in
-      let named : NamedSub = named_sub own there.0 (sub_temporaries own sub) sub in
-      let stands : IsNamedSub (flow_named table typed) (suc k) named =
-      subst (λ subs. IsNamedSub (all_named own subs) (suc k) named) (sym order.subs) there.1 in
-      let begins = has_first (setting_from own there.0 sub) sub in
-      record {
-        named = named;
-        stands = stands;
-        procedure = λ other also. ap (λ (z : NamedSub). z.sub.result) (sym (one_named (flow_named table typed) (suc k) named other stands also)) ∙ none;
-        point = begins.0;
-        points = begins.1;
-        begins = begins.2;
-        leads = λ p has. counted there.0 stands p has;
-      }
-    where
-      in_rest : Has order.rest sub
-      in_rest = sub_in order.rest k sub is_sub
+  -- a body that is entered can run
+  module _ (k : ℕ) (sub : TypedSub) (is_sub : IsSub order.rest k sub) where
+    in_rest : Has order.rest sub
+    in_rest = sub_in order.rest k sub is_sub
 
-      counted : (n : ℕ) → IsNamedSub (flow_named table typed) (suc k) (named_sub own n (sub_temporaries own sub) sub)
-          → (p : FlowPoint) → Has (sub_of program (suc k)).points p → length p.next ≡ successors p.instr
-      counted n stands p has =
-          let named : NamedSub = named_sub own n (sub_temporaries own sub) sub in
-          let q = Has-map_from (λ (z : NamedPoint). flow_at own named z) named.points p
-          (subst (λ (z : FlowSub). Has z.points p) (sub_there table typed (suc k) named stands) has) in
-          subst (λ (z : FlowPoint). length z.next ≡ successors z.instr) q.2
-          (length-map (q.0).next (number_in named.points)
-          ∙ all_has IsCounted named.points q.0 (sub_counted (setting_from own n sub) sub (order.formed sub in_rest)) q.1)
+    abbrev at_number : (m : ℕ) × IsNamedSub (all_named own (order.first ∷ order.rest)) (suc k) (named_sub own m (sub_temporaries own sub) sub)
+    at_number = layout_at k sub is_sub
+
+    abbrev body_named : NamedSub
+    body_named = named_sub own at_number.0 (sub_temporaries own sub) sub
+
+    body_stands : IsNamedSub (flow_named table typed) (suc k) body_named
+    body_stands = subst (λ subs. IsNamedSub (all_named own subs) (suc k) body_named) (sym order.subs) at_number.1
+
+    body_counted : (p : FlowPoint) → Has (sub_of program (suc k)).points p → length p.next ≡ successors p.instr
+    body_counted p has =
+        let q = Has-map_from (λ (z : NamedPoint). flow_at own body_named z) body_named.points p
+        (subst (λ (z : FlowSub). Has z.points p) (sub_there table typed (suc k) body_named body_stands) has) in
+        subst (λ (z : FlowPoint). length z.next ≡ successors z.instr) q.2
+        (length-map (q.0).next (number_in body_named.points)
+        ∙ all_has IsCounted body_named.points q.0 (sub_counted (setting_from own at_number.0 sub) sub (order.formed sub in_rest)) q.1)
+
+    is_runnable : IsEntered program (suc k) → IsRunnable table typed (suc k)
+    is_runnable entered =
+        let begins = has_first (setting_from own at_number.0 sub) sub in
+        record {
+          named = body_named;
+          stands = body_stands;
+          entered = entered;
+          point = begins.0;
+          points = begins.1;
+          begins = begins.2;
+          leads = body_counted;
+        }
+
+    is_procedure : sub.result ≡ None → IsProcedure table typed (suc k)
+    unfolding flow_program
+    is_procedure none =
+        let begins = has_first (setting_from own at_number.0 sub) sub in
+        record {
+          named = body_named;
+          stands = body_stands;
+          procedure = λ other also. ap (λ (z : NamedSub). z.sub.result) (sym (one_named (flow_named table typed) (suc k) body_named other body_stands also)) ∙ none;
+          point = begins.0;
+          points = begins.1;
+          begins = begins.2;
+          leads = body_counted;
+        }
 
   pub has_main : IsProcedure table typed (suc order.number)
   has_main = is_procedure order.number order.main order.stands order.procedure
@@ -280,81 +340,85 @@ module _ (table : Table) (typed : TypedProgram) (effects : Effects) (accepted : 
 
   -- what is called, by its number among the bodies
   module _ (k : ℕ) (callee : TypedSub) (is_sub : IsSub order.rest k callee) where
-    is_there : sub_of program (suc k) ≡ flow_sub own (named_sub own (layout_at k callee is_sub).0 (sub_temporaries own callee) callee)
-    is_there =
-        let there = layout_at k callee is_sub in
-        sub_there table typed (suc k) (named_sub own there.0 (sub_temporaries own callee) callee)
-        (subst (λ subs. IsNamedSub (all_named own subs) (suc k) (named_sub own there.0 (sub_temporaries own callee) callee)) (sym order.subs) there.1)
+    is_there : sub_of program (suc k) ≡ flow_sub own (body_named k callee is_sub)
+    is_there = sub_there table typed (suc k) (body_named k callee is_sub) (body_stands k callee is_sub)
 
     formals_at : (x : ℕ) → Has (sub_of program (suc k)).formals x → is_formal s x ≡ true
     formals_at x has =
-        ap (λ z. is_formal z x) same
+        formal_same s own alike x
         ∙ (order.local callee (sub_in order.rest k callee is_sub)).formals x (subst (λ xs. Has xs x) (ap (λ (z : FlowSub). z.formals) is_there) has)
 
-    result_at : callee.result ≡ None → (sub_of program (suc k)).result ≡ None
-    result_at none = ap (λ (z : FlowSub). z.result) is_there ∙ none
+    result_at : (sub_of program (suc k)).result ≡ callee.result
+    result_at = ap (λ (z : FlowSub). z.result) is_there
 
   -- its formals are known as such
   formals_known : (sub : FlowSub) → Has program.subs sub → (p : FlowPoint) → Has sub.points p → (n : ℕ) (actuals : TypedTree) (result : Option ℕ)
       → p.instr ≡ Call n actuals result → (x : ℕ) → Has (sub_of program n).formals x → is_formal s x ≡ true
   formals_known sub has p there n actuals result is x formal =
-      let found = callees sub has p there n actuals result is in
+      let found = answered sub has p there n actuals result is in
       formals_at found.0 found.1 found.3 x (subst (λ m. Has (sub_of program m).formals x) found.2 formal)
 
-  plainly : ArePlainCalls program owns
+  plainly : AreScalarCalls program owns
   plainly sub has p there n actuals result is =
-      let found = callees sub has p there n actuals result is in
       let known = formals_known sub has p there n actuals result is in
       record {
-        result = ap (λ m. (sub_of program m).result) found.2 ∙ result_at found.0 found.1 found.3 found.4;
+        known = known;
         formals = λ x formal. class.formals x (known x formal);
         actuals_stay = passed sub has p there n actuals result is known;
       }
 
   are_called : AreCalled table typed
   are_called sub has p there n actuals result is =
-      let found = callees sub has p there n actuals result is in
+      let found = answered sub has p there n actuals result is in
       let known = formals_known sub has p there n actuals result is in
-      let procedure = is_procedure found.0 found.1 found.3 found.4 in
       record {
-        runs = subst (IsRunnable table typed) (sym found.2) (record {
-          named = procedure.named;
-          stands = procedure.stands;
-          entered = inr (sub, has, p, there, actuals, result, is ∙ ap (λ m. Call m actuals result) found.2);
-          point = procedure.point;
-          points = procedure.points;
-          begins = procedure.begins;
-          leads = procedure.leads;
-        });
-        answers = ap is_some (ap (λ m. (sub_of program m).result) found.2 ∙ result_at found.0 found.1 found.3 found.4)
-            ∙ sym (ap is_some (no_temporary n actuals result (sym (ap calls_procedures is) ∙ class.calls sub has p there)));
+        runs = subst (IsRunnable table typed) (sym found.2)
+            (is_runnable found.0 found.1 found.3 (inr (sub, has, p, there, actuals, result, is ∙ ap (λ m. Call m actuals result) found.2)));
+        answers = ap (λ m. is_some (sub_of program m).result) found.2 ∙ (ap is_some (result_at found.0 found.1 found.3) ∙ found.4);
         formals = known;
         actuals_stay = passed sub has p there n actuals result is known;
-        text_io = ap (λ z. is_package_object z 0) same ∙ order.text_io;
+        text_io = package_same s own alike 0 ∙ order.text_io;
       }
 
   main_is : program.main ≡ Some (suc order.number)
   unfolding flow_program
   main_is = order.is_main
 
-  -- no function runs
+  -- ---- returns
+
+  abbrev IsReturning : ℕ → Type 0
+  IsReturning k =
+      is_some (sub_of program k).result ≡ true → (before : List ℕ) (last : ℕ) → ControlPath (path_points program effects (sub_of program k)) before last
+      → (returns_value (get_or (sub_of program k).points last no_point).instr ≡ true → has_returned (sub_of program k) before ≡ false)
+      × ((get_or (sub_of program k).points last no_point).instr ≡ Finish → has_returned (sub_of program k) before ≡ true)
+
+  -- each function with a body returns once on each path
+  body_returning : (k : ℕ) (sub : TypedSub) → IsSub order.rest k sub → IsReturning (suc k)
+  body_returning k sub is_sub some before last path =
+      let named : NamedSub = body_named k sub is_sub in
+      let here : Has (flow_named table typed) named = named_has (flow_named table typed) (suc k) named (body_stands k sub is_sub) in
+      let is : sub_of program (suc k) ≡ flow_sub own named = is_there k sub is_sub in
+      let function : is_some sub.result ≡ true = sym (ap is_some (result_at k sub is_sub)) ∙ some in
+      let setting = setting_from own (at_number k sub is_sub).0 sub in
+      subst (λ (z : FlowSub). (returns_value (get_or z.points last no_point).instr ≡ true → has_returned z before ≡ false)
+      × ((get_or z.points last no_point).instr ≡ Finish → has_returned z before ≡ true)) (sym is)
+      (returned_once table typed effects s named (laid named here) (function_stands setting sub function) (function_zero setting sub function)
+      (λ p there. valued s sub.result p.instr function
+      (accepted.fine (flow_sub own named) (in_program named here) (flow_at own named p) (Has-map (λ (q : NamedPoint). flow_at own named q) named.points p there)))
+      before last (subst (λ (z : FlowSub). ControlPath (path_points program effects z) before last) is path))
+
+  entered_body : (k : ℕ) → IsEntered program k → (j : ℕ) × (sub : TypedSub) × (k ≡ suc j) × IsSub order.rest j sub
+  entered_body k (inl main) =
+      let same_number : Some k ≡ Some (suc order.number) = sym main ∙ main_is in
+      let number : k ≡ suc order.number = cc in
+      (order.number, order.main, number, order.stands)
+  entered_body k (inr (sub, has, p, there, actuals, result, is)) =
+      (let found = answered sub has p there k actuals result is in (found.0, found.1, found.2, found.3))
+
   are_returning : AreReturning program effects
-  are_returning k entered some before last path = absurd (no_result entered)
-    where
-      main_result : (sub_of program (suc order.number)).result ≡ None
-      main_result = result_at order.number order.main order.stands order.procedure
-
-      no_truth : false ≡ true → ⊥
-      no_truth e = cc
-
-      no_result : IsEntered program k → ⊥
-      no_result (inl main) =
-          let same_number : Some k ≡ Some (suc order.number) = sym main ∙ main_is in
-          let number : k ≡ suc order.number = cc in
-          no_truth (sym (ap is_some main_result) ∙ ap (λ m. is_some (sub_of program m).result) (sym number) ∙ some)
-      no_result (inr (sub, has, p, there, actuals, result, is)) =
-          let found = callees sub has p there k actuals result is in
-          no_truth (sym (ap is_some (result_at found.0 found.1 found.3 found.4)) ∙ ap (λ m. is_some (sub_of program m).result) (sym found.2) ∙ some)
+  are_returning k entered =
+      let body = entered_body k entered in
+      subst IsReturning (sym body.2) (body_returning body.0 body.1 body.3)
 
   -- ---- facts
 
@@ -365,19 +429,29 @@ module _ (table : Table) (typed : TypedProgram) (effects : Effects) (accepted : 
       → (Has (facts_before (path_points program effects sub) before) (Moved name) → ⊥)
       × (Has (facts_before (path_points program effects sub) (last ∷ before)) (Moved name) → ⊥)
 
+  -- an object is as the text has it, or a temporary, that owns nothing
+  object_or : (x : ℕ) → (object_at s x ≡ object_at own x) ⊎ (is_temporary_object s x ≡ true)
+  unfolding flow_program
+  object_or x = after_or typed.objects (temporaries_of (flow_named table typed)) x
+
+  owning_same : (x : ℕ) → is_owning s.table (object_at s x).of ≡ true → is_owning own.table (object_at own x).of ≡ true
+  owning_same x owning = elim (object_or x) [
+    | inl same ↦ (λ j. is_owning (sym alike.table j) (sym same j).of) ∙ owning
+    | inr held ↦ (let never : true ≡ false = sym owning ∙ plain_type s owns (object_at s x).of (class.temporaries x held) in cc)
+  ]
+
   -- the initial values of package objects name nothing that owns
-  names_none : (named : NamedSub) → Has (flow_named table typed) named → Elaborates named → (p : NamedPoint) → Has named.points p → (x : ℕ)
+  names_none : (named : NamedSub) → Elaborates named → (p : NamedPoint) → Has named.points p → (x : ℕ)
       → Has (named_in p.instr) x → is_owning s.table (object_at s x).of ≡ true → ⊥
-  names_none named has e p there x names owning =
-      let declared = declares named e p there (calls_there named has p there) in
-      owns_none s (roots declared.1) x (ap (λ z. own_nothing z (roots declared.1)) same ∙ declared.3)
-      (subst (λ i. Has (named_in i) x) declared.2 names) owning
+  names_none named e p there x names owning =
+      let declared = declares named e p there (still_there named e p there) in
+      owns_none own (roots declared.1) x declared.3 (subst (λ i. Has (named_in i) x) declared.2 names) (owning_same x owning)
 
   new_in : (named : NamedSub) → Has (flow_named table typed) named → IsNewIn (flow_sub own named)
   new_in named has = elim (cases named has) [
-    | inl e ↦ new_there table typed effects class owns accepted.fine objects accepted.effects_are plainly named has (laid named has) IsNumbered (λ x. ⊥) (reverse order.first.formals)
-        (λ x what out. out) (package_is_ordered named e) (λ p there x names owning. absurd (names_none named has e p there x names owning))
-    | inr b ↦ new_there table typed effects class owns accepted.fine objects accepted.effects_are plainly named has (laid named has) IsOwn (λ x. is_package_object own x ≡ true)
+    | inl e ↦ new_there table typed effects class owns accepted.fine accepted.effects_are plainly named has (laid named has) (λ p there. (supplied_there named has p there).0) IsNumbered (λ x. ⊥) (reverse order.first.formals)
+        (λ x what out. out) (package_is_ordered named e) (λ p there x names owning. absurd (names_none named e p there x names owning))
+    | inr b ↦ new_there table typed effects class owns accepted.fine accepted.effects_are plainly named has (laid named has) (λ p there. (supplied_there named has p there).0) IsOwn (λ x. is_package_object own x ≡ true)
         (reverse (b.0).formals) (λ x what out. (let both : false ≡ true = sym what.1 ∙ out in cc)) (body_is_ordered named b)
         (λ p there x names owning. seen_has (is_package_object own) p.scope (named_in p.instr) x (body_is_seen named b p there) names)
   ]
@@ -404,17 +478,20 @@ module _ (table : Table) (typed : TypedProgram) (effects : Effects) (accepted : 
       Has-map_from (λ (q : NamedPoint). flow_at own packages q) packages.points p
       (subst (λ (z : FlowSub). Has z.points p) (sub_there table typed 0 packages packages_stand) has)
 
+  no_call_here : (x : ℕ) (v : TypedTree) (n : ℕ) (actuals : TypedTree) (result : Option ℕ) → Declare x v ≡ Call n actuals result → ⊥
+  no_call_here x v n actuals result e = cc
+
   pub are_elaborated : AreElaborated program
   are_elaborated = record { declared = declared_there; unmoved = unmoved_there }
     where
       declared_there : (p : FlowPoint) → Has (sub_of program 0).points p → (x : ℕ) × (v : TypedTree) × (p.instr ≡ Declare x v) × (has_call v ≡ false)
       declared_there p has =
           let q = package_point p has in
-          let found = declares packages refl q.0 q.1 (calls_there packages packages_in q.0 q.1) in (
+          let found = declares packages refl q.0 q.1 (still_there packages refl q.0 q.1) in (
             found.0,
             found.1,
             sym (ap (λ (z : FlowPoint). z.instr) q.2) ∙ found.2,
-            not_true (has_call found.1) (sym (ap calls_procedures found.2) ∙ calls_there packages packages_in q.0 q.1),
+            not_true (has_call found.1) (sym (ap calls_procedures found.2) ∙ still_there packages refl q.0 q.1),
           )
 
       unmoved_there : (p : FlowPoint) → Has (sub_of program 0).points p → (a : Placed) → Has p.acts a → (name : PlaceName) → Has (adds a.act) (Moved name) → ⊥
@@ -423,19 +500,18 @@ module _ (table : Table) (typed : TypedProgram) (effects : Effects) (accepted : 
           let kept : List ℕ = kept_roots own 0 own.objects (sub_facts own order.first packages.points) in
           let fine = accepted.fine (flow_sub own packages) (in_program packages packages_in) (flow_at own packages q.0)
           (Has-map (λ (z : NamedPoint). flow_at own packages z) packages.points q.0 q.1) in
-          let declared = declares packages refl q.0 q.1 (calls_there packages packages_in q.0 q.1) in
-          let calls : calls_nothing (q.0).instr ≡ true =
-          ap calls_nothing declared.2 ∙ sym (ap calls_procedures declared.2) ∙ calls_there packages packages_in q.0 q.1 in
-          let found = instruction_owned s owns class.all_named order.first.result kept (q.0).pos (q.0).instr fine calls a
-          (subst (λ (z : Typing). Has (acts_of (record { typing = z; result = order.first.result; roots = kept }) (q.0).pos (q.0).instr) a) (sym same)
+          let declared = declares packages refl q.0 q.1 (still_there packages refl q.0 q.1) in
+          let no_call : IsNoCall (q.0).instr = (λ n actuals result is. no_call_here declared.0 declared.1 n actuals result (sym declared.2 ∙ is)) in
+          let found = instruction_owned s owns class.all_named order.first.result kept (q.0).pos (q.0).instr fine no_call a
+          (subst (λ z. Has z a) (sym (instruction_same s own alike order.first.result kept (q.0).pos (q.0).instr (λ n actuals result is. absurd (no_call n actuals result is))))
           (subst (λ (z : FlowPoint). Has z.acts a) (sym q.2) acts)) name moved in
-          names_none packages packages_in refl q.0 q.1 name.root found.0 found.1
+          names_none packages refl q.0 q.1 name.root found.0 found.1
 
-  pub is_ready_program : IsReady table typed effects
-  is_ready_program = record {
+  pub functions_ready : IsReady table typed effects
+  functions_ready = record {
     accepted = accepted;
     owns = owns;
-    class = third_class program lasts class;
+    class = class;
     scoped = are_scoped;
     new = are_new;
     elaborated = are_elaborated;
@@ -447,3 +523,31 @@ module _ (table : Table) (typed : TypedProgram) (effects : Effects) (accepted : 
     is_main = main_is;
     main_there = has_main;
   }
+
+-- So is a program of the second class: no object of it is a temporary.
+module _ (table : Table) (typed : TypedProgram) (effects : Effects) (accepted : Accepted table typed effects)
+    (owns : OwnsByShape (flow_program table typed).table) (class : IsProcedureClass (flow_program table typed)) (order : IsInOrder table typed)
+    (callees : AreCallees table typed order.rest) (passed : ArePassed (flow_program table typed)) where
+  lasts : (x : ℕ) → is_temporary_object (flow_typing (flow_program table typed)) x ≡ false
+  lasts x = ap (λ z. is_temporary_object z x) (typing_same table typed (few_temporaries table typed class.calls)) ∙ order.lasting x
+
+  procedures_answered : AreAnswered table typed order.rest
+  procedures_answered sub has p there n actuals result is =
+      let found = callees sub has p there n actuals result is in
+      let none : result ≡ None = no_temporary n actuals result (sym (ap calls_procedures is) ∙ class.calls sub has p there) in
+      (found.0, found.1, found.2, found.3, ap is_some found.4 ∙ sym (ap is_some none))
+
+  first_named : Has (flow_named table typed) (elaborated (typing_of table typed) order.first)
+  first_named = subst (λ subs. Has (all_named (typing_of table typed) subs) (elaborated (typing_of table typed) order.first)) (sym order.subs) (inl refl)
+
+  procedures_still : AreStill table typed order.first
+  unfolding flow_program
+  procedures_still p there =
+      let own : Typing = typing_of table typed in
+      let packages : NamedSub = elaborated own order.first in
+      class.calls (flow_sub own packages) (Has-map (flow_sub own) (flow_named table typed) packages first_named) (flow_at own packages p)
+      (Has-map (λ (q : NamedPoint). flow_at own packages q) packages.points p there)
+
+  pub is_ready_program : IsReady table typed effects
+  is_ready_program =
+      functions_ready table typed effects accepted owns (third_class (flow_program table typed) lasts class) order procedures_answered passed procedures_still

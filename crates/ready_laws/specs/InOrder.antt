@@ -1,6 +1,6 @@
 -- What is asked of a typed program, subprogram by subprogram, so that it is ready. Nothing here speaks of
 -- points, paths or facts.
-use Rattle.std.specs.Prelude.{◌≡◌, ℕ, suc, ◌≤◌, ◌<◌, Bool, true, false, not, ◌&&◌, List, ◌∷◌, ◌++◌, length, Option, Some, None}
+use Rattle.std.specs.Prelude.{◌≡◌, ℕ, suc, ◌≤◌, ◌<◌, Bool, true, false, not, ◌&&◌, List, ◌∷◌, ◌++◌, length, Option, Some, None, is_some}
 use Rattle.std.specs.List.{list_all}
 use Rattle.spark_base.specs.Lists.{Has}
 use Rattle.type_definitions.specs.Types.{Table, is_owning}
@@ -9,10 +9,11 @@ use Rattle.typed_tree.specs.Trees as typed
 use Rattle.typed_tree.specs.Programs.{TypedSub, TypedProgram}
 use Rattle.flow_paths.specs.Objects.{Typing, object_at, is_formal, is_package_object}
 use Rattle.flow_paths.specs.Instructions.{Call}
-use Rattle.flow_paths.specs.Points.{FlowPoint}
-use Rattle.flow_paths.specs.Laid.{FlowSub, FlowProgram, typing_of, flow_typing, flow_program}
+use Rattle.flow_paths.specs.Points.{NamedPoint, FlowPoint}
+use Rattle.flow_paths.specs.Laid.{FlowSub, FlowProgram, unnumbered, elaboration_points, typing_of, flow_typing, flow_program}
 use Rattle.flow_paths.specs.Scopes.{is_settled, is_temporary}
 use Rattle.machine.specs.States.{sub_of}
+use Rattle.soundness.specs.Sound.{calls_procedures}
 use Rattle.soundness.specs.Ready.{AreActuals}
 use Rattle.scope_laws.specs.Code.{is_formed, Once, objects_of, roots, body_seen}
 
@@ -80,6 +81,16 @@ abbrev pub AreCallees : Table → TypedProgram → List TypedSub → Type 0
 AreCallees table program rest =
     (sub : FlowSub) → Has (flow_program table program).subs sub → (p : FlowPoint) → Has sub.points p → (n : ℕ) (actuals : TypedTree) (result : Option ℕ)
     → p.instr ≡ Call n actuals result → (k : ℕ) × (callee : TypedSub) × (n ≡ suc k) × IsSub rest k callee × (callee.result ≡ None)
+
+-- What is called has a body in the text, and is a function where the call has a result.
+abbrev pub AreAnswered : Table → TypedProgram → List TypedSub → Type 0
+AreAnswered table program rest =
+    (sub : FlowSub) → Has (flow_program table program).subs sub → (p : FlowPoint) → Has sub.points p → (n : ℕ) (actuals : TypedTree) (result : Option ℕ)
+    → p.instr ≡ Call n actuals result → (k : ℕ) × (callee : TypedSub) × (n ≡ suc k) × IsSub rest k callee × (is_some callee.result ≡ is_some result)
+
+-- The package objects are declared without calls.
+abbrev pub AreStill : Table → TypedProgram → TypedSub → Type 0
+AreStill table program first = (p : NamedPoint) → Has (elaboration_points (unnumbered (typing_of table program)) first) p → calls_procedures p.instr ≡ true
 
 -- Where the formals of what is called are known as such, the actuals stay within what they name.
 abbrev pub ArePassed : FlowProgram → Type 0

@@ -7,6 +7,7 @@ pub mod Ordered
 pub mod Seen
 -- temporaries in scope
 pub mod Supplied
+pub mod Left
 pub mod Filled
 pub mod Relaid
 pub mod Temporaries

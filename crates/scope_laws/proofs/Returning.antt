@@ -15,7 +15,7 @@ use Rattle.flow_paths.specs.Points.{Place, PointName, row_at, NamedPoint, point,
 use Rattle.flow_paths.specs.Prep.{Setting, with_held, prep}
 use Rattle.flow_paths.specs.Layout.{Around, within_loop, within_block, with_scope, declared, from, ending, ends, closing, uses, unless_empty, choices_of, laid, laid_branches, laid_branch, laid_whens, laid_when}
 use Rattle.flow_paths.specs.Laid.{around_body, function_end, procedure_end, body_points, sub_points}
-use Rattle.scope_laws.specs.Returning.{is_return, is_finish, IsReturned, IsOpen, All, Stands, returns, closes, goes}
+use Rattle.scope_laws.specs.Returning.{is_return, is_finish, IsReturned, IsOpen, All, Stands, StartsAtZero, returns, closes, goes}
 use Rattle.scope_laws.proofs.Lists.{all_both}
 
 all_names : (P : PointName → Type 0) (ns ms : List PointName) → All P ns → All P ms → All P (ns ++ ms)
@@ -30,10 +30,8 @@ no_name P n has = absurd has
 
 -- ---- first points
 
--- The first point of a construct is the one with row 0.
 abbrev Zero : List NamedPoint → Type 0
-Zero [] = Unit {0}
-Zero (p ∷ rest) = p.name.row ≡ 0
+Zero ps = StartsAtZero ps
 
 zero_both : (ps qs : List NamedPoint) → Zero ps → Zero qs → Zero (ps ++ qs)
 zero_both [] qs h g = g
@@ -429,3 +427,12 @@ pub function_stands : (s : Setting) (sub : TypedSub) → is_some sub.result ≡ 
 function_stands s sub function =
     subst (λ b. AllByRecursion (Stands (body_points s sub (if b then function_end sub else procedure_end s sub))) (body_points s sub (if b then function_end sub else procedure_end s sub)))
     (sym function) (function_end_stands s sub)
+
+function_end_zero : (s : Setting) (sub : TypedSub) → Zero (body_points s sub (function_end sub))
+function_end_zero s sub =
+    let end : List NamedPoint = function_end sub in
+    zero_both (laid s sub.body (0 ∷ []) (around_body s sub) (entry end [])) end (laid_zero s sub.body (0 ∷ []) (around_body s sub) (entry end [])) refl
+
+-- A function begins with the first point of a construct.
+pub function_zero : (s : Setting) (sub : TypedSub) → is_some sub.result ≡ true → StartsAtZero (sub_points s sub)
+function_zero s sub function = subst (λ b. Zero (body_points s sub (if b then function_end sub else procedure_end s sub))) (sym function) (function_end_zero s sub)

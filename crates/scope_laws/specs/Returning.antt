@@ -1,5 +1,5 @@
 -- What follows a return: the ends of scopes and the end of the call, and nothing else leads there.
-use Rattle.std.specs.Prelude.{◌≡◌, ◌⊎◌, ◌≤◌, Bool, true, false, List}
+use Rattle.std.specs.Prelude.{◌≡◌, ◌⊎◌, ◌≤◌, Bool, true, false, List, [], ◌∷◌}
 use Rattle.spark_base.specs.Lists.{Has}
 use Rattle.flow_paths.specs.Instructions.{Instruction, Hold, Finish}
 use Rattle.flow_paths.specs.Points.{PointName, row_at, NamedPoint}
@@ -11,6 +11,11 @@ is_return _ = false
 abbrev pub is_finish : Instruction → Bool
 is_finish Finish = true
 is_finish _ = false
+
+-- Some points begin with the first one of a construct.
+abbrev pub StartsAtZero : List NamedPoint → Type 0
+StartsAtZero [] = Unit {0}
+StartsAtZero (p ∷ rest) = p.name.row ≡ 0
 
 -- The first point of a construct is a return, or is none.
 abbrev pub HasFirst : List NamedPoint → Bool → PointName → Type 0

@@ -5,6 +5,8 @@ use Rattle.spark_base.specs.Lists.{Has}
 use Rattle.flow_paths.specs.Instructions.{Instruction, Declare, Start, Call, Evaluate, Hold, EndScope}
 use Rattle.flow_paths.specs.Points.{NamedPoint}
 use Rattle.flow_paths.specs.Scopes.{taken}
+use Rattle.scope_laws.specs.Code.{are_seen}
+use Rattle.scope_laws.specs.Order.{named_in}
 
 abbrev pub temporaries_in : (ℕ → Bool) → List ℕ → ℕ
 temporaries_in held scope = length (filter held scope)
@@ -41,3 +43,7 @@ AreNone held xs = (x : ℕ) → Has xs x → held x ≡ false
 abbrev pub StartsWithNone : (ℕ → Bool) → List NamedPoint → Type 0
 StartsWithNone held [] = Unit {0}
 StartsWithNone held (p ∷ rest) = temporaries_in held p.scope ≡ 0
+
+-- What an instruction names is in scope beside the temporaries that it takes, or as asked: of a package.
+abbrev pub IsLeft : (ℕ → Bool) → NamedPoint → Type 0
+IsLeft outer p = are_seen outer (drop (taken p.instr) p.scope) (named_in p.instr) ≡ true
