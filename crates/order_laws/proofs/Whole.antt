@@ -1,11 +1,11 @@
 -- The subprograms of a typed program whose resolved code is as the grammar has it, and in which each declaration
 -- of an object has a number of its own.
-use Rattle.std.proofs.Common.{◌≡◌, refl, sym, ap, ◌∙◌, subst, inl, inr, ℕ, zero, suc, ◌+◌, ◌<◌, true, false, not, ◌&&◌, List, [], ◌∷◌, ◌++◌, map, length, get_or, arith, Some, None, if◌then◌else◌}
+use Rattle.std.proofs.Common.{◌≡◌, refl, sym, ap, ◌∙◌, subst, inl, inr, ℕ, zero, suc, ◌+◌, ◌≤◌, ◌<◌, true, false, not, ◌&&◌, List, [], ◌∷◌, ◌++◌, map, length, get_or, arith, Some, None, if◌then◌else◌}
 use Rattle.std.specs.Prelude.{flat_map, is_some}
 use Rattle.std.specs.List.{AllByRecursion}
 use Rattle.std.proofs.lemmas.List.{length-map}
 use Rattle.spark_base.specs.Lists.{Has}
-use Rattle.spark_base.proofs.Lists.{Has-append_left, Has-map}
+use Rattle.spark_base.proofs.Lists.{Has-append_left, Has-append_right, Has-append_cases, Has-map}
 use Rattle.place_names.specs.declared.act.Mode.{Mode}
 use Rattle.place_names.specs.declared.act.Mode.TheVariants as mode
 use Rattle.resolved_tree.specs.Trees.{Code, Objects, Numbers, Formals, SubBody, Package, PackageBody, If, Branch, Case, When, Loop, While, For, Block, More, code_items}
@@ -21,20 +21,22 @@ use Rattle.type_definitions.specs.Declarations.{code_faults}
 use Rattle.type_definitions.specs.Whole.{outside}
 use Rattle.typed_tree.specs.declared.object.Object.{Object}
 use Rattle.typed_tree.specs.Trees.{TypedCode}
+use Rattle.typed_tree.specs.Trees as typed
 use Rattle.typed_tree.specs.Expressions.{Site}
 use Rattle.typed_tree.specs.Statements.{scope_count}
 use Rattle.typed_tree.specs.Programs.{TypedSub, TypedProgram, DeclaredObject, Home, objects_in, object_of, formals_of, front_formals, local, in_package, package_text, kind_of, entry_kind, program_objects, text_io, site_of, subs_in, elaborated, elaboration, over_units, typed_program}
 use Rattle.flow_paths.specs.Objects.{Typing, object_at, is_formal, is_package_object, is_state}
 use Rattle.flow_paths.specs.Points.{NamedPoint, entry}
 use Rattle.flow_paths.specs.Layout.{laid}
-use Rattle.flow_paths.specs.Laid.{NamedSub, around_body, procedure_end, function_end, sub_temporaries, named_sub, named_subs, all_named, flow_sub, typing_of, flow_typing, flow_program, flow_named}
+use Rattle.flow_paths.specs.Laid.{temporary_object, declared_within, NamedSub, around_body, procedure_end, function_end, sub_temporaries, named_sub, named_subs, all_named, flow_sub, typing_of, flow_typing, flow_program, flow_named}
 use Rattle.flow_paths.specs.Scopes.{is_temporary, is_settled}
 use Rattle.soundness.specs.Typed.{OwnsByShape}
 use Rattle.soundness.specs.Needed.{IsFine, AreFine}
-use Rattle.soundness.proofs.Points.{flow_at, typing_same}
+use Rattle.soundness.proofs.Points.{flow_at}
 use Rattle.scope_laws.specs.Code.{Once, is_formed, body_seen}
 use Rattle.scope_laws.specs.Code as code
 use Rattle.scope_laws.proofs.Lists.{and_first, all_both, all_has}
+use Rattle.scope_laws.proofs.Filled.{temporaries_of, object_before}
 use Rattle.ready_laws.specs.InOrder.{IsBody, names_no_owner, IsInOrder}
 use Rattle.ready_laws.proofs.Subs.{setting_from}
 use Rattle.order_laws.specs.Written.{are_declarations, are_statements, is_procedure, is_unit}
@@ -130,10 +132,33 @@ in_layout s n (first ∷ subs) sub (inl e) =
 in_layout s n (first ∷ subs) sub (inr has) =
     (let later = in_layout s (n + length (sub_temporaries s first)) subs sub has in (later.0, inr later.1))
 
+-- ---- parameters of loops
+
+parameter_within : (c : TypedCode) (x : ℕ) → Has (parameters c) x → Has (declared_within c) x
+unfolding parameters declared_within
+parameter_within (typed.If branches otherwise) x has = elim (Has-append_cases (parameters branches) (parameters otherwise) x has) [
+  | inl here ↦ Has-append_left (declared_within branches) (declared_within otherwise) x (parameter_within branches x here)
+  | inr more ↦ Has-append_right (declared_within branches) (declared_within otherwise) x (parameter_within otherwise x more)
+]
+parameter_within (typed.More a rest) x has = elim (Has-append_cases (parameters a) (parameters rest) x has) [
+  | inl here ↦ Has-append_left (declared_within a) (declared_within rest) x (parameter_within a x here)
+  | inr more ↦ Has-append_right (declared_within a) (declared_within rest) x (parameter_within rest x more)
+]
+parameter_within (typed.Branch p e stmts) x has = parameter_within stmts x has
+parameter_within (typed.Case p e whens) x has = parameter_within whens x has
+parameter_within (typed.When choices stmts) x has = parameter_within stmts x has
+parameter_within (typed.Loop stmts) x has = parameter_within stmts x has
+parameter_within (typed.While p e stmts) x has = parameter_within stmts x has
+parameter_within (typed.For p y reversed low high stmts) x (inl same) = inl same
+parameter_within (typed.For p y reversed low high stmts) x (inr has) = inr (parameter_within stmts x has)
+parameter_within (typed.Block n stmts end) x has = parameter_within stmts x has
+parameter_within _ x has = absurd has
+
+-- ---- the program
+
 module _ (table : Table) (known : Known) (units : List Code) (written : (u : Code) → Has units u → is_unit u ≡ true)
     (once : Once (map number_of (program_objects known units)))
-    (owns : OwnsByShape table) (fine : AreFine (flow_program table (typed_program known units)))
-    (objects : (flow_program table (typed_program known units)).objects ≡ (typed_program known units).objects) where
+    (owns : OwnsByShape table) (fine : AreFine (flow_program table (typed_program known units))) where
   abbrev program : TypedProgram
   program = typed_program known units
 
@@ -175,6 +200,17 @@ module _ (table : Table) (known : Known) (units : List Code) (written : (u : Cod
       subst (λ (z : TypedSub). (is_placed z.body ≡ true) × (is_formed false z.body ≡ true)) b.is
       (typed_body_written _ (b.scope + 1) b.items b.stmts b.declarations b.statements)
 
+  numbered : (sub : TypedSub) → Has bodies sub → (x : ℕ) → Has (code.objects_of sub) x → (1 ≤ x) × (x < length own.objects)
+  numbered sub has x there =
+      let os = body_objects units site all sub (body sub has) in
+      let within = part_numbers_within site all refl once os.0 os.2 x (subst (λ xs. Has xs x) os.1 there) in
+      (within.0, subst (λ n. x < n) (sym (ap length objects_are ∙ counted all)) within.1)
+
+  -- an object of the text is as the layout has it
+  laid_same : (x : ℕ) → x < length program.objects → object_at (flow_typing (flow_program table program)) x ≡ object_at own x
+  unfolding flow_program
+  laid_same x less = object_before program.objects (map temporary_object (temporaries_of (flow_named table program))) x text_io less
+
   -- the parameters of loops are of scalar types, since their bounds are set
   scalar : (sub : TypedSub) → Has bodies sub → (x : ℕ) → Has (parameters sub.body) x → is_scalar (full table (object_at own x).of) ≡ true
   unfolding flow_program
@@ -191,7 +227,8 @@ module _ (table : Table) (known : Known) (units : List Code) (written : (u : Cod
       fine (flow_sub own named) (Has-map (flow_sub own) (flow_named table program) named in_named) (flow_at own named p)
       (Has-map (λ (q : NamedPoint). flow_at own named q) named.points p in_points) in
       let start = subst (IsFine (flow_typing (flow_program table program)) sub.result) found.5 text in
-      sym (ap (λ (z : Typing). is_scalar (full z.table (object_at z x).of)) (typing_same table program objects)) ∙ start.0
+      let less = (numbered sub has x (Has-append_right sub.formals (declared_within sub.body) x (parameter_within sub.body x parameter))).1 in
+      sym (ap (λ (o : Object). is_scalar (full table o.of)) (laid_same x less)) ∙ start.0
 
   settled : (sub : TypedSub) → Has bodies sub → is_settled own sub.body ≡ true
   settled sub has = settled_from own lasting sub.body (placed sub has).0 (λ x there. scalar_silent own owns x (lasting x) (scalar sub has x there))
@@ -204,8 +241,7 @@ module _ (table : Table) (known : Known) (units : List Code) (written : (u : Cod
         record {
           settled = settled sub has;
           once = subst Once (sym os.1) (part_numbers_once site all refl once os.0 os.2);
-          numbered = λ x there. (let within = part_numbers_within site all refl once os.0 os.2 x (subst (λ xs. Has xs x) os.1 there) in
-              (within.0, subst (λ n. x < n) (sym (ap length objects_are ∙ counted all)) within.1));
+          numbered = numbered sub has;
         },
         λ x there. (let o = part_object site all refl once os.0 os.2 x (subst (λ xs. Has xs x) os.1 there) in
             ap (λ us. is_some (get_or us x text_io).«package» && not (is_state (get_or us x text_io).kind)) objects_are

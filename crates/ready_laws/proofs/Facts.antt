@@ -139,6 +139,11 @@ pub record IsPlainCall (program : FlowProgram) (owns : OwnsByShape (flow_typing 
   pub formals : ArePlain (flow_typing program) owns (sub_of program n).formals
   pub actuals_stay : AreActuals (flow_typing program) (sub_of program n).formals actuals
 
+abbrev pub ArePlainCalls : (program : FlowProgram) → OwnsByShape (flow_typing program).table → Type 0
+ArePlainCalls program owns =
+    (sub : FlowSub) → Has program.subs sub → (p : FlowPoint) → Has sub.points p → (n : ℕ) (actuals : TypedTree) (result : Option ℕ)
+    → p.instr ≡ Call n actuals result → IsPlainCall program owns n actuals
+
 -- Of what is called, be it a procedure or a function: formals are known as such and are of scalar types.
 pub record IsScalarCall (program : FlowProgram) (owns : OwnsByShape (flow_typing program).table) (n : ℕ) (actuals : TypedTree) : Type 0 where
   pub known : (x : ℕ) → Has (sub_of program n).formals x → is_formal (flow_typing program) x ≡ true

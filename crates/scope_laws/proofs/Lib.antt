@@ -5,7 +5,7 @@ pub mod Successors
 -- objects and scopes
 pub mod Ordered
 pub mod Seen
--- temporaries in scope
+-- temporaries in scope, and what is so beside them
 pub mod Supplied
 pub mod Left
 pub mod Filled
