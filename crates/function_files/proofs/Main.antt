@@ -1,6 +1,6 @@
 -- Parsed files that call functions with scalar results are ready where they have no reports. So their runs are
 -- sound, no leak check fails in them that is excused, and with null in moved places they give the same.
-use Rattle.std.proofs.Common.{◌≡◌, refl, sym, ap, ◌∙◌, subst, inr, ℕ, suc, true, false, List, [], ◌∷◌, ◌++◌, map, length, get_or, Option, Some, None, is_some}
+use Rattle.std.proofs.Common.{◌≡◌, refl, sym, ap, ◌∙◌, subst, inr, ℕ, suc, true, List, [], ◌∷◌, ◌++◌, map, length, get_or, None, is_some}
 use Rattle.spark_base.specs.Lists.{Has}
 use Rattle.spark_base.proofs.Lists.{Has-map}
 use Rattle.ada_lexer.specs.Tokens.{Cut}
@@ -14,13 +14,11 @@ use Rattle.type_definitions.specs.Types.{Table, shape_of, full, is_scalar, words
 use Rattle.type_definitions.specs.declared.table.Shape.TheVariants as shape
 use Rattle.type_definitions.specs.Entries.{integer, boolean}
 use Rattle.type_definitions.specs.Whole.{known_of, type_fault}
-use Rattle.typed_tree.specs.Trees.{TypedTree}
 use Rattle.typed_tree.specs.Programs.{TypedSub, typed_program, site_of, elaboration}
 use Rattle.flow_paths.specs.declared.report.Effects.{Effects}
-use Rattle.flow_paths.specs.Instructions.{Call}
 use Rattle.flow_paths.specs.Objects.{Typing, Signature, sub_at}
-use Rattle.flow_paths.specs.Points.{NamedPoint, FlowPoint}
-use Rattle.flow_paths.specs.Laid.{FlowSub, FlowProgram, NamedSub, signature, elaborated, named_subs, unnumbered, elaboration_points, typing_of, flow_typing, flow_named, flow_program}
+use Rattle.flow_paths.specs.Points.{NamedPoint}
+use Rattle.flow_paths.specs.Laid.{FlowSub, FlowProgram, signature, elaborated, named_subs, typing_of, flow_typing, flow_named, flow_program}
 use Rattle.flow_paths.specs.Effects.{AreEffects}
 use Rattle.flow_paths.specs.Reports.{AreReports}
 use Rattle.machine.specs.States.{sub_of}
