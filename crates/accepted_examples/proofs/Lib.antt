@@ -1,5 +1,8 @@
 mod Naming
 mod Typing
+mod Lowering
 mod Quiet
+mod Unreported
 pub mod Small
 pub mod Sound
+pub mod Observed

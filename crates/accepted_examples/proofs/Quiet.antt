@@ -43,15 +43,15 @@ empty = []
 none≢some : {A : Type 0} {x : A} → None ≡ Some x → ⊥
 none≢some e = cc
 
-left_of : (a b : Bool) → a && b ≡ true → a ≡ true
+pub left_of : (a b : Bool) → a && b ≡ true → a ≡ true
 left_of true b e = refl
 left_of false b e = absurd (true≢false (sym e))
 
-right_of : (a b : Bool) → a && b ≡ true → b ≡ true
+pub right_of : (a b : Bool) → a && b ≡ true → b ≡ true
 right_of true b e = e
 right_of false b e = absurd (true≢false (sym e))
 
-isnt : (a : Bool) → not a ≡ true → a ≡ false
+pub isnt : (a : Bool) → not a ≡ true → a ≡ false
 isnt true e = absurd (true≢false (sym e))
 isnt false e = refl
 
@@ -87,7 +87,7 @@ dead true true d wrong e = absurd (true≢false wrong)
 dead true false d wrong e = e
 dead false r d wrong e = e
 
-any_none : {A : Type 0} (f : A → Bool) (xs : List A) → ((x : A) → Has xs x → f x ≡ false) → list_any f xs ≡ false
+pub any_none : {A : Type 0} (f : A → Bool) (xs : List A) → ((x : A) → Has xs x → f x ≡ false) → list_any f xs ≡ false
 any_none f [] all = refl
 any_none f (x ∷ rest) all = both (f x) (list_any f rest) (all x (inl refl)) (any_none f rest (λ y has. all y (inr has)))
   where
@@ -116,7 +116,7 @@ no_reads g p quiet =
     (isnt (reads_text p.instr) (left_of (not (reads_text p.instr)) (not (writes_text p.instr)) (right_of (all_pass calm_placed p.acts) (no_text p) quiet)))
     (calm_none (act_reads g) (λ roots. refl) p.acts (left_of (all_pass calm_placed p.acts) (no_text p) quiet))
 
-at_any : {A : Type 0} (P : A → Type 0) (xs : List A) (d : A) → P d → ((x : A) → Has xs x → P x) → (n : ℕ) → P (get_or xs n d)
+pub at_any : {A : Type 0} (P : A → Type 0) (xs : List A) (d : A) → P d → ((x : A) → Has xs x → P x) → (n : ℕ) → P (get_or xs n d)
 at_any P [] d base all zero = base
 at_any P [] d base all (suc n) = base
 at_any P (x ∷ rest) d base all zero = all x (inl refl)
@@ -168,6 +168,16 @@ no_path points all r path =
     (subst (λ xs. all_pass calm_placed xs ≡ true) path.split (path_calm points all path.last))))))
     path.holds
 
+pub empty_at : (subs : List FlowSub) (n : ℕ) → get_or (map (λ (sub : FlowSub). empty) subs) n [] ≡ []
+empty_at [] zero = refl
+empty_at [] (suc n) = refl
+empty_at (sub ∷ rest) zero = refl
+empty_at (sub ∷ rest) (suc n) = empty_at rest n
+
+pub many : (subs : List FlowSub) → length (map (λ (sub : FlowSub). empty) subs) ≡ length subs
+many [] = refl
+many (sub ∷ rest) = ap suc (many rest)
+
 module _ (program : FlowProgram) (quiet : all_pass is_quiet_sub program.subs ≡ true) where
   abbrev pub nothing : Effects
   nothing = record { read = map (λ (sub : FlowSub). empty) program.subs; written = map (λ (sub : FlowSub). empty) program.subs }
@@ -204,16 +214,6 @@ module _ (program : FlowProgram) (quiet : all_pass is_quiet_sub program.subs ≡
       none r (on_actuals has) = subst (λ xs. Has xs r) aliases has
       none r (on_views sub has view) = no_view sub has r view
       none r (on_paths sub has path) = no_path (path_points program nothing sub) (paths sub has) r path
-
-  empty_at : (subs : List FlowSub) (n : ℕ) → get_or (map (λ (sub : FlowSub). empty) subs) n [] ≡ []
-  empty_at [] zero = refl
-  empty_at [] (suc n) = refl
-  empty_at (sub ∷ rest) zero = refl
-  empty_at (sub ∷ rest) (suc n) = empty_at rest n
-
-  many : (subs : List FlowSub) → length (map (λ (sub : FlowSub). empty) subs) ≡ length subs
-  many [] = refl
-  many (sub ∷ rest) = ap suc (many rest)
 
   never_reads : (p g : ℕ) → Reads program p g → ⊥
   never_reads p g reads =

@@ -1,6 +1,8 @@
-//! A text that the law on runs holds of: lemmas, and nothing else.
+//! Texts that the laws on runs hold of: lemmas, and nothing else.
 //!
 //! `proofs/Small.antt` has a text whose tokens spell a source, which breaks no rule of names and of
 //! types and is of the class of the law. Nothing is reported of it (`Quiet`), so its runs are sound
-//! (`Sound`): the class and acceptance don't contradict each other. Nothing here runs.
+//! (`Sound`): the class and acceptance don't contradict each other. `Observed` has a text with an
+//! observer, and the same of it; that nothing is reported of it is computed along its paths
+//! (`Unreported`). Nothing here runs.
 #![tactic(auto)]

@@ -23,7 +23,7 @@ use Rattle.type_definitions.specs.declared.table.Shape.TheVariants as shape
 use Rattle.type_definitions.specs.Types.{Table, untyped, shape_of, shape_found, meant_type_found}
 use Rattle.type_definitions.specs.Entries.{entry_of, integer, is_type, type_of_entry, type_of_mark, marked}
 use Rattle.type_definitions.specs.Names.{Context}
-use Rattle.type_definitions.specs.Gathered.{gather, each, with_entry, with_indication, with_info, own_info, with_object, object_info, constant_value, indicated, with_number, number_info, initial_value, with_formal, with_formal_group, with_formals, with_result, with_front, with_body_front, profile, front_number, is_subprogram, plain_object, parameter_type, in_subprogram, in_visible, in_hidden, declared_number}
+use Rattle.type_definitions.specs.Gathered.{gather, each, with_entry, with_indication, own_info, with_object, object_info, constant_value, indicated, with_number, number_info, initial_value, with_formal, with_formal_group, with_formals, with_result, with_front, with_body_front, profile, front_number, is_subprogram, plain_object, parameter_type, in_subprogram, in_visible, in_hidden, declared_number}
 use Rattle.type_definitions.specs.Whole.{gather_units}
 use Rattle.gathered_laws.specs.Made.{indicated_numbers, all_numbers, front_numbers, type_numbers}
 use Rattle.typed_points.specs.Meant.{IsIndicated}
@@ -31,10 +31,10 @@ use Rattle.meant_files.specs.Declarations.{Declarations, each_as, group_declarat
 use Rattle.meant_files.specs.Counted.{is_completing, Counts}
 use Rattle.meant_files.specs.Typed.{IsParameterOf, AreIndicated, AreIntegers, AreOf, IsGroupTyped, AreGroupsTyped, IsFrontTyped, AreTyped}
 use Rattle.meant_files.proofs.Lists.{entry_there, entry_other, row_there, row_within, at_most, below_or}
-use Rattle.meant_files.proofs.Given.{counts_has, counts_grow, is_type_kind, kind_class, entry_class, is_put, IsRight, Given, Opened, Places, Goes, goes_both, first_placed, opened, put, put_open, all_given, class_right, indication_given, result_given, Formed, indication_open, group_given, body_class, body_given}
+use Rattle.meant_files.proofs.Given.{counts_has, counts_grow, is_type_kind, kind_class, entry_class, is_put, IsRight, Given, Opened, Goes, goes_both, first_placed, opened, put, put_open, all_given, class_right, indication_given, result_given, indication_open, group_given, body_class, body_given}
 use Rattle.meant_files.proofs.Ranges.{AreFirst, bounds_same}
 use Rattle.meant_files.proofs.Rows.{objects_stay as rows_stay, row_stays}
-use Rattle.meant_files.proofs.Stays.{Without, Quiet, stays, objects_stay, numbers_stay, names_stay, group_stays, groups_stay}
+use Rattle.meant_files.proofs.Stays.{Without, Quiet, stays, objects_stay, numbers_stay, names_stay, groups_stay}
 use Rattle.steady_types.specs.Alike.{AreAlike}
 use Rattle.steady_types.specs.Steady.{IsSteady, AreSteady}
 

@@ -1,6 +1,6 @@
 -- Expressions without calls give the same in memories that agree, and what they move is gone in
 -- both.
-use Rattle.std.proofs.Common.{◌≡◌, refl, sym, ap, ◌∙◌, subst, inl, inr, ℕ, suc, ◌+◌, Bool, true, false, List, [], ◌∷◌, ◌++◌, length, append-nil, if◌then◌else◌}
+use Rattle.std.proofs.Common.{◌≡◌, refl, sym, ap, ◌∙◌, subst, inl, inr, ℕ, suc, ◌+◌, Bool, true, false, List, [], ◌∷◌, ◌++◌, drop, get_or, length, append-nil, if◌then◌else◌}
 use Rattle.std.specs.Prelude.{nat_le}
 use Rattle.place_names.specs.declared.act.Act.TheVariants as act
 use Rattle.place_names.specs.declared.fact.Fact.{Fact}
@@ -10,7 +10,7 @@ use Rattle.type_definitions.specs.Types.{shape_of, is_owning, parts}
 use Rattle.typed_tree.specs.Trees.{TypedTree, Number, Literal, Name, Call, EndOfFile, Parens, Unary, Binary, Short, IsNull, Aggregate, Alike, New, NoMore, More}
 use Rattle.typed_tree.specs.Trees as typed
 use Rattle.flow_paths.specs.Objects.{object_at}
-use Rattle.flow_paths.specs.Names.{has_call, name_of}
+use Rattle.flow_paths.specs.Names.{has_call, waiting, name_of}
 use Rattle.flow_paths.specs.Acts.{used, acts_in}
 use Rattle.machine.specs.Words.{default, fits_type}
 use Rattle.machine.specs.Words as machine
@@ -29,15 +29,15 @@ use Rattle.typed_laws.specs.Needed.{Stays, Leads, Gives, GivesParts, GivesFirst,
 use Rattle.soundness.proofs.Near.{named_near, near_along}
 use Rattle.soundness.proofs.Walks.{way_along, Walked}
 use Rattle.soundness.proofs.Scalars.{allows_both, acts, acts_append, read_way, number_along, named_along}
-use Rattle.soundness.proofs.Stays.{Goes, steps_quiet}
-use Rattle.soundness.proofs.Waits.{or_both}
-use Rattle.soundness.proofs.Evaluated.{Keeps, Ready, Given, regrouped, live_trunk, checked_given, evaluated}
+use Rattle.soundness.proofs.Taking.{Takes, takes_as, takes_both, no_takes, TakesPlainly, both_plainly, nothing_more}
+use Rattle.soundness.proofs.Stays.{Goes, steps_taking}
+use Rattle.soundness.proofs.Evaluated.{Keeps, Ready, GivenOn, regrouped, live_trunk, checked_on, evaluated_on}
 use Rattle.null_places.specs.Compares.{Compares}
 use Rattle.null_places.proofs.Memories.{NoneGone, words_agree, moved_agree, made_agree, room_agree, count_agree}
 use Rattle.null_places.proofs.Only.{OnlyOwners, made_only}
 use Rattle.null_places.proofs.Places.{spot_whole, plain_whole, unmoved_whole, moved_only}
 use Rattle.null_places.proofs.Walks.{SameNow, SameTo, then_same, simply}
-use Rattle.null_places.proofs.Scalars.{copy_same, place_then, scalar_same, steps_same}
+use Rattle.null_places.proofs.Scalars.{copy_same, place_then, scalar_on, steps_on}
 
 module _ (h : Here) (settled : IsSettled h.typing.table) (leaks : List Leak) (waits : List (List machine.Word)) (other : Way → Type 0)
     (alone : (w : Way) → IsNear h.frame w → other w → ⊥) (keeps : Keeps h.typing)
@@ -46,8 +46,8 @@ module _ (h : Here) (settled : IsSettled h.typing.table) (leaks : List Leak) (wa
   abbrev ReadyIn : Memory → List Waiting → List Fact → Type 0
   ReadyIn m hands facts = Ready h settled leaks waits other alone keeps no_formals index_law own_law all_named m hands facts
 
-  abbrev GivenIn : ℕ → List Waiting → List Fact → Evaluated (List machine.Word) → Type 0
-  GivenIn want hands facts x = Given h settled leaks waits other alone keeps no_formals index_law own_law all_named want hands facts x
+  abbrev GivenIn : List (List machine.Word) → ℕ → List Waiting → List Fact → Evaluated (List machine.Word) → Type 0
+  GivenIn on want hands facts x = GivenOn h settled leaks waits other alone keeps no_formals index_law own_law all_named on want hands facts x
 
   abbrev Same : {A : Type 0} → Evaluated A → Evaluated A → Type 0
   Same x y = SameTo h.typing x y
@@ -80,23 +80,23 @@ module _ (h : Here) (settled : IsSettled h.typing.table) (leaks : List Leak) (wa
   -- ---- names
 
   module _ (m : Memory) (hands : List Waiting) (facts : List Fact) (ready : ReadyIn m hands facts) (only : OnlyOwners h.typing m) (x : ℕ) (steps : TypedTree) (t : ℕ) where
-    abbrev at : Now
-    at = record { memory = m; waits = waits }
+    abbrev at : List (List machine.Word) → Now
+    at ws = record { memory = m; waits = ws }
 
     abbrev first_way : Way
     first_way = Object (OfVariable (home h.typing h.frame x) x)
 
-    abbrev WalkedTo : List run.Step → Evaluated Place → Type 0
-    WalkedTo way y = Walked h.typing settled hands leaks m waits (way_along way first_way) t y
+    abbrev WalkedTo : List (List machine.Word) → List run.Step → Evaluated Place → Type 0
+    WalkedTo on way y = Walked h.typing settled hands leaks m on (way_along way first_way) t y
 
     -- what a place has is taken, where its type owns
-    owner_same : is_owning h.typing.table t ≡ true → Allows facts (act.Move (name_of x steps) (parts h.typing.table t))
-        → (way : List run.Step) → Goes h.typing.table (object_at h.typing x).of t steps way → (k : Place) (n n' : Now) → WalkedTo way (Done k n) → SameNow h.typing n n'
+    owner_same : (on : List (List machine.Word)) → is_owning h.typing.table t ≡ true → Allows facts (act.Move (name_of x steps) (parts h.typing.table t))
+        → (way : List run.Step) → Goes h.typing.table (object_at h.typing x).of t steps way → (k : Place) (n n' : Now) → WalkedTo on way (Done k n) → SameNow h.typing n n'
         → Same (held_or_taken h AsValue k n) (held_or_taken h AsValue k n')
-    owner_same owns allowed way goes k n n' (l, is, spot, reaches, of) same =
+    owner_same on owns allowed way goes k n n' (l, is, spot, reaches, of) same =
         subst (λ z. SameNow h.typing z n' → SameTo h.typing (taken h k z) (taken h k n')) (sym is) (λ now. (
           words_agree h.typing m n'.memory now.0 k none,
-          subst (λ b. SameNow h.typing (if b then record at { memory = moved_out h.typing k m } else at) (if b then record n' { memory = moved_out h.typing k n'.memory } else n'))
+          subst (λ b. SameNow h.typing (if b then record (at on) { memory = moved_out h.typing k m } else (at on)) (if b then record n' { memory = moved_out h.typing k n'.memory } else n'))
               (sym (ap (is_owning h.typing.table) of ∙ owns))
               (moved_agree h.typing k m n'.memory now.0, now.1, moved_only h.typing settled m hands only ready.kept k l spot),
         )) same
@@ -126,131 +126,150 @@ module _ (h : Here) (settled : IsSettled h.typing.table) (leaks : List Leak) (wa
             (named_rooted (home h.typing h.frame) w named) reaches) clean)
 
     -- a copy of what doesn't own
-    plain_same : is_owning h.typing.table t ≡ false → (way : List run.Step) → (k : Place) (n n' : Now) → WalkedTo way (Done k n) → SameNow h.typing n n'
+    plain_same : (on : List (List machine.Word)) → is_owning h.typing.table t ≡ false → (way : List run.Step) → (k : Place) (n n' : Now) → WalkedTo on way (Done k n) → SameNow h.typing n n'
         → Same (held_or_taken h AsValue k n) (held_or_taken h AsValue k n')
-    plain_same plain way k n n' (l, is, spot, reaches, of) same =
+    plain_same on plain way k n n' (l, is, spot, reaches, of) same =
         let own : is_owning h.typing.table k.of ≡ false = ap (is_owning h.typing.table) of ∙ plain in
         copy_same h k n n' (subst (λ (z : Now). NoneGone (slots_of h.typing z.memory k)) (sym is)
         (spot_whole h.typing settled m hands only ready.kept k l spot (plain_whole h.typing settled m hands k l spot (keeps.ownerless k.of own)))) own same
 
     -- a name that is moved, or read
-    name_by : (lead : Leads h.typing (object_at h.typing x).of steps t) → has_call steps ≡ false → Compares h.typing steps
+    name_by : (before on : List (List machine.Word)) (lead : Leads h.typing (object_at h.typing x).of steps t) → Takes (waiting steps) before on → Compares h.typing steps
         → AllowsAll facts (acts (acts_in h.typing steps)) → Allows facts (used h.typing (name_of x steps) t) → (b : Bool) → is_owning h.typing.table t ≡ b
-        → (n' : Now) → SameNow h.typing at n'
-        → Same (followed_by (steps_of h steps at) (λ way now. followed_by (walked h.typing way (variable_place h x) now) (held_or_taken h AsValue)))
+        → (n' : Now) → SameNow h.typing (at before) n'
+        → Same (followed_by (steps_of h steps (at before)) (λ way now. followed_by (walked h.typing way (variable_place h x) now) (held_or_taken h AsValue)))
         (followed_by (steps_of h steps n') (λ way now. followed_by (walked h.typing way (variable_place h x) now) (held_or_taken h AsValue)))
-    name_by lead calls compares allowed mine true owns n' same =
+    name_by before on lead takes compares allowed mine true owns n' same =
         let is : used h.typing (name_of x steps) t ≡ act.Move (name_of x steps) (parts h.typing.table t) =
         ap (λ b. if b then act.Move (name_of x steps) (parts h.typing.table t) else act.Read (name_of x steps)) owns in
         let moves : Allows facts (act.Move (name_of x steps) (parts h.typing.table t)) = subst (Allows facts) is mine in
         let live = live_trunk h settled leaks waits other alone keeps no_formals index_law own_law all_named m hands ready.sound.owned in
-        place_then h settled hands leaks m waits other facts ready.kept ready.sound alone live index_law own_law all_named only x t steps
+        place_then h settled hands leaks m waits other facts ready.kept ready.sound alone live index_law own_law all_named only before on x t steps
         (held_or_taken h AsValue) (held_or_taken h AsValue)
         (λ w named same_name v past moved. move_way (home h.typing h.frame) facts w (parts h.typing.table t)
         (subst (λ z. Allows facts (act.Move z (parts h.typing.table t))) (sym same_name) moves) v past moved)
-        (steps_quiet h settled hands leaks m waits other facts ready.kept ready.sound alone live index_law own_law all_named (object_at h.typing x).of t steps lead calls allowed).0
-        n' (steps_same h settled hands leaks m waits other facts ready.kept ready.sound alone live index_law own_law all_named only
-        (object_at h.typing x).of t steps lead calls compares allowed n' same)
-        (owner_same owns moves)
-    name_by lead calls compares allowed mine false owns n' same =
+        (steps_taking h settled hands leaks m waits other facts ready.kept ready.sound alone live index_law own_law all_named (object_at h.typing x).of t steps lead before on takes allowed).0
+        n' (steps_on h settled hands leaks m waits other facts ready.kept ready.sound alone live index_law own_law all_named only
+        (object_at h.typing x).of t steps lead before on takes compares allowed n' same)
+        (owner_same on owns moves)
+    name_by before on lead takes compares allowed mine false owns n' same =
         let is : used h.typing (name_of x steps) t ≡ act.Read (name_of x steps) =
         ap (λ b. if b then act.Move (name_of x steps) (parts h.typing.table t) else act.Read (name_of x steps)) owns in
         let reads : Allows facts (act.Read (name_of x steps)) = subst (Allows facts) is mine in
         let live = live_trunk h settled leaks waits other alone keeps no_formals index_law own_law all_named m hands ready.sound.owned in
-        place_then h settled hands leaks m waits other facts ready.kept ready.sound alone live index_law own_law all_named only x t steps
+        place_then h settled hands leaks m waits other facts ready.kept ready.sound alone live index_law own_law all_named only before on x t steps
         (held_or_taken h AsValue) (held_or_taken h AsValue)
         (λ w named same_name v past moved. read_way (home h.typing h.frame) facts w (subst (λ z. Allows facts (act.Read z)) (sym same_name) reads) v past moved)
-        (steps_quiet h settled hands leaks m waits other facts ready.kept ready.sound alone live index_law own_law all_named (object_at h.typing x).of t steps lead calls allowed).0
-        n' (steps_same h settled hands leaks m waits other facts ready.kept ready.sound alone live index_law own_law all_named only
-        (object_at h.typing x).of t steps lead calls compares allowed n' same)
-        (λ way goes. plain_same owns way)
+        (steps_taking h settled hands leaks m waits other facts ready.kept ready.sound alone live index_law own_law all_named (object_at h.typing x).of t steps lead before on takes allowed).0
+        n' (steps_on h settled hands leaks m waits other facts ready.kept ready.sound alone live index_law own_law all_named only
+        (object_at h.typing x).of t steps lead before on takes compares allowed n' same)
+        (λ way goes. plain_same on owns way)
 
   -- ---- all together
 
-  scalar_value : (e : TypedTree) → Stays h.typing e → has_call e ≡ false → Compares h.typing e → (m : Memory) (hands : List Waiting) (facts : List Fact)
-      → ReadyIn m hands facts → AllowsAll facts (acts (acts_in h.typing e)) → OnlyOwners h.typing m → (n' : Now) → SameNow h.typing (record { memory = m; waits = waits }) n'
-      → Same (evaluate h AsValue e (record { memory = m; waits = waits })) (evaluate h AsValue e n')
-  scalar_value e stays calls compares m hands facts ready allowed only n' same =
+  scalar_value : (e : TypedTree) → Stays h.typing e → (before on : List (List machine.Word)) → Takes (waiting e) before on → Compares h.typing e
+      → (m : Memory) (hands : List Waiting) (facts : List Fact)
+      → ReadyIn m hands facts → AllowsAll facts (acts (acts_in h.typing e)) → OnlyOwners h.typing m → (n' : Now) → SameNow h.typing (record { memory = m; waits = before }) n'
+      → Same (evaluate h AsValue e (record { memory = m; waits = before })) (evaluate h AsValue e n')
+  scalar_value e stays before on takes compares m hands facts ready allowed only n' same =
       let live = live_trunk h settled leaks waits other alone keeps no_formals index_law own_law all_named m hands ready.sound.owned in
-      scalar_same h settled hands leaks m waits other facts ready.kept ready.sound alone live index_law own_law all_named only AsValue e stays calls compares allowed n' same
+      scalar_on h settled hands leaks m waits other facts ready.kept ready.sound alone live index_law own_law all_named only AsValue e stays before on takes compares allowed n' same
 
   mutual
-    unfolding Gives GivesParts GivesFirst Stays Compares evaluate initial parts_of acts_in has_call
+    unfolding Gives GivesParts GivesFirst Stays Compares evaluate initial parts_of acts_in has_call waiting
 
-    pub value_same : (e : TypedTree) (want : ℕ) → Gives h.typing want e → has_call e ≡ false → Compares h.typing e
+    pub value_on : (e : TypedTree) (want : ℕ) → Gives h.typing want e → TakesPlainly h.typing (has_call e) → (before on : List (List machine.Word))
+        → Takes (waiting e) before on → Compares h.typing e
         → (m : Memory) (hands : List Waiting) (facts : List Fact) → ReadyIn m hands facts → AllowsAll facts (acts (acts_in h.typing e)) → OnlyOwners h.typing m
-        → (n' : Now) → SameNow h.typing (record { memory = m; waits = waits }) n'
-        → Same (evaluate h AsValue e (record { memory = m; waits = waits })) (evaluate h AsValue e n')
-    value_same (Number v) want scalar calls compares m hands facts ready allowed only n' same = (refl, same)
-    value_same (Literal v) want scalar calls compares m hands facts ready allowed only n' same = (refl, same)
-    value_same EndOfFile want scalar calls compares m hands facts ready allowed only n' same = (refl, same)
-    value_same typed.Null want one calls compares m hands facts ready allowed only n' same = (refl, same)
-    value_same (Parens e) want gives calls compares m hands facts ready allowed only n' same =
-        value_same e want gives calls compares m hands facts ready allowed only n' same
-    value_same (Unary op e) want (scalar, stays) calls compares m hands facts ready allowed only n' same =
-        scalar_value (Unary op e) stays calls compares m hands facts ready allowed only n' same
-    value_same (Binary op a b) want (scalar, stays, stays') calls compares m hands facts ready allowed only n' same =
-        scalar_value (Binary op a b) (stays, stays') calls compares m hands facts ready allowed only n' same
-    value_same (Short op p a q b) want (scalar, stays, stays') calls compares m hands facts ready allowed only n' same =
-        scalar_value (Short op p a q b) (stays, stays') calls compares m hands facts ready allowed only n' same
-    value_same (IsNull equal e) want (scalar, stays) calls compares m hands facts ready allowed only n' same =
-        scalar_value (IsNull equal e) stays calls compares m hands facts ready allowed only n' same
-    value_same (Name p x steps t) want (lead, fits) calls compares m hands facts ready allowed only n' same =
+        → (n' : Now) → SameNow h.typing (record { memory = m; waits = before }) n'
+        → Same (evaluate h AsValue e (record { memory = m; waits = before })) (evaluate h AsValue e n')
+    value_on (Number v) want scalar calls before on takes compares m hands facts ready allowed only n' same = (refl, same)
+    value_on (Literal v) want scalar calls before on takes compares m hands facts ready allowed only n' same = (refl, same)
+    value_on EndOfFile want scalar calls before on takes compares m hands facts ready allowed only n' same = (refl, same)
+    value_on typed.Null want one calls before on takes compares m hands facts ready allowed only n' same = (refl, same)
+    value_on (Parens e) want gives calls before on takes compares m hands facts ready allowed only n' same =
+        value_on e want gives calls before on takes compares m hands facts ready allowed only n' same
+    value_on (Unary op e) want (scalar, stays) calls before on takes compares m hands facts ready allowed only n' same =
+        scalar_value (Unary op e) stays before on takes compares m hands facts ready allowed only n' same
+    value_on (Binary op a b) want (scalar, stays, stays') calls before on takes compares m hands facts ready allowed only n' same =
+        scalar_value (Binary op a b) (stays, stays') before on takes compares m hands facts ready allowed only n' same
+    value_on (Short op p a q b) want (scalar, stays, stays') calls before on takes compares m hands facts ready allowed only n' same =
+        scalar_value (Short op p a q b) (stays, stays') before on takes compares m hands facts ready allowed only n' same
+    value_on (IsNull equal e) want (scalar, stays) calls before on takes compares m hands facts ready allowed only n' same =
+        scalar_value (IsNull equal e) stays before on takes compares m hands facts ready allowed only n' same
+    value_on (Name p x steps t) want (lead, fits) calls before on takes compares m hands facts ready allowed only n' same =
         let name : PlaceName = name_of x steps in
         let live = live_trunk h settled leaks waits other alone keeps no_formals index_law own_law all_named m hands ready.sound.owned in
         let each = allows_both facts (acts (acts_in h.typing steps)) (used h.typing name t ∷ [])
         (subst (AllowsAll facts) (acts_append (acts_in h.typing steps) (record { pos = p; act = used h.typing name t } ∷ [])) allowed) in
-        let inner = steps_quiet h settled hands leaks m waits other facts ready.kept ready.sound alone live index_law own_law all_named
-        (object_at h.typing x).of t steps lead calls each.0 in
-        name_by m hands facts ready only x steps t lead calls compares each.0
+        let inner = steps_taking h settled hands leaks m waits other facts ready.kept ready.sound alone live index_law own_law all_named
+        (object_at h.typing x).of t steps lead before on takes each.0 in
+        name_by m hands facts ready only x steps t before on lead takes compares each.0
         (subst (λ z. Allows z (used h.typing name t)) inner.1 each.1.0) (is_owning h.typing.table t) refl n' same
-    value_same (New t (More e rest)) want (d, c, n, is, fits, (none, gives)) calls compares m hands facts ready allowed only n' same =
+    value_on (New t (More e rest)) want (d, c, n, is, fits, (none, gives)) calls before on takes compares m hands facts ready allowed only n' same =
         let acts_same : acts_in h.typing e ++ acts_in h.typing rest ≡ acts_in h.typing e = ap (λ z. acts_in h.typing e ++ acts_in h.typing z) none ∙ append-nil (acts_in h.typing e) in
-        let now : Now = record { memory = m; waits = waits } in
+        let alone_there : waiting e + waiting rest ≡ waiting e = ap (λ z. waiting e + waiting z) none ∙ nothing_more (waiting e) in
+        let now : Now = record { memory = m; waits = before } in
         allocated_same t (followed_by (evaluate h AsValue e now) (checked h t)) (followed_by (evaluate h AsValue e n') (checked h t))
         (checked_same t (evaluate h AsValue e now) (evaluate h AsValue e n')
-        (value_same e t gives (or_both (has_call e) (has_call rest) calls).0 compares.0 m hands facts ready (subst (λ z. AllowsAll facts (acts z)) acts_same allowed) only n' same))
-    value_same (New t NoMore) want (d, c, n, is, fits, none) calls compares m hands facts ready allowed only n' same =
-        allocated_same t (Done (default h.typing.table t) (record { memory = m; waits = waits })) (Done (default h.typing.table t) n') (refl, same)
-    value_same (New t v) want (d, c, n, is, fits, none) calls compares m hands facts ready allowed only n' same = absurd none
-    value_same (Aggregate t es) want (fits, made, count, gives) calls compares m hands facts ready allowed only n' same =
-        parts_same es t 0 gives calls compares m hands facts ready allowed only n' same
-    value_same (Alike t e) want (fits, array, plain, gives) calls compares m hands facts ready allowed only n' same =
-        let now : Now = record { memory = m; waits = waits } in
+        (value_on e t gives (both_plainly h.typing (has_call e) (has_call rest) calls).0 before on (takes_as (waiting e + waiting rest) (waiting e) before on alone_there takes)
+        compares.0 m hands facts ready (subst (λ z. AllowsAll facts (acts z)) acts_same allowed) only n' same))
+    value_on (New t NoMore) want (d, c, n, is, fits, none) calls before on takes compares m hands facts ready allowed only n' same =
+        allocated_same t (Done (default h.typing.table t) (record { memory = m; waits = before })) (Done (default h.typing.table t) n') (refl, same)
+    value_on (New t v) want (d, c, n, is, fits, none) calls before on takes compares m hands facts ready allowed only n' same = absurd none
+    value_on (Aggregate t es) want (fits, made, count, gives) calls before on takes compares m hands facts ready allowed only n' same =
+        parts_same es t 0 gives calls before on takes compares m hands facts ready allowed only n' same
+    value_on (Alike t e) want (fits, array, plain, gives) calls before on takes compares m hands facts ready allowed only n' same =
+        let now : Now = record { memory = m; waits = before } in
         let el : ℕ = machine.element_type h.typing.table t in
         let repeats : List machine.Word → Now → Evaluated (List machine.Word) = (λ ws n. Done (machine.repeated (machine.element_count h.typing.table t) ws) n) in
         subst (λ z. SameTo h.typing z (evaluate h AsValue (Alike t e) n')) (regrouped (evaluate h AsValue e now) (checked h el) repeats)
         (subst (SameTo h.typing (followed_by (followed_by (evaluate h AsValue e now) (checked h el)) repeats)) (regrouped (evaluate h AsValue e n') (checked h el) repeats)
         (simply h.typing (followed_by (evaluate h AsValue e now) (checked h el)) (followed_by (evaluate h AsValue e n') (checked h el)) repeats repeats
-        (checked_same el (evaluate h AsValue e now) (evaluate h AsValue e n') (value_same e el gives calls compares m hands facts ready allowed only n' same))
+        (checked_same el (evaluate h AsValue e now) (evaluate h AsValue e n') (value_on e el gives calls before on takes compares m hands facts ready allowed only n' same))
         (λ ws n n'' last. (refl, last))))
-    value_same (Call p sub actuals) want gives calls compares m hands facts ready allowed only n' same = cc
-    value_same e want gives calls compares m hands facts ready allowed only n' same = absurd gives
+    -- the result of a function waits
+    value_on (Call p sub actuals) want gives calls before on takes compares m hands facts ready allowed only n' same = (
+      ap (λ ws. get_or ws 0 []) same.1,
+      (same.0, ap (drop 1) same.1, same.2),
+    )
+    value_on e want gives calls before on takes compares m hands facts ready allowed only n' same = absurd gives
 
     -- the parts of an aggregate from the i-th on
-    parts_same : (es : TypedTree) (t i : ℕ) → GivesParts h.typing t i es → has_call es ≡ false → Compares h.typing es
+    parts_same : (es : TypedTree) (t i : ℕ) → GivesParts h.typing t i es → TakesPlainly h.typing (has_call es) → (before on : List (List machine.Word))
+        → Takes (waiting es) before on → Compares h.typing es
         → (m : Memory) (hands : List Waiting) (facts : List Fact) → ReadyIn m hands facts → AllowsAll facts (acts (acts_in h.typing es)) → OnlyOwners h.typing m
-        → (n' : Now) → SameNow h.typing (record { memory = m; waits = waits }) n'
-        → Same (parts_of h t i es (record { memory = m; waits = waits })) (parts_of h t i es n')
-    parts_same (More e rest) t i gives calls compares m hands facts ready allowed only n' same =
-        let now : Now = record { memory = m; waits = waits } in
+        → (n' : Now) → SameNow h.typing (record { memory = m; waits = before }) n'
+        → Same (parts_of h t i es (record { memory = m; waits = before })) (parts_of h t i es n')
+    parts_same (More e rest) t i gives calls before on takes compares m hands facts ready allowed only n' same =
+        let now : Now = record { memory = m; waits = before } in
         let u : ℕ = part_type (shape_of h.typing.table t) i in
-        let both = or_both (has_call e) (has_call rest) calls in
+        let both = both_plainly h.typing (has_call e) (has_call rest) calls in
+        let two = takes_both (waiting e) (waiting rest) before on takes in
         let each = allows_both facts (acts (acts_in h.typing e)) (acts (acts_in h.typing rest))
         (subst (AllowsAll facts) (acts_append (acts_in h.typing e) (acts_in h.typing rest)) allowed) in
         let between : List Fact = after (acts (acts_in h.typing e)) facts in
         let next : List machine.Word → Now → Evaluated (List machine.Word) =
         (λ ws now. followed_by (parts_of h t (suc i) rest now) (λ more now. Done (ws ++ more) now)) in
-        let given = checked_given h settled leaks waits other alone keeps no_formals index_law own_law all_named u u hands between (evaluate h AsValue e now)
-        (evaluated h settled leaks waits other alone keeps no_formals index_law own_law all_named e u gives.0 both.0 m hands facts ready each.0) in
-        let first = checked_same u (evaluate h AsValue e now) (evaluate h AsValue e n') (value_same e u gives.0 both.0 compares.0 m hands facts ready each.0 only n' same) in
+        let given = checked_on h settled leaks waits other alone keeps no_formals index_law own_law all_named two.0 u u hands between (evaluate h AsValue e now)
+        (evaluated_on h settled leaks waits other alone keeps no_formals index_law own_law all_named e u gives.0 both.0 before two.0 two.1 m hands facts ready each.0) in
+        let first = checked_same u (evaluate h AsValue e now) (evaluate h AsValue e n')
+        (value_on e u gives.0 both.0 before two.0 two.1 compares.0 m hands facts ready each.0 only n' same) in
         subst (λ z. SameTo h.typing z (parts_of h t i (More e rest) n')) (regrouped (evaluate h AsValue e now) (checked h u) next)
         (subst (SameTo h.typing (followed_by (followed_by (evaluate h AsValue e now) (checked h u)) next)) (regrouped (evaluate h AsValue e n') (checked h u) next)
-        (then_same h.typing (GivenIn u hands between) (followed_by (evaluate h AsValue e now) (checked h u)) (followed_by (evaluate h AsValue e n') (checked h u)) next next given first
+        (then_same h.typing (GivenIn two.0 u hands between) (followed_by (evaluate h AsValue e now) (checked h u)) (followed_by (evaluate h AsValue e n') (checked h u)) next next given first
         (λ ws n n'' there still. simply h.typing (parts_of h t (suc i) rest n) (parts_of h t (suc i) rest n'') (λ more now. Done (ws ++ more) now) (λ more now. Done (ws ++ more) now)
         (subst (λ z. SameNow h.typing (record { memory = n.memory; waits = z }) n''
         → SameTo h.typing (parts_of h t (suc i) rest (record { memory = n.memory; waits = z })) (parts_of h t (suc i) rest n'')) (sym there.2)
-        (λ so. parts_same rest t (suc i) gives.1 both.1 compares.1 n.memory (record { of = u; words = ws } ∷ hands) between there.0 each.1 still.2 n'' so) still)
+        (λ so. parts_same rest t (suc i) gives.1 both.1 two.0 on two.2 compares.1 n.memory (record { of = u; words = ws } ∷ hands) between there.0 each.1 still.2 n'' so) still)
         (λ more k k' last. (ap (λ z. ws ++ z) refl, last)))))
-    parts_same NoMore t i gives calls compares m hands facts ready allowed only n' same = (refl, same)
-    parts_same es t i gives calls compares m hands facts ready allowed only n' same = absurd gives
+    parts_same NoMore t i gives calls before on takes compares m hands facts ready allowed only n' same = (refl, same)
+    parts_same es t i gives calls before on takes compares m hands facts ready allowed only n' same = absurd gives
+
+  -- without calls
+  pub value_same : (e : TypedTree) (want : ℕ) → Gives h.typing want e → has_call e ≡ false → Compares h.typing e
+      → (m : Memory) (hands : List Waiting) (facts : List Fact) → ReadyIn m hands facts → AllowsAll facts (acts (acts_in h.typing e)) → OnlyOwners h.typing m
+      → (n' : Now) → SameNow h.typing (record { memory = m; waits = waits }) n'
+      → Same (evaluate h AsValue e (record { memory = m; waits = waits })) (evaluate h AsValue e n')
+  value_same e want gives calls compares m hands facts ready allowed only n' same =
+      value_on e want gives (inl calls) waits waits (no_takes e calls waits) compares m hands facts ready allowed only n' same

@@ -1,5 +1,5 @@
 -- Instructions lead to the same in memories that agree.
-use Rattle.std.proofs.Common.{◌≡◌, refl, sym, ap, ◌∙◌, subst, inl, inr, ℕ, Bool, true, false, not, ◌&&◌, List, [], ◌∷◌, ◌++◌, length, nat_lt, append_assoc, append-nil, ℤ, Option, Some, None, if◌then◌else◌}
+use Rattle.std.proofs.Common.{◌≡◌, refl, sym, ap, ◌∙◌, subst, inl, inr, ℕ, ◌+◌, Bool, true, false, not, ◌&&◌, List, [], ◌∷◌, ◌++◌, length, nat_lt, append_assoc, append-nil, ℤ, Option, Some, None, if◌then◌else◌}
 use Rattle.std.specs.Prelude.{int_le}
 use Rattle.spark_base.specs.declared.position.Pos.{Pos}
 use Rattle.place_names.specs.declared.act.Act.{Act}
@@ -13,7 +13,7 @@ use Rattle.type_definitions.specs.Types.{shape_of, full, is_scalar}
 use Rattle.typed_tree.specs.Trees.{TypedTree, TypedCode, Name, NoMore, More}
 use Rattle.flow_paths.specs.Instructions.{Skip, Fall}
 use Rattle.flow_paths.specs.Objects.{Typing, object_at, designated, is_observer}
-use Rattle.flow_paths.specs.Names.{has_call, name_of, whole, first, written, source}
+use Rattle.flow_paths.specs.Names.{has_call, waiting as waits_in, name_of, whole, first, written, source}
 use Rattle.flow_paths.specs.Acts.{acts_in, stored_acts, declared_acts, assigned_to, source_acts, index_acts, reborrow, observe, target_pos as acts_target_pos}
 use Rattle.run_values.specs.declared.items.Item.{Item}
 use Rattle.run_values.specs.declared.items.Item.TheVariants as item
@@ -41,21 +41,21 @@ use Rattle.soundness.proofs.Near.{named_near}
 use Rattle.soundness.proofs.Walks.{way_along}
 use Rattle.soundness.proofs.Steps.{no_leaf}
 use Rattle.soundness.proofs.Scalars.{acts, acts_append, allows_both}
-use Rattle.soundness.proofs.Stays.{Quiet, One, quiet, steps_quiet}
+use Rattle.soundness.proofs.Taking.{Takes, takes_as, no_takes, TakesPlainly, both_plainly, nothing_more}
+use Rattle.soundness.proofs.Stays.{Quiet, One, taking, steps_taking}
 use Rattle.soundness.proofs.Numbers.{index_law}
 use Rattle.soundness.proofs.Lasting.{keeps}
-use Rattle.soundness.proofs.Evaluated.{live_trunk, Ready, Given, checked_given, evaluated}
+use Rattle.soundness.proofs.Evaluated.{live_trunk, Ready, GivenOn, checked_on, evaluated_on}
 use Rattle.soundness.proofs.Freeing.{free_way, switched}
 use Rattle.soundness.proofs.Instructions.{not_anonymous, not_borrower, not_observer}
-use Rattle.soundness.proofs.Waits.{or_both}
 use Rattle.null_places.specs.Agrees.{Agrees, SameState}
 use Rattle.null_places.specs.Compares.{Compares}
 use Rattle.null_places.proofs.Memories.{NoneGone, words_agree, cell_agree, stored_agree, declared_agree, undeclared_agree, freed_agree, given_up_agree, checks_agree}
 use Rattle.null_places.proofs.Only.{OnlyOwners, stored_only, declared_only, undeclared_only, freed_only}
 use Rattle.null_places.proofs.Places.{spot_whole, plain_whole, access_whole}
 use Rattle.null_places.proofs.Walks.{SameNow, SameTo, then_same, simply}
-use Rattle.null_places.proofs.Scalars.{IsPlaced, place_same, scalar_same, text_same, called, named_way}
-use Rattle.null_places.proofs.Evaluated.{checked_same, value_same}
+use Rattle.null_places.proofs.Scalars.{IsPlaced, place_on, scalar_on, text_on, called, named_way}
+use Rattle.null_places.proofs.Evaluated.{checked_same, value_on}
 
 -- Outcomes agree, and where the step goes on, only words that own are gone.
 abbrev pub SameStepBy : Typing → Outcome → Outcome → Type 0
@@ -243,65 +243,74 @@ module _ (t : Turn) (settled : IsSettled (typing t).table) (own_law : OwnsByShap
   ready : Ready h settled t.state.leaks waits other alone (keeps (typing t) settled own_law) no_formals index_law own_law all_named t.state.memory hands facts
   ready = record { sound = sound; kept = kept }
 
-  scalar : (e : TypedTree) → Stays (typing t) e → has_call e ≡ false → Compares (typing t) e → AllowsAll facts (acts (acts_in (typing t) e))
-      → (n' : Now) → SameNow (typing t) at n' → SameTo (typing t) (value h e at) (value h e n')
-  scalar e stays calls compares allowed n' same =
-      scalar_same h settled hands t.state.leaks t.state.memory waits other facts kept sound alone live index_law own_law all_named only AsValue e stays calls compares allowed n' same
+  scalar : (before on : List (List machine.Word)) (e : TypedTree) → Stays (typing t) e → Takes (waits_in e) before on → Compares (typing t) e
+      → AllowsAll facts (acts (acts_in (typing t) e))
+      → (n' : Now) → SameNow (typing t) (record { memory = t.state.memory; waits = before }) n'
+      → SameTo (typing t) (value h e (record { memory = t.state.memory; waits = before })) (value h e n')
+  scalar before on e stays takes compares allowed n' same =
+      scalar_on h settled hands t.state.leaks t.state.memory waits other facts kept sound alone live index_law own_law all_named only AsValue e stays before on takes compares allowed n' same
 
   -- the steps of a name change nothing, and so do their acts
   steps_quiet_there : (i : Now) (hs : List Waiting) (fs : List Fact) (keeps_there : Kept (typing t) i.memory hs)
       → (well : Sound (home (typing t) depth) other (seen (typing t) i.memory hs t.state.leaks) fs)
       → ((w : Way) (l : Loc) → IsRooted w → Reaches (seen (typing t) i.memory hs t.state.leaks) w l → (content (typing t) i.memory hs (trunk l)).owns ≡ true)
-      → (u w : ℕ) (path : TypedTree) → Leads (typing t) u path w → has_call path ≡ false → AllowsAll fs (acts (acts_in (typing t) path))
-      → after (acts (acts_in (typing t) path)) fs ≡ fs
-  steps_quiet_there i hs fs keeps_there well alive u w path lead calls allowed =
-      (steps_quiet h settled hs t.state.leaks i.memory waits other fs keeps_there well alone alive index_law own_law all_named u w path lead calls allowed).1
+      → (u w : ℕ) (path : TypedTree) → Leads (typing t) u path w → (before on : List (List machine.Word)) → Takes (waits_in path) before on
+      → AllowsAll fs (acts (acts_in (typing t) path)) → after (acts (acts_in (typing t) path)) fs ≡ fs
+  steps_quiet_there i hs fs keeps_there well alive u w path lead before on takes allowed =
+      (steps_taking h settled hs t.state.leaks i.memory waits other fs keeps_there well alone alive index_law own_law all_named u w path lead before on takes allowed).1
 
   -- ---- values that are taken
 
-  source_same : (u : ℕ) (e : TypedTree) → Source (typing t) u e → has_call e ≡ false → Compares (typing t) e → AllowsAll facts (acts (acts_in (typing t) e))
+  source_same : (on : List (List machine.Word)) (u : ℕ) (e : TypedTree) → Source (typing t) u e → TakesPlainly (typing t) (has_call e) → Takes (waits_in e) (start t).waits on → Compares (typing t) e → AllowsAll facts (acts (acts_in (typing t) e))
       → SameTo (typing t) (taken_by t u e at) (taken_by t u e (start (twin t n)))
-  source_same u e (inl (view, is)) calls compares allowed = (let no : true ≡ false = sym view ∙ not_anonymous (typing t) all_named u in cc)
-  source_same u e (inr gives) calls compares allowed =
+  source_same on u e (inl (view, is)) calls takes compares allowed = (let no : true ≡ false = sym view ∙ not_anonymous (typing t) all_named u in cc)
+  source_same on u e (inr gives) calls takes compares allowed =
       subst (λ b. SameTo (typing t) (if b then viewed h e at else followed_by (value h e at) (checked h u))
       (if b then viewed h e (start (twin t n)) else followed_by (value h e (start (twin t n))) (checked h u))) (sym (not_anonymous (typing t) all_named u))
       (checked_same h settled t.state.leaks waits other alone (keeps (typing t) settled own_law) no_formals index_law own_law all_named u (value h e at) (value h e (start (twin t n)))
-      (value_same h settled t.state.leaks waits other alone (keeps (typing t) settled own_law) no_formals index_law own_law all_named e u gives calls compares
+      (value_on h settled t.state.leaks waits other alone (keeps (typing t) settled own_law) no_formals index_law own_law all_named e u gives calls (start t).waits on takes compares
       t.state.memory hands facts ready allowed only (start (twin t n)) at_start))
 
-  source_given : (u : ℕ) (e : TypedTree) → Source (typing t) u e → has_call e ≡ false → AllowsAll facts (acts (acts_in (typing t) e))
-      → Given h settled t.state.leaks waits other alone (keeps (typing t) settled own_law) no_formals index_law own_law all_named u hands (after (acts (acts_in (typing t) e)) facts)
+  source_given : (on : List (List machine.Word)) (u : ℕ) (e : TypedTree) → Source (typing t) u e → TakesPlainly (typing t) (has_call e) → Takes (waits_in e) (start t).waits on → AllowsAll facts (acts (acts_in (typing t) e))
+      → GivenOn h settled t.state.leaks waits other alone (keeps (typing t) settled own_law) no_formals index_law own_law all_named on u hands (after (acts (acts_in (typing t) e)) facts)
       (taken_by t u e at)
-  source_given u e (inl (view, is)) calls allowed = (let no : true ≡ false = sym view ∙ not_anonymous (typing t) all_named u in cc)
-  source_given u e (inr gives) calls allowed =
-      subst (λ b. Given h settled t.state.leaks waits other alone (keeps (typing t) settled own_law) no_formals index_law own_law all_named u hands
+  source_given on u e (inl (view, is)) calls takes allowed = (let no : true ≡ false = sym view ∙ not_anonymous (typing t) all_named u in cc)
+  source_given on u e (inr gives) calls takes allowed =
+      subst (λ b. GivenOn h settled t.state.leaks waits other alone (keeps (typing t) settled own_law) no_formals index_law own_law all_named on u hands
       (after (acts (acts_in (typing t) e)) facts) (if b then viewed h e at else followed_by (value h e at) (checked h u))) (sym (not_anonymous (typing t) all_named u))
-      (checked_given h settled t.state.leaks waits other alone (keeps (typing t) settled own_law) no_formals index_law own_law all_named u u hands
+      (checked_on h settled t.state.leaks waits other alone (keeps (typing t) settled own_law) no_formals index_law own_law all_named on u u hands
       (after (acts (acts_in (typing t) e)) facts) (evaluate h AsValue e at)
-      (evaluated h settled t.state.leaks waits other alone (keeps (typing t) settled own_law) no_formals index_law own_law all_named e u gives calls t.state.memory hands facts ready allowed))
+      (evaluated_on h settled t.state.leaks waits other alone (keeps (typing t) settled own_law) no_formals index_law own_law all_named e u gives calls (start t).waits on takes t.state.memory hands facts ready allowed))
 
-  first_same : (u : ℕ) (v : TypedTree) → FirstSource (typing t) u v → has_call v ≡ false → Compares (typing t) v → AllowsAll facts (acts (acts_in (typing t) v))
+  first_same : (on : List (List machine.Word)) (u : ℕ) (v : TypedTree) → FirstSource (typing t) u v → TakesPlainly (typing t) (has_call v) → Takes (waits_in v) (start t).waits on
+      → Compares (typing t) v → AllowsAll facts (acts (acts_in (typing t) v))
       → SameTo (typing t) (first_value t u v at) (first_value t u v (start (twin t n)))
-  unfolding acts_in has_call initial Compares
-  first_same u (More e rest) (last, gives) calls compares allowed =
+  unfolding acts_in has_call initial Compares waits_in
+  first_same on u (More e rest) (last, gives) calls takes compares allowed =
       let same : acts_in (typing t) e ++ acts_in (typing t) rest ≡ acts_in (typing t) e =
       ap (λ z. acts_in (typing t) e ++ acts_in (typing t) z) last ∙ append-nil (acts_in (typing t) e) in
-      source_same u e gives (or_both (has_call e) (has_call rest) calls).0 compares.0 (subst (λ z. AllowsAll facts (acts z)) same allowed)
-  first_same u NoMore gives calls compares allowed = (refl, at_start)
-  first_same u v gives calls compares allowed = absurd gives
+      let alone_there : waits_in e + waits_in rest ≡ waits_in e = ap (λ z. waits_in e + waits_in z) last ∙ nothing_more (waits_in e) in
+      source_same on u e gives (both_plainly (typing t) (has_call e) (has_call rest) calls).0
+      (takes_as (waits_in e + waits_in rest) (waits_in e) (start t).waits on alone_there takes) compares.0 (subst (λ z. AllowsAll facts (acts z)) same allowed)
+  first_same on u NoMore gives calls takes compares allowed = (refl, at_start)
+  first_same on u v gives calls takes compares allowed = absurd gives
 
-  pub declare_same : (x : ℕ) (v : TypedTree) → FirstSource (typing t) (object_at (typing t) x).of v → has_call v ≡ false → Compares (typing t) v
+  pub declare_on : (on : List (List machine.Word)) (x : ℕ) (v : TypedTree) → FirstSource (typing t) (object_at (typing t) x).of v → TakesPlainly (typing t) (has_call v) → Takes (waits_in v) (start t).waits on → Compares (typing t) v
       → AllowsAll facts (acts (declared_acts (typing t) x v)) → Step (declare t x v) (declare (twin t n) x v)
-  declare_same x v gives calls compares allowed =
+  declare_on on x v gives calls takes compares allowed =
       let same : declared_acts (typing t) x v ≡ acts_in (typing t) v =
       ap (λ b. if b then source_acts (typing t) (first v) (act.Borrow x) else
       (if is_observer (typing t) x then source_acts (typing t) (first v) (observe (typing t) x) else acts_in (typing t) v)) (not_borrower (typing t) all_named x)
       ∙ ap (λ b. if b then source_acts (typing t) (first v) (observe (typing t) x) else acts_in (typing t) v) (not_observer (typing t) all_named x) in
       step_simply t n agrees (first_value t (object_at (typing t) x).of v at) (first_value t (object_at (typing t) x).of v (start (twin t n)))
       (λ ws m. goes t (declared depth x ws m) 0) (λ ws m. goes (twin t n) (declared depth x ws m) 0)
-      (first_same (object_at (typing t) x).of v gives calls compares (subst (λ z. AllowsAll facts (acts z)) same allowed))
+      (first_same on (object_at (typing t) x).of v gives calls takes compares (subst (λ z. AllowsAll facts (acts z)) same allowed))
       (λ ws i j now. goes_same t n agrees (declared depth x ws i.memory) (declared depth x ws j.memory) 0
       (declared_agree depth x ws i.memory j.memory now.0) (declared_only (typing t) i.memory now.2 depth x ws))
+
+  pub declare_same : (x : ℕ) (v : TypedTree) → FirstSource (typing t) (object_at (typing t) x).of v → has_call v ≡ false → Compares (typing t) v
+      → AllowsAll facts (acts (declared_acts (typing t) x v)) → Step (declare t x v) (declare (twin t n) x v)
+  declare_same x v gives calls compares allowed = declare_on (start t).waits x v gives (inl calls) (no_takes v calls (start t).waits) compares allowed
 
   -- ---- assignments
 
@@ -313,33 +322,33 @@ module _ (t : Turn) (settled : IsSettled (typing t).table) (own_law : OwnsByShap
       ∙ ap (λ b. if b then source_acts (typing t) e (observe (typing t) x) else stored_acts (typing t) target e) (not_observer (typing t) all_named x)
 
   -- the place is found with the value in hand
-  then_placed : (p : Pos) (x u : ℕ) (path : TypedTree) → Leads (typing t) (object_at (typing t) x).of path u → has_call path ≡ false → Compares (typing t) path
+  then_placed : (mid on : List (List machine.Word)) (p : Pos) (x u : ℕ) (path : TypedTree) → Leads (typing t) (object_at (typing t) x).of path u → Takes (waits_in path) mid on → Compares (typing t) path
       → (behind_facts : List Fact) → AllowsAll behind_facts (acts (acts_in (typing t) path) ++ act.Write (name_of x path) ∷ []) → (ws : List machine.Word) (i j : Now)
-      → Given h settled t.state.leaks waits other alone (keeps (typing t) settled own_law) no_formals index_law own_law all_named u hands behind_facts (Done ws i)
+      → GivenOn h settled t.state.leaks waits other alone (keeps (typing t) settled own_law) no_formals index_law own_law all_named mid u hands behind_facts (Done ws i)
       → SameNow (typing t) i j
       → SameTo {A = Stored} (typing t) (followed_by (place_of h (Name p x path u) i) (λ k now. Done (record { words = ws; place = k }) now))
       (followed_by (place_of h (Name p x path u) j) (λ k now. Done (record { words = ws; place = k }) now))
-  then_placed p x u path lead calls compares behind_facts allowed ws i j (inner, long, same) now =
+  then_placed mid on p x u path lead takes compares behind_facts allowed ws i j (inner, long, same) now =
       let v : Waiting = record { of = u; words = ws } in
       let each = allows_both behind_facts (acts (acts_in (typing t) path)) (act.Write (name_of x path) ∷ []) allowed in
       let alive = live_trunk h settled t.state.leaks waits other alone (keeps (typing t) settled own_law) no_formals index_law own_law all_named i.memory (v ∷ hands) inner.sound.owned in
-      let stay = steps_quiet_there i (v ∷ hands) behind_facts inner.kept inner.sound alive (object_at (typing t) x).of u path lead calls each.0 in
+      let stay = steps_quiet_there i (v ∷ hands) behind_facts inner.kept inner.sound alive (object_at (typing t) x).of u path lead mid on takes each.0 in
       let writes : Allows behind_facts (act.Write (name_of x path)) = subst (λ z. Allows z (act.Write (name_of x path))) stay each.1.0 in
       subst (λ z. SameNow (typing t) (record { memory = i.memory; waits = z }) j
       → SameTo {A = Stored} (typing t) (followed_by (place_of h (Name p x path u) (record { memory = i.memory; waits = z })) (λ k now. Done (record { words = ws; place = k }) now))
       (followed_by (place_of h (Name p x path u) j) (λ k now. Done (record { words = ws; place = k }) now))) (sym same)
-      (λ so. simply (typing t) (place_of h (Name p x path u) (record { memory = i.memory; waits = waits })) (place_of h (Name p x path u) j)
+      (λ so. simply (typing t) (place_of h (Name p x path u) (record { memory = i.memory; waits = mid })) (place_of h (Name p x path u) j)
       (λ k now. Done (record { words = ws; place = k }) now) (λ k now. Done (record { words = ws; place = k }) now)
-      (place_same h settled (v ∷ hands) t.state.leaks i.memory waits other behind_facts inner.kept inner.sound alone alive index_law own_law all_named now.2
-      p x u path lead calls compares each.0
+      (place_on h settled (v ∷ hands) t.state.leaks i.memory waits other behind_facts inner.kept inner.sound alone alive index_law own_law all_named now.2
+      mid on p x u path lead takes compares each.0
       (λ w named same_name z past moved. write_clean (home (typing t) depth) behind_facts w (subst (λ y. Allows behind_facts (act.Write y)) (sym same_name) writes) z past moved)
       j so).0 (λ k a b last. (refl, last))) now
 
-  pub assign_same : (pos p : Pos) (x u : ℕ) (path e : TypedTree) → Source (typing t) u e → Leads (typing t) (object_at (typing t) x).of path u
-      → has_call e ≡ false → has_call path ≡ false → Compares (typing t) path → Compares (typing t) e
+  pub assign_on : (mid on : List (List machine.Word)) (pos p : Pos) (x u : ℕ) (path e : TypedTree) → Source (typing t) u e → Leads (typing t) (object_at (typing t) x).of path u
+      → TakesPlainly (typing t) (has_call e) → Takes (waits_in e) (start t).waits mid → Takes (waits_in path) mid on → Compares (typing t) path → Compares (typing t) e
       → AllowsAll facts (acts (assigned_to (typing t) pos (whole (Name p x path u)) (Name p x path u) e))
       → Step (assign t (Name p x path u) e) (assign (twin t n) (Name p x path u) e)
-  assign_same pos p x u path e gives lead calls calls' compares compares' allowed =
+  assign_on mid on pos p x u path e gives lead calls takes takes' compares compares' allowed =
       let target : TypedTree = Name p x path u in
       let a : List Act = acts (acts_in (typing t) e) in
       let b : List Act = acts (acts_in (typing t) path) in
@@ -354,12 +363,19 @@ module _ (t : Turn) (settled : IsSettled (typing t).table) (own_law : OwnsByShap
       (λ (st : Stored) m. leaking_goes (checks_at (typing t) (target_pos t target) m st.place) (goes t (stored (typing t) st.place st.words m) 0))
       (λ (st : Stored) m. leaking_goes (checks_at (typing t) (target_pos t target) m st.place) (goes (twin t n) (stored (typing t) st.place st.words m) 0))
       (then_same (typing t)
-      (Given h settled t.state.leaks waits other alone (keeps (typing t) settled own_law) no_formals index_law own_law all_named u hands (after a facts))
-      (taken_by t u e at) (taken_by t u e (start (twin t n))) placed placed (source_given u e gives calls each.0) (source_same u e gives calls compares' each.0)
-      (λ ws i j given now. then_placed p x u path lead calls' compares (after a facts) each.1 ws i j given now))
+      (GivenOn h settled t.state.leaks waits other alone (keeps (typing t) settled own_law) no_formals index_law own_law all_named mid u hands (after a facts))
+      (taken_by t u e at) (taken_by t u e (start (twin t n))) placed placed (source_given mid u e gives calls takes each.0) (source_same mid u e gives calls takes compares' each.0)
+      (λ ws i j given now. then_placed mid on p x u path lead takes' compares (after a facts) each.1 ws i j given now))
       (λ st i j now. leaks_same t n agrees (target_pos t target) st.place i.memory j.memory (stored (typing t) st.place st.words i.memory)
       (stored (typing t) st.place st.words j.memory) now.0 (stored_agree (typing t) st.place st.words i.memory j.memory now.0)
       (stored_only (typing t) i.memory now.2 st.place st.words))
+
+  pub assign_same : (pos p : Pos) (x u : ℕ) (path e : TypedTree) → Source (typing t) u e → Leads (typing t) (object_at (typing t) x).of path u
+      → has_call e ≡ false → has_call path ≡ false → Compares (typing t) path → Compares (typing t) e
+      → AllowsAll facts (acts (assigned_to (typing t) pos (whole (Name p x path u)) (Name p x path u) e))
+      → Step (assign t (Name p x path u) e) (assign (twin t n) (Name p x path u) e)
+  assign_same pos p x u path e gives lead calls calls' compares compares' allowed =
+      assign_on (start t).waits (start t).waits pos p x u path e gives lead (inl calls) (no_takes e calls (start t).waits) (no_takes path calls' (start t).waits) compares compares' allowed
 
   -- ---- scopes
 
@@ -370,22 +386,22 @@ module _ (t : Turn) (settled : IsSettled (typing t).table) (own_law : OwnsByShap
 
   -- ---- a release
 
-  release_by : (f g : Place → Memory → Outcome) (p : Pos) (x u d : ℕ) (path : TypedTree) → Releases t p f → Releases (twin t n) p g
-      → shape_of (typing t).table u ≡ shape.Access d false true → Leads (typing t) (object_at (typing t) x).of path u → has_call path ≡ false → Compares (typing t) path
+  release_by : (on : List (List machine.Word)) (f g : Place → Memory → Outcome) (p : Pos) (x u d : ℕ) (path : TypedTree) → Releases t p f → Releases (twin t n) p g
+      → shape_of (typing t).table u ≡ shape.Access d false true → Leads (typing t) (object_at (typing t) x).of path u → Takes (waits_in path) (start t).waits on → Compares (typing t) path
       → AllowsAll facts (acts (source_acts (typing t) (Name p x path u) act.Free))
       → Step (steps.evaluated t (place_of h (Name p x path u) at) f) (steps.evaluated (twin t n) (place_of h (Name p x path u) (start (twin t n))) g)
-  release_by f g p x u d path one two access lead calls compares allowed =
+  release_by on f g p x u d path one two access lead takes compares allowed =
       let b : List Act = acts (acts_in (typing t) path) in
       let all : acts (source_acts (typing t) (Name p x path u) act.Free) ≡ b ++ (act.Free (name_of x path) ∷ []) =
       acts_append (acts_in (typing t) path) (record { pos = p; act = act.Free (name_of x path) } ∷ []) in
       let each = allows_both facts b (act.Free (name_of x path) ∷ []) (subst (AllowsAll facts) all allowed) in
-      let stay = steps_quiet_there at hands facts kept sound live (object_at (typing t) x).of u path lead calls each.0 in
+      let stay = steps_quiet_there at hands facts kept sound live (object_at (typing t) x).of u path lead (start t).waits on takes each.0 in
       let frees : Allows facts (act.Free (name_of x path)) = subst (λ z. Allows z (act.Free (name_of x path))) stay each.1.0 in
-      let place = place_same h settled hands t.state.leaks t.state.memory waits other facts kept sound alone live index_law own_law all_named only
-      p x u path lead calls compares each.0
+      let place = place_on h settled hands t.state.leaks t.state.memory waits other facts kept sound alone live index_law own_law all_named only
+      (start t).waits on p x u path lead takes compares each.0
       (λ w named same_name z past moved. free_way (home (typing t) depth) facts w (subst (λ y. Allows facts (act.Free y)) (sym same_name) frees) z (past_under z w past) moved)
       (start (twin t n)) at_start in
-      step_then t n agrees (IsPlaced h settled hands t.state.leaks t.state.memory waits other facts kept sound alone live index_law own_law all_named only x u path)
+      step_then t n agrees (IsPlaced h settled hands t.state.leaks t.state.memory waits other facts kept sound alone live index_law own_law all_named only on x u path)
       (place_of h (Name p x path u) at) (place_of h (Name p x path u) (start (twin t n))) f g place.1 place.0
       (λ k i j found now.
       let none : NoneGone (slots_of (typing t) i.memory k) = freed_none frees k i found in
@@ -393,7 +409,7 @@ module _ (t : Turn) (settled : IsSettled (typing t).table) (own_law : OwnsByShap
       (sym (words_agree (typing t) i.memory j.memory now.0 k none)))
     where
       freed_none : Allows facts (act.Free (name_of x path)) → (k : Place) (i : Now)
-          → IsPlaced h settled hands t.state.leaks t.state.memory waits other facts kept sound alone live index_law own_law all_named only x u path (Done k i)
+          → IsPlaced h settled hands t.state.leaks t.state.memory waits other facts kept sound alone live index_law own_law all_named only on x u path (Done k i)
           → NoneGone (slots_of (typing t) i.memory k)
       freed_none frees k i (way, goes_along, (l, still, spot, reaches, of)) =
           let w : Way = way_along way (Object (OfVariable (home (typing t) depth x) x)) in
@@ -411,12 +427,12 @@ module _ (t : Turn) (settled : IsSettled (typing t).table) (own_law : OwnsByShap
             | inr o ↦ alone w (named_near (typing t) depth w named) o
           ])))
 
-  pub release_same : (p : Pos) (x u d : ℕ) (path : TypedTree) → shape_of (typing t).table u ≡ shape.Access d false true
-      → Leads (typing t) (object_at (typing t) x).of path u → has_call path ≡ false → Compares (typing t) path
+  pub release_on : (on : List (List machine.Word)) (p : Pos) (x u d : ℕ) (path : TypedTree) → shape_of (typing t).table u ≡ shape.Access d false true
+      → Leads (typing t) (object_at (typing t) x).of path u → Takes (waits_in path) (start t).waits on → Compares (typing t) path
       → AllowsAll facts (acts (source_acts (typing t) (Name p x path u) act.Free))
       → Step (steps.release t (Name p x path u)) (steps.release (twin t n) (Name p x path u))
-  release_same p x u d path access lead calls compares allowed =
-      release_by _ _ p x u d path (record {
+  release_on on p x u d path access lead takes compares allowed =
+      release_by on _ _ p x u d path (record {
         at_none = λ k m is. rw is refl;
         at_whole = λ k m v ws is. rw is refl;
         at_listed = λ k m v ws is. rw is refl;
@@ -432,37 +448,43 @@ module _ (t : Turn) (settled : IsSettled (typing t).table) (own_law : OwnsByShap
         at_more = λ k m c w ws is. rw is refl;
         at_freed = λ k m c is dead. rw (is, dead) refl;
         at_cell = λ k m c is alive. rw (is, alive) refl;
-      }) access lead calls compares allowed
+      }) access lead takes compares allowed
+
+  pub release_same : (p : Pos) (x u d : ℕ) (path : TypedTree) → shape_of (typing t).table u ≡ shape.Access d false true
+      → Leads (typing t) (object_at (typing t) x).of path u → has_call path ≡ false → Compares (typing t) path
+      → AllowsAll facts (acts (source_acts (typing t) (Name p x path u) act.Free))
+      → Step (steps.release t (Name p x path u)) (steps.release (twin t n) (Name p x path u))
+  release_same p x u d path access lead calls compares allowed = release_on (start t).waits p x u d path access lead (no_takes path calls (start t).waits) compares allowed
 
   -- ---- input
 
   abbrev out_act : PlaceName → Act
   out_act name = act.Actual name mode.Out false false
 
-  input_by : (f g : Place → Memory → Outcome) (p : Pos) (x u : ℕ) (path : TypedTree) → Gets t f → Gets (twin t n) g
-      → Leads (typing t) (object_at (typing t) x).of path u → has_call path ≡ false → Compares (typing t) path
+  input_by : (on : List (List machine.Word)) (f g : Place → Memory → Outcome) (p : Pos) (x u : ℕ) (path : TypedTree) → Gets t f → Gets (twin t n) g
+      → Leads (typing t) (object_at (typing t) x).of path u → Takes (waits_in path) (start t).waits on → Compares (typing t) path
       → AllowsAll facts (acts (source_acts (typing t) (Name p x path u) out_act))
       → Step (steps.evaluated t (place_of h (Name p x path u) at) f) (steps.evaluated (twin t n) (place_of h (Name p x path u) (start (twin t n))) g)
-  input_by f g p x u path one two lead calls compares allowed =
+  input_by on f g p x u path one two lead takes compares allowed =
       let b : List Act = acts (acts_in (typing t) path) in
       let all : acts (source_acts (typing t) (Name p x path u) out_act) ≡ b ++ (out_act (name_of x path) ∷ []) =
       acts_append (acts_in (typing t) path) (record { pos = p; act = out_act (name_of x path) } ∷ []) in
       let each = allows_both facts b (out_act (name_of x path) ∷ []) (subst (AllowsAll facts) all allowed) in
-      let stay = steps_quiet_there at hands facts kept sound live (object_at (typing t) x).of u path lead calls each.0 in
+      let stay = steps_quiet_there at hands facts kept sound live (object_at (typing t) x).of u path lead (start t).waits on takes each.0 in
       let actual : Allows facts (out_act (name_of x path)) = subst (λ z. Allows z (out_act (name_of x path))) stay each.1.0 in
       let writes : Allows facts (act.Write (name_of x path)) = (λ g has. switched (breaks_O3 (name_of x path) g) _ _ (actual g has)) in
-      let place = place_same h settled hands t.state.leaks t.state.memory waits other facts kept sound alone live index_law own_law all_named only
-      p x u path lead calls compares each.0
+      let place = place_on h settled hands t.state.leaks t.state.memory waits other facts kept sound alone live index_law own_law all_named only
+      (start t).waits on p x u path lead takes compares each.0
       (λ w named same_name z past moved. write_clean (home (typing t) depth) facts w (subst (λ y. Allows facts (act.Write y)) (sym same_name) writes) z past moved)
       (start (twin t n)) at_start in
       step_simply t n agrees (place_of h (Name p x path u) at) (place_of h (Name p x path u) (start (twin t n))) f g place.0
       (λ k i j now. got_same t n agrees f g one two k i.memory j.memory now.0 now.2)
 
-  pub input_same : (p : Pos) (x u : ℕ) (path : TypedTree) → Leads (typing t) (object_at (typing t) x).of path u → has_call path ≡ false → Compares (typing t) path
+  pub input_on : (on : List (List machine.Word)) (p : Pos) (x u : ℕ) (path : TypedTree) → Leads (typing t) (object_at (typing t) x).of path u → Takes (waits_in path) (start t).waits on → Compares (typing t) path
       → AllowsAll facts (acts (source_acts (typing t) (Name p x path u) out_act))
       → Step (steps.input t (Name p x path u)) (steps.input (twin t n) (Name p x path u))
-  input_same p x u path lead calls compares allowed =
-      input_by _ _ p x u path (record {
+  input_on on p x u path lead takes compares allowed =
+      input_by on _ _ p x u path (record {
         at_missing = λ k m next. rw next refl;
         at_bad = λ k m next. rw next refl;
         at_number = λ k m v end next fits. rw (next, fits) refl;
@@ -472,7 +494,12 @@ module _ (t : Turn) (settled : IsSettled (typing t).table) (own_law : OwnsByShap
         at_bad = λ k m next. rw next refl;
         at_number = λ k m v end next fits. rw (next, fits) refl;
         at_outside = λ k m v end next out. rw (next, out) refl;
-      }) lead calls compares allowed
+      }) lead takes compares allowed
+
+  pub input_same : (p : Pos) (x u : ℕ) (path : TypedTree) → Leads (typing t) (object_at (typing t) x).of path u → has_call path ≡ false → Compares (typing t) path
+      → AllowsAll facts (acts (source_acts (typing t) (Name p x path u) out_act))
+      → Step (steps.input t (Name p x path u)) (steps.input (twin t n) (Name p x path u))
+  input_same p x u path lead calls compares allowed = input_on (start t).waits p x u path lead (no_takes path calls (start t).waits) compares allowed
 
   -- ---- choices
 
@@ -482,20 +509,24 @@ module _ (t : Turn) (settled : IsSettled (typing t).table) (own_law : OwnsByShap
   pub fall_same : Step (steps.turn t Fall) (steps.turn (twin t n) Fall)
   fall_same = raised_same t n agrees run.ProgramError t.state.memory n agrees
 
-  pub test_same : (e : TypedTree) → Stays (typing t) e → has_call e ≡ false → Compares (typing t) e → AllowsAll facts (acts (acts_in (typing t) e))
+  pub test_on : (on : List (List machine.Word)) (e : TypedTree) → Stays (typing t) e → Takes (waits_in e) (start t).waits on → Compares (typing t) e → AllowsAll facts (acts (acts_in (typing t) e))
       → Step (steps.test t e 0 1) (steps.test (twin t n) e 0 1)
-  test_same e stays calls compares allowed =
+  test_on on e stays takes compares allowed =
       step_simply t n agrees (value h e at) (value h e (start (twin t n)))
       (λ ws m. goes t m (if run.is_true ws then 0 else 1)) (λ ws m. goes (twin t n) m (if run.is_true ws then 0 else 1))
-      (scalar e stays calls compares allowed (start (twin t n)) at_start)
+      (scalar (start t).waits on e stays takes compares allowed (start (twin t n)) at_start)
       (λ ws i j now. goes_same t n agrees i.memory j.memory (if run.is_true ws then 0 else 1) now.0 now.2)
 
-  pub choose_same : (e : TypedTree) (choices : List TypedCode) → Stays (typing t) e → has_call e ≡ false → Compares (typing t) e
+  pub test_same : (e : TypedTree) → Stays (typing t) e → has_call e ≡ false → Compares (typing t) e → AllowsAll facts (acts (acts_in (typing t) e))
+      → Step (steps.test t e 0 1) (steps.test (twin t n) e 0 1)
+  test_same e stays calls compares allowed = test_on (start t).waits e stays (no_takes e calls (start t).waits) compares allowed
+
+  pub choose_on : (on : List (List machine.Word)) (e : TypedTree) (choices : List TypedCode) → Stays (typing t) e → Takes (waits_in e) (start t).waits on → Compares (typing t) e
       → AllowsAll facts (acts (acts_in (typing t) e)) → Step (steps.choose t e choices) (steps.choose (twin t n) e choices)
-  choose_same e choices stays calls compares allowed =
+  choose_on on e choices stays takes compares allowed =
       step_simply t n agrees (value h e at) (value h e (start (twin t n)))
       (λ ws m. steps.chosen t (length choices) (steps.choice choices ws) m) (λ ws m. steps.chosen (twin t n) (length choices) (steps.choice choices ws) m)
-      (scalar e stays calls compares allowed (start (twin t n)) at_start)
+      (scalar (start t).waits on e stays takes compares allowed (start (twin t n)) at_start)
       (λ ws i j now. by_test (steps.choice choices ws) i j now (nat_lt (steps.choice choices ws) (length choices)))
     where
       by_test : (k : ℕ) (i j : Now) → SameNow (typing t) i j → (b : Bool)
@@ -503,28 +534,40 @@ module _ (t : Turn) (settled : IsSettled (typing t).table) (own_law : OwnsByShap
       by_test k i j now true = goes_same t n agrees i.memory j.memory k now.0 now.2
       by_test k i j now false = raised_same t n agrees run.ConstraintError i.memory j.memory now.0
 
-  pub leave_loop_same : (e rest : TypedTree) → rest ≡ NoMore → Stays (typing t) e → has_call e ≡ false → Compares (typing t) e
+  pub choose_same : (e : TypedTree) (choices : List TypedCode) → Stays (typing t) e → has_call e ≡ false → Compares (typing t) e
+      → AllowsAll facts (acts (acts_in (typing t) e)) → Step (steps.choose t e choices) (steps.choose (twin t n) e choices)
+  choose_same e choices stays calls compares allowed = choose_on (start t).waits e choices stays (no_takes e calls (start t).waits) compares allowed
+
+  pub leave_loop_on : (on : List (List machine.Word)) (e rest : TypedTree) → rest ≡ NoMore → Stays (typing t) e → Takes (waits_in e) (start t).waits on → Compares (typing t) e
       → AllowsAll facts (acts (acts_in (typing t) (More e rest))) → Step (steps.leave_loop t (More e rest)) (steps.leave_loop (twin t n) (More e rest))
   unfolding acts_in
-  leave_loop_same e rest last stays calls compares allowed =
+  leave_loop_on on e rest last stays takes compares allowed =
       let same : acts_in (typing t) e ++ acts_in (typing t) rest ≡ acts_in (typing t) e =
       ap (λ z. acts_in (typing t) e ++ acts_in (typing t) z) last ∙ append-nil (acts_in (typing t) e) in
-      test_same e stays calls compares (subst (λ z. AllowsAll facts (acts z)) same allowed)
+      test_on on e stays takes compares (subst (λ z. AllowsAll facts (acts z)) same allowed)
+
+  pub leave_loop_same : (e rest : TypedTree) → rest ≡ NoMore → Stays (typing t) e → has_call e ≡ false → Compares (typing t) e
+      → AllowsAll facts (acts (acts_in (typing t) (More e rest))) → Step (steps.leave_loop t (More e rest)) (steps.leave_loop (twin t n) (More e rest))
+  leave_loop_same e rest last stays calls compares allowed = leave_loop_on (start t).waits e rest last stays (no_takes e calls (start t).waits) compares allowed
 
   -- ---- output
 
-  pub output_same : (e rest : TypedTree) (line : Bool) → rest ≡ NoMore → Writes (typing t) e → has_call e ≡ false → Compares (typing t) e
+  pub output_on : (on : List (List machine.Word)) (e rest : TypedTree) (line : Bool) → rest ≡ NoMore → Writes (typing t) e → Takes (waits_in e) (start t).waits on → Compares (typing t) e
       → AllowsAll facts (acts (acts_in (typing t) (More e rest))) → Step (steps.output t (More e rest) line) (steps.output (twin t n) (More e rest) line)
   unfolding acts_in
-  output_same e rest line last writes calls compares allowed =
+  output_on on e rest line last writes takes compares allowed =
       let same : acts_in (typing t) e ++ acts_in (typing t) rest ≡ acts_in (typing t) e =
       ap (λ z. acts_in (typing t) e ++ acts_in (typing t) z) last ∙ append-nil (acts_in (typing t) e) in
       step_simply t n agrees (text_of h e at) (text_of h e (start (twin t n)))
       (λ bytes m. Goes (record (behind t (waiting t) m 0) { output = t.state.output ++ bytes ++ (if line then 10 ∷ [] else []) }))
       (λ bytes m. Goes (record (behind (twin t n) (waiting t) m 0) { output = t.state.output ++ bytes ++ (if line then 10 ∷ [] else []) }))
-      (text_same h settled hands t.state.leaks t.state.memory waits other facts kept sound alone live index_law own_law all_named only e writes calls compares
+      (text_on h settled hands t.state.leaks t.state.memory waits other facts kept sound alone live index_law own_law all_named only (start t).waits on e writes takes compares
       (subst (λ z. AllowsAll facts (acts z)) same allowed) (start (twin t n)) at_start).0
       (λ bytes i j now. ((refl, now.0), now.2))
+
+  pub output_same : (e rest : TypedTree) (line : Bool) → rest ≡ NoMore → Writes (typing t) e → has_call e ≡ false → Compares (typing t) e
+      → AllowsAll facts (acts (acts_in (typing t) (More e rest))) → Step (steps.output t (More e rest) line) (steps.output (twin t n) (More e rest) line)
+  output_same e rest line last writes calls compares allowed = output_on (start t).waits e rest line last writes (no_takes e calls (start t).waits) compares allowed
 
   pub line_same : (line : Bool) → Step (steps.output t NoMore line) (steps.output (twin t n) NoMore line)
   unfolding text_of
@@ -532,41 +575,47 @@ module _ (t : Turn) (settled : IsSettled (typing t).table) (own_law : OwnsByShap
 
   -- ---- loops
 
-  bounds_same : (low high : TypedTree) → Stays (typing t) low → Stays (typing t) high → has_call low ≡ false → has_call high ≡ false
+  bounds_same : (mid on : List (List machine.Word)) (low high : TypedTree) → Stays (typing t) low → Stays (typing t) high → Takes (waits_in low) (start t).waits mid → Takes (waits_in high) mid on
       → Compares (typing t) low → Compares (typing t) high → AllowsAll facts (acts (acts_in (typing t) low ++ acts_in (typing t) high))
       → SameTo (typing t) (steps.bounds t low high at) (steps.bounds t low high (start (twin t n)))
-  bounds_same low high stays stays' calls calls' compares compares' allowed =
+  bounds_same mid on low high stays stays' takes takes' compares compares' allowed =
       let each = allows_both facts (acts (acts_in (typing t) low)) (acts (acts_in (typing t) high))
       (subst (AllowsAll facts) (acts_append (acts_in (typing t) low) (acts_in (typing t) high)) allowed) in
-      let q = quiet h settled hands t.state.leaks t.state.memory waits other facts kept sound alone live index_law own_law all_named AsValue low stays calls each.0 in
+      let q = taking h settled hands t.state.leaks t.state.memory waits other facts kept sound alone live index_law own_law all_named AsValue low stays (start t).waits mid takes each.0 in
       let second : List machine.Word → Now → Evaluated steps.Bounds = (λ a now. followed_by (value h high now) (λ b now. Done (record { low = a; high = b }) now)) in
-      then_same (typing t) (Quiet at One) (value h low at) (value h low (start (twin t n))) second second q.0
-      (scalar low stays calls compares each.0 (start (twin t n)) at_start)
+      then_same (typing t) (Quiet (record { memory = t.state.memory; waits = mid }) One) (value h low at) (value h low (start (twin t n))) second second q.0
+      (scalar (start t).waits mid low stays takes compares each.0 (start (twin t n)) at_start)
       (λ a i j quiet_there now. subst (λ z. SameTo (typing t) (second a z) (second a j)) (sym quiet_there.0)
-      (simply (typing t) (value h high at) (value h high j) (λ b now. Done (record { low = a; high = b }) now) (λ b now. Done (record { low = a; high = b }) now)
-      (scalar high stays' calls' compares' (subst (λ z. AllowsAll z (acts (acts_in (typing t) high))) q.1 each.1) j (subst (λ z. SameNow (typing t) z j) quiet_there.0 now))
+      (simply (typing t) (value h high (record { memory = t.state.memory; waits = mid })) (value h high j) (λ b now. Done (record { low = a; high = b }) now) (λ b now. Done (record { low = a; high = b }) now)
+      (scalar mid on high stays' takes' compares' (subst (λ z. AllowsAll z (acts (acts_in (typing t) high))) q.1 each.1) j (subst (λ z. SameNow (typing t) z j) quiet_there.0 now))
       (λ b k k' last. (refl, last))))
 
-  start_by : (f g : steps.Bounds → Memory → Outcome) (x : ℕ) (fails : steps.Bounds → Bool) (loop : steps.Bounds → Loop) (low high : TypedTree)
-      → Starts t x fails loop f → Starts (twin t n) x fails loop g → Stays (typing t) low → Stays (typing t) high → has_call low ≡ false → has_call high ≡ false
+  start_by : (mid on : List (List machine.Word)) (f g : steps.Bounds → Memory → Outcome) (x : ℕ) (fails : steps.Bounds → Bool) (loop : steps.Bounds → Loop) (low high : TypedTree)
+      → Starts t x fails loop f → Starts (twin t n) x fails loop g → Stays (typing t) low → Stays (typing t) high → Takes (waits_in low) (start t).waits mid → Takes (waits_in high) mid on
       → Compares (typing t) low → Compares (typing t) high → AllowsAll facts (acts (acts_in (typing t) low ++ acts_in (typing t) high))
       → Step (steps.evaluated t (steps.bounds t low high at) f) (steps.evaluated (twin t n) (steps.bounds t low high (start (twin t n))) g)
-  start_by f g x fails loop low high one two stays stays' calls calls' compares compares' allowed =
+  start_by mid on f g x fails loop low high one two stays stays' takes takes' compares compares' allowed =
       step_simply t n agrees (steps.bounds t low high at) (steps.bounds t low high (start (twin t n))) f g
-      (bounds_same low high stays stays' calls calls' compares compares' allowed)
+      (bounds_same mid on low high stays stays' takes takes' compares compares' allowed)
       (λ b i j now. started_same t n agrees x fails loop f g one two b i.memory j.memory now.0 now.2)
 
-  pub start_same : (x : ℕ) (low high : TypedTree) → Stays (typing t) low → Stays (typing t) high → has_call low ≡ false → has_call high ≡ false
+  pub start_on : (mid on : List (List machine.Word)) (x : ℕ) (low high : TypedTree) → Stays (typing t) low → Stays (typing t) high → Takes (waits_in low) (start t).waits mid → Takes (waits_in high) mid on
       → Compares (typing t) low → Compares (typing t) high → AllowsAll facts (acts (acts_in (typing t) low ++ acts_in (typing t) high))
       → Step (steps.start_loop t x low high) (steps.start_loop (twin t n) x low high)
-  start_same x low high stays stays' calls calls' compares compares' allowed =
-      start_by _ _ x
+  start_on mid on x low high stays stays' takes takes' compares compares' allowed =
+      start_by mid on _ _ x
       (λ b. int_le (steps.number b.low) (steps.number b.high)
       && not (fits_type (typing t).table (object_at (typing t) x).of b.low && fits_type (typing t).table (object_at (typing t) x).of b.high))
       (λ b. record { parameter = x; low = steps.number b.low; high = steps.number b.high; first = true }) low high
       (record { at_fault = λ b m e. rw e refl; at_turn = λ b m e. rw e refl })
       (record { at_fault = λ b m e. rw e refl; at_turn = λ b m e. rw e refl })
-      stays stays' calls calls' compares compares' allowed
+      stays stays' takes takes' compares compares' allowed
+
+  pub start_same : (x : ℕ) (low high : TypedTree) → Stays (typing t) low → Stays (typing t) high → has_call low ≡ false → has_call high ≡ false
+      → Compares (typing t) low → Compares (typing t) high → AllowsAll facts (acts (acts_in (typing t) low ++ acts_in (typing t) high))
+      → Step (steps.start_loop t x low high) (steps.start_loop (twin t n) x low high)
+  start_same x low high stays stays' calls calls' compares compares' allowed =
+      start_on (start t).waits (start t).waits x low high stays stays' (no_takes low calls (start t).waits) (no_takes high calls' (start t).waits) compares compares' allowed
 
   -- an iteration
   turned_same : (x : ℕ) (ws : List machine.Word) (v : Option ℤ)

@@ -1,5 +1,5 @@
 -- Scalar expressions and the indexes of names give the same in memories that agree.
-use Rattle.std.proofs.Common.{◌≡◌, refl, sym, ap, ◌∙◌, subst, inl, inr, ℕ, Bool, true, false, not, ◌&&◌, ◌||◌, List, [], ◌∷◌, ◌++◌, map, ℤ, ◌-ℤ◌, int_le, unsigned_abs, Option, Some, None, if◌then◌else◌}
+use Rattle.std.proofs.Common.{◌≡◌, refl, sym, ap, ◌∙◌, subst, inl, inr, ℕ, Bool, true, false, not, ◌&&◌, ◌||◌, List, [], ◌∷◌, ◌++◌, map, drop, get_or, ◌+◌, ℤ, ◌-ℤ◌, int_le, unsigned_abs, Option, Some, None, if◌then◌else◌}
 use Rattle.spark_base.specs.declared.position.Pos.{Pos}
 use Rattle.place_names.specs.declared.act.Act.TheVariants as act
 use Rattle.place_names.specs.declared.selector.Sel.{Sel}
@@ -22,7 +22,7 @@ use Rattle.type_definitions.specs.Types.{shape_of, full, is_owning, is_scalar, v
 use Rattle.typed_tree.specs.Trees.{TypedTree, Number, Literal, Text, Name, Component as IntoComponent, Designated, Element, Call, EndOfFile, Parens, Image, Unary, Binary, Short, IsNull, Aggregate, Alike, New, NoMore, More}
 use Rattle.typed_tree.specs.Trees as typed
 use Rattle.flow_paths.specs.Objects.{object_at, is_anonymous, view_of as view_of_object, Passing, ByValue}
-use Rattle.flow_paths.specs.Names.{has_call, name_of, selectors}
+use Rattle.flow_paths.specs.Names.{has_call, waiting, name_of, selectors}
 use Rattle.flow_paths.specs.Acts.{used, acts_in, actual_values}
 use Rattle.machine.specs.Words.{component_type, fits_type}
 use Rattle.machine.specs.Words as machine
@@ -47,10 +47,12 @@ use Rattle.soundness.proofs.Near.{named_near, past_near}
 use Rattle.soundness.proofs.Walks.{way_along, Walked}
 use Rattle.soundness.proofs.Steps.{no_leaf}
 use Rattle.soundness.proofs.Scalars.{after_append, allows_both, acts, acts_append, read_way, look_way, number_along, named_along}
-use Rattle.soundness.proofs.Passing.{way_by, way_of, head_acts, head_values, head_reads, reads_keep, one_given}
-use Rattle.soundness.proofs.Stays.{Quiet, One, Any, Goes, quiet_then, quiet, steps_quiet, name_quiet}
+use Rattle.soundness.proofs.Contents.{bool_cases}
+use Rattle.soundness.proofs.Taking.{Takes, takes_as, takes_both, takes_zero, no_takes}
+use Rattle.soundness.proofs.Passing.{way_by, way_of, head_acts, head_values, head_reads, reads_keep, one_on}
+use Rattle.soundness.proofs.Stays.{Quiet, One, Any, Goes, quiet_from, taking, steps_taking, name_on}
 use Rattle.null_places.specs.Compares.{Compares}
-use Rattle.null_places.proofs.Memories.{NoneGone, words_agree}
+use Rattle.null_places.proofs.Memories.{itself, NoneGone, words_agree}
 use Rattle.null_places.proofs.Only.{OnlyOwners}
 use Rattle.null_places.proofs.Places.{spot_whole, plain_whole, access_whole}
 use Rattle.null_places.proofs.Walks.{SameNow, SameTo, then_same, simply, walk_same}
@@ -117,10 +119,6 @@ look_clean at_home facts w allowed h =
     test_fails Forbidden (record { rule = O2; name = ways.name_of w; word = state.Moved }) (leads_to (ways.name_of w) (ways.name_of w) || false)
     (either_left (leads_to (ways.name_of w) (ways.name_of w)) false (under_leads w w (under_itself w))) (allowed (Moved (ways.name_of w)) h.1)
 
-or_cases : (a b : Bool) → a || b ≡ false → (a ≡ false) × (b ≡ false)
-or_cases true b e = cc
-or_cases false b e = (refl, e)
-
 scalar_owns : (s : Shape) (f : ℕ → Bool) → is_scalar (view_of s) ≡ true → owns_of f s ≡ false
 scalar_owns (shape.Whole a b) f e = refl
 scalar_owns (shape.Listed l a b) f e = refl
@@ -171,11 +169,12 @@ module _ (h : Here) (settled : IsSettled h.typing.table) (hands : List Waiting) 
     (live : (w : Way) (l : Loc) → IsRooted w → Reaches (seen h.typing m hands leaks) w l → (content h.typing m hands (trunk l)).owns ≡ true)
     (index_law : IndexLaw) (own_law : OwnsByShape h.typing.table)
     (all_named : (t d : ℕ) (c n : Bool) → shape_of h.typing.table t ≡ shape.Access d c n → n ≡ true) (only : OnlyOwners h.typing m) where
-  abbrev at : Now
-  at = record { memory = m; waits = waits }
+  -- with these values, which wait
+  abbrev at : List (List machine.Word) → Now
+  at ws = record { memory = m; waits = ws }
 
-  abbrev SameNowAt : Now → Type 0
-  SameNowAt n = SameNow h.typing at n
+  abbrev SameNowAt : List (List machine.Word) → Now → Type 0
+  SameNowAt ws n = SameNow h.typing (at ws) n
 
   abbrev first_way : ℕ → Way
   first_way x = Object (OfVariable (home h.typing h.frame x) x)
@@ -192,10 +191,10 @@ module _ (h : Here) (settled : IsSettled h.typing.table) (hands : List Waiting) 
   pub named_way : (x : ℕ) (way : List run.Step) → Named (home h.typing h.frame) (way_along way (first_way x))
   named_way x way = named_along (home h.typing h.frame) way (first_way x) refl
 
-  pub name_same : (x : ℕ) (steps : TypedTree) (t : ℕ) (way : List run.Step) → Goes h.typing.table (object_at h.typing x).of t steps way → Clean x steps
-      → (n' : Now) → SameNowAt n' → SameTo h.typing (walked h.typing way (variable_place h x) at) (walked h.typing way (variable_place h x) n')
-  name_same x steps t way goes clean n' same =
-      walk_same h.typing settled hands leaks m waits (Excused (home h.typing h.frame) other facts) kept sound.owned sound.known live only way (variable_place h x)
+  pub name_same : (on : List (List machine.Word)) (x : ℕ) (steps : TypedTree) (t : ℕ) (way : List run.Step) → Goes h.typing.table (object_at h.typing x).of t steps way → Clean x steps
+      → (n' : Now) → SameNowAt on n' → SameTo h.typing (walked h.typing way (variable_place h x) (at on)) (walked h.typing way (variable_place h x) n')
+  name_same on x steps t way goes clean n' same =
+      walk_same h.typing settled hands leaks m on (Excused (home h.typing h.frame) other facts) kept sound.owned sound.known live only way (variable_place h x)
       (OfRoot (OfVariable (home h.typing h.frame x) x)) (first_way x) t
       (record { base = refl; made = tt; at = refl; there = refl; of = inl refl }) tt refl goes.lead
       (λ v p moved. elim moved [
@@ -212,16 +211,16 @@ module _ (h : Here) (settled : IsSettled h.typing.table) (hands : List Waiting) 
       spot_whole h.typing settled m hands only kept k l spot
       (plain_whole h.typing settled m hands k l spot (λ p. no_leaf h.typing.table settled k.of (ap (λ z. is_scalar (full h.typing.table z)) of ∙ scalar) p))
 
-  read_same : (u : Use) (w : Way) (t : ℕ) → is_scalar (full h.typing.table t) ≡ true → (k : Place) (n n' : Now)
-      → Walked h.typing settled hands leaks m waits w t (Done k n) → SameNow h.typing n n' → SameTo h.typing (held_or_taken h u k n) (held_or_taken h u k n')
-  read_same AsView w t scalar k n n' (l, is, spot, reaches, of) same =
+  read_same : (on : List (List machine.Word)) (u : Use) (w : Way) (t : ℕ) → is_scalar (full h.typing.table t) ≡ true → (k : Place) (n n' : Now)
+      → Walked h.typing settled hands leaks m on w t (Done k n) → SameNow h.typing n n' → SameTo h.typing (held_or_taken h u k n) (held_or_taken h u k n')
+  read_same on AsView w t scalar k n n' (l, is, spot, reaches, of) same =
       view_same h k n n' (subst (λ (z : Now). NoneGone (slots_of h.typing z.memory k)) (sym is) (scalar_none k l t spot of scalar)) same
-  read_same AsValue w t scalar k n n' (l, is, spot, reaches, of) same =
+  read_same on AsValue w t scalar k n n' (l, is, spot, reaches, of) same =
       copy_same h k n n' (subst (λ (z : Now). NoneGone (slots_of h.typing z.memory k)) (sym is) (scalar_none k l t spot of scalar))
       (ap (is_owning h.typing.table) of ∙ not_owning t scalar) same
 
-  abbrev QuietAt : {A : Type 0} → (A → Type 0) → Evaluated A → Type 0
-  QuietAt P x = Quiet at P x
+  abbrev QuietAt : {A : Type 0} → List (List machine.Word) → (A → Type 0) → Evaluated A → Type 0
+  QuietAt on P x = Quiet (at on) P x
 
   abbrev Stay : List Placed → Type 0
   Stay ps = after (acts ps) facts ≡ facts
@@ -231,41 +230,44 @@ module _ (h : Here) (settled : IsSettled h.typing.table) (hands : List Waiting) 
       let each = allows_both facts (acts a) (acts b) (subst (AllowsAll facts) (acts_append a b) x) in
       (λ stay. subst (λ z. AllowsAll z (acts b)) stay each.1, each.0)
 
-  quiet_here : (u : Use) (e : TypedTree) → Stays h.typing e → has_call e ≡ false → AllowsAll facts (acts (acts_in h.typing e))
-      → Quiet at One (evaluate h u e at) × Stay (acts_in h.typing e)
-  quiet_here u e stays calls allowed = quiet h settled hands leaks m waits other facts kept sound alone live index_law own_law all_named u e stays calls allowed
+  quiet_here : (u : Use) (e : TypedTree) → Stays h.typing e → (before on : List (List machine.Word)) → Takes (waiting e) before on
+      → AllowsAll facts (acts (acts_in h.typing e))
+      → Quiet (at on) One (evaluate h u e (at before)) × Stay (acts_in h.typing e)
+  quiet_here u e stays before on takes allowed =
+      taking h settled hands leaks m waits other facts kept sound alone live index_law own_law all_named u e stays before on takes allowed
 
-  steps_here : (t u : ℕ) (steps : TypedTree) → Leads h.typing t steps u → has_call steps ≡ false → AllowsAll facts (acts (acts_in h.typing steps))
-      → Quiet at (λ way. Goes h.typing.table t u steps way) (steps_of h steps at) × Stay (acts_in h.typing steps)
-  steps_here t u steps lead calls allowed =
-      steps_quiet h settled hands leaks m waits other facts kept sound alone live index_law own_law all_named t u steps lead calls allowed
+  steps_here : (t u : ℕ) (steps : TypedTree) → Leads h.typing t steps u → (before on : List (List machine.Word)) → Takes (waiting steps) before on
+      → AllowsAll facts (acts (acts_in h.typing steps))
+      → Quiet (at on) (λ way. Goes h.typing.table t u steps way) (steps_of h steps (at before)) × Stay (acts_in h.typing steps)
+  steps_here t u steps lead before on takes allowed =
+      steps_taking h settled hands leaks m waits other facts kept sound alone live index_law own_law all_named t u steps lead before on takes allowed
 
-  name_here : (x : ℕ) (steps : TypedTree) (t : ℕ) (way : List run.Step) → Goes h.typing.table (object_at h.typing x).of t steps way → Clean x steps
-      → Walked h.typing settled hands leaks m waits (way_along way (first_way x)) t (walked h.typing way (variable_place h x) at)
-  name_here x steps t way goes clean = name_quiet h settled hands leaks m waits other facts kept sound alone live index_law own_law all_named x steps t way goes clean
+  name_here : (on : List (List machine.Word)) (x : ℕ) (steps : TypedTree) (t : ℕ) (way : List run.Step) → Goes h.typing.table (object_at h.typing x).of t steps way → Clean x steps
+      → Walked h.typing settled hands leaks m on (way_along way (first_way x)) t (walked h.typing way (variable_place h x) (at on))
+  name_here on x steps t way goes clean = name_on h settled hands leaks m waits other facts kept sound alone live index_law own_law all_named on x steps t way goes clean
 
   -- a name whose steps are evaluated, and what is done with its place
-  pub place_then : {A : Type 0} (x t : ℕ) (steps : TypedTree) (f g : Place → Now → Evaluated A) → Clean x steps
-      → Quiet at (λ way. Goes h.typing.table (object_at h.typing x).of t steps way) (steps_of h steps at) → (n' : Now)
-      → SameTo h.typing (steps_of h steps at) (steps_of h steps n')
+  pub place_then : {A : Type 0} (before on : List (List machine.Word)) (x t : ℕ) (steps : TypedTree) (f g : Place → Now → Evaluated A) → Clean x steps
+      → Quiet (at on) (λ way. Goes h.typing.table (object_at h.typing x).of t steps way) (steps_of h steps (at before)) → (n' : Now)
+      → SameTo h.typing (steps_of h steps (at before)) (steps_of h steps n')
       → ((way : List run.Step) → Goes h.typing.table (object_at h.typing x).of t steps way → (k : Place) (n n' : Now)
-      → Walked h.typing settled hands leaks m waits (way_along way (first_way x)) t (Done k n) → SameNow h.typing n n' → SameTo h.typing (f k n) (g k n'))
-      → SameTo h.typing (followed_by (steps_of h steps at) (λ way now. followed_by (walked h.typing way (variable_place h x) now) f))
+      → Walked h.typing settled hands leaks m on (way_along way (first_way x)) t (Done k n) → SameNow h.typing n n' → SameTo h.typing (f k n) (g k n'))
+      → SameTo h.typing (followed_by (steps_of h steps (at before)) (λ way now. followed_by (walked h.typing way (variable_place h x) now) f))
       (followed_by (steps_of h steps n') (λ way now. followed_by (walked h.typing way (variable_place h x) now) g))
-  place_then x t steps f g clean q n' same next =
-      then_same h.typing (QuietAt (λ way. Goes h.typing.table (object_at h.typing x).of t steps way)) (steps_of h steps at) (steps_of h steps n')
+  place_then before on x t steps f g clean q n' same next =
+      then_same h.typing (QuietAt on (λ way. Goes h.typing.table (object_at h.typing x).of t steps way)) (steps_of h steps (at before)) (steps_of h steps n')
       (λ way now. followed_by (walked h.typing way (variable_place h x) now) f) (λ way now. followed_by (walked h.typing way (variable_place h x) now) g) q same
       (λ way n n'' p now. subst (λ z. SameTo h.typing (followed_by (walked h.typing way (variable_place h x) z) f) (followed_by (walked h.typing way (variable_place h x) n'') g)) (sym p.0)
-      (then_same h.typing (Walked h.typing settled hands leaks m waits (way_along way (first_way x)) t) (walked h.typing way (variable_place h x) at)
-      (walked h.typing way (variable_place h x) n'') f g (name_here x steps t way p.1 clean)
-      (name_same x steps t way p.1 clean n'' (subst (λ z. SameNow h.typing z n'') p.0 now)) (next way p.1)))
+      (then_same h.typing (Walked h.typing settled hands leaks m on (way_along way (first_way x)) t) (walked h.typing way (variable_place h x) (at on))
+      (walked h.typing way (variable_place h x) n'') f g (name_here on x steps t way p.1 clean)
+      (name_same on x steps t way p.1 clean n'' (subst (λ z. SameNow h.typing z n'') p.0 now)) (next way p.1)))
 
   -- what is compared with null
-  looked_same : (x t : ℕ) (steps : TypedTree) (d : ℕ) (c b : Bool) → shape_of h.typing.table t ≡ shape.Access d c b → Allows facts (act.Look (name_of x steps))
+  looked_same : (on : List (List machine.Word)) (x t : ℕ) (steps : TypedTree) (d : ℕ) (c b : Bool) → shape_of h.typing.table t ≡ shape.Access d c b → Allows facts (act.Look (name_of x steps))
       → (way : List run.Step) → Goes h.typing.table (object_at h.typing x).of t steps way → (k : Place) (n n' : Now)
-      → Walked h.typing settled hands leaks m waits (way_along way (first_way x)) t (Done k n) → SameNow h.typing n n'
+      → Walked h.typing settled hands leaks m on (way_along way (first_way x)) t (Done k n) → SameNow h.typing n n'
       → SameTo h.typing (held_or_taken h AsView k n) (held_or_taken h AsView k n')
-  looked_same x t steps d c b is looks way goes k n n' (l, still, spot, reaches, of) same =
+  looked_same on x t steps d c b is looks way goes k n n' (l, still, spot, reaches, of) same =
       let w : Way = way_along way (first_way x) in
       let rooted = named_rooted (home h.typing h.frame) w (named_way x way) in
       let mine : Allows facts (act.Look (ways.name_of w)) = subst (λ z. Allows facts (act.Look z)) (sym (called x t steps way goes)) looks in
@@ -280,195 +282,213 @@ module _ (h : Here) (settled : IsSettled h.typing.table) (hands : List Waiting) 
       ])) in
       view_same h k n n' (subst (λ (z : Now). NoneGone (slots_of h.typing z.memory k)) (sym still) none) same
 
-  mutual
-    unfolding Stays Leads Compares evaluate steps_of acts_in has_call selectors
+  -- the value that waits first
+  waited_same : (n n' : Now) → SameNow h.typing n n' → SameTo h.typing (run.waited n) (run.waited n')
+  waited_same n n' same = (ap (λ ws. get_or ws 0 []) same.1, (same.0, ap (drop 1) same.1, same.2))
 
-    pub scalar_same : (u : Use) (e : TypedTree) → Stays h.typing e → has_call e ≡ false → Compares h.typing e → AllowsAll facts (acts (acts_in h.typing e))
-        → (n' : Now) → SameNowAt n' → SameTo h.typing (evaluate h u e at) (evaluate h u e n')
-    scalar_same u (Number v) stays none compares allowed n' same = (refl, same)
-    scalar_same u (Literal n) stays none compares allowed n' same = (refl, same)
-    scalar_same u typed.Null stays none compares allowed n' same = (refl, same)
-    scalar_same u (Text b) stays none compares allowed n' same = absurd stays
-    scalar_same u EndOfFile stays none compares allowed n' same = (refl, same)
-    scalar_same u NoMore stays none compares allowed n' same = absurd stays
-    scalar_same u (Name p x steps t) (lead, scalar) none compares allowed n' same =
+  mutual
+    unfolding Stays Leads Compares evaluate steps_of acts_in has_call selectors waiting
+
+    pub scalar_on : (u : Use) (e : TypedTree) → Stays h.typing e → (before on : List (List machine.Word)) → Takes (waiting e) before on → Compares h.typing e
+        → AllowsAll facts (acts (acts_in h.typing e))
+        → (n' : Now) → SameNowAt before n' → SameTo h.typing (evaluate h u e (at before)) (evaluate h u e n')
+    scalar_on u (Number v) stays before on takes compares allowed n' same = (refl, same)
+    scalar_on u (Literal n) stays before on takes compares allowed n' same = (refl, same)
+    scalar_on u typed.Null stays before on takes compares allowed n' same = (refl, same)
+    scalar_on u (Text b) stays before on takes compares allowed n' same = absurd stays
+    scalar_on u EndOfFile stays before on takes compares allowed n' same = (refl, same)
+    scalar_on u NoMore stays before on takes compares allowed n' same = absurd stays
+    scalar_on u (Name p x steps t) (lead, scalar) before on takes compares allowed n' same =
         let owns = not_owning t scalar in
         let is : used h.typing (name_of x steps) t ≡ act.Read (name_of x steps) =
         ap (λ b. if b then act.Move (name_of x steps) (parts h.typing.table t) else act.Read (name_of x steps)) owns in
         let each = split_allowed (acts_in h.typing steps) (record { pos = p; act = used h.typing (name_of x steps) t } ∷ []) allowed in
-        let inner = steps_here (object_at h.typing x).of t steps lead none each.1 in
+        let inner = steps_here (object_at h.typing x).of t steps lead before on takes each.1 in
         let reads : Allows facts (act.Read (name_of x steps)) = subst (Allows facts) is (each.0 inner.1).0 in
-        place_then x t steps (held_or_taken h u) (held_or_taken h u)
+        place_then before on x t steps (held_or_taken h u) (held_or_taken h u)
         (λ w named same_name v past moved. read_way (home h.typing h.frame) facts w (subst (λ z. Allows facts (act.Read z)) (sym same_name) reads) v past moved)
-        inner.0 n' (steps_same (object_at h.typing x).of t steps lead none compares each.1 n' same)
-        (λ way goes k n n'' walked now. read_same u (way_along way (first_way x)) t scalar k n n'' walked now)
-    scalar_same u (Call p sub actuals) stays none compares allowed n' same = cc
-    scalar_same u (Parens e) stays none compares allowed n' same = scalar_same AsValue e stays none compares allowed n' same
-    scalar_same u (Image t e) stays none compares allowed n' same = absurd stays
-    scalar_same u (Unary op e) stays none compares allowed n' same =
-        simply h.typing (evaluate h AsValue e at) (evaluate h AsValue e n') (operated_alone op) (operated_alone op)
-        (scalar_same AsValue e stays none compares allowed n' same) (λ ws n n'' now. one_same h op ws n n'' now)
-    scalar_same u (Binary op a b) stays none compares allowed n' same =
-        let calls = or_cases (has_call a) (has_call b) none in
+        inner.0 n' (steps_on (object_at h.typing x).of t steps lead before on takes compares each.1 n' same)
+        (λ way goes k n n'' walked now. read_same on u (way_along way (first_way x)) t scalar k n n'' walked now)
+    scalar_on u (Call p sub actuals) stays before on takes compares allowed n' same = waited_same (at before) n' same
+    scalar_on u (Parens e) stays before on takes compares allowed n' same = scalar_on AsValue e stays before on takes compares allowed n' same
+    scalar_on u (Image t e) stays before on takes compares allowed n' same = absurd stays
+    scalar_on u (Unary op e) stays before on takes compares allowed n' same =
+        simply h.typing (evaluate h AsValue e (at before)) (evaluate h AsValue e n') (operated_alone op) (operated_alone op)
+        (scalar_on AsValue e stays before on takes compares allowed n' same) (λ ws n n'' now. one_same h op ws n n'' now)
+    scalar_on u (Binary op a b) stays before on takes compares allowed n' same =
+        let two = takes_both (waiting a) (waiting b) before on takes in
         let each = split_allowed (acts_in h.typing a) (acts_in h.typing b) allowed in
-        let left = quiet_here AsValue a stays.0 calls.0 each.1 in
-        then_same h.typing (QuietAt One) (evaluate h AsValue a at) (evaluate h AsValue a n')
+        let left = quiet_here AsValue a stays.0 before two.0 two.1 each.1 in
+        then_same h.typing (QuietAt two.0 One) (evaluate h AsValue a (at before)) (evaluate h AsValue a n')
         (λ x now. followed_by (evaluate h AsValue b now) (operated op x)) (λ x now. followed_by (evaluate h AsValue b now) (operated op x)) left.0
-        (scalar_same AsValue a stays.0 calls.0 compares.0 each.1 n' same)
+        (scalar_on AsValue a stays.0 before two.0 two.1 compares.0 each.1 n' same)
         (λ x n n'' q now. subst (λ z. SameTo h.typing (followed_by (evaluate h AsValue b z) (operated op x)) (followed_by (evaluate h AsValue b n'') (operated op x))) (sym q.0)
-        (simply h.typing (evaluate h AsValue b at) (evaluate h AsValue b n'') (operated op x) (operated op x)
-        (scalar_same AsValue b stays.1 calls.1 compares.1 (each.0 left.1) n'' (subst (λ z. SameNow h.typing z n'') q.0 now))
+        (simply h.typing (evaluate h AsValue b (at two.0)) (evaluate h AsValue b n'') (operated op x) (operated op x)
+        (scalar_on AsValue b stays.1 two.0 on two.2 compares.1 (each.0 left.1) n'' (subst (λ z. SameNow h.typing z n'') q.0 now))
         (λ y k k' last. two_same h op x y k k' last)))
-    scalar_same u (Short op p a q b) stays none compares allowed n' same =
-        let calls = or_cases (has_call a) (has_call b) none in
-        let is : acts_in h.typing (Short op p a q b) ≡ acts_in h.typing a ++ acts_in h.typing b =
-        ap (λ c. if c then [] else acts_in h.typing a ++ acts_in h.typing b) calls.1 in
-        let each = split_allowed (acts_in h.typing a) (acts_in h.typing b) (subst (λ z. AllowsAll facts (acts z)) is allowed) in
-        let left = quiet_here AsValue a stays.0 calls.0 each.1 in
-        let right : List machine.Word → Now → Evaluated (List machine.Word) = (λ x now. if decides op x then Done x now else evaluate h AsValue b now) in
-        subst (λ c. SameTo h.typing (if c then run.waited at else followed_by (evaluate h AsValue a at) right)
-        (if c then run.waited n' else followed_by (evaluate h AsValue a n') right)) (sym calls.1)
-        (then_same h.typing (QuietAt One) (evaluate h AsValue a at) (evaluate h AsValue a n') right right left.0
-        (scalar_same AsValue a stays.0 calls.0 compares.0 each.1 n' same)
-        (λ x n n'' q now. decided (decides op x) x n n'' now (subst (λ z. SameTo h.typing (evaluate h AsValue b z) (evaluate h AsValue b n'')) (sym q.0)
-        (scalar_same AsValue b stays.1 calls.1 compares.1 (each.0 left.1) n'' (subst (λ z. SameNow h.typing z n'') q.0 now)))))
+    -- with a call on the right, the value waits
+    scalar_on u (Short op p a q b) stays before on takes compares allowed n' same = elim (bool_cases (has_call b)) [
+      | inl called_there ↦ subst (λ c. SameTo h.typing (if c then run.waited (at before) else followed_by (evaluate h AsValue a (at before)) right)
+          (if c then run.waited n' else followed_by (evaluate h AsValue a n') right)) (sym called_there) (waited_same (at before) n' same)
+      | inr none ↦ (
+          let is : acts_in h.typing (Short op p a q b) ≡ acts_in h.typing a ++ acts_in h.typing b =
+          ap (λ c. if c then [] else acts_in h.typing a ++ acts_in h.typing b) none in
+          let sum = takes_as _ (waiting a + waiting b) before on (ap (λ c. if c then 1 else waiting a + waiting b) none) takes in
+          let two = takes_both (waiting a) (waiting b) before on sum in
+          let each = split_allowed (acts_in h.typing a) (acts_in h.typing b) (subst (λ z. AllowsAll facts (acts z)) is allowed) in
+          let left = quiet_here AsValue a stays.0 before two.0 two.1 each.1 in
+          subst (λ c. SameTo h.typing (if c then run.waited (at before) else followed_by (evaluate h AsValue a (at before)) right)
+          (if c then run.waited n' else followed_by (evaluate h AsValue a n') right)) (sym none)
+          (then_same h.typing (QuietAt two.0 One) (evaluate h AsValue a (at before)) (evaluate h AsValue a n') right right left.0
+          (scalar_on AsValue a stays.0 before two.0 two.1 compares.0 each.1 n' same)
+          (λ x n n'' q now. decided (decides op x) x n n'' now (subst (λ z. SameTo h.typing (evaluate h AsValue b z) (evaluate h AsValue b n'')) (sym q.0)
+          (scalar_on AsValue b stays.1 two.0 on two.2 compares.1 (each.0 left.1) n'' (subst (λ z. SameNow h.typing z n'') q.0 now))))))
+    ]
       where
+        right : List machine.Word → Now → Evaluated (List machine.Word)
+        right = (λ x now. if decides op x then Done x now else evaluate h AsValue b now)
+
         decided : (c : Bool) (x : List machine.Word) (n n'' : Now) → SameNow h.typing n n'' → SameTo h.typing (evaluate h AsValue b n) (evaluate h AsValue b n'')
             → SameTo h.typing (if c then Done x n else evaluate h AsValue b n) (if c then Done x n'' else evaluate h AsValue b n'')
         decided true x n n'' now is = (refl, now)
         decided false x n n'' now is = is
-    scalar_same u (IsNull equal (Name p x steps t)) lead none (d, c, b, is, compares) allowed n' same =
+    scalar_on u (IsNull equal (Name p x steps t)) lead before on takes (d, c, b, is, compares) allowed n' same =
         let each = split_allowed (acts_in h.typing steps) (record { pos = p; act = act.Look (name_of x steps) } ∷ []) allowed in
-        let inner = steps_here (object_at h.typing x).of t steps lead none each.1 in
+        let inner = steps_here (object_at h.typing x).of t steps lead before on takes each.1 in
         let looks : Allows facts (act.Look (name_of x steps)) = (each.0 inner.1).0 in
-        simply h.typing (evaluate h AsView (Name p x steps t) at) (evaluate h AsView (Name p x steps t) n')
+        simply h.typing (evaluate h AsView (Name p x steps t) (at before)) (evaluate h AsView (Name p x steps t) n')
         (λ ws now. Done (truth (if run.is_null ws then equal else not equal)) now) (λ ws now. Done (truth (if run.is_null ws then equal else not equal)) now)
-        (place_then x t steps (held_or_taken h AsView) (held_or_taken h AsView)
+        (place_then before on x t steps (held_or_taken h AsView) (held_or_taken h AsView)
         (λ w named same_name v past moved. look_way (home h.typing h.frame) facts w (subst (λ z. Allows facts (act.Look z)) (sym same_name) looks) v past moved)
-        inner.0 n' (steps_same (object_at h.typing x).of t steps lead none compares each.1 n' same)
-        (λ way goes k n n'' walked now. looked_same x t steps d c b is looks way goes k n n'' walked now))
+        inner.0 n' (steps_on (object_at h.typing x).of t steps lead before on takes compares each.1 n' same)
+        (λ way goes k n n'' walked now. looked_same on x t steps d c b is looks way goes k n n'' walked now))
         (λ ws n n'' now. (refl, now))
-    scalar_same u (IsNull equal (Call p sub actuals)) stays none compares allowed n' same = cc
-    scalar_same u (IsNull equal e) stays none compares allowed n' same = absurd stays
-    scalar_same u (More e rest) stays none compares allowed n' same = absurd stays
-    scalar_same u (Aggregate t es) stays none compares allowed n' same = absurd stays
-    scalar_same u (Alike t e) stays none compares allowed n' same = absurd stays
-    scalar_same u (New t v) stays none compares allowed n' same = absurd stays
-    scalar_same u (IntoComponent i rest) stays none compares allowed n' same = absurd stays
-    scalar_same u (Designated rest) stays none compares allowed n' same = absurd stays
-    scalar_same u (Element index low high rest) stays none compares allowed n' same = absurd stays
+    scalar_on u (IsNull equal (Call p sub actuals)) stays before on takes compares allowed n' same =
+        simply h.typing (run.waited (at before)) (run.waited n')
+        (λ ws now. Done (truth (if run.is_null ws then equal else not equal)) now) (λ ws now. Done (truth (if run.is_null ws then equal else not equal)) now)
+        (waited_same (at before) n' same) (λ ws n n'' now. (refl, now))
+    scalar_on u (IsNull equal e) stays before on takes compares allowed n' same = absurd stays
+    scalar_on u (More e rest) stays before on takes compares allowed n' same = absurd stays
+    scalar_on u (Aggregate t es) stays before on takes compares allowed n' same = absurd stays
+    scalar_on u (Alike t e) stays before on takes compares allowed n' same = absurd stays
+    scalar_on u (New t v) stays before on takes compares allowed n' same = absurd stays
+    scalar_on u (IntoComponent i rest) stays before on takes compares allowed n' same = absurd stays
+    scalar_on u (Designated rest) stays before on takes compares allowed n' same = absurd stays
+    scalar_on u (Element index low high rest) stays before on takes compares allowed n' same = absurd stays
 
-    pub steps_same : (t u : ℕ) (steps : TypedTree) → Leads h.typing t steps u → has_call steps ≡ false → Compares h.typing steps
-        → AllowsAll facts (acts (acts_in h.typing steps)) → (n' : Now) → SameNowAt n' → SameTo h.typing (steps_of h steps at) (steps_of h steps n')
-    steps_same t u (IntoComponent i rest) (lt, lead) none compares allowed n' same =
-        simply h.typing (steps_of h rest at) (steps_of h rest n') (λ way now. Done (run.ToComponent i ∷ way) now) (λ way now. Done (run.ToComponent i ∷ way) now)
-        (steps_same (component_type h.typing.table t i) u rest lead none compares allowed n' same) (λ way n n'' now. (refl, now))
-    steps_same t u (Designated rest) (d, c, b, is, lead) none compares allowed n' same =
-        simply h.typing (steps_of h rest at) (steps_of h rest n') (λ way now. Done (run.ToDesignated ∷ way) now) (λ way now. Done (run.ToDesignated ∷ way) now)
-        (steps_same d u rest lead none compares allowed n' same) (λ way n n'' now. (refl, now))
-    steps_same t u (Element index low high rest) (e, is, stays, lead) none compares allowed n' same =
-        let calls = or_cases (has_call index) (has_call rest) none in
+    pub steps_on : (t u : ℕ) (steps : TypedTree) → Leads h.typing t steps u → (before on : List (List machine.Word)) → Takes (waiting steps) before on
+        → Compares h.typing steps → AllowsAll facts (acts (acts_in h.typing steps))
+        → (n' : Now) → SameNowAt before n' → SameTo h.typing (steps_of h steps (at before)) (steps_of h steps n')
+    steps_on t u (IntoComponent i rest) (lt, lead) before on takes compares allowed n' same =
+        simply h.typing (steps_of h rest (at before)) (steps_of h rest n') (λ way now. Done (run.ToComponent i ∷ way) now) (λ way now. Done (run.ToComponent i ∷ way) now)
+        (steps_on (component_type h.typing.table t i) u rest lead before on takes compares allowed n' same) (λ way n n'' now. (refl, now))
+    steps_on t u (Designated rest) (d, c, b, is, lead) before on takes compares allowed n' same =
+        simply h.typing (steps_of h rest (at before)) (steps_of h rest n') (λ way now. Done (run.ToDesignated ∷ way) now) (λ way now. Done (run.ToDesignated ∷ way) now)
+        (steps_on d u rest lead before on takes compares allowed n' same) (λ way n n'' now. (refl, now))
+    steps_on t u (Element index low high rest) (e, is, stays, lead) before on takes compares allowed n' same =
+        let two = takes_both (waiting index) (waiting rest) before on takes in
         let each = split_allowed (acts_in h.typing index) (acts_in h.typing rest) allowed in
-        let first = quiet_here AsValue index stays calls.0 each.1 in
+        let first = quiet_here AsValue index stays before two.0 two.1 each.1 in
         let last : ℕ → Now → Evaluated (List run.Step) = (λ k now. followed_by (steps_of h rest now) (λ way now. Done (run.ToElement k ∷ way) now)) in
-        then_same h.typing (QuietAt One) (evaluate h AsValue index at) (evaluate h AsValue index n')
+        then_same h.typing (QuietAt two.0 One) (evaluate h AsValue index (at before)) (evaluate h AsValue index n')
         (λ ws now. followed_by (indexed low high ws now) last) (λ ws now. followed_by (indexed low high ws now) last) first.0
-        (scalar_same AsValue index stays calls.0 compares.0 each.1 n' same)
+        (scalar_on AsValue index stays before two.0 two.1 compares.0 each.1 n' same)
         (λ ws n n'' q now.
         let test = index_same h low high ws n n'' now in
         then_same h.typing (Still h n) (indexed low high ws n) (indexed low high ws n'') last last test.1 test.0
         (λ k i i' still so. subst (λ z. SameTo h.typing (last k z) (last k i')) (sym (still ∙ q.0))
-        (simply h.typing (steps_of h rest at) (steps_of h rest i') (λ way now. Done (run.ToElement k ∷ way) now) (λ way now. Done (run.ToElement k ∷ way) now)
-        (steps_same e u rest lead calls.1 compares.1 (each.0 first.1) i' (subst (λ z. SameNow h.typing z i') (still ∙ q.0) so)) (λ way n n'' now. (refl, now)))))
-    steps_same t u NoMore lead none compares allowed n' same = (refl, same)
-    steps_same t u steps lead none compares allowed n' same = absurd lead
+        (simply h.typing (steps_of h rest (at two.0)) (steps_of h rest i') (λ way now. Done (run.ToElement k ∷ way) now) (λ way now. Done (run.ToElement k ∷ way) now)
+        (steps_on e u rest lead two.0 on two.2 compares.1 (each.0 first.1) i' (subst (λ z. SameNow h.typing z i') (still ∙ q.0) so)) (λ way n n'' now. (refl, now)))))
+    steps_on t u NoMore lead before on takes compares allowed n' same = (refl, same)
+    steps_on t u steps lead before on takes compares allowed n' same = absurd lead
 
   -- ---- places
 
   -- A place that a name leads to.
-  abbrev pub IsPlaced : ℕ → ℕ → TypedTree → Evaluated Place → Type 0
-  IsPlaced x t steps (Done k n) =
+  abbrev pub IsPlaced : List (List machine.Word) → ℕ → ℕ → TypedTree → Evaluated Place → Type 0
+  IsPlaced on x t steps (Done k n) =
       (way : List run.Step) × Goes h.typing.table (object_at h.typing x).of t steps way
-      × Walked h.typing settled hands leaks m waits (way_along way (first_way x)) t (Done k n)
-  IsPlaced x t steps y = Unit {0}
+      × Walked h.typing settled hands leaks m on (way_along way (first_way x)) t (Done k n)
+  IsPlaced on x t steps y = Unit {0}
 
-  from_walk : (x t : ℕ) (steps : TypedTree) (way : List run.Step) → Goes h.typing.table (object_at h.typing x).of t steps way → (z : Evaluated Place)
-      → Walked h.typing settled hands leaks m waits (way_along way (first_way x)) t z → IsPlaced x t steps z
-  from_walk x t steps way goes (Done k n) is = (way, goes, is)
-  from_walk x t steps way goes (Raises e n) is = tt
-  from_walk x t steps way goes (Traps e n) is = tt
+  from_walk : (on : List (List machine.Word)) (x t : ℕ) (steps : TypedTree) (way : List run.Step) → Goes h.typing.table (object_at h.typing x).of t steps way → (z : Evaluated Place)
+      → Walked h.typing settled hands leaks m on (way_along way (first_way x)) t z → IsPlaced on x t steps z
+  from_walk on x t steps way goes (Done k n) is = (way, goes, is)
+  from_walk on x t steps way goes (Raises e n) is = tt
+  from_walk on x t steps way goes (Traps e n) is = tt
 
-  placed_there : (x t : ℕ) (steps : TypedTree) → Clean x steps → (y : Evaluated (List run.Step))
-      → Quiet at (λ way. Goes h.typing.table (object_at h.typing x).of t steps way) y
-      → IsPlaced x t steps (followed_by y (λ way now. walked h.typing way (variable_place h x) now))
-  placed_there x t steps clean (Done way n) (same, goes) =
-      subst (λ z. IsPlaced x t steps (walked h.typing way (variable_place h x) z)) (sym same)
-      (from_walk x t steps way goes (walked h.typing way (variable_place h x) at) (name_here x steps t way goes clean))
-  placed_there x t steps clean (Raises e n) q = tt
-  placed_there x t steps clean (Traps e n) q = tt
+  placed_there : (on : List (List machine.Word)) (x t : ℕ) (steps : TypedTree) → Clean x steps → (y : Evaluated (List run.Step))
+      → Quiet (at on) (λ way. Goes h.typing.table (object_at h.typing x).of t steps way) y
+      → IsPlaced on x t steps (followed_by y (λ way now. walked h.typing way (variable_place h x) now))
+  placed_there on x t steps clean (Done way n) (same, goes) =
+      subst (λ z. IsPlaced on x t steps (walked h.typing way (variable_place h x) z)) (sym same)
+      (from_walk on x t steps way goes (walked h.typing way (variable_place h x) (at on)) (name_here on x steps t way goes clean))
+  placed_there on x t steps clean (Raises e n) q = tt
+  placed_there on x t steps clean (Traps e n) q = tt
 
-  pub place_same : (p : Pos) (x t : ℕ) (steps : TypedTree) → Leads h.typing (object_at h.typing x).of steps t → has_call steps ≡ false → Compares h.typing steps
-      → AllowsAll facts (acts (acts_in h.typing steps)) → Clean x steps → (n' : Now) → SameNowAt n'
-      → SameTo h.typing (place_of h (Name p x steps t) at) (place_of h (Name p x steps t) n') × IsPlaced x t steps (place_of h (Name p x steps t) at)
-  place_same p x t steps lead none compares allowed clean n' same =
-      let q = (steps_here (object_at h.typing x).of t steps lead none allowed).0 in (
-        then_same h.typing (QuietAt (λ way. Goes h.typing.table (object_at h.typing x).of t steps way)) (steps_of h steps at) (steps_of h steps n')
+  pub place_on : (before on : List (List machine.Word)) (p : Pos) (x t : ℕ) (steps : TypedTree) → Leads h.typing (object_at h.typing x).of steps t
+      → Takes (waiting steps) before on → Compares h.typing steps
+      → AllowsAll facts (acts (acts_in h.typing steps)) → Clean x steps → (n' : Now) → SameNowAt before n'
+      → SameTo h.typing (place_of h (Name p x steps t) (at before)) (place_of h (Name p x steps t) n') × IsPlaced on x t steps (place_of h (Name p x steps t) (at before))
+  place_on before on p x t steps lead takes compares allowed clean n' same =
+      let q = (steps_here (object_at h.typing x).of t steps lead before on takes allowed).0 in (
+        then_same h.typing (QuietAt on (λ way. Goes h.typing.table (object_at h.typing x).of t steps way)) (steps_of h steps (at before)) (steps_of h steps n')
             (λ way now. walked h.typing way (variable_place h x) now) (λ way now. walked h.typing way (variable_place h x) now) q
-            (steps_same (object_at h.typing x).of t steps lead none compares allowed n' same)
+            (steps_on (object_at h.typing x).of t steps lead before on takes compares allowed n' same)
             (λ way n n'' p now. subst (λ z. SameTo h.typing (walked h.typing way (variable_place h x) z) (walked h.typing way (variable_place h x) n'')) (sym p.0)
-            (name_same x steps t way p.1 clean n'' (subst (λ z. SameNow h.typing z n'') p.0 now))),
-        placed_there x t steps clean (steps_of h steps at) q,
+            (name_same on x steps t way p.1 clean n'' (subst (λ z. SameNow h.typing z n'') p.0 now))),
+        placed_there on x t steps clean (steps_of h steps (at before)) q,
       )
 
   -- ---- strings
 
-  text_quiet : {A B : Type 0} (x : Evaluated A) (f : A → Now → Evaluated B) → Quiet at (Any {A = A}) x → ((a : A) → Quiet at (Any {A = B}) (f a at))
-      → Quiet at (Any {A = B}) (followed_by x f)
-  text_quiet x f q next = quiet_then at Any Any x f q (λ a any. next a)
+  text_quiet : {A B : Type 0} (mid on : List (List machine.Word)) (x : Evaluated A) (f : A → Now → Evaluated B) → Quiet (at mid) (Any {A = A}) x
+      → ((a : A) → Quiet (at on) (Any {A = B}) (f a (at mid))) → Quiet (at on) (Any {A = B}) (followed_by x f)
+  text_quiet mid on x f q next = quiet_from (at mid) (at on) Any Any refl x f q (λ a any. next a)
 
-  weaker : (x : Evaluated (List machine.Word)) → Quiet at One x → Quiet at (Any {A = List machine.Word}) x
-  weaker (Done a n) q = (q.0, tt)
-  weaker (Raises e n) q = q
-  weaker (Traps e n) q = q
+  weaker : (on : List (List machine.Word)) (x : Evaluated (List machine.Word)) → Quiet (at on) One x → Quiet (at on) (Any {A = List machine.Word}) x
+  weaker on (Done a n) q = (q.0, tt)
+  weaker on (Raises e n) q = q
+  weaker on (Traps e n) q = q
 
-  pub text_same : (e : TypedTree) → Writes h.typing e → has_call e ≡ false → Compares h.typing e → AllowsAll facts (acts (acts_in h.typing e))
-      → (n' : Now) → SameNowAt n'
-      → SameTo h.typing (text_of h e at) (text_of h e n') × Quiet at (Any {A = List ℕ}) (text_of h e at) × Stay (acts_in h.typing e)
-  unfolding Writes text_of has_call acts_in Compares
-  text_same (Text b) writes none compares allowed n' same = ((refl, same), (refl, tt), refl)
-  text_same (Image u e) stays none compares allowed n' same =
-      let q = quiet_here AsValue e stays none allowed in (
-        simply h.typing (value h e at) (value h e n') (λ ws now. Done (run.image_of h.typing.table u ws) now) (λ ws now. Done (run.image_of h.typing.table u ws) now)
-            (scalar_same AsValue e stays none compares allowed n' same) (λ ws n n'' now. (refl, now)),
-        text_quiet (value h e at) (λ ws now. Done (run.image_of h.typing.table u ws) now) (weaker (value h e at) q.0) (λ ws. (refl, tt)),
+  pub text_on : (before on : List (List machine.Word)) (e : TypedTree) → Writes h.typing e → Takes (waiting e) before on → Compares h.typing e
+      → AllowsAll facts (acts (acts_in h.typing e)) → (n' : Now) → SameNowAt before n'
+      → SameTo h.typing (text_of h e (at before)) (text_of h e n') × Quiet (at on) (Any {A = List ℕ}) (text_of h e (at before)) × Stay (acts_in h.typing e)
+  unfolding Writes text_of acts_in Compares waiting
+  text_on before on (Text b) writes takes compares allowed n' same = ((refl, same), (ap at (takes_zero before on takes), tt), refl)
+  text_on before on (Image u e) stays takes compares allowed n' same =
+      let q = quiet_here AsValue e stays before on takes allowed in (
+        simply h.typing (value h e (at before)) (value h e n') (λ ws now. Done (run.image_of h.typing.table u ws) now) (λ ws now. Done (run.image_of h.typing.table u ws) now)
+            (scalar_on AsValue e stays before on takes compares allowed n' same) (λ ws n n'' now. (refl, now)),
+        text_quiet on on (value h e (at before)) (λ ws now. Done (run.image_of h.typing.table u ws) now) (weaker on (value h e (at before)) q.0) (λ ws. (refl, tt)),
         q.1,
       )
-  text_same (Parens e) writes none compares allowed n' same = text_same e writes none compares allowed n' same
-  text_same (Binary op a b) (wa, wb) none compares allowed n' same =
-      let calls = or_cases (has_call a) (has_call b) none in
+  text_on before on (Parens e) writes takes compares allowed n' same = text_on before on e writes takes compares allowed n' same
+  text_on before on (Binary op a b) (wa, wb) takes compares allowed n' same =
+      let two = takes_both (waiting a) (waiting b) before on takes in
       let each = split_allowed (acts_in h.typing a) (acts_in h.typing b) allowed in
-      let left = text_same a wa calls.0 compares.0 each.1 n' same in
-      let own = text_same b wb calls.1 compares.1 (each.0 left.2) n' same in
+      let left = text_on before two.0 a wa two.1 compares.0 each.1 n' same in
+      let own = text_on two.0 on b wb two.2 compares.1 (each.0 left.2) (at two.0) (itself_there two.0) in
       let second : List ℕ → Now → Evaluated (List ℕ) = (λ x now. followed_by (text_of h b now) (λ y now. Done (x ++ y) now)) in (
-        then_same h.typing (QuietAt (Any {A = List ℕ})) (text_of h a at) (text_of h a n') second second left.1 left.0
+        then_same h.typing (QuietAt two.0 (Any {A = List ℕ})) (text_of h a (at before)) (text_of h a n') second second left.1 left.0
             (λ x n n'' q now. subst (λ z. SameTo h.typing (second x z) (second x n'')) (sym q.0)
-            (simply h.typing (text_of h b at) (text_of h b n'') (λ y now. Done (x ++ y) now) (λ y now. Done (x ++ y) now)
-            (text_same b wb calls.1 compares.1 (each.0 left.2) n'' (subst (λ z. SameNow h.typing z n'') q.0 now)).0 (λ y k k' last. (refl, last)))),
-        text_quiet (text_of h a at) second left.1 (λ x. text_quiet (text_of h b at) (λ y now. Done (x ++ y) now) own.1 (λ y. (refl, tt))),
+            (simply h.typing (text_of h b (at two.0)) (text_of h b n'') (λ y now. Done (x ++ y) now) (λ y now. Done (x ++ y) now)
+            (text_on two.0 on b wb two.2 compares.1 (each.0 left.2) n'' (subst (λ z. SameNow h.typing z n'') q.0 now)).0 (λ y k k' last. (refl, last)))),
+        text_quiet two.0 on (text_of h a (at before)) second left.1
+            (λ x. text_quiet on on (text_of h b (at two.0)) (λ y now. Done (x ++ y) now) own.1 (λ y. (refl, tt))),
         ap (λ z. after z facts) (acts_append (acts_in h.typing a) (acts_in h.typing b)) ∙ after_append (acts (acts_in h.typing a)) (acts (acts_in h.typing b)) facts
             ∙ ap (after (acts (acts_in h.typing b))) left.2 ∙ own.2,
       )
-  text_same e writes none compares allowed n' same = absurd writes
+    where
+      itself_there : (ws : List (List machine.Word)) → SameNowAt ws (at ws)
+      itself_there ws = (itself m, refl, only)
+  text_on before on e writes takes compares allowed n' same = absurd writes
 
   -- ---- actuals of formals of scalar types
 
   if_same : (b : Bool) (x y x' y' : Evaluated (List machine.Word)) → SameTo h.typing x x' → SameTo h.typing y y' → SameTo h.typing (if b then x else y) (if b then x' else y')
   if_same true x y x' y' p q = p
   if_same false x y x' y' p q = q
-
-  if_quiet : (b : Bool) (x y : Evaluated (List machine.Word)) → Quiet at One x → Quiet at One y → Quiet at One (if b then x else y)
-  if_quiet true x y p q = p
-  if_quiet false x y p q = q
 
   value_there : (x : ℕ) (ws : List machine.Word) (n n' : Now) → SameNow h.typing n n'
       → SameTo h.typing (followed_by (checked h (type_of h x) ws n) value_passed) (followed_by (checked h (type_of h x) ws n') value_passed)
@@ -479,32 +499,21 @@ module _ (h : Here) (settled : IsSettled h.typing.table) (hands : List Waiting) 
       by_test true = (refl, same)
       by_test false = (refl, same)
 
-  given_quiet : (x : ℕ) (ws : List machine.Word) → Quiet at (Any {A = Passed}) (followed_by (checked h (type_of h x) ws at) value_passed)
-  given_quiet x ws = by_test (fits_type h.typing.table (type_of h x) ws)
-    where
-      by_test : (b : Bool) → Quiet at (Any {A = Passed}) (followed_by (if b then Done ws at else Raises run.ConstraintError at) value_passed)
-      by_test true = (refl, tt)
-      by_test false = refl
-
-  passed_same : (x : ℕ) (e : TypedTree) → Stays h.typing e → has_call e ≡ false → Compares h.typing e → AllowsAll facts (acts (acts_in h.typing e))
-      → (n' : Now) → SameNowAt n'
-      → SameTo h.typing (passed h ByValue x e at) (passed h ByValue x e n') × Quiet at (Any {A = Passed}) (passed h ByValue x e at)
-  passed_same x e stays none compares allowed n' same =
+  passed_same : (before on : List (List machine.Word)) (x : ℕ) (e : TypedTree) → Stays h.typing e → Takes (waiting e) before on → Compares h.typing e
+      → AllowsAll facts (acts (acts_in h.typing e)) → (n' : Now) → SameNowAt before n'
+      → SameTo h.typing (passed h ByValue x e (at before)) (passed h ByValue x e n')
+  passed_same before on x e stays takes compares allowed n' same =
       let b : Bool = is_anonymous (view_of_object h.typing x) in
-      let last : List machine.Word → Now → Evaluated Passed = (λ ws now. followed_by (checked h (type_of h x) ws now) value_passed) in (
-        simply h.typing (if b then viewed h e at else value h e at) (if b then viewed h e n' else value h e n') last last
-            (if_same b (viewed h e at) (value h e at) (viewed h e n') (value h e n')
-            (scalar_same AsView e stays none compares allowed n' same) (scalar_same AsValue e stays none compares allowed n' same))
-            (λ ws n n'' now. value_there x ws n n'' now),
-        quiet_then at One (Any {A = Passed}) (if b then viewed h e at else value h e at) last
-            (if_quiet b (viewed h e at) (value h e at) (quiet_here AsView e stays none allowed).0 (quiet_here AsValue e stays none allowed).0)
-            (λ ws one. given_quiet x ws),
-      )
+      let last : List machine.Word → Now → Evaluated Passed = (λ ws now. followed_by (checked h (type_of h x) ws now) value_passed) in
+      simply h.typing (if b then viewed h e (at before) else value h e (at before)) (if b then viewed h e n' else value h e n') last last
+      (if_same b (viewed h e (at before)) (value h e (at before)) (viewed h e n') (value h e n')
+      (scalar_on AsView e stays before on takes compares allowed n' same) (scalar_on AsValue e stays before on takes compares allowed n' same))
+      (λ ws n n'' now. value_there x ws n n'' now)
 
-  any_quiet : {A : Type 0} (P : A → Type 0) (x : Evaluated A) → Quiet at P x → Quiet at (Any {A = A}) x
-  any_quiet P (Done a n) q = (q.0, tt)
-  any_quiet P (Raises e n) q = q
-  any_quiet P (Traps e n) q = q
+  any_quiet : {A : Type 0} (on : List (List machine.Word)) (P : A → Type 0) (x : Evaluated A) → Quiet (at on) P x → Quiet (at on) (Any {A = A}) x
+  any_quiet on P (Done a n) q = (q.0, tt)
+  any_quiet on P (Raises e n) q = q
+  any_quiet on P (Traps e n) q = q
 
   -- a name that goes through no access value has nothing moved on its way
   direct_clean : (x : ℕ) (path : TypedTree) → goes_through_none path ≡ true → Clean x path
@@ -527,49 +536,77 @@ module _ (h : Here) (settled : IsSettled h.typing.table) (hands : List Waiting) 
       by_test ws false = (refl, same)
 
   -- an actual, by the mode of its formal
-  given_same : (mode_of : Mode) (x : ℕ) (e : TypedTree) → IsActualBy h.typing mode_of e → (is_in mode_of ≡ false → goes_through_none e ≡ true)
-      → has_call e ≡ false → Compares h.typing e → AllowsAll facts (acts (head_acts h.typing own_law mode_of e)) → (n' : Now) → SameNowAt n'
-      → SameTo h.typing (passed h (way_by h.typing own_law mode_of) x e at) (passed h (way_by h.typing own_law mode_of) x e n')
-  unfolding has_call Compares goes_through_none
-  given_same mode.In x e stays direct none compares allowed n' same = (passed_same x e stays none compares allowed n' same).0
-  given_same mode.Out x (Name p y path u) (t, (lead, type), plain) direct none compares allowed n' same =
-      simply h.typing (place_of h (Name p y path u) at) (place_of h (Name p y path u) n') (λ k now. Done (To k) now) (λ k now. Done (To k) now)
-      (place_same p y u path lead none compares allowed (direct_clean y path (direct refl)) n' same).0 (λ k n n'' now. (refl, now))
-  given_same mode.Out x e (t, never, plain) direct none compares allowed n' same = absurd never
-  given_same mode.InOut x (Name p y path u) (t, (lead, type), plain) direct none compares allowed n' same =
-      let place = place_same p y u path lead none compares allowed (direct_clean y path (direct refl)) n' same in
+  given_same : (before on : List (List machine.Word)) (mode_of : Mode) (x : ℕ) (e : TypedTree) → IsActualBy h.typing mode_of e
+      → (is_in mode_of ≡ false → goes_through_none e ≡ true)
+      → Takes (waiting e) before on → Compares h.typing e → AllowsAll facts (acts (head_acts h.typing own_law mode_of e)) → (n' : Now) → SameNowAt before n'
+      → SameTo h.typing (passed h (way_by h.typing own_law mode_of) x e (at before)) (passed h (way_by h.typing own_law mode_of) x e n')
+  unfolding Compares goes_through_none waiting
+  given_same before on mode.In x e stays direct takes compares allowed n' same = passed_same before on x e stays takes compares allowed n' same
+  given_same before on mode.Out x (Name p y path u) (t, (lead, type), plain) direct takes compares allowed n' same =
+      simply h.typing (place_of h (Name p y path u) (at before)) (place_of h (Name p y path u) n') (λ k now. Done (To k) now) (λ k now. Done (To k) now)
+      (place_on before on p y u path lead takes compares allowed (direct_clean y path (direct refl)) n' same).0 (λ k n n'' now. (refl, now))
+  given_same before on mode.Out x e (t, never, plain) direct takes compares allowed n' same = absurd never
+  given_same before on mode.InOut x (Name p y path u) (t, (lead, type), plain) direct takes compares allowed n' same =
+      let place = place_on before on p y u path lead takes compares allowed (direct_clean y path (direct refl)) n' same in
       let back : Place → Now → Evaluated Passed =
       (λ k now. followed_by (checked h (type_of h x) (words_of h.typing now.memory k) now) (λ ws now. Done (From k) now)) in
-      then_same h.typing (IsPlaced y u path) (place_of h (Name p y path u) at) (place_of h (Name p y path u) n') back back place.1 place.0
+      then_same h.typing (IsPlaced on y u path) (place_of h (Name p y path u) (at before)) (place_of h (Name p y path u) n') back back place.1 place.0
       (λ k n n'' found now. read_back x k n n'' (subst (λ (z : Now). NoneGone (slots_of h.typing z.memory k)) (sym found.2.1)
       (scalar_none k found.2.0 u found.2.2 found.2.4 (subst (λ z. is_scalar (full h.typing.table z) ≡ true) (sym type) plain))) now)
-  given_same mode.InOut x e (t, never, plain) direct none compares allowed n' same = absurd never
+  given_same before on mode.InOut x e (t, never, plain) direct takes compares allowed n' same = absurd never
 
   abbrev ways_of : List ℕ → List Passing
   ways_of formals = map (way_of h.typing own_law) formals
 
-  pub all_same : (formals : List ℕ) (actuals : TypedTree) → AreActuals h.typing formals actuals → AreCopied h.typing formals actuals → has_call actuals ≡ false
-      → Compares h.typing actuals → AllowsAll facts (acts (actual_values h.typing (map (way_of h.typing own_law) formals) actuals)) → (n' : Now) → SameNowAt n'
-      → SameTo h.typing (all_passed h (map (way_of h.typing own_law) formals) formals actuals at) (all_passed h (map (way_of h.typing own_law) formals) formals actuals n')
-  unfolding has_call Compares
-  all_same [] actuals stay copied none compares allowed n' same = (refl, same)
-  all_same (x ∷ formals) (More e rest) stay copied none compares allowed n' same =
+  pub all_on : (before on : List (List machine.Word)) (formals : List ℕ) (actuals : TypedTree) → AreActuals h.typing formals actuals → AreCopied h.typing formals actuals
+      → Takes (waiting actuals) before on
+      → Compares h.typing actuals → AllowsAll facts (acts (actual_values h.typing (map (way_of h.typing own_law) formals) actuals)) → (n' : Now) → SameNowAt before n'
+      → SameTo h.typing (all_passed h (map (way_of h.typing own_law) formals) formals actuals (at before)) (all_passed h (map (way_of h.typing own_law) formals) formals actuals n')
+  unfolding Compares waiting
+  all_on before on [] actuals stay copied takes compares allowed n' same = (refl, same)
+  all_on before on (x ∷ formals) (More e rest) stay copied takes compares allowed n' same =
       let mode_of : Mode = (object_at h.typing x).mode in
-      let calls = or_cases (has_call e) (has_call rest) none in
+      let two = takes_both (waiting e) (waiting rest) before on takes in
       let both : AllowsAll facts (acts (head_acts h.typing own_law mode_of e ++ actual_values h.typing (ways_of formals) rest)) =
       subst (λ z. AllowsAll facts (acts z)) (head_values h.typing own_law mode_of e (ways_of formals) rest) allowed in
       let each = allows_both facts (acts (head_acts h.typing own_law mode_of e)) (acts (actual_values h.typing (ways_of formals) rest))
       (subst (AllowsAll facts) (acts_append (head_acts h.typing own_law mode_of e) (actual_values h.typing (ways_of formals) rest)) both) in
       let still : after (acts (head_acts h.typing own_law mode_of e)) facts ≡ facts =
       reads_keep (head_acts h.typing own_law mode_of e) (head_reads h.typing own_law mode_of e stay.0) facts in
-      let quiet_there = any_quiet _ (passed h (way_by h.typing own_law mode_of) x e at)
-      (one_given h settled hands leaks m waits other facts kept sound alone live index_law own_law all_named mode_of x e stay.0 copied.0 calls.0 each.0) in
+      let quiet_there = any_quiet two.0 _ (passed h (way_by h.typing own_law mode_of) x e (at before))
+      (one_on h settled hands leaks m waits other facts kept sound alone live index_law own_law all_named before two.0 mode_of x e stay.0 copied.0 two.1 each.0) in
       let next : Passed → Now → Evaluated (List Passed) = (λ a now. followed_by (all_passed h (ways_of formals) formals rest now) (λ more now. Done (a ∷ more) now)) in
-      then_same h.typing (QuietAt (Any {A = Passed})) (passed h (way_by h.typing own_law mode_of) x e at) (passed h (way_by h.typing own_law mode_of) x e n') next next quiet_there
-      (given_same mode_of x e stay.0 copied.0 calls.0 compares.0 each.0 n' same)
+      then_same h.typing (QuietAt two.0 (Any {A = Passed})) (passed h (way_by h.typing own_law mode_of) x e (at before)) (passed h (way_by h.typing own_law mode_of) x e n') next next quiet_there
+      (given_same before two.0 mode_of x e stay.0 copied.0 two.1 compares.0 each.0 n' same)
       (λ a n n'' q now. subst (λ z. SameTo h.typing (next a z) (next a n'')) (sym q.0)
-      (simply h.typing (all_passed h (ways_of formals) formals rest at) (all_passed h (ways_of formals) formals rest n'') (λ more now. Done (a ∷ more) now) (λ more now. Done (a ∷ more) now)
-      (all_same formals rest stay.1 copied.1 calls.1 compares.1 (subst (λ z. AllowsAll z (acts (actual_values h.typing (ways_of formals) rest))) still each.1) n''
+      (simply h.typing (all_passed h (ways_of formals) formals rest (at two.0)) (all_passed h (ways_of formals) formals rest n'') (λ more now. Done (a ∷ more) now) (λ more now. Done (a ∷ more) now)
+      (all_on two.0 on formals rest stay.1 copied.1 two.2 compares.1 (subst (λ z. AllowsAll z (acts (actual_values h.typing (ways_of formals) rest))) still each.1) n''
       (subst (λ z. SameNow h.typing z n'') q.0 now))
       (λ more k k' last. (refl, last))))
-  all_same (x ∷ formals) actuals stay copied none compares allowed n' same = (refl, same)
+  all_on before on (x ∷ formals) actuals stay copied takes compares allowed n' same = (refl, same)
+
+  -- ---- without calls
+
+  pub scalar_same : (u : Use) (e : TypedTree) → Stays h.typing e → has_call e ≡ false → Compares h.typing e → AllowsAll facts (acts (acts_in h.typing e))
+      → (n' : Now) → SameNowAt waits n' → SameTo h.typing (evaluate h u e (at waits)) (evaluate h u e n')
+  scalar_same u e stays none compares allowed n' same = scalar_on u e stays waits waits (no_takes e none waits) compares allowed n' same
+
+  pub steps_same : (t u : ℕ) (steps : TypedTree) → Leads h.typing t steps u → has_call steps ≡ false → Compares h.typing steps
+      → AllowsAll facts (acts (acts_in h.typing steps)) → (n' : Now) → SameNowAt waits n' → SameTo h.typing (steps_of h steps (at waits)) (steps_of h steps n')
+  steps_same t u steps lead none compares allowed n' same = steps_on t u steps lead waits waits (no_takes steps none waits) compares allowed n' same
+
+  pub place_same : (p : Pos) (x t : ℕ) (steps : TypedTree) → Leads h.typing (object_at h.typing x).of steps t → has_call steps ≡ false → Compares h.typing steps
+      → AllowsAll facts (acts (acts_in h.typing steps)) → Clean x steps → (n' : Now) → SameNowAt waits n'
+      → SameTo h.typing (place_of h (Name p x steps t) (at waits)) (place_of h (Name p x steps t) n') × IsPlaced waits x t steps (place_of h (Name p x steps t) (at waits))
+  place_same p x t steps lead none compares allowed clean n' same =
+      place_on waits waits p x t steps lead (no_takes steps none waits) compares allowed clean n' same
+
+  pub text_same : (e : TypedTree) → Writes h.typing e → has_call e ≡ false → Compares h.typing e → AllowsAll facts (acts (acts_in h.typing e))
+      → (n' : Now) → SameNowAt waits n'
+      → SameTo h.typing (text_of h e (at waits)) (text_of h e n') × Quiet (at waits) (Any {A = List ℕ}) (text_of h e (at waits)) × Stay (acts_in h.typing e)
+  text_same e writes none compares allowed n' same = text_on waits waits e writes (no_takes e none waits) compares allowed n' same
+
+  pub all_same : (formals : List ℕ) (actuals : TypedTree) → AreActuals h.typing formals actuals → AreCopied h.typing formals actuals → has_call actuals ≡ false
+      → Compares h.typing actuals → AllowsAll facts (acts (actual_values h.typing (map (way_of h.typing own_law) formals) actuals)) → (n' : Now) → SameNowAt waits n'
+      → SameTo h.typing (all_passed h (map (way_of h.typing own_law) formals) formals actuals (at waits)) (all_passed h (map (way_of h.typing own_law) formals) formals actuals n')
+  all_same formals actuals stay copied none compares allowed n' same = all_on waits waits formals actuals stay copied (no_takes actuals none waits) compares allowed n' same

@@ -5,3 +5,10 @@ pub mod Successors
 -- objects and scopes
 pub mod Ordered
 pub mod Seen
+-- temporaries in scope
+pub mod Supplied
+pub mod Filled
+pub mod Relaid
+pub mod Temporaries
+-- what follows a return
+pub mod Returning

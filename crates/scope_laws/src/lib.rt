@@ -8,6 +8,8 @@
 //! the formals alone are in scope; and what an instruction names is in scope at its point.
 //!
 //! Of each point of a subprogram that is so (`proofs/Ordered.antt`, `Seen`), and each point has as
-//! many successors as its instruction leads to (`Successors`). Nothing here knows facts, and
-//! nothing runs.
+//! many successors as its instruction leads to (`Successors`). The temporaries that an instruction
+//! takes are the last ones in scope (`specs/Supplied.antt`; `proofs/Supplied.antt`, `Filled`,
+//! `Relaid`, `Temporaries`). In functions nothing but a return leads to what follows one
+//! (`specs/Returning.antt`, `proofs/Returning.antt`). Nothing here knows facts, and nothing runs.
 #![tactic(auto)]

@@ -58,12 +58,13 @@ use Rattle.sound_files.proofs.Flat.{unit_flat}
 use Rattle.sound_files.proofs.Once.{files_once}
 use Rattle.sound_files.proofs.Written.{files_written}
 use Rattle.typed_laws.specs.Fine.{Denotes, Laws}
+use Rattle.typed_laws.specs.Needed.{AreFine}
 use Rattle.typed_points.proofs.Numbers.{object_numbered, denotes}
 use Rattle.typed_steps.specs.Steps.{AreTyped, AreCounted}
 use Rattle.typed_runs.specs.Formals.{AreProfiled}
 use Rattle.typed_runs.specs.Meant.{laid_in, site_in, typing_laid}
 use Rattle.typed_texts.specs.Meant.{IsMeant}
-use Rattle.typed_texts.proofs.Main.{text_typed, text_counted, text_is_typed}
+use Rattle.typed_texts.proofs.Main.{text_typed, text_fine, text_counted, text_is_typed}
 use Rattle.typed_files.proofs.Profiled.{are_profiled}
 use Rattle.typed_files.proofs.Denoted.{same_object, laid_object, denotes_laid}
 
@@ -159,6 +160,10 @@ module _ (files : List (List SourceUnit)) where
 
     pub files_steps : AreTyped (laid_in p)
     files_steps = text_typed p none are_meant
+
+    -- Instructions are as soundness needs them.
+    pub files_fine : AreFine (laid_in p)
+    files_fine = text_fine p none are_meant
 
     pub files_counted : AreCounted (laid_in p).subs
     files_counted = text_counted p none are_meant

@@ -1,5 +1,5 @@
 -- The law: the points of a program without a fault of typing are as soundness needs them.
-use Rattle.std.proofs.Common.{◌≡◌, refl, subst, inl, inr, ℕ, ◌+◌, true, false, List, [], ◌∷◌, ◌++◌, Option, Some, None, if◌then◌else◌}
+use Rattle.std.proofs.Common.{◌≡◌, refl, sym, ap, ◌∙◌, subst, inl, inr, ℕ, ◌+◌, true, false, List, [], ◌∷◌, ◌++◌, Option, Some, None, if◌then◌else◌}
 use Rattle.std.specs.Prelude.{flat_map}
 use Rattle.std.specs.List.{AllByRecursion}
 use Rattle.spark_base.specs.Lists.{Has}
@@ -13,17 +13,17 @@ use Rattle.type_definitions.specs.Whole.{TypeFault, outside, unit_faults, main_f
 use Rattle.typed_tree.specs.declared.object.Object.{Object}
 use Rattle.typed_tree.specs.Expressions.{Site}
 use Rattle.typed_tree.specs.Statements.{scope_count, statements}
-use Rattle.typed_tree.specs.Programs.{TypedSub, placed, over_units, subs_in, site_of, typed_program}
+use Rattle.typed_tree.specs.Programs.{TypedSub, TypedProgram, placed, over_units, subs_in, site_of, typed_program}
 use Rattle.typed_tree.specs.Programs as programs
 use Rattle.flow_paths.specs.Objects.{Typing, Signature}
-use Rattle.flow_paths.specs.Laid.{flow_program}
+use Rattle.flow_paths.specs.Laid.{FlowProgram, flow_program}
 use Rattle.typed_laws.specs.Fine.{Laws}
 use Rattle.typed_laws.specs.Needed.{AreFine}
 use Rattle.typed_laws.proofs.Agreeing.{nil_left, nil_right}
-use Rattle.typed_points.specs.Code.{IsFineCode, AreUndivided}
+use Rattle.typed_points.specs.Code.{is_whole, IsFineCode, AreEvaluated, AreUndivided}
 use Rattle.typed_points.specs.Meant.{AreMeantBodies, AreMeantObjects, typing_meant, AreMeantUnits}
 use Rattle.typed_points.proofs.Bodies.{code_fine, body_fine, listed}
-use Rattle.typed_points.proofs.Laid.{laid_fine}
+use Rattle.typed_points.proofs.Laid.{flow_knows, laid_fine}
 
 -- ---- faults
 
@@ -129,12 +129,22 @@ objects_fine known numbers bodies objects subs made laws n u meant none = tt
 
 -- ---- programs
 
-program_fine : (known : Known) (units : List Code) (made : ℕ → Type 0) → Laws known made → AreMeantUnits known made units
-    → ((u : Code) → Has units u → code_faults (outside known) u ≡ []) → (sub : TypedSub) → Has (typed_program known units).subs sub → IsFineBody (typing_meant known units) sub
+-- What is known of the parts of a program, with other objects beside its own.
+abbrev typing_with : Known → List Code → List Object → Typing
+typing_with known units objects = record { table = known.table; objects = objects; subs = (typing_meant known units).subs }
+
+abbrev AreMeantWith : Known → (ℕ → Type 0) → List Code → List Object → Type 0
+AreMeantWith known made units objects =
+    (u : Code) → Has units u
+    → AreMeantBodies (site_of known units) (typing_with known units objects) made u × AreMeantObjects (site_of known units) (typing_with known units objects) made u
+
+program_fine : (known : Known) (units : List Code) (objects : List Object) (made : ℕ → Type 0) → Laws known made → AreMeantWith known made units objects
+    → ((u : Code) → Has units u → code_faults (outside known) u ≡ []) → (sub : TypedSub) → Has (typed_program known units).subs sub
+    → IsFineBody (typing_with known units objects) sub
 unfolding typed_program
-program_fine known units made laws meant none sub has =
+program_fine known units objects made laws meant none sub has =
     let s : Site = site_of known units in
-    let y : Typing = typing_meant known units in
+    let y : Typing = typing_with known units objects in
     elim has [
       | inl is ↦ subst (IsFineBody y) is
           (listed s y.objects y.subs made laws (over_units (programs.elaborated s) 1 units)
@@ -144,12 +154,27 @@ program_fine known units made laws meant none sub has =
           (over_all (IsFineBody y) (subs_in s) 1 units (λ n u there. bodies_fine s y.objects y.subs made laws n u (meant u there).0 (none u there))) more
     ]
 
--- The law. `made` says of which numbers stand for types.
-pub are_fine : (p : Program) (made : ℕ → Type 0) → type_fault p ≡ None → Laws (known_of p) made → AreMeantUnits (known_of p) made p.units
-    → (flow_program (known_of p).table (typed_program (known_of p) p.units)).objects ≡ (typed_program (known_of p) p.units).objects
-    → AreUndivided (flow_program (known_of p).table (typed_program (known_of p) p.units))
-    → AreFine (flow_program (known_of p).table (typed_program (known_of p) p.units))
-unfolding sentence_faults
-are_fine p made none laws meant objects undivided =
-    laid_fine (known_of p).table (typed_program (known_of p) p.units) objects undivided
-    (program_fine (known_of p) p.units made laws meant (unit_none (known_of p) p.units (no_fault p none)))
+module _ (p : Program) (made : ℕ → Type 0) (none : type_fault p ≡ None) (laws : Laws (known_of p) made) where
+  abbrev typed : TypedProgram
+  typed = typed_program (known_of p) p.units
+
+  abbrev flow : FlowProgram
+  flow = flow_program (known_of p).table typed
+
+  -- The law, for programs with temporaries: files are meant over the objects of the program as it is laid out, and the
+  -- operands that are evaluated by themselves are typed. `made` says of which numbers stand for types.
+  pub all_fine : AreMeantWith (known_of p) made p.units flow.objects → AreEvaluated flow → AreFine flow
+  unfolding sentence_faults
+  all_fine meant evaluated =
+      laid_fine (known_of p).table typed evaluated
+      (λ sub has. subst (λ y. IsFineCode y sub.result sub.body) (sym (flow_knows (known_of p).table typed))
+      (program_fine (known_of p) p.units flow.objects made laws meant (unit_none (known_of p) p.units (no_fault p none)) sub has))
+
+  -- Where nothing but procedures is called, there are no temporaries.
+  undivided_evaluated : AreUndivided flow → AreEvaluated flow
+  undivided_evaluated undivided sub has point there t e left is =
+      absurd (let no : false ≡ true = sym (ap is_whole is) ∙ undivided sub has point there in cc)
+
+  pub are_fine : AreMeantUnits (known_of p) made p.units → flow.objects ≡ typed.objects → AreUndivided flow → AreFine flow
+  are_fine meant objects undivided =
+      all_fine (subst (AreMeantWith (known_of p) made p.units) (sym objects) meant) (undivided_evaluated undivided)

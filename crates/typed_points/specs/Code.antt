@@ -1,15 +1,16 @@
 -- Typed code of which each instruction is as soundness needs it.
 use Rattle.std.specs.Prelude.{◌≡◌, ℕ, Bool, true, false, Option, None}
 use Rattle.spark_base.specs.Lists.{Has}
-use Rattle.typed_tree.specs.Trees.{TypedCode, Declare, Assign, Output, Input, Release, If, Branch, Case, When, Loop, While, For, Exit, Return, Block, More}
+use Rattle.typed_tree.specs.declared.node.ShortCircuit.{ShortCircuit}
+use Rattle.typed_tree.specs.Trees.{TypedTree, TypedCode, Declare, Assign, Output, Input, Release, If, Branch, Case, When, Loop, While, For, Exit, Return, Block, More}
 use Rattle.typed_tree.specs.Trees as typed
 use Rattle.flow_paths.specs.Instructions.{Instruction, Evaluate}
 use Rattle.flow_paths.specs.Instructions as instruction
 use Rattle.flow_paths.specs.Objects.{Typing}
 use Rattle.flow_paths.specs.Points.{NamedPoint, FlowPoint}
 use Rattle.flow_paths.specs.Layout.{choices_of}
-use Rattle.flow_paths.specs.Laid.{FlowSub, FlowProgram}
-use Rattle.typed_laws.specs.Needed.{IsFine}
+use Rattle.flow_paths.specs.Laid.{FlowSub, FlowProgram, flow_typing}
+use Rattle.typed_laws.specs.Needed.{Stays, IsFine}
 
 -- The statements of a subprogram with this result.
 unfoldable pub IsFineCode : Typing → Option ℕ → TypedCode → Type 0
@@ -41,6 +42,12 @@ is_whole i = true
 abbrev pub IsFinePoint : Typing → Option ℕ → NamedPoint → Type 0
 IsFinePoint s result p = is_whole p.instr ≡ true → IsFine s result p.instr
 
--- So it is at all points: without calls.
+-- The operands that are evaluated by themselves have names that stay within what they name.
+abbrev pub AreEvaluated : FlowProgram → Type 0
+AreEvaluated program =
+    (sub : FlowSub) → Has program.subs sub → (p : FlowPoint) → Has sub.points p → (t : ℕ) (e : TypedTree) (left : Option ShortCircuit)
+    → p.instr ≡ Evaluate t e left → Stays (flow_typing program) e
+
+-- There is none where nothing is called.
 abbrev pub AreUndivided : FlowProgram → Type 0
 AreUndivided program = (sub : FlowSub) → Has program.subs sub → (p : FlowPoint) → Has sub.points p → is_whole p.instr ≡ true

@@ -12,13 +12,18 @@ use Rattle.gathered_laws.specs.Made.{IsMade}
 use Rattle.gathered_laws.proofs.Laws.{program_laws}
 use Rattle.gathered_laws.proofs.Main.{are_types, certain}
 use Rattle.typed_tree.specs.Programs.{typed_program}
-use Rattle.flow_paths.specs.Laid.{flow_program}
+use Rattle.flow_paths.specs.Laid.{flow_typing, flow_program}
 use Rattle.machine.specs.Typed.{sorts, sorts_of, is_typed}
 use Rattle.typed_laws.specs.Fine.{Laws, counts, lists}
-use Rattle.typed_laws.proofs.Agreeing.{Owns}
+use Rattle.typed_laws.specs.Needed.{AreFine}
+use Rattle.typed_laws.proofs.Cases.{shape_view}
+use Rattle.typed_laws.proofs.Agreeing.{either_right, Owns}
+use Rattle.typed_laws.proofs.Sound.{stays}
+use Rattle.typed_points.specs.Code.{AreEvaluated}
+use Rattle.typed_points.proofs.Main.{all_fine}
 use Rattle.run_codes.specs.Related.{IsTable}
 use Rattle.table_laws.proofs.Tables.{is_table}
-use Rattle.typed_steps.specs.Steps.{AreTyped, AreCounted}
+use Rattle.typed_steps.specs.Steps.{IsTypedStep, AreTyped, AreCounted}
 use Rattle.typed_runs.specs.Meant.{laid_in, IsMeantText}
 use Rattle.typed_runs.proofs.Words.{SortsLaw}
 use Rattle.typed_runs.proofs.Main.{are_typed}
@@ -71,6 +76,17 @@ module _ (p : Program) (none : type_fault p ≡ None) (text : IsMeant p) where
   -- Each point has the successors that its instruction leads to.
   pub text_counted : AreCounted (laid_in p).subs
   text_counted = counted table (known_of p) p.units text.written
+
+  -- So has each operand of a short circuit that is evaluated by itself, and its names stay within what they name.
+  evaluated : AreEvaluated (laid_in p)
+  unfolding flow_program
+  evaluated sub has point there t e left is =
+      let step = subst (λ i. IsTypedStep (flow_typing (laid_in p)) sub.result i) is (text_typed sub has point there) in
+      stays (flow_typing (laid_in p)) laws.whole laws.listed laws.word_law e boolean step (shape_view (shape_of table boolean) (either_right _ _ laws.listed))
+
+  -- Each instruction is as soundness needs it.
+  pub text_fine : AreFine (laid_in p)
+  text_fine = all_fine p (IsMade p.units) none laws (λ u has. (text.bodies u has, text.objects u has)) evaluated
 
   first_none : FirstNone (laid_in p).subs
   unfolding flow_program typed_program

@@ -1,0 +1,314 @@
+-- A program of procedures that touch no package object has no reports, if none is found along its paths: those of
+-- loops would have no end.
+use Rattle.std.specs.Prelude.{IsTrue, is_none}
+use Rattle.std.specs.List.{list_any}
+use Rattle.std.proofs.Common.{◌≡◌, ℕ, zero, suc, Bool, true, false, not, ◌&&◌, ◌||◌, ◌==◌, eqb-true, List, [], ◌∷◌, ◌++◌, append_assoc, map, refl, sym, ap, ◌∙◌, subst, Option, Some, None, true≢false}
+use Rattle.spark_base.specs.Lists.{Has}
+use Rattle.place_names.specs.Names.{Name, extend}
+use Rattle.place_names.specs.declared.selector.Sel.TheVariants as sel
+use Rattle.place_names.specs.declared.act.Act.{Act}
+use Rattle.place_names.specs.declared.act.Act.TheVariants as act
+use Rattle.place_names.specs.declared.act.Placed.{Placed}
+use Rattle.place_names.specs.declared.fact.Fact.{Fact}
+use Rattle.place_names.specs.Facts.{facts_after}
+use Rattle.place_names.specs.Rules.{Forbidden, forbids}
+use Rattle.place_names.specs.Reports.{Report}
+use Rattle.flow_paths.specs.declared.report.Effects.{Effects}
+use Rattle.flow_paths.specs.Instructions.{Instruction}
+use Rattle.flow_paths.specs.Objects.{Typing, is_observer, is_formal}
+use Rattle.flow_paths.specs.Points.{FlowPoint}
+use Rattle.flow_paths.specs.Laid.{FlowSub, FlowProgram, flow_typing}
+use Rattle.flow_paths.specs.Paths.{PathPoint, PathReport, ControlPath, begins, goes_on, path_point, acts_at, acts_along}
+use Rattle.flow_paths.specs.Views.{ViewReport, changed, lent, given, called, text_io, shorter, elsewhere, other_root, ConstantView, of_observer, of_formal, in_function, of_borrower, is_function, has_selector, is_assignment, encloses, scope_of, changes, lends}
+use Rattle.flow_paths.specs.Aliases.{alias_reports}
+use Rattle.flow_paths.specs.Effects.{AreEffects, Reads, Writes, Ascends, path_points, point_reads, point_writes, is_global, reads_text, writes_text, flow_sub_at, act_reads, act_writes}
+use Rattle.flow_paths.specs.Reports.{AreReports, ProgramReport, on_actuals, on_views, on_paths}
+use Rattle.accepted_examples.proofs.Quiet.{all_pass, empty, left_of, right_of, isnt, each, any_none, at_any, empty_at, many}
+
+-- ---- what is found along paths
+
+abbrev passes_facts : List Fact → Act → Bool
+passes_facts facts a = all_pass (λ f. is_none (forbids a f)) facts
+
+abbrev acts_pass : List Act → List Placed → Bool
+acts_pass acts [] = true
+acts_pass acts (a ∷ rest) = passes_facts (facts_after acts) a.act && acts_pass (acts ++ a.act ∷ []) rest
+
+-- From this point on, after these acts, no act is forbidden along so many points.
+abbrev pub path_passes : ℕ → List PathPoint → List Act → ℕ → Bool
+path_passes zero points acts p = false
+path_passes (suc n) points acts p =
+    acts_pass acts (path_point points p).acts && all_pass (λ q. path_passes n points (acts ++ acts_at points p) q) (path_point points p).next
+
+module _ (points : List PathPoint) where
+  abbrev Reached : List Act → ℕ → Type 0
+  Reached acts p = (m : ℕ) × (path_passes (suc m) points acts p ≡ true)
+
+  goes : (m : ℕ) (acts : List Act) (a : ℕ) → path_passes (suc m) points acts a ≡ true → (b : ℕ) → Has (path_point points a).next b → Reached (acts ++ acts_at points a) b
+  goes m acts a e b has =
+      by m (each (λ q. path_passes m points (acts ++ acts_at points a) q) (path_point points a).next
+      (right_of (acts_pass acts (path_point points a).acts) (all_pass (λ q. path_passes m points (acts ++ acts_at points a) q) (path_point points a).next) e) b has)
+    where
+      by : (k : ℕ) → path_passes k points (acts ++ acts_at points a) b ≡ true → Reached (acts ++ acts_at points a) b
+      by zero f = absurd (true≢false (sym f))
+      by (suc k) f = (k, f)
+
+  on_path : (n : ℕ) → path_passes n points [] 0 ≡ true → (before : List ℕ) (last : ℕ) → ControlPath points before last → Reached (acts_along points before) last
+  on_path zero e before last path = absurd (true≢false (sym e))
+  on_path (suc n) e _ _ (begins some) = (n, e)
+  on_path (suc n) e _ _ (goes_on before a b path has) = (let reached = on_path (suc n) e before a path in goes reached.0 (acts_along points before) a reached.1 b has)
+
+  append_nothing : (acts : List Act) → acts ++ [] ≡ acts
+  append_nothing [] = refl
+  append_nothing (a ∷ acts) = ap (λ z. a ∷ z) (append_nothing acts)
+
+  clear : (acts : List Act) (front : List Placed) (a : Placed) (rest : List Placed) → acts_pass acts (front ++ a ∷ rest) ≡ true
+      → passes_facts (facts_after (acts ++ map (λ (p : Placed). p.act) front)) a.act ≡ true
+  clear acts [] a rest e =
+      subst (λ z. passes_facts (facts_after z) a.act ≡ true) (sym (append_nothing acts)) (left_of (passes_facts (facts_after acts) a.act) (acts_pass (acts ++ a.act ∷ []) rest) e)
+  clear acts (b ∷ front) a rest e =
+      subst (λ z. passes_facts (facts_after z) a.act ≡ true) (append_assoc acts (b.act ∷ []) (map (λ (p : Placed). p.act) front))
+      (clear (acts ++ b.act ∷ []) front a rest (right_of (passes_facts (facts_after acts) b.act) (acts_pass (acts ++ b.act ∷ []) (front ++ a ∷ rest)) e))
+
+  none_some : (o : Option Forbidden) (x : Forbidden) → is_none o ≡ true → o ≡ Some x → ⊥
+  none_some None x e is = cc
+  none_some (Some y) x e is = cc
+
+  unreported : (n : ℕ) → path_passes n points [] 0 ≡ true → (r : Report) → PathReport points r → ⊥
+  unreported n e r path =
+      let reached = on_path n e path.before path.last path.path in
+      let here : acts_pass (acts_along points path.before) (path.front ++ path.placed ∷ path.rest) ≡ true
+      = subst (λ z. acts_pass (acts_along points path.before) z ≡ true) path.split
+      (left_of (acts_pass (acts_along points path.before) (path_point points path.last).acts)
+      (all_pass (λ q. path_passes reached.0 points (acts_along points path.before ++ acts_at points path.last) q) (path_point points path.last).next) reached.1) in
+      none_some (forbids path.placed.act path.fact) path.found
+      (each (λ f. is_none (forbids path.placed.act f)) (facts_after (acts_along points path.before ++ map (λ (p : Placed). p.act) path.front))
+      (clear (acts_along points path.before) path.front path.placed path.rest here) path.fact path.holds)
+      path.forbidden
+
+-- ---- what is found of views
+
+-- In a procedure.
+abbrev is_constant : Typing → Option Name → Bool
+is_constant s None = false
+is_constant s (Some m) = (is_observer s m.root && has_selector m) || is_formal s m.root
+
+abbrev designated_name : Option Name → Option Name
+designated_name None = None
+designated_name (Some m) = Some (extend m (sel.Deref ∷ []))
+
+abbrev keeps_views : Typing → List ℕ → Instruction → Act → Bool
+keeps_views s scopes i (act.Give m borrows) = false
+keeps_views s scopes i (act.Observe h m from_observer) = not (is_assignment i) || encloses scopes (scope_of s m.root) (scope_of s h)
+keeps_views s scopes i (act.Reborrow b m) = m.root == b
+keeps_views s scopes i a = true
+
+-- What it names is no package object, either.
+abbrev is_local : Typing → Act → Bool
+is_local s (act.Read m) = not (is_global s m.root)
+is_local s (act.Look m) = not (is_global s m.root)
+is_local s (act.Observe h m from_observer) = not (is_global s m.root)
+is_local s (act.Give m borrows) = not (is_global s m.root)
+is_local s (act.Actual m how owning access) = not (is_global s m.root)
+is_local s (act.Write m) = not (is_global s m.root)
+is_local s (act.Move m parts) = not (is_global s m.root)
+is_local s (act.Free m) = not (is_global s m.root)
+is_local s (act.Borrow h m) = not (is_global s m.root)
+is_local s a = true
+
+abbrev act_passes : Typing → List ℕ → Instruction → Act → Bool
+act_passes s scopes i a =
+    (not (is_constant s (changes a)) && not (is_constant s (designated_name (lends a)))) && (keeps_views s scopes i a && is_local s a)
+
+abbrev point_passes : Typing → List ℕ → FlowPoint → Bool
+point_passes s scopes p = all_pass (λ (a : Placed). act_passes s scopes p.instr a.act) p.acts && (not (reads_text p.instr) && not (writes_text p.instr))
+
+abbrev pub sub_passes : FlowProgram → FlowSub → Bool
+sub_passes program sub = not (is_function sub) && all_pass (point_passes (flow_typing program) program.scopes) sub.points
+
+or_right : (a b : Bool) → b ≡ true → a || b ≡ true
+or_right true b e = refl
+or_right false b e = e
+
+or_left : (a b : Bool) → a ≡ true → a || b ≡ true
+or_left true b e = refl
+or_left false b e = absurd (true≢false (sym e))
+
+no : (b : Bool) → b ≡ true → not b ≡ true → ⊥
+no true e f = true≢false (sym f)
+no false e f = true≢false (sym e)
+
+local_read : (s : Typing) (g : ℕ) (a : Act) → is_local s a ≡ true → is_global s g ≡ true → act_reads g a ≡ false
+local_read s g a here shared = by a here
+  where
+    other : (m : Name) (b : Bool) → not (is_global s m.root) ≡ true → (m.root == g) ≡ b → (m.root == g) ≡ false
+    other m true h e = absurd (no (is_global s m.root) (subst (λ z. is_global s z ≡ true) (sym (eqb-true m.root g e)) shared) h)
+    other m false h e = e
+
+    both : (a b : Bool) → a ≡ false → a && b ≡ false
+    both true b e = absurd (true≢false e)
+    both false b e = refl
+
+    by : (a : Act) → is_local s a ≡ true → act_reads g a ≡ false
+    by (act.Read m) h = other m (m.root == g) h refl
+    by (act.Look m) h = other m (m.root == g) h refl
+    by (act.Observe x m from_observer) h = other m (m.root == g) h refl
+    by (act.Give m borrows) h = other m (m.root == g) h refl
+    by (act.Actual m how owning access) h = both (m.root == g) _ (other m (m.root == g) h refl)
+    by a h = refl
+
+local_write : (s : Typing) (g : ℕ) (a : Act) → is_local s a ≡ true → is_global s g ≡ true → act_writes g a ≡ false
+local_write s g a here shared = by a here
+  where
+    other : (m : Name) (b : Bool) → not (is_global s m.root) ≡ true → (m.root == g) ≡ b → (m.root == g) ≡ false
+    other m true h e = absurd (no (is_global s m.root) (subst (λ z. is_global s z ≡ true) (sym (eqb-true m.root g e)) shared) h)
+    other m false h e = e
+
+    both : (a b : Bool) → a ≡ false → a && b ≡ false
+    both true b e = absurd (true≢false e)
+    both false b e = refl
+
+    by : (a : Act) → is_local s a ≡ true → act_writes g a ≡ false
+    by (act.Write m) h = other m (m.root == g) h refl
+    by (act.Move m parts) h = other m (m.root == g) h refl
+    by (act.Free m) h = other m (m.root == g) h refl
+    by (act.Borrow x m) h = other m (m.root == g) h refl
+    by (act.Actual m how owning access) h = both (m.root == g) _ (other m (m.root == g) h refl)
+    by a h = refl
+
+module _ (program : FlowProgram) (passes : all_pass (sub_passes program) program.subs ≡ true) where
+  abbrev s : Typing
+  s = flow_typing program
+
+  abbrev pub nothing : Effects
+  nothing = record { read = map (λ (sub : FlowSub). empty) program.subs; written = map (λ (sub : FlowSub). empty) program.subs }
+
+  no_function : (sub : FlowSub) → Has program.subs sub → is_function sub ≡ false
+  no_function sub has = isnt (is_function sub) (left_of (not (is_function sub)) (all_pass (point_passes s program.scopes) sub.points) (each (sub_passes program) program.subs passes sub has))
+
+  point_is : (sub : FlowSub) → Has program.subs sub → (p : FlowPoint) → Has sub.points p → point_passes s program.scopes p ≡ true
+  point_is sub has =
+      each (point_passes s program.scopes) sub.points (right_of (not (is_function sub)) (all_pass (point_passes s program.scopes) sub.points) (each (sub_passes program) program.subs passes sub has))
+
+  acts_here : (p : FlowPoint) → point_passes s program.scopes p ≡ true → all_pass (λ (a : Placed). act_passes s program.scopes p.instr a.act) p.acts ≡ true
+  acts_here p e = left_of (all_pass (λ (a : Placed). act_passes s program.scopes p.instr a.act) p.acts) (not (reads_text p.instr) && not (writes_text p.instr)) e
+
+  act_is : (sub : FlowSub) → Has program.subs sub → (p : FlowPoint) (a : Placed) → Has sub.points p × Has p.acts a → act_passes s program.scopes p.instr a.act ≡ true
+  act_is sub has p a at = each (λ (b : Placed). act_passes s program.scopes p.instr b.act) p.acts (acts_here p (point_is sub has p at.0)) a at.1
+
+  constants : (i : Instruction) (a : Act) → act_passes s program.scopes i a ≡ true → not (is_constant s (changes a)) && not (is_constant s (designated_name (lends a))) ≡ true
+  constants i a e = left_of (not (is_constant s (changes a)) && not (is_constant s (designated_name (lends a)))) (keeps_views s program.scopes i a && is_local s a) e
+
+  keeps : (i : Instruction) (a : Act) → act_passes s program.scopes i a ≡ true → keeps_views s program.scopes i a && is_local s a ≡ true
+  keeps i a e = right_of (not (is_constant s (changes a)) && not (is_constant s (designated_name (lends a)))) (keeps_views s program.scopes i a && is_local s a) e
+
+  local_acts : (p : FlowPoint) → point_passes s program.scopes p ≡ true → (a : Placed) → Has p.acts a → is_local s a.act ≡ true
+  local_acts p e a has =
+      right_of (keeps_views s program.scopes p.instr a.act) (is_local s a.act)
+      (keeps p.instr a.act (each (λ (b : Placed). act_passes s program.scopes p.instr b.act) p.acts (acts_here p e) a has))
+
+  and_first : (a b : Bool) → IsTrue (a && b) → a ≡ true
+  and_first true b e = refl
+  and_first false b e = e
+
+  and_second : (a b : Bool) → IsTrue (a && b) → b ≡ true
+  and_second true b e = e
+  and_second false b e = absurd (true≢false (sym e))
+
+  view_constant : (sub : FlowSub) → Has program.subs sub → (m : Name) → ConstantView s sub m → is_constant s (Some m) ≡ true
+  view_constant sub has m (of_observer is) = or_left (is_observer s m.root && has_selector m) (is_formal s m.root) is
+  view_constant sub has m (of_formal is) =
+      or_right (is_observer s m.root && has_selector m) (is_formal s m.root) (and_first (is_formal s m.root) _ (and_second (not (is_function sub)) _ is))
+  view_constant sub has m (in_function is) = absurd (true≢false (sym (and_first (is_function sub) _ is) ∙ no_function sub has))
+  view_constant sub has m (of_borrower r is roots outer) = absurd (true≢false (sym (and_first (is_function sub) _ is) ∙ no_function sub has))
+
+  no_view : (sub : FlowSub) → Has program.subs sub → (r : Report) → ViewReport program nothing sub r → ⊥
+  no_view sub has _ (changed p a m at e view) =
+      no (is_constant s (changes a.act)) (ap (is_constant s) e ∙ view_constant sub has m view)
+      (left_of (not (is_constant s (changes a.act))) (not (is_constant s (designated_name (lends a.act)))) (constants p.instr a.act (act_is sub has p a at)))
+  no_view sub has _ (lent p a m at e view may) =
+      no (is_constant s (designated_name (lends a.act))) (ap (λ z. is_constant s (designated_name z)) e ∙ view_constant sub has (extend m (sel.Deref ∷ [])) view)
+      (right_of (not (is_constant s (changes a.act))) (not (is_constant s (designated_name (lends a.act)))) (constants p.instr a.act (act_is sub has p a at)))
+  no_view sub has _ (given p at m there is) =
+      true≢false (sym (left_of false (is_local s (act.Give m true)) (keeps p.instr (act.Give m true) (act_is sub has p (record { pos = at; act = act.Give m true }) there))))
+  no_view sub has _ (called p g callee is there calls writes) = true≢false (sym is ∙ no_function sub has)
+  no_view sub has _ (text_io p is there writes) = true≢false (sym is ∙ no_function sub has)
+  no_view sub has _ (shorter p at h m from there assigns outer) =
+      let kept = left_of (keeps_views s program.scopes p.instr (act.Observe h m from)) (is_local s (act.Observe h m from))
+      (keeps p.instr (act.Observe h m from) (act_is sub has p (record { pos = at; act = act.Observe h m from }) there)) in
+      by (is_assignment p.instr) (encloses program.scopes (scope_of s m.root) (scope_of s h)) assigns outer kept
+    where
+      by : (a b : Bool) → a ≡ true → not b ≡ true → not a || b ≡ true → ⊥
+      by true true e f g = true≢false (sym f)
+      by true false e f g = true≢false (sym g)
+      by false b e f g = true≢false (sym e)
+  no_view sub has _ (elsewhere p at m borrows there not_root) =
+      true≢false (sym (left_of false (is_local s (act.Give m borrows)) (keeps p.instr (act.Give m borrows) (act_is sub has p (record { pos = at; act = act.Give m borrows }) there))))
+  no_view sub has _ (other_root p at b m there other) =
+      no (m.root == b) (left_of (m.root == b) true (keeps p.instr (act.Reborrow b m) (act_is sub has p (record { pos = at; act = act.Reborrow b m }) there))) other
+
+  -- There are no reports where no call reports, and none is found along paths.
+  pub no_reports : alias_reports program nothing ≡ [] → (n : ℕ)
+      → ((sub : FlowSub) → Has program.subs sub → path_passes n (path_points program nothing sub) [] 0 ≡ true) → AreReports program nothing []
+  no_reports aliases n paths = record { ascending = tt; sound = λ r has. absurd has; complete = none }
+    where
+      none : (r : Report) → ProgramReport program nothing r → ⊥
+      none r (on_actuals has) = subst (λ xs. Has xs r) aliases has
+      none r (on_views sub has view) = no_view sub has r view
+      none r (on_paths sub has path) = unreported (path_points program nothing sub) n (paths sub has) r path
+
+  no_reads : (g : ℕ) (p : FlowPoint) → is_global s g ≡ true → point_passes s program.scopes p ≡ true → point_reads g p ≡ false
+  no_reads g p shared e =
+      dead (g == 0) (reads_text p.instr) (list_any (λ (a : Placed). act_reads g a.act) p.acts)
+      (isnt (reads_text p.instr) (left_of (not (reads_text p.instr)) (not (writes_text p.instr))
+      (right_of (all_pass (λ (a : Placed). act_passes s program.scopes p.instr a.act) p.acts) (not (reads_text p.instr) && not (writes_text p.instr)) e)))
+      (any_none (λ (a : Placed). act_reads g a.act) p.acts (λ a has. local_read s g a.act (local_acts p e a has) shared))
+    where
+      dead : (c r d : Bool) → r ≡ false → d ≡ false → (c && r) || d ≡ false
+      dead true true d wrong f = absurd (true≢false wrong)
+      dead true false d wrong f = f
+      dead false r d wrong f = f
+
+  no_writes : (g : ℕ) (p : FlowPoint) → is_global s g ≡ true → point_passes s program.scopes p ≡ true → point_writes g p ≡ false
+  no_writes g p shared e =
+      dead (g == 0) (writes_text p.instr) (list_any (λ (a : Placed). act_writes g a.act) p.acts)
+      (isnt (writes_text p.instr) (right_of (not (reads_text p.instr)) (not (writes_text p.instr))
+      (right_of (all_pass (λ (a : Placed). act_passes s program.scopes p.instr a.act) p.acts) (not (reads_text p.instr) && not (writes_text p.instr)) e)))
+      (any_none (λ (a : Placed). act_writes g a.act) p.acts (λ a has. local_write s g a.act (local_acts p e a has) shared))
+    where
+      dead : (c r d : Bool) → r ≡ false → d ≡ false → (c && r) || d ≡ false
+      dead true true d wrong f = absurd (true≢false wrong)
+      dead true false d wrong f = f
+      dead false r d wrong f = f
+
+  never_reads : (p g : ℕ) → Reads program p g → ⊥
+  never_reads p g reads = by (is_global s g) refl reads.own
+    where
+      by : (b : Bool) → is_global s g ≡ b → IsTrue (b && list_any (point_reads g) (flow_sub_at program reads.last).points) → ⊥
+      by false e own = true≢false (sym own)
+      by true e own =
+          true≢false (sym own
+          ∙ at_any (λ (sub : FlowSub). list_any (point_reads g) sub.points ≡ false) program.subs
+          (record { pos = record { file = 0; line = 1; column = 1 }; words = 1; formals = []; result = None; points = []; facts = [] }) refl
+          (λ sub has. any_none (point_reads g) sub.points (λ q there. no_reads g q e (point_is sub has q there))) reads.last)
+
+  never_writes : (p g : ℕ) → Writes program p g → ⊥
+  never_writes p g writes = by (is_global s g) refl writes.own
+    where
+      by : (b : Bool) → is_global s g ≡ b → IsTrue (b && list_any (point_writes g) (flow_sub_at program writes.last).points) → ⊥
+      by false e own = true≢false (sym own)
+      by true e own =
+          true≢false (sym own
+          ∙ at_any (λ (sub : FlowSub). list_any (point_writes g) sub.points ≡ false) program.subs
+          (record { pos = record { file = 0; line = 1; column = 1 }; words = 1; formals = []; result = None; points = []; facts = [] }) refl
+          (λ sub has. any_none (point_writes g) sub.points (λ q there. no_writes g q e (point_is sub has q there))) writes.last)
+
+  pub no_effects : AreEffects program nothing
+  no_effects = record {
+    read_count = many program.subs;
+    written_count = many program.subs;
+    read_order = λ p. subst Ascends (sym (empty_at program.subs p)) tt;
+    written_order = λ p. subst Ascends (sym (empty_at program.subs p)) tt;
+    reads = λ p g inside. ((λ has. absurd (subst (λ xs. Has xs g) (empty_at program.subs p) has)), (λ is. absurd (never_reads p g is)));
+    writes = λ p g inside. ((λ has. absurd (subst (λ xs. Has xs g) (empty_at program.subs p) has)), (λ is. absurd (never_writes p g is)));
+  }

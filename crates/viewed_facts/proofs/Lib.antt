@@ -1,0 +1,5 @@
+pub mod Steps
+pub mod Checks
+pub mod Memories
+pub mod Evaluated
+pub mod Stored

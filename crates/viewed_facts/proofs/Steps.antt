@@ -1,0 +1,278 @@
+-- Facts without an element stay exact in each of the four steps, under its act, and where a view gets another way.
+use Rattle.std.proofs.Common.{◌≡◌, refl, sym, ap, ◌∙◌, subst, ◌⊎◌, inl, inr, ℕ, suc, Bool, false, eq-eqb, List, arith, Option, Some}
+use Rattle.spark_base.specs.Lists.{Has}
+use Rattle.place_names.specs.declared.selector.Sel.{Sel}
+use Rattle.place_names.specs.declared.rule.Loan.TheVariants.{Borrowed}
+use Rattle.place_names.specs.declared.act.Act.{Act}
+use Rattle.place_names.specs.declared.act.Act.TheVariants.{Move, Write, Free, EndScope}
+use Rattle.place_names.specs.declared.fact.Fact.{Fact}
+use Rattle.place_names.specs.declared.fact.Fact.TheVariants.{Moved}
+use Rattle.place_names.specs.Names.{Name, has_elem}
+use Rattle.place_names.specs.Facts.{adds, effect}
+use Rattle.owned_ways.specs.Ways.{Step, OfVariable, OfHand, Loc, OfRoot, OfCell, Way, Object, Lost, Into, All, Empty, Gone, Held, View, part, along, Reaches, IsRooted, Under, Told, IsRelease, IsDrop, base_of, number_of, sels_of, name_of, Named, IsMoved, Allows}
+use Rattle.owned_ways.proofs.Locations.{under_itself, under_along, reaches_along}
+use Rattle.owned_ways.proofs.Unique.{one_way}
+use Rattle.owned_ways.proofs.Named.{longer}
+use Rattle.owned_ways.proofs.Moving.{Given}
+use Rattle.owned_ways.proofs.Told.{told_after}
+use Rattle.owned_loans.specs.Views.{Views, Around, expand, expand_root, Viewed, Becomes, Unused}
+use Rattle.owned_loans.proofs.Ways.{flip, under_on, meet_overlaps, root_on, lifts, lifted_way}
+use Rattle.owned_loans.proofs.Meeting.{IsPlain, meeting}
+use Rattle.owned_loans.proofs.Safe.{Unborrowed, loan_of, clean_below}
+use Rattle.owned_loans.proofs.Allowed.{move_unlent, move_unmoved, write_unlent, free_unlent}
+use Rattle.owned_loans.proofs.Moves.{expand_along, named_way}
+use Rattle.exact_facts.specs.Exact.{IsOfVariable}
+use Rattle.exact_facts.proofs.Steps.{fact_before, under_covers, named_variable, Keeps, told_on, variable_begins}
+use Rattle.viewed_facts.specs.Exact.{IsDefiniteBy, IsDefinite}
+
+-- ---- ways that begin at variables
+
+variable_rooted : (w : Way) → IsOfVariable w → IsRooted w
+variable_rooted (Object r) is = tt
+variable_rooted (Lost n) is = absurd is
+variable_rooted (Into w i) is = variable_rooted w is
+variable_rooted (All w) is = variable_rooted w is
+
+no_hand_base : (w : Way) (h : ℕ) → IsOfVariable w → base_of w ≡ OfRoot (OfHand h) → ⊥
+no_hand_base (Object (OfVariable f x)) h is e = cc
+no_hand_base (Object (OfHand k)) h is e = absurd is
+no_hand_base (Lost n) h is e = absurd is
+no_hand_base (Into w i) h is e = no_hand_base w h is e
+no_hand_base (All w) h is e = no_hand_base w h is e
+
+-- where numbers are no other ones than before, ways lead where they led
+reached_before : (s t : View) → ((l : Loc) (n : ℕ) → t.word l ≡ Held n → s.word l ≡ Held n) → (w : Way) (l : Loc) → IsRooted w → Reaches t w l → Reaches s w l
+reached_before s t held (Object r) l rooted reach = reach
+reached_before s t held (Lost n) l rooted reach = absurd rooted
+reached_before s t held (Into w i) l rooted (m, reach, e) = (m, reached_before s t held w m rooted reach, e)
+reached_before s t held (All w) l rooted (m, n, reach, h, e) = (m, n, reached_before s t held w m rooted reach, held m n h, e)
+
+-- a name that isn't rooted in a view stands for what it stood for
+expand_other : (v t : Views) (b : ℕ) (o : Option Way) (loan up : Way) (n : ℕ) → Becomes v t b o loan up n → (u : Way) → (number_of u ≡ b → ⊥) → expand t u ≡ expand v u
+expand_other v t b o loan up n c (Object r) off = refl
+expand_other v t b o loan up n c (Lost x) off = refl
+expand_other v t b o loan up n c (Into w i) off = ap (λ z. Into z i) (expand_other v t b o loan up n c w off)
+expand_other v t b o loan up n c (All (Object (OfVariable f x))) off = ap (λ z. expand_root z (OfVariable f x)) (c.ways x off)
+expand_other v t b o loan up n c (All (Object (OfHand h))) off = refl
+expand_other v t b o loan up n c (All (Lost x)) off = refl
+expand_other v t b o loan up n c (All (Into w i)) off = ap All (expand_other v t b o loan up n c (Into w i) off)
+expand_other v t b o loan up n c (All (All w)) off = ap All (expand_other v t b o loan up n c (All w) off)
+
+-- ---- one frame
+
+-- What is moved elsewhere begins with no name of the frame.
+module _ (home : ℕ → ℕ) (observer : ℕ → Bool) (other : Around home) (v : Views) (elsewhere : Way → Type 0)
+    (apart : (k w : Way) → Under k w → Named home k → elsewhere w → ⊥) where
+  abbrev Definite : List Fact → Way → Type 0
+  Definite facts w = IsDefinite home v elsewhere facts w
+
+  abbrev IsName : (s : View) (facts : List Fact) → Viewed home observer other v s facts → Way → Type 0
+  IsName s facts viewed k = IsPlain home observer v s facts viewed.views k
+
+  -- what a name stands for is a name
+  stands : (s : View) (facts : List Fact) (viewed : Viewed home observer other v s facts) (k : Way) → IsName s facts viewed k → Named home (expand v k)
+  stands s facts viewed k plain = named_way home observer other v s facts viewed.views (suc (number_of k)) k (omega arith) plain
+
+  named_definite : (s : View) (facts : List Fact) (viewed : Viewed home observer other v s facts) (w : Way) → IsDefiniteBy home v facts w → Named home w
+  named_definite s facts viewed w d =
+      subst (Named home) d.3 (stands s facts viewed d.0 (d.1.0, viewed.clear.owned (name_of d.0) d.1.1))
+
+  pub definite_variable : (s : View) (facts : List Fact) (viewed : Viewed home observer other v s facts) (w : Way) → Definite facts w → IsOfVariable w
+  definite_variable s facts viewed w (inl d) = named_variable home w (named_definite s facts viewed w d)
+  definite_variable s facts viewed w (inr e) = e.0
+
+  -- so it is after an act that moves nothing through an observer
+  pub variables_after : (s : View) (facts : List Fact) → Viewed home observer other v s facts → (a : Act) → ((n : Name) → Has (adds a) (Moved n) → observer n.root ≡ false)
+      → (w : Way) → Definite (effect a facts) w → IsOfVariable w
+  variables_after s facts viewed a new w (inr e) = e.0
+  variables_after s facts viewed a new w (inl d) =
+      let plain : observer (number_of d.0) ≡ false = elim (fact_before a facts (Moved (name_of d.0)) d.1.1) [
+        | inl old ↦ viewed.clear.owned (name_of d.0) old.0
+        | inr added ↦ new (name_of d.0) added
+      ] in
+      named_variable home w (subst (Named home) d.3 (stands s facts viewed d.0 (d.1.0, plain)))
+
+  rooted : (s : View) (facts : List Fact) (viewed : Viewed home observer other v s facts) (w : Way) → Definite facts w → IsRooted w
+  rooted s facts viewed w is = variable_rooted w (definite_variable s facts viewed w is)
+
+  -- a hand begins none
+  hand_apart : (s : View) (facts : List Fact) (viewed : Viewed home observer other v s facts) (h : ℕ) (w : Way) → Under (Object (OfHand h)) w → Definite facts w → ⊥
+  hand_apart s facts viewed h w under is =
+      no_hand_base w h (definite_variable s facts viewed w is) (longer (Object (OfHand h)) w under).base
+
+  -- Where a name that no loan overlaps begins what a moved name stands for, it begins that name.
+  begins_name : (s : View) (facts : List Fact) (viewed : Viewed home observer other v s facts) (k u : Way) → IsName s facts viewed k → Unborrowed facts k
+      → IsMoved home facts u → Under (expand v k) (expand v u) → Under k u
+  begins_name s facts viewed k u plain unborrowed moved under =
+      let clear = viewed.clear in
+      elim (meeting home observer v s facts viewed.views k u plain (moved.0, clear.owned (name_of u) moved.1) under) [
+        | inl below ↦ below
+        | inr more ↦ elim more [
+          | inl a ↦ absurd (clear.moved Borrowed a.object (name_of u) (name_of (v.loan a.object)) moved.1
+              (loan_of home observer v s facts viewed.views clear a.object a.lends)
+              (meet_overlaps u (v.loan a.object) (inr (under_on (v.loan a.object) a.name u a.loan a.begins))))
+          | inr more ↦ elim more [
+            | inl b ↦ absurd (unborrowed b.object (name_of (v.loan b.object)) (loan_of home observer v s facts viewed.views clear b.object b.lends)
+                (meet_overlaps (v.loan b.object) k (flip k (v.loan b.object) b.meets)))
+            | inr c ↦ absurd (clear.lent c.one c.two (name_of (v.loan c.one)) (name_of (v.loan c.two))
+                (loan_of home observer v s facts viewed.views clear c.one c.lends) (loan_of home observer v s facts viewed.views clear c.two c.lent)
+                c.differ (meet_overlaps (v.loan c.one) (v.loan c.two) c.meets))
+          ]
+        ]
+      ]
+
+  -- ---- where nothing comes that ways could go through
+
+  pub told_still : (s t : View) (on : Loc → Type 0) (facts : List Fact) → Viewed home observer other v s facts → ((f x : ℕ) → on (OfRoot (OfVariable f x))) → Keeps s t on
+      → ((l : Loc) → on l → s.word l ≡ Gone → t.word l ≡ Gone) → Told s (Definite facts) → Told t (Definite facts)
+  told_still s t on facts viewed all keeps gone told =
+      told_on s t on (Definite facts) (λ w is. variable_begins on all w (definite_variable s facts viewed w is)) keeps gone told
+
+  -- ---- a value in hand is put at a target
+
+  pub told_put : (s t : View) (h : ℕ) (k : Way) (to : Loc) (facts : List Fact) → Viewed home observer other v s facts → Named home k → observer (number_of k) ≡ false
+      → Given s t (Object (OfHand h)) (expand v k) (OfRoot (OfHand h)) to → Allows facts (Write (name_of k))
+      → Told s (Definite facts) → Told t (Definite (effect (Write (name_of k)) facts))
+  told_put s t h k to facts viewed named plain given allowed told =
+      told_after s t (Object (OfHand h)) (expand v k) (OfRoot (OfHand h)) to (Definite facts) (Definite (effect (Write (name_of k)) facts))
+      (rooted s facts viewed) given told
+      (λ w under is. hand_apart s facts viewed h w under is) only
+    where
+      only : (w : Way) → Definite (effect (Write (name_of k)) facts) w
+          → (Definite facts w × (Under (expand v k) w → ⊥)) ⊎ ((p : List Step) × (w ≡ along (Object (OfHand h)) p) × (t.word (part (OfRoot (OfHand h)) p) ≡ Gone))
+      only w (inr e) = inl (inr e, λ under. apart (expand v k) w under (stands s facts viewed k (named, plain)) e.1)
+      only w (inl d) = elim (fact_before (Write (name_of k)) facts (Moved (name_of d.0)) d.1.1) [
+        | inl old ↦ inl (
+          inl (d.0, (d.1.0, old.0), d.2, d.3),
+          λ under. (
+              let below : Under k d.0 = begins_name s facts viewed k d.0 (named, plain) (λ n m. write_unlent facts k allowed Borrowed n m) (d.1.0, old.0) (subst (Under (expand v k)) (sym d.3) under) in
+              let covered = under_covers k d.0 below d.2 in let kept = old.1 in cc),
+        )
+        | inr none ↦ absurd none
+      ]
+
+  -- a variable gets a value, of which no fact speaks
+  pub told_given : (s t : View) (h : ℕ) (k : Way) (to : Loc) (facts : List Fact) → Viewed home observer other v s facts
+      → Given s t (Object (OfHand h)) k (OfRoot (OfHand h)) to → ((w : Way) → Definite facts w → Under k w → ⊥)
+      → Told s (Definite facts) → Told t (Definite facts)
+  told_given s t h k to facts viewed given none told =
+      told_after s t (Object (OfHand h)) k (OfRoot (OfHand h)) to (Definite facts) (Definite facts) (rooted s facts viewed) given told
+      (λ w under is. hand_apart s facts viewed h w under is) (λ w is. inl (is, none w is))
+
+  -- ---- what a name has is taken into a hand
+
+  pub told_taken : (s t : View) (k : Way) (h : ℕ) (from : Loc) (parts : List (List Sel)) (facts : List Fact) → Viewed home observer other v s facts
+      → Named home k → observer (number_of k) ≡ false → Given s t (expand v k) (Object (OfHand h)) from (OfRoot (OfHand h)) → Allows facts (Move (name_of k) parts)
+      → ((u : Way) → Named home u → has_elem (sels_of u) ≡ false → Has (adds (Move (name_of k) parts)) (Moved (name_of u))
+      → (p : List Step) × (u ≡ along k p) × (t.word (part from p) ≡ Gone))
+      → Told s (Definite facts) → Told t (Definite (effect (Move (name_of k) parts) facts))
+  told_taken s t k h from parts facts viewed named plain given allowed takes told =
+      told_after s t (expand v k) (Object (OfHand h)) from (OfRoot (OfHand h)) (Definite facts) (Definite (effect (Move (name_of k) parts) facts))
+      (rooted s facts viewed) given told clean only
+    where
+      clean : (w : Way) → Under (expand v k) w → Definite facts w → ⊥
+      clean w under (inl d) =
+          clean_below home observer v s facts viewed.views viewed.clear k w (named, plain) (λ n m. move_unlent facts k parts allowed Borrowed n m)
+          (move_unmoved facts k parts allowed) under (d.0, d.1, d.3)
+      clean w under (inr e) = apart (expand v k) w under (stands s facts viewed k (named, plain)) e.1
+
+      only : (w : Way) → Definite (effect (Move (name_of k) parts) facts) w
+          → (Definite facts w × (Under (Object (OfHand h)) w → ⊥)) ⊎ ((p : List Step) × (w ≡ along (expand v k) p) × (t.word (part from p) ≡ Gone))
+      only w (inr e) = inl (inr e, λ under. hand_apart s facts viewed h w under (inr e))
+      only w (inl d) = elim (fact_before (Move (name_of k) parts) facts (Moved (name_of d.0)) d.1.1) [
+        | inl old ↦ (let was : Definite facts w = inl (d.0, (d.1.0, old.0), d.2, d.3) in inl (was, λ under. hand_apart s facts viewed h w under was))
+        | inr new ↦ (let found = takes d.0 d.1.0 d.2 new in
+            inr (found.0, sym d.3 ∙ ap (expand v) found.1 ∙ expand_along v k found.0, found.2))
+      ]
+
+  -- ---- a cell is freed, and its name becomes null
+
+  pub told_released : (s t : View) (k : Way) (at : Loc) (n : ℕ) (facts : List Fact) → Viewed home observer other v s facts → Named home k → observer (number_of k) ≡ false
+      → IsRelease s t at n → Reaches s (expand v k) at → s.word at ≡ Held n → Allows facts (Free (name_of k))
+      → Told s (Definite facts) → Told t (Definite (effect (Free (name_of k)) facts))
+  told_released s t k at n facts viewed named plain step target held allowed told = by
+    where
+      was : (l : Loc) (c : ℕ) → t.word l ≡ Held c → s.word l ≡ Held c
+      was l c h =
+          sym (step.off l (λ e. (let is : Held c ≡ Empty = sym h ∙ ap t.word e ∙ step.null in cc))
+          (λ b. (let is : Held c ≡ Empty = sym h ∙ ap t.word b.1 ∙ step.empty b.0 in cc))) ∙ h
+
+      -- what isn't below the cell stays gone
+      stays : (w : Way) (l : Loc) → Definite facts w → (Under (expand v k) w → ⊥) → Reaches t w l → t.word l ≡ Gone
+      stays w l is off reach =
+          let before = reached_before s t was w l (rooted s facts viewed w is) reach in
+          let gone : s.word l ≡ Gone = told w l is before in
+          step.off l
+          (λ e. (let is_held : Gone ≡ Held n = sym gone ∙ ap s.word e ∙ held in cc))
+          (λ b. (
+          let cell : Reaches s (along (All (expand v k)) b.0) (part (OfCell n) b.0) = reaches_along s (All (expand v k)) (OfCell n) b.0 (at, n, target, held, refl) in
+          let same : w ≡ along (All (expand v k)) b.0 = one_way s viewed.owned w (along (All (expand v k)) b.0) l before (subst (Reaches s (along (All (expand v k)) b.0)) (sym b.1) cell) in
+          off (subst (Under (expand v k)) (sym same) (under_along (expand v k) (All (expand v k)) b.0 (inr (under_itself (expand v k)))))))
+          ∙ gone
+
+      by : Told t (Definite (effect (Free (name_of k)) facts))
+      by w l (inr e) reach = stays w l (inr e) (λ under. apart (expand v k) w under (stands s facts viewed k (named, plain)) e.1) reach
+      by w l (inl d) reach = elim (fact_before (Free (name_of k)) facts (Moved (name_of d.0)) d.1.1) [
+        | inr none ↦ absurd none
+        | inl old ↦ stays w l (inl (d.0, (d.1.0, old.0), d.2, d.3))
+            (λ under. (
+            let below : Under k d.0 = begins_name s facts viewed k d.0 (named, plain) (λ n m. free_unlent facts k allowed Borrowed n m) (d.1.0, old.0) (subst (Under (expand v k)) (sym d.3) under) in
+            let covered = under_covers k d.0 below d.2 in let kept = old.1 in cc)) reach
+      ]
+
+  -- ---- the scope of an object of the frame ends
+
+  abbrev place : ℕ → Way
+  place x = Object (OfVariable (home x) x)
+
+  -- no view begins there
+  pub told_ended : (s t : View) (x : ℕ) (borrower : Bool) (facts : List Fact) → Viewed home observer other v s facts → IsDrop s t (OfVariable (home x) x)
+      → ((y : ℕ) (w : Way) → v.way y ≡ Some w → number_of w ≡ x → ⊥)
+      → Told s (Definite facts) → Told t (Definite (effect (EndScope x borrower) facts))
+  told_ended s t x borrower facts viewed step roots told = by
+    where
+      was : (l : Loc) (c : ℕ) → t.word l ≡ Held c → s.word l ≡ Held c
+      was l c h = sym (step.off l (λ b. (let is : Held c ≡ Empty = sym h ∙ ap t.word b.1 ∙ step.empty b.0 in cc))) ∙ h
+
+      stays : (w : Way) (l : Loc) → Definite facts w → (Under (place x) w → ⊥) → Reaches t w l → t.word l ≡ Gone
+      stays w l is off reach =
+          let before = reached_before s t was w l (rooted s facts viewed w is) reach in
+          step.off l (λ b. (
+          let there : Reaches s (along (place x) b.0) (part (OfRoot (OfVariable (home x) x)) b.0) = reaches_along s (place x) (OfRoot (OfVariable (home x) x)) b.0 refl in
+          let same : w ≡ along (place x) b.0 = one_way s viewed.owned w (along (place x) b.0) l before (subst (Reaches s (along (place x) b.0)) (sym b.1) there) in
+          off (subst (Under (place x)) (sym same) (under_along (place x) (place x) b.0 (under_itself (place x))))))
+          ∙ told w l is before
+
+      -- what stands for a way that begins there is rooted there
+      own_root : (u : Way) → number_of (expand v u) ≡ x → number_of u ≡ x
+      own_root u is = elim (lifts v u) [
+        | inl e ↦ ap number_of (sym e) ∙ is
+        | inr l ↦ absurd (roots l.object l.way l.has (sym (root_on l.way l.rest) ∙ ap number_of (sym (lifted_way v u l)) ∙ is))
+      ]
+
+      by : Told t (Definite (effect (EndScope x borrower) facts))
+      by w l (inr e) reach = stays w l (inr e) (λ under. apart (place x) w under refl e.1) reach
+      by w l (inl d) reach = elim (fact_before (EndScope x borrower) facts (Moved (name_of d.0)) d.1.1) [
+        | inr none ↦ absurd none
+        | inl old ↦ stays w l (inl (d.0, (d.1.0, old.0), d.2, d.3))
+            (λ under. (
+            let number : number_of d.0 ≡ x = own_root d.0 (ap number_of d.3 ∙ (longer (place x) w under).root) in
+            let ends = eq-eqb (number_of d.0) x number in
+            let kept = old.1 in cc)) reach
+      ]
+
+  -- ---- acts that move nothing
+
+  -- what is moved after it was moved before
+  pub told_fewer : (s : View) (facts facts' : List Fact) → ((m : Name) → Has facts' (Moved m) → Has facts (Moved m)) → Told s (Definite facts) → Told s (Definite facts')
+  told_fewer s facts facts' less told w l (inr e) reach = told w l (inr e) reach
+  told_fewer s facts facts' less told w l (inl d) reach = told w l (inl (d.0, (d.1.0, less (name_of d.0) d.1.1), d.2, d.3)) reach
+
+  -- a view gets another way, or none, where no moved name is rooted in it
+  pub told_rebound : (s : View) (t : Views) (b : ℕ) (o : Option Way) (loan up : Way) (n : ℕ) → Becomes v t b o loan up n → (facts facts' : List Fact) → Unused v facts b
+      → ((m : Name) → Has facts' (Moved m) → Has facts (Moved m)) → Told s (IsDefinite home v elsewhere facts) → Told s (IsDefinite home t elsewhere facts')
+  told_rebound s t b o loan up n becomes facts facts' unused less told w l (inr e) reach = told w l (inr e) reach
+  told_rebound s t b o loan up n becomes facts facts' unused less told w l (inl d) reach =
+      let moved : Has facts (Moved (name_of d.0)) = less (name_of d.0) d.1.1 in
+      let same = expand_other v t b o loan up n becomes d.0 (unused.unmoved (name_of d.0) moved) in
+      told w l (inl (d.0, (d.1.0, moved), d.2, sym same ∙ d.3)) reach
