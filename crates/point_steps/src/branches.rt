@@ -11,7 +11,7 @@ ghost use Rattle.point_steps.specs.Steps.{tested, chosen_by, decided_by};
 use crate::between::is_between;
 use code_rows::{Choice, Exception, Nodes, Range, Rows, Stop};
 use run_memory::Memory;
-use run_words::evaluate;
+use run_words::{evaluate, evaluate_condition};
 
 /// Where a condition leads.
 #[tactic(auto, using(crate::proofs::Wholes::tested_whole))]
@@ -26,7 +26,7 @@ pub fn test(
     requires whole { is_broken (tested (flat memory.now) (code_at nodes.now condition) holds fails) ≡ false }
     ensures { tested (flat memory.now) (code_at nodes.now condition) holds fails ≡ shown result }
 {
-    let word = evaluate(nodes, memory, condition)?;
+    let word = evaluate_condition(nodes, memory, condition)?;
     Ok(if word == 0 { fails } else { holds })
 }
 

@@ -7,9 +7,10 @@
 //! read. `operand` gives the same, without a call for the most frequent expressions: a number, a word
 //! of the frame, and a word of the cell that one designates. `evaluate` gives the same too: it tries
 //! these and operators on them at first, whose words fit into registers, since why there is none isn't
-//! said (`quick`); where that gives no word, `word` answers. `spot` finds a place in the same way
-//! ("places" there): the indexes of its name come first. No call takes memory. `evaluate` visits each
-//! node three times more than `word` at most.
+//! said (`quick`); where that gives no word, `word` answers. `evaluate_condition` is `evaluate` without
+//! a call where a word is compared with `null`. `spot` finds a place in the same way ("places" there):
+//! the indexes of its name come first. No call takes memory. `evaluate` and `evaluate_condition` visit
+//! each node six times more than `word` at most.
 #![tactic(auto)]
 
 mod operators;
@@ -19,5 +20,5 @@ mod words;
 
 pub use operators::within;
 pub use places::spot;
-pub use quick::evaluate;
+pub use quick::{evaluate, evaluate_condition};
 pub use words::{operand, word};

@@ -92,24 +92,6 @@ fn leaves(nodes: &Nodes, memory: &Memory, operator: Operator, left: u32, right: 
     operate_quick(operator, left, right)
 }
 
-/// An operator with such an operand, and a number on the right.
-#[inline(always)]
-#[tactic(auto, unfolding(run_codes::specs::Flat::word))]
-fn leaf_with(
-    nodes: &Nodes,
-    memory: &Memory,
-    operator: Operator,
-    left: u32,
-    right: i32,
-) -> Option<i64>
-    requires there { left < length nodes.now }
-    requires whole { is_broken (word (flat memory.now) (Binary operator (code_at nodes.now left) (Number right))) ≡ false }
-    ensures { IfSome result (λ w. word (flat memory.now) (Binary operator (code_at nodes.now left) (Number right)) ≡ Given w) }
-{
-    let left = leaf(nodes, memory, left)?;
-    operate_quick(operator, left, right as i64)
-}
-
 /// Such an access value compared with `null`.
 #[inline(always)]
 #[tactic(auto, unfolding(run_codes::specs::Flat::word))]
@@ -120,6 +102,19 @@ fn leaf_is_null(nodes: &Nodes, memory: &Memory, equal: bool, pointer: u32) -> Op
 {
     let pointer = leaf(nodes, memory, pointer)?;
     Some(truth((pointer == 0) == equal))
+}
+
+/// The same, as an expression. None: it is another one, or it stops.
+#[inline(always)]
+fn compared(nodes: &Nodes, memory: &Memory, n: u32) -> Option<i64>
+    requires there { n < length nodes.now }
+    requires whole { is_broken (word (flat memory.now) (code_at nodes.now n)) ≡ false }
+    ensures { IfSome result (λ w. word (flat memory.now) (code_at nodes.now n) ≡ Given w) }
+{
+    if let Node::IsNull { equal, pointer } = nodes.node(n) {
+        return leaf_is_null(nodes, memory, equal, pointer);
+    }
+    None
 }
 
 /// All of these. Nothing is called here, so that no registers are saved.
@@ -133,14 +128,6 @@ fn simple(nodes: &Nodes, memory: &Memory, n: u32) -> Option<i64>
     if let Node::IsNull { equal, pointer } = node {
         return leaf_is_null(nodes, memory, equal, pointer);
     }
-    if let Node::WithNumber {
-        operator,
-        left,
-        right,
-    } = node
-    {
-        return leaf_with(nodes, memory, operator, left, right);
-    }
     if let Node::Binary {
         operator,
         left,
@@ -153,6 +140,60 @@ fn simple(nodes: &Nodes, memory: &Memory, n: u32) -> Option<i64>
 }
 
 // ---- more operators
+
+/// One of these words, or an operator with two of them.
+#[inline(always)]
+fn term(nodes: &Nodes, memory: &Memory, n: u32) -> Option<i64>
+    requires there { n < length nodes.now }
+    requires whole { is_broken (word (flat memory.now) (code_at nodes.now n)) ≡ false }
+    ensures { IfSome result (λ w. word (flat memory.now) (code_at nodes.now n) ≡ Given w) }
+{
+    if let Node::Binary {
+        operator,
+        left,
+        right,
+    } = nodes.node(n)
+    {
+        return leaves(nodes, memory, operator, left, right);
+    }
+    leaf(nodes, memory, n)
+}
+
+/// An operator with such an operand on the left, and a number on the right.
+#[inline(never)]
+#[tactic(auto, unfolding(run_codes::specs::Flat::word))]
+fn term_with(
+    nodes: &Nodes,
+    memory: &Memory,
+    operator: Operator,
+    left: u32,
+    right: i32,
+) -> Option<i64>
+    requires there { left < length nodes.now }
+    requires whole { is_broken (word (flat memory.now) (Binary operator (code_at nodes.now left) (Number right))) ≡ false }
+    ensures { IfSome result (λ w. word (flat memory.now) (Binary operator (code_at nodes.now left) (Number right)) ≡ Given w) }
+{
+    let left = term(nodes, memory, left)?;
+    operate(operator, left, right as i64)
+}
+
+/// The word of an expression with two operators at most. None: it is another one, or it stops.
+#[inline(always)]
+fn shallow(nodes: &Nodes, memory: &Memory, n: u32) -> Option<i64>
+    requires there { n < length nodes.now }
+    requires whole { is_broken (word (flat memory.now) (code_at nodes.now n)) ≡ false }
+    ensures { IfSome result (λ w. word (flat memory.now) (code_at nodes.now n) ≡ Given w) }
+{
+    if let Node::WithNumber {
+        operator,
+        left,
+        right,
+    } = nodes.node(n)
+    {
+        return term_with(nodes, memory, operator, left, right);
+    }
+    simple(nodes, memory, n)
+}
 
 /// An operator with two operands.
 #[cycle(quick)]
@@ -255,7 +296,7 @@ fn quick(nodes: &Nodes, memory: &Memory, n: u32) -> Option<i64>
     requires whole { is_broken (word (flat memory.now) (code_at nodes.now n)) ≡ false }
     ensures { IfSome result (λ w. word (flat memory.now) (code_at nodes.now n) ≡ Given w) }
 {
-    match simple(nodes, memory, n) {
+    match shallow(nodes, memory, n) {
         Some(word) => Some(word),
         None => deep(nodes, memory, n),
     }
@@ -272,5 +313,18 @@ pub fn evaluate(nodes: &Nodes, memory: &Memory, n: u32) -> Result<i64, Stop>
     match quick(nodes, memory, n) {
         Some(word) => Ok(word),
         None => words::word(nodes, memory, n),
+    }
+}
+
+/// The same, without a call where an access value is compared with `null`.
+#[inline(always)]
+pub fn evaluate_condition(nodes: &Nodes, memory: &Memory, n: u32) -> Result<i64, Stop>
+    requires there { n < length nodes.now }
+    requires whole { is_broken (word (flat memory.now) (code_at nodes.now n)) ≡ false }
+    ensures { word (flat memory.now) (code_at nodes.now n) ≡ shown result }
+{
+    match compared(nodes, memory, n) {
+        Some(word) => Ok(word),
+        None => evaluate(nodes, memory, n),
     }
 }

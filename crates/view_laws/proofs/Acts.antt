@@ -1,6 +1,6 @@
--- What the acts of an instruction move is rooted in an object that the instruction names, whose scope
--- ends at a point; and no act changes an observer itself.
-use Rattle.std.proofs.Common.{◌≡◌, refl, sym, ap, ◌∙◌, subst, ◌⊎◌, inl, inr, ℕ, zero, suc, ◌<◌, Bool, true, false, ◌&&◌, ◌||◌, List, [], ◌∷◌, ◌++◌, map, length, get_or, arith, ℤ, Option, Some, None, if◌then◌else◌}
+-- What the acts of an instruction move or lend is rooted in an object that the instruction names, whose
+-- scope ends at a point; and no act changes an observer itself.
+use Rattle.std.proofs.Common.{◌≡◌, refl, sym, ap, ◌∙◌, subst, ◌⊎◌, inl, inr, ℕ, zero, suc, ◌<◌, Bool, true, false, not, ◌&&◌, ◌||◌, List, [], ◌∷◌, ◌++◌, map, length, get_or, arith, ℤ, Option, Some, None, if◌then◌else◌}
 use Rattle.spark_base.specs.Lists.{Has}
 use Rattle.spark_base.proofs.Lists.{Has-append_left, Has-append_right, Has-append_cases}
 use Rattle.spark_base.specs.declared.position.Pos.{Pos}
@@ -9,9 +9,10 @@ use Rattle.place_names.specs.declared.act.Act.TheVariants as act
 use Rattle.place_names.specs.declared.act.Placed.{Placed}
 use Rattle.place_names.specs.declared.act.Mode.{Mode}
 use Rattle.place_names.specs.declared.act.Mode.TheVariants as mode
+use Rattle.place_names.specs.declared.fact.Fact.{Fact}
 use Rattle.place_names.specs.declared.fact.Fact.TheVariants.{Moved}
 use Rattle.place_names.specs.declared.selector.Sel.{Sel}
-use Rattle.place_names.specs.Facts.{adds}
+use Rattle.place_names.specs.Facts.{adds, place}
 use Rattle.place_names.specs.Names.{Name as PlaceName, extend}
 use Rattle.type_definitions.specs.declared.table.Component.{Component as Part}
 use Rattle.type_definitions.specs.declared.table.Shape.{Shape}
@@ -120,6 +121,9 @@ scalar_shape (shape.Same of) e f = cc
 pub observer_anonymous : (s : Typing) (x : ℕ) → is_observer s x ≡ true → is_anonymous (view_of s x) ≡ true
 observer_anonymous s x e = or_right (is_borrowing (view_of s x)) (is_observing (view_of s x)) (both_second (is_variable (object_at s x).kind) (is_observing (view_of s x)) e)
 
+borrower_anonymous : (s : Typing) (x : ℕ) → is_borrower s x ≡ true → is_anonymous (view_of s x) ≡ true
+borrower_anonymous s x e = or_left (is_borrowing (view_of s x)) (is_observing (view_of s x)) (both_second (is_variable (object_at s x).kind) (is_borrowing (view_of s x)) e)
+
 -- The type of an object whose scope ends at a point of its own.
 abbrev pub Lasts : Typing → ℕ → Type 0
 Lasts s t = is_owning s.table t || is_anonymous (full s.table t) ≡ true
@@ -208,28 +212,31 @@ module _ (s : Typing) (own_law : OwnsByShape s.table) (parts_named : PartsAreNam
 
   -- ---- acts
 
-  -- What an act moves is rooted in one of these objects, and the scope of that ends at a point; an act
-  -- that changes a whole object changes no observer.
+  -- A fact is rooted in one of these objects, and the scope of that ends at a point.
+  abbrev IsOnOne : List ℕ → Fact → Type 0
+  IsOnOne xs f = Has xs (place f).root × Lasts s (object_at s (place f).root).of
+
+  -- The facts that an act adds are so; and if it changes a whole object, that is no observer.
   abbrev pub IsGood : List ℕ → Act → Type 0
   IsGood xs a =
-      ((name : PlaceName) → Has (adds a) (Moved name) → Has xs name.root × Lasts s (object_at s name.root).of)
+      ((f : Fact) → Has (adds a) f → IsOnOne xs f)
       × ((m : PlaceName) → changes a ≡ Some m → m.sels ≡ [] → is_observer s m.root ≡ false)
 
   abbrev pub AreGood : List Placed → List ℕ → Type 0
   AreGood acts xs = (a : Placed) → Has acts a → IsGood xs a.act
 
-  -- An act that moves and changes nothing.
+  -- An act that adds no fact and changes nothing.
   abbrev IsQuiet : Act → Type 0
-  IsQuiet a = ((name : PlaceName) → Has (adds a) (Moved name) → ⊥) × ((m : PlaceName) → changes a ≡ Some m → ⊥)
+  IsQuiet a = ((f : Fact) → Has (adds a) f → ⊥) × ((m : PlaceName) → changes a ≡ Some m → ⊥)
 
   good_quiet : (xs : List ℕ) (a : Act) → IsQuiet a → IsGood xs a
-  good_quiet xs a h = ((λ name moved. absurd (h.0 name moved)), (λ m e none. absurd (h.1 m e)))
+  good_quiet xs a h = ((λ f new. absurd (h.0 f new)), (λ m e none. absurd (h.1 m e)))
 
   good_none : (xs : List ℕ) → AreGood [] xs
   good_none xs a has = absurd has
 
   good_more : (ps : List Placed) (xs ys : List ℕ) → ((x : ℕ) → Has xs x → Has ys x) → AreGood ps xs → AreGood ps ys
-  good_more ps xs ys part h a has = ((λ name moved. (let found = (h a has).0 name moved in (part name.root found.0, found.1))), (h a has).1)
+  good_more ps xs ys part h a has = ((λ f new. (let found = (h a has).0 f new in (part (place f).root found.0, found.1))), (h a has).1)
 
   good_append : (ps qs : List Placed) (xs : List ℕ) → AreGood ps xs → AreGood qs xs → AreGood (ps ++ qs) xs
   good_append ps qs xs h g a has = elim (Has-append_cases ps qs a has) [ inl l ↦ h a l | inr r ↦ g a r ]
@@ -253,10 +260,10 @@ module _ (s : Typing) (own_law : OwnsByShape s.table) (parts_named : PartsAreNam
   good_root : (ps : List Placed) (x : ℕ) (xs : List ℕ) → AreGood ps xs → AreGood ps (x ∷ xs)
   good_root ps x xs h = good_more ps xs (x ∷ xs) (λ y has. inr has) h
 
-  moved_root : (m : PlaceName) (qs : List (List Sel)) (name : PlaceName) → Has (map (λ q. Moved (extend m q)) qs) (Moved name) → m.root ≡ name.root
-  moved_root m [] name has = absurd has
-  moved_root m (q ∷ qs) name (inl e) = (let same : extend m q ≡ name = cc in ap (λ (z : PlaceName). z.root) same)
-  moved_root m (q ∷ qs) name (inr has) = moved_root m qs name has
+  moved_root : (m : PlaceName) (qs : List (List Sel)) (f : Fact) → Has (map (λ q. Moved (extend m q)) qs) f → m.root ≡ (place f).root
+  moved_root m [] f has = absurd has
+  moved_root m (q ∷ qs) f (inl e) = ap (λ z. (place z).root) e
+  moved_root m (q ∷ qs) f (inr has) = moved_root m qs f has
 
   -- what a whole object changes
   changed_whole : (x : ℕ) (steps : TypedTree) (u : ℕ) (m : PlaceName) → Leads s (object_at s x).of steps u → is_anonymous (full s.table u) ≡ false
@@ -270,8 +277,8 @@ module _ (s : Typing) (own_law : OwnsByShape s.table) (parts_named : PartsAreNam
     where
       by : (b : Bool) → is_owning s.table t ≡ b → IsGood (x ∷ roots steps) (if b then act.Move (name_of x steps) (parts s.table t) else act.Read (name_of x steps))
       by true owns = (
-        λ name moved.
-            let root : x ≡ name.root = moved_root (name_of x steps) (parts s.table t) name moved in (
+        λ f moved.
+            let root : x ≡ (place f).root = moved_root (name_of x steps) (parts s.table t) f moved in (
               inl root,
               subst (λ z. Lasts s (object_at s z).of) root
                   (leads_lasts (object_at s x).of steps t leads (or_left (is_owning s.table t) (is_anonymous (full s.table t)) owns)),
@@ -398,31 +405,88 @@ module _ (s : Typing) (own_law : OwnsByShape s.table) (parts_named : PartsAreNam
   index_good (Name p x steps t) leads = good_root (acts_in s steps) x (roots steps) (leads_good (object_at s x).of steps t leads)
   index_good e leads = good_none (roots e)
 
-  naming_good : (w : Option Written) (a : PlaceName → Act) (xs : List ℕ) → ((m : PlaceName) → IsQuiet (a m)) → AreGood (naming w a) xs
-  naming_good None a xs quiet = good_none xs
-  naming_good (Some w) a xs quiet = good_one (placed w.pos (a w.name)) xs (good_quiet xs (a w.name) (quiet w.name))
+  naming_good : (w : Option Written) (a : PlaceName → Act) (xs : List ℕ) → ((m : Written) → w ≡ Some m → IsGood xs (a m.name)) → AreGood (naming w a) xs
+  naming_good None a xs good = good_none xs
+  naming_good (Some w) a xs good = good_one (placed w.pos (a w.name)) xs (good w refl)
 
-  source_good : (e : TypedTree) (a : PlaceName → Act) → ((m : PlaceName) → IsQuiet (a m)) → IsIndexed e → AreGood (source_acts s e a) (roots e)
-  source_good e a quiet indexed = good_append (index_acts s e) (naming (source e) a) (roots e) (index_good e indexed) (naming_good (source e) a (roots e) quiet)
+  -- The act on a source is good.
+  abbrev IsGoodSource : TypedTree → (PlaceName → Act) → Type 0
+  IsGoodSource e a = (w : Written) → source e ≡ Some w → IsGood (roots e) (a w.name)
 
-  first_source : (want : ℕ) (v : TypedTree) (a : PlaceName → Act) → ((m : PlaceName) → IsQuiet (a m)) → FirstSource s want v
-      → AreGood (source_acts s (first v) a) (roots v)
+  source_good : (e : TypedTree) (a : PlaceName → Act) → IsGoodSource e a → IsIndexed e → AreGood (source_acts s e a) (roots e)
+  source_good e a good indexed = good_append (index_acts s e) (naming (source e) a) (roots e) (index_good e indexed) (naming_good (source e) a (roots e) good)
+
+  first_source : (want : ℕ) (v : TypedTree) (a : PlaceName → Act) → IsGoodSource (first v) a → FirstSource s want v → AreGood (source_acts s (first v) a) (roots v)
   unfolding roots
-  first_source want (More e rest) a quiet fine =
+  first_source want (More e rest) a good fine =
       good_more (source_acts s e a) (roots e) (roots e ++ roots rest) (λ x has. Has-append_left (roots e) (roots rest) x has)
-      (source_good e a quiet (source_indexed want e fine.1))
-  first_source want NoMore a quiet fine = good_none []
-  first_source want _ a quiet fine = absurd fine
+      (source_good e a good (source_indexed want e fine.1))
+  first_source want NoMore a good fine = good_none []
+  first_source want _ a good fine = absurd fine
 
-  borrow_quiet : (h : ℕ) (m : PlaceName) → IsQuiet (act.Borrow h m)
-  borrow_quiet h m = ((λ name has. elim has [ inl e ↦ (let no_move : ⊥ = cc in no_move) | inr none ↦ none ]), (λ k e. cc))
+  -- What is looked at for a view is rooted in an object whose scope ends at a point.
+  pub source_lasts : (want : ℕ) (q : Pos) (y : ℕ) (path : TypedTree) (u : ℕ) → is_anonymous (full s.table want) ≡ true → Source s want (Name q y path u)
+      → Lasts s (object_at s y).of
+  unfolding Gives
+  source_lasts want q y path u anonymous (inl seen) =
+      let view = seen.1 in
+      leads_lasts (object_at s y).of path u view.6
+      (ap (λ b. b || is_anonymous (full s.table u)) (own_law u)
+      ∙ ap (λ z. owns_of (is_owning s.table) z || is_anonymous (view_of_shape z)) view.7
+      ∙ access_lasts (is_owning s.table) view.0 view.2 view.3)
+  source_lasts want q y path u anonymous (inr gives) =
+      leads_lasts (object_at s y).of path u gives.0
+      (or_right (is_owning s.table u) (is_anonymous (full s.table u)) (elim gives.1 [
+        | inl one ↦ ap (λ z. is_anonymous (view_of_shape z)) one ∙ anonymous
+        | inr scalars ↦ absurd (true_false (is_anonymous (full s.table want)) anonymous (scalar_plain want scalars.1))
+      ]))
 
-  observe_quiet : (h : ℕ) (m : PlaceName) → IsQuiet (observe s h m)
-  observe_quiet h m = by (is_observer s m.root)
+  -- an act that lends a place, and changes nothing
+  abbrev IsLending : (PlaceName → Act) → Type 0
+  IsLending a = (m : PlaceName) (xs : List ℕ) → Has xs m.root → Lasts s (object_at s m.root).of → IsGood xs (a m)
+
+  borrow_lends : (h : ℕ) → IsLending (act.Borrow h)
+  borrow_lends h m xs has lasts = (
+    λ f new. elim new [
+      | inl e ↦ subst (IsOnOne xs) e (has, lasts)
+      | inr none ↦ absurd none
+    ],
+    λ k e. cc,
+  )
+
+  observe_lends : (h : ℕ) → IsLending (observe s h)
+  observe_lends h m xs has lasts = by (is_observer s m.root)
     where
-      by : (b : Bool) → IsQuiet (act.Observe h m b)
-      by true = ((λ name none. none), (λ k e. cc))
-      by false = ((λ name has. elim has [ inl e ↦ (let no_move : ⊥ = cc in no_move) | inr none ↦ none ]), (λ k e. cc))
+      by : (b : Bool) → IsGood xs (act.Observe h m b)
+      by true = ((λ f none. absurd none), (λ k e. cc))
+      by false = (
+        λ f new. elim new [
+          | inl e ↦ subst (IsOnOne xs) e (has, lasts)
+          | inr none ↦ absurd none
+        ],
+        λ k e. cc,
+      )
+
+  lent_good : (want : ℕ) (e : TypedTree) (a : PlaceName → Act) → IsLending a → is_anonymous (full s.table want) ≡ true → not (has_call e) ≡ true
+      → Source s want e → IsGoodSource e a
+  unfolding roots has_call
+  lent_good want (Name p x steps t) a lends anonymous silent fine w is =
+      subst (λ (z : Written). IsGood (x ∷ roots steps) (a z.name)) (let same : record { pos = p; name = name_of x steps; of = t } ≡ w = cc in same)
+      (lends (name_of x steps) (x ∷ roots steps) (inl refl) (source_lasts want p x steps t anonymous fine))
+  lent_good want (Call p sub actuals) a lends anonymous silent fine w is = cc
+  lent_good want _ a lends anonymous silent fine w is = cc
+
+  first_lent : (want : ℕ) (v : TypedTree) (a : PlaceName → Act) → IsLending a → is_anonymous (full s.table want) ≡ true → not (has_call v) ≡ true
+      → FirstSource s want v → AreGood (source_acts s (first v) a) (roots v)
+  unfolding has_call
+  first_lent want (More e rest) a lends anonymous silent fine =
+      first_source want (More e rest) a (lent_good want e a lends anonymous (none_first (has_call e) (has_call rest) silent) fine.1) fine
+    where
+      none_first : (b c : Bool) → not (b || c) ≡ true → not b ≡ true
+      none_first true c h = cc
+      none_first false c h = refl
+  first_lent want NoMore a lends anonymous silent fine = first_source want NoMore a (λ w is. cc) fine
+  first_lent want _ a lends anonymous silent fine = absurd fine
 
   give_quiet : (b : Bool) (m : PlaceName) → IsQuiet (act.Give m b)
   give_quiet b m = ((λ name none. none), (λ k e. cc))
@@ -454,13 +518,13 @@ module _ (s : Typing) (own_law : OwnsByShape s.table) (parts_named : PartsAreNam
     first_given want NoMore plain fine = nothing
     first_given want _ plain fine = absurd fine
 
-    declared_good : (x : ℕ) (v : TypedTree) → FirstSource s (object_at s x).of v → AreGood (declared_acts s x v) (roots v)
-    declared_good x v fine = by (is_borrower s x) (is_observer s x) refl refl
+    declared_good : (x : ℕ) (v : TypedTree) → not (has_call v) ≡ true → FirstSource s (object_at s x).of v → AreGood (declared_acts s x v) (roots v)
+    declared_good x v silent fine = by (is_borrower s x) (is_observer s x) refl refl
       where
         by : (b c : Bool) → is_borrower s x ≡ b → is_observer s x ≡ c
             → AreGood (if b then source_acts s (first v) (act.Borrow x) else (if c then source_acts s (first v) (observe s x) else acts_in s v)) (roots v)
-        by true c e f = first_source (object_at s x).of v (act.Borrow x) (borrow_quiet x) fine
-        by false true e f = first_source (object_at s x).of v (observe s x) (observe_quiet x) fine
+        by true c e f = first_lent (object_at s x).of v (act.Borrow x) (borrow_lends x) (borrower_anonymous s x e) silent fine
+        by false true e f = first_lent (object_at s x).of v (observe s x) (observe_lends x) (observer_anonymous s x f) silent fine
         by false false e f = first_given (object_at s x).of v (no_view x e f) fine
 
     stored_good : (p : Pos) (x : ℕ) (steps : TypedTree) (t u : ℕ) (e : TypedTree) → Leads s (object_at s x).of steps t → Gives s u e
@@ -485,10 +549,10 @@ module _ (s : Typing) (own_law : OwnsByShape s.table) (parts_named : PartsAreNam
         (given u e (λ anonymous. part (leads_whole (object_at s x).of steps t leads (ap (λ z. is_anonymous (full s.table z)) same ∙ anonymous))) origin)
         (λ m is none. absurd (some (ap (λ (z : PlaceName). z.sels) is ∙ none)))
 
-    assigned_good : (pos p : Pos) (x : ℕ) (steps : TypedTree) (t u : ℕ) (e : TypedTree) → Leads s (object_at s x).of steps t → t ≡ u → Source s u e
+    assigned_good : (pos p : Pos) (x : ℕ) (steps : TypedTree) (t u : ℕ) (e : TypedTree) → Leads s (object_at s x).of steps t → t ≡ u → not (has_call e) ≡ true → Source s u e
         → AreGood (assigned_to s pos (whole (Name p x steps t)) (Name p x steps t) e) (roots e ++ roots (Name p x steps t))
     unfolding Leads selectors
-    assigned_good pos p x NoMore t u e leads same origin = by (is_borrower s x) (is_observer s x) refl refl
+    assigned_good pos p x NoMore t u e leads same silent origin = by (is_borrower s x) (is_observer s x) refl refl
       where
         target : TypedTree
         target = Name p x NoMore t
@@ -501,33 +565,35 @@ module _ (s : Typing) (own_law : OwnsByShape s.table) (parts_named : PartsAreNam
             (good_append (index_acts s e) (reborrow (target_pos pos (written (Name p x NoMore t))) x (source e)) (roots e)
             (index_good e (source_indexed u e origin)) (reborrow_good (target_pos pos (written (Name p x NoMore t))) x (source e) (roots e)))
         by false true b_is c_is =
-            in_source e (Name p x NoMore t) (source_acts s e (observe s x)) (source_good e (observe s x) (observe_quiet x) (source_indexed u e origin))
+            in_source e (Name p x NoMore t) (source_acts s e (observe s x))
+            (source_good e (observe s x) (lent_good u e (observe s x) (observe_lends x)
+            (ap (λ z. is_anonymous (full s.table z)) (sym (leads ∙ same)) ∙ observer_anonymous s x c_is) silent origin) (source_indexed u e origin))
         by false false b_is c_is =
             stored_good p x NoMore t u e leads
             (given u e (λ anonymous. no_view x b_is c_is (ap (λ z. is_anonymous (full s.table z)) (leads ∙ same) ∙ anonymous)) origin)
             (λ m is none. ap (λ (z : PlaceName). is_observer s z.root) (sym is) ∙ c_is)
-    assigned_good pos p x (Component i rest) t u e leads same origin =
+    assigned_good pos p x (Component i rest) t u e leads same silent origin =
         part_good p x (Component i rest) t u e (λ none. cc) (λ none. cc) leads same origin
-    assigned_good pos p x (Element index low high rest) t u e leads same origin =
+    assigned_good pos p x (Element index low high rest) t u e leads same silent origin =
         part_good p x (Element index low high rest) t u e (λ none. cc) (λ none. cc) leads same origin
-    assigned_good pos p x (Designated rest) t u e leads same origin =
+    assigned_good pos p x (Designated rest) t u e leads same silent origin =
         part_good p x (Designated rest) t u e (λ none. cc) (λ none. cc) leads same origin
-    assigned_good pos p x _ t u e leads same origin = absurd leads
+    assigned_good pos p x _ t u e leads same silent origin = absurd leads
 
-    target_good : (pos : Pos) (target : TypedTree) (u : ℕ) (e : TypedTree) → IsPlace s target u → Source s u e
+    target_good : (pos : Pos) (target : TypedTree) (u : ℕ) (e : TypedTree) → IsPlace s target u → not (has_call e) ≡ true → Source s u e
         → AreGood (assigned_to s pos (whole target) target e) (roots e ++ roots target)
-    target_good pos (Name p x steps t) u e there origin = assigned_good pos p x steps t u e there.0 there.1 origin
-    target_good pos _ u e there origin = absurd there
+    target_good pos (Name p x steps t) u e there silent origin = assigned_good pos p x steps t u e there.0 there.1 silent origin
+    target_good pos _ u e there silent origin = absurd there
 
     -- The place of a name, with an act that changes it and moves nothing.
     place_good : (target : TypedTree) (u : ℕ) → IsPlace s target u → is_anonymous (full s.table u) ≡ false → (a : PlaceName → Act)
-        → ((m name : PlaceName) → Has (adds (a m)) (Moved name) → ⊥) → ((m k : PlaceName) → changes (a m) ≡ Some k → m ≡ k)
+        → ((m : PlaceName) (f : Fact) → Has (adds (a m)) f → ⊥) → ((m k : PlaceName) → changes (a m) ≡ Some k → m ≡ k)
         → AreGood (source_acts s target a) (roots target)
     unfolding roots
     place_good (Name p x steps t) u there plain a none of =
         good_end (acts_in s steps) (placed p (a (name_of x steps))) (x ∷ roots steps)
         (good_root (acts_in s steps) x (roots steps) (leads_good (object_at s x).of steps t there.0)) (
-          (λ name moved. absurd (none (name_of x steps) name moved)),
+          (λ f new. absurd (none (name_of x steps) f new)),
           (λ m e empty. changed_whole x steps t m there.0 (ap (λ z. is_anonymous (full s.table z)) there.1 ∙ plain) (of (name_of x steps) m e) empty),
         )
     place_good _ u there plain a none of = absurd there
@@ -538,7 +604,8 @@ module _ (s : Typing) (own_law : OwnsByShape s.table) (parts_named : PartsAreNam
       where
         by : (b : Bool) → traverses s.table (Some t) ≡ b
             → AreGood (if b then source_acts s fine.0 (λ m. act.Give m (gives_variable s (Some t))) else acts_in s (More fine.0 NoMore)) (roots (More fine.0 NoMore))
-        by true e = first_source t (More fine.0 NoMore) (λ m. act.Give m (gives_variable s (Some t))) (give_quiet (gives_variable s (Some t))) (refl, fine.2)
+        by true e = first_source t (More fine.0 NoMore) (λ m. act.Give m (gives_variable s (Some t)))
+            (λ w is. good_quiet (roots fine.0) (act.Give w.name (gives_variable s (Some t))) (give_quiet (gives_variable s (Some t)) w.name)) (refl, fine.2)
         by false e =
             alone fine.0 NoMore refl
             (gives_good t fine.0 (given t fine.0 (λ anonymous. true_false (traverses s.table (Some t)) anonymous e) fine.2))
@@ -546,8 +613,9 @@ module _ (s : Typing) (own_law : OwnsByShape s.table) (parts_named : PartsAreNam
     pub instruction_good : (result : Option ℕ) (kept : List ℕ) (pos : Pos) (i : Instruction) → IsFine s result i → calls_nothing i ≡ true
         → AreGood (acts_of (record { typing = s; result = result; roots = kept }) pos i) (named_in i)
     instruction_good result kept pos Skip fine calls = good_none []
-    instruction_good result kept pos (Declare x v) fine calls = declared_good x v fine
-    instruction_good result kept pos (Assign target e) fine calls = target_good pos target fine.0 e fine.1 fine.2
+    instruction_good result kept pos (Declare x v) fine calls = declared_good x v calls fine
+    instruction_good result kept pos (Assign target e) fine calls =
+        target_good pos target fine.0 e fine.1 (both_second (not (has_call target)) (not (has_call e)) calls) fine.2
     instruction_good result kept pos (instruction.Call sub actuals temporary) fine calls = cc
     instruction_good result kept pos (Output text line) fine calls = first_writes text fine
     instruction_good result kept pos (Input target) fine calls =

@@ -189,7 +189,7 @@ module _ (table : Table) (typed : TypedProgram) (effects : Effects)
       own_known : (a : Placed) → Has (acts_here p.instr) a → (name : PlaceName) → Has (adds a.act) (Moved name) → Known p name.root
       own_known a has name moved =
           let found = (point_good program owns parts_named local named.sub.result kept p.pos p.instr fine_there calls_there
-          (λ n actuals e. plainly (flow_sub own named) in_program (flow_at own named p) in_sub n actuals None e) a has).0 name moved in
+          (λ n actuals e. plainly (flow_sub own named) in_program (flow_at own named p) in_sub n actuals None e) a has).0 (Moved name) moved in
           (found.1, seen p there name.root found.0 found.1)
 
       moves_known : (a : Act) → Has (acts (whole_acts p.instr)) a → (name : PlaceName) → Has (adds a) (Moved name) → Known p name.root

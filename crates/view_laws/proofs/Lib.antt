@@ -7,5 +7,6 @@ pub mod Packages
 pub mod Facts
 pub mod Scoped
 pub mod Points
+pub mod Spared
 pub mod Ready
 pub mod Written

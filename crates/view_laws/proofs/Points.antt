@@ -19,7 +19,7 @@ use Rattle.place_names.specs.declared.selector.Sel.{Sel}
 use Rattle.place_names.specs.Names.{Name as PlaceName}
 use Rattle.type_definitions.specs.declared.judgement.View.{View}
 use Rattle.type_definitions.specs.declared.judgement.View.TheVariants as view
-use Rattle.type_definitions.specs.Types.{Table, is_nil, full, is_owning, owns_of, view_of as view_of_shape}
+use Rattle.type_definitions.specs.Types.{Table, is_nil, full}
 use Rattle.typed_tree.specs.Trees.{TypedTree, Name, NoMore, More}
 use Rattle.typed_tree.specs.Programs.{TypedSub, TypedProgram}
 use Rattle.flow_paths.specs.declared.report.Effects.{Effects}
@@ -35,7 +35,7 @@ use Rattle.soundness.specs.Sound.{IsAtPoint, calls_procedures}
 use Rattle.soundness.proofs.Points.{flow_at, next_there}
 use Rattle.soundness.proofs.Successors.{procedures_take_none}
 use Rattle.soundness.proofs.Waits.{drop_none}
-use Rattle.typed_laws.specs.Needed.{Gives, Leads, Source, IsFine}
+use Rattle.typed_laws.specs.Needed.{Leads, IsFine}
 use Rattle.viewed_soundness.specs.Holds.{KeepsObserved, AllKeep}
 use Rattle.scope_laws.specs.Order.{named_in}
 use Rattle.scope_laws.specs.Code.{roots}
@@ -46,7 +46,7 @@ use Rattle.layered_scopes.proofs.Layered.{sub_good}
 use Rattle.ready_laws.proofs.Subs.{setting_from}
 use Rattle.view_laws.specs.InOrder.{is_name_of, is_list_end, is_one_name_of, is_any, fits}
 use Rattle.view_laws.specs.Program.{IsViewProgram}
-use Rattle.view_laws.proofs.Acts.{leads_lasts, access_lasts, scalar_plain}
+use Rattle.view_laws.proofs.Acts.{source_lasts}
 use Rattle.view_laws.proofs.Calls.{point_good}
 use Rattle.view_laws.proofs.Reports.{unchanged, not_observed, observed_encloses, reborrowed_own}
 use Rattle.view_laws.proofs.Enclosing.{enclosing_less}
@@ -291,23 +291,6 @@ module _ (table : Table) (typed : TypedProgram) (effects : Effects) (given : IsV
       and_none (is_variable (object_at s x).kind) (is_borrowing (view_of s x))
       (one_kind (view_of s x) (both_second (is_variable (object_at s x).kind) (is_observing (view_of s x)) sees))
 
-  -- What is looked at for a view is rooted in an object whose scope ends at a point.
-  source_lasts : (want : ℕ) (q : Pos) (y : ℕ) (path : TypedTree) (u : ℕ) → is_anonymous (full s.table want) ≡ true → Source s want (Name q y path u)
-      → has_scope_end s y ≡ true
-  unfolding Gives
-  source_lasts want q y path u anonymous (inl seen) =
-      let view = seen.1 in
-      leads_lasts s given.owns given.parts_named (object_at s y).of path u view.6
-      (ap (λ b. b || is_anonymous (full s.table u)) (given.owns u)
-      ∙ ap (λ z. owns_of (is_owning s.table) z || is_anonymous (view_of_shape z)) view.7
-      ∙ access_lasts (is_owning s.table) view.0 view.2 view.3)
-  source_lasts want q y path u anonymous (inr gives) =
-      leads_lasts s given.owns given.parts_named (object_at s y).of path u gives.0
-      (or_right (is_owning s.table u) (is_anonymous (full s.table u)) (elim gives.1 [
-        | inl one ↦ ap (λ z. is_anonymous (view_of_shape z)) one ∙ anonymous
-        | inr scalars ↦ absurd (true_false (is_anonymous (full s.table want)) anonymous (scalar_plain s given.owns given.parts_named want scalars.1))
-      ]))
-
   -- ---- the acts of a point
 
   module _ (named : NamedSub) (has : Has (flow_named table typed) named) (p : NamedPoint) (there : Has named.points p) where
@@ -437,7 +420,7 @@ module _ (table : Table) (typed : TypedProgram) (effects : Effects) (given : IsV
             found.3,
             found.4,
             outlives found.1 x (subst (λ i. Has (named_in i) found.1) (sym whole_is) (first_root found.0 found.1 found.2 found.3 NoMore))
-                (source_lasts (object_at s x).of found.0 found.1 found.2 found.3 anonymous fine.1) (around_declared x e is found.1),
+                (source_lasts s given.owns given.parts_named (object_at s x).of found.0 found.1 found.2 found.3 anonymous fine.1) (around_declared x e is found.1),
             older_there x found.0 found.1 found.2 found.3 anonymous found.5 whole_is,
           )
 
@@ -459,7 +442,7 @@ module _ (table : Table) (typed : TypedProgram) (effects : Effects) (given : IsV
           let fine : IsFine s named.sub.result (Assign target n) = subst (IsFine s named.sub.result) whole_is (fine_there named has p there) in
           let of : (object_at s x).of ≡ fine.0 = fine.1.0 ∙ fine.1.1 in
           let lasts : has_scope_end s y ≡ true =
-          source_lasts fine.0 found.0 y found.2 found.3 (ap (λ z. is_anonymous (full s.table z)) (sym of) ∙ anonymous) fine.2 in (
+          source_lasts s given.owns given.parts_named fine.0 found.0 y found.2 found.3 (ap (λ z. is_anonymous (full s.table z)) (sym of) ∙ anonymous) fine.2 in (
             found.0,
             y,
             found.2,

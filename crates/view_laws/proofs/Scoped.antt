@@ -382,7 +382,7 @@ module _ (table : Table) (typed : TypedProgram) (effects : Effects) (given : IsV
           (λ n actuals e. plainly (flow_sub own packages) (in_program packages packages_in) (flow_at own packages q.0)
           (Has-map (λ (z : NamedPoint). flow_at own packages z) packages.points q.0 q.1) n actuals None e) a
           (subst (λ (z : Typing). Has (acts_of (record { typing = z; result = given.order.first.result; roots = kept }) (q.0).pos (q.0).instr) a) (sym same)
-          (subst (λ (z : FlowPoint). Has z.acts a) (sym q.2) acts))).0 name moved in
+          (subst (λ (z : FlowPoint). Has z.acts a) (sym q.2) acts))).0 (Moved name) moved in
           names_none packages packages_in refl q.0 q.1 name.root found.0 found.1
 
   pub main_is : program.main ≡ Some (suc given.order.number)

@@ -106,6 +106,14 @@ tells_on files old new before middle after was is s g h more output none lines l
       ap (since b.0) none ∙ b.2 ∙ ap (since a.0) more ∙ a.2,
     )
 
+-- The output alone.
+pub tells_output : (files : List (List ℕ)) (old : Sinks) (output : Option (List ℕ)) (before : List ℕ) (was : ℕ) (s g : State)
+    → g ≡ record s { output = g.output } → Flushes old.output output s.output g.output
+    → TellsOn files old (record old { output = output }) before before was was s g
+tells_output files old output before was s g more flushed = λ start p told.
+    let a = output_told files start old output before was p s g.output told flushed in
+    (a.0, a.1, ap (since a.0) more ∙ a.2)
+
 -- ---- fronts, where a telling fails
 
 -- A front of the output is written.

@@ -106,6 +106,10 @@ pub(crate) fn tell<S: Stepping, K: Sink>(
     ensures no_fault_err { result ≢ Err ExecFault.WriteFault → K.faults err.new ≡ K.faults err.old }
 {
     tell_output(run, out)?;
+    if run.leaks().is_empty() {
+        // no line is new, and what was long is written
+        return Ok(());
+    }
     tell_leaks(alloc, files, run, told)?;
     tell_lines(told, err)
 }

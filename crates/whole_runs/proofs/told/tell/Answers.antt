@@ -2,7 +2,7 @@ use Rattle.std.proofs.Common.{map, string_bytes, refl, ap, ◌∙◌}
 use Rattle.run_codes.specs.Points.{State}
 use Rattle.whole_runs.specs.Tellings.{Sinks}
 use Rattle.whole_runs.proofs.Kept.{on_ok, on_err, for_err}
-use Rattle.whole_runs.proofs.Owed.{tells_on, output_cut, flushed_cut, lines_cut}
+use Rattle.whole_runs.proofs.Owed.{tells_on, tells_output, output_cut, flushed_cut, lines_cut}
 use Rattle.whole_runs.proofs.told.tell.Goals as goal
 
 pub returns-clause-told : goal.returns-clause-told
@@ -15,6 +15,13 @@ returns-clause-told g c =
     c.tell_output.ensures.state c.in_ok-tell_output.ensures.flushed
     c.in_ok-tell_leaks.ensures.state c.in_ok-tell_leaks.ensures.lines (c.tell_lines.ensures.leaked ∙ c.in_ok-tell_leaks.ensures.leaked) flushed)
     c.tell_lines.ensures.flushed
+
+pub returns-then-is_empty-clause-told : goal.returns-then-is_empty-clause-told
+returns-then-is_empty-clause-told g c =
+    tells_output (map string_bytes c.args.files.now)
+    (record { output = g.K.Sink.written c.args.out.now; lines = g.K.Sink.written c.args.err.now }) (g.K.Sink.written c.tell_output.new.out)
+    c.args.told.now.lines.items c.args.told.now.leaked (g.S.Stepping.state c.args.run.now) (g.S.Stepping.state c.tell_output.new.run)
+    c.tell_output.ensures.state c.in_ok-tell_output.ensures.flushed
 
 pub returns-in_err-tell_output-clause-front : goal.returns-in_err-tell_output-clause-front
 returns-in_err-tell_output-clause-front g c =

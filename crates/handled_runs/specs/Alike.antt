@@ -1,0 +1,81 @@
+-- What is asked of what values read, and that both heaps give the same then.
+use Rattle.std.specs.Prelude.{◌≡◌, ◌≤◌, ◌⊎◌, ℕ, zero, suc, List, [], ◌∷◌, ◌++◌, take, drop, length, ℤ}
+use Rattle.type_definitions.specs.Types.{Table}
+use Rattle.run_values.specs.declared.value.Value.{Value}
+use Rattle.run_values.specs.declared.value.Kind.{Kind}
+use Rattle.run_values.specs.declared.value.Kind.TheVariants as sort
+use Rattle.run_codes.specs.Codes.{Place, Fill, Checked, Pointer, MovedPointer, Copied, Moved, Waited, New, Default, Repeated, Both, Empty}
+use Rattle.run_codes.specs.Flat.{Flat, Made, Done, Halted, Failed, Given, Stop, Memory, Spot, InStack, InCell, word, spot, words_at, filled, kinds, default_words}
+use Rattle.numbered_cells.specs.Follows.{IsThere}
+use Rattle.handled_runs.specs.Slots.{Slots}
+use Rattle.handled_runs.specs.Values.{Outcome, Gives, Ends, Fails}
+use Rattle.handled_runs.specs.Beside.{all_renamed, NameWords, Beside}
+use Rattle.handled_runs.specs.Looks.{IsData, IsNumber, IsKept, Looks, LooksAt, IsFront, AreKept}
+
+-- ---- what is asked
+
+-- Words of these kinds stand at a spot, in the stack or in a cell that is there.
+abbrev pub StandAt : Flat → List Kind → Spot → List Kind → Type 0
+StandAt m here (InStack n) ks = IsFront ks (drop n here) × (n ≤ length m.stack)
+StandAt m here (InCell n o) ks = (ws : List Value) × IsThere m.cells n ws × (o ≤ length ws)
+
+-- None of them is gone.
+abbrev pub LooksThere : Flat → List Kind → List Kind → Place → List Kind → Type 0
+LooksThere m here taken p ks =
+    LooksAt m here taken p
+    × ((q : Spot) → spot m p ≡ Given q → StandAt m here q ks × ((zs : List ℤ) → words_at m q ks ≡ Given zs → AreKept ks zs))
+
+-- Words that name no cell.
+abbrev pub AreNumbers : List Kind → List ℤ → Type 0
+AreNumbers [] [] = Unit {0}
+AreNumbers (k ∷ ks) (z ∷ zs) = IsNumber k z × AreNumbers ks zs
+AreNumbers _ _ = ⊥
+
+abbrev pub kinds_repeated : ℕ → List Kind → List Kind
+kinds_repeated zero ks = []
+kinds_repeated (suc n) ks = ks ++ kinds_repeated n ks
+
+-- The words that it gives have kinds, the last ones. The words of the stack and of the values that the point takes
+-- have the first ones, before and after.
+unfoldable pub LooksFill : Table → Flat → List Kind → List Kind → Fill → List Kind → Type 0
+LooksFill table m here taken (Checked c low high) ks = (k : Kind) × (ks ≡ k ∷ []) × IsData k × Looks m here taken c k
+LooksFill table m here taken (Pointer c) ks =
+    (ks ≡ sort.Access ∷ []) × Looks m here taken c sort.Access × ((z : ℤ) → word m c ≡ Given z → IsKept z)
+LooksFill table m here taken (MovedPointer p) ks = (ks ≡ sort.Access ∷ []) × LooksThere m here taken p (sort.Access ∷ [])
+LooksFill table m here taken (Copied p of) ks = (ks ≡ kinds table of) × LooksThere m here taken p (kinds table of)
+LooksFill table m here taken (Moved p of) ks = (ks ≡ kinds table of) × LooksThere m here taken p (kinds table of)
+LooksFill table m here taken (Waited at n) ks = (ks ≡ take n (drop at taken)) × (length ks ≡ n)
+LooksFill table m here taken (New v of) ks = (ks ≡ sort.Access ∷ []) × LooksFill table m here taken v (kinds table of)
+LooksFill table m here taken (Default of) ks = AreNumbers ks (default_words table of)
+LooksFill table m here taken (Repeated v n) ks =
+    (js : List Kind) × (ks ≡ kinds_repeated n js) × LooksFill table m here taken v js
+LooksFill table m here taken (Both a b) ks =
+    (is : List Kind) × (js : List Kind) × (ks ≡ is ++ js) × LooksFill table m here taken a is
+    × ((zs : List ℤ) (n : Flat) → filled table a m ≡ Done zs n → LooksFill table n here taken b js)
+LooksFill table m here taken Empty ks = ks ≡ []
+
+-- ---- the same outcome
+
+-- The words are the same but for names. The cells that were made meanwhile have handles, too.
+pub record Alike (handles : List ℕ) (here taken ks : List Kind) (zs : List ℤ) (m : Flat) (us : List ℤ) (s : Slots) : Type 0 where
+  pub more : List ℕ
+  pub words : us ≡ all_renamed (handles ++ more) ks zs
+  pub known : length ks ≡ length zs
+  pub names : NameWords (length (handles ++ more)) ks zs
+  pub beside : Beside (handles ++ more) here taken m s
+
+abbrev pub AreBeside : List ℕ → List Kind → List Kind → Flat → Slots → Type 0
+AreBeside handles here taken m s = (more : List ℕ) × Beside (handles ++ more) here taken m s
+
+-- They stop for the same reason. Numbers, and memory, may be out alone.
+abbrev pub StopsAlike : List ℕ → List Kind → List Kind → Stop → Flat → Outcome → Type 0
+StopsAlike handles here taken x m (Gives us s) = x ≡ Memory
+StopsAlike handles here taken x m (Ends y s) = (x ≡ Memory) ⊎ ((y ≡ Memory) ⊎ ((x ≡ y) × AreBeside handles here taken m s))
+StopsAlike handles here taken x m Fails = x ≡ Memory
+
+abbrev pub AreAlike : List ℕ → List Kind → List Kind → List Kind → Made (List ℤ) → Outcome → Type 0
+AreAlike handles here taken ks (Done zs m) (Gives us s) = Alike handles here taken ks zs m us s
+AreAlike handles here taken ks (Done zs m) (Ends x s) = x ≡ Memory
+AreAlike handles here taken ks (Done zs m) Fails = ⊥
+AreAlike handles here taken ks (Halted x m) r = StopsAlike handles here taken x m r
+AreAlike handles here taken ks Failed r = Unit {0}

@@ -1,0 +1,77 @@
+-- What changes in words over a heap that uses its slots again.
+use Rattle.std.specs.Prelude.{ℕ, zero, suc, ◌+◌, ◌-◌, List, [], ◌∷◌, drop, length, nat_le, Option, Some, None, ℤ, pos, unsigned_abs, if◌then◌else◌}
+use Rattle.run_values.specs.declared.value.Value.{Value}
+use Rattle.run_values.specs.declared.value.Value.TheVariants as value
+use Rattle.run_values.specs.declared.value.Kind.{Kind}
+use Rattle.run_values.specs.declared.value.Kind.TheVariants as sort
+use Rattle.machine.specs.Memory.{at_number}
+use Rattle.slot_heap.specs.Heaps.{Heap, words_at, allocated, written, released}
+use Rattle.run_codes.specs.Flat.{Got, Given, Broken, and_then, spliced, Spot, InStack, InCell}
+use Rattle.handled_runs.specs.Slots.{Slots, front}
+
+abbrev pub with_stack : Slots → List ℤ → Slots
+with_stack s stack = record s { stack = stack }
+
+abbrev pub with_heap : Slots → Heap → Slots
+with_heap s heap = record s { heap = heap }
+
+-- ---- values of cells
+
+abbrev pub cell_named : ℕ → Value
+cell_named zero = value.Null
+cell_named (suc h) = value.Cell h
+
+abbrev pub slot_value : Kind → ℤ → Value
+slot_value sort.Int z = value.Int z
+slot_value sort.Enum z = value.Enum (unsigned_abs z)
+slot_value sort.Access z = cell_named (unsigned_abs z)
+
+abbrev pub slot_values : List Kind → List ℤ → List Value
+slot_values (k ∷ ks) (z ∷ zs) = slot_value k z ∷ slot_values ks zs
+slot_values ks zs = []
+
+-- ---- stores
+
+-- One word after the other.
+abbrev pub written_all : Heap → ℕ → ℕ → List Value → Heap
+written_all m h o [] = m
+written_all m h o (v ∷ vs) = written_all (written m h o v) h (suc o) vs
+
+abbrev pub cell_stored : Slots → ℕ → ℕ → List Value → Option (List Value) → Got Slots
+cell_stored s h o vs None = Broken
+cell_stored s h o vs (Some ws) = Given (with_heap s (written_all s.heap h o vs))
+
+abbrev pub stored : Slots → Spot → List Kind → List ℤ → Got Slots
+stored s (InStack n) ks zs = if nat_le (n + length zs) (length s.stack) then Given (with_stack s (spliced n zs s.stack)) else Broken
+stored s (InCell h o) ks zs = cell_stored s h o (slot_values ks zs) (words_at s.heap.cells h)
+
+-- ---- what is moved
+
+-- Null stands at these offsets.
+abbrev pub all_null : List ℕ → List ℤ → List ℤ
+all_null [] zs = zs
+all_null (o ∷ rest) zs = all_null rest (at_number o (λ z. pos 0) zs)
+
+abbrev pub nulled : Heap → ℕ → ℕ → List ℕ → Heap
+nulled m h o [] = m
+nulled m h o (g ∷ gone) = nulled (written m h (o + g) value.Null) h o gone
+
+-- The access values at some offsets from a spot, where words of these kinds stand, are null.
+abbrev pub emptied : Slots → Spot → List Kind → List ℕ → Got Slots
+emptied s (InStack n) ks gone = and_then (front ks (drop n s.stack)) (λ zs. Given (with_stack s (spliced n (all_null gone zs) s.stack)))
+emptied s (InCell h o) ks gone = Given (with_heap s (nulled s.heap h o gone))
+
+-- ---- cells that are made and freed
+
+-- The new cell has a handle that no cell has.
+abbrev pub made : Slots → ℕ → List Kind → List ℤ → Slots
+made s h ks zs = record s {
+  heap = allocated s.heap h (slot_values ks zs);
+  live = s.live + length zs;
+}
+
+abbrev pub without_cell : Slots → ℕ → ℕ → Slots
+without_cell s h size = record s {
+  heap = released s.heap h;
+  live = s.live - size;
+}
