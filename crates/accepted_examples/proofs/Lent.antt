@@ -2,7 +2,6 @@
 -- borrowers and observers, and that law of it.
 use Rattle.std.specs.Prelude.{codes, is_none, is_some}
 use Rattle.std.proofs.Common.{◌≡◌, ℕ, ◌+◌, inl, Bool, true, false, not, ◌&&◌, ◌||◌, List, [], ◌∷◌, refl, sym, ◌∙◌, Option, Some, None, Ok, Err, true≢false}
-use Rattle.spark_base.specs.Lists.{Has}
 use Rattle.ada_lexer.specs.Tokens.{Cut, CutResult, tokens}
 use Rattle.ada_tree.specs.declared.declaration.Item.TheVariants as item
 use Rattle.ada_tree.specs.declared.declaration.Indication.TheVariants as indication
@@ -27,7 +26,6 @@ use Rattle.typing_steps.specs.Programs.{program_of}
 use Rattle.typed_tree.specs.Trees.{TypedTree, More}
 use Rattle.typed_tree.specs.declared.object.Object.{Object}
 use Rattle.typed_tree.specs.Programs.{TypedSub, text_io}
-use Rattle.flow_paths.specs.Instructions.{Call}
 use Rattle.flow_paths.specs.Objects.{Typing, object_at, is_state, is_formal_kind, is_formal, is_package_object}
 use Rattle.flow_paths.specs.Points.{FlowPoint}
 use Rattle.flow_paths.specs.Laid.{FlowSub, flow_typing}
@@ -40,11 +38,10 @@ use Rattle.soundness.specs.Sound.{calls_procedures, AreCopied}
 use Rattle.program_check.specs.Sources.{flow_of}
 use Rattle.file_positions.specs.Texts.{AreParsed}
 use Rattle.file_positions.proofs.Cuts.{cut_in_order}
-use Rattle.typed_steps.specs.Steps.{AreTyped}
 use Rattle.null_runs.proofs.Files.{parsed_typed}
 use Rattle.order_laws.specs.Orderly.{typed_of, bodies_of}
 use Rattle.sound_files.specs.Class.{CallsProcedures, HasNoFunction, HasScalarFormals, CopiesToVariables}
-
+use Rattle.viewed_files.proofs.Files.{parsed_called_sound}
 use Rattle.accepted_runs.proofs.Main.{RunsAreSound}
 use Rattle.accepted_examples.proofs.Naming.{naming}
 use Rattle.accepted_examples.proofs.Typing.{typing}
