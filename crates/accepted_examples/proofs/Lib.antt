@@ -6,3 +6,4 @@ mod Unreported
 pub mod Small
 pub mod Sound
 pub mod Observed
+pub mod Lent

@@ -11,8 +11,7 @@ use Rattle.file_positions.specs.Texts.{AreParsed}
 use Rattle.typed_steps.specs.Steps.{AreTyped}
 use Rattle.null_runs.proofs.Files.{parsed_typed}
 use Rattle.sound_files.specs.Class.{CallsNothing, CallsProcedures, HasNoFunction, HasScalarFormals, CopiesToVariables}
-use Rattle.viewed_steps.specs.Ready.{AreSpared}
-use Rattle.viewed_files.specs.Class.{IsFormlessText}
+use Rattle.viewed_files.specs.Class.{IsFormlessText, SparePackages}
 use Rattle.viewed_files.proofs.Files.{parsed_views_sound, parsed_called_sound}
 use Rattle.command_words.specs.Words.{Check}
 use Rattle.run_command.specs.Answers.{Answer}
@@ -45,7 +44,7 @@ accepted_views_sound stored input words names answer command product zero =
 -- ---- with calls
 
 -- Procedures alone are called. Their formals are of scalar types, actuals of modes `out` and `in out` go through no
--- access value, and where one is called, no fact is on a package object.
+-- access value, and no package object is of an owning type, or where one is called, no fact is on one.
 pub record AreInSecondViewClass (trees : List (List SourceUnit)) (effects : Effects) : Type 0 where
   -- there is a main procedure, so that there are runs
   pub main : ℕ
@@ -54,7 +53,7 @@ pub record AreInSecondViewClass (trees : List (List SourceUnit)) (effects : Effe
   pub calls : CallsProcedures (flow_of trees)
   pub formals : HasScalarFormals (flow_of trees)
   pub copied : CopiesToVariables (flow_of trees)
-  pub spared : AreSpared (flow_of trees) effects
+  pub spare : SparePackages (flow_of trees) effects
 
 pub passed_called_sound : (texts : List (List ℕ)) (trees : List (List SourceUnit)) (effects : Effects) → Passes texts trees effects → AreInSecondViewClass trees effects
     → RunsAreSound trees
@@ -62,7 +61,7 @@ passed_called_sound texts trees effects passes class =
     let parsed : AreParsed 0 passes.cuts trees = are_parsed texts 0 TOKENS passes.cuts trees passes.cut passes.parsed in
     let typed : AreTyped (flow_of trees) = parsed_typed trees passes.cuts parsed passes.named passes.typed in
     parsed_called_sound trees passes.cuts parsed passes.named passes.typed class.main class.is_main effects passes.effects_are passes.none class.calls class.formals
-    class.procedures typed class.copied class.spared
+    class.procedures typed class.copied class.spare
 
 pub accepted_called_sound : (stored : List (List ℕ × List ℕ)) (input : List ℕ) (words names : List (List ℕ)) (answer : Answer)
     → command_of words ≡ Some (Check names) → Product stored input words answer → answer.status ≡ 0

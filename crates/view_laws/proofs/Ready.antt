@@ -115,8 +115,8 @@ module _ (table : Table) (typed : TypedProgram) (effects : Effects) (given : IsV
     copied = given.copied;
   }
 
-  pub views_ready : IsReady table typed effects
-  views_ready = record {
+  pub views_ready : AreSpared program effects → IsReady table typed effects
+  views_ready spared = record {
     accepted = given.accepted;
     owns = given.owns;
     class = class;
@@ -125,7 +125,7 @@ module _ (table : Table) (typed : TypedProgram) (effects : Effects) (given : IsV
     elaborated = scoped.are_elaborated table typed effects given;
     orderly = views_orderly;
     called = scoped.are_called table typed effects given;
-    spared = given.spared;
+    spared = spared;
     packages = scoped.packages table typed effects given;
     stands = scoped.packages_stand table typed effects given;
     main = suc given.order.number;
@@ -133,6 +133,7 @@ module _ (table : Table) (typed : TypedProgram) (effects : Effects) (given : IsV
     main_there = scoped.has_main table typed effects given;
   }
 
-  -- So each moment of its run is well owned, and none is a trap.
-  pub views_sound : (input : List ℕ) → RunIsSound table typed input
-  views_sound input = ready_sound table typed effects input views_ready
+  -- So each moment of its run is well owned, and none is a trap, where no fact is on a package object when a
+  -- procedure is called.
+  pub views_sound : AreSpared program effects → (input : List ℕ) → RunIsSound table typed input
+  views_sound spared input = ready_sound table typed effects input (views_ready spared)

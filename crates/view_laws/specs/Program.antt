@@ -14,13 +14,11 @@ use Rattle.soundness.specs.Typed.{OwnsByShape}
 use Rattle.soundness.specs.Sound.{Accepted, calls_procedures, AreCopied}
 use Rattle.ready_laws.specs.InOrder.{IsInOrder, AreCallees, ArePassed}
 use Rattle.viewed_soundness.specs.Holds.{PartsAreNamed}
-use Rattle.viewed_steps.specs.Ready.{AreSpared}
 use Rattle.view_laws.specs.InOrder.{AreViewsInOrder}
 
 -- It is accepted and typed, anonymous access types are those of objects alone, procedures alone are
 -- called, whose formals are of scalar types, actuals that are copied back to go through no access value,
 -- and its subprograms and views are in order.
--- Where a procedure is called, no fact is on a package object.
 pub record IsViewProgram (table : Table) (typed : TypedProgram) (effects : Effects) : Type 0 where
   pub accepted : Accepted table typed effects
   pub owns : OwnsByShape (flow_program table typed).table
@@ -35,5 +33,4 @@ pub record IsViewProgram (table : Table) (typed : TypedProgram) (effects : Effec
   pub order : IsInOrder table typed
   pub callees : AreCallees table typed order.rest
   pub passed : ArePassed (flow_program table typed)
-  pub spared : AreSpared (flow_program table typed) effects
   pub views : AreViewsInOrder table typed order.first order.rest

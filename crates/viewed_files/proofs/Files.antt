@@ -1,6 +1,6 @@
 -- Borrowers and observers of files that break no rule are in order, and the runs of their program are sound where
 -- nothing is reported: without formals and calls, or where procedures are called.
-use Rattle.std.proofs.Common.{◌≡◌, refl, sym, ap, ◌∙◌, subst, ℕ, Bool, true, false, List, [], ◌∷◌, Option, Some, None}
+use Rattle.std.proofs.Common.{◌≡◌, refl, sym, ap, ◌∙◌, subst, inl, inr, ℕ, Bool, true, false, List, [], ◌∷◌, Option, Some, None}
 use Rattle.spark_base.specs.Lists.{Has}
 use Rattle.ada_lexer.specs.Tokens.{Cut}
 use Rattle.ada_tree.specs.declared.unit.SourceUnit.{SourceUnit}
@@ -72,9 +72,10 @@ use Rattle.sound_files.proofs.Fine.{table_laws, files_declared, procedures_fine}
 use Rattle.sound_files.proofs.Procedures.{callees, files_bodies}
 use Rattle.sound_files.proofs.Main.{files_orderly}
 use Rattle.view_laws.specs.InOrder.{AreViewsInOrder}
-use Rattle.viewed_steps.specs.Ready.{AreSpared}
+use Rattle.view_laws.specs.Program.{IsViewProgram}
+use Rattle.view_laws.proofs.Spared.{owners_spared}
 use Rattle.view_laws.proofs.Ready.{uncalled_spared, views_sound}
-use Rattle.viewed_files.specs.Class.{IsFormlessText}
+use Rattle.viewed_files.specs.Class.{IsFormlessText, SparePackages}
 use Rattle.viewed_files.proofs.Sources.{scalar_plain}
 use Rattle.viewed_files.proofs.Main.{IsGiven, views_in_order}
 
@@ -215,11 +216,17 @@ module _ (files : List (List SourceUnit)) where
           subst (λ first. AreViewsInOrder table (typed_of p) first order.rest) (heads _ _ _ _ (sym subs_are ∙ order.subs))
           (subst (λ rest. AreViewsInOrder table (typed_of p) (elaboration (site_of (known_of p) p.units) p.units) rest) rest_is (files_views_in_order main is_main formals_plain))
 
-      called_sound : AreCallees table (typed_of p) (bodies_of p) → CopiesToVariables flow_of_files → ArePassed flow_of_files → AreSpared flow_of_files effects
+      called_sound : AreCallees table (typed_of p) (bodies_of p) → CopiesToVariables flow_of_files → ArePassed flow_of_files → SparePackages flow_of_files effects
           → (input : List ℕ) → RunIsSound table (typed_of p) input
-      called_sound callees copied passed spared =
-          views_sound table (typed_of p) effects
-          (record {
+      called_sound callees copied passed spare =
+          views_sound table (typed_of p) effects view_program
+          (elim spare [
+            | inl nothing ↦ owners_spared table (typed_of p) effects view_program nothing
+            | inr spared ↦ spared
+          ])
+        where
+          view_program : IsViewProgram table (typed_of p) effects
+          view_program = record {
             accepted = accepted;
             owns = files_own files apart ended no_fault (typed_of p);
             parts_named = subst PartsAreNamed (sym (flow_table table (typed_of p))) parts_named;
@@ -229,13 +236,12 @@ module _ (files : List (List SourceUnit)) where
             order = order;
             callees = subst (AreCallees table (typed_of p)) rest_is callees;
             passed = passed;
-            spared = spared;
             views = views_here;
-          })
+          }
 
-      -- Where procedures are called that have bodies, and no fact is on a package object then, each moment of each run is
-      -- well owned, and none is a trap.
-      pub files_called_sound : HasNoFunction p → AreStepsTyped flow_of_files → CopiesToVariables flow_of_files → AreSpared flow_of_files effects
+      -- Where procedures are called that have bodies, and no package object owns, or no fact is on one then, each moment
+      -- of each run is well owned, and none is a trap.
+      pub files_called_sound : HasNoFunction p → AreStepsTyped flow_of_files → CopiesToVariables flow_of_files → SparePackages flow_of_files effects
           → (input : List ℕ) → RunIsSound table (typed_of p) input
       files_called_sound procedures typed copied =
           let same : table ≡ flow_of_files.table = sym (flow_table table (typed_of p)) in
@@ -260,7 +266,7 @@ module _ (files : List (List SourceUnit)) where
           called_sound text.main text.is_main effects are none calls_procedures (λ x is. (let no : true ≡ false = sym is ∙ unformed x in cc))
           (λ sub has q there n actuals result is. absurd (no_call sub has q there n actuals result is))
           (λ sub has q there n actuals result is. absurd (no_call sub has q there n actuals result is))
-          (formless_passed flow_of_files unformed) (uncalled_spared flow_of_files effects calls)
+          (formless_passed flow_of_files unformed) (inr (uncalled_spared flow_of_files effects calls))
 
   -- So it is if the files are parsed from texts: then their positions are as in a text.
   pub parsed_views_sound : (texts : List (List Cut)) → AreParsed 0 texts files → name_fault files ≡ None → type_fault p ≡ None → IsFormlessText p
@@ -271,6 +277,6 @@ module _ (files : List (List SourceUnit)) where
 
   pub parsed_called_sound : (texts : List (List Cut)) → AreParsed 0 texts files → name_fault files ≡ None → type_fault p ≡ None → (main : ℕ) → (typed_of p).main ≡ Some main
       → (effects : Effects) → AreEffects flow_of_files effects → AreReports flow_of_files effects [] → CallsProcedures flow_of_files → HasScalarFormals flow_of_files
-      → HasNoFunction p → AreStepsTyped flow_of_files → CopiesToVariables flow_of_files → AreSpared flow_of_files effects → (input : List ℕ) → RunIsSound table (typed_of p) input
+      → HasNoFunction p → AreStepsTyped flow_of_files → CopiesToVariables flow_of_files → SparePackages flow_of_files effects → (input : List ℕ) → RunIsSound table (typed_of p) input
   parsed_called_sound texts parsed named no_fault =
       files_called_sound (files_apart texts files parsed) (files_ended (identified files) texts files parsed) (events_ascend texts files parsed) named no_fault
