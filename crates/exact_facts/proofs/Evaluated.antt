@@ -29,7 +29,7 @@ use Rattle.soundness.proofs.Defaults.{none_default}
 use Rattle.soundness.proofs.Near.{named_near, near_under}
 use Rattle.soundness.proofs.Walks.{way_along, Walked}
 use Rattle.soundness.proofs.Scalars.{after_append, allows_both, acts, acts_append, read_effect, read_way, number_along, named_along}
-use Rattle.soundness.proofs.Taking.{Takes, takes_as, takes_both, takes_zero, no_takes, TakesPlainly, both_plainly, nothing_more}
+use Rattle.soundness.proofs.Taking.{Takes, takes_as, takes_both, takes_zero, TakesPlainly, both_plainly, nothing_more}
 use Rattle.soundness.proofs.Stays.{Quiet, One, Goes, taking, steps_taking, waited_quiet, name_on}
 use Rattle.soundness.proofs.Evaluated.{Keeps, Ready, GivenOn, regrouped, live_trunk, checked_on, blank_ready, evaluated_on}
 use Rattle.exact_facts.specs.Exact.{IsExact}
@@ -283,10 +283,3 @@ module _ (h : Here) (settled : IsSettled h.typing.table) (leaks : List Leak) (wa
         (parts_exact rest t (suc i) gives.1 both.1 two.0 on two.2 n.memory (record { of = u; words = ws } ∷ hands) between there.0 each.1 still)))))
     parts_exact NoMore t i gives calls before on takes m hands facts ready allowed exact = exact
     parts_exact es t i gives calls before on takes m hands facts ready allowed exact = absurd gives
-
-  -- without calls
-  pub exact_after : (e : TypedTree) (want : ℕ) → Gives h.typing want e → has_call e ≡ false → (m : Memory) (hands : List Waiting) (facts : List Fact)
-      → ReadyIn m hands facts → AllowsAll facts (acts (acts_in h.typing e)) → IsExact h.typing h.frame other m facts
-      → ExactTo (after (acts (acts_in h.typing e)) facts) (evaluate h AsValue e (record { memory = m; waits = waits }))
-  exact_after e want gives calls m hands facts ready allowed exact =
-      exact_on e want gives (inl calls) waits waits (no_takes e calls waits) m hands facts ready allowed exact

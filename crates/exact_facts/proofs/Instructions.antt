@@ -1,6 +1,6 @@
 -- Facts without an element stay exact in instructions, and excused leak checks don't fail:
 -- declarations, assignments, the ends of scopes, releases, and what changes nothing.
-use Rattle.std.proofs.Common.{◌≡◌, refl, sym, ap, ◌∙◌, subst, inl, inr, ℕ, ◌+◌, Bool, true, false, not, List, [], ◌∷◌, ◌++◌, map, length, nat_lt, append-nil, Option, Some, None, if◌then◌else◌}
+use Rattle.std.proofs.Common.{◌≡◌, refl, sym, ap, ◌∙◌, subst, inl, inr, ℕ, ◌+◌, Bool, true, false, not, List, [], ◌∷◌, ◌++◌, map, length, append-nil, Option, Some, None, if◌then◌else◌}
 use Rattle.spark_base.specs.declared.position.Pos.{Pos}
 use Rattle.place_names.specs.declared.act.Act.TheVariants as act
 use Rattle.place_names.specs.declared.fact.Fact.{Fact}
@@ -8,7 +8,7 @@ use Rattle.place_names.specs.Names.{Name as PlaceName, object}
 use Rattle.place_names.specs.Facts.{effect}
 use Rattle.type_definitions.specs.declared.table.Shape.TheVariants as shape
 use Rattle.type_definitions.specs.Types.{shape_of, parts}
-use Rattle.typed_tree.specs.Trees.{TypedTree, TypedCode, Name, NoMore, More}
+use Rattle.typed_tree.specs.Trees.{TypedTree, Name, NoMore, More}
 use Rattle.flow_paths.specs.declared.point.LeakSpot.{LeakSpot}
 use Rattle.flow_paths.specs.Instructions.{Skip}
 use Rattle.flow_paths.specs.Objects.{Typing, object_at, is_observer}
@@ -19,7 +19,6 @@ use Rattle.flow_paths.specs.Names as names
 use Rattle.machine.specs.Words as machine
 use Rattle.machine.specs.Memory.{Memory, declared, undeclared, stored}
 use Rattle.machine.specs.Evaluate.{Here, Now, AsValue, Evaluated, Done, Raises, Traps, followed_by, evaluate, initial, checked, value, viewed, place_of, variable_place}
-use Rattle.machine.specs.Evaluate as run
 use Rattle.machine.specs.Calls.{checks_at}
 use Rattle.machine.specs.States.{Waiting, State, Outcome, Goes, Ends}
 use Rattle.machine.specs.Step.{Turn, typing, here, start, Stored, first_value, taken_by, declare, assign, end_scope, goes, leaking_goes, target_pos}
@@ -33,14 +32,14 @@ use Rattle.typed_laws.specs.Needed.{Stays, Leads, Source, FirstSource}
 use Rattle.soundness.proofs.Contents.{checks_made}
 use Rattle.soundness.proofs.Steps.{alike}
 use Rattle.soundness.proofs.Scalars.{acts}
-use Rattle.soundness.proofs.Taking.{Takes, takes_as, takes_zero, no_takes, TakesPlainly, both_plainly, nothing_more}
+use Rattle.soundness.proofs.Taking.{Takes, takes_as, takes_zero, TakesPlainly, both_plainly, nothing_more}
 use Rattle.soundness.proofs.Stays.{Quiet, One, taking}
 use Rattle.soundness.proofs.Near.{near_under}
 use Rattle.soundness.proofs.Numbers.{index_law}
 use Rattle.soundness.proofs.Defaults.{none_default}
 use Rattle.soundness.proofs.Lasting.{keeps, lengths}
 use Rattle.soundness.proofs.Evaluated.{live_trunk, blank_ready}
-use Rattle.soundness.proofs.Instructions.{not_anonymous, not_borrower, not_observer, Holds, Given_here, source_on, start_is}
+use Rattle.soundness.proofs.Instructions.{not_anonymous, not_borrower, not_observer, Holds, Given_here, source_on}
 use Rattle.exact_facts.specs.Exact.{IsExact, NoneFails, Knows}
 use Rattle.exact_facts.proofs.Memories.{declared_exact, ended_exact}
 use Rattle.exact_facts.proofs.Evaluated.{ExactTo, checked_exact, exact_on}
@@ -83,9 +82,6 @@ module _ (t : Turn) (settled : IsSettled (typing t).table) (own_law : OwnsByShap
     -- with these values, which the instruction takes
     abbrev at : List (List machine.Word) → Now
     at ws = record { memory = t.state.memory; waits = ws }
-
-    started : start t ≡ record { memory = t.state.memory; waits = [] }
-    started = start_is t settled own_law other alone no_formals all_named frames none
 
     -- ---- declarations
 
@@ -169,16 +165,6 @@ module _ (t : Turn) (settled : IsSettled (typing t).table) (own_law : OwnsByShap
         (first_exact ws (object_at s x).of v gives calls takes facts holds (subst (λ z. AllowsAll facts (acts z)) same allowed) exact)
         (subst (λ z. IsUnmoved x (after (acts z) facts)) same no_fact))
 
-    pub declare_exact : (x : ℕ) (v : TypedTree) → FirstSource s (object_at s x).of v → has_call v ≡ false
-        → (facts : List Fact) → HoldsHere facts t.state
-        → AllowsAll facts (acts (declared_acts s x v))
-        → IsUnmoved x (after (acts (declared_acts s x v)) facts)
-        → IsExact s depth other t.state.memory facts
-        → ExactOn (after (acts (declared_acts s x v)) facts) [] (declare t x v)
-    declare_exact x v gives calls facts holds allowed no_fact exact =
-        subst (λ z. ExactOn (after (acts (declared_acts s x v)) facts) [] (steps.evaluated t (first_value t (object_at s x).of v z) (λ ws m. goes t (declared depth x ws m) 0))) (sym started)
-        (declare_on [] x v gives (inl calls) (no_takes v calls []) facts holds allowed no_fact exact)
-
     -- ---- assignments
 
     pub assigned_acts : (p : Pos) (o : Option ℕ) (target e : TypedTree) → assigned_to s p o target e ≡ stored_acts s target e
@@ -227,18 +213,6 @@ module _ (t : Turn) (settled : IsSettled (typing t).table) (own_law : OwnsByShap
         (assigned_on h settled t.state.leaks [] other alone (keeps s settled own_law) no_formals index_law own_law all_named Excused ws mid [] p x u path e gives lead calls takes takes'
         t.state.memory hands facts (record { sound = holds.0; kept = holds.1 }) (subst (λ z. AllowsAll facts (acts z)) same allowed) exact)))
 
-    pub assign_exact : (pos p : Pos) (x u : ℕ) (path e : TypedTree) → Source s u e → Leads s (object_at s x).of path u
-        → has_call e ≡ false → has_call path ≡ false → (facts : List Fact) → HoldsHere facts t.state
-        → AllowsAll facts (acts (assigned_to s pos (whole (Name p x path u)) (Name p x path u) e))
-        → IsExact s depth other t.state.memory facts
-        → (count : ℕ) → Knows Excused p (name_of x path) count (after (acts (acts_in s e ++ acts_in s path)) facts) (parts s.table u)
-        → ExactOn (after (acts (assigned_to s pos (whole (Name p x path u)) (Name p x path u) e)) facts)
-        (map (spot p (name_of x path) count) (parts s.table u)) (assign t (Name p x path u) e)
-    assign_exact pos p x u path e source lead calls calls' facts holds allowed exact count known =
-        subst (λ z. ExactOn (after (acts (assigned_to s pos (whole (Name p x path u)) (Name p x path u) e)) facts) (map (spot p (name_of x path) count) (parts s.table u))
-        (steps.evaluated t (followed_by (taken_by t u e z) (found_at (Name p x path u))) (stored_at (target_pos t (Name p x path u))))) (sym started)
-        (assign_on [] [] pos p x u path e source lead (inl calls) (no_takes e calls []) (no_takes path calls' []) facts holds allowed exact count known)
-
     -- ---- the end of a scope
 
     -- `mine`: the object is one of the frame
@@ -275,41 +249,6 @@ module _ (t : Turn) (settled : IsSettled (typing t).table) (own_law : OwnsByShap
         index_law own_law all_named AsValue e stays ws [] takes allowed in
         subst (λ z. ExactOn z [] (steps.evaluated t (value (here t) e (at ws)) f)) (sym q.1)
         (quiet_on One facts exact (value (here t) e (at ws)) q.0 f (λ ws one. next ws))
-
-    pub value_exact : (e : TypedTree) → Stays s e → has_call e ≡ false → (facts : List Fact) → HoldsHere facts t.state → AllowsAll facts (acts (acts_in s e))
-        → IsExact s depth other t.state.memory facts → (f : List machine.Word → Memory → Outcome) → ((ws : List machine.Word) → ExactOn facts [] (f ws t.state.memory))
-        → ExactOn (after (acts (acts_in s e)) facts) [] (steps.evaluated t (value (here t) e (start t)) f)
-    value_exact e stays calls facts holds allowed exact f next =
-        subst (λ z. ExactOn (after (acts (acts_in s e)) facts) [] (steps.evaluated t (value (here t) e z) f)) (sym started)
-        (value_on [] e stays (no_takes e calls []) facts holds allowed exact f next)
-
-    pub test_exact : (e : TypedTree) → Stays s e → has_call e ≡ false → (facts : List Fact) → HoldsHere facts t.state → AllowsAll facts (acts (acts_in s e))
-        → IsExact s depth other t.state.memory facts → ExactOn (after (acts (acts_in s e)) facts) [] (steps.test t e 0 1)
-    test_exact e stays calls facts holds allowed exact =
-        value_exact e stays calls facts holds allowed exact (λ ws m. goes t m (if run.is_true ws then 0 else 1)) (λ ws. (exact, tt))
-
-    -- where there is such an alternative
-    pub chosen_exact : (facts : List Fact) → IsExact s depth other t.state.memory facts → (count k : ℕ) → ExactOn facts [] (steps.chosen t count k t.state.memory)
-    chosen_exact facts exact count k = by_test (nat_lt k count)
-      where
-        by_test : (b : Bool) → ExactOn facts [] (if b then goes t t.state.memory k else steps.raised t run.ConstraintError t.state.memory)
-        by_test true = (exact, tt)
-        by_test false = tt
-
-    pub choose_exact : (e : TypedTree) (choices : List TypedCode) → Stays s e → has_call e ≡ false → (facts : List Fact) → HoldsHere facts t.state
-        → AllowsAll facts (acts (acts_in s e)) → IsExact s depth other t.state.memory facts → ExactOn (after (acts (acts_in s e)) facts) [] (steps.choose t e choices)
-    choose_exact e choices stays calls facts holds allowed exact =
-        value_exact e stays calls facts holds allowed exact (λ ws m. steps.chosen t (length choices) (steps.choice choices ws) m)
-        (λ ws. chosen_exact facts exact (length choices) (steps.choice choices ws))
-
-    pub leave_loop_exact : (e rest : TypedTree) → rest ≡ NoMore → Stays s e → has_call e ≡ false → (facts : List Fact) → HoldsHere facts t.state
-        → AllowsAll facts (acts (acts_in s (More e rest))) → IsExact s depth other t.state.memory facts
-        → ExactOn (after (acts (acts_in s (More e rest))) facts) [] (steps.leave_loop t (More e rest))
-    unfolding acts_in
-    leave_loop_exact e rest last stays calls facts holds allowed exact =
-        let same : acts_in s e ++ acts_in s rest ≡ acts_in s e = ap (λ z. acts_in s e ++ acts_in s z) last ∙ append-nil (acts_in s e) in
-        subst (λ z. ExactOn (after (acts z) facts) [] (steps.test t e 0 1)) (sym same)
-        (test_exact e stays calls facts holds (subst (λ z. AllowsAll facts (acts z)) same allowed) exact)
 
     -- a value that waits then
     pub waits_exact : (facts : List Fact) → (y : Evaluated (List machine.Word)) → ExactIn facts y → (f : List machine.Word → Memory → Outcome)

@@ -1,6 +1,6 @@
 -- Facts without an element stay exact in output, input and the iterations of loops, which change
 -- scalar places at most.
-use Rattle.std.proofs.Common.{◌≡◌, refl, sym, ap, ◌∙◌, subst, inl, inr, ℕ, ◌+◌, Bool, true, false, not, ◌&&◌, List, [], ◌∷◌, ◌++◌, take, drop, length, append-nil, ℤ, int_le, Option, Some, None, if◌then◌else◌}
+use Rattle.std.proofs.Common.{◌≡◌, refl, sym, ap, ◌∙◌, subst, inl, inr, ℕ, ◌+◌, Bool, true, false, List, [], ◌∷◌, ◌++◌, take, drop, length, append-nil, ℤ, Option, Some, None, if◌then◌else◌}
 use Rattle.std.specs.Prelude as int
 use Rattle.spark_base.specs.declared.position.Pos.{Pos}
 use Rattle.place_names.specs.declared.act.Act.{Act}
@@ -15,7 +15,7 @@ use Rattle.type_definitions.specs.Types.{shape_of, words, is_scalar, full}
 use Rattle.typed_tree.specs.Trees.{TypedTree, Name, NoMore, More}
 use Rattle.flow_paths.specs.declared.point.LeakSpot.{LeakSpot}
 use Rattle.flow_paths.specs.Objects.{Typing, object_at}
-use Rattle.flow_paths.specs.Names.{has_call, waiting as waits_in, name_of}
+use Rattle.flow_paths.specs.Names.{waiting as waits_in, name_of}
 use Rattle.flow_paths.specs.Scopes.{taken}
 use Rattle.flow_paths.specs.Acts.{acts_in, source_acts}
 use Rattle.run_values.specs.declared.items.Item.{Item}
@@ -42,7 +42,7 @@ use Rattle.soundness.proofs.Memories.{put_other, removed_other}
 use Rattle.soundness.proofs.Walks.{way_along, Walked}
 use Rattle.soundness.proofs.Steps.{plain_shape}
 use Rattle.soundness.proofs.Scalars.{acts, acts_append, after_append, allows_both, number_along, named_along}
-use Rattle.soundness.proofs.Taking.{Takes, no_takes}
+use Rattle.soundness.proofs.Taking.{Takes}
 use Rattle.soundness.proofs.Stays.{Quiet, Any, One, quiet_then, quiet_from, taking, Goes as GoesAlong, steps_taking, name_quiet}
 use Rattle.soundness.proofs.Numbers.{index_law}
 use Rattle.soundness.proofs.Lasting.{keeps}
@@ -161,28 +161,6 @@ module _ (t : Turn) (settled : IsSettled (typing t).table) (own_law : OwnsByShap
         subst (λ z. ExactHere z (steps.evaluated t (steps.bounds t low high (at ws)) f)) (sym all)
         (then_started x f starts scalar facts exact (steps.bounds t low high (at ws)) q)
 
-    started_by : (x : ℕ) (f : steps.Bounds → Memory → Outcome) (low high : TypedTree) → Starts t settled own_law other alone no_formals all_named frames none x f
-        → is_scalar (full s.table (object_at s x).of) ≡ true
-        → Stays s low → Stays s high → has_call low ≡ false → has_call high ≡ false → (facts : List Fact) → HoldsHere facts t.state
-        → AllowsAll facts (acts (acts_in s low ++ acts_in s high)) → IsExact s depth other m facts
-        → ExactHere (after (acts (acts_in s low ++ acts_in s high)) facts) (steps.evaluated t (steps.bounds t low high (start t)) f)
-    started_by x f low high starts scalar stays stays' calls calls' facts holds allowed exact =
-        subst (λ z. ExactHere (after (acts (acts_in s low ++ acts_in s high)) facts) (steps.evaluated t (steps.bounds t low high z) f)) (sym started)
-        (started_on [] [] x f low high starts scalar stays stays' (no_takes low calls []) (no_takes high calls' []) facts holds allowed exact)
-
-    pub start_exact : (x : ℕ) (low high : TypedTree) → is_scalar (full s.table (object_at s x).of) ≡ true
-        → Stays s low → Stays s high → has_call low ≡ false → has_call high ≡ false → (facts : List Fact) → HoldsHere facts t.state
-        → AllowsAll facts (acts (acts_in s low ++ acts_in s high)) → IsExact s depth other m facts
-        → ExactHere (after (acts (acts_in s low ++ acts_in s high)) facts) (steps.start_loop t x low high)
-    start_exact x low high scalar stays stays' calls calls' facts holds allowed exact =
-        started_by x _ low high (record {
-          fails = λ b. int_le (steps.number b.low) (steps.number b.high)
-              && not (fits_type s.table (object_at s x).of b.low && fits_type s.table (object_at s x).of b.high);
-          loop = λ b. record { parameter = x; low = steps.number b.low; high = steps.number b.high; first = true };
-          at_fault = λ b m e. rw e refl;
-          at_turn = λ b m e. rw e refl;
-        }) scalar stays stays' calls calls' facts holds allowed exact
-
     -- ---- output
 
     then_written : (facts : List Fact) → IsExact s depth other m facts → (line : Bool) (y : Evaluated (List ℕ)) → Quiet now (Any {A = List ℕ}) y
@@ -207,14 +185,6 @@ module _ (t : Turn) (settled : IsSettled (typing t).table) (own_law : OwnsByShap
           output = t.state.output ++ bytes ++ (if line then 10 ∷ [] else []);
         })))) (sym (ap (λ z. after (acts z) facts) same ∙ q.1))
         (then_written facts exact line (text_of (here t) e (at ws)) q.0)
-
-    pub output_exact : (e rest : TypedTree) (line : Bool) → rest ≡ NoMore → Writes s e → has_call e ≡ false → (facts : List Fact) → HoldsHere facts t.state
-        → AllowsAll facts (acts (acts_in s (More e rest))) → IsExact s depth other m facts
-        → ExactHere (after (acts (acts_in s (More e rest))) facts) (steps.output t (More e rest) line)
-    output_exact e rest line last writes calls facts holds allowed exact =
-        subst (λ z. ExactHere (after (acts (acts_in s (More e rest))) facts) (steps.evaluated t (text_of (here t) e z) (λ bytes m. Goes (record (behind t (waiting t) m 0) {
-          output = t.state.output ++ bytes ++ (if line then 10 ∷ [] else []);
-        })))) (sym started) (output_on [] e rest line last writes (no_takes e calls []) facts holds allowed exact)
 
     -- a line that ends without a text
     pub line_exact : (line : Bool) (facts : List Fact) → IsExact s depth other m facts → ExactHere facts (steps.output t NoMore line)
@@ -320,22 +290,3 @@ module _ (t : Turn) (settled : IsSettled (typing t).table) (own_law : OwnsByShap
             (got_none f gets facts holds exact u scalar (int.pos 0) (λ k memory. (run.DataError, gets.at_bad k memory e))) x path writes (steps_of (here t) path (at ws)) q
         by_item writes q (item.Number v end) e =
             then_got f gets facts holds exact u scalar v (λ w named y is. got_at f gets facts holds exact u scalar v w named y is end e) x path writes (steps_of (here t) path (at ws)) q
-
-    got_by : (f : Place → Memory → Outcome) (p : Pos) (x u : ℕ) (path : TypedTree) → Gets t settled own_law other alone no_formals all_named frames none f
-        → is_scalar (full s.table u) ≡ true → Leads s (object_at s x).of path u → has_call path ≡ false → (facts : List Fact) → HoldsHere facts t.state
-        → AllowsAll facts (acts (source_acts s (Name p x path u) out_act)) → IsExact s depth other m facts
-        → ExactHere (after (acts (source_acts s (Name p x path u) out_act)) facts) (steps.evaluated t (place_of (here t) (Name p x path u) (start t)) f)
-    got_by f p x u path gets scalar lead calls facts holds allowed exact =
-        subst (λ z. ExactHere (after (acts (source_acts s (Name p x path u) out_act)) facts) (steps.evaluated t (place_of (here t) (Name p x path u) z) f)) (sym started)
-        (got_on [] f p x u path gets scalar lead (no_takes path calls []) facts holds allowed exact)
-
-    pub input_exact : (p : Pos) (x u : ℕ) (path : TypedTree) → is_scalar (full s.table u) ≡ true → Leads s (object_at s x).of path u → has_call path ≡ false
-        → (facts : List Fact) → HoldsHere facts t.state → AllowsAll facts (acts (source_acts s (Name p x path u) out_act)) → IsExact s depth other m facts
-        → ExactHere (after (acts (source_acts s (Name p x path u) out_act)) facts) (steps.input t (Name p x path u))
-    input_exact p x u path scalar lead calls facts holds allowed exact =
-        got_by _ p x u path (record {
-          at_missing = λ k m next. rw next refl;
-          at_bad = λ k m next. rw next refl;
-          at_number = λ k m v end next fits. rw (next, fits) refl;
-          at_outside = λ k m v end next out. rw (next, out) refl;
-        }) scalar lead calls facts holds allowed exact

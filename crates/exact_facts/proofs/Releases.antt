@@ -12,7 +12,7 @@ use Rattle.type_definitions.specs.Types.{shape_of, parts, view_of as view_of_sha
 use Rattle.typed_tree.specs.Trees.{TypedTree, Name}
 use Rattle.flow_paths.specs.declared.point.LeakSpot.{LeakSpot}
 use Rattle.flow_paths.specs.Objects.{Typing, object_at, designated, designated_of}
-use Rattle.flow_paths.specs.Names.{has_call, waiting as waits_in, name_of}
+use Rattle.flow_paths.specs.Names.{waiting as waits_in, name_of}
 use Rattle.flow_paths.specs.Scopes.{taken}
 use Rattle.flow_paths.specs.Acts.{acts_in, source_acts, spot}
 use Rattle.machine.specs.Words as machine
@@ -41,12 +41,12 @@ use Rattle.soundness.proofs.Frees.{releases}
 use Rattle.soundness.proofs.Owners.{strip}
 use Rattle.soundness.proofs.Steps.{alike}
 use Rattle.soundness.proofs.Scalars.{acts, acts_append, after_append, allows_both, number_along, named_along}
-use Rattle.soundness.proofs.Taking.{Takes, no_takes}
+use Rattle.soundness.proofs.Taking.{Takes}
 use Rattle.soundness.proofs.Stays.{Quiet, Goes as GoesAlong, steps_taking, name_quiet}
 use Rattle.soundness.proofs.Numbers.{index_law}
 use Rattle.soundness.proofs.Lasting.{keeps}
 use Rattle.soundness.proofs.Evaluated.{live_trunk}
-use Rattle.soundness.proofs.Instructions.{Holds, Releases, start_is}
+use Rattle.soundness.proofs.Instructions.{Holds, Releases}
 use Rattle.soundness.proofs.Freeing.{free_way}
 use Rattle.exact_facts.specs.Exact.{IsExact, Knows}
 use Rattle.exact_facts.proofs.Steps.{told_released, told_unfreed}
@@ -205,27 +205,3 @@ module _ (t : Turn) (settled : IsSettled (typing t).table) (own_law : OwnsByShap
       let knows = subst (λ z. Knows Excused pos' (extend (name_of x path) (sel.Deref ∷ [])) count z (parts s.table (designated s.table u))) inner.1 known in
       subst (λ z. ExactHere z (spots_of (name_of x path) pos' count u) (steps.evaluated t (place_of (here t) (Name p x path u) (record { memory = m; waits = ws })) f)) (sym behind_acts)
       (then_released f pos frees_it facts holds exact pos' count u d access x path frees knows (steps_of (here t) path (record { memory = m; waits = ws })) inner.0)
-
-  released_by : (f : Place → Memory → Outcome) (pos p : Pos) (x u d : ℕ) (path : TypedTree) → Releases t settled own_law other alone no_formals all_named frames none f pos
-      → shape_of s.table u ≡ shape.Access d false true → Leads s (object_at s x).of path u → has_call path ≡ false → (facts : List Fact) → HoldsHere facts t.state
-      → AllowsAll facts (acts (source_acts s (Name p x path u) act.Free)) → IsExact s depth other m facts
-      → (pos' : Pos) (count : ℕ) → Knows Excused pos' (extend (name_of x path) (sel.Deref ∷ [])) count (after (acts (acts_in s path)) facts) (parts s.table (designated s.table u))
-      → ExactHere (after (acts (source_acts s (Name p x path u) act.Free)) facts) (spots_of (name_of x path) pos' count u)
-      (steps.evaluated t (place_of (here t) (Name p x path u) (start t)) f)
-  released_by f pos p x u d path frees_it access lead calls facts holds allowed exact pos' count known =
-      subst (λ z. ExactHere (after (acts (source_acts s (Name p x path u) act.Free)) facts) (spots_of (name_of x path) pos' count u)
-      (steps.evaluated t (place_of (here t) (Name p x path u) z) f)) (sym (start_is t settled own_law other alone no_formals all_named frames none))
-      (released_on [] f pos p x u d path frees_it access lead (no_takes path calls []) facts holds allowed exact pos' count known)
-
-  pub release_exact : (p : Pos) (x u d : ℕ) (path : TypedTree) → shape_of s.table u ≡ shape.Access d false true → Leads s (object_at s x).of path u
-      → has_call path ≡ false → (facts : List Fact) → HoldsHere facts t.state → AllowsAll facts (acts (source_acts s (Name p x path u) act.Free))
-      → IsExact s depth other m facts
-      → (pos' : Pos) (count : ℕ) → Knows Excused pos' (extend (name_of x path) (sel.Deref ∷ [])) count (after (acts (acts_in s path)) facts) (parts s.table (designated s.table u))
-      → ExactHere (after (acts (source_acts s (Name p x path u) act.Free)) facts) (spots_of (name_of x path) pos' count u) (release t (Name p x path u))
-  release_exact p x u d path access lead calls facts holds allowed exact pos' count known =
-      released_by _ p p x u d path (record {
-        at_null = λ k m is. rw is refl;
-        at_whole = λ k m v is. rw is refl;
-        at_listed = λ k m v is. rw is refl;
-        at_cell = λ k m n is alive. rw (is, alive) refl;
-      }) access lead calls facts holds allowed exact pos' count known

@@ -29,7 +29,7 @@ use Rattle.typed_laws.specs.Needed.{Stays, Leads, Gives, GivesParts, GivesFirst,
 use Rattle.soundness.proofs.Near.{named_near, near_along}
 use Rattle.soundness.proofs.Walks.{way_along, Walked}
 use Rattle.soundness.proofs.Scalars.{allows_both, acts, acts_append, read_way, number_along, named_along}
-use Rattle.soundness.proofs.Taking.{Takes, takes_as, takes_both, no_takes, TakesPlainly, both_plainly, nothing_more}
+use Rattle.soundness.proofs.Taking.{Takes, takes_as, takes_both, TakesPlainly, both_plainly, nothing_more}
 use Rattle.soundness.proofs.Stays.{Goes, steps_taking}
 use Rattle.soundness.proofs.Evaluated.{Keeps, Ready, GivenOn, regrouped, live_trunk, checked_on, evaluated_on}
 use Rattle.null_places.specs.Compares.{Compares}
@@ -265,11 +265,3 @@ module _ (h : Here) (settled : IsSettled h.typing.table) (leaks : List Leak) (wa
         (λ more k k' last. (ap (λ z. ws ++ z) refl, last)))))
     parts_same NoMore t i gives calls before on takes compares m hands facts ready allowed only n' same = (refl, same)
     parts_same es t i gives calls before on takes compares m hands facts ready allowed only n' same = absurd gives
-
-  -- without calls
-  pub value_same : (e : TypedTree) (want : ℕ) → Gives h.typing want e → has_call e ≡ false → Compares h.typing e
-      → (m : Memory) (hands : List Waiting) (facts : List Fact) → ReadyIn m hands facts → AllowsAll facts (acts (acts_in h.typing e)) → OnlyOwners h.typing m
-      → (n' : Now) → SameNow h.typing (record { memory = m; waits = waits }) n'
-      → Same (evaluate h AsValue e (record { memory = m; waits = waits })) (evaluate h AsValue e n')
-  value_same e want gives calls compares m hands facts ready allowed only n' same =
-      value_on e want gives (inl calls) waits waits (no_takes e calls waits) compares m hands facts ready allowed only n' same

@@ -42,7 +42,7 @@ use Rattle.soundness.proofs.Near.{named_near}
 use Rattle.soundness.proofs.Walks.{way_along}
 use Rattle.soundness.proofs.Steps.{no_leaf}
 use Rattle.soundness.proofs.Scalars.{acts, acts_append, allows_both}
-use Rattle.soundness.proofs.Taking.{Takes, takes_as, no_takes, TakesPlainly, both_plainly, nothing_more}
+use Rattle.soundness.proofs.Taking.{Takes, takes_as, TakesPlainly, both_plainly, nothing_more}
 use Rattle.soundness.proofs.Stays.{Quiet, One, taking, steps_taking}
 use Rattle.soundness.proofs.Numbers.{index_law}
 use Rattle.soundness.proofs.Lasting.{keeps}
@@ -309,10 +309,6 @@ module _ (t : Turn) (settled : IsSettled (typing t).table) (own_law : OwnsByShap
       (λ ws i j now. goes_same t n agrees (declared depth x ws i.memory) (declared depth x ws j.memory) 0
       (declared_agree depth x ws i.memory j.memory now.0) (declared_only (typing t) i.memory now.2 depth x ws))
 
-  pub declare_same : (x : ℕ) (v : TypedTree) → FirstSource (typing t) (object_at (typing t) x).of v → has_call v ≡ false → Compares (typing t) v
-      → AllowsAll facts (acts (declared_acts (typing t) x v)) → Step (declare t x v) (declare (twin t n) x v)
-  declare_same x v gives calls compares allowed = declare_on (start t).waits x v gives (inl calls) (no_takes v calls (start t).waits) compares allowed
-
   -- ---- assignments
 
   assigned_acts : (p : Pos) (o : Option ℕ) (target e : TypedTree) → assigned_to (typing t) p o target e ≡ stored_acts (typing t) target e
@@ -370,13 +366,6 @@ module _ (t : Turn) (settled : IsSettled (typing t).table) (own_law : OwnsByShap
       (λ st i j now. leaks_same t n agrees (target_pos t target) st.place i.memory j.memory (stored (typing t) st.place st.words i.memory)
       (stored (typing t) st.place st.words j.memory) now.0 (stored_agree (typing t) st.place st.words i.memory j.memory now.0)
       (stored_only (typing t) i.memory now.2 st.place st.words))
-
-  pub assign_same : (pos p : Pos) (x u : ℕ) (path e : TypedTree) → Source (typing t) u e → Leads (typing t) (object_at (typing t) x).of path u
-      → has_call e ≡ false → has_call path ≡ false → Compares (typing t) path → Compares (typing t) e
-      → AllowsAll facts (acts (assigned_to (typing t) pos (whole (Name p x path u)) (Name p x path u) e))
-      → Step (assign t (Name p x path u) e) (assign (twin t n) (Name p x path u) e)
-  assign_same pos p x u path e gives lead calls calls' compares compares' allowed =
-      assign_on (start t).waits (start t).waits pos p x u path e gives lead (inl calls) (no_takes e calls (start t).waits) (no_takes path calls' (start t).waits) compares compares' allowed
 
   -- ---- scopes
 
@@ -451,12 +440,6 @@ module _ (t : Turn) (settled : IsSettled (typing t).table) (own_law : OwnsByShap
         at_cell = λ k m c is alive. rw (is, alive) refl;
       }) access lead takes compares allowed
 
-  pub release_same : (p : Pos) (x u d : ℕ) (path : TypedTree) → shape_of (typing t).table u ≡ shape.Access d false true
-      → Leads (typing t) (object_at (typing t) x).of path u → has_call path ≡ false → Compares (typing t) path
-      → AllowsAll facts (acts (source_acts (typing t) (Name p x path u) act.Free))
-      → Step (steps.release t (Name p x path u)) (steps.release (twin t n) (Name p x path u))
-  release_same p x u d path access lead calls compares allowed = release_on (start t).waits p x u d path access lead (no_takes path calls (start t).waits) compares allowed
-
   -- ---- input
 
   abbrev out_act : PlaceName → Act
@@ -497,11 +480,6 @@ module _ (t : Turn) (settled : IsSettled (typing t).table) (own_law : OwnsByShap
         at_outside = λ k m v end next out. rw (next, out) refl;
       }) lead takes compares allowed
 
-  pub input_same : (p : Pos) (x u : ℕ) (path : TypedTree) → Leads (typing t) (object_at (typing t) x).of path u → has_call path ≡ false → Compares (typing t) path
-      → AllowsAll facts (acts (source_acts (typing t) (Name p x path u) out_act))
-      → Step (steps.input t (Name p x path u)) (steps.input (twin t n) (Name p x path u))
-  input_same p x u path lead calls compares allowed = input_on (start t).waits p x u path lead (no_takes path calls (start t).waits) compares allowed
-
   -- ---- choices
 
   pub skip_same : Step (steps.turn t Skip) (steps.turn (twin t n) Skip)
@@ -518,10 +496,6 @@ module _ (t : Turn) (settled : IsSettled (typing t).table) (own_law : OwnsByShap
       (scalar (start t).waits on e stays takes compares allowed (start (twin t n)) at_start)
       (λ ws i j now. goes_same t n agrees i.memory j.memory (if run.is_true ws then 0 else 1) now.0 now.2)
 
-  pub test_same : (e : TypedTree) → Stays (typing t) e → has_call e ≡ false → Compares (typing t) e → AllowsAll facts (acts (acts_in (typing t) e))
-      → Step (steps.test t e 0 1) (steps.test (twin t n) e 0 1)
-  test_same e stays calls compares allowed = test_on (start t).waits e stays (no_takes e calls (start t).waits) compares allowed
-
   pub choose_on : (on : List (List machine.Word)) (e : TypedTree) (choices : List TypedCode) → Stays (typing t) e → Takes (waits_in e) (start t).waits on → Compares (typing t) e
       → AllowsAll facts (acts (acts_in (typing t) e)) → Step (steps.choose t e choices) (steps.choose (twin t n) e choices)
   choose_on on e choices stays takes compares allowed =
@@ -535,10 +509,6 @@ module _ (t : Turn) (settled : IsSettled (typing t).table) (own_law : OwnsByShap
       by_test k i j now true = goes_same t n agrees i.memory j.memory k now.0 now.2
       by_test k i j now false = raised_same t n agrees run.ConstraintError i.memory j.memory now.0
 
-  pub choose_same : (e : TypedTree) (choices : List TypedCode) → Stays (typing t) e → has_call e ≡ false → Compares (typing t) e
-      → AllowsAll facts (acts (acts_in (typing t) e)) → Step (steps.choose t e choices) (steps.choose (twin t n) e choices)
-  choose_same e choices stays calls compares allowed = choose_on (start t).waits e choices stays (no_takes e calls (start t).waits) compares allowed
-
   pub leave_loop_on : (on : List (List machine.Word)) (e rest : TypedTree) → rest ≡ NoMore → Stays (typing t) e → Takes (waits_in e) (start t).waits on → Compares (typing t) e
       → AllowsAll facts (acts (acts_in (typing t) (More e rest))) → Step (steps.leave_loop t (More e rest)) (steps.leave_loop (twin t n) (More e rest))
   unfolding acts_in
@@ -546,10 +516,6 @@ module _ (t : Turn) (settled : IsSettled (typing t).table) (own_law : OwnsByShap
       let same : acts_in (typing t) e ++ acts_in (typing t) rest ≡ acts_in (typing t) e =
       ap (λ z. acts_in (typing t) e ++ acts_in (typing t) z) last ∙ append-nil (acts_in (typing t) e) in
       test_on on e stays takes compares (subst (λ z. AllowsAll facts (acts z)) same allowed)
-
-  pub leave_loop_same : (e rest : TypedTree) → rest ≡ NoMore → Stays (typing t) e → has_call e ≡ false → Compares (typing t) e
-      → AllowsAll facts (acts (acts_in (typing t) (More e rest))) → Step (steps.leave_loop t (More e rest)) (steps.leave_loop (twin t n) (More e rest))
-  leave_loop_same e rest last stays calls compares allowed = leave_loop_on (start t).waits e rest last stays (no_takes e calls (start t).waits) compares allowed
 
   -- the operand of a short circuit, whose value waits
   pub operand_on : (on : List (List machine.Word)) (e : TypedTree) (op : Option ShortCircuit) → Stays (typing t) e → Takes (waits_in e) (start t).waits on → Compares (typing t) e
@@ -581,10 +547,6 @@ module _ (t : Turn) (settled : IsSettled (typing t).table) (own_law : OwnsByShap
       (text_on h settled hands t.state.leaks t.state.memory waits other facts kept sound alone live index_law own_law all_named only (start t).waits on e writes takes compares
       (subst (λ z. AllowsAll facts (acts z)) same allowed) (start (twin t n)) at_start).0
       (λ bytes i j now. ((refl, now.0), now.2))
-
-  pub output_same : (e rest : TypedTree) (line : Bool) → rest ≡ NoMore → Writes (typing t) e → has_call e ≡ false → Compares (typing t) e
-      → AllowsAll facts (acts (acts_in (typing t) (More e rest))) → Step (steps.output t (More e rest) line) (steps.output (twin t n) (More e rest) line)
-  output_same e rest line last writes calls compares allowed = output_on (start t).waits e rest line last writes (no_takes e calls (start t).waits) compares allowed
 
   pub line_same : (line : Bool) → Step (steps.output t NoMore line) (steps.output (twin t n) NoMore line)
   unfolding text_of
@@ -627,12 +589,6 @@ module _ (t : Turn) (settled : IsSettled (typing t).table) (own_law : OwnsByShap
       (record { at_fault = λ b m e. rw e refl; at_turn = λ b m e. rw e refl })
       (record { at_fault = λ b m e. rw e refl; at_turn = λ b m e. rw e refl })
       stays stays' takes takes' compares compares' allowed
-
-  pub start_same : (x : ℕ) (low high : TypedTree) → Stays (typing t) low → Stays (typing t) high → has_call low ≡ false → has_call high ≡ false
-      → Compares (typing t) low → Compares (typing t) high → AllowsAll facts (acts (acts_in (typing t) low ++ acts_in (typing t) high))
-      → Step (steps.start_loop t x low high) (steps.start_loop (twin t n) x low high)
-  start_same x low high stays stays' calls calls' compares compares' allowed =
-      start_on (start t).waits (start t).waits x low high stays stays' (no_takes low calls (start t).waits) (no_takes high calls' (start t).waits) compares compares' allowed
 
   -- an iteration
   turned_same : (x : ℕ) (ws : List machine.Word) (v : Option ℤ)

@@ -48,7 +48,7 @@ use Rattle.soundness.proofs.Walks.{way_along, Walked}
 use Rattle.soundness.proofs.Steps.{no_leaf}
 use Rattle.soundness.proofs.Scalars.{after_append, allows_both, acts, acts_append, read_way, look_way, number_along, named_along}
 use Rattle.soundness.proofs.Contents.{bool_cases}
-use Rattle.soundness.proofs.Taking.{Takes, takes_as, takes_both, takes_zero, no_takes}
+use Rattle.soundness.proofs.Taking.{Takes, takes_as, takes_both, takes_zero}
 use Rattle.soundness.proofs.Passing.{way_by, way_of, head_acts, head_values, head_reads, reads_keep, one_on}
 use Rattle.soundness.proofs.Stays.{Quiet, One, Any, Goes, quiet_from, taking, steps_taking, name_on}
 use Rattle.null_places.specs.Compares.{Compares}
@@ -584,29 +584,3 @@ module _ (h : Here) (settled : IsSettled h.typing.table) (hands : List Waiting) 
       (subst (λ z. SameNow h.typing z n'') q.0 now))
       (λ more k k' last. (refl, last))))
   all_on before on (x ∷ formals) actuals stay copied takes compares allowed n' same = (refl, same)
-
-  -- ---- without calls
-
-  pub scalar_same : (u : Use) (e : TypedTree) → Stays h.typing e → has_call e ≡ false → Compares h.typing e → AllowsAll facts (acts (acts_in h.typing e))
-      → (n' : Now) → SameNowAt waits n' → SameTo h.typing (evaluate h u e (at waits)) (evaluate h u e n')
-  scalar_same u e stays none compares allowed n' same = scalar_on u e stays waits waits (no_takes e none waits) compares allowed n' same
-
-  pub steps_same : (t u : ℕ) (steps : TypedTree) → Leads h.typing t steps u → has_call steps ≡ false → Compares h.typing steps
-      → AllowsAll facts (acts (acts_in h.typing steps)) → (n' : Now) → SameNowAt waits n' → SameTo h.typing (steps_of h steps (at waits)) (steps_of h steps n')
-  steps_same t u steps lead none compares allowed n' same = steps_on t u steps lead waits waits (no_takes steps none waits) compares allowed n' same
-
-  pub place_same : (p : Pos) (x t : ℕ) (steps : TypedTree) → Leads h.typing (object_at h.typing x).of steps t → has_call steps ≡ false → Compares h.typing steps
-      → AllowsAll facts (acts (acts_in h.typing steps)) → Clean x steps → (n' : Now) → SameNowAt waits n'
-      → SameTo h.typing (place_of h (Name p x steps t) (at waits)) (place_of h (Name p x steps t) n') × IsPlaced waits x t steps (place_of h (Name p x steps t) (at waits))
-  place_same p x t steps lead none compares allowed clean n' same =
-      place_on waits waits p x t steps lead (no_takes steps none waits) compares allowed clean n' same
-
-  pub text_same : (e : TypedTree) → Writes h.typing e → has_call e ≡ false → Compares h.typing e → AllowsAll facts (acts (acts_in h.typing e))
-      → (n' : Now) → SameNowAt waits n'
-      → SameTo h.typing (text_of h e (at waits)) (text_of h e n') × Quiet (at waits) (Any {A = List ℕ}) (text_of h e (at waits)) × Stay (acts_in h.typing e)
-  text_same e writes none compares allowed n' same = text_on waits waits e writes (no_takes e none waits) compares allowed n' same
-
-  pub all_same : (formals : List ℕ) (actuals : TypedTree) → AreActuals h.typing formals actuals → AreCopied h.typing formals actuals → has_call actuals ≡ false
-      → Compares h.typing actuals → AllowsAll facts (acts (actual_values h.typing (map (way_of h.typing own_law) formals) actuals)) → (n' : Now) → SameNowAt waits n'
-      → SameTo h.typing (all_passed h (map (way_of h.typing own_law) formals) formals actuals (at waits)) (all_passed h (map (way_of h.typing own_law) formals) formals actuals n')
-  all_same formals actuals stay copied none compares allowed n' same = all_on waits waits formals actuals stay copied (no_takes actuals none waits) compares allowed n' same

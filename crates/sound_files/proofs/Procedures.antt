@@ -1,6 +1,6 @@
 -- The runs of accepted files of the second class are sound: those of procedures that call each other, whose formals
 -- are of scalar types.
-use Rattle.std.proofs.Common.{◌≡◌, refl, sym, ap, ◌∙◌, subst, inl, inr, ℕ, zero, suc, ◌<◌, ◌+◌, true, List, [], ◌∷◌, length, get_or, arith, None}
+use Rattle.std.proofs.Common.{◌≡◌, refl, sym, ap, ◌∙◌, subst, inl, inr, ℕ, zero, suc, ◌<◌, ◌+◌, true, List, [], ◌∷◌, length, get_or, arith, Option, None}
 use Rattle.std.proofs.lemmas.List.{length-map}
 use Rattle.spark_base.specs.Lists.{Has}
 use Rattle.spark_base.proofs.Lists.{Has-append_right}
@@ -14,8 +14,10 @@ use Rattle.typing_steps.specs.Programs.{program_of}
 use Rattle.type_definitions.specs.Types.{Table, shape_of, words, words_of}
 use Rattle.type_definitions.specs.Entries.{integer, boolean}
 use Rattle.type_definitions.specs.Whole.{known_of, type_fault}
+use Rattle.typed_tree.specs.Trees.{TypedTree}
 use Rattle.typed_tree.specs.Programs.{TypedSub, typed_program}
 use Rattle.flow_paths.specs.declared.report.Effects.{Effects}
+use Rattle.flow_paths.specs.Instructions.{Call}
 use Rattle.flow_paths.specs.Objects.{Typing}
 use Rattle.flow_paths.specs.Points.{FlowPoint}
 use Rattle.flow_paths.specs.Laid.{FlowSub, FlowProgram, sub_temporaries, named_subs, all_named, flow_sub, typing_of, flow_named, flow_program}
@@ -76,7 +78,7 @@ all_long s (sub ∷ rest) = ap suc (named_long s (length s.objects) rest)
 
 -- ---- what is called
 
-module _ (p : Program) (bodies : HaveBodies p) (procedures : HasNoFunction p) where
+module _ (p : Program) (bodies : HaveBodies p) where
   abbrev table_of_text : Table
   table_of_text = (known_of p).table
 
@@ -89,9 +91,10 @@ module _ (p : Program) (bodies : HaveBodies p) (procedures : HasNoFunction p) wh
       length-map (flow_named table_of_text (typed_of p)) (flow_sub (typing_of table_of_text (typed_of p)))
       ∙ all_long (typing_of table_of_text (typed_of p)) (typed_of p).subs
 
-  -- It is a procedure with a body.
-  pub callees : AreCallees table_of_text (typed_of p) (bodies_of p)
-  callees sub has q there n actuals result is =
+  -- It has a body.
+  pub called_body : (sub : FlowSub) → Has (flow_program (known_of p).table (typed_of p)).subs sub → (q : FlowPoint) → Has sub.points q
+      → (n : ℕ) (actuals : TypedTree) (result : Option ℕ) → q.instr ≡ Call n actuals result → (k : ℕ) × (callee : TypedSub) × (n ≡ suc k) × IsSub (bodies_of p) k callee
+  called_body sub has q there n actuals result is =
       let i = at_number flow_of_text.subs sub no_sub has in
       let k = at_number sub.points q no_point there in
       let called = calls_within p bodies i.0 k.0 n actuals result
@@ -99,13 +102,24 @@ module _ (p : Program) (bodies : HaveBodies p) (procedures : HasNoFunction p) wh
       by_number n called.0 called.1
     where
       by_number : (n : ℕ) → 0 < n → n < length flow_of_text.subs
-          → (k : ℕ) × (callee : TypedSub) × (n ≡ suc k) × IsSub (bodies_of p) k callee × (callee.result ≡ None)
+          → (k : ℕ) × (callee : TypedSub) × (n ≡ suc k) × IsSub (bodies_of p) k callee
       by_number zero some less = absurd (omega (arith, some))
       by_number (suc k) some less =
           let long = subs_long in
           let found = sub_at_place (bodies_of p) k (omega (arith, less, long)) in
-          let at = found.1 in
-          (k, found.0, refl, at, procedures found.0 (subst (λ xs. Has xs found.0) (sym at.2) (Has-append_right at.0 (found.0 ∷ at.1) found.0 (inl refl))))
+          (k, found.0, refl, found.1)
+
+  -- It is a procedure, where no body is one of a function.
+  callees : HasNoFunction p → AreCallees table_of_text (typed_of p) (bodies_of p)
+  callees procedures sub has q there n actuals result is =
+      let found = called_body sub has q there n actuals result is in
+      let at = found.3 in (
+        found.0,
+        found.1,
+        found.2,
+        at,
+        procedures found.1 (subst (λ xs. Has xs found.1) (sym at.2) (Has-append_right at.0 (found.1 ∷ at.1) found.1 (inl refl))),
+      )
 
 -- ---- files
 
