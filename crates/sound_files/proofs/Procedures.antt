@@ -110,7 +110,7 @@ module _ (p : Program) (bodies : HaveBodies p) where
           (k, found.0, refl, found.1)
 
   -- It is a procedure, where no body is one of a function.
-  callees : HasNoFunction p → AreCallees table_of_text (typed_of p) (bodies_of p)
+  pub callees : HasNoFunction p → AreCallees table_of_text (typed_of p) (bodies_of p)
   callees procedures sub has q there n actuals result is =
       let found = called_body sub has q there n actuals result is in
       let at = found.3 in (
