@@ -44,7 +44,7 @@ accepted_views_sound stored input words names answer command product zero =
 -- ---- with calls
 
 -- Procedures alone are called. Their formals are of scalar types, actuals of modes `out` and `in out` go through no
--- access value, and no package object is of an owning type, or where one is called, no fact is on one.
+-- access value, and no package object is of an owning type, or where one is called, no part of one is lent.
 pub record AreInSecondViewClass (trees : List (List SourceUnit)) (effects : Effects) : Type 0 where
   -- there is a main procedure, so that there are runs
   pub main : ℕ

@@ -133,7 +133,7 @@ module _ (table : Table) (typed : TypedProgram) (effects : Effects) (given : IsV
     main_there = scoped.has_main table typed effects given;
   }
 
-  -- So each moment of its run is well owned, and none is a trap, where no fact is on a package object when a
-  -- procedure is called.
+  -- So each moment of its run is well owned, and none is a trap, where no part of a package object is lent when
+  -- a procedure is called.
   pub views_sound : AreSpared program effects → (input : List ℕ) → RunIsSound table typed input
   views_sound spared input = ready_sound table typed effects input (views_ready spared)

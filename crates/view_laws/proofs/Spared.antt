@@ -4,6 +4,7 @@ use Rattle.spark_base.specs.Lists.{Has}
 use Rattle.spark_base.proofs.Lists.{Has-map, Has-map_from}
 use Rattle.place_names.specs.declared.act.Placed.{Placed}
 use Rattle.place_names.specs.declared.fact.Fact.{Fact}
+use Rattle.place_names.specs.declared.fact.Fact.TheVariants.{Lent}
 use Rattle.place_names.specs.Facts.{place, adds}
 use Rattle.type_definitions.specs.Types.{Table, is_owning}
 use Rattle.typed_tree.specs.Programs.{TypedProgram}
@@ -64,6 +65,6 @@ module _ (table : Table) (typed : TypedProgram) (effects : Effects) (given : IsV
         lasting_own (place f).root found.1
 
     pub owners_spared : AreSpared program effects
-    owners_spared sub has before last path n actuals result e f there =
-        let from = fact_added program effects given.accepted.effects_are sub (last ∷ before) f there in
-        added_own sub has from.0 from.2 from.1 from.3 f from.4
+    owners_spared sub has before last path n actuals result e l h name there =
+        let from = fact_added program effects given.accepted.effects_are sub (last ∷ before) (Lent l h name) there in
+        added_own sub has from.0 from.2 from.1 from.3 (Lent l h name) from.4

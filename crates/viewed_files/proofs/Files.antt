@@ -239,8 +239,8 @@ module _ (files : List (List SourceUnit)) where
             views = views_here;
           }
 
-      -- Where procedures are called that have bodies, and no package object owns, or no fact is on one then, each moment
-      -- of each run is well owned, and none is a trap.
+      -- Where procedures are called that have bodies, and no package object owns, or no part of one is lent then, each
+      -- moment of each run is well owned, and none is a trap.
       pub files_called_sound : HasNoFunction p → AreStepsTyped flow_of_files → CopiesToVariables flow_of_files → SparePackages flow_of_files effects
           → (input : List ℕ) → RunIsSound table (typed_of p) input
       files_called_sound procedures typed copied =

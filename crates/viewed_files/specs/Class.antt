@@ -21,6 +21,6 @@ pub record IsFormlessText (p : Program) : Type 0 where
 abbrev pub OwnNothing : FlowProgram → Type 0
 OwnNothing program = (x : ℕ) → is_package_object (flow_typing program) x ≡ true → is_owning program.table (object_at (flow_typing program) x).of ≡ false
 
--- No package object is of an owning type; or where a procedure is called, no fact is on one.
+-- No package object is of an owning type; or where a procedure is called, no part of one is lent.
 abbrev pub SparePackages : FlowProgram → Effects → Type 0
 SparePackages program effects = OwnNothing program ⊎ AreSpared program effects

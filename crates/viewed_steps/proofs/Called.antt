@@ -361,24 +361,24 @@ module _ (h : Here) (settled : IsSettled h.typing.table) (hands : List Waiting) 
 
 -- no act of a call ends a scope
 module _ (s : Typing) (own_law : OwnsByShape s.table) where
-  spare_copy : (m : Mode) (e : TypedTree) → Spare (actual_act (way_by s own_law m) e)
+  spare_copy : (m : Mode) (e : TypedTree) → Spare s (actual_act (way_by s own_law m) e)
   spare_copy mode.In e = tt
-  spare_copy mode.Out e = spare_naming (written e) (λ k. act.Actual k mode.Out false false) (λ n. refl)
-  spare_copy mode.InOut e = spare_naming (written e) (λ k. act.Actual k mode.InOut false false) (λ n. refl)
+  spare_copy mode.Out e = spare_naming s (written e) (λ k. act.Actual k mode.Out false false) (λ n. refl)
+  spare_copy mode.InOut e = spare_naming s (written e) (λ k. act.Actual k mode.InOut false false) (λ n. refl)
 
-  pub spare_copies : (formals : List ℕ) (actuals : TypedTree) → Spare (actual_acts (map (way_of s own_law) formals) actuals)
+  pub spare_copies : (formals : List ℕ) (actuals : TypedTree) → Spare s (actual_acts (map (way_of s own_law) formals) actuals)
   spare_copies [] actuals = tt
   spare_copies (x ∷ formals) (More e rest) =
-      spare_both (actual_act (way_of s own_law x) e) (actual_acts (map (way_of s own_law) formals) rest) (spare_copy (object_at s x).mode e) (spare_copies formals rest)
+      spare_both s (actual_act (way_of s own_law x) e) (actual_acts (map (way_of s own_law) formals) rest) (spare_copy (object_at s x).mode e) (spare_copies formals rest)
   spare_copies (x ∷ formals) actuals = tt
 
-pub spare_reads : (ps : List Placed) → AreReads ps → Spare ps
-spare_reads [] reads = tt
-spare_reads (p ∷ ps) reads = (one p (reads p (inl refl)), spare_reads ps (λ q has. reads q (inr has)))
+pub spare_reads : (s : Typing) (ps : List Placed) → AreReads ps → Spare s ps
+spare_reads s [] reads = tt
+spare_reads s (p ∷ ps) reads = (one p (reads p (inl refl)), spare_reads s ps (λ q has. reads q (inr has)))
   where
-    one : (p : Placed) → IsRead p → ends p.act ≡ false
-    one p (m, inl e) = ap ends e
-    one p (m, inr e) = ap ends e
+    one : (p : Placed) → IsRead p → ends s p.act ≡ false
+    one p (m, inl e) = ap (ends s) e
+    one p (m, inr e) = ap (ends s) e
 
 -- ---- memories that owners see alike
 

@@ -197,7 +197,7 @@ module _ (t : Turn) (settled : IsSettled (typing t).table) (own_law : OwnsByShap
 
   -- no fact says that a part of it was moved
   abbrev pub IsUnmoved : ℕ → List Fact → Type 0
-  IsUnmoved x facts = (name : PlaceName) → Has facts (Moved name) → name.root ≡ x → ⊥
+  IsUnmoved x facts = (name : PlaceName) → Has facts (Moved name) → name.root ≡ x → depth ≡ home s depth x → ⊥
 
   -- no view has a way from it
   abbrev pub IsFree : ℕ → Type 0
@@ -213,7 +213,7 @@ module _ (t : Turn) (settled : IsSettled (typing t).table) (own_law : OwnsByShap
       (named_way (home s depth) (is_observer s) other v z facts viewed.views (suc (number_of u)) u (omega arith)
       (moved.0, viewed.clear.owned (ways.name_of u) moved.1)) in
       elim (stands_root v u) [
-        | inl e ↦ unmoved (ways.name_of u) moved.1 (sym e ∙ root)
+        | inl e ↦ unmoved (ways.name_of u) moved.1 (sym e ∙ root) (in_home (home s depth) depth x p named)
         | inr (y, k, has, e) ↦ free y k has (sym (in_home (home s depth) depth x p named)) (sym e ∙ root)
       ]
 

@@ -1,5 +1,6 @@
--- Loans end where scopes end, and nowhere else.
-use Rattle.std.proofs.Common.{◌≡◌, refl, ℕ, Bool, true, false, List, [], ◌∷◌, ◌++◌, Option, Some, None, if◌then◌else◌}
+-- Loans end where scopes end, and nowhere else. Other acts of an instruction that calls nothing read or
+-- write what they name, or give a borrower another place.
+use Rattle.std.proofs.Common.{◌≡◌, refl, sym, ap, ◌∙◌, inl, inr, ℕ, Bool, true, false, not, List, [], ◌∷◌, ◌++◌, Option, Some, None, if◌then◌else◌}
 use Rattle.spark_base.specs.Lists.{Has}
 use Rattle.spark_base.specs.declared.position.Pos.{Pos}
 use Rattle.place_names.specs.declared.act.Act.{Act}
@@ -24,64 +25,72 @@ use Rattle.owned_ways.proofs.Assigned.{kept_fact}
 use Rattle.soundness.specs.Sound.{calls_nothing}
 use Rattle.soundness.proofs.Scalars.{acts}
 
--- An act ends a scope.
-abbrev pub ends : Act → Bool
-ends (act.EndScope x borrower) = true
-ends _ = false
+-- An act ends a scope or a call, is that of a call, or gives a place to what is no borrower.
+abbrev pub ends : Typing → Act → Bool
+ends s (act.EndScope x borrower) = true
+ends s (act.Return roots) = true
+ends s (act.Global g written) = true
+ends s (act.Reborrow b m) = not (is_borrower s b)
+ends s _ = false
 
 -- other acts end no loan
-spares_loan : (a : Act) → ends a ≡ false → (l : Loan) (h : ℕ) (n : PlaceName) → removes a (Lent l h n) ≡ false
-spares_loan (act.Read m) e l h n = refl
-spares_loan (act.Look m) e l h n = refl
-spares_loan (act.Write k) e l h n = refl
-spares_loan (act.Move m parts) e l h n = refl
-spares_loan (act.Borrow b m) e l h n = refl
-spares_loan (act.Observe b m from) e l h n = refl
-spares_loan (act.Reborrow b m) e l h n = refl
-spares_loan (act.EndScope x borrower) e l h n = cc
-spares_loan (act.Return roots) e l h n = refl
-spares_loan (act.Actual m mode.In owning access) e l h n = refl
-spares_loan (act.Actual m mode.Out owning access) e l h n = refl
-spares_loan (act.Actual m mode.InOut owning access) e l h n = refl
-spares_loan (act.Global g written) e l h n = refl
-spares_loan (act.Free k) e l h n = refl
-spares_loan (act.Give m borrows) e l h n = refl
+spares_loan : (s : Typing) (a : Act) → ends s a ≡ false → (l : Loan) (h : ℕ) (n : PlaceName) → removes a (Lent l h n) ≡ false
+spares_loan s (act.Read m) e l h n = refl
+spares_loan s (act.Look m) e l h n = refl
+spares_loan s (act.Write k) e l h n = refl
+spares_loan s (act.Move m parts) e l h n = refl
+spares_loan s (act.Borrow b m) e l h n = refl
+spares_loan s (act.Observe b m from) e l h n = refl
+spares_loan s (act.Reborrow b m) e l h n = refl
+spares_loan s (act.EndScope x borrower) e l h n = cc
+spares_loan s (act.Return roots) e l h n = refl
+spares_loan s (act.Actual m mode.In owning access) e l h n = refl
+spares_loan s (act.Actual m mode.Out owning access) e l h n = refl
+spares_loan s (act.Actual m mode.InOut owning access) e l h n = refl
+spares_loan s (act.Global g written) e l h n = refl
+spares_loan s (act.Free k) e l h n = refl
+spares_loan s (act.Give m borrows) e l h n = refl
 
--- No act in a list ends a scope.
-abbrev pub Spare : List Placed → Type 0
-Spare [] = Unit {0}
-Spare (a ∷ rest) = (ends a.act ≡ false) × Spare rest
+-- No act in a list does.
+abbrev pub Spare : Typing → List Placed → Type 0
+Spare s [] = Unit {0}
+Spare s (a ∷ rest) = (ends s a.act ≡ false) × Spare s rest
 
-pub spare_both : (a b : List Placed) → Spare a → Spare b → Spare (a ++ b)
-spare_both [] b x y = y
-spare_both (p ∷ a) b (e, x) y = (e, spare_both a b x y)
+pub spare_has : (s : Typing) (ps : List Placed) → Spare s ps → (a : Placed) → Has ps a → ends s a.act ≡ false
+spare_has s [] spare a has = absurd has
+spare_has s (p ∷ ps) spare a (inl e) = ap (λ (z : Placed). ends s z.act) (sym e) ∙ spare.0
+spare_has s (p ∷ ps) spare a (inr has) = spare_has s ps spare.1 a has
 
-pub loans_stay : (done : List Placed) → Spare done → (facts : List Fact) (l : Loan) (h : ℕ) (n : PlaceName) → Has facts (Lent l h n) → Has (after (acts done) facts) (Lent l h n)
-loans_stay [] x facts l h n has = has
-loans_stay (a ∷ done) (e, x) facts l h n has =
-    loans_stay done x (effect a.act facts) l h n (kept_fact a.act facts (Lent l h n) has (spares_loan a.act e l h n))
+pub spare_both : (s : Typing) (a b : List Placed) → Spare s a → Spare s b → Spare s (a ++ b)
+spare_both s [] b x y = y
+spare_both s (p ∷ a) b (e, x) y = (e, spare_both s a b x y)
+
+pub loans_stay : (s : Typing) (done : List Placed) → Spare s done → (facts : List Fact) (l : Loan) (h : ℕ) (n : PlaceName) → Has facts (Lent l h n) → Has (after (acts done) facts) (Lent l h n)
+loans_stay s [] x facts l h n has = has
+loans_stay s (a ∷ done) (e, x) facts l h n has =
+    loans_stay s done x (effect a.act facts) l h n (kept_fact a.act facts (Lent l h n) has (spares_loan s a.act e l h n))
 
 -- ---- expressions
 
-pub spare_naming : (w : Option Written) (a : PlaceName → Act) → ((n : PlaceName) → ends (a n) ≡ false) → Spare (naming w a)
-spare_naming None a e = tt
-spare_naming (Some w) a e = (e w.name, tt)
+pub spare_naming : (s : Typing) (w : Option Written) (a : PlaceName → Act) → ((n : PlaceName) → ends s (a n) ≡ false) → Spare s (naming w a)
+spare_naming s None a e = tt
+spare_naming s (Some w) a e = (e w.name, tt)
 
 module _ (s : Typing) where
-  spare_used : (n : PlaceName) (t : ℕ) → ends (used s n t) ≡ false
+  spare_used : (n : PlaceName) (t : ℕ) → ends s (used s n t) ≡ false
   spare_used n t = by_kind (is_owning s.table t)
     where
-      by_kind : (b : Bool) → ends (if b then act.Move n (parts s.table t) else act.Read n) ≡ false
+      by_kind : (b : Bool) → ends s (if b then act.Move n (parts s.table t) else act.Read n) ≡ false
       by_kind true = refl
       by_kind false = refl
 
-  pub spare_in : (e : TypedTree) → Spare (acts_in s e)
+  pub spare_in : (e : TypedTree) → Spare s (acts_in s e)
   unfolding acts_in
-  spare_in (Name p x steps t) = spare_both (acts_in s steps) (placed p (used s (name_of x steps) t) ∷ []) (spare_in steps) (spare_used (name_of x steps) t, tt)
+  spare_in (Name p x steps t) = spare_both s (acts_in s steps) (placed p (used s (name_of x steps) t) ∷ []) (spare_in steps) (spare_used (name_of x steps) t, tt)
   spare_in (Component i rest) = spare_in rest
   spare_in (Designated rest) = spare_in rest
-  spare_in (Element index low high rest) = spare_both (acts_in s index) (acts_in s rest) (spare_in index) (spare_in rest)
-  spare_in (IsNull equal (Name p x steps t)) = spare_both (acts_in s steps) (placed p (act.Look (name_of x steps)) ∷ []) (spare_in steps) (refl, tt)
+  spare_in (Element index low high rest) = spare_both s (acts_in s index) (acts_in s rest) (spare_in index) (spare_in rest)
+  spare_in (IsNull equal (Name p x steps t)) = spare_both s (acts_in s steps) (placed p (act.Look (name_of x steps)) ∷ []) (spare_in steps) (refl, tt)
   spare_in (IsNull equal (Number v)) = tt
   spare_in (IsNull equal (Literal n)) = tt
   spare_in (IsNull equal (Text b)) = tt
@@ -104,18 +113,18 @@ module _ (s : Typing) where
   spare_in (IsNull equal (More e rest)) = tt
   spare_in (Short op p a q b) = by_call (has_call b) (spare_in a) (spare_in b)
     where
-      by_call : (c : Bool) → Spare (acts_in s a) → Spare (acts_in s b) → Spare (if c then [] else acts_in s a ++ acts_in s b)
+      by_call : (c : Bool) → Spare s (acts_in s a) → Spare s (acts_in s b) → Spare s (if c then [] else acts_in s a ++ acts_in s b)
       by_call true x y = tt
-      by_call false x y = spare_both (acts_in s a) (acts_in s b) x y
+      by_call false x y = spare_both s (acts_in s a) (acts_in s b) x y
   spare_in (Call p sub actuals) = tt
   spare_in (Image t e) = spare_in e
   spare_in (Parens e) = spare_in e
   spare_in (Unary op e) = spare_in e
-  spare_in (Binary op a b) = spare_both (acts_in s a) (acts_in s b) (spare_in a) (spare_in b)
+  spare_in (Binary op a b) = spare_both s (acts_in s a) (acts_in s b) (spare_in a) (spare_in b)
   spare_in (Aggregate t es) = spare_in es
   spare_in (Alike t e) = spare_in e
   spare_in (New t v) = spare_in v
-  spare_in (More e rest) = spare_both (acts_in s e) (acts_in s rest) (spare_in e) (spare_in rest)
+  spare_in (More e rest) = spare_both s (acts_in s e) (acts_in s rest) (spare_in e) (spare_in rest)
   spare_in (Number v) = tt
   spare_in (Literal n) = tt
   spare_in (Text b) = tt
@@ -123,7 +132,7 @@ module _ (s : Typing) where
   spare_in EndOfFile = tt
   spare_in NoMore = tt
 
-  spare_index : (e : TypedTree) → Spare (index_acts s e)
+  spare_index : (e : TypedTree) → Spare s (index_acts s e)
   spare_index (Name p x steps t) = spare_in steps
   spare_index (Number v) = tt
   spare_index (Literal n) = tt
@@ -146,61 +155,62 @@ module _ (s : Typing) where
   spare_index NoMore = tt
   spare_index (More e rest) = tt
 
-  spare_source : (e : TypedTree) (a : PlaceName → Act) → ((n : PlaceName) → ends (a n) ≡ false) → Spare (source_acts s e a)
-  spare_source e a none = spare_both (index_acts s e) (naming (source e) a) (spare_index e) (spare_naming (source e) a none)
+  spare_source : (e : TypedTree) (a : PlaceName → Act) → ((n : PlaceName) → ends s (a n) ≡ false) → Spare s (source_acts s e a)
+  spare_source e a none = spare_both s (index_acts s e) (naming (source e) a) (spare_index e) (spare_naming s (source e) a none)
 
-  spare_stored : (target e : TypedTree) → Spare (stored_acts s target e)
+  spare_stored : (target e : TypedTree) → Spare s (stored_acts s target e)
   spare_stored target e =
-      spare_both (acts_in s e ++ index_acts s target) (naming (written target) act.Write)
-      (spare_both (acts_in s e) (index_acts s target) (spare_in e) (spare_index target)) (spare_naming (written target) act.Write (λ n. refl))
+      spare_both s (acts_in s e ++ index_acts s target) (naming (written target) act.Write)
+      (spare_both s (acts_in s e) (index_acts s target) (spare_in e) (spare_index target)) (spare_naming s (written target) act.Write (λ n. refl))
 
-  spare_declared : (x : ℕ) (v : TypedTree) → Spare (declared_acts s x v)
+  spare_declared : (x : ℕ) (v : TypedTree) → Spare s (declared_acts s x v)
   spare_declared x v = by_kind (is_borrower s x) (is_observer s x)
     where
-      by_kind : (b c : Bool) → Spare (if b then source_acts s (first v) (act.Borrow x) else (if c then source_acts s (first v) (observe s x) else acts_in s v))
+      by_kind : (b c : Bool) → Spare s (if b then source_acts s (first v) (act.Borrow x) else (if c then source_acts s (first v) (observe s x) else acts_in s v))
       by_kind true c = spare_source (first v) (act.Borrow x) (λ n. refl)
       by_kind false true = spare_source (first v) (observe s x) (λ n. refl)
       by_kind false false = spare_in v
 
-  spare_reborrow : (p : Pos) (b : ℕ) (w : Option Written) → Spare (reborrow p b w)
-  spare_reborrow p b None = tt
-  spare_reborrow p b (Some m) = (refl, tt)
+  spare_reborrow : (p : Pos) (b : ℕ) (w : Option Written) → is_borrower s b ≡ true → Spare s (reborrow p b w)
+  spare_reborrow p b None is = tt
+  spare_reborrow p b (Some m) is = (ap not is, tt)
 
-  spare_assigned : (p : Pos) (o : Option ℕ) (target e : TypedTree) → Spare (assigned_to s p o target e)
+  spare_assigned : (p : Pos) (o : Option ℕ) (target e : TypedTree) → Spare s (assigned_to s p o target e)
   spare_assigned p None target e = spare_stored target e
-  spare_assigned p (Some x) target e = by_kind (is_borrower s x) (is_observer s x)
+  spare_assigned p (Some x) target e = by_kind (is_borrower s x) (is_observer s x) refl
     where
-      by_kind : (b c : Bool) → Spare (if b then index_acts s e ++ reborrow (target_pos p (written target)) x (source e)
+      by_kind : (b c : Bool) → is_borrower s x ≡ b → Spare s (if b then index_acts s e ++ reborrow (target_pos p (written target)) x (source e)
           else (if c then source_acts s e (observe s x) else stored_acts s target e))
-      by_kind true c =
-          spare_both (index_acts s e) (reborrow (target_pos p (written target)) x (source e)) (spare_index e)
-          (spare_reborrow (target_pos p (written target)) x (source e))
-      by_kind false true = spare_source e (observe s x) (λ n. refl)
-      by_kind false false = spare_stored target e
+      by_kind true c is =
+          spare_both s (index_acts s e) (reborrow (target_pos p (written target)) x (source e)) (spare_index e)
+          (spare_reborrow (target_pos p (written target)) x (source e) is)
+      by_kind false true is = spare_source e (observe s x) (λ n. refl)
+      by_kind false false is = spare_stored target e
 
-  spare_returned : (result : Option ℕ) (v : TypedTree) → Spare (returned_acts s result v)
+  spare_returned : (result : Option ℕ) (v : TypedTree) → Spare s (returned_acts s result v)
   spare_returned result v = by_kind (traverses s.table result)
     where
-      by_kind : (b : Bool) → Spare (if b then source_acts s (first v) (λ m. act.Give m (gives_variable s result)) else acts_in s v)
+      by_kind : (b : Bool) → Spare s (if b then source_acts s (first v) (λ m. act.Give m (gives_variable s result)) else acts_in s v)
       by_kind true = spare_source (first v) (λ m. act.Give m (gives_variable s result)) (λ n. refl)
       by_kind false = spare_in v
 
--- an instruction that calls nothing and isn't the end of a scope ends none
-pub spare_acts : (f : Frame) (p : Pos) (i : Instruction) → calls_nothing i ≡ true → ((x : ℕ) → i ≡ EndScope x → ⊥) → Spare (acts_of f p i)
-spare_acts f p Skip calls going = tt
-spare_acts f p (Declare x v) calls going = spare_declared f.typing x v
-spare_acts f p (Assign target e) calls going = spare_assigned f.typing p (whole target) target e
-spare_acts f p (instruction.Call sub actuals result) calls going = cc
-spare_acts f p (Output text line) calls going = spare_in f.typing text
-spare_acts f p (Input target) calls going = spare_source f.typing target (λ m. act.Actual m mode.Out false false) (λ n. refl)
-spare_acts f p (Release m) calls going = spare_source f.typing m act.Free (λ n. refl)
-spare_acts f p (Test e) calls going = spare_in f.typing e
-spare_acts f p (Choose e choices) calls going = spare_in f.typing e
-spare_acts f p (Start x reversed low high) calls going = spare_both (acts_in f.typing low) (acts_in f.typing high) (spare_in f.typing low) (spare_in f.typing high)
-spare_acts f p (Next x reversed low high) calls going = tt
-spare_acts f p (Evaluate t e left) calls going = spare_in f.typing e
-spare_acts f p (LeaveLoop e) calls going = spare_in f.typing e
-spare_acts f p (Hold v) calls going = spare_returned f.typing f.result v
-spare_acts f p (EndScope x) calls going = absurd (going x refl)
-spare_acts f p Finish calls going = (refl, tt)
-spare_acts f p Fall calls going = tt
+-- an instruction that calls nothing and isn't the end of a scope or of a call has none such
+pub spare_acts : (f : Frame) (p : Pos) (i : Instruction) → calls_nothing i ≡ true → ((x : ℕ) → i ≡ EndScope x → ⊥) → (i ≡ Finish → ⊥)
+    → Spare f.typing (acts_of f p i)
+spare_acts f p Skip calls going end = tt
+spare_acts f p (Declare x v) calls going end = spare_declared f.typing x v
+spare_acts f p (Assign target e) calls going end = spare_assigned f.typing p (whole target) target e
+spare_acts f p (instruction.Call sub actuals result) calls going end = cc
+spare_acts f p (Output text line) calls going end = spare_in f.typing text
+spare_acts f p (Input target) calls going end = spare_source f.typing target (λ m. act.Actual m mode.Out false false) (λ n. refl)
+spare_acts f p (Release m) calls going end = spare_source f.typing m act.Free (λ n. refl)
+spare_acts f p (Test e) calls going end = spare_in f.typing e
+spare_acts f p (Choose e choices) calls going end = spare_in f.typing e
+spare_acts f p (Start x reversed low high) calls going end = spare_both f.typing (acts_in f.typing low) (acts_in f.typing high) (spare_in f.typing low) (spare_in f.typing high)
+spare_acts f p (Next x reversed low high) calls going end = tt
+spare_acts f p (Evaluate t e left) calls going end = spare_in f.typing e
+spare_acts f p (LeaveLoop e) calls going end = spare_in f.typing e
+spare_acts f p (Hold v) calls going end = spare_returned f.typing f.result v
+spare_acts f p (EndScope x) calls going end = absurd (going x refl)
+spare_acts f p Finish calls going end = absurd (end refl)
+spare_acts f p Fall calls going end = tt

@@ -8,6 +8,7 @@ pub mod Placed
 pub mod Ended
 pub mod Sources
 pub mod Beside
+pub mod Inherited
 pub mod Waiting
 pub mod Left
 pub mod Called

@@ -3,12 +3,13 @@ use Rattle.std.proofs.Common.{◌≡◌, refl, sym, ap, ◌∙◌, subst, ◌⊎
 use Rattle.std.proofs.Math.Nat.{eq-or-lt_of_le}
 use Rattle.spark_base.specs.Lists.{Has}
 use Rattle.spark_base.specs.declared.position.Pos.{Pos}
-use Rattle.spark_base.proofs.Lists.{Has-append_cases, Has-map_from}
+use Rattle.spark_base.proofs.Lists.{Has-append_left, Has-append_cases, Has-map_from}
 use Rattle.place_names.specs.declared.act.Act.{Act}
 use Rattle.place_names.specs.declared.act.Act.TheVariants as act
 use Rattle.place_names.specs.declared.act.Placed.{Placed}
 use Rattle.place_names.specs.declared.fact.Fact.{Fact}
 use Rattle.place_names.specs.declared.fact.Fact.TheVariants.{Moved, Lent}
+use Rattle.place_names.specs.declared.rule.Loan.{Loan}
 use Rattle.place_names.specs.declared.rule.Loan.TheVariants.{Observed}
 use Rattle.place_names.specs.Facts.{adds}
 use Rattle.place_names.specs.Names.{Name as PlaceName}
@@ -18,14 +19,15 @@ use Rattle.typed_tree.specs.Trees.{TypedTree, Name, NoMore, More}
 use Rattle.typed_tree.specs.Programs.{TypedProgram}
 use Rattle.flow_paths.specs.declared.report.Effects.{Effects}
 use Rattle.flow_paths.specs.Instructions.{Instruction, Skip, Declare, Assign, Call, Output, Input, Release, Test, Choose, Start, Next, Evaluate, LeaveLoop, Hold, EndScope, Finish, Fall}
-use Rattle.flow_paths.specs.Objects.{Typing, object_at, sub_at, is_formal, is_anonymous, is_package_object, is_observer, view_of, passings, Passing}
+use Rattle.flow_paths.specs.Objects.{Typing, object_at, sub_at, is_formal, is_anonymous, is_package_object, is_variable, is_borrower, is_observer, is_borrowing, is_observing, view_of, passings, Passing}
 use Rattle.flow_paths.specs.Names.{has_call, name_of}
 use Rattle.flow_paths.specs.Acts as flow
 use Rattle.flow_paths.specs.Acts.{acts_of, acts_in}
 use Rattle.flow_paths.specs.Points.{NamedPoint, FlowPoint}
 use Rattle.flow_paths.specs.Laid.{FlowSub, FlowProgram, NamedSub, number_in, flow_sub, kept_roots, sub_facts, typing_of, flow_typing, flow_program, flow_named}
 use Rattle.flow_paths.specs.Paths.{PathPoint, is_some_point, path_point, ControlPath, begins, goes_on, acts_at, facts_before}
-use Rattle.flow_paths.specs.Effects.{path_points, globals_of, called_acts}
+use Rattle.flow_paths.specs.Effects.{act_reads, act_writes, flow_sub_at, path_points, globals_of, called_acts}
+use Rattle.place_names.specs.Rules.{forbids}
 use Rattle.flow_paths.specs.Scopes.{taken, brought, scope_behind, is_within, is_last, is_ready, Leads}
 use Rattle.machine.specs.Words as machine
 use Rattle.machine.specs.Memory.{Memory, no_slot, variable_slots, without_frame}
@@ -43,7 +45,7 @@ use Rattle.owned_ways.proofs.Locations.{reaches_along, named_along as rooted_alo
 use Rattle.soundness.specs.Seen.{IsNear, is_view_formal, content, word_in, seen, home, trunk}
 use Rattle.soundness.specs.Typed.{Kept}
 use Rattle.typed_laws.specs.Needed.{IsFine, Source, FirstSource, FirstWrites, FirstStays}
-use Rattle.soundness.specs.Sound.{calls_nothing, calls_procedures, Stage, facts_of, AreStages, AreCopied, IsPlain, IsProcedure, InScope, IsNamedSub, IsAtPoint, view_of as view_here}
+use Rattle.soundness.specs.Sound.{calls_nothing, calls_procedures, Stage, facts_of, AreStages, AreCopied, Uses, IsPlain, IsProcedure, InScope, IsNamedSub, IsAtPoint, view_of as view_here}
 use Rattle.soundness.specs.Ready.{stored_at}
 use Rattle.soundness.proofs.Contents.{bool_cases, word_no, word_root}
 use Rattle.soundness.proofs.Steps.{no_leaf}
@@ -53,11 +55,11 @@ use Rattle.soundness.proofs.Lasting.{keeps}
 use Rattle.soundness.proofs.Passing.{plain_type, way_of, AreReads, reads_keep, values_read, AreLaid, returns_copied, entered, call_leads, passed_to}
 use Rattle.soundness.proofs.Scalars.{acts, acts_append, after_append, allows_both}
 use Rattle.soundness.proofs.Paths.{accepted_point, facts_next}
-use Rattle.soundness.proofs.Points.{flow_at, named_has, point_has, sub_there, sub_has, typing_same, point_there, point_in, path_there, IsLaid, all_laid, next_there}
+use Rattle.soundness.proofs.Points.{flow_at, named_has, point_has, sub_there, sub_at_number, sub_in_range, sub_has, typing_same, point_there, point_in, path_there, IsLaid, all_laid, next_there}
 use Rattle.soundness.proofs.Scoped.{MayHold, Inside}
-use Rattle.soundness.proofs.Inherited.{AreGlobal, global_after}
-use Rattle.soundness.proofs.Used.{called_are, globals_are, path_acts, returns_whole}
-use Rattle.soundness.proofs.Around.{same_or_not}
+use Rattle.soundness.proofs.Inherited.{Splits, after_splits, allowed_beside, AreGlobal, global_after, global_allowed, global_apart}
+use Rattle.soundness.proofs.Used.{writes_used, reads_used, called_used, used_global, fact_added, called_are, globals_are, path_acts, returns_whole}
+use Rattle.soundness.proofs.Around.{same_or_not, IsFar, is_inherited, inherited_from}
 use Rattle.soundness.proofs.Returning.{returned_kept, left_held, returns_lead, ends_lead, left_waits, ended_owned}
 use Rattle.soundness.proofs.Following.{Each, GoesOn, Declares, declare_on, declare_follows, assign_follows, release_follows, input_follows, test_follows, choose_follows, stays_follows, output_follows, start_follows, next_follows, end_scope_follows}
 use Rattle.soundness.proofs.Waits.{drop_none, or_both}
@@ -69,20 +71,45 @@ use Rattle.viewed_soundness.specs.Holds.{IsNamed, Holds, AllKeep}
 use Rattle.viewed_soundness.proofs.Names.{plain_named, true_false}
 use Rattle.viewed_soundness.proofs.Evaluated.{live_trunk, keep_both}
 use Rattle.viewed_soundness.proofs.Outcomes.{named_plain, IsGood, Turned, Leads_on, Is_left, raises, start_is, hands_behind, test_leads, choose_leads, assign_leads}
-use Rattle.viewed_steps.specs.Sound.{IsResting, Lasts, HoldsAt, ArePlaced, NoneAbove, ViewStage, stages_of, GoneElsewhere, AreOwn, IsWaiting, IsFirst, AreWaiting, IsRunning, IsSound, LeadsOn, StepsLeadOn}
+use Rattle.viewed_steps.specs.Sound.{IsResting, Lasts, HoldsAt, ArePlaced, NoneAbove, ViewStage, stages_of, GoneElsewhere, LendOwn, IsWaiting, IsFirst, AreWaiting, IsRunning, IsSound, LeadsOn, StepsLeadOn}
 use Rattle.viewed_steps.specs.Ready.{IsCalled, AreOrderly, IsReady}
 use Rattle.viewed_steps.proofs.Declared.{IsElsewhere, OthersStay, not_gone, declare_leads, others_stay}
 use Rattle.viewed_steps.proofs.Released.{release_leads}
 use Rattle.viewed_steps.proofs.Read.{scalar_named, input_leads}
 use Rattle.viewed_steps.proofs.Rounds.{skip_leads, fall_leads, leave_loop_leads, output_leads, line_leads, next_leads, start_leads}
-use Rattle.viewed_steps.proofs.Lent.{spare_both, loans_stay, spare_acts}
+use Rattle.viewed_steps.proofs.Lent.{ends, Spare, spare_has, spare_both, loans_stay, spare_acts}
+use Rattle.viewed_steps.proofs.Inherited.{after_more, apart_act, apart_end, lending_uses}
 use Rattle.viewed_steps.proofs.Placed.{scope_on, view_ends, placed_on, MayBe, turned_placed}
 use Rattle.viewed_steps.proofs.Ended.{none_some, views_left, ends_well, placed_left, holds_left}
 use Rattle.viewed_steps.proofs.Sources.{leads_or, view_declared, view_assigned}
 use Rattle.viewed_steps.proofs.Beside.{OthersKept, others_keep, end_scope_keeps}
-use Rattle.viewed_steps.proofs.Waiting.{StandsBetween, all_between, KeptElsewhere, around as concern, alone as near_alone, far, apart_elsewhere, all_on, all_same}
+use Rattle.viewed_steps.proofs.Waiting.{StandsBetween, all_between, KeptElsewhere, unused_there, around as concern, beside_them, handed, with_them, without_them, far, apart_elsewhere, all_on, all_same}
 use Rattle.viewed_steps.proofs.Left.{owned_left, covered_left, reach_left, reach_before, gone_before, own_whole, other_word, no_word}
 use Rattle.viewed_steps.proofs.Called.{AreGiven, all_given, all_laid as all_laid_out, all_acted, spare_reads, spare_copies, Enters, all_entered, all_back}
+
+unless : (b : Bool) → (b ≡ true → ⊥) → b ≡ false
+unless true e = absurd (e refl)
+unless false e = refl
+
+moved_same : (name other : PlaceName) → Moved name ≡ Moved other → name ≡ other
+moved_same name other e = cc
+
+borrower_anonymous : (s : Typing) (x : ℕ) → is_borrower s x ≡ true → is_anonymous (view_of s x) ≡ true
+borrower_anonymous s x e = either_view (is_variable (object_at s x).kind) (is_borrowing (view_of s x)) (is_observing (view_of s x)) e
+  where
+    either_view : (k a b : Bool) → k && a ≡ true → a || b ≡ true
+    either_view true true b e = refl
+    either_view true false b e = cc
+    either_view false a b e = cc
+
+observer_anonymous : (s : Typing) (x : ℕ) → is_observer s x ≡ true → is_anonymous (view_of s x) ≡ true
+observer_anonymous s x e = either_view (is_variable (object_at s x).kind) (is_borrowing (view_of s x)) (is_observing (view_of s x)) e
+  where
+    either_view : (k a b : Bool) → k && b ≡ true → a || b ≡ true
+    either_view true true b e = refl
+    either_view true false true e = refl
+    either_view true false false e = cc
+    either_view false a b e = cc
 
 smaller : (f b low : ℕ) → f < suc b → (f ≡ low → ⊥) → low ≡ b → f < low
 smaller f b low less ne is =
@@ -419,7 +446,7 @@ module _ (table : Table) (typed : TypedProgram) (effects : Effects) (input : Lis
   module _ (state : State) (top : Stage) (below : ViewStage) (more_frames : List ViewStage) (rest : List Frame) (named : NamedSub) (p : NamedPoint)
       (frames : state.frames ≡ top.frame ∷ (below.stage.frame ∷ rest)) (deep : top.depth ≡ suc (length rest))
       (stages : AreStages (stages_of (below ∷ more_frames)) (below.stage.frame ∷ rest))
-      (running : IsProcedure table typed top.frame.sub × IsResting s top × AreWaiting table typed effects state (below ∷ more_frames))
+      (running : IsProcedure table typed top.frame.sub × IsResting s top × AreWaiting table typed effects state top.frame.sub (below ∷ more_frames))
       (of_sub : IsNamedSub (flow_named table typed) top.frame.sub named) (at_point : IsAtPoint named.points top.frame.next p)
       (path : ControlPath (path_points program effects (sub_of program top.frame.sub)) top.before top.frame.next) (views : Views)
       (viewed_before : Viewed (home s (suc (length rest))) (is_observer s) (known_gone (home s (suc (length rest))) (GoneElsewhere program effects (below ∷ more_frames))) views
@@ -436,13 +463,17 @@ module _ (table : Table) (typed : TypedProgram) (effects : Effects) (input : Lis
     depth = suc (length rest)
 
     between : (g : ViewStage) → Has (below ∷ more_frames) g → StandsBetween table typed effects unmoved_stage local state (suc (length rest)) g
-    between g has = all_between table typed effects unmoved_stage local state (suc (length rest)) (below ∷ more_frames) (below.stage.frame ∷ rest) stages (omega arith) running.2 g has
+    between g has = all_between table typed effects unmoved_stage local state top.frame.sub (suc (length rest)) (below ∷ more_frames) (below.stage.frame ∷ rest) stages (omega arith) running.2 g has
+
+    -- what concerns it of them, and that with their facts on package objects beside its own
+    abbrev other_all : Around (home s (suc (length rest)))
+    other_all = concern table typed effects unmoved_stage local state (suc (length rest)) (below ∷ more_frames) between
 
     abbrev other : Around (home s (suc (length rest)))
-    other = concern table typed effects unmoved_stage local state (suc (length rest)) (below ∷ more_frames) between
+    other = beside_them table typed effects unmoved_stage local state (suc (length rest)) (below ∷ more_frames) between
 
-    alone : (w : Way) → IsNear (suc (length rest)) w → GoneElsewhere program effects (below ∷ more_frames) w → ⊥
-    alone w near o = near_alone table typed effects unmoved_stage local state (suc (length rest)) (below ∷ more_frames) between w near o
+    alone : (w : Way) → IsNear (suc (length rest)) w → IsFar (suc (length rest)) (GoneElsewhere program effects (below ∷ more_frames)) w → ⊥
+    alone w near o = o.0 near
 
     plain : top.frame.waits ≡ []
     plain = running.1.0
@@ -450,40 +481,146 @@ module _ (table : Table) (typed : TypedProgram) (effects : Effects) (input : Lis
     abbrev main_turn : Turn
     main_turn = t state top older outer named p frames of_sub at_point
 
+    abbrev own_facts : List Fact
+    own_facts = facts state top older outer named p frames of_sub at_point path
+
+    abbrev handed_on : List Fact
+    handed_on = handed table typed effects unmoved_stage local state (suc (length rest)) (below ∷ more_frames) between
+
     abbrev facts_now : List Fact
-    facts_now = facts state top older outer named p frames of_sub at_point path
+    facts_now = own_facts ++ handed_on
+
+    from_both : Splits facts_now own_facts handed_on
+    from_both f has = Has-append_cases own_facts handed_on f has
 
     abbrev acts_of_main : Instruction → List Act
     acts_of_main i = acts_here state top older outer named p frames of_sub at_point i
 
-    viewed_own : Viewed (home s depth) (is_observer s) (known_gone (home s depth) (GoneElsewhere program effects older)) views (view_here s state) facts_now
+    viewed_own : Viewed (home s depth) (is_observer s) (known_gone (home s depth) (GoneElsewhere program effects older)) views (view_here s state) own_facts
     viewed_own = subst (Viewed (home s depth) (is_observer s) (known_gone (home s depth) (GoneElsewhere program effects older)) views (view_here s state)) (facts_are state top older outer named p frames of_sub at_point path) viewed_before
 
-    -- with the views of those that wait
+    -- ---- which package objects it uses
+
+    sub_at_all : flow_sub_at program top.frame.sub ≡ flow_sub own named
+    sub_at_all = sub_at_number table typed top.frame.sub named of_sub _
+
+    sub_less : top.frame.sub < length program.subs
+    sub_less = sub_in_range table typed top.frame.sub named of_sub
+
+    -- none that a frame around has moved
+    unused_here : (f : Fact) → Has handed_on f
+        → (name : PlaceName) × (f ≡ Moved name) × (is_package_object s name.root ≡ true) × (Uses effects top.frame.sub name.root → ⊥)
+    unused_here f has =
+        let found = inherited_from program effects (stages_of older) f has in
+        let view = Has-map_from (λ (z : ViewStage). z.stage) older found.0 found.1 in
+        by_fact f view.0 view.1 (subst (λ z. Has (facts_of program effects z) f) (sym view.2) found.2) found.3
+      where
+        by_fact : (f : Fact) (g : ViewStage) → Has older g → Has (facts_of program effects g.stage) f → is_inherited s f ≡ true
+            → (name : PlaceName) × (f ≡ Moved name) × (is_package_object s name.root ≡ true) × (Uses effects top.frame.sub name.root → ⊥)
+        by_fact (Moved name) g has fact shared =
+            (name, refl, shared, λ uses. unused_there table typed effects unmoved_stage local state top.frame.sub older running.2 g has name fact shared uses)
+        by_fact (Lent l h n) g has fact shared = cc
+
+    act_uses : (x : ℕ) → is_package_object s x ≡ true → (q : FlowPoint) → Has (flow_sub own named).points q → (a : Placed) → Has q.acts a
+        → (act_writes x a.act ≡ true) ⊎ (act_reads x a.act ≡ true) → Uses effects top.frame.sub x
+    act_uses x shared q point a has (inl e) =
+        writes_used program effects ready.accepted.effects_are top.frame.sub (flow_sub own named) sub_at_all sub_less x shared q point a has e
+    act_uses x shared q point a has (inr e) =
+        reads_used program effects ready.accepted.effects_are top.frame.sub (flow_sub own named) sub_at_all sub_less x shared q point a has e
+
+    -- and none of these is lent
+    unlent : (name : PlaceName) → Has handed_on (Moved name) → (l : Loan) (h : ℕ) (m : PlaceName) → Has own_facts (Lent l h m) → name.root ≡ m.root → ⊥
+    unlent name has l h m lends root =
+        let found = unused_here (Moved name) has in
+        let same_name : name ≡ found.0 = moved_same name found.0 found.1 in
+        let shared : is_package_object s m.root ≡ true = ap (is_package_object s) (sym root ∙ ap (λ (z : PlaceName). z.root) same_name) ∙ found.2 in
+        let from = fact_added program effects ready.accepted.effects_are (flow_sub own named) top.before (Lent l h m) lends in
+        found.3 (subst (Uses effects top.frame.sub) (sym root ∙ ap (λ (z : PlaceName). z.root) same_name)
+        (act_uses m.root shared from.0 from.2 from.1 from.3 (lending_uses (from.1).act l h m from.4)))
+
+    borrower_local : (x : ℕ) → is_borrower s x ≡ true → is_package_object s x ≡ false
+    borrower_local x borrows = local x (borrower_anonymous s x borrows)
+
+    one_apart : (a : Placed) → Has (acts_by state top older outer named p frames of_sub at_point s p.instr) a → ends s a.act ≡ false
+        → (f : Fact) → Has handed_on f → forbids a.act f ≡ None
+    one_apart a has fits f there =
+        let found = unused_here f there in
+        let in_point : Has (flow_at own named p).acts a =
+        subst (λ z. Has (acts_by state top older outer named p frames of_sub at_point z p.instr) a) same has in
+        let in_main = in_sub state top older outer named p frames of_sub at_point in
+        ap (forbids a.act) found.1
+        ∙ apart_act s found.0 found.2 borrower_local a.act fits
+        (unless (act_writes (found.0).root a.act) (λ e. found.3 (act_uses (found.0).root found.2 (flow_at own named p) in_main a in_point (inl e))))
+        (unless (act_reads (found.0).root a.act) (λ e. found.3 (act_uses (found.0).root found.2 (flow_at own named p) in_main a in_point (inr e))))
+
+    acts_apart : Spare s (acts_by state top older outer named p frames of_sub at_point s p.instr) → (a : Act) → Has (acts_of_main p.instr) a
+        → (f : Fact) → Has handed_on f → forbids a f ≡ None
+    acts_apart spare a has f there =
+        let from = Has-map_from (λ (z : Placed). z.act) (acts_by state top older outer named p frames of_sub at_point s p.instr) a has in
+        ap (λ z. forbids z f) (sym from.2)
+        ∙ one_apart from.0 from.1 (spare_has s (acts_by state top older outer named p frames of_sub at_point s p.instr) spare from.0 from.1) f there
+
+    allowed_now : Spare s (acts_by state top older outer named p frames of_sub at_point s p.instr) → AllowsAll own_facts (acts_of_main p.instr)
+        → AllowsAll facts_now (acts_of_main p.instr)
+    allowed_now spare allows = allowed_beside (acts_of_main p.instr) facts_now own_facts handed_on from_both allows (acts_apart spare)
+
+    own_views : (x : ℕ) (w : Way) → views.way x ≡ Some w → is_package_object s x ≡ false
+    own_views x w has = local x (holds.only x w has)
+
+    package_plain : (x : ℕ) → is_package_object s x ≡ true → is_observer s x ≡ false
+    package_plain x shared = unless (is_observer s x) (λ sees. true_false (is_package_object s x) shared (local x (observer_anonymous s x sees)))
+
+    -- with the views of those that wait, and their facts on package objects
     viewed : Viewed (home s depth) (is_observer s) other views (view_here s state) facts_now
-    viewed = record {
-      owned = viewed_own.owned;
-      covered = viewed_own.covered;
-      known = viewed_own.known;
-      clear = viewed_own.clear;
-      views = viewed_own.views;
-      far = λ w n keeps. far table typed effects unmoved_stage local state depth older between w n keeps;
-    }
+    viewed = with_them table typed effects unmoved_stage local state depth older between views (view_here s state) own_facts own_views package_plain unlent
+        (record {
+          owned = viewed_own.owned;
+          covered = viewed_own.covered;
+          known = viewed_own.known;
+          clear = viewed_own.clear;
+          views = viewed_own.views;
+          far = λ w n keeps. far table typed effects unmoved_stage local state depth older between w n keeps;
+        })
 
     -- and without them
-    apart_from_them : (v : Views) (view : ways.View) (fs : List Fact) → Viewed (home s depth) (is_observer s) other v view fs
-        → Viewed (home s depth) (is_observer s) (known_gone (home s depth) (GoneElsewhere program effects older)) v view fs
-    apart_from_them v view fs well = record {
-      owned = well.owned;
-      covered = well.covered;
-      known = well.known;
-      clear = well.clear;
-      views = well.views;
-      far = λ w n none. absurd none;
-    }
+    apart_from_them : (done : List Act) (v : Views) (view : ways.View) → ((x : ℕ) (w : Way) → v.way x ≡ Some w → is_anonymous (view_of s x) ≡ true)
+        → Viewed (home s depth) (is_observer s) other v view (after done facts_now)
+        → Viewed (home s depth) (is_observer s) (known_gone (home s depth) (GoneElsewhere program effects older)) v view (after done own_facts)
+    apart_from_them done v view only well =
+        without_them table typed effects unmoved_stage local state depth older between v view (after done facts_now) (after done own_facts)
+        (λ x w has. local x (only x w has)) (after_more done own_facts facts_now (λ f has. Has-append_left own_facts handed_on f has))
+        (after_splits done facts_now own_facts handed_on from_both) well
+
+    placed_own : ArePlaced program own_facts views p.scope
+    placed_own = subst (λ z. ArePlaced program z views p.scope) (facts_are state top older outer named p frames of_sub at_point path) placed_before
+
+    placed_by : (some all : List Fact) (v : Views) (scope_there : List ℕ) → ((h : ℕ) (m : PlaceName) → Has some (Lent Observed h m) → Has all (Lent Observed h m))
+        → ArePlaced program some v scope_there → ArePlaced program all v scope_there
+    placed_by some all v scope_there lends there x w has = (let old = there x w has in record {
+      within = old.within;
+      up = old.up;
+      root = old.root;
+      holder = λ sees. (let h = old.holder sees in (h.0, lends h.0 (ways.name_of (v.loan x)) h.1, h.2));
+    })
 
     placed : ArePlaced program facts_now views p.scope
-    placed = subst (λ z. ArePlaced program z views p.scope) (facts_are state top older outer named p frames of_sub at_point path) placed_before
+    placed = placed_by own_facts facts_now views p.scope (λ h m has. Has-append_left own_facts handed_on (Lent Observed h m) has) placed_own
+
+    -- loans are those of the frame
+    own_loans : (done : List Act) (h : ℕ) (m : PlaceName) → Has (after done facts_now) (Lent Observed h m) → Has (after done own_facts) (Lent Observed h m)
+    own_loans done h m has = elim (after_splits done facts_now own_facts handed_on from_both (Lent Observed h m) has) [
+      | inl mine ↦ mine
+      | inr there ↦ (let never : false ≡ true = (inherited_from program effects (stages_of older) (Lent Observed h m) there).3 in cc)
+    ]
+
+    -- what is handed on is of no object of the frame
+    not_handed : (name : PlaceName) → Has handed_on (Moved name) → is_package_object s name.root ≡ false → ⊥
+    not_handed name has own_root = true_false (is_package_object s name.root) (inherited_from program effects (stages_of older) (Moved name) has).3 own_root
+
+    not_at_home : (x : ℕ) (name : PlaceName) → Has handed_on (Moved name) → name.root ≡ x → depth ≡ home s depth x → ⊥
+    not_at_home x name has root at_home =
+        let shared : is_package_object s x ≡ true = ap (is_package_object s) (sym root) ∙ (inherited_from program effects (stages_of older) (Moved name) has).3 in
+        let none : depth ≡ 0 = at_home ∙ ap (λ b. if b then 0 else depth) shared in omega (arith, none)
 
     none_takes : taken main_turn.point.instr ≡ 0
     none_takes = takes state top older outer named p frames of_sub at_point
@@ -558,11 +695,11 @@ module _ (table : Table) (typed : TypedProgram) (effects : Effects) (input : Lis
     -- those that wait do so still
     wait_still : (next : State) (after_scope : List ℕ) → Inside s IsOld next.memory depth after_scope → OthersKept s depth state.memory next.memory
         → ((w : Way) (n : ℕ) → KeptElsewhere table typed effects unmoved_stage local older w n → ways.Reaches (view_here s next) w (ways.OfCell n))
-        → AreWaiting table typed effects next older
+        → AreWaiting table typed effects next top.frame.sub older
     wait_still next after_scope in_there stay reach =
         all_on table typed effects unmoved_stage local state next depth (still next.memory after_scope in_there)
         (λ f x some less view. stay f x (λ first. omega (arith, some, first)) (λ same_depth. omega (arith, less, same_depth)))
-        older outer stages (omega arith) (λ g has x w is. reach w (g.views.cell x) (g, has, x, is, refl)) running.2
+        top.frame.sub older outer stages (omega arith) (λ g has x w is. reach w (g.views.cell x) (g, has, x, is, refl)) running.2
 
     with_successors : (i : Instruction) (n : ℕ) → p.instr ≡ i → n < successors i → n < successors main_turn.point.instr
     with_successors i n e less = subst (λ z. n < successors z) (sym e) less
@@ -639,9 +776,18 @@ module _ (table : Table) (typed : TypedProgram) (effects : Effects) (input : Lis
 
       unused : (x : ℕ) (v : TypedTree) → p.instr ≡ Declare x v → is_package_object s x ≡ false → Unused views facts_now x
       unused x v e mine = record {
-        unmoved = new_before state top older outer named p frames of_sub at_point path x v e;
+        unmoved = λ name has root. elim (from_both (Moved name) has) [
+          | inl mine_fact ↦ new_before state top older outer named p frames of_sub at_point path x v e name mine_fact root
+          | inr there ↦ not_handed name there (ap (is_package_object s) root ∙ mine)
+        ];
         untaken = λ z w has off root. unrooted x v e (number_of (views.up z)) z mine (placed z w has).up root;
       }
+
+      unmoved_now : (x : ℕ) (v : TypedTree) → p.instr ≡ Declare x v → (name : PlaceName) → Has facts_now (Moved name) → name.root ≡ x → depth ≡ home s depth x → ⊥
+      unmoved_now x v e name has root at_home = elim (from_both (Moved name) has) [
+        | inl mine ↦ new_before state top older outer named p frames of_sub at_point path x v e name mine root
+        | inr there ↦ not_at_home x name there root at_home
+      ]
 
       blank : (x : ℕ) (v : TypedTree) → p.instr ≡ Declare x v → (q : List Step) (w : ways.Word)
           → word_in s.table (content s state.memory [] (OfRoot (OfVariable depth x))) q ≡ w
@@ -655,7 +801,7 @@ module _ (table : Table) (typed : TypedProgram) (effects : Effects) (input : Lis
           let root : ways.Root = OfVariable depth x in
           let w : Way = along (ways.Object root) q in
           absurd (not_gone main_turn ready.accepted.settled ready.owns other alone no_in_formals views ready.class.parts_named may frames none_takes
-          x facts_now (view_here s state) viewed (new_before state top older outer named p frames of_sub at_point path x v e) (free x v e) q
+          x facts_now (view_here s state) viewed (unmoved_now x v e) (free x v e) q
           (viewed.known w (ways.part (OfRoot root) q) (rooted_along (ways.Object root) q tt)
           (reaches_along (view_here s state) (ways.Object root) (OfRoot root) q refl)
           (word_root s.table (content s state.memory (waiting_in state)) root q ∙ is)))
@@ -665,10 +811,12 @@ module _ (table : Table) (typed : TypedProgram) (effects : Effects) (input : Lis
       unfolding has_call
       declares x v e text calls allowed_there keep = by_view (is_anonymous (view_of s x)) refl
         where
-          after_it : (name : PlaceName) → Has (after (acts_of_main (Declare x v)) facts_now) (Moved name) → name.root ≡ x → ⊥
-          after_it name has root =
-              new_after state top older outer named p frames of_sub at_point path x v e plain_calls name
-              (subst (λ i. Has (after (acts_of_main i) facts_now) (Moved name)) (sym e) has) root
+          after_it : (name : PlaceName) → Has (after (acts_of_main (Declare x v)) facts_now) (Moved name) → name.root ≡ x → depth ≡ home s depth x → ⊥
+          after_it name has root at_home = elim (after_splits (acts_of_main (Declare x v)) facts_now own_facts handed_on from_both (Moved name) has) [
+            | inl mine ↦ new_after state top older outer named p frames of_sub at_point path x v e plain_calls name
+                (subst (λ i. Has (after (acts_of_main i) own_facts) (Moved name)) (sym e) mine) root
+            | inr there ↦ not_at_home x name there root at_home
+          ]
 
           from_source : (w : TypedTree) → v ≡ w → (q : Pos) (y u : ℕ) (source : TypedTree) → w ≡ More (Name q y source u) NoMore → is_anonymous (view_of s x) ≡ true
               → Lasts program p.scope y x → (is_observer s x ≡ false → (is_observer s y ≡ false) × (y < x))
@@ -887,23 +1035,29 @@ module _ (table : Table) (typed : TypedProgram) (effects : Effects) (input : Lis
 
       -- ---- the next point
 
-      lent_on : (h : ℕ) (n : PlaceName) → Has facts_now (Lent Observed h n) → Has (after (acts_of_main p.instr) facts_now) (Lent Observed h n)
-      lent_on h n has =
-          loans_stay (acts_by state top older outer named p frames of_sub at_point s p.instr) (spare_acts (record { typing = s; result = named.sub.result; roots = roots state top older outer named p frames of_sub at_point }) p.pos p.instr plain_calls going) facts_now Observed h n has
+      abbrev sparing : Type 0
+      sparing = Spare s (acts_by state top older outer named p frames of_sub at_point s p.instr)
 
-      then_on : (outcome : Outcome) → LeadsFrom p.instr outcome → GoesFrom p.instr outcome
+      spares : (p.instr ≡ Finish → ⊥) → sparing
+      spares end =
+          spare_acts (record { typing = s; result = named.sub.result; roots = roots state top older outer named p frames of_sub at_point }) p.pos p.instr plain_calls going end
+
+      lent_on : sparing → (h : ℕ) (n : PlaceName) → Has facts_now (Lent Observed h n) → Has (after (acts_of_main p.instr) facts_now) (Lent Observed h n)
+      lent_on spare h n has = loans_stay s (acts_by state top older outer named p frames of_sub at_point s p.instr) spare facts_now Observed h n has
+
+      then_on : sparing → (outcome : Outcome) → LeadsFrom p.instr outcome → GoesFrom p.instr outcome
           → Each (λ (next : State). OthersKept s depth state.memory next.memory) outcome → LeadsOn table typed effects outcome
-      then_on (Ends how after_step) leads on stay = leads
-      then_on (Goes after_step) (turned_views, turned, well) on stay =
+      then_on spare (Ends how after_step) leads on stay = leads
+      then_on spare (Goes after_step) (turned_views, turned, well) on stay =
           let next = successor_there main_turn on.k (subst (λ z. on.k < z) (sym successors_there) on.less) in
           let q = next_at state top older outer named p frames of_sub at_point path next.0 next.2 in
           let lead : Leads s (scope_behind p) (q.0).scope = subst (λ z. Leads z (scope_behind p) (q.0).scope) (sym same) q.2 in
           let there = turned_placed main_turn ready.accepted.settled ready.owns other alone no_in_formals views ready.class.parts_named p.scope (scope_behind p) frames none_takes
-          ready.orderly.transitive ready.orderly.itself local holds.only more turned_views facts_now (after (acts_of_main p.instr) facts_now) lent_on placed turned in
+          ready.orderly.transitive ready.orderly.itself local holds.only more turned_views facts_now (after (acts_of_main p.instr) facts_now) (lent_on spare) placed turned in
           let placed_next = placed_on program (after (acts_of_main p.instr) facts_now) turned_views (scope_behind p) (q.0).scope well.holds.only lead there in
           goes_to_next state top older outer named p frames of_sub at_point path plain_calls after_step on.loops next.0 next.2 q.0 q.1 (on.frames next.0 next.1) deep stages turned_views
           (running.0, (refl, running.1.1, running.1.2), wait_still after_step (brought p.instr p.scope) on.inside stay well.viewed.far)
-          (apart_from_them turned_views (view_here s after_step) (after (acts_of_main p.instr) facts_now) well.viewed) well.kept
+          (apart_from_them (acts_of_main p.instr) turned_views (view_here s after_step) well.holds.only well.viewed) well.kept
           (scope_on s ready.owns after_step.memory depth (scope_behind p) (q.0).scope
           (subst (InScope s after_step.memory depth) (sym scope_is) (in_scope after_step.memory (brought p.instr p.scope) on.inside)) lead)
           (record {
@@ -911,14 +1065,16 @@ module _ (table : Table) (typed : TypedProgram) (effects : Effects) (input : Lis
             within = λ x n view e. (let own_way = well.holds.held x n view e in (placed_next x own_way.0 own_way.1).within);
             only = well.holds.only;
           })
-          placed_next (still_above after_step.memory stay)
+          (placed_by (after (acts_of_main p.instr) facts_now) (after (acts_of_main p.instr) own_facts) turned_views (q.0).scope (own_loans (acts_of_main p.instr)) placed_next)
+          (still_above after_step.memory stay)
 
       goes_plainly : (p.instr ≡ Finish → ⊥) → LeadsOn table typed effects (turn main_turn p.instr)
       goes_plainly end =
           let text = subst (λ r. IsFine s r p.instr) no_result (fine state top older outer named p frames of_sub at_point) in
-          let both = each_instruction p.instr refl end text plain_calls (allowed state top older outer named p frames of_sub at_point path plain_calls)
+          let both = each_instruction p.instr refl end text plain_calls
+          (allowed_now (spares end) (allowed state top older outer named p frames of_sub at_point path plain_calls))
           (keeps_there state top older outer named p frames of_sub at_point) in
-          then_on (turn main_turn p.instr) both.0 both.1 (others_keep main_turn p.instr text plain_calls end)
+          then_on (spares end) (turn main_turn p.instr) both.0 both.1 (others_keep main_turn p.instr text plain_calls end)
 
     -- ---- the end of a scope
 
@@ -940,7 +1096,16 @@ module _ (table : Table) (typed : TypedProgram) (effects : Effects) (input : Lis
           (subst (λ z. Leads z (scope_behind p) (at_next_point.0).scope) (sym same) at_next_point.2)
 
       end_allowed : AllowsAll facts_now (acts_of_main (EndScope y))
-      end_allowed = subst (λ i. AllowsAll facts_now (acts_of_main i)) is (allowed state top older outer named p frames of_sub at_point path (ap calls_nothing is))
+      end_allowed =
+          allowed_beside (acts_of_main (EndScope y)) facts_now own_facts handed_on from_both
+          (subst (λ i. AllowsAll own_facts (acts_of_main i)) is (allowed state top older outer named p frames of_sub at_point path (ap calls_nothing is)))
+          (λ a has f there. elim has [
+            | inl end_act ↦ (
+                let found = unused_here f there in
+                ap (λ z. forbids z f) (sym end_act) ∙ ap (forbids (act.EndScope y (is_borrower s y))) found.1
+                ∙ apart_end s found.0 found.2 borrower_local y (is_borrower s y) not_shared)
+            | inr never ↦ absurd never
+          ])
 
       abbrev left_views : Views
       left_views =
@@ -957,22 +1122,25 @@ module _ (table : Table) (typed : TypedProgram) (effects : Effects) (input : Lis
       then_left (Ends how after_step) leads on stay = absurd leads
       then_left (Goes after_step) (still_viewed, still_kept, memory) on stay =
           let facts_are_there : after (acts_of_main (EndScope y)) facts_now ≡ after (acts_of_main p.instr) facts_now = ap (λ i. after (acts_of_main i) facts_now) (sym is) in
-          let frames_there = on.frames next_point.0 (ap (successor main_turn) (only_first on.k (subst (λ z. on.k < z) (ap successors is) on.less)) ∙ next_point.1) in
-          goes_to_next state top older outer named p frames of_sub at_point path (ap calls_nothing is) after_step on.loops next_point.0 next_point.2 at_next_point.0 at_next_point.1
-          frames_there deep stages left_views (running.0, (refl, running.1.1, running.1.2), wait_still after_step (drop 1 p.scope) on.inside stay still_viewed.far)
-          (apart_from_them left_views (view_here s after_step) (after (acts_of_main p.instr) facts_now)
-          (subst (Viewed (home s depth) (is_observer s) other left_views (view_here s after_step)) facts_are_there still_viewed)) still_kept
-          (scope_on s ready.owns after_step.memory depth (drop 1 p.scope) (at_next_point.0).scope (in_scope after_step.memory (drop 1 p.scope) on.inside) lead)
+          let still_holds : HoldsAt s depth left_views after_step.memory at_next_point.0 =
           (subst (λ z. HoldsAt s depth left_views z at_next_point.0) (sym memory)
           (holds_left main_turn ready.accepted.settled ready.owns other alone no_in_formals views ready.class.parts_named no_source frames none_takes
           p at_next_point.0 y is (home_frame y not_shared) not_shared (ready_there (EndScope y) is) ready.orderly.local (λ x within off. orderly.ended y x is within off)
           (λ x within sees region. orderly.followed y x is at_next_point.0 (next_point.0, next_point.2, at_next_point.1) within sees region)
-          lead facts_now end_allowed.0 viewed kept holds placed))
+          lead facts_now end_allowed.0 viewed kept holds placed)) in
+          let frames_there = on.frames next_point.0 (ap (successor main_turn) (only_first on.k (subst (λ z. on.k < z) (ap successors is) on.less)) ∙ next_point.1) in
+          goes_to_next state top older outer named p frames of_sub at_point path (ap calls_nothing is) after_step on.loops next_point.0 next_point.2 at_next_point.0 at_next_point.1
+          frames_there deep stages left_views (running.0, (refl, running.1.1, running.1.2), wait_still after_step (drop 1 p.scope) on.inside stay still_viewed.far)
+          (apart_from_them (acts_of_main p.instr) left_views (view_here s after_step) still_holds.only
+          (subst (Viewed (home s depth) (is_observer s) other left_views (view_here s after_step)) facts_are_there still_viewed)) still_kept
+          (scope_on s ready.owns after_step.memory depth (drop 1 p.scope) (at_next_point.0).scope (in_scope after_step.memory (drop 1 p.scope) on.inside) lead)
+          still_holds
+          (placed_by (after (acts_of_main p.instr) facts_now) (after (acts_of_main p.instr) own_facts) left_views (at_next_point.0).scope (own_loans (acts_of_main p.instr))
           (subst (λ z. ArePlaced program z left_views (at_next_point.0).scope) facts_are_there
           (placed_left main_turn ready.accepted.settled ready.owns other alone no_in_formals views ready.class.parts_named no_source frames none_takes
           p at_next_point.0 y is (home_frame y not_shared) not_shared (ready_there (EndScope y) is) ready.orderly.local (λ x within off. orderly.ended y x is within off)
           (λ x within sees region. orderly.followed y x is at_next_point.0 (next_point.0, next_point.2, at_next_point.1) within sees region)
-          lead facts_now end_allowed.0 viewed kept holds placed)) (still_above after_step.memory stay)
+          lead facts_now end_allowed.0 viewed kept holds placed))) (still_above after_step.memory stay)
 
       ends_scope : LeadsOn table typed effects (turn main_turn (EndScope y))
       ends_scope =
@@ -1009,16 +1177,16 @@ module _ (table : Table) (typed : TypedProgram) (effects : Effects) (input : Lis
             (named_plain s.table (object_at s x).of (scalar_named s.table (object_at s x).of (ready.class.formals x formal))))
 
     -- no part of a package object is moved then
-    whole_packages : p.instr ≡ Finish → (name : PlaceName) → Has facts_now (Moved name) → is_package_object s name.root ≡ true → ⊥
+    whole_packages : p.instr ≡ Finish → (name : PlaceName) → Has own_facts (Moved name) → is_package_object s name.root ≡ true → ⊥
     whole_packages is name has shared =
-        let finishing : AllowsAll facts_now (acts_of_main Finish) =
-        subst (λ i. AllowsAll facts_now (acts_of_main i)) is (allowed state top older outer named p frames of_sub at_point path (ap calls_nothing is)) in
+        let finishing : AllowsAll own_facts (acts_of_main Finish) =
+        subst (λ i. AllowsAll own_facts (acts_of_main i)) is (allowed state top older outer named p frames of_sub at_point path (ap calls_nothing is)) in
         returns_whole program effects ready.accepted.effects_are own named top.before finishing.0 name has
         (sym (ap (λ z. is_package_object z name.root) same) ∙ shared)
 
     module _ (h : ViewStage) (others : List ViewStage) (stages_there : AreStages (stages_of (below ∷ (h ∷ others))) (below.stage.frame ∷ rest))
-        (waiting : AreWaiting table typed effects state (below ∷ (h ∷ others)))
-        (well : Viewed (home s depth) (is_observer s) (known_gone (home s depth) (GoneElsewhere program effects (below ∷ (h ∷ others)))) views (view_here s state) facts_now)
+        (waiting : AreWaiting table typed effects state top.frame.sub (below ∷ (h ∷ others)))
+        (well : Viewed (home s depth) (is_observer s) (known_gone (home s depth) (GoneElsewhere program effects (below ∷ (h ∷ others)))) views (view_here s state) own_facts)
         (is : p.instr ≡ Finish) (mid : Memory)
         (on : Enters s ready.accepted.settled ready.owns (waiting_in state) state.leaks state.memory mid) where
       abbrev mid_state : State
@@ -1030,10 +1198,10 @@ module _ (table : Table) (typed : TypedProgram) (effects : Effects) (input : Lis
       nothing_mid : (x : ℕ) (q : List Step) (n : ℕ) → word_in s.table (content s mid (waiting_in state) (OfRoot (OfVariable depth x))) q ≡ Held n → ⊥
       nothing_mid x q n held = nothing_left is x q n (sym (on.hold depth x q) ∙ held)
 
-      well_mid : Viewed (home s depth) (is_observer s) (known_gone (home s depth) (GoneElsewhere program effects (below ∷ (h ∷ others)))) views (view_here s mid_state) facts_now
+      well_mid : Viewed (home s depth) (is_observer s) (known_gone (home s depth) (GoneElsewhere program effects (below ∷ (h ∷ others)))) views (view_here s mid_state) own_facts
       well_mid =
           same_viewed (home s depth) (is_observer s) (known_gone (home s depth) (GoneElsewhere program effects (below ∷ (h ∷ others)))) views
-          (view_here s state) (view_here s mid_state) facts_now on.same well
+          (view_here s state) (view_here s mid_state) own_facts on.same well
 
       scope_mid : InScope s mid depth p.scope
       scope_mid f x q n held = scope f x q n (sym (on.hold f x q) ∙ held)
@@ -1041,15 +1209,15 @@ module _ (table : Table) (typed : TypedProgram) (effects : Effects) (input : Lis
       above_mid : NoneAbove s depth mid
       above_mid f x n less view e = above f x n less view (sym (on.views f x view) ∙ e)
 
-      waiting_mid : AreWaiting table typed effects mid_state (below ∷ (h ∷ others))
+      waiting_mid : AreWaiting table typed effects mid_state top.frame.sub (below ∷ (h ∷ others))
       waiting_mid =
           all_same table typed effects unmoved_stage local state mid_state depth (λ f x q n some less held. (q, n, sym (on.hold f x q) ∙ held))
-          (λ f x some less view. on.views f x view) on.same (below ∷ (h ∷ others)) (below.stage.frame ∷ rest) stages_there (omega arith) waiting
+          (λ f x some less view. on.views f x view) on.same top.frame.sub (below ∷ (h ∷ others)) (below.stage.frame ∷ rest) stages_there (omega arith) waiting
 
       abbrev left_memory : Memory
       left_memory = without_frame depth mid
 
-      abbrev waits : IsWaiting table typed effects mid_state below
+      abbrev waits : IsWaiting table typed effects mid_state top.frame.sub below
       waits = waiting_mid.0
 
       hands_left : waiting_in left_state ≡ waiting_in state
@@ -1148,15 +1316,15 @@ module _ (table : Table) (typed : TypedProgram) (effects : Effects) (input : Lis
         | inr ne ↦ above_mid f x n (higher f low (length rest) less low_is ne) view (sym (words_before f x ne) ∙ e)
       ]
 
-      others_left : AreWaiting table typed effects left_state (h ∷ others)
+      others_left : AreWaiting table typed effects left_state below.stage.frame.sub (h ∷ others)
       others_left =
           all_on table typed effects unmoved_stage local mid_state left_state depth
           (λ f x q n some less held. (q, n, (held_before f x q n held).1))
           (λ f x some less view. words_before f x (λ same_depth. omega (arith, less, same_depth)))
-          (h ∷ others) rest stages_there.2 (omega arith)
-          (λ g has x w there. elim (all_between table typed effects unmoved_stage local mid_state depth (h ∷ others) rest stages_there.2 (omega arith) waiting_mid.1 g has) [
+          below.stage.frame.sub (h ∷ others) rest stages_there.2 (omega arith)
+          (λ g has x w there. elim (all_between table typed effects unmoved_stage local mid_state below.stage.frame.sub depth (h ∷ others) rest stages_there.2 (omega arith) waiting_mid.1 g has) [
             | inl first ↦ absurd (none_some w (sym (first.2 x) ∙ there))
-            | inr (some, less, waits_there) ↦ reach_on w (g.views.cell x) (waits_there.views x w there).reaches
+            | inr (some, less, under, waits_there) ↦ reach_on w (g.views.cell x) (waits_there.views x w there).reaches
           ]) waiting_mid.1
 
       -- the frame below goes on
@@ -1203,15 +1371,15 @@ module _ (table : Table) (typed : TypedProgram) (effects : Effects) (input : Lis
         no_end x end = (let no : Finish ≡ EndScope x = sym is ∙ end in cc)
 
         by_rest : (r : List Frame) (m : List ViewStage) → rest ≡ r → AreStages (stages_of (below ∷ m)) (below.stage.frame ∷ r)
-            → AreWaiting table typed effects state (below ∷ m)
-            → Viewed (home s depth) (is_observer s) (known_gone (home s depth) (GoneElsewhere program effects (below ∷ m))) views (view_here s state) facts_now
+            → AreWaiting table typed effects state top.frame.sub (below ∷ m)
+            → Viewed (home s depth) (is_observer s) (known_gone (home s depth) (GoneElsewhere program effects (below ∷ m))) views (view_here s state) own_facts
             → LeadsOn table typed effects (turn main_turn Finish)
         by_rest [] [] same_rest stages_there waiting well =
             ends_lead main_turn (LeadsOn table typed effects) (λ m. Enters s ready.accepted.settled ready.owns (waiting_in state) state.leaks state.memory m)
             (ends_raised no_end) below.stage.frame (ap (λ z. below.stage.frame ∷ z) same_rest)
             (λ m on. (
             let well_then = same_viewed (home s depth) (is_observer s) (known_gone (home s depth) (GoneElsewhere program effects (below ∷ []))) views
-            (view_here s state) (view_here s (record state { memory = m })) facts_now on.same well in (
+            (view_here s state) (view_here s (record state { memory = m })) own_facts on.same well in (
               (λ trap. trap),
               ended_owned s ready.accepted.settled ready.owns (record state { memory = m }) top.frame outer depth frames plain
                   (λ x q n held. nothing_left is x q n (sym (on.hold depth x q) ∙ held)) well_then.owned well_then.covered,
@@ -1279,13 +1447,24 @@ module _ (table : Table) (typed : TypedProgram) (effects : Effects) (input : Lis
           ∙ ap (λ z. acts (values ++ copies) ++ z) (called_are program effects ready.accepted.effects_are p.pos n actuals None)
 
       abbrev facts_called : List Fact
-      facts_called = after (acts (values ++ copies)) facts_now
+      facts_called = after (acts (values ++ copies)) own_facts
+
+      abbrev called_beside : List Fact
+      called_beside = after (acts (values ++ copies)) facts_now
+
+      each_allowed : AllowsAll own_facts (acts (values ++ copies)) × AllowsAll facts_called (globals_of program effects n)
+      each_allowed =
+          allows_both own_facts (acts (values ++ copies)) (globals_of program effects n)
+          (subst (AllowsAll own_facts) call_acts (allowed_whole state top older outer named p frames of_sub at_point path))
+
+      spare_call : Spare s (values ++ copies)
+      spare_call = spare_both s values copies (spare_reads s values reads_there) (spare_copies s ready.owns formals actuals)
 
       values_allowed : AllowsAll facts_now (acts values)
       values_allowed =
           (allows_both facts_now (acts values) (acts copies) (subst (AllowsAll facts_now) (acts_append values copies)
-          (allows_both facts_now (acts (values ++ copies)) (globals_of program effects n)
-          (subst (AllowsAll facts_now) call_acts (allowed_whole state top older outer named p frames of_sub at_point path))).0)).0
+          (subst (λ z. AllowsAll facts_now (acts z)) values_are
+          (allowed_now (subst (Spare s) (sym values_are) spare_call) (subst (λ z. AllowsAll own_facts (acts z)) (sym values_are) each_allowed.0))))).0
 
       abbrev now : Now
       now = record { memory = state.memory; waits = [] }
@@ -1321,7 +1500,7 @@ module _ (table : Table) (typed : TypedProgram) (effects : Effects) (input : Lis
           index_law ready.owns ready.class.parts_named formals actuals passed given
 
       -- the state is sound with views under the facts after the acts
-      acted_now : (passed : List Passed) → Given passed → Viewed (home s depth) (is_observer s) other views (view_here s state) facts_called
+      acted_now : (passed : List Passed) → Given passed → Viewed (home s depth) (is_observer s) other views (view_here s state) called_beside
       acted_now passed given =
           subst (Viewed (home s depth) (is_observer s) other views (view_here s state))
           (sym (ap (λ z. after z facts_now) (acts_append values copies) ∙ after_append (acts values) (acts copies) facts_now
@@ -1330,9 +1509,8 @@ module _ (table : Table) (typed : TypedProgram) (effects : Effects) (input : Lis
           index_law ready.owns ready.class.parts_named formals actuals passed facts_now given viewed)
 
       -- loans stay
-      loans_called : (h : ℕ) (m : PlaceName) → Has facts_now (Lent Observed h m) → Has facts_called (Lent Observed h m)
-      loans_called h m has =
-          loans_stay (values ++ copies) (spare_both values copies (spare_reads values reads_there) (spare_copies s ready.owns formals actuals)) facts_now Observed h m has
+      loans_called : (h : ℕ) (m : PlaceName) → Has own_facts (Lent Observed h m) → Has facts_called (Lent Observed h m)
+      loans_called h m has = loans_stay s (values ++ copies) spare_call own_facts Observed h m has
 
       globals : AreGlobal (globals_of program effects n)
       globals = globals_are program effects ready.accepted.effects_are n
@@ -1356,12 +1534,22 @@ module _ (table : Table) (typed : TypedProgram) (effects : Effects) (input : Lis
       facts_there =
           ap (λ (z : FlowSub). facts_before (path_points program effects z) (top.frame.next ∷ top.before)) (sub_is state top older outer named p frames of_sub at_point)
           ∙ facts_whole state top older outer named p frames of_sub at_point path
-          ∙ ap (λ z. after z facts_now) call_acts ∙ after_append (acts (values ++ copies)) (globals_of program effects n) facts_now
+          ∙ ap (λ z. after z own_facts) call_acts ∙ after_append (acts (values ++ copies)) (globals_of program effects n) own_facts
           ∙ global_after (globals_of program effects n) facts_called globals
 
-      own_there : AreOwn s (facts_of program effects waits_stage)
+      -- what the callee uses isn't moved
+      spared_then : (name : PlaceName) → Has facts_called (Moved name) → is_package_object s name.root ≡ true → Uses effects n name.root → ⊥
+      spared_then name has shared uses =
+          let there = used_global program effects ready.accepted.effects_are n name.root called.text_io shared uses in
+          global_apart name name.root refl there.0
+          (global_allowed (globals_of program effects n) facts_called globals each_allowed.1 (act.Global name.root there.0) there.1 (Moved name) has)
+
+      callee_less : n < length program.subs
+      callee_less = sub_in_range table typed n called.procedure.named called.procedure.stands
+
+      own_there : LendOwn s (facts_of program effects waits_stage)
       own_there =
-          subst (λ (z : FlowSub). AreOwn s (facts_before (path_points program effects z) (top.frame.next ∷ top.before)))
+          subst (λ (z : FlowSub). LendOwn s (facts_before (path_points program effects z) (top.frame.next ∷ top.before)))
           (sym (sub_is state top older outer named p frames of_sub at_point))
           (ready.spared (flow_sub own named) (in_program state top older outer named p frames of_sub at_point) top.before top.frame.next
           (path_here state top older outer named p frames of_sub at_point path) n actuals None
@@ -1385,7 +1573,7 @@ module _ (table : Table) (typed : TypedProgram) (effects : Effects) (input : Lis
       next_placed : ArePlaced program facts_called views (at_successor.0).scope
       next_placed =
           placed_on program facts_called views p.scope (at_successor.0).scope holds.only lead_on
-          (λ x w has. (let own_place = placed x w has in record {
+          (λ x w has. (let own_place = placed_own x w has in record {
             within = own_place.within;
             up = own_place.up;
             root = own_place.root;
@@ -1422,12 +1610,15 @@ module _ (table : Table) (typed : TypedProgram) (effects : Effects) (input : Lis
         view_called : called_view ≡ view_here s after_call
         view_called = (λ j. seen s with_all (sym hands_there j) (sym (append-nil state.leaks) j))
 
-        well_called : Viewed (home s depth) (is_observer s) other views (view_here s after_call) facts_called
-        well_called =
-            subst (λ z. Viewed (home s depth) (is_observer s) other views z facts_called) view_called
-            (same_viewed (home s depth) (is_observer s) other views (view_here s state) called_view facts_called enters.same (acted_now passed given))
+        well_beside : Viewed (home s depth) (is_observer s) other views (view_here s after_call) called_beside
+        well_beside =
+            subst (λ z. Viewed (home s depth) (is_observer s) other views z called_beside) view_called
+            (same_viewed (home s depth) (is_observer s) other views (view_here s state) called_view called_beside enters.same (acted_now passed given))
 
-        is_waiting : IsWaiting table typed effects after_call waits_there
+        well_called : Viewed (home s depth) (is_observer s) (known_gone (home s depth) (GoneElsewhere program effects older)) views (view_here s after_call) facts_called
+        well_called = apart_from_them (acts (values ++ copies)) views (view_here s after_call) holds.only well_beside
+
+        is_waiting : IsWaiting table typed effects after_call n waits_there
         is_waiting = record {
           procedure = running.0;
           plain = (refl, running.1.1, running.1.2);
@@ -1443,7 +1634,10 @@ module _ (table : Table) (typed : TypedProgram) (effects : Effects) (input : Lis
             | inl less ↦ absurd (omega (arith, less, deep))
             | inr mine ↦ mine.1
           ];
-          own = own_there;
+          lends = own_there;
+          unmoved = λ name has shared uses. spared_then name (subst (λ z. Has z (Moved name)) facts_there has) shared uses;
+          uses = λ x uses. called_used program effects ready.accepted.effects_are top.frame.sub (flow_sub own named) sub_at_all sub_less n callee_less
+              main_turn.point (in_sub state top older outer named p frames of_sub at_point) actuals None e x uses;
           clear = subst (AreClear (is_observer s)) (sym facts_there) well_called.clear;
           views = subst (λ z. AreViews (home s top.depth) (is_observer s) views (view_here s after_call) z) (sym facts_there)
               (subst (λ d. AreViews (home s d) (is_observer s) views (view_here s after_call) facts_called) (sym deep) well_called.views);
@@ -1457,12 +1651,12 @@ module _ (table : Table) (typed : TypedProgram) (effects : Effects) (input : Lis
           placed = subst (λ z. ArePlaced program z views (at_successor.0).scope) (sym facts_there) next_placed;
         }
 
-        others_wait : AreWaiting table typed effects after_call older
+        others_wait : AreWaiting table typed effects after_call top.frame.sub older
         others_wait =
             all_on table typed effects unmoved_stage local state after_call depth
             (λ f x q k some less held. (q, k, sym (enters.hold f x q) ∙ held))
             (λ f x some less view. enters.views f x view)
-            older outer stages (omega arith) (λ g has x w is. well_called.far w (g.views.cell x) (g, has, x, is, refl)) running.2
+            top.frame.sub older outer stages (omega arith) (λ g has x w is. well_beside.far w (g.views.cell x) (g, has, x, is, refl)) running.2
 
         -- what is gone then is known to those that wait
         known_called : (w : Way) (l : ways.Loc) → ways.IsRooted w → ways.Reaches (view_here s after_call) w l → (view_here s after_call).word l ≡ ways.Gone
@@ -1667,7 +1861,7 @@ module _ (table : Table) (typed : TypedProgram) (effects : Effects) (input : Lis
           let root : ways.Root = OfVariable 0 x in
           let w : Way = along (ways.Object root) q in
           absurd (not_gone first_turn ready.accepted.settled ready.owns nowhere alone_first no_in_formals views ready.class.parts_named no_sources frames first_takes
-          x facts_first (view_here s state) viewed_first (new_before state top [] [] named p frames of_sub at_point path x v e) free_first q
+          x facts_first (view_here s state) viewed_first (λ name has root at_home. new_before state top [] [] named p frames of_sub at_point path x v e name has root) free_first q
           (viewed_first.known w (ways.part (OfRoot root) q) (rooted_along (ways.Object root) q tt)
           (reaches_along (view_here s state) (ways.Object root) (OfRoot root) q refl)
           (word_root s.table (content s state.memory (waiting_in state)) root q ∙ is)))
@@ -1702,7 +1896,7 @@ module _ (table : Table) (typed : TypedProgram) (effects : Effects) (input : Lis
           (subst (λ i. AllowsAll facts_first (acts_first i)) e (allowed state top [] [] named p frames of_sub at_point path (calls_plain x v e)))
           (subst (λ i. AllKeep (is_observer s) (acts_first i)) e (keeps_there state top [] [] named p frames of_sub at_point))
           (λ q. blank_first q (word_in s.table (content s state.memory [] (OfRoot (OfVariable 0 x))) q) refl)
-          (λ name has root. new_after state top [] [] named p frames of_sub at_point path x v e (calls_plain x v e) name
+          (λ name has root at_home. new_after state top [] [] named p frames of_sub at_point path x v e (calls_plain x v e) name
           (subst (λ i. Has (after (acts_first i) facts_first) (Moved name)) (sym e) has) root)
           free_first (λ w n keeps base. keeps)
 

@@ -25,7 +25,7 @@ use Rattle.soundness.specs.Typed.{OwnsByShape}
 use Rattle.soundness.specs.Sound.{Accepted, IsNamedSub, IsAtPoint, IsProcedure}
 use Rattle.soundness.specs.Ready.{stored_at, AreActuals, AreNew}
 use Rattle.viewed_soundness.specs.Holds.{AllKeep}
-use Rattle.viewed_steps.specs.Sound.{IsViewClass, Lasts, AreOwn}
+use Rattle.viewed_steps.specs.Sound.{IsViewClass, Lasts, LendOwn}
 
 -- ---- scopes, package objects and calls
 
@@ -111,12 +111,12 @@ pub record ViewsAreOrderly (table : Table) (typed : TypedProgram) : Type 0 where
   pub kept : (sub : FlowSub) → Has (flow_program table typed).subs sub → (p : FlowPoint) → Has sub.points p
       → AllKeep (is_observer (flow_typing (flow_program table typed))) (map (λ (a : Placed). a.act) p.acts)
 
--- Where a procedure is called, each fact is on an object of the caller.
+-- Where a procedure is called, what is lent is a part of an object of the caller.
 abbrev pub AreSpared : FlowProgram → Effects → Type 0
 AreSpared program effects =
     (sub : FlowSub) → Has program.subs sub → (before : List ℕ) (last : ℕ) → ControlPath (path_points program effects sub) before last
     → (n : ℕ) (actuals : TypedTree) (result : Option ℕ) → (get_or sub.points last no_point).instr ≡ Call n actuals result
-    → AreOwn (flow_typing program) (facts_before (path_points program effects sub) (last ∷ before))
+    → LendOwn (flow_typing program) (facts_before (path_points program effects sub) (last ∷ before))
 
 -- ---- all of it
 

@@ -5,9 +5,10 @@
 use Rattle.std.specs.Prelude.{◌≡◌, ◌⊎◌, ◌<◌, ℕ, true, false, List, [], ◌∷◌, map, get_or, Option, Some, None}
 use Rattle.spark_base.specs.Lists.{Has}
 use Rattle.place_names.specs.declared.fact.Fact.{Fact}
-use Rattle.place_names.specs.declared.fact.Fact.TheVariants.{Lent}
+use Rattle.place_names.specs.declared.fact.Fact.TheVariants.{Moved, Lent}
+use Rattle.place_names.specs.declared.rule.Loan.{Loan}
 use Rattle.place_names.specs.declared.rule.Loan.TheVariants.{Observed}
-use Rattle.place_names.specs.Facts.{place}
+use Rattle.place_names.specs.Names.{Name as PlaceName}
 use Rattle.type_definitions.specs.Types.{Table, full, is_scalar}
 use Rattle.typed_tree.specs.Trees.{TypedTree}
 use Rattle.typed_tree.specs.Programs.{TypedProgram}
@@ -28,7 +29,7 @@ use Rattle.machine.specs.Run.{step}
 use Rattle.owned_ways.specs.Ways.{Step, OfVariable, OfRoot, Held, Way, name_of, number_of}
 use Rattle.soundness.specs.Seen.{content, word_in, home}
 use Rattle.soundness.specs.Typed.{Kept}
-use Rattle.soundness.specs.Sound.{calls_procedures, AreCopied, IsCopied, IsNamedSub, IsAtPoint, IsProcedure, Stage, facts_of, AreStages, IsPlain, InScope, IsTrap}
+use Rattle.soundness.specs.Sound.{calls_procedures, AreCopied, IsCopied, IsNamedSub, IsAtPoint, IsProcedure, Stage, facts_of, AreStages, Uses, IsPlain, InScope, IsTrap}
 use Rattle.soundness.specs.Sound as owners
 use Rattle.owned_loans.specs.Views.{known_gone, Views, IsMovedBy, AreClear, AreViews, Viewed}
 use Rattle.viewed_soundness.specs.Holds.{PartsAreNamed}
@@ -108,14 +109,15 @@ abbrev pub GoneElsewhere : FlowProgram → Effects → List ViewStage → Way �
 GoneElsewhere program effects older w =
     (g : ViewStage) × Has older g × IsMovedBy (home (flow_typing program) g.stage.depth) g.views (facts_of program effects g.stage) w
 
--- Each fact is on an object of the frame.
-abbrev pub AreOwn : Typing → List Fact → Type 0
-AreOwn s facts = (f : Fact) → Has facts f → is_package_object s (place f).root ≡ false
+-- What is lent is a part of an object of the frame.
+abbrev pub LendOwn : Typing → List Fact → Type 0
+LendOwn s facts = (l : Loan) (h : ℕ) (n : PlaceName) → Has facts (Lent l h n) → is_package_object s n.root ≡ false
 
 -- A frame that waits for a call to end. The points that it has executed form a control path to its
 -- next point. What it owns is in scope there, and so are its views, which have their ways still. No
--- fact is on a package object.
-pub record IsWaiting (table : Table) (typed : TypedProgram) (effects : Effects) (state : State) (g : ViewStage) : Type 0 where
+-- part of a package object is lent, and none that the callee uses is moved. What the callee uses, its
+-- caller uses.
+pub record IsWaiting (table : Table) (typed : TypedProgram) (effects : Effects) (state : State) (callee : ℕ) (g : ViewStage) : Type 0 where
   pub procedure : IsProcedure table typed g.stage.frame.sub
   pub plain : IsResting (flow_typing (flow_program table typed)) g.stage
   pub path : ControlPath (path_points (flow_program table typed) effects (sub_of (flow_program table typed) g.stage.frame.sub)) g.stage.before g.stage.frame.next
@@ -126,7 +128,10 @@ pub record IsWaiting (table : Table) (typed : TypedProgram) (effects : Effects) 
   pub scope : (x : ℕ) (p : List Step) (n : ℕ)
       → word_in (flow_program table typed).table (content (flow_typing (flow_program table typed)) state.memory [] (OfRoot (OfVariable g.stage.depth x))) p ≡ Held n
       → is_within x point.scope ≡ true
-  pub own : AreOwn (flow_typing (flow_program table typed)) (facts_of (flow_program table typed) effects g.stage)
+  pub lends : LendOwn (flow_typing (flow_program table typed)) (facts_of (flow_program table typed) effects g.stage)
+  pub unmoved : (name : PlaceName) → Has (facts_of (flow_program table typed) effects g.stage) (Moved name)
+      → is_package_object (flow_typing (flow_program table typed)) name.root ≡ true → Uses effects callee name.root → ⊥
+  pub uses : (x : ℕ) → Uses effects callee x → Uses effects g.stage.frame.sub x
   pub clear : AreClear (is_observer (flow_typing (flow_program table typed))) (facts_of (flow_program table typed) effects g.stage)
   pub views : AreViews (home (flow_typing (flow_program table typed)) g.stage.depth) (is_observer (flow_typing (flow_program table typed))) g.views
       (owners.view_of (flow_typing (flow_program table typed)) state) (facts_of (flow_program table typed) effects g.stage)
@@ -138,10 +143,11 @@ abbrev pub IsFirst : ViewStage → Type 0
 IsFirst e = (e.stage.frame.sub ≡ 0) × IsPlain e.stage × ((x : ℕ) → e.views.way x ≡ None)
 
 -- The frames around one that runs a procedure.
-abbrev pub AreWaiting : Table → TypedProgram → Effects → State → List ViewStage → Type 0
-AreWaiting table typed effects state [] = ⊥
-AreWaiting table typed effects state (e ∷ []) = IsFirst e
-AreWaiting table typed effects state (g ∷ (h ∷ older)) = IsWaiting table typed effects state g × AreWaiting table typed effects state (h ∷ older)
+abbrev pub AreWaiting : Table → TypedProgram → Effects → State → ℕ → List ViewStage → Type 0
+AreWaiting table typed effects state callee [] = ⊥
+AreWaiting table typed effects state callee (e ∷ []) = IsFirst e
+AreWaiting table typed effects state callee (g ∷ (h ∷ older)) =
+    IsWaiting table typed effects state callee g × AreWaiting table typed effects state g.stage.frame.sub (h ∷ older)
 
 -- ---- a state
 
@@ -149,7 +155,8 @@ AreWaiting table typed effects state (g ∷ (h ∷ older)) = IsWaiting table typ
 abbrev pub IsRunning : Table → TypedProgram → Effects → State → ViewStage → List ViewStage → Type 0
 IsRunning table typed effects state top [] = IsFirst top
 IsRunning table typed effects state top (g ∷ older) =
-    IsProcedure table typed top.stage.frame.sub × IsResting (flow_typing (flow_program table typed)) top.stage × AreWaiting table typed effects state (g ∷ older)
+    IsProcedure table typed top.stage.frame.sub × IsResting (flow_typing (flow_program table typed)) top.stage
+    × AreWaiting table typed effects state top.stage.frame.sub (g ∷ older)
 
 -- The innermost frame with its views, those around it, and what holds of them.
 pub record IsSound (table : Table) (typed : TypedProgram) (effects : Effects) (state : State) : Type 0 where

@@ -1,0 +1,155 @@
+-- What the frames around the innermost one say of package objects stands beside its own facts: the places
+-- that they moved. None of its acts concerns them.
+use Rattle.std.proofs.Common.{◌≡◌, refl, sym, ap, ◌∙◌, ◌⊎◌, inl, inr, ℕ, Bool, true, false, not, ◌&&◌, ◌||◌, ◌==◌, eq-eqb, eqb-true, List, [], ◌∷◌, map, None}
+use Rattle.std.specs.Prelude.{filter}
+use Rattle.std.specs.List.{list_any}
+use Rattle.spark_base.specs.Lists.{Has}
+use Rattle.spark_base.proofs.Lists.{Has-append_left, Has-append_right, Has-append_cases, Has-filter, Has-filter_passes}
+use Rattle.place_names.specs.declared.selector.Sel.{Sel}
+use Rattle.place_names.specs.declared.act.Mode.{Mode}
+use Rattle.place_names.specs.declared.act.Mode.TheVariants as mode
+use Rattle.place_names.specs.declared.act.Act.{Act}
+use Rattle.place_names.specs.declared.act.Act.TheVariants as act
+use Rattle.place_names.specs.declared.fact.Fact.{Fact}
+use Rattle.place_names.specs.declared.fact.Fact.TheVariants.{Moved, Lent}
+use Rattle.place_names.specs.declared.rule.Loan.{Loan}
+use Rattle.place_names.specs.declared.rule.Rule.{Rule}
+use Rattle.place_names.specs.Names.{Name, agree_along, agrees_whole, overlaps}
+use Rattle.place_names.specs.Facts.{adds, removes, effect}
+use Rattle.place_names.specs.Rules.{forbidden_if, forbids, breaks_O1, breaks_O3, breaks_O5, breaks_O6, breaks_O7, breaks_O8, breaks_O10, breaks_O2}
+use Rattle.flow_paths.specs.Effects.{act_reads, act_writes, actual_writes}
+use Rattle.flow_paths.specs.Objects.{Typing, is_borrower, is_package_object}
+use Rattle.owned_ways.specs.Ways.{after}
+use Rattle.soundness.proofs.Contents.{bool_cases}
+use Rattle.soundness.proofs.Inherited.{apart_allows}
+use Rattle.viewed_steps.proofs.Lent.{ends}
+
+-- ---- facts among others
+
+effect_more : (a : Act) (some all : List Fact) → ((f : Fact) → Has some f → Has all f) → (f : Fact) → Has (effect a some) f → Has (effect a all) f
+effect_more a some all part f has = elim (Has-append_cases (filter (λ g. not (removes a g)) some) (adds a) f has) [
+  | inr new ↦ Has-append_right (filter (λ g. not (removes a g)) all) (adds a) f new
+  | inl old ↦ (
+      let was = Has-filter (λ g. not (removes a g)) some f old in
+      Has-append_left (filter (λ g. not (removes a g)) all) (adds a) f (Has-filter_passes (λ g. not (removes a g)) all f (part f was.0) was.1))
+]
+
+pub after_more : (more : List Act) (some all : List Fact) → ((f : Fact) → Has some f → Has all f) → (f : Fact) → Has (after more some) f → Has (after more all) f
+after_more [] some all part f has = part f has
+after_more (a ∷ more) some all part f has = after_more more (effect a some) (effect a all) (effect_more a some all part) f has
+
+-- ---- facts and acts of different roots
+
+forbidden_none : (test : Bool) (r : Rule) (m : Name) (f : Fact) → test ≡ false → forbidden_if test r m f ≡ None
+forbidden_none true r m f e = cc
+forbidden_none false r m f e = refl
+
+neither : (a b : Bool) → a ≡ false → b ≡ false → a || b ≡ false
+neither true b e h = cc
+neither false b e h = h
+
+no_kind : (a b : Bool) → a && b ≡ false → a && not b ≡ false → a ≡ false
+no_kind true true e h = cc
+no_kind true false e h = cc
+no_kind false b e h = refl
+
+not_so : (a b : Bool) → a ≡ true → b ≡ false → a ≡ b → ⊥
+not_so true true e h same = cc
+not_so true false e h same = cc
+not_so false b e h same = cc
+
+module _ (s : Typing) (n : Name) (shared : is_package_object s n.root ≡ true)
+    (local : (x : ℕ) → is_borrower s x ≡ true → is_package_object s x ≡ false) where
+  other_root : (r : ℕ) → (r == n.root) ≡ false → (n.root == r) ≡ false
+  other_root r other = elim (bool_cases (n.root == r)) [
+    | inr e ↦ e
+    | inl e ↦ (let same : (r == n.root) ≡ true = eq-eqb r n.root (sym (eqb-true n.root r e)) in let no : true ≡ false = sym same ∙ other in cc)
+  ]
+
+  apart_overlap : (m : Name) → (m.root == n.root) ≡ false → overlaps n m ≡ false
+  apart_overlap m other = ap (λ b. b && agree_along n.sels m.sels) (other_root m.root other)
+
+  apart_lead : (m : Name) → (m.root == n.root) ≡ false → breaks_O2 m (Moved n) ≡ false
+  apart_lead m other = ap (λ b. (b && agrees_whole n.sels m.sels) || false) (other_root m.root other)
+
+  apart_fronts : (r : ℕ) → (r == n.root) ≡ false → (fronts : List (List Sel)) → list_any (λ p. breaks_O2 p (Moved n)) (map (λ front. record { root = r; sels = front }) fronts) ≡ false
+  apart_fronts r other [] = refl
+  apart_fronts r other (front ∷ fronts) =
+      ap (λ b. b || list_any (λ p. breaks_O2 p (Moved n)) (map (λ front. record { root = r; sels = front }) fronts))
+      (apart_lead (record { root = r; sels = front }) other)
+      ∙ apart_fronts r other fronts
+
+  apart_write : (m : Name) → (m.root == n.root) ≡ false → breaks_O3 m (Moved n) ≡ false
+  apart_write m other = ap (λ b. b || false) (apart_fronts m.root other _)
+
+  -- an object of the frame is another one
+  own_root : (x : ℕ) → is_package_object s x ≡ false → (x == n.root) ≡ false
+  own_root x own = elim (bool_cases (x == n.root)) [
+    | inr e ↦ e
+    | inl e ↦ absurd (not_so (is_package_object s n.root) (is_package_object s x) shared own (sym (ap (is_package_object s) (eqb-true x n.root e))))
+  ]
+
+  pub apart_end : (x : ℕ) (borrower : Bool) → is_package_object s x ≡ false → forbids (act.EndScope x borrower) (Moved n) ≡ None
+  apart_end x borrower own =
+      forbidden_none (breaks_O8 x borrower (Moved n)) _ n (Moved n) (second borrower ((x == n.root) || false) (neither (x == n.root) false (own_root x own) refl))
+    where
+      second : (a b : Bool) → b ≡ false → a && b ≡ false
+      second true b e = e
+      second false b e = refl
+
+  apart_actual : (m : Name) (how : Mode) (owning access : Bool) → (m.root == n.root) ≡ false → breaks_O10 m how owning access (Moved n) ≡ false
+  apart_actual m mode.In owning true other = apart_overlap m other
+  apart_actual m mode.In true false other = apart_overlap m other
+  apart_actual m mode.In false false other = refl
+  apart_actual m mode.InOut true access other = apart_overlap m other
+  apart_actual m mode.InOut false access other = neither (breaks_O1 m (Moved n)) (breaks_O3 m (Moved n)) (apart_overlap m other) (apart_write m other)
+  apart_actual m mode.Out owning access other = apart_write m other
+
+  pub apart_act : (a : Act) → ends s a ≡ false → act_writes n.root a ≡ false → act_reads n.root a ≡ false → forbids a (Moved n) ≡ None
+  apart_act (act.Read m) fits writes reads = apart_allows n n.root refl (act.Read m) refl writes reads
+  apart_act (act.Look m) fits writes reads = apart_allows n n.root refl (act.Look m) refl writes reads
+  apart_act (act.Write m) fits writes reads = apart_allows n n.root refl (act.Write m) refl writes reads
+  apart_act (act.Move m parts) fits writes reads = apart_allows n n.root refl (act.Move m parts) refl writes reads
+  apart_act (act.Free m) fits writes reads = apart_allows n n.root refl (act.Free m) refl writes reads
+  apart_act (act.Borrow h m) fits writes reads = forbidden_none (breaks_O5 m (Moved n)) _ m (Moved n) (apart_overlap m writes)
+  apart_act (act.Observe h m from) fits writes reads = forbidden_none (breaks_O6 m (Moved n)) _ m (Moved n) (apart_overlap m reads)
+  apart_act (act.Reborrow b m) fits writes reads =
+      forbidden_none (breaks_O7 b (Moved n)) _ _ (Moved n) (apart_overlap (record { root = b; sels = [] }) (own_root b (local b (borrows (is_borrower s b) fits))))
+    where
+      borrows : (b : Bool) → not b ≡ false → b ≡ true
+      borrows true e = refl
+      borrows false e = cc
+  apart_act (act.EndScope x borrower) fits writes reads = cc
+  apart_act (act.Return roots) fits writes reads = cc
+  apart_act (act.Actual m how owning access) fits writes reads =
+      forbidden_none (breaks_O10 m how owning access (Moved n)) _ m (Moved n)
+      (apart_actual m how owning access (no_kind (m.root == n.root) (actual_writes how access) writes reads))
+  apart_act (act.Global g written) fits writes reads = cc
+  apart_act (act.Give m true) fits writes reads = forbidden_none (breaks_O5 m (Moved n)) _ m (Moved n) (apart_overlap m reads)
+  apart_act (act.Give m false) fits writes reads = forbidden_none (breaks_O6 m (Moved n)) _ m (Moved n) (apart_overlap m reads)
+
+-- what is lent to a view is read or written
+pub lending_uses : (a : Act) (l : Loan) (h : ℕ) (m : Name) → Has (adds a) (Lent l h m) → (act_writes m.root a ≡ true) ⊎ (act_reads m.root a ≡ true)
+lending_uses (act.Borrow b k) l h m (inl e) =
+    inl (let same : k ≡ m = cc in ap (λ (z : Name). z.root == m.root) same ∙ eq-eqb m.root m.root refl)
+lending_uses (act.Borrow b k) l h m (inr never) = absurd never
+lending_uses (act.Observe b k true) l h m never = absurd never
+lending_uses (act.Observe b k false) l h m (inl e) =
+    inr (let same : k ≡ m = cc in ap (λ (z : Name). z.root == m.root) same ∙ eq-eqb m.root m.root refl)
+lending_uses (act.Observe b k false) l h m (inr never) = absurd never
+lending_uses (act.Move k parts) l h m has = absurd (no_loan k parts has)
+  where
+    no_loan : (k : Name) (parts : List (List Sel)) → Has (adds (act.Move k parts)) (Lent l h m) → ⊥
+    no_loan k [] has = has
+    no_loan k (q ∷ parts) (inl e) = cc
+    no_loan k (q ∷ parts) (inr has) = no_loan k parts has
+lending_uses (act.Read k) l h m never = absurd never
+lending_uses (act.Look k) l h m never = absurd never
+lending_uses (act.Write k) l h m never = absurd never
+lending_uses (act.Reborrow b k) l h m never = absurd never
+lending_uses (act.EndScope x borrower) l h m never = absurd never
+lending_uses (act.Return roots) l h m never = absurd never
+lending_uses (act.Actual k how owning access) l h m never = absurd never
+lending_uses (act.Global g written) l h m never = absurd never
+lending_uses (act.Free k) l h m never = absurd never
+lending_uses (act.Give k borrows) l h m never = absurd never
