@@ -1,4 +1,5 @@
 pub mod Passing
 pub mod Parsed
 pub mod Main
+pub mod Functions
 pub mod Views
