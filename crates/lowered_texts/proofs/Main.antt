@@ -16,7 +16,8 @@ use Rattle.typed_texts.specs.Meant.{IsMeant}
 use Rattle.typed_texts.proofs.Main.{types_sorted, text_typed, text_counted}
 use Rattle.run_codes.specs.Lowered.{max_position}
 use Rattle.run_codes.specs.Programs.{lowered_program}
-use Rattle.lowered_files.specs.Code.{code_literals, calls_nothing}
+use Rattle.package_values.specs.Calls.{calls_nothing}
+use Rattle.lowered_files.specs.Code.{code_literals}
 use Rattle.lowered_files.proofs.Programs.{code_lowered}
 
 module _ (p : Program) (none : type_fault p ≡ None) (text : IsMeant p) where
