@@ -1,5 +1,5 @@
 -- The law: a text that has no fault of typing and is meant is lowered.
-use Rattle.std.proofs.Common.{◌≡◌, ℕ, ◌≤◌, true, List, map, None}
+use Rattle.std.proofs.Common.{◌≡◌, ℕ, ◌≤◌, true, map, None}
 use Rattle.spark_base.specs.Lists.{Has}
 use Rattle.resolved_tree.specs.Trees.{Program}
 use Rattle.type_definitions.specs.Whole.{known_of, type_fault}
