@@ -68,10 +68,12 @@ use Rattle.sound_files.proofs.Called.{files_bodies}
 use Rattle.sound_files.proofs.Classes.{are_callees}
 use Rattle.typed_files.proofs.Main.{files_fine, files_steps}
 use Rattle.sound_files.proofs.Main.{files_orderly}
+use Rattle.viewed_steps.specs.Ready.{IsReady}
+use Rattle.viewed_steps.proofs.Main.{ready_sound}
 use Rattle.view_laws.specs.InOrder.{AreViewsInOrder}
 use Rattle.view_laws.specs.Program.{IsViewProgram}
 use Rattle.view_laws.proofs.Spared.{owners_spared}
-use Rattle.view_laws.proofs.Ready.{views_sound}
+use Rattle.view_laws.proofs.Ready.{views_ready}
 use Rattle.viewed_files.specs.Class.{SparePackages}
 use Rattle.viewed_files.proofs.Sources.{scalar_plain}
 use Rattle.viewed_files.proofs.Main.{IsGiven, views_in_order}
@@ -213,10 +215,10 @@ module _ (files : List (List SourceUnit)) where
           subst (λ first. AreViewsInOrder table (typed_of p) first order.rest) (heads _ _ _ _ (sym subs_are ∙ order.subs))
           (subst (λ rest. AreViewsInOrder table (typed_of p) (elaboration (site_of (known_of p) p.units) p.units) rest) rest_is (files_views_in_order main is_main formals_plain))
 
-      called_sound : AreCallees table (typed_of p) (bodies_of p) → CopiesToVariables flow_of_files → ArePassed flow_of_files → SparePackages flow_of_files effects
-          → (input : List ℕ) → RunIsSound table (typed_of p) input
-      called_sound callees copied passed spare =
-          views_sound table (typed_of p) effects view_program
+      called_ready : AreCallees table (typed_of p) (bodies_of p) → CopiesToVariables flow_of_files → ArePassed flow_of_files → SparePackages flow_of_files effects
+          → IsReady table (typed_of p) effects
+      called_ready callees copied passed spare =
+          views_ready table (typed_of p) effects view_program
           (elim spare [
             | inl nothing ↦ owners_spared table (typed_of p) effects view_program nothing
             | inr spared ↦ spared
@@ -236,18 +238,28 @@ module _ (files : List (List SourceUnit)) where
             views = views_here;
           }
 
-      -- Where procedures are called that have bodies, and no package object owns, or no part of one is lent then, each
-      -- moment of each run is well owned, and none is a trap.
-      pub files_called_sound : CopiesToVariables flow_of_files → SparePackages flow_of_files effects → (input : List ℕ) → RunIsSound table (typed_of p) input
-      files_called_sound copied =
+      -- Where procedures are called that have bodies, and no package object owns, or no part of one is lent then, the
+      -- program is ready,
+      pub files_called_ready : CopiesToVariables flow_of_files → SparePackages flow_of_files effects → IsReady table (typed_of p) effects
+      files_called_ready copied =
           let same : table ≡ flow_of_files.table = sym (flow_table table (typed_of p)) in
           let typed : AreStepsTyped flow_of_files = files_steps files apart ended up named no_fault in
-          called_sound (are_callees p (files_bodies files up named) typed calls) copied
+          called_ready (are_callees p (files_bodies files up named) typed calls) copied
           (scalar_passed flow_of_files formals (subst (λ (rows : Table). counts (shape_of rows integer) ≡ true) same laws.whole)
           (subst (λ (rows : Table). lists (shape_of rows boolean) ≡ true) same laws.listed)
           (subst (λ (rows : Table). (t : ℕ) → words rows t ≡ words_of (words rows) (shape_of rows t)) same laws.word_law) typed)
 
+      -- so each moment of each run is well owned, and none is a trap.
+      pub files_called_sound : CopiesToVariables flow_of_files → SparePackages flow_of_files effects → (input : List ℕ) → RunIsSound table (typed_of p) input
+      files_called_sound copied spare input = ready_sound table (typed_of p) effects input (files_called_ready copied spare)
+
   -- So it is if the files are parsed from texts: then their positions are as in a text.
+  pub parsed_called_ready : (texts : List (List Cut)) → AreParsed 0 texts files → name_fault files ≡ None → type_fault p ≡ None → (main : ℕ) → (typed_of p).main ≡ Some main
+      → (effects : Effects) → AreEffects flow_of_files effects → AreReports flow_of_files effects [] → CallsProcedures flow_of_files → HasScalarFormals flow_of_files
+      → CopiesToVariables flow_of_files → SparePackages flow_of_files effects → IsReady table (typed_of p) effects
+  parsed_called_ready texts parsed named no_fault =
+      files_called_ready (files_apart texts files parsed) (files_ended (identified files) texts files parsed) (events_ascend texts files parsed) named no_fault
+
   pub parsed_called_sound : (texts : List (List Cut)) → AreParsed 0 texts files → name_fault files ≡ None → type_fault p ≡ None → (main : ℕ) → (typed_of p).main ≡ Some main
       → (effects : Effects) → AreEffects flow_of_files effects → AreReports flow_of_files effects [] → CallsProcedures flow_of_files → HasScalarFormals flow_of_files
       → CopiesToVariables flow_of_files → SparePackages flow_of_files effects → (input : List ℕ) → RunIsSound table (typed_of p) input
