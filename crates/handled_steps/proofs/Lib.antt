@@ -1,0 +1,13 @@
+-- lists in relation, and frames with more handles
+pub mod Pairs
+-- steps that stop
+pub mod GivenUp
+-- words of types, and frames
+pub mod Tables
+pub mod Frames
+-- how steps begin, go on and end
+pub mod Turns
+-- what is read and stored
+pub mod Gots
+-- points
+pub mod Stores
