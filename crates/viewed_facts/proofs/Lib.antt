@@ -6,3 +6,5 @@ pub mod Stored
 pub mod Instructions
 pub mod Releases
 pub mod Loops
+pub mod Viewing
+pub mod Frames
