@@ -1,6 +1,6 @@
 -- Facts of all frames, as the innermost one has them: its own, those of the frames around on package
 -- objects beside them, and what those frames have moved of their own.
-use Rattle.std.proofs.Common.{◌≡◌, refl, sym, ap, ◌∙◌, subst, ◌⊎◌, inl, inr, ℕ, suc, Bool, true, false, not, ◌&&◌, ◌==◌, List, [], ◌∷◌, ◌++◌, arith, Option, Some, None}
+use Rattle.std.proofs.Common.{◌≡◌, refl, sym, ap, ◌∙◌, subst, ◌⊎◌, inl, inr, ℕ, suc, Bool, true, false, not, ◌&&◌, ◌==◌, List, ◌++◌, arith, Option, Some, None}
 use Rattle.spark_base.specs.Lists.{Has}
 use Rattle.spark_base.proofs.Lists.{Has-append_cases, Has-map, Has-map_from}
 use Rattle.place_names.specs.declared.act.Mode.TheVariants as mode
@@ -172,7 +172,7 @@ module _ (table : Table) (typed : TypedProgram) (effects : Effects)
         ]
 
         by : IsDefiniteHere depth v own older w → IsDefinite (home s depth) v elsewhere all w
-        by (inl (u, (named, has), rest)) = inl (u, (named, mine (Moved (name_of u)) has), rest)
+        by (inl (u, (named, has), plain, leads)) = inl (u, (named, mine (Moved (name_of u)) has), plain, leads)
         by (inr (g, has, d)) = elim (near_or_far depth w) [
           | inr far ↦ inr (named_variable (home s g.stage.depth) w (between_named state depth g (between g has) w d), (far, (g, has, d)))
           | inl near ↦ near_by near g has d (between g has)

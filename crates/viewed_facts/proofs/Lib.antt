@@ -8,3 +8,7 @@ pub mod Releases
 pub mod Loops
 pub mod Viewing
 pub mod Frames
+pub mod Stepping
+pub mod Main
+pub mod Going
+pub mod Runs

@@ -16,7 +16,7 @@ use Rattle.machine.specs.Words as machine
 use Rattle.machine.specs.Memory.{Memory, HeapCell, Place, cell, no_slot, words_of, stored, moved_out, declared, undeclared, with_new_cell}
 use Rattle.machine.specs.Calls.{checked_at}
 use Rattle.machine.specs.States.{Waiting, Leak}
-use Rattle.owned_ways.specs.Ways.{OfVariable, OfHand, Loc, OfRoot, OfCell, Inside, Way, Object, Gone, View, Step, Reaches, part, along, Told, Owned, Named, Spares, Allows, Under, sels_of, name_of, number_of}
+use Rattle.owned_ways.specs.Ways.{OfVariable, OfHand, Loc, OfRoot, OfCell, Inside, Way, Object, Gone, Held, View, Step, Reaches, part, along, Told, Owned, Named, Spares, Allows, Under, sels_of, name_of, number_of}
 use Rattle.owned_ways.proofs.Locations.{under_along, under_itself, named_along, reaches_along}
 use Rattle.owned_ways.proofs.Named.{same_way}
 use Rattle.owned_ways.proofs.Assigned.{named_rooted, given_apart}

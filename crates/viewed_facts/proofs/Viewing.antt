@@ -1,6 +1,6 @@
 -- Facts without an element stay exact where a borrower or observer is declared or assigned. What is exact is said with the
 -- ways that views had before.
-use Rattle.std.proofs.Common.{◌≡◌, refl, sym, ap, ◌∙◌, subst, inl, inr, ℕ, Bool, true, false, List, [], ◌∷◌, ◌++◌, map, length, append-nil, Some, if◌then◌else◌}
+use Rattle.std.proofs.Common.{◌≡◌, refl, sym, ap, ◌∙◌, subst, inl, inr, ℕ, Bool, true, false, List, [], ◌∷◌, ◌++◌, length, Some, if◌then◌else◌}
 use Rattle.spark_base.specs.Lists.{Has}
 use Rattle.spark_base.specs.declared.position.Pos.{Pos}
 use Rattle.place_names.specs.declared.act.Act.{Act}
@@ -12,10 +12,10 @@ use Rattle.place_names.specs.Facts.{adds, effect}
 use Rattle.type_definitions.specs.Types.{shape_of, parts, parts_of, view_of as view_of_shape}
 use Rattle.typed_tree.specs.Trees.{TypedTree, Name, NoMore, More}
 use Rattle.flow_paths.specs.declared.point.LeakSpot.{LeakSpot}
-use Rattle.flow_paths.specs.Objects.{Typing, object_at, is_anonymous, is_borrowing, is_observing, is_borrower, is_observer, is_variable, view_of}
+use Rattle.flow_paths.specs.Objects.{Typing, object_at, is_anonymous, is_borrowing, is_observing, is_observer, is_variable, view_of}
 use Rattle.flow_paths.specs.Names.{has_call, name_of, written, source}
 use Rattle.flow_paths.specs.Scopes.{taken}
-use Rattle.flow_paths.specs.Acts.{acts_in, index_acts, source_acts, declared_acts, observe, reborrow, assigned_to, stored_acts, spot, target_pos as acts_target_pos}
+use Rattle.flow_paths.specs.Acts.{acts_in, index_acts, source_acts, declared_acts, observe, reborrow, assigned_to, stored_acts, target_pos as acts_target_pos}
 use Rattle.machine.specs.Words as machine
 use Rattle.machine.specs.Memory.{Memory, Place, declared, stored}
 use Rattle.machine.specs.Evaluate.{Now, AsView, Evaluated, Done, Raises, Traps, followed_by, evaluate, checked, value, viewed, place_of}
@@ -28,7 +28,7 @@ use Rattle.machine.specs.Owners.{waiting_in}
 use Rattle.owned_ways.specs.Ways.{Way, Allows, after, AllowsAll}
 use Rattle.owned_ways.specs.Ways as ways
 use Rattle.part_offsets.specs.Parts.{IsSettled}
-use Rattle.soundness.specs.Seen.{home, IsNear, is_view_formal}
+use Rattle.soundness.specs.Seen.{home, seen, IsNear, is_view_formal}
 use Rattle.soundness.specs.Typed.{OwnsByShape}
 use Rattle.typed_laws.specs.Needed.{Source}
 use Rattle.soundness.proofs.Scalars.{acts, acts_append, after_append, allows_both}
@@ -36,6 +36,7 @@ use Rattle.soundness.proofs.Stays.{Quiet}
 use Rattle.soundness.proofs.Numbers.{index_law}
 use Rattle.owned_loans.specs.Views.{Around, Views}
 use Rattle.owned_loans.proofs.Allowed.{Cleared, borrow_clears, observe_clears, reborrow_clears}
+use Rattle.owned_loans.proofs.Taken.{reborrow_unused}
 use Rattle.viewed_soundness.specs.Holds.{PartsAreNamed}
 use Rattle.viewed_soundness.proofs.Stays.{steps_quiet}
 use Rattle.viewed_soundness.proofs.Sources.{source_quiet}
@@ -45,13 +46,6 @@ use Rattle.viewed_steps.proofs.Sources.{view_shape, observes, observer_only}
 use Rattle.exact_facts.proofs.Steps.{fact_before}
 use Rattle.viewed_facts.specs.Exact.{IsExact}
 use Rattle.viewed_facts.proofs.Instructions.{ExactOn, view_stored, view_declared}
-
--- the type of a view has no access parts
-pub view_parts : (s : Typing) → IsSettled s.table → (x : ℕ) → is_anonymous (view_of s x) ≡ true → parts s.table (object_at s x).of ≡ []
-view_parts s settled x view =
-    let sh = view_shape (shape_of s.table (object_at s x).of) view in
-    settled.part_law (object_at s x).of ∙ ap (parts_of (parts s.table)) sh.3
-    ∙ no_parts sh.0 sh.1 sh.2 (sym (ap (λ z. is_anonymous (view_of_shape z)) sh.3) ∙ view) (parts s.table)
 
 -- an act that moves nothing
 moves_nothing : (a : Act) (facts : List Fact) → ((n : PlaceName) → Has (adds a) (Moved n) → ⊥) → (n : PlaceName) → Has (effect a facts) (Moved n) → Has facts (Moved n)
@@ -89,11 +83,19 @@ module _ (t : Turn) (settled : IsSettled (typing t).table) (own_law : OwnsByShap
   abbrev Observes_here : ℕ → ℕ → ℕ → ℕ → TypedTree → Type 0
   Observes_here x y u d path = Observes t settled own_law other alone no_formals v parts_named may frames none x y u d path
 
+  -- the type of a view has no access parts
+  pub view_parts : (x : ℕ) → is_anonymous (view_of s x) ≡ true → parts s.table (object_at s x).of ≡ []
+  view_parts x view =
+      let sh = view_shape (shape_of s.table (object_at s x).of) view in
+      settled.part_law (object_at s x).of ∙ ap (parts_of (parts s.table)) sh.3
+      ∙ no_parts t settled own_law other alone no_formals v parts_named may frames none sh.0 sh.1 sh.2 (sym (ap (λ z. is_anonymous (view_of_shape z)) sh.3) ∙ view) (parts s.table)
+
   -- ---- what the source gives
 
   -- after the acts of its indexes the act of the source is allowed, and the source changes no memory
   record IsShown (y u : ℕ) (p : Pos) (path : TypedTree) (a : Act) (facts : List Fact) (done : List Act) : Type 0 where
     behind : after done facts ≡ effect a facts
+    mine : Allows facts a
     quiet_there : Quiet now (λ ws. (z : machine.Word) × (ws ≡ z ∷ [])) (evaluate (here t) AsView (Name p y path u) now)
 
   one_word : (P : List machine.Word → Type 0) → ((ws : List machine.Word) → P ws → (z : machine.Word) × (ws ≡ z ∷ [])) → (e : Evaluated (List machine.Word)) → Quiet now P e
@@ -117,6 +119,7 @@ module _ (t : Turn) (settled : IsSettled (typing t).table) (own_law : OwnsByShap
       let mine : Allows facts (a (name_of y path)) = subst (λ z. Allows z (a (name_of y path))) inner.1 each.1.0 in
       record {
         behind = ap (λ z. after z facts) whole_acts ∙ after_append b (a (name_of y path) ∷ []) facts ∙ ap (effect (a (name_of y path))) inner.1;
+        mine = mine;
         quiet_there = one_word _ (λ ws shown. (shown.3.word, shown.3.is)) (evaluate (here t) AsView (Name p y path u) now)
             (source_quiet (here t) settled hands t.state.leaks m [] other facts v good.kept good.viewed good.holds alone alive
             index_law own_law parts_named p y u d observes.c observes.n path observes.lead observes.source calls each.0 (λ w called plain. clears w called plain mine));
@@ -255,3 +258,22 @@ module _ (t : Turn) (settled : IsSettled (typing t).table) (own_law : OwnsByShap
           (λ w called plain goes_by. reborrow_clears facts x w (ap (λ (n : PlaceName). n.root) called ∙ itself borrows)
           (subst (λ n. Allows facts (act.Reborrow x n)) (sym called) goes_by))
           (λ n has. absurd has) exact)
+
+  -- where a borrower goes on, no moved name is rooted in it
+  pub reborrow_unmoved : (pos r q : Pos) (x y u : ℕ) (path : TypedTree) → is_anonymous (view_of s x) ≡ true → is_variable (object_at s x).kind ≡ true
+      → home s depth x ≡ depth → Source s (object_at s x).of (Name q y path u) → has_call path ≡ false → is_observer s x ≡ false → y ≡ x
+      → (facts : List Fact) → Good facts → AllowsAll facts (acts (assigned_to s pos (Some x) (Name r x NoMore (object_at s x).of) (Name q y path u)))
+      → (n : PlaceName) → Has (after (acts (assigned_to s pos (Some x) (Name r x NoMore (object_at s x).of) (Name q y path u))) facts) (Moved n) → n.root ≡ x → ⊥
+  reborrow_unmoved pos r q x y u path view variable mine source_there calls borrows itself facts good allowed n has root =
+      let e : TypedTree = Name q y path u in
+      let target : TypedTree = Name r x NoMore (object_at s x).of in
+      let from_it = observes t settled own_law other alone no_formals v parts_named may frames none q x y u path view mine source_there in
+      let is = view_kinds (is_variable (object_at s x).kind) (is_borrowing (view_of s x)) (is_observing (view_of s x)) view variable borrows in
+      let same : assigned_to s pos (Some x) target e ≡ acts_in s path ++ record { pos = r; act = act.Reborrow x (name_of y path) } ∷ [] =
+      ap (λ b. if b then index_acts s e ++ reborrow (acts_target_pos pos (written target)) x (source e)
+      else (if is_observer s x then source_acts s e (observe s x) else stored_acts s target e)) is in
+      let shown = is_shown x y u from_it.0 q r path (act.Reborrow x) from_it.1 calls facts good (subst (λ z. AllowsAll facts (acts z)) same allowed)
+      (λ w called plain goes_by. reborrow_clears facts x w (ap (λ (n : PlaceName). n.root) called ∙ itself) (subst (λ n. Allows facts (act.Reborrow x n)) (sym called) goes_by)) in
+      (reborrow_unused (home s depth) (is_observer s) other v v (seen s m hands t.state.leaks) facts good.viewed x (name_of y path) shown.mine).unmoved n
+      (moves_nothing (act.Reborrow x (name_of y path)) facts (λ k none_there. absurd none_there) n
+      (subst (λ z. Has z (Moved n)) (ap (λ z. after (acts z) facts) same ∙ shown.behind) has)) root
