@@ -29,7 +29,7 @@ gots_mapped f (Stops s) y e = e
 gots_mapped f Broken y e = tt
 
 -- A store that gives a memory gives it over both.
-given_both : {A B : Type 0} (R : A → B → Type 0) (x : Got A) (y : Got B) → ((s : Stop) → x ≡ Stops s → ⊥) → ((a : A) → x ≡ Given a → (b : B) × (y ≡ Given b) × R a b) → GotsAlike R x y
+pub given_both : {A B : Type 0} (R : A → B → Type 0) (x : Got A) (y : Got B) → ((s : Stop) → x ≡ Stops s → ⊥) → ((a : A) → x ≡ Given a → (b : B) × (y ≡ Given b) × R a b) → GotsAlike R x y
 given_both R (Given a) y goes both = let is = both a refl in subst (GotsAlike R (Given a)) (sym is.1) is.2
 given_both R (Stops s) y goes both = absurd (goes s refl)
 given_both R Broken y goes both = tt

@@ -11,3 +11,5 @@ pub mod Turns
 pub mod Gots
 -- points
 pub mod Stores
+pub mod Choices
+pub mod Scopes
