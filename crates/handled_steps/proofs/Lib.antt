@@ -13,3 +13,6 @@ pub mod Gots
 pub mod Stores
 pub mod Choices
 pub mod Scopes
+pub mod Loops
+pub mod Texts
+pub mod Holds
