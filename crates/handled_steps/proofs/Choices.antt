@@ -1,5 +1,5 @@
 -- Points that choose what comes next, over both heaps.
-use Rattle.std.proofs.Common.{◌≡◌, refl, sym, ap, ◌∙◌, subst, ℕ, Bool, List, [], ◌∷◌, ◌++◌, length, drop, Option, Some, None, ℤ, if◌then◌else◌}
+use Rattle.std.proofs.Common.{◌≡◌, refl, sym, ap, subst, ℕ, Bool, List, [], ◌∷◌, ◌++◌, length, drop, Option, Some, None, ℤ}
 use Rattle.type_definitions.specs.Types.{Table}
 use Rattle.type_definitions.specs.Entries.{boolean}
 use Rattle.run_values.specs.declared.value.Kind.{Kind}
@@ -99,15 +99,20 @@ module _ (handles : List ℕ) (here : List Kind) (z : Both handles here) where
       (λ w. points.Goes (points.after t (truth_held w ∷ points.waiting t) m (decided_by or_else n decided w))) (λ w. Goes (after u (truth_held w ∷ waiting u) s (decided_by or_else n decided w))) looks
       (λ w found.
       subst (λ ks. Same ks (points.Goes (points.after t (truth_held w ∷ points.waiting t) m (decided_by or_else n decided w))) (Goes (after u (truth_held w ∷ waiting u) s (decided_by or_else n decided w))))
-      (sym (led_by c (decided_by or_else n decided) w found))
-      ([], after_alike handles here z [] here takes m s beside (truth_held w ∷ points.waiting t) (truth_held w ∷ waiting u)
-      (truth_alike z.table (handles ++ []) w one, waiting_on handles here z [] here takes m s beside) (decided_by or_else n decided w)))
+      (sym (led_by c (decided_by or_else n decided) w found)) (
+        [],
+        after_alike handles here z [] here takes m s beside (truth_held w ∷ points.waiting t) (truth_held w ∷ waiting u)
+            (truth_alike z.table (handles ++ []) w one, waiting_on handles here z [] here takes m s beside) (decided_by or_else n decided w),
+      ))
 
   pub right_alike : (c : Code) (n : Option ℕ) → LooksData m here takes c → IsOneData (kinds z.table boolean)
       → Same (led_kinds t here n) (points.evaluate_right t c n) (evaluate_right u c n)
   right_alike c n looks one =
       word_on (led_kinds t here n) c (λ w. points.Goes (points.after t (truth_held w ∷ drop 1 (points.waiting t)) m n)) (λ w. Goes (after u (truth_held w ∷ drop 1 (waiting u)) s n)) looks
-      (λ w found.
-      ([], after_alike handles here z [] here takes m s beside (truth_held w ∷ drop 1 (points.waiting t)) (truth_held w ∷ drop 1 (waiting u))
-      (truth_alike z.table (handles ++ []) w one,
-      paired_drop (HeldAlike z.table (handles ++ [])) 1 (points.waiting t) (waiting u) (waiting_on handles here z [] here takes m s beside)) n))
+      (λ w found. (
+        [],
+        after_alike handles here z [] here takes m s beside (truth_held w ∷ drop 1 (points.waiting t)) (truth_held w ∷ drop 1 (waiting u)) (
+          truth_alike z.table (handles ++ []) w one,
+          paired_drop (HeldAlike z.table (handles ++ [])) 1 (points.waiting t) (waiting u) (waiting_on handles here z [] here takes m s beside),
+        ) n,
+      ))

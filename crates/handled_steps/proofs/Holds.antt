@@ -1,5 +1,5 @@
 -- Points that hand a result to the caller, over both heaps.
-use Rattle.std.proofs.Common.{◌≡◌, refl, ap, ℕ, suc, List, [], ◌∷◌, ◌++◌, Option, Some, None, ℤ}
+use Rattle.std.proofs.Common.{refl, ap, ℕ, suc, List, [], ◌∷◌, ◌++◌, Option, Some, None, ℤ}
 use Rattle.run_values.specs.declared.value.Kind.{Kind}
 use Rattle.run_codes.specs.Codes.{Fill}
 use Rattle.run_codes.specs.Flat.{Flat, kinds}
@@ -8,7 +8,7 @@ use Rattle.run_codes.specs.Points as points
 use Rattle.handled_runs.specs.Slots.{Slots}
 use Rattle.handled_runs.specs.Beside.{all_renamed, Beside}
 use Rattle.handled_runs.specs.Alike.{LooksFill}
-use Rattle.handled_steps.specs.States.{State, Outcome, Goes, Turn, counted, waiting}
+use Rattle.handled_steps.specs.States.{State, Outcome, Turn, counted, waiting}
 use Rattle.handled_steps.specs.Steps.{Holds, holding}
 use Rattle.handled_steps.specs.Alike.{Paired, HeldAlike, FrameAlike, StatesAlike, OutcomesAlike}
 use Rattle.handled_steps.specs.Looks.{taken_kinds}
@@ -34,7 +34,7 @@ module _ (handles : List ℕ) (here : List Kind) (z : Both handles here) where
       (record { base = all.0.base; next = all.0.next; words = all.0.words; waits = (is, all.0.waits); returns = all.0.returns }, all.1)
 
   module _ (more : List ℕ) (m : Flat) (s : Slots) (beside : Beside (handles ++ more) here takes m s) (of n : ℕ) (zs us : List ℤ)
-    (is : HeldAlike z.table (handles ++ more) (record { of = of; words = zs }) (record { of = of; words = us })) where
+      (is : HeldAlike z.table (handles ++ more) (record { of = of; words = zs }) (record { of = of; words = us })) where
     abbrev hs : List ℕ
     hs = handles ++ more
 

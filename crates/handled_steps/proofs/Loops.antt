@@ -1,5 +1,5 @@
 -- Points of `for` loops, over both heaps.
-use Rattle.std.proofs.Common.{◌≡◌, refl, sym, ap, ◌∙◌, subst, ℕ, zero, suc, ◌+◌, arith, Bool, true, false, not, ◌&&◌, nat_le, List, [], ◌∷◌, ◌++◌, drop, length, slice_get, Option, Some, None, ℤ, pos, negsuc, if◌then◌else◌}
+use Rattle.std.proofs.Common.{◌≡◌, refl, sym, ap, ◌∙◌, subst, ℕ, zero, suc, ◌+◌, arith, Bool, true, false, not, ◌&&◌, nat_le, List, [], ◌∷◌, ◌++◌, drop, length, slice_get, Option, Some, None, ℤ, pos, if◌then◌else◌}
 use Rattle.std.specs.Prelude.{int_le}
 use Rattle.run_values.specs.declared.value.Kind.{Kind}
 use Rattle.run_values.specs.declared.value.Kind.TheVariants as sort
@@ -10,7 +10,7 @@ use Rattle.run_codes.specs.Points.{next_value}
 use Rattle.run_codes.specs.Points as points
 use Rattle.handled_runs.specs.Slots.{Slots}
 use Rattle.handled_runs.specs.Slots as slots
-use Rattle.handled_runs.specs.Beside.{all_renamed, Beside}
+use Rattle.handled_runs.specs.Beside.{Beside}
 use Rattle.handled_runs.specs.Looks.{IsFront}
 use Rattle.handled_runs.proofs.Names.{named_data}
 use Rattle.handled_steps.specs.States.{Outcome, Turn, start, halted, on_got, goes}
@@ -19,13 +19,13 @@ use Rattle.handled_steps.specs.Alike.{OutcomesAlike, led_kinds, got_kinds, turn_
 use Rattle.handled_steps.specs.Alike as alike
 use Rattle.handled_steps.specs.Looks.{LooksData, HasData, HasLoop, taken_kinds}
 use Rattle.handled_steps.proofs.Turns.{GotsAlike, Both, flat_turn, slot_turn, start_more, got_on, goes_alike, halted_alike}
-use Rattle.handled_steps.proofs.Gots.{AreBeside, data_gots, put_gots, stack_data}
+use Rattle.handled_steps.proofs.Gots.{AreBeside, put_gots, stack_data}
 use Rattle.handled_steps.proofs.Choices.{data_renamed, word_on}
 use Rattle.handled_steps.proofs.Scopes.{front_one}
 
 -- ---- one after the other
 
-gots_then : {A B C D : Type 0} (R : A → B → Type 0) (S : C → D → Type 0) (x : Got A) (y : Got B) (F : A → Got C) (G : B → Got D) → GotsAlike R x y
+pub gots_then : {A B C D : Type 0} (R : A → B → Type 0) (S : C → D → Type 0) (x : Got A) (y : Got B) (F : A → Got C) (G : B → Got D) → GotsAlike R x y
     → ((a : A) (b : B) → x ≡ Given a → R a b → GotsAlike S (F a) (G b)) → GotsAlike S (and_then x F) (and_then y G)
 gots_then R S (Given a) (Given b) F G is on = on a b refl is
 gots_then R S (Given a) (Stops y) F G is on = absurd is

@@ -24,10 +24,10 @@ use Rattle.handled_runs.proofs.Leaks.{leak_same}
 use Rattle.handled_runs.proofs.Assigned.{checks_alike, checks_go}
 use Rattle.handled_runs.proofs.Released.{released_alike}
 use Rattle.handled_steps.specs.States.{Outcome, Turn, start, on_got, leaking_goes}
-use Rattle.handled_steps.specs.Steps.{release, end_pointer, end_scope, put_words, left_goes, in_stack}
+use Rattle.handled_steps.specs.Steps.{release, end_pointer, end_scope, put_words, left_goes}
 use Rattle.handled_steps.specs.Alike.{OutcomesAlike, led_kinds}
 use Rattle.handled_steps.specs.Looks.{HavePointers, LeaksAt, taken_kinds}
-use Rattle.handled_steps.proofs.Turns.{GotsAlike, gots_same, Both, flat_turn, slot_turn, start_more, got_on, leaking_goes_alike}
+use Rattle.handled_steps.proofs.Turns.{GotsAlike, Both, flat_turn, slot_turn, start_more, got_on, leaking_goes_alike}
 use Rattle.handled_steps.proofs.Gots.{AreBeside, given_both, stack_gots, put_gots, AreLeft, left_gots}
 use Rattle.handled_steps.proofs.Stores.{left_alike}
 use Rattle.handled_steps.proofs.Tables.{defaults_numbers}

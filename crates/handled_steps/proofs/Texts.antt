@@ -1,5 +1,5 @@
 -- Points that write and read, over both heaps.
-use Rattle.std.proofs.Common.{◌≡◌, refl, sym, ap, ◌∙◌, subst, ℕ, Bool, true, false, List, [], ◌∷◌, ◌++◌, map, length, get_or, Option, ℤ, if◌then◌else◌}
+use Rattle.std.proofs.Common.{◌≡◌, refl, sym, ap, ◌∙◌, subst, ℕ, Bool, true, false, List, [], ◌∷◌, ◌++◌, map, get_or, Option, ℤ, if◌then◌else◌}
 use Rattle.std.specs.Prelude.{unsigned_abs}
 use Rattle.std.specs.Char.{to_ascii_uppercase}
 use Rattle.type_definitions.specs.Types.{shape_of}
@@ -84,9 +84,11 @@ module _ (handles : List ℕ) (here : List Kind) (z : Both handles here) where
       (gots_same (points.text z.table m pieces) (text z.table s pieces) (text_same pieces looks))
       (λ bytes others found same.
       subst (λ xs. Same (led_kinds t here n) (points.Goes (record (points.after t (points.waiting t) m n) { output = (points.after t (points.waiting t) m n).output ++ (bytes ++ (if line then 10 ∷ [] else [])) }))
-      (Goes (writing (xs ++ (if line then 10 ∷ [] else [])) (after u (waiting u) s n)))) (sym same)
-      ([], written_alike (led_kinds t here n) (bytes ++ (if line then 10 ∷ [] else [])) (points.after t (points.waiting t) m n) (after u (waiting u) s n)
-      (after_alike handles here z [] here takes m s beside (points.waiting t) (waiting u) (waiting_on handles here z [] here takes m s beside) n)))
+      (Goes (writing (xs ++ (if line then 10 ∷ [] else [])) (after u (waiting u) s n)))) (sym same) (
+        [],
+        written_alike (led_kinds t here n) (bytes ++ (if line then 10 ∷ [] else [])) (points.after t (points.waiting t) m n) (after u (waiting u) s n)
+            (after_alike handles here z [] here takes m s beside (points.waiting t) (waiting u) (waiting_on handles here z [] here takes m s beside) n),
+      ))
 
   -- ---- input
 
@@ -122,9 +124,11 @@ module _ (handles : List ℕ) (here : List Kind) (z : Both handles here) where
           got_on handles here z [] here takes m s beside (AreBeside hs here takes m s beside) (led_kinds t here n) (flat.stored m q (sort.Int ∷ []) (v ∷ [])) (stored s (spot_renamed hs q) (sort.Int ∷ []) (v ∷ []))
           (λ k. points.Goes (record (points.after t (points.waiting t) k n) { at = end })) (λ k. Goes (reading end (after u (waiting u) k n)))
           (store_gots hs here takes m s beside q (sort.Int ∷ []) (v ∷ []) stand refl (tt, tt))
-          (λ i j found both.
-          ([], moved_alike (led_kinds t here n) end (points.after t (points.waiting t) i n) (after u (waiting u) j n)
-          (after_alike handles here z [] here takes i j both (points.waiting t) (waiting u) (waiting_on handles here z [] here takes i j both) n)))
+          (λ i j found both. (
+            [],
+            moved_alike (led_kinds t here n) end (points.after t (points.waiting t) i n) (after u (waiting u) j n)
+                (after_alike handles here z [] here takes i j both (points.waiting t) (waiting u) (waiting_on handles here z [] here takes i j both) n),
+          ))
       by false = halted_alike handles here z [] here takes m s beside (led_kinds t here n) constraint
 
   pub input_alike : (p : Place) (low high : ℤ) (n : Option ℕ) → LooksPlace m here takes p (sort.Int ∷ []) → Same (led_kinds t here n) (points.input t p low high n) (input u p low high n)
