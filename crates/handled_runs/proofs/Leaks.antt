@@ -35,7 +35,7 @@ access_there handles (sort.Enum ∷ ks) (z ∷ zs) zero long is = cc
 access_there handles (k ∷ ks) (z ∷ zs) (suc o) long is = access_there handles ks zs o (let same : length ks ≡ length zs = cc in same) is
 
 module _ (handles : List ℕ) (here taken : List Kind) (m : Flat) (s : Slots) (beside : Beside handles here taken m s) where
-  leak_same : (p : Pos) (z : ℤ) → IsLeaked m.cells z → leak s.numbers p (handle_word handles z) ≡ points.leak p z
+  pub leak_same : (p : Pos) (z : ℤ) → IsLeaked m.cells z → leak s.numbers p (handle_word handles z) ≡ points.leak p z
   leak_same p (pos zero) is = refl
   leak_same p (pos (suc n)) is = ap (λ i. record { number = i; pos = p } ∷ []) (beside.numbered n is.0 is.1)
   leak_same p (negsuc n) is = refl

@@ -1,5 +1,5 @@
 -- Frames that are pushed and given back, over both heaps.
-use Rattle.std.proofs.Common.{◌≡◌, refl, sym, ap, ◌∙◌, subst, ℕ, zero, suc, List, [], ◌∷◌, ◌++◌, take, length, ℤ}
+use Rattle.std.proofs.Common.{◌≡◌, refl, sym, ap, ◌∙◌, ℕ, zero, suc, List, [], ◌∷◌, ◌++◌, take, length, ℤ}
 use Rattle.type_definitions.specs.Types.{Table}
 use Rattle.run_values.specs.declared.value.Kind.{Kind}
 use Rattle.run_codes.specs.Codes.{Sub}
@@ -8,7 +8,7 @@ use Rattle.run_codes.specs.Points.{template}
 use Rattle.run_codes.specs.Points as points
 use Rattle.handled_runs.specs.Slots.{Slots}
 use Rattle.handled_runs.specs.Changes.{with_stack}
-use Rattle.handled_runs.specs.Beside.{all_renamed, NameWords, Beside}
+use Rattle.handled_runs.specs.Beside.{all_renamed, Beside}
 use Rattle.handled_runs.proofs.Outcomes.{renamed_append, names_append, long_append}
 use Rattle.handled_runs.proofs.Filled.{numbers_renamed, numbers_long, numbers_named, take_renamed, take_named}
 use Rattle.handled_steps.specs.States.{with_frame}

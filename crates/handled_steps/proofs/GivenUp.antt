@@ -1,5 +1,5 @@
 -- What a step that stops leaves is alike over both heaps.
-use Rattle.std.proofs.Common.{◌≡◌, ◌⊎◌, inl, inr, refl, sym, ap, ◌∙◌, subst, ℕ, zero, suc, ◌+◌, ◌-◌, ◌<◌, ◌≤◌, arith, Bool, true, false, true≢false, nat_lt, List, [], ◌∷◌, ◌++◌, map, drop, length, length-append, get_or, slice_get, Some, if◌then◌else◌}
+use Rattle.std.proofs.Common.{◌≡◌, refl, sym, ap, ◌∙◌, ℕ, zero, suc, ◌+◌, ◌-◌, ◌<◌, ◌≤◌, arith, Bool, true, false, true≢false, nat_lt, List, [], ◌∷◌, ◌++◌, map, drop, length, length-append, get_or, Some, if◌then◌else◌}
 use Rattle.std.proofs.lemmas.List.{get_or_append_left, length-map}
 use Rattle.run_values.specs.declared.value.Value.{Value}
 use Rattle.run_values.specs.declared.value.Value.TheVariants as value
@@ -127,7 +127,7 @@ long_drop (suc n) [] less = absurd (omega (arith, less))
 long_drop (suc n) (x ∷ xs) less = let same = long_drop n xs (omega (arith, less)) in omega (arith, same)
 
 module _ (handles more : List ℕ) (here taken : List Kind) (before : Flat) (old : Slots) (beside : Beside handles here taken before old)
-  (now held : List Kind) (m : Flat) (s : Slots) (after : Beside (handles ++ more) now held m s) where
+    (now held : List Kind) (m : Flat) (s : Slots) (after : Beside (handles ++ more) now held m s) where
   abbrev gone : List Cell
   gone = drop (length before.cells) m.cells
 

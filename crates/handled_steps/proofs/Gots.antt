@@ -1,6 +1,5 @@
 -- What is read and stored is alike over both heaps.
-use Rattle.std.proofs.Common.{◌≡◌, refl, sym, ap, ◌∙◌, subst, ℕ, ◌+◌, Bool, true, false, nat_le, List, [], ◌∷◌, drop, length, slice_get, Option, Some, None, ℤ, if◌then◌else◌}
-use Rattle.type_definitions.specs.Types.{Table}
+use Rattle.std.proofs.Common.{◌≡◌, refl, sym, ap, ◌∙◌, subst, ℕ, ◌+◌, Bool, true, false, nat_le, List, [], drop, length, slice_get, Some, ℤ, if◌then◌else◌}
 use Rattle.run_values.specs.declared.value.Kind.{Kind}
 use Rattle.run_codes.specs.Codes.{Code, Place}
 use Rattle.run_codes.specs.Flat.{Flat, Got, Given, Stops, Broken, Stop, found, spliced, Spot, InStack}
@@ -11,7 +10,7 @@ use Rattle.handled_runs.specs.Slots as slots
 use Rattle.handled_runs.specs.Changes.{stored}
 use Rattle.handled_runs.specs.Assigned.{Left, LeftAlike}
 use Rattle.handled_runs.specs.Beside.{renamed, all_renamed, spot_renamed, mapped, NameWords, Beside}
-use Rattle.handled_runs.specs.Looks.{IsData, LooksAt, IsFront}
+use Rattle.handled_runs.specs.Looks.{LooksAt, IsFront}
 use Rattle.handled_runs.specs.Alike.{StandAt}
 use Rattle.handled_runs.proofs.Words.{word_same, of_data}
 use Rattle.handled_runs.proofs.Named.{slice_renamed, data_same}
@@ -29,7 +28,7 @@ gots_mapped f (Stops s) y e = e
 gots_mapped f Broken y e = tt
 
 -- A store that gives a memory gives it over both.
-given_both : {A B : Type 0} (R : A → B → Type 0) (x : Got A) (y : Got B) → ((s : Stop) → x ≡ Stops s → ⊥) → ((a : A) → x ≡ Given a → (b : B) × (y ≡ Given b) × R a b) → GotsAlike R x y
+pub given_both : {A B : Type 0} (R : A → B → Type 0) (x : Got A) (y : Got B) → ((s : Stop) → x ≡ Stops s → ⊥) → ((a : A) → x ≡ Given a → (b : B) × (y ≡ Given b) × R a b) → GotsAlike R x y
 given_both R (Given a) y goes both = let is = both a refl in subst (GotsAlike R (Given a)) (sym is.1) is.2
 given_both R (Stops s) y goes both = absurd (goes s refl)
 given_both R Broken y goes both = tt

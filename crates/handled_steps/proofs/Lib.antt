@@ -11,3 +11,16 @@ pub mod Turns
 pub mod Gots
 -- points
 pub mod Stores
+pub mod Choices
+pub mod Scopes
+pub mod Loops
+pub mod Texts
+pub mod Holds
+-- calls
+pub mod Moving
+pub mod Passing
+pub mod Calls
+pub mod Finishes
+-- steps and runs
+pub mod Steps
+pub mod Runs

@@ -1,10 +1,9 @@
 -- Lists in relation, and frames with more handles.
-use Rattle.std.proofs.Common.{◌≡◌, refl, sym, ap, ◌∙◌, subst, ℕ, zero, suc, ◌<◌, arith, List, [], ◌∷◌, ◌++◌, map, take, drop, length, length-append, get_or, ℤ}
+use Rattle.std.proofs.Common.{◌≡◌, refl, sym, ap, ◌∙◌, subst, ℕ, zero, suc, arith, List, [], ◌∷◌, ◌++◌, map, take, drop, length, length-append}
 use Rattle.std.specs.Prelude.{flat_map}
 use Rattle.std.proofs.lemmas.List.{get_or_append_left}
 use mathlib.Core.List.{reverse, reverse-cons}
 use Rattle.type_definitions.specs.Types.{Table}
-use Rattle.run_values.specs.declared.value.Kind.{Kind}
 use Rattle.run_codes.specs.Flat.{Spot, InStack, InCell, kinds}
 use Rattle.run_codes.specs.Points.{Held, Return, Frame}
 use Rattle.handled_runs.specs.Beside.{all_renamed, spot_renamed, NameWords}

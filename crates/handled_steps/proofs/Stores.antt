@@ -1,5 +1,5 @@
 -- Points that store a value, over both heaps.
-use Rattle.std.proofs.Common.{◌≡◌, refl, sym, ap, ◌∙◌, subst, ℕ, ◌+◌, List, [], ◌∷◌, ◌++◌, drop, length, Option, ℤ}
+use Rattle.std.proofs.Common.{◌≡◌, sym, subst, ℕ, ◌+◌, List, [], ◌∷◌, ◌++◌, drop, Option, ℤ}
 use Rattle.spark_base.specs.declared.position.Pos.{Pos}
 use Rattle.run_values.specs.declared.value.Kind.{Kind}
 use Rattle.run_codes.specs.Codes.{Place, Fill}

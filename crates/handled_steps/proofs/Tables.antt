@@ -1,12 +1,11 @@
 -- What types give: words of objects without a value name no cell, and access parts are access values.
-use Rattle.std.proofs.Common.{◌≡◌, refl, sym, ap, ◌∙◌, subst, ℕ, zero, suc, true, List, [], ◌∷◌, ◌++◌, map, length, slice_get, nat_eq, ℤ, pos, if◌then◌else◌}
+use Rattle.std.proofs.Common.{refl, sym, subst, ℕ, zero, suc, List, [], ◌∷◌, ◌++◌, map, length, slice_get, ℤ}
 use Rattle.std.specs.Prelude.{flat_map}
 use Rattle.std.proofs.lemmas.List.{map-append}
 use Rattle.type_definitions.specs.declared.table.Component.{Component}
 use Rattle.type_definitions.specs.declared.table.Shape.{Shape}
 use Rattle.type_definitions.specs.declared.table.Shape.TheVariants as shape
 use Rattle.type_definitions.specs.Types.{Table, shape_found, span}
-use Rattle.type_definitions.specs.Entries.{integer}
 use Rattle.run_values.specs.declared.value.Kind.{Kind}
 use Rattle.machine.specs.Words.{Word, access_offsets, default, default_of, default_within}
 use Rattle.machine.specs.Words as machine

@@ -1,5 +1,5 @@
 -- How steps begin, go on and end, over both heaps.
-use Rattle.std.proofs.Common.{◌≡◌, refl, sym, ap, ◌∙◌, subst, ℕ, suc, ◌==◌, List, [], ◌∷◌, ◌++◌, append-nil, map, take, drop, length, Option, Some, None, ℤ}
+use Rattle.std.proofs.Common.{◌≡◌, refl, sym, ap, subst, ℕ, suc, ◌==◌, List, [], ◌∷◌, ◌++◌, append-nil, take, drop, length, Option, Some, None, ℤ}
 use Rattle.std.specs.Cmp.Lexicographic.{pointwise}
 use mathlib.Core.Logic.{inl, inr}
 use Rattle.type_definitions.specs.Types.{Table}
@@ -15,8 +15,8 @@ use Rattle.handled_runs.specs.Values as values
 use Rattle.handled_runs.specs.Beside.{Beside}
 use Rattle.handled_runs.specs.Alike.{Alike, AreAlike}
 use Rattle.handled_runs.proofs.Places.{as_long}
-use Rattle.handled_steps.specs.States.{State, Outcome, Goes, Ends, Wants, Fails, Turn, taken, waiting, are_taken, start, counted, given_up, halted, on_got, on_made, begun, left, led, after, goes, leaking, leaking_goes}
-use Rattle.handled_steps.specs.Alike.{Paired, HeldAlike, ReturnAlike, FrameAlike, StatesAlike, OutcomesAlike, begun_kinds, led_kinds}
+use Rattle.handled_steps.specs.States.{State, Outcome, Wants, Fails, Turn, taken, waiting, are_taken, start, counted, given_up, halted, on_got, on_made, begun, led, after, goes, leaking, leaking_goes}
+use Rattle.handled_steps.specs.Alike.{Paired, HeldAlike, FrameAlike, StatesAlike, OutcomesAlike, begun_kinds, led_kinds}
 use Rattle.handled_steps.specs.Looks.{taken_kinds}
 use Rattle.handled_steps.proofs.Pairs.{paired_take, paired_drop, paired_reverse, paired_map, paired_on, held_on, frame_on, frames_on, held_words, held_names}
 use Rattle.handled_steps.proofs.GivenUp.{given_beside}
@@ -101,7 +101,7 @@ pub record SameRest (a : points.State) (b : State) : Type 0 where
   pub steps : b.steps ≡ a.steps
 
 module _ (table : Table) (program : Program) (input : List ℕ) (point : Point) (a : points.State) (f : Frame) (b : State) (g : Frame) (rest : SameRest a b)
-  (hs : List ℕ) (here ks : List Kind) (m : Flat) (s : Slots) (beside : Beside hs here ks m s) where
+    (hs : List ℕ) (here ks : List Kind) (m : Flat) (s : Slots) (beside : Beside hs here ks m s) where
   with_frames : (all others : List Frame) → Paired (FrameAlike table hs) all others
       → StatesAlike table hs here (record a { memory = m; frames = all }) (record b { memory = s; frames = others })
   with_frames all others frames = record {

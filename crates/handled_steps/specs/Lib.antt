@@ -6,3 +6,5 @@ pub mod Steps
 pub mod Alike
 -- what is asked of steps
 pub mod Looks
+-- runs from their start
+pub mod Runs

@@ -2,7 +2,7 @@
 --
 -- Words have the kinds that the code is of. What is looked at, copied or moved isn't gone; what is reached in a cell is
 -- in one that is there.
-use Rattle.std.specs.Prelude.{◌≡◌, ℕ, zero, suc, ◌+◌, true, List, [], ◌∷◌, ◌++◌, drop, length, flat_map, slice_get, Option, Some, None, ℤ, pos}
+use Rattle.std.specs.Prelude.{◌≡◌, ℕ, zero, suc, ◌+◌, true, List, [], ◌∷◌, ◌++◌, drop, length, flat_map, slice_get, Option, Some, None, ℤ}
 use Rattle.type_definitions.specs.declared.judgement.View.{View}
 use Rattle.type_definitions.specs.declared.judgement.View.TheVariants as view
 use Rattle.type_definitions.specs.Types.{Table, full}
@@ -12,7 +12,7 @@ use Rattle.run_values.specs.declared.value.Kind.{Kind}
 use Rattle.run_values.specs.declared.value.Kind.TheVariants as sort
 use Rattle.machine.specs.Words.{access_offsets}
 use Rattle.numbered_cells.specs.Follows.{IsThere}
-use Rattle.run_codes.specs.Codes.{Code, Place, Fill, Actual, ByValue, From, To, Piece, Bytes, NumberImage, LiteralImage, Does, Go, Put, Store, Assign, Call, Output, Input, Release, Test, Choose, Start, Next, EvaluateLeft, EvaluateRight, Hold, EndPointer, EndScope, Finish, Fall, Point}
+use Rattle.run_codes.specs.Codes.{Code, Place, Actual, ByValue, From, To, Piece, Bytes, NumberImage, LiteralImage, Does, Go, Put, Store, Assign, Call, Output, Input, Release, Test, Choose, Start, Next, EvaluateLeft, EvaluateRight, Hold, EndPointer, EndScope, Finish, Fall, Point}
 use Rattle.run_codes.specs.Flat.{Flat, Got, Given, Spot, InStack, InCell, Made, Done, found, kinds, are_pointers, spot, words_at, filled}
 use Rattle.run_codes.specs.Flat as flat
 use Rattle.run_codes.specs.Points.{Held, Return, Frame, Passed, Value, FromSpot, ToSpot, passed, all_passed, with_frame, with_formal, sub_at, taken, start, are_taken}

@@ -1,9 +1,8 @@
 -- States of runs over a heap that uses its slots again, and what points change in them.
-use Rattle.std.specs.Prelude.{ℕ, zero, suc, ◌+◌, ◌-◌, Bool, ◌==◌, List, [], ◌∷◌, ◌++◌, map, flat_map, reverse, take, drop, length, Option, Some, None, ℤ}
+use Rattle.std.specs.Prelude.{ℕ, suc, ◌+◌, ◌-◌, Bool, ◌==◌, List, [], ◌∷◌, ◌++◌, map, flat_map, reverse, take, drop, length, Option, Some, None, ℤ}
 use Rattle.std.specs.Cmp.Lexicographic.{pointwise}
 use Rattle.type_definitions.specs.Types.{Table}
 use Rattle.machine.specs.States.{Leak, Ending, Raised, Trapped}
-use Rattle.slot_heap.specs.Heaps.{Heap}
 use Rattle.run_codes.specs.Codes.{Point, Sub}
 use Rattle.run_codes.specs.Flat.{Got, Given, Stops, Broken, Stop, Raises, Traps, Memory}
 use Rattle.run_codes.specs.Points.{Held, Return, Frame, template, sub_at}

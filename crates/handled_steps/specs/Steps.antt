@@ -2,7 +2,7 @@
 --
 -- Which handle a new cell gets and whether there is memory for it, the heap decides. So this says of each outcome
 -- whether it may come.
-use Rattle.std.specs.Prelude.{◌≡◌, ℕ, zero, suc, ◌+◌, Bool, true, false, not, ◌&&◌, List, [], ◌∷◌, ◌++◌, map, take, drop, length, get_or, slice_get, nat_le, Option, Some, None, ℤ, pos, negsuc, unsigned_abs, int_le, if◌then◌else◌}
+use Rattle.std.specs.Prelude.{◌≡◌, ℕ, zero, suc, ◌+◌, Bool, true, false, not, ◌&&◌, List, [], ◌∷◌, ◌++◌, map, take, drop, length, get_or, slice_get, nat_le, Option, Some, None, ℤ, pos, unsigned_abs, int_le, if◌then◌else◌}
 use Rattle.std.specs.Char.{to_ascii_uppercase}
 use Rattle.spark_base.specs.declared.position.Pos.{Pos}
 use Rattle.type_definitions.specs.Types.{Table, shape_of}
@@ -14,10 +14,10 @@ use Rattle.run_values.specs.Images.{image}
 use Rattle.run_values.specs.Items.{next_item}
 use Rattle.machine.specs.Words.{access_offsets}
 use Rattle.machine.specs.Evaluate.{ProgramError, StorageError, DataError, EndError, literals}
-use Rattle.machine.specs.States.{Leak, Normal, Raised, Spent, stack_words}
+use Rattle.machine.specs.States.{Leak, Normal, Spent, stack_words}
 use Rattle.run_codes.specs.Codes.{Code, Place, Fill, Actual, ByValue, From, To, Piece, Bytes, NumberImage, LiteralImage, Choice, Does, Go, Put, Store, Assign, Call, Output, Input, Release, Test, Choose, Start, Next, EvaluateLeft, EvaluateRight, Hold, EndPointer, EndScope, Finish, Fall, Point, Sub}
 use Rattle.run_codes.specs.Flat.{Got, Given, Stops, Broken, Stop, Raises, and_then, found, kinds, constraint, is_zero, is_between, default_words, Spot, InStack}
-use Rattle.run_codes.specs.Points.{Held, Return, Frame, Passed, Value, FromSpot, ToSpot, fits, returns_of, frames_words, chosen, truth_held, next_value, given_to, sub_at}
+use Rattle.run_codes.specs.Points.{Return, Frame, Passed, Value, FromSpot, ToSpot, fits, returns_of, frames_words, chosen, truth_held, next_value, given_to, sub_at}
 use Rattle.run_codes.specs.Programs.{Program}
 use Rattle.handled_runs.specs.Slots.{Slots, word, spot, held}
 use Rattle.handled_runs.specs.Changes.{with_stack, stored, emptied}
