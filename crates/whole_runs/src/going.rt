@@ -26,15 +26,14 @@ pub(crate) fn go<S: Stepping>(run: &mut S, limit: u64) -> Result<(u64, Turn), Al
 {
     let mut made = 0u64;
     'steps: while made < limit {
-        let turn = run.step()?;
+        match run.step() {
+            Ok(Turn::On) => {}
+            Ok(Turn::Ends(ending)) => return Ok((made + 1, Turn::Ends(ending))),
+            Err(fault) => return Err(fault),
+        }
         made += 1;
-        match turn {
-            Turn::On => {
-                if is_to_tell(run) {
-                    return Ok((made, Turn::On));
-                }
-            }
-            Turn::Ends(ending) => return Ok((made, Turn::Ends(ending))),
+        if is_to_tell(run) {
+            return Ok((made, Turn::On));
         }
     }
     Ok((made, Turn::On))

@@ -21,7 +21,7 @@ pub steps-preserved : goal.steps-preserved
 steps-preserved g c =
     let on =
     subst (λ s. IsTurned (one_step s (g.S.Stepping.state c.steps.run)) turn.On (g.S.Stepping.state c.step.new.self)) c.steps.invariant.1
-    (subst (λ t. IsTurned (one_step (g.S.Stepping.setting c.steps.run) (g.S.Stepping.state c.steps.run)) t (g.S.Stepping.state c.step.new.self)) c.in-On.is c.in_ok-turn.ensures.turned) in
+    (subst (λ t. IsTurned (one_step (g.S.Stepping.setting c.steps.run) (g.S.Stepping.state c.steps.run)) t (g.S.Stepping.state c.step.new.self)) c.in-Ok-On.field-0-is c.in-Ok-On.ensures.turned) in
     let below = c.steps-test.true in (
       one_on (g.S.Stepping.setting c.args.run.now) c.args.limit c.steps.made (g.S.Stepping.state c.args.run.now) (g.S.Stepping.state c.steps.run) (g.S.Stepping.state c.step.new.self) c.steps.invariant.0 on,
       c.step.ensures.setting ∙ c.steps.invariant.1,
@@ -32,12 +32,12 @@ pub returns-then-is_to_tell-clause-led : goal.returns-then-is_to_tell-clause-led
 returns-then-is_to_tell-clause-led g c =
     let on =
     subst (λ s. IsTurned (one_step s (g.S.Stepping.state c.steps.run)) turn.On (g.S.Stepping.state c.step.new.self)) c.steps.invariant.1
-    (subst (λ t. IsTurned (one_step (g.S.Stepping.setting c.steps.run) (g.S.Stepping.state c.steps.run)) t (g.S.Stepping.state c.step.new.self)) c.in-On.is c.in_ok-turn.ensures.turned) in
+    (subst (λ t. IsTurned (one_step (g.S.Stepping.setting c.steps.run) (g.S.Stepping.state c.steps.run)) t (g.S.Stepping.state c.step.new.self)) c.in-Ok-On.field-0-is c.in-Ok-On.ensures.turned) in
     one_on (g.S.Stepping.setting c.args.run.now) c.args.limit c.steps.made (g.S.Stepping.state c.args.run.now) (g.S.Stepping.state c.steps.run) (g.S.Stepping.state c.step.new.self) c.steps.invariant.0 on
 
-pub returns-in-Ends-clause-led : goal.returns-in-Ends-clause-led
-returns-in-Ends-clause-led g c =
+pub returns-in-Ok-Ends-clause-led : goal.returns-in-Ok-Ends-clause-led
+returns-in-Ok-Ends-clause-led g c =
     let on =
-    subst (λ s. IsTurned (one_step s (g.S.Stepping.state c.steps.run)) (turn.Ends c.in-Ends.ending) (g.S.Stepping.state c.step.new.self)) c.steps.invariant.1
-    (subst (λ t. IsTurned (one_step (g.S.Stepping.setting c.steps.run) (g.S.Stepping.state c.steps.run)) t (g.S.Stepping.state c.step.new.self)) c.in-Ends.is c.in_ok-turn.ensures.turned) in
-    one_ends (g.S.Stepping.setting c.args.run.now) c.args.limit c.steps.made (g.S.Stepping.state c.args.run.now) (g.S.Stepping.state c.steps.run) (g.S.Stepping.state c.step.new.self) c.in-Ends.ending c.steps-test.true c.steps.invariant.0 on
+    subst (λ s. IsTurned (one_step s (g.S.Stepping.state c.steps.run)) (turn.Ends c.in-Ok-Ends.ending) (g.S.Stepping.state c.step.new.self)) c.steps.invariant.1
+    (subst (λ t. IsTurned (one_step (g.S.Stepping.setting c.steps.run) (g.S.Stepping.state c.steps.run)) t (g.S.Stepping.state c.step.new.self)) c.in-Ok-Ends.field-0-is c.in-Ok-Ends.ensures.turned) in
+    one_ends (g.S.Stepping.setting c.args.run.now) c.args.limit c.steps.made (g.S.Stepping.state c.args.run.now) (g.S.Stepping.state c.steps.run) (g.S.Stepping.state c.step.new.self) c.in-Ok-Ends.ending c.steps-test.true c.steps.invariant.0 on
