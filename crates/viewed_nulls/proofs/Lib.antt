@@ -1,0 +1,2 @@
+-- names
+pub mod Names
