@@ -1,2 +1,3 @@
 -- names
 pub mod Names
+pub mod Viewed

@@ -1,8 +1,8 @@
 -- A name that may be rooted in a borrower or observer leads to the same place in memories that agree.
-use Rattle.std.proofs.Common.{◌≡◌, refl, sym, ap, ◌∙◌, subst, inl, inr, ℕ, suc, Bool, true, false, not, ◌&&◌, ◌||◌, List, [], ◌∷◌, length, get_or, arith, Some, if◌then◌else◌}
+use Rattle.std.proofs.Common.{◌≡◌, refl, sym, ap, ◌∙◌, subst, inl, inr, ℕ, suc, Bool, true, false, List, [], ◌∷◌, length, get_or, arith, if◌then◌else◌}
 use Rattle.place_names.specs.declared.fact.Fact.{Fact}
 use Rattle.type_definitions.specs.declared.table.Shape.TheVariants as shape
-use Rattle.type_definitions.specs.Types.{shape_of, view_of as view_of_shape, parts}
+use Rattle.type_definitions.specs.Types.{shape_of, view_of as view_of_shape}
 use Rattle.flow_paths.specs.Objects.{Typing, object_at, designated, designated_of, is_anonymous, is_observer, view_of}
 use Rattle.machine.specs.Words as machine
 use Rattle.machine.specs.Memory.{Slot, Memory, Place, cell, no_slot, slots_of, variable_slots, words_of}
@@ -22,8 +22,8 @@ use Rattle.owned_loans.specs.Views.{Around, Views, expand, ExcusedBy, Viewed}
 use Rattle.owned_loans.proofs.Ways.{Lifted, lifted_root}
 use Rattle.owned_loans.proofs.Safe.{OpenWhole, Unborrowed, Unmoved, open_itself, seen_below, clean_below}
 use Rattle.owned_loans.proofs.Moves.{named_way, view_named}
-use Rattle.viewed_soundness.specs.Holds.{IsNamed, PartsAreNamed, Holds}
-use Rattle.viewed_soundness.proofs.Names.{Starts, starts_leads, plain_named, plain_observer, true_false, view_access, way_live, Opens, IsLifted, IsRaised, one_slot, owner_clean, view_clean, name_walked, name_lifted}
+use Rattle.viewed_soundness.specs.Holds.{PartsAreNamed, Holds}
+use Rattle.viewed_soundness.proofs.Names.{Starts, starts_leads, plain_named, plain_observer, true_false, view_access, way_live, Opens, IsRaised, one_slot, owner_clean, view_clean, name_walked, name_lifted}
 use Rattle.viewed_soundness.proofs.Sources.{stands_named}
 use Rattle.viewed_soundness.proofs.Viewing.{view_leaf}
 use Rattle.typed_laws.specs.Needed.{IndexLaw}
