@@ -201,6 +201,12 @@ module _ (t : Turn) (n : Memory) (agrees : Agrees t.state.memory n) where
             declared_only (typing t) m only (length t.outer) x b.low,
           )
 
+  -- a scope ends
+  pub end_scope_same : OnlyOwners (typing t) t.state.memory → (x : ℕ) → SameStep t (end_scope t x) (end_scope (twin t n) x)
+  end_scope_same only x =
+      leaks_same t n agrees t.point.pos (variable_place (here t) x) t.state.memory n (undeclared (length t.outer) x t.state.memory) (undeclared (length t.outer) x n) agrees
+      (undeclared_agree (length t.outer) x t.state.memory n agrees) (undeclared_only (typing t) t.state.memory only (length t.outer) x)
+
 -- ---- each instruction
 
 module _ (t : Turn) (settled : IsSettled (typing t).table) (own_law : OwnsByShape (typing t).table) (asks : Premises (here t))
@@ -346,13 +352,6 @@ module _ (t : Turn) (settled : IsSettled (typing t).table) (own_law : OwnsByShap
       (taken_by t u e at) (taken_by t u e (start (twin t n))) placed placed (source_given mid u e owner own gives calls takes each.0 keep)
       (source_same mid u e owner own gives calls takes compares' each.0 keep)
       (λ ws i j given now. then_placed mid on p x u path lead takes' calls' compares (after a facts) each.1 ws i j given now))
-
-  -- ---- scopes
-
-  pub end_scope_same : (x : ℕ) → Step (end_scope t x) (end_scope (twin t n) x)
-  end_scope_same x =
-      leaks_same t n agrees t.point.pos (variable_place h x) t.state.memory n (undeclared depth x t.state.memory) (undeclared depth x n) agrees
-      (undeclared_agree depth x t.state.memory n agrees) (undeclared_only (typing t) t.state.memory only depth x)
 
   -- ---- a release
 

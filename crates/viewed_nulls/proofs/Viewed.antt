@@ -53,7 +53,7 @@ either_none true b e = cc
 either_none false b e = (refl, e)
 
 -- the type of a view
-anonymous_access : (c : Bool) → is_anonymous (view_of_shape (shape.Access 0 c false)) ≡ true
+pub anonymous_access : (c : Bool) → is_anonymous (view_of_shape (shape.Access 0 c false)) ≡ true
 anonymous_access true = refl
 anonymous_access false = refl
 
