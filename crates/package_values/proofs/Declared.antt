@@ -12,8 +12,7 @@ use Rattle.flow_paths.specs.Layout.{Around, with_scope, declared, laid}
 use Rattle.flow_paths.specs.Laid.{around_body, elaboration_points}
 use Rattle.scope_laws.proofs.Lists.{and_first, and_second, all_both, all_one}
 use Rattle.ready_laws.specs.InOrder.{declares_only}
-use Rattle.lowered_laws.specs.Lowers.{IsDeclaration}
-use Rattle.lowered_files.specs.Code.{calls_nothing}
+use Rattle.package_values.specs.Calls.{calls_nothing}
 
 neither : (a b : Bool) → a || b ≡ false → (a ≡ false) × (b ≡ false)
 neither false b e = (refl, e)
@@ -70,8 +69,8 @@ prep_none s (Alike t e) at scope k none = prep_none s e (0 ∷ at) scope k none
 prep_none s (New t e) at scope k none = prep_none s e (0 ∷ at) scope k none
 prep_none s e at scope k none = tt
 
-abbrev Declares : NamedPoint → Type 0
-Declares p = IsDeclaration p.instr
+abbrev pub Declares : NamedPoint → Type 0
+Declares p = (x : ℕ) × (v : TypedTree) × (p.instr ≡ Declare x v) × (has_call v ≡ false)
 
 none_declare : (ps : List NamedPoint) → Empty ps → AllByRecursion Declares ps
 none_declare [] h = tt
@@ -88,7 +87,7 @@ laid_declare s (typed.More a rest) at w k only none =
     (and_second (calls_nothing a) (calls_nothing rest) none))
 laid_declare s (typed.Declare p x v) at w k only none =
     all_one Declares (prep s v (0 ∷ at) w.scope (row_at at 0 ∷ [])) (point (row_at at 0) p (Declare x v) (with_held s v (0 ∷ at) w.scope) k)
-    (none_declare (prep s v (0 ∷ at) w.scope (row_at at 0 ∷ [])) (prep_none s v (0 ∷ at) w.scope (row_at at 0 ∷ []) (no_call (has_call v) none))) tt
+    (none_declare (prep s v (0 ∷ at) w.scope (row_at at 0 ∷ [])) (prep_none s v (0 ∷ at) w.scope (row_at at 0 ∷ []) (no_call (has_call v) none))) (x, v, refl, no_call (has_call v) none)
 laid_declare s typed.NoMore at w k only none = tt
 laid_declare s _ at w k only none = cc
 

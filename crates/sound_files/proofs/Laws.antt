@@ -1,21 +1,15 @@
--- The instructions of files are typed, where they call procedures alone and no fault of typing is found.
-use Rattle.std.proofs.Common.{◌≡◌, ◌≤◌, inr, true, false, List, length, IsTrue, None, refl, sym, true≢false}
+-- The table of types of files without a fault of typing, and the types of what they declare.
+use Rattle.std.proofs.Common.{◌≡◌, ◌≤◌, inr, false, List, length, IsTrue, None}
 use Rattle.ada_tree.specs.declared.unit.SourceUnit.{SourceUnit}
 use Rattle.name_events.specs.Outline.{source_events}
 use Rattle.name_events.specs.Identified.{identified}
 use Rattle.name_events.specs.Faults.{name_fault}
 use Rattle.resolved_tree.specs.Trees.{Code, Program}
-use Rattle.type_definitions.specs.Types.{Table}
 use Rattle.type_definitions.specs.Whole.{at_first, outside, known_of, type_fault}
 use Rattle.typing_steps.specs.Programs.{program_of}
-use Rattle.flow_paths.specs.Instructions.{Instruction, Evaluate}
-use Rattle.flow_paths.specs.Laid.{FlowProgram, flow_program}
 use Rattle.type_sizes.specs.Formed.{all_formed}
 use Rattle.type_rules.proofs.Formed.{files_formed}
 use Rattle.typed_laws.specs.Fine.{Laws}
-use Rattle.typed_laws.specs.Needed.{AreFine}
-use Rattle.typed_points.specs.Code.{is_whole, AreUndivided}
-use Rattle.typed_points.proofs.Main.{are_fine}
 use Rattle.settled_types.specs.Orderly.{at_start, IsOrderly as IsInOrder}
 use Rattle.orderly_files.specs.Apart.{AreApart}
 use Rattle.orderly_files.specs.Ended.{AllEnded}
@@ -27,12 +21,7 @@ use Rattle.gathered_laws.proofs.Components.{components_left}
 use Rattle.gathered_laws.proofs.Laws.{program_laws}
 use Rattle.named_files.proofs.Records.{records_apart}
 use Rattle.meant_files.specs.Typed.{AreTyped as AreDeclared}
-use Rattle.meant_files.proofs.Main.{first_table, files_kept, files_typed, files_meant}
-use Rattle.soundness.specs.Sound.{calls_procedures}
-use Rattle.soundness.proofs.Successors.{nothing_procedures}
-use Rattle.ready_laws.proofs.Temporaries.{few_temporaries}
-use Rattle.order_laws.specs.Orderly.{typed_of}
-use Rattle.sound_files.specs.Class.{CallsNothing, CallsProcedures}
+use Rattle.meant_files.proofs.Main.{first_table, files_kept, files_typed}
 use Rattle.order_laws.proofs.Faults.{units_faultless}
 use Rattle.settled_types.specs.Stamped.{AllOpen}
 use Rattle.settled_types.proofs.Main.{second, rows_first, rows_second}
@@ -45,11 +34,6 @@ use Rattle.sound_files.proofs.Flat.{unit_flat}
 use Rattle.sound_files.proofs.Written.{files_written}
 use Rattle.spark_base.specs.Lists.{Has}
 
--- No operand of a short circuit stands by itself where no function is called.
-whole_of : (i : Instruction) → calls_procedures i ≡ true → is_whole i ≡ true
-whole_of (Evaluate t e left) calm = absurd (true≢false (sym calm))
-whole_of i calm = refl
-
 -- There is a row for each declaration.
 long : (p : Program) → IsInOrder p → AllOpen (known_of p) p.units → p.count ≤ length (known_of p).table
 unfolding known_of
@@ -61,15 +45,6 @@ first_long p orderly opens = (rows_first p orderly opens).long
 module _ (files : List (List SourceUnit)) where
   abbrev p : Program
   p = program_of files
-
-  abbrev table : Table
-  table = (known_of p).table
-
-  abbrev flow : FlowProgram
-  flow = flow_program table (typed_of p)
-
-  undivided : CallsProcedures flow → AreUndivided flow
-  undivided calls sub has point is = whole_of point.instr (calls sub has point is)
 
   module _ (apart : AreApart (identified files)) (ended : AllEnded at_start p.units) (up : Ascends (event_positions (source_events files))) (named : name_fault files ≡ None)
       (none : type_fault p ≡ None) (views : AreViews p.units (known_of p).table) where
@@ -96,15 +71,3 @@ module _ (files : List (List SourceUnit)) where
     pub files_declared : (u : Code) → Has p.units u → AreDeclared (IsMade p.units) (outside (known_of p)) u
     files_declared =
         files_typed files up named (IsMade p.units) (λ m has. inr has) (long p orderly opens) (steady p orderly opens flat kept) (alike p orderly opens flat kept)
-
-    pub procedures_fine : CallsProcedures flow → AreFine flow
-    procedures_fine calls =
-        are_fine p (IsMade p.units) none table_laws
-        (files_meant files up named (IsMade p.units) (λ m has. inr has) (long p orderly opens) (steady p orderly opens flat kept) (alike p orderly opens flat kept))
-        (few_temporaries table (typed_of p) calls) (undivided calls)
-
-  -- So it is where nothing is called.
-  pub files_fine : AreApart (identified files) → AllEnded at_start p.units → Ascends (event_positions (source_events files)) → name_fault files ≡ None → type_fault p ≡ None → AreViews p.units (known_of p).table
-      → CallsNothing flow → AreFine flow
-  files_fine apart ended up named none views calls =
-      procedures_fine apart ended up named none views (λ sub has point is. nothing_procedures point.instr (calls sub has point is))

@@ -25,8 +25,8 @@ use Rattle.flow_paths.specs.Names.{has_call}
 use Rattle.scope_laws.proofs.Lists.{and_first, and_second, both_true, all_both}
 use Rattle.order_laws.specs.Written.{is_declaration, are_declarations, is_body, are_parts, is_unit}
 use Rattle.order_laws.proofs.Mains.{nothing_left, nothing_right, demanded}
-use Rattle.lowered_files.specs.Code.{calls_nothing}
-use Rattle.lowered_sources.proofs.Still.{expression_still}
+use Rattle.package_values.specs.Calls.{calls_nothing}
+use Rattle.package_values.proofs.Still.{expression_still}
 
 abbrev CallsNone : TypedCode → Type 0
 CallsNone c = calls_nothing c ≡ true
