@@ -3,6 +3,7 @@
 use Rattle.std.proofs.Common.{◌≡◌, inr, ℕ, List, Some}
 use Rattle.spark_base.specs.declared.limits.TheConstants.{TOKENS, SOURCE_BYTES}
 use Rattle.ada_tree.specs.declared.unit.SourceUnit.{SourceUnit}
+use Rattle.type_definitions.specs.Whole.{known_of}
 use Rattle.typing_steps.specs.Programs.{program_of}
 use Rattle.flow_paths.specs.declared.report.Effects.{Effects}
 use Rattle.soundness.proofs.Successors.{nothing_procedures}
@@ -12,7 +13,9 @@ use Rattle.sound_files.specs.Class.{CallsNothing, CallsProcedures, FormalsAreSca
 use Rattle.sound_files.proofs.Classes.{scalar_formals, copies, formless_formals, formless_copied}
 use Rattle.view_laws.proofs.Ready.{uncalled_spared}
 use Rattle.viewed_files.specs.Class.{IsFormlessText, SparePackages}
-use Rattle.viewed_files.proofs.Files.{parsed_called_sound}
+use Rattle.viewed_steps.specs.Ready.{IsReady}
+use Rattle.viewed_steps.proofs.Main.{ready_sound}
+use Rattle.viewed_files.proofs.Files.{parsed_called_ready}
 use Rattle.command_words.specs.Words.{Check}
 use Rattle.run_command.specs.Answers.{Answer}
 use Rattle.spark_tool.specs.Commands.{command_of}
@@ -36,11 +39,17 @@ pub record AreInSecondViewClass (trees : List (List SourceUnit)) (effects : Effe
   pub copied : CopyToVariables (program_of trees)
   pub spare : SparePackages (flow_of trees) effects
 
+-- Such a program is ready, as the laws on its steps ask.
+pub passed_called_ready : (texts : List (List ℕ)) (trees : List (List SourceUnit)) (effects : Effects) → Passes texts trees effects → AreInSecondViewClass trees effects
+    → IsReady (known_of (program_of trees)).table (typed_of (program_of trees)) effects
+passed_called_ready texts trees effects passes class =
+    parsed_called_ready trees passes.cuts (are_parsed texts 0 TOKENS passes.cuts trees passes.cut passes.parsed) passes.named passes.typed class.main class.is_main
+    effects passes.effects_are passes.none class.calls (scalar_formals (program_of trees) class.formals) (copies (program_of trees) class.copied) class.spare
+
 pub passed_called_sound : (texts : List (List ℕ)) (trees : List (List SourceUnit)) (effects : Effects) → Passes texts trees effects → AreInSecondViewClass trees effects
     → RunsAreSound trees
-passed_called_sound texts trees effects passes class =
-    parsed_called_sound trees passes.cuts (are_parsed texts 0 TOKENS passes.cuts trees passes.cut passes.parsed) passes.named passes.typed class.main class.is_main
-    effects passes.effects_are passes.none class.calls (scalar_formals (program_of trees) class.formals) (copies (program_of trees) class.copied) class.spare
+passed_called_sound texts trees effects passes class input =
+    ready_sound (known_of (program_of trees)).table (typed_of (program_of trees)) effects input (passed_called_ready texts trees effects passes class)
 
 -- If the tool answers a check with status 0, and the program is in this class, its runs are sound.
 pub accepted_called_sound : (stored : List (List ℕ × List ℕ)) (input : List ℕ) (words names : List (List ℕ)) (answer : Answer)
