@@ -7,3 +7,4 @@ pub mod Functions
 pub mod Main
 -- with borrowers and observers
 pub mod Views
+pub mod ViewNulls
