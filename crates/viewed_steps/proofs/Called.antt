@@ -265,7 +265,7 @@ module _ (h : Here) (settled : IsSettled h.typing.table) (hands : List Waiting) 
   abbrev IsCopiedName : Mode → TypedTree → Type 0
   IsCopiedName m' e = is_in m' ≡ false → goes_through_none e ≡ true
 
-  one_given : (mode_of : Mode) (x : ℕ) (e : TypedTree) → IsActualBy h.typing mode_of e → IsCopiedName mode_of e → has_call e ≡ false
+  pub one_given : (mode_of : Mode) (x : ℕ) (e : TypedTree) → IsActualBy h.typing mode_of e → IsCopiedName mode_of e → has_call e ≡ false
       → AllowsAll facts (acts (head_acts h.typing own_law mode_of e)) → Quiet at (λ a. IsGiven mode_of e a) (passed h (way_by h.typing own_law mode_of) x e at)
   one_given mode.In x e actual copied none allowed = value_is e (passed h ByValue x e at) (value_given x e actual none allowed)
   one_given mode.Out x e actual copied none allowed =
@@ -301,7 +301,7 @@ module _ (h : Here) (settled : IsSettled h.typing.table) (hands : List Waiting) 
       (λ more are. (refl, (is, are))))
   all_given (x ∷ formals) actuals stay copied none allowed = (refl, refl)
 
-  given_laid : (mode_of : Mode) (e : TypedTree) (a : Passed) → IsGiven mode_of e a → IsLaid h.typing a
+  pub given_laid : (mode_of : Mode) (e : TypedTree) (a : Passed) → IsGiven mode_of e a → IsLaid h.typing a
   given_laid mode.In e (Value ws) is = is
   given_laid mode.In e (From k) is = absurd is
   given_laid mode.In e (To k) is = absurd is
