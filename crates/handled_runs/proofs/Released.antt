@@ -1,5 +1,5 @@
 -- The law: cells are released alike over both heaps.
-use Rattle.std.proofs.Common.{◌≡◌, refl, sym, ap, ◌∙◌, subst, ℕ, zero, suc, ◌+◌, arith, Bool, true, false, ◌&&◌, nat_le, nat_lt, List, [], ◌∷◌, map, length, get_or, slice_get, Option, Some, None, ℤ, pos, negsuc, if◌then◌else◌}
+use Rattle.std.proofs.Common.{◌≡◌, refl, sym, ap, ◌∙◌, subst, ℕ, zero, suc, ◌+◌, Bool, true, false, ◌&&◌, nat_le, nat_lt, List, [], ◌∷◌, map, length, get_or, slice_get, Option, Some, None, ℤ, pos, negsuc, if◌then◌else◌}
 use Rattle.std.proofs.lemmas.List.{length-map}
 use Rattle.spark_base.specs.declared.position.Pos.{Pos}
 use Rattle.type_definitions.specs.Types.{Table}
@@ -92,7 +92,7 @@ module _ (handles : List ℕ) (here taken : List Kind) (m : Flat) (s : Slots) (b
         gots_then (λ a b. b ≡ a) (AreLeft handles here taken) (points.leaks_at table m (InCell k 0) of at) (leaks_at table s (InCell (get_or handles k 0) 0) of at)
         (λ leaks. and_then (flat.stored m q one (pos 0 ∷ [])) (λ n. Given (record { leaks = leaks; memory = flat.without_cell n k (length ws) })))
         (λ leaks. and_then (stored s (spot_renamed handles q) one (pos 0 ∷ [])) (λ t. Given (record { leaks = leaks; memory = without_cell t (get_or handles k 0) (length (map (handled handles) ws)) })))
-        (leaks_gots handles here taken m s beside table (InCell k 0) of at (λ us is. omega arith) are leaked)
+        (leaks_gots handles here taken m s beside table (InCell k 0) of at tt are leaked)
         (λ leaks ls checked same.
         gots_then (Beside handles here taken) (AreLeft handles here taken) (flat.stored m q one (pos 0 ∷ [])) (stored s (spot_renamed handles q) one (pos 0 ∷ []))
         (λ n. Given (record { leaks = leaks; memory = flat.without_cell n k (length ws) })) (λ t. Given (record { leaks = ls; memory = without_cell t (get_or handles k 0) (length (map (handled handles) ws)) }))

@@ -1,15 +1,17 @@
 -- What is held at a spot, stored there and moved from there is alike over both heaps.
-use Rattle.std.proofs.Common.{◌≡◌, refl, sym, ap, ◌∙◌, subst, ℕ, ◌+◌, Bool, true, false, ◌&&◌, nat_le, nat_lt, List, [], ◌∷◌, append-nil, take, drop, length, slice_get, ℤ, if◌then◌else◌}
+use Rattle.std.proofs.Common.{◌≡◌, refl, sym, ap, ◌∙◌, subst, ℕ, zero, suc, ◌+◌, ◌≤◌, arith, Option, Some, None, get_or, ◌++◌, Bool, true, false, ◌&&◌, nat_le, nat_lt, List, [], ◌∷◌, append-nil, take, drop, length, slice_get, ℤ, if◌then◌else◌}
 use mathlib.Core.Logic.{inl, inr}
 use Rattle.run_values.specs.declared.value.Value.{Value}
 use Rattle.run_values.specs.declared.value.Kind.{Kind}
+use Rattle.machine.specs.Evaluate.{Touched}
+use Rattle.reuse_heap.specs.Cells as numbered
 use Rattle.reuse_heap.specs.Cells.{Cell}
 use Rattle.numbered_cells.specs.Follows.{IsThere}
 use Rattle.run_codes.specs.Flat.{Flat, Made, Done, Halted, Got, Given, Stops, Broken, Stop, Raises, Traps, Memory, Spot, InStack, InCell, and_then, is_word, all_fresh, words_in, have_kinds, most_offsets, touched, front_of_cell, are_words, are_pointers, are_in, all_gone, with_words, values, values_gone, spliced}
 use Rattle.run_codes.specs.Flat as flat
 use Rattle.handled_runs.specs.Slots.{Slots}
 use Rattle.handled_runs.specs.Slots as slots
-use Rattle.handled_runs.specs.Changes.{stored, emptied}
+use Rattle.handled_runs.specs.Changes.{cell_stored, stored, emptied}
 use Rattle.handled_runs.specs.Values.{Outcome, Gives, Ends, Fails, reads, copies, moves}
 use Rattle.handled_runs.specs.Beside.{IsSilent, GotsAlike, all_renamed, spot_renamed, NameWords, Beside}
 use Rattle.handled_runs.specs.Looks.{AreKept}
@@ -93,6 +95,16 @@ pub record AreRenamed (handles : List ℕ) (ks : List Kind) (zs us : List ℤ) :
   pub known : length ks ≡ length zs
   pub names : NameWords (length handles) ks zs
 
+second_true : (a b : Bool) → a && b ≡ true → b ≡ true
+second_true true b e = e
+second_true false b e = cc
+
+-- Some words at an offset lie within.
+kinds_room : (k : Kind) (ks : List Kind) (o : ℕ) (ws : List Value) → have_kinds (k ∷ ks) (drop o ws) ≡ true → o ≤ length ws
+kinds_room k ks zero ws is = omega arith
+kinds_room k ks (suc o) [] is = cc
+kinds_room k ks (suc o) (w ∷ ws) is = let less = kinds_room k ks o ws is in omega (arith, less)
+
 module _ (handles : List ℕ) (here taken : List Kind) where
   pub silent_stops : (x : Stop) (m : Flat) (r : Outcome) → IsSilent x → StopsAlike handles here taken x m r
   silent_stops x m (Gives us s) e = e
@@ -167,12 +179,57 @@ module _ (handles : List ℕ) (here taken : List Kind) (m : Flat) (s : Slots) (b
 
   -- ---- what is moved and stored
 
+  -- no words in a cell
+  none_spliced : (o : ℕ) (ws : List Value) → spliced o [] ws ≡ ws
+  none_spliced zero ws = refl
+  none_spliced (suc o) [] = let next : suc o + 0 ≡ suc (o + 0) = omega arith in ap (λ i. drop {A = Value} i []) next
+  none_spliced (suc o) (w ∷ ws) = let next : suc o + 0 ≡ suc (o + 0) = omega arith in ap (λ i. take (suc o) (w ∷ ws) ++ [] ++ drop i (w ∷ ws)) next ∙ ap (λ rest. w ∷ rest) (none_spliced o ws)
+
+  none_changed : (o : ℕ) (cells : List Cell) (i : ℕ) → numbered.changed (λ (c : Cell). record c { words = spliced o [] c.words }) cells i ≡ cells
+  none_changed o [] i = refl
+  none_changed o (c ∷ cells) zero = ap (λ ws. record c { words = ws } ∷ cells) (none_spliced o c.words)
+  none_changed o (c ∷ cells) (suc i) = ap (λ rest. c ∷ rest) (none_changed o cells i)
+
+  none_beside : (i o : ℕ) → Beside handles here taken (with_words m i o []) s
+  none_beside i o = subst (λ cells. Beside handles here taken (record m { cells = cells }) s) (sym (none_changed o m.cells i)) beside
+
   there_emptied : (p : Spot) (ks : List Kind) (gone : List ℕ) (n : Flat) → StandAt m here p ks → flat.moved_out m p ks gone ≡ Given n
       → (t : Slots) × (emptied s (spot_renamed handles p) ks gone ≡ Given t) × Beside handles here taken n t
   there_emptied (InStack i) ks gone n stand e = stack_emptied handles here taken m s beside i ks gone n stand.0 stand.1 e
-  there_emptied (InCell i o) ks gone n stand e =
-      let there = there_of (slice_get m.cells i) (λ (d : Cell). if are_pointers ks gone && are_in o ks d then Given (with_words m i o (values_gone gone (take (length ks) (drop o d.words)))) else Broken) n e in
-      cell_emptied handles here taken m s beside i o there.0 ks gone n there.1 (stand there.0 there.1) e
+  there_emptied (InCell i o) [] (g ∷ gone) n stand e = absurd (by (slice_get m.cells i) e)
+    where
+      no : Broken ≡ Given n → ⊥
+      no f = cc
+
+      trap : Stops (Traps Touched) ≡ Given n → ⊥
+      trap f = cc
+
+      freed : (b : Bool) → (if b then Stops (Traps Touched) else Broken) ≡ Given n → ⊥
+      freed true f = trap f
+      freed false f = no f
+
+      by : (x : Option Cell) → touched x (λ (d : Cell). Broken) ≡ Given n → ⊥
+      by None f = no f
+      by (Some c) f = freed c.freed f
+  there_emptied (InCell i o) [] [] n stand e =
+      let there = there_of (slice_get m.cells i) (λ (d : Cell). if are_in o [] d then Given (with_words m i o []) else Broken) n e in
+      let same : with_words m i o [] ≡ n = by there.0 (are_in o [] (record { words = there.0; freed = false })) (sym (ap (λ x. touched x (λ (d : Cell). if are_in o [] d then Given (with_words m i o []) else Broken)) there.1) ∙ e) in
+      (s, refl, subst (λ x. Beside handles here taken x s) same (none_beside i o))
+    where
+      by : (ws : List Value) (b : Bool) → (if b then Given (with_words m i o []) else Broken) ≡ Given n → with_words m i o [] ≡ n
+      by ws true f = cc
+      by ws false f = cc
+  there_emptied (InCell i o) (k ∷ ks) gone n stand e =
+      let there = there_of (slice_get m.cells i) (λ (d : Cell). if are_pointers (k ∷ ks) gone && are_in o (k ∷ ks) d then Given (with_words m i o (values_gone gone (take (length (k ∷ ks)) (drop o d.words)))) else Broken) n e in
+      cell_emptied handles here taken m s beside i o there.0 (k ∷ ks) gone n there.1 (room o there.0 (fits there.0 (are_pointers (k ∷ ks) gone) (are_in o (k ∷ ks) (record { words = there.0; freed = false })) refl (sym (ap (λ x. touched x (λ (d : Cell). if are_pointers (k ∷ ks) gone && are_in o (k ∷ ks) d then Given (with_words m i o (values_gone gone (take (length (k ∷ ks)) (drop o d.words)))) else Broken)) there.1) ∙ e))) e
+    where
+      room : (o : ℕ) (ws : List Value) → have_kinds (k ∷ ks) (drop o ws) ≡ true → o ≤ length ws
+      room o ws is = kinds_room k ks o ws is
+
+      fits : (ws : List Value) (a b : Bool) → are_in o (k ∷ ks) (record { words = ws; freed = false }) ≡ b → (if a && b then Given (with_words m i o (values_gone gone (take (length (k ∷ ks)) (drop o ws)))) else Broken) ≡ Given n → have_kinds (k ∷ ks) (drop o ws) ≡ true
+      fits ws true true is f = second_true (nat_lt (o + length (k ∷ ks)) most_offsets) (have_kinds (k ∷ ks) (drop o ws)) is
+      fits ws true false is f = cc
+      fits ws false b is f = cc
 
   pub moved_gots : (p : Spot) (ks : List Kind) (gone : List ℕ) → StandAt m here p ks → GotsAlike (Beside handles here taken) (flat.moved_out m p ks gone) (emptied s (spot_renamed handles p) ks gone)
   moved_gots p ks gone stand =
@@ -181,9 +238,23 @@ module _ (handles : List ℕ) (here taken : List Kind) (m : Flat) (s : Slots) (b
   there_stored : (q : Spot) (ks : List Kind) (zs : List ℤ) (n : Flat) → StandAt m here q ks → length ks ≡ length zs → NameWords (length handles) ks zs → flat.stored m q ks zs ≡ Given n
       → (t : Slots) × (stored s (spot_renamed handles q) ks (all_renamed handles ks zs) ≡ Given t) × Beside handles here taken n t
   there_stored (InStack i) ks zs n stand long names e = stack_stored handles here taken m s beside i ks ks zs n stand.0 long names e
-  there_stored (InCell i o) ks zs n stand long names e =
-      let there = there_of (slice_get m.cells i) (λ (d : Cell). if are_words ks zs && are_in o ks d then Given (with_words m i o (values ks zs)) else Broken) n e in
-      words_stored handles here taken m s beside i o there.0 ks zs n there.1 (stand there.0 there.1) names e
+  there_stored (InCell i o) [] (z ∷ zs) n stand long names e = cc
+  there_stored (InCell i o) [] [] n stand long names e =
+      let there = there_of (slice_get m.cells i) (λ (d : Cell). if are_in o [] d then Given (with_words m i o []) else Broken) n e in
+      let same : with_words m i o [] ≡ n = by there.0 (are_in o [] (record { words = there.0; freed = false })) (sym (ap (λ x. touched x (λ (d : Cell). if are_in o [] d then Given (with_words m i o []) else Broken)) there.1) ∙ e) in
+      (s, ap (cell_stored s (get_or handles i 0) o []) (beside.cells.live i there.0 there.1), subst (λ x. Beside handles here taken x s) same (none_beside i o))
+    where
+      by : (ws : List Value) (b : Bool) → (if b then Given (with_words m i o []) else Broken) ≡ Given n → with_words m i o [] ≡ n
+      by ws true f = cc
+      by ws false f = cc
+  there_stored (InCell i o) (k ∷ ks) zs n stand long names e =
+      let there = there_of (slice_get m.cells i) (λ (d : Cell). if are_words (k ∷ ks) zs && are_in o (k ∷ ks) d then Given (with_words m i o (values (k ∷ ks) zs)) else Broken) n e in
+      words_stored handles here taken m s beside i o there.0 (k ∷ ks) zs n there.1 (kinds_room k ks o there.0 (fits there.0 (are_words (k ∷ ks) zs) (are_in o (k ∷ ks) (record { words = there.0; freed = false })) refl (sym (ap (λ x. touched x (λ (d : Cell). if are_words (k ∷ ks) zs && are_in o (k ∷ ks) d then Given (with_words m i o (values (k ∷ ks) zs)) else Broken)) there.1) ∙ e))) names e
+    where
+      fits : (ws : List Value) (a b : Bool) → are_in o (k ∷ ks) (record { words = ws; freed = false }) ≡ b → (if a && b then Given (with_words m i o (values (k ∷ ks) zs)) else Broken) ≡ Given n → have_kinds (k ∷ ks) (drop o ws) ≡ true
+      fits ws true true is f = second_true (nat_lt (o + length (k ∷ ks)) most_offsets) (have_kinds (k ∷ ks) (drop o ws)) is
+      fits ws true false is f = cc
+      fits ws false b is f = cc
 
   -- The law on stores.
   pub stored_gots : (q : Spot) (ks : List Kind) (zs : List ℤ) → StandAt m here q ks → length ks ≡ length zs → NameWords (length handles) ks zs

@@ -1,12 +1,10 @@
 -- What is asked of what values read, and that both heaps give the same then.
 use Rattle.std.specs.Prelude.{◌≡◌, ◌≤◌, ◌⊎◌, ℕ, zero, suc, List, [], ◌∷◌, ◌++◌, take, drop, length, ℤ}
 use Rattle.type_definitions.specs.Types.{Table}
-use Rattle.run_values.specs.declared.value.Value.{Value}
 use Rattle.run_values.specs.declared.value.Kind.{Kind}
 use Rattle.run_values.specs.declared.value.Kind.TheVariants as sort
 use Rattle.run_codes.specs.Codes.{Place, Fill, Checked, Pointer, MovedPointer, Copied, Moved, Waited, New, Default, Repeated, Both, Empty}
 use Rattle.run_codes.specs.Flat.{Flat, Made, Done, Halted, Failed, Given, Stop, Memory, Spot, InStack, InCell, word, spot, words_at, filled, kinds, default_words}
-use Rattle.numbered_cells.specs.Follows.{IsThere}
 use Rattle.handled_runs.specs.Slots.{Slots}
 use Rattle.handled_runs.specs.Values.{Outcome, Gives, Ends, Fails}
 use Rattle.handled_runs.specs.Beside.{IsSilent, all_renamed, NameWords, Beside}
@@ -14,10 +12,10 @@ use Rattle.handled_runs.specs.Looks.{IsData, IsNumber, IsKept, Looks, LooksAt, I
 
 -- ---- what is asked
 
--- Words of these kinds stand at a spot of the stack. One in a cell that is there lies within it.
+-- Words of these kinds stand at a spot, if it is one of the stack. (Cells have their kinds.)
 abbrev pub StandAt : Flat → List Kind → Spot → List Kind → Type 0
 StandAt m here (InStack n) ks = IsFront ks (drop n here) × (n ≤ length m.stack)
-StandAt m here (InCell n o) ks = (ws : List Value) → IsThere m.cells n ws → o ≤ length ws
+StandAt m here (InCell n o) ks = Unit {0}
 
 -- None of them is gone.
 abbrev pub LooksThere : Flat → List Kind → List Kind → Place → List Kind → Type 0
