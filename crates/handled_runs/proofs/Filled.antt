@@ -6,27 +6,30 @@ use Rattle.run_values.specs.declared.value.Kind.{Kind}
 use Rattle.run_values.specs.declared.value.Kind.TheVariants as sort
 use Rattle.machine.specs.Words.{access_offsets}
 use Rattle.run_codes.specs.Codes.{Place, Fill, Checked, Pointer, MovedPointer, Copied, Moved, Waited, New, Default, Repeated, Both, Empty}
-use Rattle.run_codes.specs.Flat.{Flat, Made, Done, Halted, Failed, Got, Given, Stops, Broken, Stop, and_then, access, checked, is_word, kinds, default_words, some_words, repeated, made_then, filled}
+use Rattle.run_codes.specs.Flat.{Flat, Made, Done, Halted, Failed, Got, Given, Stops, Broken, Raises, Traps, Memory, and_then, access, checked, is_word, kinds, default_words, some_words, repeated, made_then, filled}
 use Rattle.run_codes.specs.Flat as flat
 use Rattle.handled_runs.specs.Slots.{Slots}
 use Rattle.handled_runs.specs.Slots as slots
 use Rattle.handled_runs.specs.Values.{Outcome, Gives, Ends, Fails, reads, copies, moves, Then, Makes, Fills}
-use Rattle.handled_runs.specs.Beside.{renamed, all_renamed, mapped, NamesWord, NameWords, Beside}
+use Rattle.handled_runs.specs.Beside.{GotsAlike, handle_word, renamed, all_renamed, NamesWord, NameWords, Beside}
 use Rattle.handled_runs.specs.Looks.{IsData, IsNumber, IsKept}
 use Rattle.handled_runs.specs.Alike.{LooksFill, LooksThere, AreNumbers, AreAlike, Alike}
-use Rattle.handled_runs.proofs.Words.{word_same, of_data}
-use Rattle.handled_runs.proofs.Places.{spot_same}
+use Rattle.handled_runs.proofs.Gots.{gots_same, gots_on, gots_then}
+use Rattle.handled_runs.proofs.Words.{data_renamed, word_gots}
+use Rattle.handled_runs.proofs.Places.{spot_gots}
 use Rattle.handled_runs.proofs.Standing.{drop_renamed}
 use Rattle.handled_runs.proofs.Names.{named_data, number_named, word_named, drop_named}
-use Rattle.handled_runs.proofs.There.{given_alike, stops_alike, copies_alike, moves_alike}
+use Rattle.handled_runs.proofs.There.{given_alike, reads_on, copies_alike, moves_alike}
 use Rattle.handled_runs.proofs.Outcomes.{memory_ends, stops_then, alike_on, repeated_alike, second_alike, cell_alike}
 
 -- ---- words
 
-data_renamed : (handles : List ℕ) (k : Kind) (z : ℤ) → IsData k → z ≡ renamed handles k z
-data_renamed handles sort.Int z is = refl
-data_renamed handles sort.Enum z is = refl
-data_renamed handles sort.Access z is = absurd is
+data_word : (handles : List ℕ) (k : Kind) (z : ℤ) → IsData k → renamed handles k z ≡ z
+data_word = data_renamed
+
+checked_same : (handles : List ℕ) (k : Kind) (low high z : ℤ) → IsData k → GotsAlike (λ a b. b ≡ renamed handles k a) (checked low high z) (checked low high z)
+checked_same handles k low high z is =
+    gots_on (λ a b. b ≡ a) (λ a b. b ≡ renamed handles k a) (checked low high z) (checked low high z) (λ a b e. e ∙ sym (data_renamed handles k a is)) (gots_same (checked low high z) (checked low high z) refl)
 
 number_renamed : (handles : List ℕ) (k : Kind) (z : ℤ) → IsNumber k z → z ≡ renamed handles k z
 number_renamed handles sort.Int z is = refl
@@ -90,23 +93,37 @@ tests_within a b less = grind (arith, nat_tests)
 -- ---- one value
 
 module _ (handles : List ℕ) (here taken : List Kind) (m : Flat) (s : Slots) (beside : Beside handles here taken m s) where
-  one_alike : (k : Kind) (g : Got ℤ) → IsData k → AreAlike handles here taken (k ∷ []) (flat.reads m g (λ w. Done (w ∷ []) m)) (reads s g (λ w. Gives (w ∷ []) s))
-  one_alike k (Given w) is =
-      subst (λ x. Alike handles here taken (k ∷ []) (w ∷ []) m (x ∷ []) s) (sym (data_renamed handles k w is))
-      (given_alike handles here taken m s beside (k ∷ []) (w ∷ []) m s refl (named_data (length handles) k w is, tt) beside)
-  one_alike k (Stops t) is = stops_alike handles here taken m s beside t
-  one_alike k Broken is = tt
+  one_alike : (k : Kind) (x y : Got ℤ) → GotsAlike (λ a b. b ≡ renamed handles k a) x y → ((z : ℤ) → x ≡ Given z → NamesWord (length handles) k z)
+      → AreAlike handles here taken (k ∷ []) (flat.reads m x (λ w. Done (w ∷ []) m)) (reads s y (λ w. Gives (w ∷ []) s))
+  one_alike k x y is names =
+      reads_on handles here taken m s beside (λ a b. b ≡ renamed handles k a) (k ∷ []) x y (λ w. Done (w ∷ []) m) (λ w. Gives (w ∷ []) s) is
+      (λ z w e same.
+      subst (λ v. Alike handles here taken (k ∷ []) (z ∷ []) m (v ∷ []) s) (sym same) (given_alike handles here taken m s beside (k ∷ []) (z ∷ []) m s refl (names z e, tt) beside))
 
-  access_alike : (g : Got ℤ) → ((z : ℤ) → g ≡ Given z → IsKept z) → ((z : ℤ) → g ≡ Given z → NamesWord (length handles) sort.Access z)
-      → AreAlike handles here taken (sort.Access ∷ []) (flat.reads m (and_then g access) (λ w. Done (w ∷ []) m)) (reads s (mapped (renamed handles sort.Access) g) (λ w. Gives (w ∷ []) s))
-  access_alike (Given (pos n)) kept names = by (is_word sort.Access (pos n))
+  -- an access value that is looked at
+  looked_gots : (x y : Got ℤ) → GotsAlike (λ a b. b ≡ handle_word handles a) x y → ((z : ℤ) → x ≡ Given z → IsKept z) → GotsAlike (λ a b. b ≡ handle_word handles a) (and_then x access) y
+  looked_gots (Given (pos n)) (Given w) is kept = by (is_word sort.Access (pos n))
     where
-      by : (b : Bool) → AreAlike handles here taken (sort.Access ∷ []) (flat.reads m (if b then Given (pos n) else Broken) (λ w. Done (w ∷ []) m)) (Gives (renamed handles sort.Access (pos n) ∷ []) s)
-      by true = given_alike handles here taken m s beside (sort.Access ∷ []) (pos n ∷ []) m s refl (names (pos n) refl, tt) beside
+      by : (b : Bool) → GotsAlike (λ a b. b ≡ handle_word handles a) (if b then Given (pos n) else Broken) (Given w)
+      by true = is
       by false = tt
-  access_alike (Given (negsuc n)) kept names = absurd (kept (negsuc n) refl)
-  access_alike (Stops t) kept names = stops_alike handles here taken m s beside t
-  access_alike Broken kept names = tt
+  looked_gots (Given (negsuc n)) (Given w) is kept = absurd (kept (negsuc n) refl)
+  looked_gots (Given z) (Stops t) is kept = absurd is
+  looked_gots (Given z) Broken is kept = absurd is
+  looked_gots (Stops (Raises e)) y is kept = is
+  looked_gots (Stops (Traps t)) y is kept = tt
+  looked_gots (Stops Memory) y is kept = tt
+  looked_gots Broken y is kept = tt
+
+  looked_word : (x : Got ℤ) (z : ℤ) → ((y : ℤ) → x ≡ Given y → NamesWord (length handles) sort.Access y) → ((y : ℤ) → x ≡ Given y → IsKept y) → and_then x access ≡ Given z → NamesWord (length handles) sort.Access z
+  looked_word (Given (pos n)) z names kept e = by (is_word sort.Access (pos n)) e
+    where
+      by : (b : Bool) → (if b then Given (pos n) else Broken) ≡ Given z → NamesWord (length handles) sort.Access z
+      by true f = let same : pos n ≡ z = cc in subst (NamesWord (length handles) sort.Access) same (names (pos n) refl)
+      by false f = cc
+  looked_word (Given (negsuc n)) z names kept e = absurd (kept (negsuc n) refl)
+  looked_word (Stops t) z names kept e = cc
+  looked_word Broken z names kept e = cc
 
   waited_alike : (at n : ℕ) (ks : List Kind) → ks ≡ take n (drop at taken) → length ks ≡ n
       → AreAlike handles here taken ks (flat.reads m (some_words n (drop at m.waits)) (λ zs. Done zs m)) (reads s (some_words n (drop at s.waits)) (λ zs. Gives zs s))
@@ -132,15 +149,11 @@ module _ (handles : List ℕ) (here taken : List Kind) (m : Flat) (s : Slots) (b
   -- a place, over both
   copied_alike : (p : Place) (ks : List Kind) → LooksThere m here taken p ks
       → AreAlike handles here taken ks (flat.reads m (flat.spot m p) (λ q. flat.reads m (flat.held m q ks) (λ zs. Done zs m))) (copies s (slots.spot s p) ks)
-  copied_alike p ks looks =
-      subst (λ g. AreAlike handles here taken ks (flat.reads m (flat.spot m p) (λ q. flat.reads m (flat.held m q ks) (λ zs. Done zs m))) (copies s g ks))
-      (sym (spot_same handles here taken m s beside p looks.0)) (copies_alike handles here taken m s beside (flat.spot m p) ks looks.1)
+  copied_alike p ks looks = copies_alike handles here taken m s beside (flat.spot m p) (slots.spot s p) ks (spot_gots handles here taken m s beside p looks.0) looks.1
 
   moved_alike : (p : Place) (ks : List Kind) (gone : List ℕ) → LooksThere m here taken p ks
       → AreAlike handles here taken ks (flat.reads m (flat.spot m p) (λ q. flat.reads m (flat.held m q ks) (λ zs. flat.reads m (flat.moved_out m q ks gone) (Done zs)))) (moves s (slots.spot s p) ks gone)
-  moved_alike p ks gone looks =
-      subst (λ g. AreAlike handles here taken ks (flat.reads m (flat.spot m p) (λ q. flat.reads m (flat.held m q ks) (λ zs. flat.reads m (flat.moved_out m q ks gone) (Done zs)))) (moves s g ks gone))
-      (sym (spot_same handles here taken m s beside p looks.0)) (moves_alike handles here taken m s beside (flat.spot m p) ks gone looks.1)
+  moved_alike p ks gone looks = moves_alike handles here taken m s beside (flat.spot m p) (slots.spot s p) ks gone (spot_gots handles here taken m s beside p looks.0) looks.1
 
 -- ---- a new cell with a value, and a value after another one
 
@@ -177,17 +190,19 @@ pub fill_alike : (table : Table) (v : Fill) (ks : List Kind) (handles : List ℕ
     → Beside handles here taken m s → LooksFill table m here taken v ks → Fills table v s r → AreAlike handles here taken ks (filled table v m) r
 unfolding filled LooksFill Fills
 fill_alike table (Checked c low high) ks handles here taken m s r beside (k, is, flat_kind, looks) so =
-    let word : slots.word s c ≡ flat.word m c = of_data handles here taken m s beside k flat_kind (flat.word m c) (slots.word s c) (word_same handles here taken m s beside c k looks) in
-    let same : reads s (and_then (slots.word s c) (checked low high)) (λ w. Gives (w ∷ []) s) ≡ reads s (and_then (flat.word m c) (checked low high)) (λ w. Gives (w ∷ []) s)
-    = ap (λ g. reads s (and_then g (checked low high)) (λ w. Gives (w ∷ []) s)) word in
     subst (λ js. AreAlike handles here taken js (filled table (Checked c low high) m) r) (sym is)
-    (subst (AreAlike handles here taken (k ∷ []) (filled table (Checked c low high) m)) (sym (so ∙ same))
-    (one_alike handles here taken m s beside k (and_then (flat.word m c) (checked low high)) flat_kind))
+    (subst (AreAlike handles here taken (k ∷ []) (filled table (Checked c low high) m)) (sym so)
+    (one_alike handles here taken m s beside k (and_then (flat.word m c) (checked low high)) (and_then (slots.word s c) (checked low high))
+    (gots_then (λ a b. b ≡ renamed handles k a) (λ a b. b ≡ renamed handles k a) (flat.word m c) (slots.word s c) (checked low high) (checked low high) (word_gots handles here taken m s beside c k looks)
+    (λ z w e same.
+    subst (λ v. GotsAlike (λ a b. b ≡ renamed handles k a) (checked low high z) (checked low high v)) (sym (same ∙ data_word handles k z flat_kind)) (checked_same handles k low high z flat_kind)))
+    (λ z e. named_data (length handles) k z flat_kind)))
 fill_alike table (Pointer c) ks handles here taken m s r beside (is, looks, kept) so =
     subst (λ js. AreAlike handles here taken js (filled table (Pointer c) m) r) (sym is)
-    (subst (AreAlike handles here taken (sort.Access ∷ []) (filled table (Pointer c) m))
-    (sym (so ∙ ap (λ g. reads s g (λ w. Gives (w ∷ []) s)) (word_same handles here taken m s beside c sort.Access looks)))
-    (access_alike handles here taken m s beside (flat.word m c) kept (λ z e. word_named handles here taken m s beside c sort.Access z looks e)))
+    (subst (AreAlike handles here taken (sort.Access ∷ []) (filled table (Pointer c) m)) (sym so)
+    (one_alike handles here taken m s beside sort.Access (and_then (flat.word m c) access) (slots.word s c)
+    (looked_gots handles here taken m s beside (flat.word m c) (slots.word s c) (word_gots handles here taken m s beside c sort.Access looks) kept)
+    (λ z e. looked_word handles here taken m s beside (flat.word m c) z (λ y f. word_named handles here taken m s beside c sort.Access y looks f) kept e)))
 fill_alike table (MovedPointer p) ks handles here taken m s r beside (is, looks) so =
     subst (λ js. AreAlike handles here taken js (filled table (MovedPointer p) m) r) (sym is)
     (subst (AreAlike handles here taken (sort.Access ∷ []) (filled table (MovedPointer p) m)) (sym so) (moved_alike handles here taken m s beside p (sort.Access ∷ []) (0 ∷ []) looks))

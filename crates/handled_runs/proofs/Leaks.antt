@@ -1,21 +1,21 @@
--- Leak checks tell the same over both heaps, and what is stored at a spot is so over both.
-use Rattle.std.proofs.Common.{◌≡◌, refl, sym, ap, ◌∙◌, ℕ, zero, suc, Bool, true, false, ◌&&◌, List, [], ◌∷◌, ◌++◌, drop, length, get_or, slice_get, ℤ, pos, negsuc}
+-- Leak checks tell the same over both heaps.
+use Rattle.std.proofs.Common.{◌≡◌, refl, ap, ◌∙◌, subst, ℕ, zero, suc, Bool, true, false, ◌&&◌, List, [], ◌∷◌, ◌++◌, drop, length, get_or, slice_get, ℤ, pos, negsuc}
 use Rattle.spark_base.specs.declared.position.Pos.{Pos}
 use Rattle.type_definitions.specs.Types.{Table}
 use Rattle.run_values.specs.declared.value.Kind.{Kind}
 use Rattle.run_values.specs.declared.value.Kind.TheVariants as sort
 use Rattle.machine.specs.Words.{access_offsets}
-use Rattle.run_codes.specs.Flat.{Flat, Given, and_then, kinds, is_pointer, are_pointers, Spot, InStack, InCell}
+use Rattle.run_codes.specs.Flat.{Flat, Got, Given, Stops, Broken, Stop, and_then, kinds, is_pointer, are_pointers, Spot, InStack, InCell}
 use Rattle.run_codes.specs.Flat as flat
 use Rattle.run_codes.specs.Points as points
 use Rattle.handled_runs.specs.Slots.{Slots}
-use Rattle.handled_runs.specs.Changes.{stored}
 use Rattle.handled_runs.specs.Leaks.{leak, leaks_in, leaks_at, IsLeaked, AreLeaked}
-use Rattle.handled_runs.specs.Beside.{handle_word, all_renamed, spot_renamed, NameWords, Beside}
+use Rattle.machine.specs.States.{Leak}
+use Rattle.handled_runs.specs.Beside.{IsSilent, GotsAlike, handle_word, all_renamed, spot_renamed, Beside}
 use Rattle.handled_runs.specs.Alike.{StandAt}
 use Rattle.handled_runs.proofs.Standing.{stack_words, cell_words_same, front_long}
-use Rattle.handled_runs.proofs.Stacks.{stack_stored}
-use Rattle.handled_runs.proofs.Cells.{words_stored}
+use Rattle.handled_runs.proofs.Gots.{given_both}
+use Rattle.handled_runs.proofs.There.{words_silent, words_there}
 
 first_of : (a b : Bool) → a && b ≡ true → a ≡ true
 first_of true b e = refl
@@ -52,20 +52,33 @@ module _ (handles : List ℕ) (here taken : List Kind) (m : Flat) (s : Slots) (b
   -- The law on leak checks.
   pub leaks_alike : (table : Table) (q : Spot) (of : ℕ) (p : Pos) (zs : List ℤ) → StandAt m here q (kinds table of) → flat.words_at m q (kinds table of) ≡ Given zs
       → are_pointers (kinds table of) (access_offsets table of) ≡ true → AreLeaked m.cells zs (access_offsets table of)
-      → leaks_at table s (spot_renamed handles q) of p ≡ points.leaks_at table m q of p
+      → leaks_at table s (spot_renamed handles q) of p ≡ Given (points.leaks_in p zs (access_offsets table of))
   leaks_alike table (InStack n) of p zs stand e are leaked =
       ap (λ g. and_then g (λ us. Given (leaks_in s.numbers p us (access_offsets table of)))) (stack_words handles here taken m s beside n (kinds table of) zs stand.0 e)
-      ∙ (ap Given (leaks_same p (kinds table of) zs (access_offsets table of) (front_long (kinds table of) (drop n m.stack) zs e) are leaked)
-      ∙ ap (λ g. and_then g (λ us. Given (points.leaks_in p us (access_offsets table of)))) (sym e))
+      ∙ ap Given (leaks_same p (kinds table of) zs (access_offsets table of) (front_long (kinds table of) (drop n m.stack) zs e) are leaked)
   leaks_alike table (InCell n o) of p zs stand e are leaked =
-      let same = cell_words_same handles here taken m s beside n o stand.0 (kinds table of) zs stand.1 e in
+      let there = words_there m n o (kinds table of) zs e in
+      let same = cell_words_same handles here taken m s beside n o there.0 (kinds table of) zs there.1 e in
       ap (λ g. and_then g (λ us. Given (leaks_in s.numbers p us (access_offsets table of)))) same.0
-      ∙ (ap Given (leaks_same p (kinds table of) zs (access_offsets table of) same.1 are leaked)
-      ∙ ap (λ g. and_then g (λ us. Given (points.leaks_in p us (access_offsets table of)))) (sym e))
+      ∙ ap Given (leaks_same p (kinds table of) zs (access_offsets table of) same.1 are leaked)
 
-module _ (handles : List ℕ) (here taken : List Kind) (m : Flat) (s : Slots) (beside : Beside handles here taken m s) where
-  -- The law on stores.
-  pub there_stored : (q : Spot) (ks : List Kind) (zs : List ℤ) (n : Flat) → StandAt m here q ks → length ks ≡ length zs → NameWords (length handles) ks zs → flat.stored m q ks zs ≡ Given n
-      → (t : Slots) × (stored s (spot_renamed handles q) ks (all_renamed handles ks zs) ≡ Given t) × Beside handles here taken n t
-  there_stored (InStack i) ks zs n stand long names e = stack_stored handles here taken m s beside i ks ks zs n stand.0 long names e
-  there_stored (InCell i o) ks zs n stand long names e = words_stored handles here taken m s beside i o stand.0 ks zs n stand.1 stand.2 names e
+  leaks_silent : (table : Table) (q : Spot) (of : ℕ) (p : Pos) (t : Stop) → points.leaks_at table m q of p ≡ Stops t → IsSilent t
+  leaks_silent table q of p t e = by (flat.words_at m q (kinds table of)) refl e
+    where
+      by : (g : Got (List ℤ)) → flat.words_at m q (kinds table of) ≡ g → and_then g (λ zs. Given (points.leaks_in p zs (access_offsets table of))) ≡ Stops t → IsSilent t
+      by (Given zs) found e = cc
+      by (Stops u) found e = let same : u ≡ t = cc in subst IsSilent same (words_silent m q (kinds table of) u found)
+      by Broken found e = cc
+
+  pub leaks_gots : (table : Table) (q : Spot) (of : ℕ) (p : Pos) → StandAt m here q (kinds table of) → are_pointers (kinds table of) (access_offsets table of) ≡ true
+      → ((zs : List ℤ) → flat.words_at m q (kinds table of) ≡ Given zs → AreLeaked m.cells zs (access_offsets table of))
+      → GotsAlike (λ a b. b ≡ a) (points.leaks_at table m q of p) (leaks_at table s (spot_renamed handles q) of p)
+  leaks_gots table q of p stand are leaked =
+      given_both (λ a b. b ≡ a) (points.leaks_at table m q of p) (leaks_at table s (spot_renamed handles q) of p) (leaks_silent table q of p) (λ leaks e. by (flat.words_at m q (kinds table of)) refl leaks e)
+    where
+      by : (g : Got (List ℤ)) → flat.words_at m q (kinds table of) ≡ g → (leaks : List Leak) → and_then g (λ zs. Given (points.leaks_in p zs (access_offsets table of))) ≡ Given leaks
+          → (ls : List Leak) × (leaks_at table s (spot_renamed handles q) of p ≡ Given ls) × (ls ≡ leaks)
+      by (Given zs) found leaks e =
+          (points.leaks_in p zs (access_offsets table of), leaks_alike table q of p zs stand found are (leaked zs found), (let same : points.leaks_in p zs (access_offsets table of) ≡ leaks = cc in same))
+      by (Stops t) found leaks e = cc
+      by Broken found leaks e = cc

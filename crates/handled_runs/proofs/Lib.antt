@@ -1,3 +1,5 @@
+-- what is read, one after the other
+pub mod Gots
 -- words of cells, and of stacks
 pub mod Named
 -- codes

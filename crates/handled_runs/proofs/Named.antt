@@ -1,5 +1,5 @@
 -- Words with handles in place of numbers.
-use Rattle.std.proofs.Common.{◌≡◌, refl, sym, ap, ◌∙◌, ℕ, zero, suc, ◌-◌, ◌==◌, arith, Bool, true, false, nat_lt, List, [], ◌∷◌, map, length, get_or, slice_get, option_and_then, Some, ℤ, pos, negsuc, if◌then◌else◌}
+use Rattle.std.proofs.Common.{◌≡◌, refl, sym, ap, ◌∙◌, ℕ, zero, suc, ◌-◌, ◌==◌, ◌&&◌, arith, Bool, true, false, nat_lt, List, [], ◌∷◌, map, length, get_or, slice_get, option_and_then, Some, ℤ, pos, negsuc, if◌then◌else◌}
 use Rattle.run_values.specs.declared.value.Value.{Value}
 use Rattle.run_values.specs.declared.value.Value.TheVariants as value
 use Rattle.run_values.specs.declared.value.Kind.{Kind}
@@ -11,8 +11,10 @@ use Rattle.run_codes.specs.Flat as flat
 use Rattle.numbered_cells.specs.Follows.{handled}
 use Rattle.handled_runs.specs.Slots.{Slots, slot_word, of_kind}
 use Rattle.handled_runs.specs.Slots as slots
-use Rattle.handled_runs.specs.Beside.{handle_word, renamed, all_renamed, mapped, Beside}
-use Rattle.handled_runs.specs.Looks.{IsData, IsKept, Reaches}
+use Rattle.slot_heap.specs.Heaps.{word_at}
+use Rattle.handled_runs.specs.Beside.{GotsAlike, handle_word, renamed, all_renamed, mapped, Beside}
+use Rattle.handled_runs.specs.Looks.{IsData, IsKept}
+use Rattle.handled_runs.proofs.Gots.{gots_mapped, touched_gots}
 
 -- ---- values
 
@@ -94,12 +96,21 @@ zero_same handles (negsuc n) kept = absurd kept
 -- ---- through an access value
 
 module _ (handles : List ℕ) (kinds taken : List Kind) (m : Flat) (s : Slots) (beside : Beside handles kinds taken m s) where
-  pub behind_same : (o : ℕ) (k : Kind) (z : ℤ) → Reaches m.cells o z → slots.behind s o k (handle_word handles z) ≡ mapped (renamed handles k) (flat.behind m o k z)
-  behind_same o k (pos zero) reach = refl
-  behind_same o k (pos (suc n)) reach =
-      ap (λ us. of_kind k (option_and_then (λ ws. slice_get ws o) us)) (beside.cells.live n reach.1 reach.2)
-      ∙ read_same handles reach.1 o k
-      ∙ ap (mapped (renamed handles k)) (sym
-      (ap (λ b. if b then touched (slice_get m.cells n) (λ (c : Cell). value_word k (slice_get c.words o)) else Broken) reach.0
-      ∙ ap (λ x. touched x (λ (c : Cell). value_word k (slice_get c.words o))) reach.2))
-  behind_same o k (negsuc n) reach = absurd reach
+  cell_gots : (o : ℕ) (k : Kind) (n : ℕ)
+      → GotsAlike (λ a b. b ≡ renamed handles k a) (touched (slice_get m.cells n) (λ (c : Cell). value_word k (slice_get c.words o))) (of_kind k (word_at s.heap (get_or handles n 0) o))
+  cell_gots o k n =
+      touched_gots (λ a b. b ≡ renamed handles k a) (slice_get m.cells n) (λ (c : Cell). value_word k (slice_get c.words o)) (of_kind k (word_at s.heap (get_or handles n 0) o))
+      (λ ws there.
+      gots_mapped (renamed handles k) (value_word k (slice_get ws o)) (of_kind k (word_at s.heap (get_or handles n 0) o))
+      (ap (λ us. of_kind k (option_and_then (λ xs. slice_get xs o) us)) (beside.cells.live n ws there) ∙ read_same handles ws o k))
+
+  -- The word of a kind in the cell that an access value designates.
+  pub behind_gots : (o : ℕ) (k : Kind) (z : ℤ) → IsKept z → GotsAlike (λ a b. b ≡ renamed handles k a) (flat.behind m o k z) (slots.behind s o k (handle_word handles z))
+  behind_gots o k (pos zero) kept = refl
+  behind_gots o k (pos (suc n)) kept = by (nat_lt n most_cells && nat_lt o most_offsets)
+    where
+      by : (b : Bool)
+          → GotsAlike (λ a b. b ≡ renamed handles k a) (if b then touched (slice_get m.cells n) (λ (c : Cell). value_word k (slice_get c.words o)) else Broken) (of_kind k (word_at s.heap (get_or handles n 0) o))
+      by true = cell_gots o k n
+      by false = tt
+  behind_gots o k (negsuc n) kept = absurd kept

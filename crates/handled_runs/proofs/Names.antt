@@ -13,7 +13,8 @@ use Rattle.run_codes.specs.Flat as flat
 use Rattle.numbered_cells.specs.Follows.{IsThere, Names, AllName}
 use Rattle.handled_runs.specs.Slots.{Slots}
 use Rattle.handled_runs.specs.Beside.{NamesWord, NameWords, Beside}
-use Rattle.handled_runs.specs.Looks.{IsData, IsNumber, Reaches, Looks, IsFront}
+use Rattle.handled_runs.specs.Looks.{IsData, IsNumber, Looks, IsFront}
+use Rattle.handled_runs.proofs.Gots.{there_of}
 use Rattle.handled_runs.proofs.Named.{kind_same}
 use Rattle.handled_runs.proofs.Standing.{drop_map, kinds_front}
 use Rattle.handled_runs.proofs.Lists.{front_names}
@@ -80,13 +81,15 @@ module _ (handles : List ℕ) (here taken : List Kind) (m : Flat) (s : Slots) (b
   abbrev bound : ℕ
   bound = length handles
 
-  behind_named : (o : ℕ) (k : Kind) (y z : ℤ) → Reaches m.cells o y → behind_at m o k (unsigned_abs y) ≡ Given z → NamesWord bound k z
-  behind_named o k (pos zero) z reach e = cc
-  behind_named o k (pos (suc n)) z reach e =
-      one_named bound reach.1 o k z (beside.cells.names n reach.1 reach.2)
-      (sym (ap (λ b. if b then touched (slice_get m.cells n) (λ (c : Cell). value_word k (slice_get c.words o)) else Broken) reach.0
-      ∙ ap (λ x. touched x (λ (c : Cell). value_word k (slice_get c.words o))) reach.2) ∙ e)
-  behind_named o k (negsuc n) z reach e = absurd reach
+  behind_named : (o : ℕ) (k : Kind) (i : ℕ) (z : ℤ) → behind_at m o k i ≡ Given z → NamesWord bound k z
+  behind_named o k zero z e = cc
+  behind_named o k (suc n) z e = by (nat_lt n most_cells && nat_lt o most_offsets) e
+    where
+      by : (b : Bool) → (if b then touched (slice_get m.cells n) (λ (c : Cell). value_word k (slice_get c.words o)) else Broken) ≡ Given z → NamesWord bound k z
+      by true f =
+          let there = there_of (slice_get m.cells n) (λ (c : Cell). value_word k (slice_get c.words o)) z f in
+          one_named bound there.0 o k z (beside.cells.names n there.0 there.1) (sym (ap (λ x. touched x (λ (c : Cell). value_word k (slice_get c.words o))) there.1) ∙ f)
+      by false f = cc
 
   pub word_named : (c : Code) (k : Kind) (z : ℤ) → Looks m here taken c k → flat.word m c ≡ Given z → NamesWord bound k z
   unfolding flat.word Looks
@@ -105,17 +108,16 @@ module _ (handles : List ℕ) (here taken : List Kind) (m : Flat) (s : Slots) (b
       by (Given o) is e = slice_named bound here m.stack (at + unsigned_abs o) k z (is o refl) (found_is (slice_get m.stack (at + unsigned_abs o)) z e) beside.names
       by (Stops t) is e = cc
       by Broken is e = cc
-  word_named (Via p at i j) k z looks e = by (flat.indexes m p) (flat.word m i) (flat.word m p) looks.3 e
+  word_named (Via p at i j) k z looks e = by (flat.indexes m p) (flat.word m i) (flat.word m p) e
     where
-      by : (x w v : Got ℤ) → ((o y : ℤ) → w ≡ Given o → v ≡ Given y → Reaches m.cells (at + unsigned_abs o) y)
-          → and_then x (λ q. and_then w (λ o. and_then v (flat.behind m (at + unsigned_abs o) j))) ≡ Given z → NamesWord bound k z
-      by (Given x) (Given o) (Given y) reach e = subst (λ q. NamesWord bound q z) looks.0 (behind_named (at + unsigned_abs o) j y z (reach o y refl refl) e)
-      by (Given x) (Given o) (Stops t) reach e = cc
-      by (Given x) (Given o) Broken reach e = cc
-      by (Given x) (Stops t) v reach e = cc
-      by (Given x) Broken v reach e = cc
-      by (Stops t) w v reach e = cc
-      by Broken w v reach e = cc
+      by : (x w v : Got ℤ) → and_then x (λ q. and_then w (λ o. and_then v (flat.behind m (at + unsigned_abs o) j))) ≡ Given z → NamesWord bound k z
+      by (Given x) (Given o) (Given y) e = subst (λ q. NamesWord bound q z) looks.0 (behind_named (at + unsigned_abs o) j (unsigned_abs y) z e)
+      by (Given x) (Given o) (Stops t) e = cc
+      by (Given x) (Given o) Broken e = cc
+      by (Given x) (Stops t) v e = cc
+      by (Given x) Broken v e = cc
+      by (Stops t) w v e = cc
+      by Broken w v e = cc
   word_named (Scaled i low high size) k z looks e = named_data bound k z looks.0
   word_named (Plus a b) k z looks e = named_data bound k z looks.0
   word_named (Unary op a) k z looks e = named_data bound k z looks.0

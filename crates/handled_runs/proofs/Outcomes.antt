@@ -12,7 +12,7 @@ use Rattle.handled_runs.specs.Beside.{renamed, all_renamed, NameWords, Beside}
 use Rattle.handled_runs.specs.Alike.{Alike, AreAlike, StopsAlike, kinds_repeated}
 use Rattle.handled_runs.proofs.Named.{long_renamed}
 use Rattle.handled_runs.proofs.Cells.{words_on, names_on, new_beside}
-use Rattle.handled_runs.proofs.There.{stops_alike}
+use Rattle.handled_runs.proofs.There.{silent_stops, stops_alike}
 
 -- ---- words one after the other
 
@@ -47,20 +47,15 @@ long_repeated (suc n) ks zs long = long_append ks (kinds_repeated n ks) zs (repe
 -- ---- outcomes
 
 module _ (handles : List ℕ) (here taken : List Kind) where
-  memory_stops : (x : Stop) (m : Flat) (r : Outcome) → x ≡ Memory → StopsAlike handles here taken x m r
-  memory_stops x m (Gives us s) e = e
-  memory_stops x m (Ends y s) e = inl e
-  memory_stops x m Fails e = e
-
   pub memory_ends : (ks : List Kind) (f : Made (List ℤ)) (x : Stop) (s : Slots) → x ≡ Memory → AreAlike handles here taken ks f (Ends x s)
   memory_ends ks (Done zs m) x s e = e
   memory_ends ks (Halted y m) x s e = inr (inl e)
   memory_ends ks Failed x s e = tt
 
   pub stops_then : (x : Stop) (m : Flat) (g r : Outcome) (P : List ℤ → Slots → Type 0) → StopsAlike handles here taken x m g → Then g P r → StopsAlike handles here taken x m r
-  stops_then x m (Gives us s) r P same so = memory_stops x m r same
+  stops_then x m (Gives us s) r P same so = silent_stops handles here taken x m r same
   stops_then x m (Ends y s) r P same so = subst (StopsAlike handles here taken x m) (sym so) same
-  stops_then x m Fails r P same so = memory_stops x m r same
+  stops_then x m Fails r P same so = silent_stops handles here taken x m r same
 
   -- with the handles that were added meanwhile
   stops_on : (more : List ℕ) (x : Stop) (m : Flat) (r : Outcome) → StopsAlike (handles ++ more) here taken x m r → StopsAlike handles here taken x m r
@@ -154,8 +149,8 @@ module _ (handles : List ℕ) (here taken : List Kind) (m : Flat) (s : Slots) (b
           }
       by true true true (Ends x t) are made = made.0
       by true true true Fails are made = absurd made
-      by true true false (Gives ws t) are made = refl
-      by true true false (Ends x t) are made = inl refl
-      by true true false Fails are made = refl
+      by true true false (Gives ws t) are made = tt
+      by true true false (Ends x t) are made = inl tt
+      by true true false Fails are made = tt
       by true false c r are made = subst (StopsAlike handles here taken (Raises StorageError) m) (sym made) (stops_alike handles here taken m s beside (Raises StorageError))
       by false b c r are made = tt

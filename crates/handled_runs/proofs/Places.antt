@@ -1,71 +1,68 @@
 -- Places lead to the same spots over both heaps, but for the names of cells.
-use Rattle.std.proofs.Common.{◌≡◌, refl, sym, ap, ◌∙◌, ℕ, zero, suc, ◌+◌, Bool, true, false, nat_le, List, length, get_or, slice_get, ℤ, pos, negsuc, if◌then◌else◌}
+use Rattle.std.proofs.Common.{◌≡◌, refl, sym, ap, ◌∙◌, ℕ, zero, suc, subst, ◌+◌, ◌&&◌, Bool, true, false, nat_le, nat_lt, List, length, get_or, slice_get, ℤ, pos, negsuc, if◌then◌else◌}
 use Rattle.std.specs.Prelude.{unsigned_abs}
 use Rattle.run_values.specs.declared.value.Kind.{Kind}
 use Rattle.run_values.specs.declared.value.Kind.TheVariants as sort
 use Rattle.reuse_heap.specs.Cells.{Cell}
 use Rattle.run_codes.specs.Codes.{Place, InFrame, InPackages, Behind}
-use Rattle.run_codes.specs.Flat.{Flat, Got, Given, Stops, Broken, and_then, touched, InStack, InCell}
+use Rattle.run_codes.specs.Flat.{Flat, Given, Broken, and_then, most_cells, most_offsets, touched, InStack, InCell}
 use Rattle.run_codes.specs.Flat as flat
 use Rattle.handled_runs.specs.Slots.{Slots, live_spot}
 use Rattle.handled_runs.specs.Slots as slots
-use Rattle.handled_runs.specs.Beside.{handle_word, renamed, spot_renamed, mapped, Beside}
-use Rattle.handled_runs.specs.Looks.{Reaches, LooksAt}
+use Rattle.slot_heap.specs.Heaps.{words_at}
+use Rattle.handled_runs.specs.Beside.{GotsAlike, handle_word, spot_renamed, Beside}
+use Rattle.handled_runs.specs.Looks.{IsKept, LooksAt}
+use Rattle.handled_runs.proofs.Gots.{gots_then, touched_gots}
 use Rattle.handled_runs.proofs.Named.{long_renamed}
-use Rattle.handled_runs.proofs.Words.{word_same, index_same, indexes_same}
+use Rattle.handled_runs.proofs.Words.{word_gots, index_gots, indexes_gots}
 
 module _ (handles : List ℕ) (kinds taken : List Kind) (m : Flat) (s : Slots) (beside : Beside handles kinds taken m s) where
   pub as_long : length s.stack ≡ length m.stack
   as_long = ap length beside.stack ∙ long_renamed handles kinds m.stack beside.known
 
-  stack_same : (n : ℕ) → slots.stack_spot s n ≡ mapped (spot_renamed handles) (flat.stack_spot m n)
-  stack_same n = ap (λ l. if nat_le n l then Given (InStack n) else Broken) as_long ∙ by (nat_le n (length m.stack))
+  stack_gots : (n i : ℕ) → n ≡ i → GotsAlike (λ q r. r ≡ spot_renamed handles q) (flat.stack_spot m i) (slots.stack_spot s n)
+  stack_gots n i same =
+      subst (λ j. GotsAlike (λ q r. r ≡ spot_renamed handles q) (flat.stack_spot m i) (slots.stack_spot s j)) (sym same)
+      (subst (λ l. GotsAlike (λ q r. r ≡ spot_renamed handles q) (flat.stack_spot m i) (if nat_le i l then Given (InStack i) else Broken)) (sym as_long) (by (nat_le i (length m.stack))))
     where
-      by : (b : Bool) → (if b then Given (InStack n) else Broken) ≡ mapped (spot_renamed handles) (if b then Given (InStack n) else Broken)
+      by : (b : Bool) → GotsAlike (λ q r. r ≡ spot_renamed handles q) (if b then Given (InStack i) else Broken) (if b then Given (InStack i) else Broken)
       by true = refl
-      by false = refl
+      by false = tt
 
-  cell_same : (o : ℕ) (z : ℤ) → Reaches m.cells o z → slots.cell_spot s o (unsigned_abs (handle_word handles z)) ≡ mapped (spot_renamed handles) (flat.cell_spot m o (unsigned_abs z))
-  cell_same o (pos zero) reach = refl
-  cell_same o (pos (suc n)) reach =
-      ap (λ us. live_spot us (get_or handles n 0) o) (beside.cells.live n reach.1 reach.2)
-      ∙ ap (mapped (spot_renamed handles)) (sym
-      (ap (λ b. if b then touched (slice_get m.cells n) (λ (c : Cell). Given (InCell n o)) else Broken) reach.0
-      ∙ ap (λ x. touched x (λ (c : Cell). Given (InCell n o))) reach.2))
-  cell_same o (negsuc n) reach = absurd reach
-
-  in_frame : (at : ℕ) (g : Got ℤ) → and_then g (λ o. slots.stack_spot s (s.base + at + unsigned_abs o)) ≡ mapped (spot_renamed handles) (and_then g (λ o. flat.stack_spot m (m.base + at + unsigned_abs o)))
-  in_frame at (Given o) = ap (λ b. slots.stack_spot s (b + at + unsigned_abs o)) beside.base ∙ stack_same (m.base + at + unsigned_abs o)
-  in_frame at (Stops t) = refl
-  in_frame at Broken = refl
-
-  in_packages : (at : ℕ) (g : Got ℤ) → and_then g (λ o. slots.stack_spot s (at + unsigned_abs o)) ≡ mapped (spot_renamed handles) (and_then g (λ o. flat.stack_spot m (at + unsigned_abs o)))
-  in_packages at (Given o) = stack_same (at + unsigned_abs o)
-  in_packages at (Stops t) = refl
-  in_packages at Broken = refl
-
-  behind : (at : ℕ) (x w z : Got ℤ) → ((o y : ℤ) → w ≡ Given o → z ≡ Given y → Reaches m.cells (at + unsigned_abs o) y)
-      → and_then x (λ i. and_then w (λ o. and_then (mapped (renamed handles sort.Access) z) (λ v. slots.cell_spot s (at + unsigned_abs o) (unsigned_abs v))))
-      ≡ mapped (spot_renamed handles) (and_then x (λ i. and_then w (λ o. and_then z (λ v. flat.cell_spot m (at + unsigned_abs o) (unsigned_abs v)))))
-  behind at (Given x) (Given o) (Given y) reach = cell_same (at + unsigned_abs o) y (reach o y refl refl)
-  behind at (Given x) (Given o) (Stops t) reach = refl
-  behind at (Given x) (Given o) Broken reach = refl
-  behind at (Given x) (Stops t) z reach = refl
-  behind at (Given x) Broken z reach = refl
-  behind at (Stops t) w z reach = refl
-  behind at Broken w z reach = refl
+  cell_gots : (o : ℕ) (z : ℤ) → IsKept z → GotsAlike (λ q r. r ≡ spot_renamed handles q) (flat.cell_spot m o (unsigned_abs z)) (slots.cell_spot s o (unsigned_abs (handle_word handles z)))
+  cell_gots o (pos zero) kept = refl
+  cell_gots o (pos (suc n)) kept = by (nat_lt n most_cells && nat_lt o most_offsets)
+    where
+      by : (b : Bool)
+          → GotsAlike (λ q r. r ≡ spot_renamed handles q) (if b then touched (slice_get m.cells n) (λ (c : Cell). Given (InCell n o)) else Broken) (live_spot (words_at s.heap.cells (get_or handles n 0)) (get_or handles n 0) o)
+      by true =
+          touched_gots (λ q r. r ≡ spot_renamed handles q) (slice_get m.cells n) (λ (c : Cell). Given (InCell n o)) (live_spot (words_at s.heap.cells (get_or handles n 0)) (get_or handles n 0) o)
+          (λ ws there. subst (λ us. GotsAlike (λ q r. r ≡ spot_renamed handles q) (Given (InCell n o)) (live_spot us (get_or handles n 0) o)) (sym (beside.cells.live n ws there)) refl)
+      by false = tt
+  cell_gots o (negsuc n) kept = absurd kept
 
   -- The law.
-  pub spot_same : (p : Place) → LooksAt m kinds taken p → slots.spot s p ≡ mapped (spot_renamed handles) (flat.spot m p)
-  spot_same (InFrame at i) looks =
-      ap (λ g. and_then g (λ o. slots.stack_spot s (s.base + at + unsigned_abs o))) (index_same handles kinds taken m s beside i looks) ∙ in_frame at (flat.word m i)
-  spot_same (InPackages at i) looks =
-      ap (λ g. and_then g (λ o. slots.stack_spot s (at + unsigned_abs o))) (index_same handles kinds taken m s beside i looks) ∙ in_packages at (flat.word m i)
-  spot_same (Behind p at i) looks =
-      ap (λ g. and_then g (λ x. and_then (slots.word s i) (λ o. and_then (slots.word s p) (λ v. slots.cell_spot s (at + unsigned_abs o) (unsigned_abs v)))))
-      (indexes_same handles kinds taken m s beside p sort.Access looks.1)
-      ∙ (ap (λ g. and_then (flat.indexes m p) (λ x. and_then g (λ o. and_then (slots.word s p) (λ v. slots.cell_spot s (at + unsigned_abs o) (unsigned_abs v)))))
-      (index_same handles kinds taken m s beside i looks.0)
-      ∙ (ap (λ g. and_then (flat.indexes m p) (λ x. and_then (flat.word m i) (λ o. and_then g (λ v. slots.cell_spot s (at + unsigned_abs o) (unsigned_abs v)))))
-      (word_same handles kinds taken m s beside p sort.Access looks.1)
-      ∙ behind at (flat.indexes m p) (flat.word m i) (flat.word m p) looks.2))
+  pub spot_gots : (p : Place) → LooksAt m kinds taken p → GotsAlike (λ q r. r ≡ spot_renamed handles q) (flat.spot m p) (slots.spot s p)
+  spot_gots (InFrame at i) looks =
+      gots_then (λ a b. b ≡ a) (λ q r. r ≡ spot_renamed handles q) (flat.word m i) (slots.word s i) (λ o. flat.stack_spot m (m.base + at + unsigned_abs o)) (λ o. slots.stack_spot s (s.base + at + unsigned_abs o))
+      (index_gots handles kinds taken m s beside i looks)
+      (λ o v e same. stack_gots (s.base + at + unsigned_abs v) (m.base + at + unsigned_abs o) (ap (λ b. b + at + unsigned_abs v) beside.base ∙ ap (λ x. m.base + at + unsigned_abs x) same))
+  spot_gots (InPackages at i) looks =
+      gots_then (λ a b. b ≡ a) (λ q r. r ≡ spot_renamed handles q) (flat.word m i) (slots.word s i) (λ o. flat.stack_spot m (at + unsigned_abs o)) (λ o. slots.stack_spot s (at + unsigned_abs o))
+      (index_gots handles kinds taken m s beside i looks) (λ o v e same. stack_gots (at + unsigned_abs v) (at + unsigned_abs o) (ap (λ x. at + unsigned_abs x) same))
+  spot_gots (Behind p at i) looks =
+      gots_then (λ a b. b ≡ a) (λ q r. r ≡ spot_renamed handles q) (flat.indexes m p) (slots.indexes s p)
+      (λ x. and_then (flat.word m i) (λ o. and_then (flat.word m p) (λ w. flat.cell_spot m (at + unsigned_abs o) (unsigned_abs w))))
+      (λ x. and_then (slots.word s i) (λ o. and_then (slots.word s p) (λ w. slots.cell_spot s (at + unsigned_abs o) (unsigned_abs w))))
+      (indexes_gots handles kinds taken m s beside p sort.Access looks.1)
+      (λ x y at_indexes first.
+      gots_then (λ a b. b ≡ a) (λ q r. r ≡ spot_renamed handles q) (flat.word m i) (slots.word s i)
+      (λ o. and_then (flat.word m p) (λ w. flat.cell_spot m (at + unsigned_abs o) (unsigned_abs w))) (λ o. and_then (slots.word s p) (λ w. slots.cell_spot s (at + unsigned_abs o) (unsigned_abs w)))
+      (index_gots handles kinds taken m s beside i looks.0)
+      (λ o v at_index second.
+      gots_then (λ a b. b ≡ handle_word handles a) (λ q r. r ≡ spot_renamed handles q) (flat.word m p) (slots.word s p) (λ w. flat.cell_spot m (at + unsigned_abs o) (unsigned_abs w)) (λ w. slots.cell_spot s (at + unsigned_abs v) (unsigned_abs w))
+      (word_gots handles kinds taken m s beside p sort.Access looks.1)
+      (λ z w at_word third.
+      subst (λ i. GotsAlike (λ q r. r ≡ spot_renamed handles q) (flat.cell_spot m (at + unsigned_abs o) (unsigned_abs z)) (slots.cell_spot s (at + unsigned_abs i) (unsigned_abs w))) (sym second)
+      (subst (λ i. GotsAlike (λ q r. r ≡ spot_renamed handles q) (flat.cell_spot m (at + unsigned_abs o) (unsigned_abs z)) (slots.cell_spot s (at + unsigned_abs o) (unsigned_abs i))) (sym third)
+      (cell_gots (at + unsigned_abs o) z (looks.2 z at_word))))))

@@ -1,5 +1,5 @@
 -- The law: cells are released alike over both heaps.
-use Rattle.std.proofs.Common.{◌≡◌, refl, sym, ap, ◌∙◌, subst, ℕ, zero, suc, ◌+◌, arith, Bool, true, false, ◌&&◌, nat_le, nat_lt, List, [], ◌∷◌, map, length, get_or, slice_get, Option, Some, None, ℤ, pos, negsuc, if◌then◌else◌}
+use Rattle.std.proofs.Common.{◌≡◌, refl, sym, ap, ◌∙◌, subst, ℕ, zero, suc, ◌+◌, Bool, true, false, ◌&&◌, nat_le, nat_lt, List, [], ◌∷◌, map, length, get_or, slice_get, Option, Some, None, ℤ, pos, negsuc, if◌then◌else◌}
 use Rattle.std.proofs.lemmas.List.{length-map}
 use Rattle.spark_base.specs.declared.position.Pos.{Pos}
 use Rattle.type_definitions.specs.Types.{Table}
@@ -7,30 +7,29 @@ use Rattle.run_values.specs.declared.value.Value.{Value}
 use Rattle.run_values.specs.declared.value.Kind.{Kind}
 use Rattle.run_values.specs.declared.value.Kind.TheVariants as sort
 use Rattle.machine.specs.Words.{access_offsets}
-use Rattle.machine.specs.States.{Leak}
-use Rattle.machine.specs.Evaluate.{Touched}
+use Rattle.machine.specs.Evaluate.{Touched, Twice}
 use Rattle.slot_heap.specs.Heaps.{words_at}
 use Rattle.reuse_heap.specs.Cells as numbered
 use Rattle.reuse_heap.specs.Cells.{Cell}
 use Rattle.numbered_cells.specs.Follows.{handled, IsThere}
 use Rattle.run_codes.specs.Codes.{Place}
-use Rattle.run_codes.specs.Flat.{Flat, Got, Given, Stops, Broken, Stop, and_then, kinds, most_cells, are_pointers, are_words, are_in, touched, with_words, values, spliced, Spot, InStack, InCell}
+use Rattle.run_codes.specs.Flat.{Flat, Got, Given, Stops, Broken, Traps, and_then, kinds, most_cells, are_pointers, are_words, are_in, touched, with_words, values, spliced, Spot, InStack, InCell}
 use Rattle.run_codes.specs.Flat as flat
 use Rattle.run_codes.specs.Points as points
 use Rattle.handled_runs.specs.Slots.{Slots}
 use Rattle.handled_runs.specs.Slots as slots
 use Rattle.handled_runs.specs.Changes.{stored, without_cell}
 use Rattle.handled_runs.specs.Leaks.{leaks_at, AreLeaked}
-use Rattle.handled_runs.specs.Assigned.{LeftAlike}
+use Rattle.handled_runs.specs.Assigned.{Left, AreLeft, LeftAlike}
 use Rattle.handled_runs.specs.Released.{flat_freed, flat_cell, flat_at, flat_released, cell_at, released_at, released, IsOwner, LooksFor}
-use Rattle.handled_runs.specs.Beside.{handle_word, all_renamed, spot_renamed, mapped, Beside}
+use Rattle.handled_runs.specs.Beside.{GotsAlike, handle_word, all_renamed, spot_renamed, Beside}
 use Rattle.handled_runs.specs.Alike.{StandAt}
-use Rattle.handled_runs.proofs.Places.{spot_same}
+use Rattle.handled_runs.proofs.Gots.{gots_then, given_both}
+use Rattle.handled_runs.proofs.Places.{spot_gots}
 use Rattle.handled_runs.proofs.Standing.{stack_words, cell_words_same}
-use Rattle.handled_runs.proofs.There.{words_go}
+use Rattle.handled_runs.proofs.There.{words_silent, words_there, stored_gots}
 use Rattle.handled_runs.proofs.Cells.{cell_freed}
-use Rattle.handled_runs.proofs.Leaks.{there_stored}
-use Rattle.handled_runs.proofs.Assigned.{stored_goes, checks_alike, checks_go}
+use Rattle.handled_runs.proofs.Leaks.{leaks_gots}
 
 -- ---- a cell is there after a store
 
@@ -75,67 +74,82 @@ module _ (handles : List ℕ) (here taken : List Kind) (m : Flat) (s : Slots) (b
 
   held_there : (q : Spot) (zs : List ℤ) → StandAt m here q one → flat.words_at m q one ≡ Given zs → (slots.held s (spot_renamed handles q) one ≡ Given (all_renamed handles one zs))
   held_there (InStack n) zs stand e = stack_words handles here taken m s beside n one zs stand.0 e
-  held_there (InCell n o) zs stand e = (cell_words_same handles here taken m s beside n o stand.0 one zs stand.1 e).0
+  held_there (InCell n o) zs stand e = let there = words_there m n o one zs e in (cell_words_same handles here taken m s beside n o there.0 one zs there.1 e).0
+
+  words_gots : (q : Spot) → StandAt m here q one → GotsAlike (λ zs us. us ≡ all_renamed handles one zs) (flat.words_at m q one) (slots.held s (spot_renamed handles q) one)
+  words_gots q stand =
+      given_both (λ zs us. us ≡ all_renamed handles one zs) (flat.words_at m q one) (slots.held s (spot_renamed handles q) one) (words_silent m q one)
+      (λ zs e. (all_renamed handles one zs, held_there q zs stand e, refl))
 
   module _ (table : Table) (of : ℕ) (at : Pos) (are : are_pointers (kinds table of) (access_offsets table of) ≡ true) where
+    abbrev Alike : Got (Left Flat) → Got (Left Slots) → Type 0
+    Alike = LeftAlike handles here taken
+
     freed_alike : (q : Spot) (k : ℕ) (ws : List Value) → StandAt m here q one → IsThere m.cells k ws
         → ((zs : List ℤ) → flat.words_at m (InCell k 0) (kinds table of) ≡ Given zs → AreLeaked m.cells zs (access_offsets table of))
-        → LeftAlike handles here taken (flat_freed table of at q m k (record { words = ws; freed = false })) (cell_at table of at (spot_renamed handles q) s (get_or handles k 0) (Some (map (handled handles) ws)))
-    freed_alike q k ws stand there leaked = by (points.leaks_at table m (InCell k 0) of at) (flat.stored m q one (pos 0 ∷ [])) refl refl
-      where
-        by : (g : Got (List Leak)) (x : Got Flat) → points.leaks_at table m (InCell k 0) of at ≡ g → flat.stored m q (sort.Access ∷ []) (pos 0 ∷ []) ≡ x
-            → LeftAlike handles here taken (and_then g (λ leaks. and_then x (λ n. Given (record { leaks = leaks; memory = flat.without_cell n k (length ws) }))))
-            (and_then (leaks_at table s (InCell (get_or handles k 0) 0) of at)
-            (λ leaks. and_then (stored s (spot_renamed handles q) (sort.Access ∷ []) (pos 0 ∷ [])) (λ t. Given (record { leaks = leaks; memory = without_cell t (get_or handles k 0) (length (map (handled handles) ws)) }))))
-        by (Given leaks) (Given n) checked kept =
-            let done = there_stored handles here taken m s beside q (sort.Access ∷ []) (pos 0 ∷ []) n stand refl (tt, tt) kept in
-            let stays = stored_stays m q (sort.Access ∷ []) (pos 0 ∷ []) n k ws kept there in
-            let same : and_then (leaks_at table s (InCell (get_or handles k 0) 0) of at)
-            (λ ls. and_then (stored s (spot_renamed handles q) (sort.Access ∷ []) (pos 0 ∷ [])) (λ t. Given (record { leaks = ls; memory = without_cell t (get_or handles k 0) (length (map (handled handles) ws)) })))
-            ≡ Given (record { leaks = leaks; memory = without_cell done.0 (get_or handles k 0) (length ws) })
-            = ap (λ g. and_then g (λ ls. and_then (stored s (spot_renamed handles q) (sort.Access ∷ []) (pos 0 ∷ [])) (λ t. Given (record { leaks = ls; memory = without_cell t (get_or handles k 0) (length (map (handled handles) ws)) }))))
-            (checks_alike handles here taken m s beside table (InCell k 0) of (Some at) leaks (ws, there, omega arith) are leaked checked)
-            ∙ (ap (λ g. and_then g (λ t. Given (record { leaks = leaks; memory = without_cell t (get_or handles k 0) (length (map (handled handles) ws)) }))) done.1
-            ∙ ap (λ l. Given (record { leaks = leaks; memory = without_cell done.0 (get_or handles k 0) l })) (length-map ws (handled handles))) in
-            subst (LeftAlike handles here taken (Given (record { leaks = leaks; memory = flat.without_cell n k (length ws) }))) (sym same)
-            (refl, cell_freed handles here taken n done.0 done.2 k (length ws) stays.0 stays.1)
-        by (Given leaks) (Stops t) checked kept = absurd (stored_goes m here q (sort.Access ∷ []) (pos 0 ∷ []) t stand kept)
-        by (Given leaks) Broken checked kept = tt
-        by (Stops t) x checked kept = absurd (checks_go handles here taken m s beside table (InCell k 0) of (Some at) t (ws, there, omega arith) checked)
-        by Broken x checked kept = tt
+        → Alike (flat_freed table of at q m k (record { words = ws; freed = false })) (cell_at table of at (spot_renamed handles q) s (get_or handles k 0) (Some (map (handled handles) ws)))
+    freed_alike q k ws stand there leaked =
+        gots_then (λ a b. b ≡ a) (AreLeft handles here taken) (points.leaks_at table m (InCell k 0) of at) (leaks_at table s (InCell (get_or handles k 0) 0) of at)
+        (λ leaks. and_then (flat.stored m q one (pos 0 ∷ [])) (λ n. Given (record { leaks = leaks; memory = flat.without_cell n k (length ws) })))
+        (λ leaks. and_then (stored s (spot_renamed handles q) one (pos 0 ∷ [])) (λ t. Given (record { leaks = leaks; memory = without_cell t (get_or handles k 0) (length (map (handled handles) ws)) })))
+        (leaks_gots handles here taken m s beside table (InCell k 0) of at tt are leaked)
+        (λ leaks ls checked same.
+        gots_then (Beside handles here taken) (AreLeft handles here taken) (flat.stored m q one (pos 0 ∷ [])) (stored s (spot_renamed handles q) one (pos 0 ∷ []))
+        (λ n. Given (record { leaks = leaks; memory = flat.without_cell n k (length ws) })) (λ t. Given (record { leaks = ls; memory = without_cell t (get_or handles k 0) (length (map (handled handles) ws)) }))
+        (stored_gots handles here taken m s beside q one (pos 0 ∷ []) stand refl (tt, tt))
+        (λ n t kept both.
+        let stays = stored_stays m q one (pos 0 ∷ []) n k ws kept there in (
+          same,
+          subst (λ l. Beside handles here taken (flat.without_cell n k (length ws)) (without_cell t (get_or handles k 0) l)) (sym (length-map ws (handled handles)))
+              (cell_freed handles here taken n t both k (length ws) stays.0 stays.1),
+        )))
 
-    named_alike : (q : Spot) (z : ℤ) → StandAt m here q one → IsOwner table m of z
-        → LeftAlike handles here taken (flat_at table of at q m (z ∷ [])) (released_at table of at (spot_renamed handles q) s (handle_word handles z ∷ []))
-    named_alike q (pos zero) stand is = (refl, beside)
-    named_alike q (negsuc k) stand is = absurd is
-    named_alike q (pos (suc k)) stand is =
-        subst (λ x. LeftAlike handles here taken (flat_cell table of at q m k x) (cell_at table of at (spot_renamed handles q) s (get_or handles k 0) (words_at s.heap.cells (get_or handles k 0)))) (sym is.0.1)
-        (subst (λ x. LeftAlike handles here taken (flat_cell table of at q m k (Some (record { words = is.0.0; freed = false }))) (cell_at table of at (spot_renamed handles q) s (get_or handles k 0) x))
-        (sym (beside.cells.live k is.0.0 is.0.1)) (by (nat_lt k most_cells)))
+    cell_alike : (q : Spot) (k : ℕ) (x : Option Cell) → slice_get m.cells k ≡ x → StandAt m here q one
+        → ((zs : List ℤ) → flat.words_at m (InCell k 0) (kinds table of) ≡ Given zs → AreLeaked m.cells zs (access_offsets table of))
+        → Alike (flat_cell table of at q m k x) (cell_at table of at (spot_renamed handles q) s (get_or handles k 0) (words_at s.heap.cells (get_or handles k 0)))
+    cell_alike q k None found stand leaked = tt
+    cell_alike q k (Some c) found stand leaked = by (nat_lt k most_cells)
       where
-        by : (b : Bool) → LeftAlike handles here taken (if b then flat_freed table of at q m k (record { words = is.0.0; freed = false }) else Broken)
-            (cell_at table of at (spot_renamed handles q) s (get_or handles k 0) (Some (map (handled handles) is.0.0)))
-        by true = freed_alike q k is.0.0 stand is.0.1 is.1
+        slots_freed : Got (Left Slots)
+        slots_freed = cell_at table of at (spot_renamed handles q) s (get_or handles k 0) (words_at s.heap.cells (get_or handles k 0))
+
+        there_by : c.freed ≡ false → Alike (flat_freed table of at q m k c) (cell_at table of at (spot_renamed handles q) s (get_or handles k 0) (words_at s.heap.cells (get_or handles k 0)))
+        there_by e =
+            let whole : c ≡ record { words = c.words; freed = false } = ap (λ b. record { words = c.words; freed = b }) e in
+            let there : IsThere m.cells k c.words = found ∙ ap Some whole in
+            subst (λ d. Alike (flat_freed table of at q m k d) (cell_at table of at (spot_renamed handles q) s (get_or handles k 0) (words_at s.heap.cells (get_or handles k 0)))) (sym whole)
+            (subst (λ x. Alike (flat_freed table of at q m k (record { words = c.words; freed = false })) (cell_at table of at (spot_renamed handles q) s (get_or handles k 0) x)) (sym (beside.cells.live k c.words there))
+            (freed_alike q k c.words stand there leaked))
+
+        freed_by : (b : Bool) → c.freed ≡ b → Alike (flat_freed table of at q m k c) (cell_at table of at (spot_renamed handles q) s (get_or handles k 0) (words_at s.heap.cells (get_or handles k 0)))
+        freed_by true e =
+            subst (λ b. Alike (if b then Stops (Traps Twice)
+            else and_then (points.leaks_at table m (InCell k 0) of at) (λ leaks. and_then (flat.stored m q one (pos 0 ∷ [])) (λ n. Given (record { leaks = leaks; memory = flat.without_cell n k (length c.words) }))))
+            (cell_at table of at (spot_renamed handles q) s (get_or handles k 0) (words_at s.heap.cells (get_or handles k 0)))) (sym e) tt
+        freed_by false e = there_by e
+
+        by : (b : Bool) → Alike (if b then flat_freed table of at q m k c else Broken) (cell_at table of at (spot_renamed handles q) s (get_or handles k 0) (words_at s.heap.cells (get_or handles k 0)))
+        by true = freed_by c.freed refl
         by false = tt
 
-    pub released_alike : (p : Place) → LooksFor table m here taken p of → LeftAlike handles here taken (flat_released table p of at m) (released table p of at s)
-    released_alike p looks =
-        subst (λ g. LeftAlike handles here taken (flat_released table p of at m) (and_then g (λ q. and_then (slots.held s q one) (released_at table of at q s))))
-        (sym (spot_same handles here taken m s beside p looks.0)) (by (flat.spot m p) looks.1)
-      where
-        words : (q : Spot) → StandAt m here q one × ((z : ℤ) → flat.words_at m q one ≡ Given (z ∷ []) → IsOwner table m of z) → (g : Got (List ℤ)) → flat.words_at m q one ≡ g
-            → LeftAlike handles here taken (and_then g (flat_at table of at q m)) (and_then (slots.held s (spot_renamed handles q) one) (released_at table of at (spot_renamed handles q) s))
-        words q stand (Given []) e = tt
-        words q stand (Given (z ∷ [])) e =
-            subst (λ g. LeftAlike handles here taken (flat_at table of at q m (z ∷ [])) (and_then g (released_at table of at (spot_renamed handles q) s)))
-            (sym (held_there q (z ∷ []) stand.0 e)) (named_alike q z stand.0 (stand.1 z e))
-        words q stand (Given (z ∷ y ∷ zs)) e = tt
-        words q stand (Stops t) e = absurd (words_go m here q one t stand.0 e)
-        words q stand Broken e = tt
+    named_alike : (q : Spot) (z : ℤ) → StandAt m here q one → IsOwner table m of z → Alike (flat_at table of at q m (z ∷ [])) (released_at table of at (spot_renamed handles q) s (handle_word handles z ∷ []))
+    named_alike q (pos zero) stand is = (refl, beside)
+    named_alike q (negsuc k) stand is = absurd is
+    named_alike q (pos (suc k)) stand is = cell_alike q k (slice_get m.cells k) refl stand is
 
-        by : (g : Got Spot) → ((q : Spot) → g ≡ Given q → StandAt m here q one × ((z : ℤ) → flat.words_at m q one ≡ Given (z ∷ []) → IsOwner table m of z))
-            → LeftAlike handles here taken (and_then g (λ q. and_then (flat.words_at m q one) (flat_at table of at q m)))
-            (and_then (mapped (spot_renamed handles) g) (λ q. and_then (slots.held s q one) (released_at table of at q s)))
-        by (Given q) stand = words q (stand q refl) (flat.words_at m q one) refl
-        by (Stops t) stand = refl
-        by Broken stand = tt
+    words_alike : (q : Spot) (zs : List ℤ) → StandAt m here q one → ((z : ℤ) → zs ≡ z ∷ [] → IsOwner table m of z) → Alike (flat_at table of at q m zs) (released_at table of at (spot_renamed handles q) s (all_renamed handles one zs))
+    words_alike q [] stand is = tt
+    words_alike q (z ∷ []) stand is = named_alike q z stand (is z refl)
+    words_alike q (z ∷ y ∷ zs) stand is = tt
+
+    pub released_alike : (p : Place) → LooksFor table m here taken p of → Alike (flat_released table p of at m) (released table p of at s)
+    released_alike p looks =
+        gots_then (λ q r. r ≡ spot_renamed handles q) (AreLeft handles here taken) (flat.spot m p) (slots.spot s p) (λ q. and_then (flat.words_at m q one) (flat_at table of at q m))
+        (λ q. and_then (slots.held s q one) (released_at table of at q s)) (spot_gots handles here taken m s beside p looks.0)
+        (λ q r found same.
+        subst (λ x. Alike (and_then (flat.words_at m q one) (flat_at table of at q m)) (and_then (slots.held s x one) (released_at table of at x s))) (sym same)
+        (gots_then (λ zs us. us ≡ all_renamed handles one zs) (AreLeft handles here taken) (flat.words_at m q one) (slots.held s (spot_renamed handles q) one) (flat_at table of at q m)
+        (released_at table of at (spot_renamed handles q) s) (words_gots q (looks.1 q found).0)
+        (λ zs us e words.
+        subst (λ x. Alike (flat_at table of at q m zs) (released_at table of at (spot_renamed handles q) s x)) (sym words)
+        (words_alike q zs (looks.1 q found).0 (λ z is. (looks.1 q found).1 z (e ∙ ap Given is))))))

@@ -1,24 +1,30 @@
--- What is copied and moved from a spot is the same over both heaps.
-use Rattle.std.proofs.Common.{◌≡◌, refl, sym, ap, ◌∙◌, subst, ℕ, ◌+◌, Bool, true, false, ◌&&◌, nat_lt, List, [], ◌∷◌, append-nil, take, drop, length, ℤ, if◌then◌else◌}
-use mathlib.Core.Logic.{inr}
+-- What is held at a spot, stored there and moved from there is alike over both heaps.
+use Rattle.std.proofs.Common.{◌≡◌, refl, sym, ap, ◌∙◌, subst, ℕ, zero, suc, ◌+◌, ◌≤◌, arith, Option, Some, None, get_or, ◌++◌, Bool, true, false, ◌&&◌, nat_le, nat_lt, List, [], ◌∷◌, append-nil, take, drop, length, slice_get, ℤ, if◌then◌else◌}
+use mathlib.Core.Logic.{inl, inr}
+use Rattle.run_values.specs.declared.value.Value.{Value}
 use Rattle.run_values.specs.declared.value.Kind.{Kind}
+use Rattle.machine.specs.Evaluate.{Touched}
+use Rattle.reuse_heap.specs.Cells as numbered
 use Rattle.reuse_heap.specs.Cells.{Cell}
-use Rattle.run_codes.specs.Flat.{Flat, Made, Done, Halted, Failed, Got, Given, Stops, Broken, Stop, Memory, Spot, InStack, InCell, and_then, is_word, all_fresh, words_in, have_kinds, most_offsets, touched, front_of_cell, are_pointers, are_in, all_gone, with_words, values_gone, spliced}
+use Rattle.numbered_cells.specs.Follows.{IsThere}
+use Rattle.run_codes.specs.Flat.{Flat, Made, Done, Halted, Got, Given, Stops, Broken, Stop, Raises, Traps, Memory, Spot, InStack, InCell, and_then, is_word, all_fresh, words_in, have_kinds, most_offsets, touched, front_of_cell, are_words, are_pointers, are_in, all_gone, with_words, values, values_gone, spliced}
 use Rattle.run_codes.specs.Flat as flat
 use Rattle.handled_runs.specs.Slots.{Slots}
 use Rattle.handled_runs.specs.Slots as slots
-use Rattle.handled_runs.specs.Changes.{emptied}
-use Rattle.handled_runs.specs.Values.{Outcome, Gives, Ends, reads, copies, moves}
-use Rattle.handled_runs.specs.Beside.{all_renamed, spot_renamed, mapped, NameWords, Beside}
+use Rattle.handled_runs.specs.Changes.{cell_stored, stored, emptied}
+use Rattle.handled_runs.specs.Values.{Outcome, Gives, Ends, Fails, reads, copies, moves}
+use Rattle.handled_runs.specs.Beside.{IsSilent, GotsAlike, all_renamed, spot_renamed, NameWords, Beside}
 use Rattle.handled_runs.specs.Looks.{AreKept}
 use Rattle.handled_runs.specs.Alike.{StandAt, Alike, AreAlike, StopsAlike}
+use Rattle.handled_runs.proofs.Gots.{given_both, there_of, touch_silent}
 use Rattle.handled_runs.proofs.Standing.{stack_held, cell_held, front_long}
 use Rattle.handled_runs.proofs.Lists.{front_names}
-use Rattle.handled_runs.proofs.Stacks.{stack_emptied}
+use Rattle.handled_runs.proofs.Stacks.{stack_stored, stack_emptied}
+use Rattle.handled_runs.proofs.Cells.{words_stored}
 use Rattle.handled_runs.proofs.Moves.{cell_emptied}
 use Rattle.handled_runs.proofs.Names.{drop_named, cell_named}
 
--- ---- nothing there stops
+-- ---- what stops at a spot stops silently
 
 front_goes : (ks : List Kind) (zs : List ℤ) (t : Stop) → flat.front ks zs ≡ Stops t → ⊥
 front_goes [] zs t e = cc
@@ -32,17 +38,24 @@ front_goes (k ∷ ks) (z ∷ zs) t e = by (is_word k z) (flat.front ks zs) refl 
     by true Broken found e on = cc
     by false g found e on = cc
 
-pub words_go : (m : Flat) (here : List Kind) (p : Spot) (ks : List Kind) (t : Stop) → StandAt m here p ks → flat.words_at m p ks ≡ Stops t → ⊥
-words_go m here (InStack n) ks t stand e = front_goes ks (drop n m.stack) t e
-words_go m here (InCell n o) ks t stand e =
-    by (nat_lt (o + length ks) most_offsets && have_kinds ks (drop o stand.0)) (sym (ap (λ x. touched x (front_of_cell o ks)) stand.1) ∙ e)
+pub words_silent : (m : Flat) (p : Spot) (ks : List Kind) (t : Stop) → flat.words_at m p ks ≡ Stops t → IsSilent t
+words_silent m (InStack n) ks t e = absurd (front_goes ks (drop n m.stack) t e)
+words_silent m (InCell n o) ks t e = touch_silent (slice_get m.cells n) (front_of_cell o ks) t (λ c f. absurd (by c (nat_lt (o + length ks) most_offsets && have_kinds ks (drop o c.words)) f)) e
   where
-    by : (b : Bool) → (if b then flat.front ks (drop o (words_in stand.0)) else Broken) ≡ Stops t → ⊥
-    by true f = front_goes ks (drop o (words_in stand.0)) t f
-    by false f = cc
+    by : (c : Cell) (b : Bool) → (if b then flat.front ks (drop o (words_in c.words)) else Broken) ≡ Stops t → ⊥
+    by c true f = front_goes ks (drop o (words_in c.words)) t f
+    by c false f = cc
 
-pub moved_goes : (m : Flat) (here : List Kind) (p : Spot) (ks : List Kind) (gone : List ℕ) (t : Stop) → StandAt m here p ks → flat.moved_out m p ks gone ≡ Stops t → ⊥
-moved_goes m here (InStack n) ks gone t stand e = by (are_pointers ks gone) (flat.front ks (drop n m.stack)) refl e
+held_silent : (m : Flat) (p : Spot) (ks : List Kind) (t : Stop) → flat.held m p ks ≡ Stops t → IsSilent t
+held_silent m p ks t e = by (flat.words_at m p ks) refl e
+  where
+    by : (g : Got (List ℤ)) → flat.words_at m p ks ≡ g → and_then g (λ zs. Given (all_fresh ks zs)) ≡ Stops t → IsSilent t
+    by (Given zs) found e = cc
+    by (Stops u) found e = let same : u ≡ t = cc in subst IsSilent same (words_silent m p ks u found)
+    by Broken found e = cc
+
+moved_silent : (m : Flat) (p : Spot) (ks : List Kind) (gone : List ℕ) (t : Stop) → flat.moved_out m p ks gone ≡ Stops t → IsSilent t
+moved_silent m (InStack n) ks gone t e = absurd (by (are_pointers ks gone) (flat.front ks (drop n m.stack)) refl e)
   where
     by : (b : Bool) (g : Got (List ℤ)) → flat.front ks (drop n m.stack) ≡ g
         → (if b then and_then g (λ zs. Given (flat.with_stack m (spliced n (all_gone gone zs) m.stack))) else Broken) ≡ Stops t → ⊥
@@ -50,19 +63,53 @@ moved_goes m here (InStack n) ks gone t stand e = by (are_pointers ks gone) (fla
     by true (Stops u) found e = front_goes ks (drop n m.stack) u found
     by true Broken found e = cc
     by false g found e = cc
-moved_goes m here (InCell n o) ks gone t stand e =
-    by (are_pointers ks gone && are_in o ks (record { words = stand.0; freed = false }))
-    (sym (ap (λ x. touched x (λ (d : Cell). if are_pointers ks gone && are_in o ks d then Given (with_words m n o (values_gone gone (take (length ks) (drop o d.words)))) else Broken)) stand.1) ∙ e)
+moved_silent m (InCell n o) ks gone t e =
+    touch_silent (slice_get m.cells n) (λ (d : Cell). if are_pointers ks gone && are_in o ks d then Given (with_words m n o (values_gone gone (take (length ks) (drop o d.words)))) else Broken) t
+    (λ c f. absurd (by c (are_pointers ks gone && are_in o ks c) f)) e
   where
-    by : (b : Bool) → (if b then Given (with_words m n o (values_gone gone (take (length ks) (drop o stand.0)))) else Broken) ≡ Stops t → ⊥
+    by : (c : Cell) (b : Bool) → (if b then Given (with_words m n o (values_gone gone (take (length ks) (drop o c.words)))) else Broken) ≡ Stops t → ⊥
+    by c true f = cc
+    by c false f = cc
+
+stored_silent : (m : Flat) (q : Spot) (ks : List Kind) (zs : List ℤ) (t : Stop) → flat.stored m q ks zs ≡ Stops t → IsSilent t
+stored_silent m (InStack n) ks zs t e = absurd (by (nat_le (n + length zs) (length m.stack)) e)
+  where
+    by : (b : Bool) → (if b then Given (flat.with_stack m (spliced n zs m.stack)) else Broken) ≡ Stops t → ⊥
+    by true e = cc
+    by false e = cc
+stored_silent m (InCell n o) ks zs t e =
+    touch_silent (slice_get m.cells n) (λ (d : Cell). if are_words ks zs && are_in o ks d then Given (with_words m n o (values ks zs)) else Broken) t (λ c f. absurd (by (are_words ks zs && are_in o ks c) f)) e
+  where
+    by : (b : Bool) → (if b then Given (with_words m n o (values ks zs)) else Broken) ≡ Stops t → ⊥
     by true f = cc
     by false f = cc
 
--- ---- what is there
+-- ---- what is given of a cell is of one that is there
 
-pub alike_by : (handles : List ℕ) (here taken ks : List Kind) (x y : Made (List ℤ)) (a b : Outcome) → x ≡ y → a ≡ b → AreAlike handles here taken ks y b → AreAlike handles here taken ks x a
-alike_by handles here taken ks x y a b first second same =
-    subst (λ z. AreAlike handles here taken ks z a) (sym first) (subst (AreAlike handles here taken ks y) (sym second) same)
+pub words_there : (m : Flat) (n o : ℕ) (ks : List Kind) (zs : List ℤ) → flat.words_at m (InCell n o) ks ≡ Given zs → (ws : List Value) × IsThere m.cells n ws
+words_there m n o ks zs e = there_of (slice_get m.cells n) (front_of_cell o ks) zs e
+
+-- Words that are the same but for names.
+pub record AreRenamed (handles : List ℕ) (ks : List Kind) (zs us : List ℤ) : Type 0 where
+  pub words : us ≡ all_renamed handles ks zs
+  pub known : length ks ≡ length zs
+  pub names : NameWords (length handles) ks zs
+
+second_true : (a b : Bool) → a && b ≡ true → b ≡ true
+second_true true b e = e
+second_true false b e = cc
+
+-- Some words at an offset lie within.
+kinds_room : (k : Kind) (ks : List Kind) (o : ℕ) (ws : List Value) → have_kinds (k ∷ ks) (drop o ws) ≡ true → o ≤ length ws
+kinds_room k ks zero ws is = omega arith
+kinds_room k ks (suc o) [] is = cc
+kinds_room k ks (suc o) (w ∷ ws) is = let less = kinds_room k ks o ws is in omega (arith, less)
+
+module _ (handles : List ℕ) (here taken : List Kind) where
+  pub silent_stops : (x : Stop) (m : Flat) (r : Outcome) → IsSilent x → StopsAlike handles here taken x m r
+  silent_stops x m (Gives us s) e = e
+  silent_stops x m (Ends y s) e = inl e
+  silent_stops x m Fails e = e
 
 module _ (handles : List ℕ) (here taken : List Kind) (m : Flat) (s : Slots) (beside : Beside handles here taken m s) where
   -- what is given, with no handle more
@@ -79,80 +126,167 @@ module _ (handles : List ℕ) (here taken : List Kind) (m : Flat) (s : Slots) (b
   pub stops_alike : (x : Stop) → StopsAlike handles here taken x m (Ends x s)
   stops_alike x = inr (inr (refl, ([], subst (λ hs. Beside hs here taken m s) (sym (append-nil handles)) beside)))
 
-  pub there_held : (p : Spot) (ks : List Kind) (zs : List ℤ) → StandAt m here p ks → flat.words_at m p ks ≡ Given zs → AreKept ks zs
-      → ((flat.held m p ks ≡ Given zs) × (slots.held s (spot_renamed handles p) ks ≡ Given (all_renamed handles ks zs))) × NameWords (length handles) ks zs
-  there_held (InStack n) ks zs stand e kept = (
-    stack_held handles here taken m s beside n ks zs stand.0 e kept,
+  -- after what is only read
+  pub reads_on : {A B : Type 0} (R : A → B → Type 0) (ks : List Kind) (x : Got A) (y : Got B) (F : A → Made (List ℤ)) (G : B → Outcome) → GotsAlike R x y
+      → ((a : A) (b : B) → x ≡ Given a → R a b → AreAlike handles here taken ks (F a) (G b)) → AreAlike handles here taken ks (flat.reads m x F) (reads s y G)
+  reads_on R ks (Given a) (Given b) F G is on = on a b refl is
+  reads_on R ks (Given a) (Stops y) F G is on = absurd is
+  reads_on R ks (Given a) Broken F G is on = absurd is
+  reads_on R ks (Stops (Raises e)) y F G is on = subst (λ g. AreAlike handles here taken ks (Halted (Raises e) m) (reads s g G)) (sym is) (stops_alike (Raises e))
+  reads_on R ks (Stops (Traps t)) y F G is on = silent_stops handles here taken (Traps t) m (reads s y G) tt
+  reads_on R ks (Stops Memory) y F G is on = silent_stops handles here taken Memory m (reads s y G) tt
+  reads_on R ks Broken y F G is on = tt
+
+  -- ---- what is held
+
+  pub there_words : (p : Spot) (ks : List Kind) (zs : List ℤ) → StandAt m here p ks → flat.words_at m p ks ≡ Given zs → (length ks ≡ length zs) × NameWords (length handles) ks zs
+  there_words (InStack n) ks zs stand e = (
+    front_long ks (drop n m.stack) zs e,
     front_names (length handles) ks (drop n here) (drop n m.stack) zs stand.0 e (drop_named (length handles) n here m.stack beside.names),
   )
-  there_held (InCell n o) ks zs stand e kept =
-      (cell_held handles here taken m s beside n o stand.0 ks zs stand.1 e kept, cell_named handles here taken m s beside n o stand.0 ks zs stand.1 e)
-
-  pub there_long : (p : Spot) (ks : List Kind) (zs : List ℤ) → StandAt m here p ks → flat.words_at m p ks ≡ Given zs → length ks ≡ length zs
-  there_long (InStack n) ks zs stand e = front_long ks (drop n m.stack) zs e
-  there_long (InCell n o) ks zs stand e =
-      by (nat_lt (o + length ks) most_offsets && have_kinds ks (drop o stand.0)) (sym (ap (λ x. touched x (front_of_cell o ks)) stand.1) ∙ e)
+  there_words (InCell n o) ks zs stand e =
+      let there = words_there m n o ks zs e in
+      (by there.0 (nat_lt (o + length ks) most_offsets && have_kinds ks (drop o there.0)) (sym (ap (λ x. touched x (front_of_cell o ks)) there.1) ∙ e), cell_named handles here taken m s beside n o there.0 ks zs there.1 e)
     where
-      by : (b : Bool) → (if b then flat.front ks (drop o (words_in stand.0)) else Broken) ≡ Given zs → length ks ≡ length zs
-      by true f = front_long ks (drop o (words_in stand.0)) zs f
-      by false f = cc
+      by : (ws : List Value) (b : Bool) → (if b then flat.front ks (drop o (words_in ws)) else Broken) ≡ Given zs → length ks ≡ length zs
+      by ws true f = front_long ks (drop o (words_in ws)) zs f
+      by ws false f = cc
 
-  pub there_emptied : (p : Spot) (ks : List Kind) (gone : List ℕ) (n : Flat) → StandAt m here p ks → flat.moved_out m p ks gone ≡ Given n
+  there_held : (p : Spot) (ks : List Kind) (zs : List ℤ) → StandAt m here p ks → flat.words_at m p ks ≡ Given zs → AreKept ks zs
+      → (flat.held m p ks ≡ Given zs) × (slots.held s (spot_renamed handles p) ks ≡ Given (all_renamed handles ks zs))
+  there_held (InStack n) ks zs stand e kept = stack_held handles here taken m s beside n ks zs stand.0 e kept
+  there_held (InCell n o) ks zs stand e kept = let there = words_there m n o ks zs e in cell_held handles here taken m s beside n o there.0 ks zs there.1 e kept
+
+  pub held_gots : (p : Spot) (ks : List Kind) → StandAt m here p ks → ((zs : List ℤ) → flat.words_at m p ks ≡ Given zs → AreKept ks zs)
+      → GotsAlike (AreRenamed handles ks) (flat.held m p ks) (slots.held s (spot_renamed handles p) ks)
+  held_gots p ks stand kept =
+      given_both (AreRenamed handles ks) (flat.held m p ks) (slots.held s (spot_renamed handles p) ks) (held_silent m p ks) (λ us e. by (flat.words_at m p ks) refl us e)
+    where
+      by : (g : Got (List ℤ)) → flat.words_at m p ks ≡ g → (us : List ℤ) → and_then g (λ zs. Given (all_fresh ks zs)) ≡ Given us
+          → (vs : List ℤ) × (slots.held s (spot_renamed handles p) ks ≡ Given vs) × AreRenamed handles ks us vs
+      by (Given zs) found us e =
+          let there = there_held p ks zs stand found (kept zs found) in
+          let words = there_words p ks zs stand found in
+          let fresh : all_fresh ks zs ≡ us = cc in
+          let read : Given (all_fresh ks zs) ≡ Given zs = sym (ap (λ g. and_then g (λ xs. Given (all_fresh ks xs))) found) ∙ there.0 in
+          let same : zs ≡ us = sym (let first : all_fresh ks zs ≡ zs = cc in first) ∙ fresh in (
+            all_renamed handles ks zs,
+            there.1,
+            subst (λ xs. AreRenamed handles ks xs (all_renamed handles ks zs)) same (record { words = refl; known = words.0; names = words.1 }),
+          )
+      by (Stops t) found us e = cc
+      by Broken found us e = cc
+
+  -- ---- what is moved and stored
+
+  -- no words in a cell
+  none_spliced : (o : ℕ) (ws : List Value) → spliced o [] ws ≡ ws
+  none_spliced zero ws = refl
+  none_spliced (suc o) [] = let next : suc o + 0 ≡ suc (o + 0) = omega arith in ap (λ i. drop {A = Value} i []) next
+  none_spliced (suc o) (w ∷ ws) = let next : suc o + 0 ≡ suc (o + 0) = omega arith in ap (λ i. take (suc o) (w ∷ ws) ++ [] ++ drop i (w ∷ ws)) next ∙ ap (λ rest. w ∷ rest) (none_spliced o ws)
+
+  none_changed : (o : ℕ) (cells : List Cell) (i : ℕ) → numbered.changed (λ (c : Cell). record c { words = spliced o [] c.words }) cells i ≡ cells
+  none_changed o [] i = refl
+  none_changed o (c ∷ cells) zero = ap (λ ws. record c { words = ws } ∷ cells) (none_spliced o c.words)
+  none_changed o (c ∷ cells) (suc i) = ap (λ rest. c ∷ rest) (none_changed o cells i)
+
+  none_beside : (i o : ℕ) → Beside handles here taken (with_words m i o []) s
+  none_beside i o = subst (λ cells. Beside handles here taken (record m { cells = cells }) s) (sym (none_changed o m.cells i)) beside
+
+  there_emptied : (p : Spot) (ks : List Kind) (gone : List ℕ) (n : Flat) → StandAt m here p ks → flat.moved_out m p ks gone ≡ Given n
       → (t : Slots) × (emptied s (spot_renamed handles p) ks gone ≡ Given t) × Beside handles here taken n t
   there_emptied (InStack i) ks gone n stand e = stack_emptied handles here taken m s beside i ks gone n stand.0 stand.1 e
-  there_emptied (InCell i o) ks gone n stand e = cell_emptied handles here taken m s beside i o stand.0 ks gone n stand.1 stand.2 e
+  there_emptied (InCell i o) [] (g ∷ gone) n stand e = absurd (by (slice_get m.cells i) e)
+    where
+      no : Broken ≡ Given n → ⊥
+      no f = cc
+
+      trap : Stops (Traps Touched) ≡ Given n → ⊥
+      trap f = cc
+
+      freed : (b : Bool) → (if b then Stops (Traps Touched) else Broken) ≡ Given n → ⊥
+      freed true f = trap f
+      freed false f = no f
+
+      by : (x : Option Cell) → touched x (λ (d : Cell). Broken) ≡ Given n → ⊥
+      by None f = no f
+      by (Some c) f = freed c.freed f
+  there_emptied (InCell i o) [] [] n stand e =
+      let there = there_of (slice_get m.cells i) (λ (d : Cell). if are_in o [] d then Given (with_words m i o []) else Broken) n e in
+      let same : with_words m i o [] ≡ n = by there.0 (are_in o [] (record { words = there.0; freed = false })) (sym (ap (λ x. touched x (λ (d : Cell). if are_in o [] d then Given (with_words m i o []) else Broken)) there.1) ∙ e) in
+      (s, refl, subst (λ x. Beside handles here taken x s) same (none_beside i o))
+    where
+      by : (ws : List Value) (b : Bool) → (if b then Given (with_words m i o []) else Broken) ≡ Given n → with_words m i o [] ≡ n
+      by ws true f = cc
+      by ws false f = cc
+  there_emptied (InCell i o) (k ∷ ks) gone n stand e =
+      let there = there_of (slice_get m.cells i) (λ (d : Cell). if are_pointers (k ∷ ks) gone && are_in o (k ∷ ks) d then Given (with_words m i o (values_gone gone (take (length (k ∷ ks)) (drop o d.words)))) else Broken) n e in
+      cell_emptied handles here taken m s beside i o there.0 (k ∷ ks) gone n there.1 (room o there.0 (fits there.0 (are_pointers (k ∷ ks) gone) (are_in o (k ∷ ks) (record { words = there.0; freed = false })) refl (sym (ap (λ x. touched x (λ (d : Cell). if are_pointers (k ∷ ks) gone && are_in o (k ∷ ks) d then Given (with_words m i o (values_gone gone (take (length (k ∷ ks)) (drop o d.words)))) else Broken)) there.1) ∙ e))) e
+    where
+      room : (o : ℕ) (ws : List Value) → have_kinds (k ∷ ks) (drop o ws) ≡ true → o ≤ length ws
+      room o ws is = kinds_room k ks o ws is
+
+      fits : (ws : List Value) (a b : Bool) → are_in o (k ∷ ks) (record { words = ws; freed = false }) ≡ b → (if a && b then Given (with_words m i o (values_gone gone (take (length (k ∷ ks)) (drop o ws)))) else Broken) ≡ Given n → have_kinds (k ∷ ks) (drop o ws) ≡ true
+      fits ws true true is f = second_true (nat_lt (o + length (k ∷ ks)) most_offsets) (have_kinds (k ∷ ks) (drop o ws)) is
+      fits ws true false is f = cc
+      fits ws false b is f = cc
+
+  pub moved_gots : (p : Spot) (ks : List Kind) (gone : List ℕ) → StandAt m here p ks → GotsAlike (Beside handles here taken) (flat.moved_out m p ks gone) (emptied s (spot_renamed handles p) ks gone)
+  moved_gots p ks gone stand =
+      given_both (Beside handles here taken) (flat.moved_out m p ks gone) (emptied s (spot_renamed handles p) ks gone) (moved_silent m p ks gone) (λ n e. there_emptied p ks gone n stand e)
+
+  there_stored : (q : Spot) (ks : List Kind) (zs : List ℤ) (n : Flat) → StandAt m here q ks → length ks ≡ length zs → NameWords (length handles) ks zs → flat.stored m q ks zs ≡ Given n
+      → (t : Slots) × (stored s (spot_renamed handles q) ks (all_renamed handles ks zs) ≡ Given t) × Beside handles here taken n t
+  there_stored (InStack i) ks zs n stand long names e = stack_stored handles here taken m s beside i ks ks zs n stand.0 long names e
+  there_stored (InCell i o) [] (z ∷ zs) n stand long names e = cc
+  there_stored (InCell i o) [] [] n stand long names e =
+      let there = there_of (slice_get m.cells i) (λ (d : Cell). if are_in o [] d then Given (with_words m i o []) else Broken) n e in
+      let same : with_words m i o [] ≡ n = by there.0 (are_in o [] (record { words = there.0; freed = false })) (sym (ap (λ x. touched x (λ (d : Cell). if are_in o [] d then Given (with_words m i o []) else Broken)) there.1) ∙ e) in
+      (s, ap (cell_stored s (get_or handles i 0) o []) (beside.cells.live i there.0 there.1), subst (λ x. Beside handles here taken x s) same (none_beside i o))
+    where
+      by : (ws : List Value) (b : Bool) → (if b then Given (with_words m i o []) else Broken) ≡ Given n → with_words m i o [] ≡ n
+      by ws true f = cc
+      by ws false f = cc
+  there_stored (InCell i o) (k ∷ ks) zs n stand long names e =
+      let there = there_of (slice_get m.cells i) (λ (d : Cell). if are_words (k ∷ ks) zs && are_in o (k ∷ ks) d then Given (with_words m i o (values (k ∷ ks) zs)) else Broken) n e in
+      words_stored handles here taken m s beside i o there.0 (k ∷ ks) zs n there.1 (kinds_room k ks o there.0 (fits there.0 (are_words (k ∷ ks) zs) (are_in o (k ∷ ks) (record { words = there.0; freed = false })) refl (sym (ap (λ x. touched x (λ (d : Cell). if are_words (k ∷ ks) zs && are_in o (k ∷ ks) d then Given (with_words m i o (values (k ∷ ks) zs)) else Broken)) there.1) ∙ e))) names e
+    where
+      fits : (ws : List Value) (a b : Bool) → are_in o (k ∷ ks) (record { words = ws; freed = false }) ≡ b → (if a && b then Given (with_words m i o (values (k ∷ ks) zs)) else Broken) ≡ Given n → have_kinds (k ∷ ks) (drop o ws) ≡ true
+      fits ws true true is f = second_true (nat_lt (o + length (k ∷ ks)) most_offsets) (have_kinds (k ∷ ks) (drop o ws)) is
+      fits ws true false is f = cc
+      fits ws false b is f = cc
+
+  -- The law on stores.
+  pub stored_gots : (q : Spot) (ks : List Kind) (zs : List ℤ) → StandAt m here q ks → length ks ≡ length zs → NameWords (length handles) ks zs
+      → GotsAlike (Beside handles here taken) (flat.stored m q ks zs) (stored s (spot_renamed handles q) ks (all_renamed handles ks zs))
+  stored_gots q ks zs stand long names =
+      given_both (Beside handles here taken) (flat.stored m q ks zs) (stored s (spot_renamed handles q) ks (all_renamed handles ks zs)) (stored_silent m q ks zs)
+      (λ n e. there_stored q ks zs n stand long names e)
 
   -- ---- copies and moves
 
   abbrev Stand : Got Spot → List Kind → Type 0
   Stand g ks = (q : Spot) → g ≡ Given q → StandAt m here q ks × ((zs : List ℤ) → flat.words_at m q ks ≡ Given zs → AreKept ks zs)
 
-  pub copies_alike : (g : Got Spot) (ks : List Kind) → Stand g ks
-      → AreAlike handles here taken ks (flat.reads m g (λ p. flat.reads m (flat.held m p ks) (λ zs. Done zs m))) (copies s (mapped (spot_renamed handles) g) ks)
-  copies_alike (Stops t) ks stand = stops_alike t
-  copies_alike Broken ks stand = tt
-  copies_alike (Given p) ks stand = by (flat.words_at m p ks) refl
-    where
-      by : (g : Got (List ℤ)) → flat.words_at m p ks ≡ g → AreAlike handles here taken ks (flat.reads m (flat.held m p ks) (λ zs. Done zs m)) (reads s (slots.held s (spot_renamed handles p) ks) (λ zs. Gives zs s))
-      by (Given zs) e =
-          let is = stand p refl in
-          let there = there_held p ks zs is.0 e (is.1 zs e) in
-          alike_by handles here taken ks (flat.reads m (flat.held m p ks) (λ zs. Done zs m)) (Done zs m) (reads s (slots.held s (spot_renamed handles p) ks) (λ zs. Gives zs s)) (Gives (all_renamed handles ks zs) s)
-          (ap (λ g. flat.reads m g (λ zs. Done zs m)) there.0.0) (ap (λ g. reads s g (λ zs. Gives zs s)) there.0.1)
-          (given_alike ks zs m s (there_long p ks zs is.0 e) there.1 beside)
-      by (Stops t) e = absurd (words_go m here p ks t (stand p refl).0 e)
-      by Broken e =
-          subst (λ x. AreAlike handles here taken ks x (reads s (slots.held s (spot_renamed handles p) ks) (λ zs. Gives zs s)))
-          (sym (ap (λ g. flat.reads m (and_then g (λ zs. Given (all_fresh ks zs))) (λ zs. Done zs m)) e)) tt
+  pub copies_alike : (g : Got Spot) (h : Got Spot) (ks : List Kind) → GotsAlike (λ q r. r ≡ spot_renamed handles q) g h → Stand g ks
+      → AreAlike handles here taken ks (flat.reads m g (λ p. flat.reads m (flat.held m p ks) (λ zs. Done zs m))) (copies s h ks)
+  copies_alike g h ks same stand =
+      reads_on (λ q r. r ≡ spot_renamed handles q) ks g h (λ p. flat.reads m (flat.held m p ks) (λ zs. Done zs m)) (λ p. reads s (slots.held s p ks) (λ zs. Gives zs s)) same
+      (λ q r found is.
+      subst (λ x. AreAlike handles here taken ks (flat.reads m (flat.held m q ks) (λ zs. Done zs m)) (reads s (slots.held s x ks) (λ zs. Gives zs s))) (sym is)
+      (reads_on (AreRenamed handles ks) ks (flat.held m q ks) (slots.held s (spot_renamed handles q) ks) (λ zs. Done zs m) (λ zs. Gives zs s) (held_gots q ks (stand q found).0 (stand q found).1)
+      (λ zs us at words. subst (λ x. Alike handles here taken ks zs m x s) (sym words.words) (given_alike ks zs m s words.known words.names beside))))
 
-  pub moves_alike : (g : Got Spot) (ks : List Kind) (gone : List ℕ) → Stand g ks
+  pub moves_alike : (g : Got Spot) (h : Got Spot) (ks : List Kind) (gone : List ℕ) → GotsAlike (λ q r. r ≡ spot_renamed handles q) g h → Stand g ks
       → AreAlike handles here taken ks
-      (flat.reads m g (λ p. flat.reads m (flat.held m p ks) (λ zs. flat.reads m (flat.moved_out m p ks gone) (Done zs))))
-      (moves s (mapped (spot_renamed handles) g) ks gone)
-  moves_alike (Stops t) ks gone stand = stops_alike t
-  moves_alike Broken ks gone stand = tt
-  moves_alike (Given p) ks gone stand = by (flat.words_at m p ks) (flat.moved_out m p ks gone) refl refl
-    where
-      by : (g : Got (List ℤ)) (x : Got Flat) → flat.words_at m p ks ≡ g → flat.moved_out m p ks gone ≡ x
-          → AreAlike handles here taken ks (flat.reads m (flat.held m p ks) (λ zs. flat.reads m (flat.moved_out m p ks gone) (Done zs)))
-          (reads s (slots.held s (spot_renamed handles p) ks) (λ us. reads s (emptied s (spot_renamed handles p) ks gone) (Gives us)))
-      by (Given zs) (Given n) e out =
-          let is = stand p refl in
-          let there = there_held p ks zs is.0 e (is.1 zs e) in
-          let left = there_emptied p ks gone n is.0 out in
-          alike_by handles here taken ks
-          (flat.reads m (flat.held m p ks) (λ zs. flat.reads m (flat.moved_out m p ks gone) (Done zs))) (Done zs n)
-          (reads s (slots.held s (spot_renamed handles p) ks) (λ us. reads s (emptied s (spot_renamed handles p) ks gone) (Gives us))) (Gives (all_renamed handles ks zs) left.0)
-          (ap (λ g. flat.reads m g (λ zs. flat.reads m (flat.moved_out m p ks gone) (Done zs))) there.0.0 ∙ ap (λ g. flat.reads m g (Done zs)) out)
-          (ap (λ g. reads s g (λ us. reads s (emptied s (spot_renamed handles p) ks gone) (Gives us))) there.0.1 ∙ ap (λ g. reads s g (Gives (all_renamed handles ks zs))) left.1)
-          (given_alike ks zs n left.0 (there_long p ks zs is.0 e) there.1 left.2)
-      by (Given zs) (Stops t) e out = absurd (moved_goes m here p ks gone t (stand p refl).0 out)
-      by (Given zs) Broken e out =
-          let is = stand p refl in
-          let there = there_held p ks zs is.0 e (is.1 zs e) in
-          subst (λ x. AreAlike handles here taken ks x (reads s (slots.held s (spot_renamed handles p) ks) (λ us. reads s (emptied s (spot_renamed handles p) ks gone) (Gives us))))
-          (sym (ap (λ g. flat.reads m g (λ zs. flat.reads m (flat.moved_out m p ks gone) (Done zs))) there.0.0 ∙ ap (λ g. flat.reads m g (Done zs)) out)) tt
-      by (Stops t) x e out = absurd (words_go m here p ks t (stand p refl).0 e)
-      by Broken x e out =
-          subst (λ x. AreAlike handles here taken ks x (reads s (slots.held s (spot_renamed handles p) ks) (λ us. reads s (emptied s (spot_renamed handles p) ks gone) (Gives us))))
-          (sym (ap (λ g. flat.reads m (and_then g (λ zs. Given (all_fresh ks zs))) (λ zs. flat.reads m (flat.moved_out m p ks gone) (Done zs))) e)) tt
+      (flat.reads m g (λ p. flat.reads m (flat.held m p ks) (λ zs. flat.reads m (flat.moved_out m p ks gone) (Done zs)))) (moves s h ks gone)
+  moves_alike g h ks gone same stand =
+      reads_on (λ q r. r ≡ spot_renamed handles q) ks g h (λ p. flat.reads m (flat.held m p ks) (λ zs. flat.reads m (flat.moved_out m p ks gone) (Done zs)))
+      (λ p. reads s (slots.held s p ks) (λ zs. reads s (emptied s p ks gone) (Gives zs))) same
+      (λ q r found is.
+      subst (λ x. AreAlike handles here taken ks (flat.reads m (flat.held m q ks) (λ zs. flat.reads m (flat.moved_out m q ks gone) (Done zs))) (reads s (slots.held s x ks) (λ zs. reads s (emptied s x ks gone) (Gives zs)))) (sym is)
+      (reads_on (AreRenamed handles ks) ks (flat.held m q ks) (slots.held s (spot_renamed handles q) ks) (λ zs. flat.reads m (flat.moved_out m q ks gone) (Done zs))
+      (λ zs. reads s (emptied s (spot_renamed handles q) ks gone) (Gives zs)) (held_gots q ks (stand q found).0 (stand q found).1)
+      (λ zs us at words.
+      reads_on (Beside handles here taken) ks (flat.moved_out m q ks gone) (emptied s (spot_renamed handles q) ks gone) (Done zs) (Gives us) (moved_gots q ks gone (stand q found).0)
+      (λ n t out both. subst (λ x. Alike handles here taken ks zs n x t) (sym words.words) (given_alike ks zs n t words.known words.names both)))))

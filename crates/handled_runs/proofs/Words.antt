@@ -1,130 +1,125 @@
 -- The law: codes give the same over both heaps, but for the names of cells.
 use Rattle.std.proofs.Common.{◌≡◌, refl, sym, ap, ◌∙◌, subst, ℕ, ◌+◌, Bool, true, false, not, List, slice_get, Some, ℤ, if◌then◌else◌}
 use Rattle.std.specs.Prelude.{unsigned_abs}
-use Rattle.typed_tree.specs.declared.node.ShortCircuit.{ShortCircuit}
 use Rattle.run_values.specs.declared.value.Kind.{Kind}
 use Rattle.run_values.specs.declared.value.Kind.TheVariants as sort
 use Rattle.run_values.specs.Items.{at_end}
 use Rattle.run_codes.specs.Codes.{Code, Number, Local, Global, Via, Scaled, Plus, Unary, Binary, Short, IsNull, Waiting, EndOfFile, Nothing}
-use Rattle.run_codes.specs.Flat.{Flat, Got, Given, Stops, Broken, and_then, found, truth, is_zero, operated, operated_alone, decides, offset, scaled}
+use Rattle.run_codes.specs.Flat.{Flat, Got, Given, and_then, found, truth, is_zero, operated, operated_alone, decides, offset, scaled}
 use Rattle.run_codes.specs.Flat as flat
 use Rattle.handled_runs.specs.Slots.{Slots}
 use Rattle.handled_runs.specs.Slots as slots
-use Rattle.handled_runs.specs.Beside.{handle_word, renamed, mapped, Beside}
-use Rattle.handled_runs.specs.Looks.{IsData, IsNumber, IsKept, Reaches, Looks}
-use Rattle.handled_runs.proofs.Named.{slice_renamed, data_same, zero_same, behind_same}
+use Rattle.handled_runs.specs.Beside.{GotsAlike, handle_word, renamed, Beside}
+use Rattle.handled_runs.specs.Looks.{IsData, IsNumber, Looks}
+use Rattle.handled_runs.proofs.Gots.{gots_mapped, gots_same, gots_on, gots_then}
+use Rattle.handled_runs.proofs.Named.{slice_renamed, zero_same, behind_gots}
 
-number_same : (handles : List ℕ) (k : Kind) (z : ℤ) → IsNumber k z → Given z ≡ Given (renamed handles k z)
+number_same : (handles : List ℕ) (k : Kind) (z : ℤ) → IsNumber k z → z ≡ renamed handles k z
 number_same handles sort.Int z is = refl
 number_same handles sort.Enum z is = refl
-number_same handles sort.Access z is = subst (λ x. Given x ≡ Given (handle_word handles x)) (sym is) refl
+number_same handles sort.Access z is = subst (λ x. x ≡ handle_word handles x) (sym is) refl
+
+pub data_renamed : (handles : List ℕ) (k : Kind) (z : ℤ) → IsData k → renamed handles k z ≡ z
+data_renamed handles sort.Int z is = refl
+data_renamed handles sort.Enum z is = refl
+data_renamed handles sort.Access z is = absurd is
 
 module _ (handles : List ℕ) (kinds taken : List Kind) (m : Flat) (s : Slots) (beside : Beside handles kinds taken m s) where
-  as_data : (k : Kind) → IsData k → (g h : Got ℤ) → h ≡ g → h ≡ mapped (renamed handles k) g
-  as_data k is g h e = e ∙ sym (data_same handles k is g)
+  abbrev pub Words : Kind → Got ℤ → Got ℤ → Type 0
+  Words k = GotsAlike (λ a b. b ≡ renamed handles k a)
 
-  pub of_data : (k : Kind) → IsData k → (g h : Got ℤ) → h ≡ mapped (renamed handles k) g → h ≡ g
-  of_data k is g h e = e ∙ data_same handles k is g
+  abbrev pub Same : Got ℤ → Got ℤ → Type 0
+  Same = GotsAlike (λ a b. b ≡ a)
 
-  -- a word that names no cell, and an index
-  value_of : (c : Code) (k : Kind) → IsData k → slots.word s c ≡ mapped (renamed handles k) (flat.word m c) → slots.word s c ≡ flat.word m c
-  value_of c k is e = of_data k is (flat.word m c) (slots.word s c) e
+  pub of_data : (k : Kind) → IsData k → (x y : Got ℤ) → Words k x y → Same x y
+  of_data k is x y = gots_on (λ a b. b ≡ renamed handles k a) (λ a b. b ≡ a) x y (λ a b e. e ∙ data_renamed handles k a is)
 
-  index_of : (c : Code) → slots.word s c ≡ mapped (renamed handles sort.Int) (flat.word m c) → slots.word s c ≡ flat.word m c
-  index_of c e = value_of c sort.Int tt e
+  as_data : (k : Kind) → IsData k → (x y : Got ℤ) → Same x y → Words k x y
+  as_data k is x y = gots_on (λ a b. b ≡ a) (λ a b. b ≡ renamed handles k a) x y (λ a b e. e ∙ sym (data_renamed handles k a is))
 
-  local : (at : ℕ) (k : Kind) (g : Got ℤ) → ((o : ℤ) → g ≡ Given o → slice_get kinds (m.base + at + unsigned_abs o) ≡ Some k)
-      → and_then g (λ o. found (slice_get s.stack (s.base + at + unsigned_abs o))) ≡ mapped (renamed handles k) (and_then g (λ o. found (slice_get m.stack (m.base + at + unsigned_abs o))))
-  local at k (Given o) kind =
-      ap (λ b. found (slice_get s.stack (b + at + unsigned_abs o))) beside.base
-      ∙ (ap (λ zs. found (slice_get zs (m.base + at + unsigned_abs o))) beside.stack
-      ∙ slice_renamed handles kinds m.stack (m.base + at + unsigned_abs o) k (kind o refl))
-  local at k (Stops x) kind = refl
-  local at k Broken kind = refl
+  -- what follows a word that is the same
+  same_then : {A B : Type 0} (S : A → B → Type 0) (x y : Got ℤ) (F : ℤ → Got A) (G : ℤ → Got B) → Same x y → ((a : ℤ) → x ≡ Given a → GotsAlike S (F a) (G a)) → GotsAlike S (and_then x F) (and_then y G)
+  same_then S x y F G same on = gots_then (λ a b. b ≡ a) S x y F G same (λ a b found e. subst (λ c. GotsAlike S (F a) (G c)) (sym e) (on a found))
 
-  global : (at : ℕ) (k : Kind) (g : Got ℤ) → ((o : ℤ) → g ≡ Given o → slice_get kinds (at + unsigned_abs o) ≡ Some k)
-      → and_then g (λ o. found (slice_get s.stack (at + unsigned_abs o))) ≡ mapped (renamed handles k) (and_then g (λ o. found (slice_get m.stack (at + unsigned_abs o))))
-  global at k (Given o) kind =
-      ap (λ zs. found (slice_get zs (at + unsigned_abs o))) beside.stack
-      ∙ slice_renamed handles kinds m.stack (at + unsigned_abs o) k (kind o refl)
-  global at k (Stops x) kind = refl
-  global at k Broken kind = refl
+  stack_word : (n i : ℕ) (k : Kind) → n ≡ i → slice_get kinds i ≡ Some k → Words k (found (slice_get m.stack i)) (found (slice_get s.stack n))
+  stack_word n i k same kind =
+      gots_mapped (renamed handles k) (found (slice_get m.stack i)) (found (slice_get s.stack n))
+      (ap (λ j. found (slice_get s.stack j)) same ∙ (ap (λ zs. found (slice_get zs i)) beside.stack ∙ slice_renamed handles kinds m.stack i k kind))
 
-  via : (at : ℕ) (j k : Kind) → j ≡ k → (x w z : Got ℤ) → ((o y : ℤ) → w ≡ Given o → z ≡ Given y → Reaches m.cells (at + unsigned_abs o) y)
-      → and_then x (λ i. and_then w (λ o. and_then (mapped (renamed handles sort.Access) z) (slots.behind s (at + unsigned_abs o) j)))
-      ≡ mapped (renamed handles k) (and_then x (λ i. and_then w (λ o. and_then z (flat.behind m (at + unsigned_abs o) j))))
-  via at j k same (Given x) (Given o) (Given y) reach =
-      subst (λ q. slots.behind s (at + unsigned_abs o) j (handle_word handles y) ≡ mapped (renamed handles q) (flat.behind m (at + unsigned_abs o) j y)) same
-      (behind_same handles kinds taken m s beside (at + unsigned_abs o) j y (reach o y refl refl))
-  via at j k same (Given x) (Given o) (Stops t) reach = refl
-  via at j k same (Given x) (Given o) Broken reach = refl
-  via at j k same (Given x) (Stops t) z reach = refl
-  via at j k same (Given x) Broken z reach = refl
-  via at j k same (Stops t) w z reach = refl
-  via at j k same Broken w z reach = refl
-
-  short : (op : ShortCircuit) (g right right_here : Got ℤ) → ((x : ℤ) → g ≡ Given x → decides op x ≡ false → right_here ≡ right)
-      → and_then g (λ x. if decides op x then Given x else right_here) ≡ and_then g (λ x. if decides op x then Given x else right)
-  short op (Given x) right right_here same = by (decides op x) refl
-    where
-      by : (b : Bool) → decides op x ≡ b → (if b then Given x else right_here) ≡ (if b then Given x else right)
-      by true is = refl
-      by false is = same x refl is
-  short op (Stops t) right right_here same = refl
-  short op Broken right right_here same = refl
-
-  null : (equal : Bool) (g : Got ℤ) → ((z : ℤ) → g ≡ Given z → IsKept z)
-      → and_then (mapped (renamed handles sort.Access) g) (λ w. Given (truth (if is_zero w then equal else not equal))) ≡ and_then g (λ w. Given (truth (if is_zero w then equal else not equal)))
-  null equal (Given z) kept = ap (λ b. Given (truth (if b then equal else not equal))) (zero_same handles z (kept z refl))
-  null equal (Stops t) kept = refl
-  null equal Broken kept = refl
+  short_gots : (x : ℤ) (b : Bool) (y w : Got ℤ) → (b ≡ false → Same y w) → b ≡ b → Same (if b then Given x else y) (if b then Given x else w)
+  short_gots x true y w same e = refl
+  short_gots x false y w same e = same refl
 
   mutual
     unfolding flat.word flat.indexes slots.word slots.indexes Looks
 
-    pub word_same : (c : Code) (k : Kind) → Looks m kinds taken c k → slots.word s c ≡ mapped (renamed handles k) (flat.word m c)
-    word_same (Number z) k looks = number_same handles k z looks
-    word_same (Local at i) k looks =
-        ap (λ g. and_then g (λ o. found (slice_get s.stack (s.base + at + unsigned_abs o)))) (index_of i (word_same i sort.Int looks.0)) ∙ local at k (flat.word m i) looks.1
-    word_same (Global at i) k looks =
-        ap (λ g. and_then g (λ o. found (slice_get s.stack (at + unsigned_abs o)))) (index_of i (word_same i sort.Int looks.0)) ∙ global at k (flat.word m i) looks.1
-    word_same (Via p at i j) k looks =
-        ap (λ g. and_then g (λ x. and_then (slots.word s i) (λ o. and_then (slots.word s p) (slots.behind s (at + unsigned_abs o) j)))) (indexes_same p sort.Access looks.2)
-        ∙ (ap (λ g. and_then (flat.indexes m p) (λ x. and_then g (λ o. and_then (slots.word s p) (slots.behind s (at + unsigned_abs o) j)))) (index_of i (word_same i sort.Int looks.1))
-        ∙ (ap (λ g. and_then (flat.indexes m p) (λ x. and_then (flat.word m i) (λ o. and_then g (slots.behind s (at + unsigned_abs o) j)))) (word_same p sort.Access looks.2)
-        ∙ via at j k looks.0 (flat.indexes m p) (flat.word m i) (flat.word m p) looks.3))
-    word_same (Scaled i low high size) k looks =
-        as_data k looks.0 (flat.word m (Scaled i low high size)) (slots.word s (Scaled i low high size)) (ap (λ g. and_then g (scaled low high size)) (index_of i (word_same i sort.Int looks.1)))
-    word_same (Plus a b) k looks =
+    pub word_gots : (c : Code) (k : Kind) → Looks m kinds taken c k → Words k (flat.word m c) (slots.word s c)
+    word_gots (Number z) k looks = number_same handles k z looks
+    word_gots (Local at i) k looks =
+        same_then (λ a b. b ≡ renamed handles k a) (flat.word m i) (slots.word s i) (λ o. found (slice_get m.stack (m.base + at + unsigned_abs o))) (λ o. found (slice_get s.stack (s.base + at + unsigned_abs o)))
+        (of_data sort.Int tt (flat.word m i) (slots.word s i) (word_gots i sort.Int looks.0))
+        (λ o at_index. stack_word (s.base + at + unsigned_abs o) (m.base + at + unsigned_abs o) k (ap (λ b. b + at + unsigned_abs o) beside.base) (looks.1 o at_index))
+    word_gots (Global at i) k looks =
+        same_then (λ a b. b ≡ renamed handles k a) (flat.word m i) (slots.word s i) (λ o. found (slice_get m.stack (at + unsigned_abs o))) (λ o. found (slice_get s.stack (at + unsigned_abs o)))
+        (of_data sort.Int tt (flat.word m i) (slots.word s i) (word_gots i sort.Int looks.0))
+        (λ o at_index. stack_word (at + unsigned_abs o) (at + unsigned_abs o) k refl (looks.1 o at_index))
+    word_gots (Via p at i j) k looks =
+        same_then (λ a b. b ≡ renamed handles k a) (flat.indexes m p) (slots.indexes s p)
+        (λ x. and_then (flat.word m i) (λ o. and_then (flat.word m p) (flat.behind m (at + unsigned_abs o) j))) (λ x. and_then (slots.word s i) (λ o. and_then (slots.word s p) (slots.behind s (at + unsigned_abs o) j)))
+        (indexes_gots p sort.Access looks.2)
+        (λ x at_indexes.
+        same_then (λ a b. b ≡ renamed handles k a) (flat.word m i) (slots.word s i) (λ o. and_then (flat.word m p) (flat.behind m (at + unsigned_abs o) j)) (λ o. and_then (slots.word s p) (slots.behind s (at + unsigned_abs o) j))
+        (of_data sort.Int tt (flat.word m i) (slots.word s i) (word_gots i sort.Int looks.1))
+        (λ o at_index.
+        gots_then (λ a b. b ≡ handle_word handles a) (λ a b. b ≡ renamed handles k a) (flat.word m p) (slots.word s p) (flat.behind m (at + unsigned_abs o) j) (slots.behind s (at + unsigned_abs o) j)
+        (word_gots p sort.Access looks.2)
+        (λ z w at_word same.
+        subst (λ v. GotsAlike (λ a b. b ≡ renamed handles k a) (flat.behind m (at + unsigned_abs o) j z) (slots.behind s (at + unsigned_abs o) j v)) (sym same)
+        (subst (λ q. GotsAlike (λ a b. b ≡ renamed handles q a) (flat.behind m (at + unsigned_abs o) j z) (slots.behind s (at + unsigned_abs o) j (handle_word handles z))) looks.0
+        (behind_gots handles kinds taken m s beside (at + unsigned_abs o) j z (looks.3 z at_word))))))
+    word_gots (Scaled i low high size) k looks =
+        as_data k looks.0 (flat.word m (Scaled i low high size)) (slots.word s (Scaled i low high size))
+        (same_then (λ a b. b ≡ a) (flat.word m i) (slots.word s i) (scaled low high size) (scaled low high size) (of_data sort.Int tt (flat.word m i) (slots.word s i) (word_gots i sort.Int looks.1))
+        (λ o e. gots_same (scaled low high size o) (scaled low high size o) refl))
+    word_gots (Plus a b) k looks =
         as_data k looks.0 (flat.word m (Plus a b)) (slots.word s (Plus a b))
-        (ap (λ g. and_then g (λ x. and_then (slots.word s b) (λ y. offset (unsigned_abs x + unsigned_abs y)))) (index_of a (word_same a sort.Int looks.1))
-        ∙ ap (λ g. and_then (flat.word m a) (λ x. and_then g (λ y. offset (unsigned_abs x + unsigned_abs y)))) (index_of b (word_same b sort.Int looks.2)))
-    word_same (Unary op a) k looks =
+        (same_then (λ a b. b ≡ a) (flat.word m a) (slots.word s a) (λ x. and_then (flat.word m b) (λ y. offset (unsigned_abs x + unsigned_abs y))) (λ x. and_then (slots.word s b) (λ y. offset (unsigned_abs x + unsigned_abs y)))
+        (of_data sort.Int tt (flat.word m a) (slots.word s a) (word_gots a sort.Int looks.1))
+        (λ x e. same_then (λ a b. b ≡ a) (flat.word m b) (slots.word s b) (λ y. offset (unsigned_abs x + unsigned_abs y)) (λ y. offset (unsigned_abs x + unsigned_abs y))
+        (of_data sort.Int tt (flat.word m b) (slots.word s b) (word_gots b sort.Int looks.2)) (λ y f. gots_same (offset (unsigned_abs x + unsigned_abs y)) (offset (unsigned_abs x + unsigned_abs y)) refl)))
+    word_gots (Unary op a) k looks =
         as_data k looks.0 (flat.word m (Unary op a)) (slots.word s (Unary op a))
-        (ap (λ g. and_then g (operated_alone op)) (value_of a looks.1 looks.2 (word_same a looks.1 looks.3)))
-    word_same (Binary op a b) k looks =
+        (same_then (λ a b. b ≡ a) (flat.word m a) (slots.word s a) (operated_alone op) (operated_alone op) (of_data looks.1 looks.2 (flat.word m a) (slots.word s a) (word_gots a looks.1 looks.3))
+        (λ x e. gots_same (operated_alone op x) (operated_alone op x) refl))
+    word_gots (Binary op a b) k looks =
         as_data k looks.0 (flat.word m (Binary op a b)) (slots.word s (Binary op a b))
-        (ap (λ g. and_then g (λ x. and_then (slots.word s b) (operated op x))) (value_of a looks.1.0 looks.1.1 (word_same a looks.1.0 looks.1.2))
-        ∙ ap (λ g. and_then (flat.word m a) (λ x. and_then g (operated op x))) (value_of b looks.2.0 looks.2.1 (word_same b looks.2.0 looks.2.2)))
-    word_same (Short op a b) k looks =
+        (same_then (λ a b. b ≡ a) (flat.word m a) (slots.word s a) (λ x. and_then (flat.word m b) (operated op x)) (λ x. and_then (slots.word s b) (operated op x))
+        (of_data looks.1.0 looks.1.1 (flat.word m a) (slots.word s a) (word_gots a looks.1.0 looks.1.2))
+        (λ x e. same_then (λ a b. b ≡ a) (flat.word m b) (slots.word s b) (operated op x) (operated op x)
+        (of_data looks.2.0 looks.2.1 (flat.word m b) (slots.word s b) (word_gots b looks.2.0 looks.2.2)) (λ y f. gots_same (operated op x y) (operated op x y) refl)))
+    word_gots (Short op a b) k looks =
         as_data k looks.0 (flat.word m (Short op a b)) (slots.word s (Short op a b))
-        (ap (λ g. and_then g (λ x. if decides op x then Given x else slots.word s b)) (value_of a looks.1.0 looks.1.1 (word_same a looks.1.0 looks.1.2))
-        ∙ short op (flat.word m a) (flat.word m b) (slots.word s b) (λ x is no. let l = looks.2 x is no in value_of b l.0 l.1 (word_same b l.0 l.2)))
-    word_same (IsNull equal p) k looks =
+        (same_then (λ a b. b ≡ a) (flat.word m a) (slots.word s a) (λ x. if decides op x then Given x else flat.word m b) (λ x. if decides op x then Given x else slots.word s b)
+        (of_data looks.1.0 looks.1.1 (flat.word m a) (slots.word s a) (word_gots a looks.1.0 looks.1.2))
+        (λ x e. short_gots x (decides op x) (flat.word m b) (slots.word s b) (λ no. let l = looks.2 x e no in of_data l.0 l.1 (flat.word m b) (slots.word s b) (word_gots b l.0 l.2)) refl))
+    word_gots (IsNull equal p) k looks =
         as_data k looks.0 (flat.word m (IsNull equal p)) (slots.word s (IsNull equal p))
-        (ap (λ g. and_then g (λ w. Given (truth (if is_zero w then equal else not equal)))) (word_same p sort.Access looks.1)
-        ∙ null equal (flat.word m p) looks.2)
-    word_same (Waiting at) k looks = ap (λ zs. found (slice_get zs at)) beside.waits ∙ slice_renamed handles taken m.waits at k looks
-    word_same EndOfFile k looks =
-        as_data k looks (flat.word m EndOfFile) (slots.word s EndOfFile) (ap (λ r. Given (truth (at_end r))) beside.rest)
-    word_same Nothing k looks = refl
+        (gots_then (λ a b. b ≡ handle_word handles a) (λ a b. b ≡ a) (flat.word m p) (slots.word s p) (λ w. Given (truth (if is_zero w then equal else not equal))) (λ w. Given (truth (if is_zero w then equal else not equal)))
+        (word_gots p sort.Access looks.1)
+        (λ z w e same. ap (λ v. truth (if is_zero v then equal else not equal)) same ∙ ap (λ b. truth (if b then equal else not equal)) (zero_same handles z (looks.2 z e))))
+    word_gots (Waiting at) k looks =
+        gots_mapped (renamed handles k) (found (slice_get m.waits at)) (found (slice_get s.waits at)) (ap (λ zs. found (slice_get zs at)) beside.waits ∙ slice_renamed handles taken m.waits at k looks)
+    word_gots EndOfFile k looks =
+        as_data k looks (flat.word m EndOfFile) (slots.word s EndOfFile) (ap (λ r. truth (at_end r)) beside.rest)
+    word_gots Nothing k looks = tt
 
-    pub indexes_same : (c : Code) (k : Kind) → Looks m kinds taken c k → slots.indexes s c ≡ flat.indexes m c
-    indexes_same (Local at i) k looks = index_of i (word_same i sort.Int looks.0)
-    indexes_same (Global at i) k looks = index_of i (word_same i sort.Int looks.0)
-    indexes_same (Via p at i j) k looks =
-        ap (λ g. and_then g (λ x. slots.word s i)) (indexes_same p sort.Access looks.2) ∙ ap (λ g. and_then (flat.indexes m p) (λ x. g)) (index_of i (word_same i sort.Int looks.1))
-    indexes_same c k looks = refl
+    pub indexes_gots : (c : Code) (k : Kind) → Looks m kinds taken c k → Same (flat.indexes m c) (slots.indexes s c)
+    indexes_gots (Local at i) k looks = of_data sort.Int tt (flat.word m i) (slots.word s i) (word_gots i sort.Int looks.0)
+    indexes_gots (Global at i) k looks = of_data sort.Int tt (flat.word m i) (slots.word s i) (word_gots i sort.Int looks.0)
+    indexes_gots (Via p at i j) k looks =
+        same_then (λ a b. b ≡ a) (flat.indexes m p) (slots.indexes s p) (λ x. flat.word m i) (λ x. slots.word s i) (indexes_gots p sort.Access looks.2)
+        (λ x e. of_data sort.Int tt (flat.word m i) (slots.word s i) (word_gots i sort.Int looks.1))
+    indexes_gots c k looks = refl
 
-  pub index_same : (c : Code) → Looks m kinds taken c sort.Int → slots.word s c ≡ flat.word m c
-  index_same c looks = index_of c (word_same c sort.Int looks)
+  pub index_gots : (c : Code) → Looks m kinds taken c sort.Int → Same (flat.word m c) (slots.word s c)
+  index_gots c looks = of_data sort.Int tt (flat.word m c) (slots.word s c) (word_gots c sort.Int looks)

@@ -1,23 +1,21 @@
 -- What is asked of what values read, and that both heaps give the same then.
 use Rattle.std.specs.Prelude.{◌≡◌, ◌≤◌, ◌⊎◌, ℕ, zero, suc, List, [], ◌∷◌, ◌++◌, take, drop, length, ℤ}
 use Rattle.type_definitions.specs.Types.{Table}
-use Rattle.run_values.specs.declared.value.Value.{Value}
 use Rattle.run_values.specs.declared.value.Kind.{Kind}
 use Rattle.run_values.specs.declared.value.Kind.TheVariants as sort
 use Rattle.run_codes.specs.Codes.{Place, Fill, Checked, Pointer, MovedPointer, Copied, Moved, Waited, New, Default, Repeated, Both, Empty}
 use Rattle.run_codes.specs.Flat.{Flat, Made, Done, Halted, Failed, Given, Stop, Memory, Spot, InStack, InCell, word, spot, words_at, filled, kinds, default_words}
-use Rattle.numbered_cells.specs.Follows.{IsThere}
 use Rattle.handled_runs.specs.Slots.{Slots}
 use Rattle.handled_runs.specs.Values.{Outcome, Gives, Ends, Fails}
-use Rattle.handled_runs.specs.Beside.{all_renamed, NameWords, Beside}
+use Rattle.handled_runs.specs.Beside.{IsSilent, all_renamed, NameWords, Beside}
 use Rattle.handled_runs.specs.Looks.{IsData, IsNumber, IsKept, Looks, LooksAt, IsFront, AreKept}
 
 -- ---- what is asked
 
--- Words of these kinds stand at a spot, in the stack or in a cell that is there.
+-- Words of these kinds stand at a spot, if it is one of the stack. (Cells have their kinds.)
 abbrev pub StandAt : Flat → List Kind → Spot → List Kind → Type 0
 StandAt m here (InStack n) ks = IsFront ks (drop n here) × (n ≤ length m.stack)
-StandAt m here (InCell n o) ks = (ws : List Value) × IsThere m.cells n ws × (o ≤ length ws)
+StandAt m here (InCell n o) ks = Unit {0}
 
 -- None of them is gone.
 abbrev pub LooksThere : Flat → List Kind → List Kind → Place → List Kind → Type 0
@@ -67,11 +65,11 @@ pub record Alike (handles : List ℕ) (here taken ks : List Kind) (zs : List ℤ
 abbrev pub AreBeside : List ℕ → List Kind → List Kind → Flat → Slots → Type 0
 AreBeside handles here taken m s = (more : List ℕ) × Beside (handles ++ more) here taken m s
 
--- They stop for the same reason. Numbers, and memory, may be out alone.
+-- They stop for the same reason, but for where nothing is said. Memory may be out alone.
 abbrev pub StopsAlike : List ℕ → List Kind → List Kind → Stop → Flat → Outcome → Type 0
-StopsAlike handles here taken x m (Gives us s) = x ≡ Memory
-StopsAlike handles here taken x m (Ends y s) = (x ≡ Memory) ⊎ ((y ≡ Memory) ⊎ ((x ≡ y) × AreBeside handles here taken m s))
-StopsAlike handles here taken x m Fails = x ≡ Memory
+StopsAlike handles here taken x m (Gives us s) = IsSilent x
+StopsAlike handles here taken x m (Ends y s) = IsSilent x ⊎ ((y ≡ Memory) ⊎ ((x ≡ y) × AreBeside handles here taken m s))
+StopsAlike handles here taken x m Fails = IsSilent x
 
 abbrev pub AreAlike : List ℕ → List Kind → List Kind → List Kind → Made (List ℤ) → Outcome → Type 0
 AreAlike handles here taken ks (Done zs m) (Gives us s) = Alike handles here taken ks zs m us s

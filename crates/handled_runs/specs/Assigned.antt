@@ -12,7 +12,7 @@ use Rattle.run_codes.specs.Points as points
 use Rattle.handled_runs.specs.Slots.{Slots, spot}
 use Rattle.handled_runs.specs.Changes.{stored}
 use Rattle.handled_runs.specs.Leaks.{leaks_at, AreLeaked}
-use Rattle.handled_runs.specs.Beside.{Beside}
+use Rattle.handled_runs.specs.Beside.{GotsAlike, Beside}
 use Rattle.handled_runs.specs.Looks.{LooksAt}
 use Rattle.handled_runs.specs.Alike.{StandAt}
 
@@ -46,9 +46,9 @@ LooksTo table m here taken p of =
 
 -- ---- the same outcome
 
+-- Memories with the leak checks that were made.
+abbrev pub AreLeft : List ℕ → List Kind → List Kind → Left Flat → Left Slots → Type 0
+AreLeft handles here taken a b = (b.leaks ≡ a.leaks) × Beside handles here taken a.memory b.memory
+
 abbrev pub LeftAlike : List ℕ → List Kind → List Kind → Got (Left Flat) → Got (Left Slots) → Type 0
-LeftAlike handles here taken (Given a) (Given b) = (b.leaks ≡ a.leaks) × Beside handles here taken a.memory b.memory
-LeftAlike handles here taken (Given a) (Stops y) = ⊥
-LeftAlike handles here taken (Given a) Broken = ⊥
-LeftAlike handles here taken (Stops x) g = g ≡ Stops x
-LeftAlike handles here taken Broken g = Unit {0}
+LeftAlike handles here taken = GotsAlike (AreLeft handles here taken)

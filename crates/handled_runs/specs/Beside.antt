@@ -3,7 +3,7 @@ use Rattle.std.specs.Prelude.{◌≡◌, ◌<◌, ℕ, zero, suc, List, [], ◌�
 use Rattle.run_values.specs.declared.value.Value.{Value}
 use Rattle.run_values.specs.declared.value.Kind.{Kind}
 use Rattle.run_values.specs.declared.value.Kind.TheVariants as sort
-use Rattle.run_codes.specs.Flat.{Flat, Got, Given, Stops, Broken, Spot, InStack, InCell}
+use Rattle.run_codes.specs.Flat.{Flat, Got, Given, Stops, Broken, Stop, Raises, Traps, Memory, Spot, InStack, InCell}
 use Rattle.reuse_heap.specs.Cells.{Cell}
 use Rattle.numbered_cells.specs.Follows.{IsThere, Follows}
 use Rattle.handled_runs.specs.Slots.{Slots}
@@ -39,6 +39,23 @@ NamesWord bound sort.Enum z = Unit {0}
 abbrev pub NameWords : ℕ → List Kind → List ℤ → Type 0
 NameWords bound (k ∷ ks) (z ∷ zs) = NamesWord bound k z × NameWords bound ks zs
 NameWords bound ks zs = Unit {0}
+
+-- Nothing is said where a freed cell is touched, and where numbers are out.
+abbrev pub IsSilent : Stop → Type 0
+IsSilent (Raises e) = ⊥
+IsSilent (Traps t) = Unit {0}
+IsSilent Memory = Unit {0}
+
+-- What is read over both is given, and in relation, or it stops for the same reason. Nothing is said where what is
+-- asked for isn't there over numbers.
+abbrev pub GotsAlike : {A B : Type 0} → (A → B → Type 0) → Got A → Got B → Type 0
+GotsAlike R (Given a) (Given b) = R a b
+GotsAlike R (Given a) (Stops y) = ⊥
+GotsAlike R (Given a) Broken = ⊥
+GotsAlike R (Stops (Raises e)) g = g ≡ Stops (Raises e)
+GotsAlike R (Stops (Traps t)) g = Unit {0}
+GotsAlike R (Stops Memory) g = Unit {0}
+GotsAlike R Broken g = Unit {0}
 
 -- What is given, as it is named there.
 abbrev pub mapped : {A B : Type 0} → (A → B) → Got A → Got B

@@ -1,15 +1,11 @@
 -- What is asked of what a code reads, so that both heaps give the same.
 --
--- Each word that it reads has the kind that the code is of. Where it looks at an access value, that isn't gone; where
--- it goes through one, the cell isn't freed.
-use Rattle.std.specs.Prelude.{◌≡◌, ℕ, zero, suc, ◌+◌, ◌&&◌, true, false, List, [], ◌∷◌, slice_get, nat_lt, Some, ℤ, pos, negsuc, unsigned_abs}
-use Rattle.run_values.specs.declared.value.Value.{Value}
+-- Each word that it reads has the kind that the code is of. Where it looks at an access value, that isn't gone.
+use Rattle.std.specs.Prelude.{◌≡◌, ◌+◌, false, List, [], ◌∷◌, slice_get, Some, ℤ, pos, negsuc, unsigned_abs}
 use Rattle.run_values.specs.declared.value.Kind.{Kind}
 use Rattle.run_values.specs.declared.value.Kind.TheVariants as sort
-use Rattle.reuse_heap.specs.Cells.{Cell}
 use Rattle.run_codes.specs.Codes.{Code, Number, Local, Global, Via, Scaled, Plus, Unary, Binary, Short, IsNull, Waiting, EndOfFile, Nothing, Place, InFrame, InPackages, Behind}
-use Rattle.run_codes.specs.Flat.{Flat, Given, most_cells, most_offsets, word, decides}
-use Rattle.numbered_cells.specs.Follows.{IsThere}
+use Rattle.run_codes.specs.Flat.{Flat, Given, word, decides}
 
 -- A kind of words that name no cell.
 abbrev pub IsData : Kind → Type 0
@@ -28,12 +24,6 @@ abbrev pub IsKept : ℤ → Type 0
 IsKept (pos n) = Unit {0}
 IsKept (negsuc n) = ⊥
 
--- It is null, or the cell that it names is there. Its number and the offset in it are no larger than a word can be.
-abbrev pub Reaches : List Cell → ℕ → ℤ → Type 0
-Reaches cells o (pos zero) = Unit {0}
-Reaches cells o (pos (suc n)) = (nat_lt n most_cells && nat_lt o most_offsets ≡ true) × (ws : List Value) × IsThere cells n ws
-Reaches cells o (negsuc n) = ⊥
-
 -- `kinds` are those of the words of the stack, `taken` those of the values that the point takes.
 unfoldable pub Looks : Flat → List Kind → List Kind → Code → Kind → Type 0
 Looks m kinds taken (Number z) k = IsNumber k z
@@ -43,7 +33,7 @@ Looks m kinds taken (Global at i) k =
     Looks m kinds taken i sort.Int × ((o : ℤ) → word m i ≡ Given o → slice_get kinds (at + unsigned_abs o) ≡ Some k)
 Looks m kinds taken (Via p at i j) k =
     (j ≡ k) × Looks m kinds taken i sort.Int × Looks m kinds taken p sort.Access
-    × ((o z : ℤ) → word m i ≡ Given o → word m p ≡ Given z → Reaches m.cells (at + unsigned_abs o) z)
+    × ((z : ℤ) → word m p ≡ Given z → IsKept z)
 Looks m kinds taken (Scaled i low high size) k = IsData k × Looks m kinds taken i sort.Int
 Looks m kinds taken (Plus a b) k = IsData k × Looks m kinds taken a sort.Int × Looks m kinds taken b sort.Int
 Looks m kinds taken (Unary op a) k = IsData k × (j : Kind) × IsData j × Looks m kinds taken a j
@@ -62,8 +52,7 @@ abbrev pub LooksAt : Flat → List Kind → List Kind → Place → Type 0
 LooksAt m kinds taken (InFrame at i) = Looks m kinds taken i sort.Int
 LooksAt m kinds taken (InPackages at i) = Looks m kinds taken i sort.Int
 LooksAt m kinds taken (Behind p at i) =
-    Looks m kinds taken i sort.Int × Looks m kinds taken p sort.Access
-    × ((o z : ℤ) → word m i ≡ Given o → word m p ≡ Given z → Reaches m.cells (at + unsigned_abs o) z)
+    Looks m kinds taken i sort.Int × Looks m kinds taken p sort.Access × ((z : ℤ) → word m p ≡ Given z → IsKept z)
 
 -- ---- words of a type
 

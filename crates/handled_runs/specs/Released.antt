@@ -9,7 +9,6 @@ use Rattle.machine.specs.Words.{access_offsets}
 use Rattle.machine.specs.Evaluate.{Twice}
 use Rattle.slot_heap.specs.Heaps.{words_at}
 use Rattle.reuse_heap.specs.Cells.{Cell}
-use Rattle.numbered_cells.specs.Follows.{IsThere}
 use Rattle.run_codes.specs.Codes.{Place}
 use Rattle.run_codes.specs.Flat.{Flat, Got, Given, Stops, Broken, Traps, and_then, kinds, most_cells, Spot, InCell}
 use Rattle.run_codes.specs.Flat as flat
@@ -65,12 +64,11 @@ released table p of at s = and_then (spot s p) (λ q. and_then (held s q (sort.A
 
 -- ---- what is asked
 
--- It isn't gone, and names a cell that is there.
+-- It isn't gone, and what isn't gone of the words of its cell names cells that are there.
 abbrev pub IsOwner : Table → Flat → ℕ → ℤ → Type 0
 IsOwner table m of (pos zero) = Unit {0}
 IsOwner table m of (pos (suc k)) =
-    ((ws : List Value) × IsThere m.cells k ws)
-    × ((zs : List ℤ) → flat.words_at m (InCell k 0) (kinds table of) ≡ Given zs → AreLeaked m.cells zs (access_offsets table of))
+    (zs : List ℤ) → flat.words_at m (InCell k 0) (kinds table of) ≡ Given zs → AreLeaked m.cells zs (access_offsets table of)
 IsOwner table m of (negsuc k) = ⊥
 
 abbrev pub LooksFor : Table → Flat → List Kind → List Kind → Place → ℕ → Type 0

@@ -5,10 +5,10 @@
 //! never used again, and where a number that was moved away stands with a minus. `specs/Slots.antt` says
 //! the same over the heap of `slot_heap`: words have handles for numbers, and null where a name is gone;
 //! and `specs/Changes.antt`, what stores, moves, and cells that are made and freed change there. Where
-//! both stand beside each other (`specs/Beside.antt`), and what is read has the kind that the code is of,
-//! is in no freed cell and isn't gone (`specs/Looks.antt`), both give the same, but for these names
-//! (`proofs/Words.antt`, `Places.antt`, `Standing.antt`), and each change leaves them beside each other
-//! (`Stacks.antt`, `Cells.antt`, `Moves.antt`). So it is with values, which may move and make
+//! both stand beside each other (`specs/Beside.antt`), and what is looked at has the kind that the code is
+//! of and isn't gone (`specs/Looks.antt`), both give the same, but for these names, or over numbers a freed
+//! cell is touched (`proofs/Words.antt`, `Places.antt`, `There.antt`); and each change leaves them beside
+//! each other (`Stacks.antt`, `Cells.antt`, `Moves.antt`). So it is with values, which may move and make
 //! (`specs/Values.antt`, `Alike.antt`, `proofs/Filled.antt`), and where a value goes to a place or a cell
 //! is released, with the leak checks (`Leaks.antt`, `Assigned.antt`, `Released.antt` of both). Nothing
 //! here runs.

@@ -16,19 +16,19 @@ use Rattle.handled_runs.specs.Slots.{Slots}
 use Rattle.handled_runs.specs.Slots as slots
 use Rattle.handled_runs.specs.Changes.{stored, emptied}
 use Rattle.handled_runs.specs.Leaks.{leaks_at}
-use Rattle.handled_runs.specs.Beside.{spot_renamed, Beside}
+use Rattle.handled_runs.specs.Beside.{GotsAlike, spot_renamed, Beside}
+use Rattle.handled_runs.proofs.Gots.{gots_then}
 use Rattle.handled_runs.proofs.Places.{as_long}
+use Rattle.handled_runs.proofs.There.{AreRenamed, held_gots, moved_gots}
+use Rattle.handled_runs.proofs.Leaks.{leaks_gots}
 use Rattle.handled_steps.specs.States.{Outcome, Goes, Fails, Turn, start, halted, waiting, on_got, with_frame, frame_of}
 use Rattle.handled_steps.specs.Steps.{Passing, Passes, Stopping, Failing, out_leaks, with_formal, with_formals, begins, entered, on_passed, CallsSub}
 use Rattle.handled_steps.specs.Alike.{Paired, ReturnAlike, FrameAlike, StatesAlike, OutcomesAlike, frame_kinds, led_kinds}
 use Rattle.handled_steps.specs.Looks.{HavePointers, LooksOut, LooksFormal, LooksFormals, LooksCall, taken_kinds}
 use Rattle.handled_steps.proofs.Pairs.{paired_map, paired_append}
-use Rattle.handled_steps.proofs.Turns.{GotsAlike, Both, flat_turn, slot_turn, start_beside, got_on, wants_alike, halted_alike, after_alike, waiting_on}
+use Rattle.handled_steps.proofs.Turns.{Both, flat_turn, slot_turn, start_beside, got_on, wants_alike, halted_alike, silent_halts, after_alike, waiting_on}
 use Rattle.handled_steps.proofs.Gots.{in_stack_gots}
-use Rattle.handled_steps.proofs.Scopes.{leaks_gots}
-use Rattle.handled_steps.proofs.Loops.{gots_then}
 use Rattle.handled_steps.proofs.Frames.{frame_pushed}
-use Rattle.handled_steps.proofs.Moving.{AreRenamed, held_gots, moved_gots}
 use Rattle.handled_steps.proofs.Passing.{PassedAlike, AllPassed, AreThere, PassingAlike, all_alike}
 
 -- ---- leak checks of `out` actuals
@@ -57,7 +57,7 @@ module _ (table : Table) (pointers : HavePointers table) (handles : List ℕ) (h
       (subst (λ x. SameLeaks (points.out_leaks table m (ToSpot q of at ∷ ps)) (out_leaks table s (ToSpot (spot_renamed handles q) of x ∷ qs))) (sym all.0.2)
       (gots_then (λ a b. b ≡ a) (λ a b. b ≡ a) (points.leaks_at table m q of at) (leaks_at table s (spot_renamed handles q) of at)
       (λ leaks. and_then (points.out_leaks table m ps) (λ more. Given (leaks ++ more))) (λ leaks. and_then (out_leaks table s qs) (λ more. Given (leaks ++ more)))
-      (leaks_gots handles here taken m s beside table pointers q of at looks.0)
+      (leaks_gots handles here taken m s beside table q of at looks.0.0 (pointers of) looks.0.1)
       (λ leaks ls found same.
       gots_then (λ a b. b ≡ a) (λ a b. b ≡ a) (points.out_leaks table m ps) (out_leaks table s qs) (λ more. Given (leaks ++ more)) (λ more. Given (ls ++ more)) (out_gots formals ps qs all.1 looks.1)
       (λ more mores found_more same_more. ap (λ xs. xs ++ mores) same ∙ ap (λ ys. leaks ++ ys) same_more)))))
@@ -228,13 +228,13 @@ module _ (handles : List ℕ) (here : List Kind) (z : Both handles here) where
   passing_made formals ks (Done ps m) (Passes qs s) F G is on = on ps m qs s refl is
   passing_made formals ks (Done ps m) (Stopping x s) F G is on = subst (λ e. Same ks (F ps m) (halted u e s)) (sym is) (wants_alike z.table handles ks (F ps m))
   passing_made formals ks (Done ps m) Failing F G is on = absurd is
-  passing_made formals ks (Halted x m) (Passes qs s) F G is on = subst (λ e. Same ks (points.halted t e m) (G qs s)) (sym is) tt
-  passing_made formals ks (Halted x m) (Stopping y s) F G (inl e) on = subst (λ w. Same ks (points.halted t w m) (halted u y s)) (sym e) tt
+  passing_made formals ks (Halted x m) (Passes qs s) F G is on = silent_halts handles here z m ks x (G qs s) is
+  passing_made formals ks (Halted x m) (Stopping y s) F G (inl e) on = silent_halts handles here z m ks x (halted u y s) e
   passing_made formals ks (Halted x m) (Stopping y s) F G (inr (inl e)) on =
       subst (λ w. Same ks (points.halted t x m) (halted u w s)) (sym e) (wants_alike z.table handles ks (points.halted t x m))
   passing_made formals ks (Halted x m) (Stopping y s) F G (inr (inr both)) on =
       subst (λ w. Same ks (points.halted t x m) (halted u w s)) both.0 (halted_alike handles here z both.1.0 here takes m s both.1.1 ks x)
-  passing_made formals ks (Halted x m) Failing F G is on = subst (λ e. Same ks (points.halted t e m) Fails) (sym is) tt
+  passing_made formals ks (Halted x m) Failing F G is on = silent_halts handles here z m ks x Fails is
   passing_made formals ks Failed y F G is on = tt
 
   pub call_alike : HavePointers z.table → (sub : ℕ) (actuals : List Actual) (n : Option ℕ) (r : Outcome) → LooksCall t here takes sub actuals → CallsSub u sub actuals n r

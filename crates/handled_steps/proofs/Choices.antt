@@ -3,7 +3,6 @@ use Rattle.std.proofs.Common.{◌≡◌, refl, sym, ap, subst, ℕ, Bool, List, 
 use Rattle.type_definitions.specs.Types.{Table}
 use Rattle.type_definitions.specs.Entries.{boolean}
 use Rattle.run_values.specs.declared.value.Kind.{Kind}
-use Rattle.run_values.specs.declared.value.Kind.TheVariants as sort
 use Rattle.machine.specs.Evaluate.{ProgramError}
 use Rattle.run_codes.specs.Codes.{Code, Choice}
 use Rattle.run_codes.specs.Flat.{Flat, Given, Raises, and_then, constraint, kinds}
@@ -12,8 +11,8 @@ use Rattle.run_codes.specs.Points.{Held, chosen, truth_held}
 use Rattle.run_codes.specs.Points as points
 use Rattle.handled_runs.specs.Slots.{Slots}
 use Rattle.handled_runs.specs.Slots as slots
-use Rattle.handled_runs.specs.Beside.{renamed, all_renamed, NameWords, Beside}
-use Rattle.handled_runs.specs.Looks.{IsData}
+use Rattle.handled_runs.specs.Beside.{all_renamed, NameWords, Beside}
+use Rattle.handled_runs.proofs.Words.{data_renamed}
 use Rattle.handled_runs.proofs.Names.{named_data}
 use Rattle.handled_steps.specs.States.{Outcome, Goes, Turn, waiting, start, halted, on_got, goes, after}
 use Rattle.handled_steps.specs.Steps.{test, choice, choose, evaluate_left, evaluate_right}
@@ -22,11 +21,6 @@ use Rattle.handled_steps.specs.Looks.{LooksData, IsOneData, taken_kinds}
 use Rattle.handled_steps.proofs.Pairs.{paired_drop}
 use Rattle.handled_steps.proofs.Turns.{Both, flat_turn, slot_turn, start_more, got_on, goes_alike, halted_alike, after_alike, waiting_on}
 use Rattle.handled_steps.proofs.Gots.{data_gots}
-
-pub data_renamed : (handles : List ℕ) (k : Kind) (z : ℤ) → IsData k → renamed handles k z ≡ z
-data_renamed handles sort.Int z is = refl
-data_renamed handles sort.Enum z is = refl
-data_renamed handles sort.Access z is = absurd is
 
 pub truth_alike : (table : Table) (handles : List ℕ) (w : ℤ) → IsOneData (kinds table boolean) → HeldAlike table handles (truth_held w) (truth_held w)
 truth_alike table handles w (k, is, data_kind) = record {

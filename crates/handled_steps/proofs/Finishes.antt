@@ -11,18 +11,18 @@ use Rattle.run_codes.specs.Points as points
 use Rattle.handled_runs.specs.Slots.{Slots}
 use Rattle.handled_runs.specs.Slots as slots
 use Rattle.handled_runs.specs.Changes.{with_stack, stored, emptied}
-use Rattle.handled_runs.specs.Beside.{spot_renamed, Beside}
+use Rattle.handled_runs.specs.Beside.{GotsAlike, spot_renamed, Beside}
 use Rattle.handled_steps.specs.States.{Outcome, Turn, start, counted, halted, on_got}
 use Rattle.handled_steps.specs.Steps.{in_stack, copied_back, returned, finish}
 use Rattle.handled_steps.specs.Steps as steps
 use Rattle.handled_steps.specs.Alike.{Paired, ReturnAlike, FrameAlike, StatesAlike, OutcomesAlike}
 use Rattle.handled_steps.specs.Looks.{LooksReturn, LooksBack, back_stored, taken_kinds}
 use Rattle.handled_steps.proofs.Pairs.{return_on, paired_on, frames_on}
-use Rattle.handled_steps.proofs.Turns.{GotsAlike, Both, flat_turn, slot_turn, start_more, got_on, halted_alike}
-use Rattle.handled_steps.proofs.Gots.{store_gots}
-use Rattle.handled_steps.proofs.Loops.{gots_then}
+use Rattle.handled_steps.proofs.Turns.{Both, flat_turn, slot_turn, start_more, got_on, halted_alike, silent_halts}
 use Rattle.handled_steps.proofs.Frames.{frame_left}
-use Rattle.handled_steps.proofs.Moving.{AreRenamed, held_gots, moved_gots, reached_is, fits_same}
+use Rattle.handled_runs.proofs.Gots.{gots_then}
+use Rattle.handled_runs.proofs.There.{AreRenamed, held_gots, moved_gots, stored_gots as spot_stored}
+use Rattle.handled_steps.proofs.Moving.{reached_is, reached_silent, fits_same}
 
 -- What is copied back, by handles.
 abbrev renamed_return : List ℕ → Return → Return
@@ -48,13 +48,13 @@ module _ (table : Table) (handles : List ℕ) (here taken : List Kind) (m : Flat
       (and_then (emptied s (InStack (b + r.at)) (kinds table r.from) (access_offsets table r.from)) (λ n. stored n (spot_renamed handles r.to) (kinds table r.of) us))) (sym beside.base)
       (gots_then (Beside handles here taken) (Beside handles here taken) (flat.moved_out m (InStack (m.base + r.at)) (kinds table r.from) (access_offsets table r.from))
       (emptied s (InStack (m.base + r.at)) (kinds table r.from) (access_offsets table r.from)) (λ n. flat.stored n r.to (kinds table r.of) zs) (λ n. stored n (spot_renamed handles r.to) (kinds table r.of) us)
-      (moved_gots handles here taken m s beside (InStack (m.base + r.at)) (kinds table r.from) (access_offsets table r.from) looks.1.0)
+      (moved_gots handles here taken m s beside (InStack (m.base + r.at)) (kinds table r.from) (access_offsets table r.from) looks.0.0)
       (λ n t left both.
       subst (λ x. GotsAlike (Beside handles here taken) (flat.stored n r.to (kinds table r.of) zs) (stored t (spot_renamed handles r.to) (kinds table r.of) x)) (sym as_of.words)
-      (store_gots handles here taken n t both r.to (kinds table r.of) zs (looks.4 n left) as_of.known as_of.names)))
+      (spot_stored handles here taken n t both r.to (kinds table r.of) zs (looks.3 n left) as_of.known as_of.names)))
     where
       as_of : AreRenamed handles (kinds table r.of) zs us
-      as_of = subst (λ ks. AreRenamed handles ks zs us) looks.2 is
+      as_of = subst (λ ks. AreRenamed handles ks zs us) looks.1 is
 
 module _ (handles : List ℕ) (here : List Kind) (z : Both handles here) where
   abbrev t : points.Turn
@@ -111,6 +111,20 @@ module _ (handles : List ℕ) (here : List Kind) (z : Both handles here) where
       reads_then (Stops x) = refl
       reads_then Broken = refl
 
+  abbrev after_spot : Return → List Return → Flat → Spot → Made Flat
+  after_spot r rs m s =
+      reads m (flat.held m (points.in_stack m r.at) (kinds z.table r.from))
+      (λ zs. if fits z.table r.of zs
+      then reads m (and_then (flat.moved_out m (points.in_stack m r.at) (kinds z.table r.from) (access_offsets z.table r.from)) (λ n. flat.stored n s (kinds z.table r.of) zs)) (points.copied_back z.table rs)
+      else Halted constraint m)
+
+  flat_stops : (F : Flat → Flat → points.Outcome) (r : Return) (rs : List Return) (m : Flat) (x : flat.Stop) → points.reached m r.to ≡ Stops x
+      → points.on_made t (points.copied_back z.table (r ∷ rs) m) F ≡ points.halted t x m
+  flat_stops F r rs m x e = ap (λ g. points.on_made t (reads m g (after_spot r rs m)) F) e
+
+  flat_breaks : (F : Flat → Flat → points.Outcome) (r : Return) (rs : List Return) (m : Flat) → points.reached m r.to ≡ Broken → points.on_made t (points.copied_back z.table (r ∷ rs) m) F ≡ points.Fails
+  flat_breaks F r rs m e = ap (λ g. points.on_made t (reads m g (after_spot r rs m)) F) e
+
   module _ (ks : List Kind) (F : Flat → Flat → points.Outcome) (G : Slots → Outcome) (on : (m : Flat) (s : Slots) → Beside hs here takes m s → Same ks (F m m) (G s)) where
     next_alike : (r : Return) (rs qs : List Return) (m : Flat) (s : Slots) → Beside hs here takes m s → LooksReturn z.table m here r → (zs us : List ℤ) → AreRenamed hs (kinds z.table r.from) zs us
         → ((n : Flat) (i : Slots) → back_stored z.table m r zs ≡ Given n → Beside hs here takes n i → Same ks (points.on_made t (points.copied_back z.table rs n) F) (copied_back u qs i G))
@@ -119,7 +133,7 @@ module _ (handles : List ℕ) (here : List Kind) (z : Both handles here) where
         subst (λ b. Same ks (flat_next F r rs m zs) (slots_by b)) (sym same) (by (fits z.table r.of zs))
       where
         same : fits z.table r.of us ≡ fits z.table r.of zs
-        same = ap (fits z.table r.of) is.words ∙ fits_same hs z.table r.of (kinds z.table r.from) zs looks.3 is.known
+        same = ap (fits z.table r.of) is.words ∙ fits_same hs z.table r.of (kinds z.table r.from) zs looks.2 is.known
 
         slots_by : Bool → Outcome
         slots_by b = if b then on_got u s (steps.back_stored z.table s (renamed_return hs r) us) (λ n. copied_back u qs n G) else halted u constraint s
@@ -130,6 +144,24 @@ module _ (handles : List ℕ) (here : List Kind) (z : Both handles here) where
             (λ n. points.on_made t (points.copied_back z.table rs n) F) (λ n. copied_back u qs n G) (stored_gots z.table hs here takes m s beside r zs us looks is) more
         by false = halted_alike handles here z [] here takes m s beside ks constraint
 
+    first_alike : (r : Return) (rs qs : List Return) (m : Flat) (s : Slots) (g : Got Spot) → points.reached m r.to ≡ g → Beside hs here takes m s → LooksReturn z.table m here r
+        → ((zs : List ℤ) (n : Flat) (i : Slots) → flat.held m (points.in_stack m r.at) (kinds z.table r.from) ≡ Given zs → back_stored z.table m r zs ≡ Given n → Beside hs here takes n i
+        → Same ks (points.on_made t (points.copied_back z.table rs n) F) (copied_back u qs i G))
+        → Same ks (points.on_made t (points.copied_back z.table (r ∷ rs) m) F) (copied_back u (renamed_return hs r ∷ qs) s G)
+    first_alike r rs qs m s (Given q) reached beside looks more =
+        subst (λ x. Same ks x (copied_back u (renamed_return hs r ∷ qs) s G)) (sym (flat_first F r rs m (reached ∙ ap Given (reached_is m r.to q reached))))
+        (subst (λ b. Same ks (points.on_got t m (flat.held m (InStack (m.base + r.at)) (kinds z.table r.from)) (flat_next F r rs m)) (on_got u s (slots.held s (InStack (b + r.at)) (kinds z.table r.from)) (slots_next G r qs s)))
+        (sym beside.base)
+        (got_on handles here z [] here takes m s beside (AreRenamed hs (kinds z.table r.from)) ks (flat.held m (InStack (m.base + r.at)) (kinds z.table r.from)) (slots.held s (InStack (m.base + r.at)) (kinds z.table r.from))
+        (flat_next F r rs m) (slots_next G r qs s)
+        (held_gots hs here takes m s beside (InStack (m.base + r.at)) (kinds z.table r.from) looks.0.0 looks.0.1)
+        (λ zs us found is. next_alike r rs qs m s beside looks zs us is (λ n i given both. more zs n i found given both))))
+    first_alike r rs qs m s (Stops x) reached beside looks more =
+        subst (λ y. Same ks y (copied_back u (renamed_return hs r ∷ qs) s G)) (sym (flat_stops F r rs m x reached))
+        (silent_halts handles here z m ks x (copied_back u (renamed_return hs r ∷ qs) s G) (reached_silent m r.to x reached))
+    first_alike r rs qs m s Broken reached beside looks more =
+        subst (λ y. Same ks y (copied_back u (renamed_return hs r ∷ qs) s G)) (sym (flat_breaks F r rs m reached)) tt
+
     back_alike : (rs qs : List Return) (m : Flat) (s : Slots) → Paired (ReturnAlike hs) rs qs → Beside hs here takes m s → LooksBack z.table rs m here
         → Same ks (points.on_made t (points.copied_back z.table rs m) F) (copied_back u qs s G)
     back_alike [] [] m s paired beside looks = on m s beside
@@ -137,14 +169,7 @@ module _ (handles : List ℕ) (here : List Kind) (z : Both handles here) where
     back_alike (r ∷ rs) [] m s paired beside looks = absurd paired
     back_alike (r ∷ rs) (q ∷ qs) m s paired beside looks =
         subst (λ x. Same ks (points.on_made t (points.copied_back z.table (r ∷ rs) m) F) (copied_back u (x ∷ qs) s G)) (sym (return_is hs r q paired.0))
-        (subst (λ x. Same ks x (copied_back u (renamed_return hs r ∷ qs) s G)) (sym (flat_first F r rs m (reached_is m r.to looks.0.0)))
-        (subst (λ b. Same ks (points.on_got t m (flat.held m (InStack (m.base + r.at)) (kinds z.table r.from)) (flat_next F r rs m)) (on_got u s (slots.held s (InStack (b + r.at)) (kinds z.table r.from)) (slots_next G r qs s)))
-        (sym beside.base)
-        (got_on handles here z [] here takes m s beside (AreRenamed hs (kinds z.table r.from)) ks (flat.held m (InStack (m.base + r.at)) (kinds z.table r.from)) (slots.held s (InStack (m.base + r.at)) (kinds z.table r.from))
-        (flat_next F r rs m) (slots_next G r qs s)
-        (held_gots hs here takes m s beside (InStack (m.base + r.at)) (kinds z.table r.from) looks.0.1.0 looks.0.1.1)
-        (λ zs us found is.
-        next_alike r rs qs m s beside looks.0 zs us is (λ n i given both. back_alike rs qs n i paired.1 both (looks.1 zs n found given))))))
+        (first_alike r rs qs m s (points.reached m r.to) refl beside looks.0 (λ zs n i found given both. back_alike rs qs n i paired.1 both (looks.1 zs n found given)))
 
   -- ---- the frame is given back
 

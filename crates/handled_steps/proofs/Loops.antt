@@ -10,7 +10,7 @@ use Rattle.run_codes.specs.Points.{next_value}
 use Rattle.run_codes.specs.Points as points
 use Rattle.handled_runs.specs.Slots.{Slots}
 use Rattle.handled_runs.specs.Slots as slots
-use Rattle.handled_runs.specs.Beside.{Beside}
+use Rattle.handled_runs.specs.Beside.{GotsAlike, Beside}
 use Rattle.handled_runs.specs.Looks.{IsFront}
 use Rattle.handled_runs.proofs.Names.{named_data}
 use Rattle.handled_steps.specs.States.{Outcome, Turn, start, halted, on_got, goes}
@@ -18,20 +18,14 @@ use Rattle.handled_steps.specs.Steps.{put_words, looped, loop_started, start_loo
 use Rattle.handled_steps.specs.Alike.{OutcomesAlike, led_kinds, got_kinds, turn_next}
 use Rattle.handled_steps.specs.Alike as alike
 use Rattle.handled_steps.specs.Looks.{LooksData, HasData, HasLoop, taken_kinds}
-use Rattle.handled_steps.proofs.Turns.{GotsAlike, Both, flat_turn, slot_turn, start_more, got_on, goes_alike, halted_alike}
-use Rattle.handled_steps.proofs.Gots.{AreBeside, put_gots, stack_data}
-use Rattle.handled_steps.proofs.Choices.{data_renamed, word_on}
+use Rattle.handled_steps.proofs.Turns.{Both, flat_turn, slot_turn, start_more, got_on, goes_alike, halted_alike}
+use Rattle.handled_steps.proofs.Gots.{put_gots, stack_data}
+use Rattle.handled_runs.proofs.Gots.{gots_then}
+use Rattle.handled_runs.proofs.Words.{data_renamed}
+use Rattle.handled_steps.proofs.Choices.{word_on}
 use Rattle.handled_steps.proofs.Scopes.{front_one}
 
--- ---- one after the other
-
-pub gots_then : {A B C D : Type 0} (R : A → B → Type 0) (S : C → D → Type 0) (x : Got A) (y : Got B) (F : A → Got C) (G : B → Got D) → GotsAlike R x y
-    → ((a : A) (b : B) → x ≡ Given a → R a b → GotsAlike S (F a) (G b)) → GotsAlike S (and_then x F) (and_then y G)
-gots_then R S (Given a) (Given b) F G is on = on a b refl is
-gots_then R S (Given a) (Stops y) F G is on = absurd is
-gots_then R S (Given a) Broken F G is on = absurd is
-gots_then R S (Stops x) y F G is on = ap (λ g. and_then g G) is
-gots_then R S Broken y F G is on = tt
+-- ---- bases
 
 -- A store in the stack leaves the base.
 put_base : (m : Flat) (at : ℕ) (zs : List ℤ) (n : Flat) → points.put_words m at zs ≡ Given n → n.base ≡ m.base
@@ -85,12 +79,12 @@ module _ (handles : List ℕ) (here : List Kind) (z : Both handles here) where
   flat_looped at counter v loop n = points.on_got t m (and_then (points.put_words m at (v ∷ [])) (λ k. points.put_words k counter loop)) (λ k. points.goes t k n)
 
   both_put : (at counter : ℕ) (v a b c : ℤ) → HasData here (z.f.base + at) → HasLoop here (z.f.base + counter)
-      → GotsAlike (AreBeside hs here takes m s beside) (and_then (points.put_words m at (v ∷ [])) (λ k. points.put_words k counter (a ∷ b ∷ c ∷ [])))
+      → GotsAlike (Beside hs here takes) (and_then (points.put_words m at (v ∷ [])) (λ k. points.put_words k counter (a ∷ b ∷ c ∷ [])))
       (and_then (put_words s at (v ∷ [])) (λ k. put_words k counter (a ∷ b ∷ c ∷ [])))
   both_put at counter v a b c (k, data_kind, is) loop =
-      gots_then (AreBeside hs here takes m s beside) (AreBeside hs here takes m s beside) (points.put_words m at (v ∷ [])) (put_words s at (v ∷ []))
+      gots_then (Beside hs here takes) (Beside hs here takes) (points.put_words m at (v ∷ [])) (put_words s at (v ∷ []))
       (λ i. points.put_words i counter (a ∷ b ∷ c ∷ [])) (λ i. put_words i counter (a ∷ b ∷ c ∷ []))
-      (subst (λ w. GotsAlike (AreBeside hs here takes m s beside) (points.put_words m at (v ∷ [])) (put_words s at (w ∷ []))) (data_renamed hs k v data_kind)
+      (subst (λ w. GotsAlike (Beside hs here takes) (points.put_words m at (v ∷ [])) (put_words s at (w ∷ []))) (data_renamed hs k v data_kind)
       (put_gots hs here takes m s beside at (k ∷ []) (v ∷ []) (front_one here (z.f.base + at) k is) refl (named_data (length hs) k v data_kind, tt)))
       (λ i j given both.
       put_gots hs here takes i j both counter (sort.Int ∷ sort.Int ∷ sort.Int ∷ []) (a ∷ b ∷ c ∷ [])
@@ -99,7 +93,7 @@ module _ (handles : List ℕ) (here : List Kind) (z : Both handles here) where
   looped_alike : (at counter : ℕ) (v a b c : ℤ) (n : Option ℕ) → HasData here (z.f.base + at) → HasLoop here (z.f.base + counter)
       → Same (led_kinds t here n) (flat_looped at counter v (a ∷ b ∷ c ∷ []) n) (looped u at counter v (a ∷ b ∷ c ∷ []) n)
   looped_alike at counter v a b c n one loop =
-      got_on handles here z [] here takes m s beside (AreBeside hs here takes m s beside) (led_kinds t here n)
+      got_on handles here z [] here takes m s beside (Beside hs here takes) (led_kinds t here n)
       (and_then (points.put_words m at (v ∷ [])) (λ k. points.put_words k counter (a ∷ b ∷ c ∷ []))) (and_then (put_words s at (v ∷ [])) (λ k. put_words k counter (a ∷ b ∷ c ∷ [])))
       (λ k. points.goes t k n) (λ k. goes u k n) (both_put at counter v a b c one loop)
       (λ i j given both. goes_alike handles here z [] here takes i j both n)

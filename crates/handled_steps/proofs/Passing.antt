@@ -4,7 +4,7 @@ use mathlib.Core.Logic.{◌⊎◌, inl, inr}
 use Rattle.type_definitions.specs.Types.{Table, full}
 use Rattle.run_values.specs.declared.value.Kind.{Kind}
 use Rattle.run_codes.specs.Codes.{Actual, ByValue, From, To}
-use Rattle.run_codes.specs.Flat.{Flat, Got, Given, Stops, Broken, Stop, Memory, Made, Done, Halted, Failed, made_then, constraint, kinds, filled, Spot}
+use Rattle.run_codes.specs.Flat.{Flat, Got, Given, Stops, Broken, Stop, Raises, Traps, Memory, Made, Done, Halted, Failed, made_then, constraint, kinds, filled, Spot}
 use Rattle.run_codes.specs.Flat as flat
 use Rattle.run_codes.specs.Points.{Passed, Value, FromSpot, ToSpot, fits}
 use Rattle.run_codes.specs.Points as points
@@ -12,18 +12,19 @@ use Rattle.handled_runs.specs.Slots.{Slots}
 use Rattle.handled_runs.specs.Slots as slots
 use Rattle.handled_runs.specs.Values as values
 use Rattle.handled_runs.specs.Values.{Fills}
-use Rattle.handled_runs.specs.Beside.{spot_renamed, Beside}
+use Rattle.handled_runs.specs.Beside.{IsSilent, GotsAlike, spot_renamed, Beside}
 use Rattle.handled_runs.specs.Looks.{AreKept}
 use Rattle.handled_runs.specs.Alike.{AreAlike, StandAt}
 use Rattle.handled_runs.proofs.Cells.{words_on, names_on}
+use Rattle.handled_runs.proofs.Places.{spot_gots}
+use Rattle.handled_runs.proofs.There.{AreRenamed, held_gots}
 use Rattle.handled_runs.proofs.Filled.{fill_alike}
 use Rattle.handled_steps.specs.Steps.{Passing, Passes, Stopping, Failing, on_read, passed_value, from_spot, PassesOne, with_first, Following, PassesAll}
 use Rattle.handled_steps.specs.Alike.{NamesSpot}
 use Rattle.handled_steps.specs.Looks.{FitsOf, LooksActual, LooksActuals}
 use Rattle.handled_steps.proofs.Pairs.{spot_on, spot_named_on}
-use Rattle.handled_steps.proofs.Turns.{GotsAlike}
-use Rattle.handled_steps.proofs.Gots.{spot_gots}
-use Rattle.handled_steps.proofs.Moving.{AreRenamed, held_gots, fits_same, stand_named}
+use Rattle.handled_steps.proofs.Gots.{spot_named}
+use Rattle.handled_steps.proofs.Moving.{fits_same}
 
 -- ---- what is known of actuals
 
@@ -47,9 +48,9 @@ pub record AreThere (table : Table) (handles : List ℕ) (here taken : List Kind
   pub beside : Beside (handles ++ more) here taken m s
 
 abbrev pub StopsAlike : List ℕ → List Kind → List Kind → Stop → Flat → Passing → Type 0
-StopsAlike handles here taken x m (Passes qs s) = x ≡ Memory
-StopsAlike handles here taken x m (Stopping y s) = (x ≡ Memory) ⊎ ((y ≡ Memory) ⊎ ((x ≡ y) × ((more : List ℕ) × Beside (handles ++ more) here taken m s)))
-StopsAlike handles here taken x m Failing = x ≡ Memory
+StopsAlike handles here taken x m (Passes qs s) = IsSilent x
+StopsAlike handles here taken x m (Stopping y s) = IsSilent x ⊎ ((y ≡ Memory) ⊎ ((x ≡ y) × ((more : List ℕ) × Beside (handles ++ more) here taken m s)))
+StopsAlike handles here taken x m Failing = IsSilent x
 
 abbrev pub PassingAlike : Table → List ℕ → List Kind → List Kind → List ℕ → Made (List Passed) → Passing → Type 0
 PassingAlike table handles here taken formals (Done ps m) (Passes qs s) = AreThere table handles here taken formals ps m qs s
@@ -135,13 +136,20 @@ module _ (table : Table) (handles : List ℕ) (here taken : List Kind) (m : Flat
   value_alike formal (Halted x n) values.Fails is = is
   value_alike formal Failed g is = tt
 
+  silent : (x : Stop) (r : Passing) → IsSilent x → StopsAlike handles here taken x m r
+  silent x (Passes qs i) e = e
+  silent x (Stopping y i) e = inl e
+  silent x Failing e = e
+
   -- after what is only read
   read_alike : {A B : Type 0} (R : A → B → Type 0) (formal : ℕ) (x : Got A) (y : Got B) (F : A → Made Passed) (G : B → Passing) → GotsAlike R x y
       → ((a : A) (b : B) → x ≡ Given a → R a b → One formal (F a) (G b)) → One formal (flat.reads m x F) (on_read s y G)
   read_alike R formal (Given a) (Given b) F G is on = on a b refl is
   read_alike R formal (Given a) (Stops y) F G is on = absurd is
   read_alike R formal (Given a) Broken F G is on = absurd is
-  read_alike R formal (Stops x) y F G is on = subst (λ g. One formal (Halted x m) (on_read s g G)) (sym is) (stop x)
+  read_alike R formal (Stops (Raises e)) y F G is on = subst (λ g. One formal (Halted (Raises e) m) (on_read s g G)) (sym is) (stop (Raises e))
+  read_alike R formal (Stops (Traps e)) y F G is on = silent (Traps e) (on_read s y G) tt
+  read_alike R formal (Stops Memory) y F G is on = silent Memory (on_read s y G) tt
   read_alike R formal Broken y F G is on = tt
 
   there_passed : (formal : ℕ) (p q : Passed) → PassedAlike table handles formal p q → One formal (Done p m) (Passes (q ∷ []) s)
@@ -151,9 +159,9 @@ module _ (table : Table) (handles : List ℕ) (here taken : List Kind) (m : Flat
     beside = subst (λ hs. Beside hs here taken m s) (sym (append-nil handles)) beside;
   }
 
-  from_alike : (formal of within : ℕ) (q : Spot) → StandAt m here q (kinds table of) → ((zs : List ℤ) → flat.words_at m q (kinds table of) ≡ Given zs → AreKept (kinds table of) zs) → FitsOf (full table within) (kinds table of)
+  from_alike : (formal of within : ℕ) (q : Spot) → NamesSpot (length handles) q → StandAt m here q (kinds table of) → ((zs : List ℤ) → flat.words_at m q (kinds table of) ≡ Given zs → AreKept (kinds table of) zs) → FitsOf (full table within) (kinds table of)
       → One formal (flat.reads m (flat.held m q (kinds table of)) (λ zs. if fits table within zs then Done (FromSpot q of) m else Halted constraint m)) (from_spot table of within s (spot_renamed handles q))
-  from_alike formal of within q stand kept fit =
+  from_alike formal of within q names stand kept fit =
       read_alike (AreRenamed handles (kinds table of)) formal (flat.held m q (kinds table of)) (slots.held s (spot_renamed handles q) (kinds table of))
       (λ zs. if fits table within zs then Done (FromSpot q of) m else Halted constraint m) (λ us. if fits table within us then Passes (FromSpot (spot_renamed handles q) of ∷ []) s else Stopping constraint s)
       (held_gots handles here taken m s beside q (kinds table of) stand kept)
@@ -162,7 +170,7 @@ module _ (table : Table) (handles : List ℕ) (here taken : List Kind) (m : Flat
       (sym (ap (fits table within) is.words ∙ fits_same handles table within (kinds table of) zs fit is.known)) (by (fits table within zs)))
     where
       by : (b : Bool) → One formal (if b then Done (FromSpot q of) m else Halted constraint m) (if b then Passes (FromSpot (spot_renamed handles q) of ∷ []) s else Stopping constraint s)
-      by true = there_passed formal (FromSpot q of) (FromSpot (spot_renamed handles q) of) ((refl, stand_named handles here taken m s beside q (kinds table of) stand), refl)
+      by true = there_passed formal (FromSpot q of) (FromSpot (spot_renamed handles q) of) ((refl, names), refl)
       by false = stop constraint
 
   pub one_alike : (formal : ℕ) (a : Actual) (r : Passing) → LooksActual table m here taken formal a → PassesOne table a s r → One formal (points.passed table a m) r
@@ -176,13 +184,13 @@ module _ (table : Table) (handles : List ℕ) (here taken : List Kind) (m : Flat
       (spot_gots handles here taken m s beside p looks.0.0)
       (λ q w found same.
       subst (λ x. One formal (flat.reads m (flat.held m q (kinds table of)) (λ zs. if fits table within zs then Done (FromSpot q of) m else Halted constraint m)) (from_spot table of within s x)) (sym same)
-      (from_alike formal of within q (looks.0.1 q found).0 (looks.0.1 q found).1 looks.1)))
+      (from_alike formal of within q (spot_named handles here taken m s beside p q found) (looks.0.1 q found).0 (looks.0.1 q found).1 looks.1)))
   one_alike formal (To p of at) r looks so =
       subst (One formal (points.passed table (To p of at) m)) (sym so)
       (read_alike (λ q w. w ≡ spot_renamed handles q) formal (flat.spot m p) (slots.spot s p) (λ q. Done (ToSpot q of at) m) (λ w. Passes (ToSpot w of at ∷ []) s)
       (spot_gots handles here taken m s beside p looks.0)
       (λ q w found same.
-      there_passed formal (ToSpot q of at) (ToSpot w of at) ((same, stand_named handles here taken m s beside q (kinds table of) (looks.1 q found)), refl, refl)))
+      there_passed formal (ToSpot q of at) (ToSpot w of at) ((same, spot_named handles here taken m s beside p q found), refl, refl)))
 
 -- ---- all of them
 
@@ -195,7 +203,7 @@ module _ (table : Table) (handles : List ℕ) (here taken : List Kind) where
   memory_passing formals (Halted x m) y s e = inr (inl e)
   memory_passing formals Failed y s e = tt
 
-  memory_stops : (x : Stop) (m : Flat) (r : Passing) → x ≡ Memory → StopsAlike handles here taken x m r
+  memory_stops : (x : Stop) (m : Flat) (r : Passing) → IsSilent x → StopsAlike handles here taken x m r
   memory_stops x m (Passes qs s) e = e
   memory_stops x m (Stopping y s) e = inl e
   memory_stops x m Failing e = e

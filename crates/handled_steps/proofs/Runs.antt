@@ -6,7 +6,7 @@ use Rattle.type_definitions.specs.Types.{Table}
 use Rattle.run_values.specs.declared.value.Kind.{Kind}
 use Rattle.machine.specs.Evaluate.{StorageError}
 use Rattle.flow_paths.specs.Laid.{FlowProgram}
-use Rattle.machine.specs.States.{Ending, Raised, Spent, stack_words}
+use Rattle.machine.specs.States.{Ending, Normal, Raised, Spent, Trapped, stack_words}
 use Rattle.machine.specs.States as machine
 use Rattle.machine.specs.Run.{main_of}
 use Rattle.run_codes.specs.Flat.{Flat}
@@ -20,10 +20,10 @@ use Rattle.handled_runs.specs.Slots.{Slots}
 use Rattle.handled_runs.specs.Beside.{Beside}
 use Rattle.handled_runs.proofs.Places.{as_long}
 use Rattle.handled_steps.specs.States.{State, Outcome, Goes, Ends, Wants, Fails, frame_of, with_frame}
-use Rattle.handled_steps.specs.Alike.{FrameAlike, Paired, StatesAlike, OutcomesAlike, frame_kinds}
+use Rattle.handled_steps.specs.Alike.{FrameAlike, Paired, StatesAlike, EndsAlike, OutcomesAlike, frame_kinds}
 use Rattle.handled_steps.specs.Looks.{HavePointers, LooksRun}
 use Rattle.handled_steps.specs.Greatest.{KeepsPeaks, EndsWithPeaks}
-use Rattle.handled_steps.specs.Runs.{no_memory, state_of, main_begun, state_at_start, RunsWithin, RunOf, ran_with, given, main_kinds, first_kinds}
+use Rattle.handled_steps.specs.Runs.{NeverTraps, no_memory, state_of, main_begun, state_at_start, RunsWithin, RunOf, ran_with, given, main_kinds, first_kinds}
 use Rattle.handled_steps.proofs.Frames.{frame_pushed}
 use Rattle.handled_steps.proofs.Steps.{within_alike}
 use Rattle.handled_steps.proofs.PeakSteps.{within_keeps}
@@ -118,30 +118,35 @@ ran_same table handles ks e a b is =
     ∙ (ap (λ x. record { output = a.output; leaks = a.leaks; ending = e; steps = a.steps; made = x; freed = b.memory.freed; leaked = length a.leaks }) is.memory.made
     ∙ ap (λ x. record { output = a.output; leaks = a.leaks; ending = e; steps = a.steps; made = length a.memory.cells; freed = x; leaked = length a.leaks }) is.memory.freed)))
 
--- Where both have memory, they give the same.
-pub given_same : (table : Table) (handles : List ℕ) (ks : List Kind) (x : points.Outcome) (r : Outcome) (q : Ran) → OutcomesAlike table handles ks x r → points.run_given x ≡ Some q
+ends_same : (table : Table) (handles : List ℕ) (e : Ending) (a : points.State) (r : Outcome) (q : Ran) → EndsAlike table handles e a r → Some (run_with e a) ≡ Some q → (given r ≡ Some q) ⊎ (r ≡ Wants)
+ends_same table handles e a (Goes b) q is f = absurd is
+ends_same table handles e a (Ends d b) q is f = inl (ap (λ x. Some (ran_with x b)) is.0 ∙ (ap Some (ran_same table (handles ++ is.1.1.0) is.1.0 e a b is.1.1.1) ∙ f))
+ends_same table handles e a Wants q is f = inr refl
+ends_same table handles e a Fails q is f = absurd is
+
+-- Where both have memory, and no freed cell is touched or freed again, they give the same.
+pub given_same : (table : Table) (handles : List ℕ) (ks : List Kind) (x : points.Outcome) (r : Outcome) (q : Ran) → OutcomesAlike table handles ks x r → NeverTraps q.ending → points.run_given x ≡ Some q
     → (given r ≡ Some q) ⊎ (r ≡ Wants)
-given_same table handles ks (points.Goes a) (Goes b) q is e = inl (ap Some (ran_same table (handles ++ is.0) ks Spent a b is.1) ∙ e)
-given_same table handles ks (points.Goes a) (Ends d b) q is e = absurd is
-given_same table handles ks (points.Goes a) Wants q is e = inr refl
-given_same table handles ks (points.Goes a) Fails q is e = absurd is
-given_same table handles ks (points.Ends d a) (Goes b) q is e = absurd is
-given_same table handles ks (points.Ends d a) (Ends c b) q is e =
-    inl (ap (λ x. Some (ran_with x b)) is.0 ∙ (ap Some (ran_same table (handles ++ is.1.1.0) is.1.0 d a b is.1.1.1) ∙ e))
-given_same table handles ks (points.Ends d a) Wants q is e = inr refl
-given_same table handles ks (points.Ends d a) Fails q is e = absurd is
-given_same table handles ks points.Wants r q is e = cc
-given_same table handles ks points.Fails r q is e = cc
+given_same table handles ks (points.Goes a) (Goes b) q is never e = inl (ap Some (ran_same table (handles ++ is.0) ks Spent a b is.1) ∙ e)
+given_same table handles ks (points.Goes a) (Ends d b) q is never e = absurd is
+given_same table handles ks (points.Goes a) Wants q is never e = inr refl
+given_same table handles ks (points.Goes a) Fails q is never e = absurd is
+given_same table handles ks (points.Ends Normal a) r q is never e = ends_same table handles Normal a r q is e
+given_same table handles ks (points.Ends (Raised x p) a) r q is never e = ends_same table handles (Raised x p) a r q is e
+given_same table handles ks (points.Ends Spent a) r q is never e = ends_same table handles Spent a r q is e
+given_same table handles ks (points.Ends (Trapped x p) a) r q is never e = absurd (never x p (let same : run_with (Trapped x p) a ≡ q = cc in sym (ap (λ (y : Ran). y.ending) same)))
+given_same table handles ks points.Wants r q is never e = cc
+given_same table handles ks points.Fails r q is never e = cc
 
 -- The law for the runs of programs that are lowered.
 pub lowered_alike : (program : FlowProgram) (p : Program) (input : List ℕ) (n : ℕ) (r : Outcome) (q : Ran) → lowered_program program ≡ Some p → HavePointers program.table
     → LooksRun n program.table p input (points.state_at_start program.table p (is_declaring program)) (first_kinds program.table p (is_declaring program))
     → RunOf program.table p (is_declaring program) (machine.sub_of program (main_of program.main)).pos (main_of program.main) input n r
-    → lowered_run program input n ≡ Some q → (given r ≡ Some q) ⊎ (r ≡ Wants)
+    → NeverTraps q.ending → lowered_run program input n ≡ Some q → (given r ≡ Some q) ⊎ (r ≡ Wants)
 unfolding lowered_run
-lowered_alike program p input n r q lowered pointers looks so e =
+lowered_alike program p input n r q lowered pointers looks so never e =
     given_same program.table [] [] (run_of program.table p (is_declaring program) (machine.sub_of program (main_of program.main)).pos (main_of program.main) input n) r q
-    (run_alike program.table p pointers (is_declaring program) (machine.sub_of program (main_of program.main)).pos (main_of program.main) input n [] r looks so)
+    (run_alike program.table p pointers (is_declaring program) (machine.sub_of program (main_of program.main)).pos (main_of program.main) input n [] r looks so) never
     (sym (ap (option_and_then (λ (x : Program). run_given (run_of program.table x (is_declaring program) (machine.sub_of program (main_of program.main)).pos (main_of program.main) input n))) lowered) ∙ e)
 
 -- As a run ends, its slots number the greatest counts of live cells.

@@ -2,7 +2,6 @@
 use Rattle.std.proofs.Common.{◌≡◌, refl, sym, ap, ◌∙◌, subst, ℕ, zero, suc, ◌+◌, Bool, true, false, nat_lt, append-nil, List, [], ◌∷◌, ◌++◌, drop, length, slice_get, Option, Some, None, ℤ, pos, if◌then◌else◌}
 use Rattle.std.specs.Prelude.{unsigned_abs}
 use Rattle.spark_base.specs.declared.position.Pos.{Pos}
-use Rattle.type_definitions.specs.Types.{Table}
 use Rattle.run_values.specs.declared.value.Kind.{Kind}
 use Rattle.run_values.specs.declared.value.Kind.TheVariants as sort
 use Rattle.machine.specs.Evaluate.{Twice}
@@ -14,21 +13,20 @@ use Rattle.run_codes.specs.Flat as flat
 use Rattle.run_codes.specs.Points as points
 use Rattle.handled_runs.specs.Slots.{Slots}
 use Rattle.handled_runs.specs.Leaks.{leak, leaks_at, IsLeaked}
-use Rattle.handled_runs.specs.Assigned.{Left}
+use Rattle.handled_runs.specs.Assigned.{Left, AreLeft}
 use Rattle.handled_runs.specs.Released.{flat_freed, flat_cell, flat_named, flat_at, flat_released, released, LooksFor}
-use Rattle.handled_runs.specs.Beside.{handle_word, all_renamed, spot_renamed, Beside}
+use Rattle.handled_runs.specs.Beside.{handle_word, all_renamed, Beside}
 use Rattle.handled_runs.specs.Looks.{IsFront}
 use Rattle.handled_runs.specs.Alike.{AreNumbers}
 use Rattle.handled_runs.proofs.Filled.{numbers_renamed, numbers_long, numbers_named}
-use Rattle.handled_runs.proofs.Leaks.{leak_same}
-use Rattle.handled_runs.proofs.Assigned.{checks_alike, checks_go}
+use Rattle.handled_runs.proofs.Leaks.{leak_same, leaks_gots}
 use Rattle.handled_runs.proofs.Released.{released_alike}
 use Rattle.handled_steps.specs.States.{Outcome, Turn, start, on_got, leaking_goes}
 use Rattle.handled_steps.specs.Steps.{release, end_pointer, end_scope, put_words, left_goes}
 use Rattle.handled_steps.specs.Alike.{OutcomesAlike, led_kinds}
 use Rattle.handled_steps.specs.Looks.{HavePointers, LeaksAt, taken_kinds}
-use Rattle.handled_steps.proofs.Turns.{GotsAlike, Both, flat_turn, slot_turn, start_more, got_on, leaking_goes_alike}
-use Rattle.handled_steps.proofs.Gots.{AreBeside, given_both, stack_gots, put_gots, AreLeft, left_gots}
+use Rattle.handled_steps.proofs.Turns.{Both, flat_turn, slot_turn, start_more, got_on, leaking_goes_alike}
+use Rattle.handled_steps.proofs.Gots.{stack_gots, put_gots}
 use Rattle.handled_steps.proofs.Stores.{left_alike}
 use Rattle.handled_steps.proofs.Tables.{defaults_numbers}
 
@@ -36,16 +34,6 @@ pub front_one : (ks : List Kind) (n : ℕ) (k : Kind) → slice_get ks n ≡ Som
 front_one [] n k is = cc
 front_one (j ∷ ks) zero k is = ((let same : j ≡ k = cc in sym same), tt)
 front_one (j ∷ ks) (suc n) k is = front_one ks n k is
-
--- ---- leak checks
-
-module _ (handles : List ℕ) (here taken : List Kind) (m : Flat) (s : Slots) (beside : Beside handles here taken m s) where
-  pub leaks_gots : (table : Table) → HavePointers table → (q : Spot) (of : ℕ) (p : Pos) → LeaksAt table m here q of
-      → GotsAlike (λ a b. b ≡ a) (points.leaks_at table m q of p) (leaks_at table s (spot_renamed handles q) of p)
-  leaks_gots table pointers q of p at =
-      given_both (λ a b. b ≡ a) (points.leaks_at table m q of p) (leaks_at table s (spot_renamed handles q) of p)
-      (λ x e. checks_go handles here taken m s beside table q of (Some p) x at.0 e)
-      (λ leaks e. (leaks, checks_alike handles here taken m s beside table q of (Some p) leaks at.0 (pointers of) at.1 e, refl))
 
 -- ---- a release, in one piece
 
@@ -165,7 +153,7 @@ module _ (handles : List ℕ) (here : List Kind) (z : Both handles here) where
       subst (λ x. Same (led_kinds turn here n) x (release u p of at n)) (sym (release_is turn of at n p))
       (got_on handles here z [] here takes first s beside (AreLeft hs here takes) (led_kinds turn here n) (flat_released z.table p of at first) (released z.table p of at s)
       (λ l. points.leaking_goes turn l.leaks l.memory n) (left_goes u n)
-      (left_gots hs here takes (flat_released z.table p of at first) (released z.table p of at s) (released_alike hs here takes first s beside z.table of at (pointers of) p looks))
+      (released_alike hs here takes first s beside z.table of at (pointers of) p looks)
       (λ a b found both. left_alike handles here z [] first s n a b both))
 
   -- words of the stack that are put, after leak checks
@@ -174,7 +162,7 @@ module _ (handles : List ℕ) (here : List Kind) (z : Both handles here) where
   put_leaking at ks zs leaks ls n is are same =
       subst (λ ws. Same (led_kinds turn here n) (points.on_got turn first (points.put_words first at zs) (λ i. points.leaking_goes turn leaks i n)) (on_got u s (put_words s at ws) (λ i. leaking_goes u ls i n)))
       (sym (numbers_renamed hs ks zs are))
-      (got_on handles here z [] here takes first s beside (AreBeside hs here takes first s beside) (led_kinds turn here n) (points.put_words first at zs) (put_words s at (all_renamed hs ks zs))
+      (got_on handles here z [] here takes first s beside (Beside hs here takes) (led_kinds turn here n) (points.put_words first at zs) (put_words s at (all_renamed hs ks zs))
       (λ i. points.leaking_goes turn leaks i n) (λ i. leaking_goes u ls i n)
       (put_gots hs here takes first s beside at ks zs is (numbers_long ks zs are) (numbers_named (length hs) ks zs are))
       (λ i j found both.
@@ -207,5 +195,5 @@ module _ (handles : List ℕ) (here : List Kind) (z : Both handles here) where
       (leaks_at z.table s (InStack (z.f.base + at)) of z.point.pos)
       (λ leaks. points.on_got turn first (points.put_words first at (default_words z.table of)) (λ i. points.leaking_goes turn leaks i n))
       (λ leaks. on_got u s (put_words s at (default_words z.table of)) (λ j. leaking_goes u leaks j n))
-      (leaks_gots hs here takes first s beside z.table pointers (InStack (z.f.base + at)) of z.point.pos looks)
+      (leaks_gots hs here takes first s beside z.table (InStack (z.f.base + at)) of z.point.pos looks.0 (pointers of) looks.1)
       (λ leaks ls found same. put_leaking at (kinds z.table of) (default_words z.table of) leaks ls n looks.0.0 (defaults_numbers z.table of) same))

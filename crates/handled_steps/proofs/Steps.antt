@@ -2,14 +2,14 @@
 use Rattle.std.proofs.Common.{◌≡◌, refl, sym, subst, ℕ, zero, suc, Bool, true, false, List, [], ◌∷◌, ◌++◌, append_assoc, append-nil, slice_get, Option, Some, None, if◌then◌else◌}
 use Rattle.type_definitions.specs.Types.{Table}
 use Rattle.run_values.specs.declared.value.Kind.{Kind}
-use Rattle.machine.specs.States.{Spent}
+use Rattle.machine.specs.States.{Ending, Normal, Raised, Spent, Trapped}
 use Rattle.run_codes.specs.Codes.{Does, Go, Put, Store, Assign, Call, Output, Input, Release, Test, Choose, Start, Next, EvaluateLeft, EvaluateRight, Hold, EndPointer, EndScope, Finish, Fall, Point}
 use Rattle.run_codes.specs.Points.{Frame}
 use Rattle.run_codes.specs.Points as points
 use Rattle.run_codes.specs.Programs.{Program}
 use Rattle.handled_steps.specs.States.{State, Outcome, Goes, Ends, Wants, Fails, Turn, are_taken}
 use Rattle.handled_steps.specs.Steps.{Done, Turned, SteppedAt, Stepped, Then, Within}
-use Rattle.handled_steps.specs.Alike.{Paired, FrameAlike, StatesAlike, OutcomesAlike, kinds_after}
+use Rattle.handled_steps.specs.Alike.{Paired, FrameAlike, StatesAlike, EndsAlike, OutcomesAlike, kinds_after}
 use Rattle.handled_steps.specs.Looks.{HavePointers, LooksDoes, LooksTurn, LooksPoint, LooksStep, LooksRun, taken_kinds, turn_of, point_kinds, step_kinds}
 use Rattle.handled_steps.proofs.Turns.{Both, flat_turn, slot_turn, taken_same, wants_alike}
 use Rattle.handled_steps.proofs.Stores.{put_alike, store_alike, assign_alike}
@@ -100,17 +100,29 @@ module _ (table : Table) (pointers : HavePointers table) (program : Program) (in
       → ((added : List ℕ) × StatesAlike table (handles ++ more ++ added) ks a b) → (all : List ℕ) × StatesAlike table (handles ++ all) ks a b
   later_on handles more ks a b (added, is) = (more ++ added, subst (λ hs. StatesAlike table hs ks a b) (append_assoc handles more added) is)
 
+  ends_on : (handles more : List ℕ) (e : Ending) (a : points.State) (r : Outcome) → EndsAlike table (handles ++ more) e a r → EndsAlike table handles e a r
+  ends_on handles more e a (Goes b) is = is
+  ends_on handles more e a (Ends d b) is = (is.0, (is.1.0, later_on handles more is.1.0 a b is.1.1))
+  ends_on handles more e a Wants is = tt
+  ends_on handles more e a Fails is = is
+
   outcomes_on : (handles more : List ℕ) (ks : List Kind) (x : points.Outcome) (r : Outcome) → OutcomesAlike table (handles ++ more) ks x r → OutcomesAlike table handles ks x r
   outcomes_on handles more ks (points.Goes a) (Goes b) is = later_on handles more ks a b is
   outcomes_on handles more ks (points.Goes a) (Ends e b) is = is
   outcomes_on handles more ks (points.Goes a) Wants is = tt
   outcomes_on handles more ks (points.Goes a) Fails is = is
-  outcomes_on handles more ks (points.Ends e a) (Goes b) is = is
-  outcomes_on handles more ks (points.Ends e a) (Ends d b) is = (is.0, (is.1.0, later_on handles more is.1.0 a b is.1.1))
-  outcomes_on handles more ks (points.Ends e a) Wants is = tt
-  outcomes_on handles more ks (points.Ends e a) Fails is = is
+  outcomes_on handles more ks (points.Ends Normal a) r is = ends_on handles more Normal a r is
+  outcomes_on handles more ks (points.Ends (Raised x p) a) r is = ends_on handles more (Raised x p) a r is
+  outcomes_on handles more ks (points.Ends Spent a) r is = ends_on handles more Spent a r is
+  outcomes_on handles more ks (points.Ends (Trapped x p) a) r is = tt
   outcomes_on handles more ks points.Wants r is = tt
   outcomes_on handles more ks points.Fails r is = tt
+
+  ends_then : (handles : List ℕ) (e : Ending) (a : points.State) (g r : Outcome) (P : State → Outcome → Type 0) → EndsAlike table handles e a g → Then P g r → EndsAlike table handles e a r
+  ends_then handles e a (Goes b) r P is so = absurd is
+  ends_then handles e a (Ends d b) r P is so = subst (EndsAlike table handles e a) (sym so) is
+  ends_then handles e a Wants r P is so = subst (EndsAlike table handles e a) (sym so) tt
+  ends_then handles e a Fails r P is so = absurd is
 
   -- The law on runs. As a run of n steps ends, the kinds that are told where it would go on are any.
   pub within_alike : (n : ℕ) (handles : List ℕ) (here ks : List Kind) (a : points.State) (b : State) (r : Outcome) → StatesAlike table handles here a b → LooksRun n table program input a here
@@ -131,9 +143,9 @@ module _ (table : Table) (pointers : HavePointers table) (program : Program) (in
       by (points.Goes next) Wants e is so on =
           subst (OutcomesAlike table handles ks (points.within n table program input next)) (sym so) (wants_alike table handles ks (points.within n table program input next))
       by (points.Goes next) Fails e is so on = absurd is
-      by (points.Ends d x) (Goes t) e is so on = absurd is
-      by (points.Ends d x) (Ends c t) e is so on = subst (OutcomesAlike table handles ks (points.Ends d x)) (sym so) is
-      by (points.Ends d x) Wants e is so on = subst (OutcomesAlike table handles ks (points.Ends d x)) (sym so) tt
-      by (points.Ends d x) Fails e is so on = absurd is
+      by (points.Ends Normal x) g e is so on = ends_then handles Normal x g r (Within n table program input) is so
+      by (points.Ends (Raised d p) x) g e is so on = ends_then handles (Raised d p) x g r (Within n table program input) is so
+      by (points.Ends Spent x) g e is so on = ends_then handles Spent x g r (Within n table program input) is so
+      by (points.Ends (Trapped d p) x) g e is so on = tt
       by points.Wants g e is so on = tt
       by points.Fails g e is so on = tt

@@ -9,10 +9,12 @@ use Rattle.run_codes.specs.Points as points
 use Rattle.handled_runs.specs.Slots.{Slots}
 use Rattle.handled_runs.specs.Slots as slots
 use Rattle.handled_runs.specs.Changes.{stored}
-use Rattle.handled_runs.specs.Assigned.{Left, flat_assigned, assigned, LooksTo}
-use Rattle.handled_runs.specs.Beside.{all_renamed, spot_renamed}
+use Rattle.handled_runs.specs.Assigned.{Left, flat_assigned, assigned, LooksTo, AreLeft}
+use Rattle.handled_runs.specs.Beside.{all_renamed, spot_renamed, Beside}
 use Rattle.handled_runs.specs.Looks.{IsFront}
 use Rattle.handled_runs.specs.Alike.{Alike, LooksFill}
+use Rattle.handled_runs.proofs.Places.{spot_gots}
+use Rattle.handled_runs.proofs.There.{stored_gots}
 use Rattle.handled_runs.proofs.Filled.{fill_alike}
 use Rattle.handled_runs.proofs.Assigned.{assigned_alike, assign_is}
 use Rattle.handled_steps.specs.States.{Outcome, Turn, start, on_got, goes, leaking_goes}
@@ -20,7 +22,7 @@ use Rattle.handled_steps.specs.Steps.{After, put, store, assign, put_words, left
 use Rattle.handled_steps.specs.Alike.{OutcomesAlike, led_kinds}
 use Rattle.handled_steps.specs.Looks.{HavePointers, LooksPlace, taken_kinds}
 use Rattle.handled_steps.proofs.Turns.{Both, flat_turn, slot_turn, start_beside, got_on, goes_alike, leaking_goes_alike, made_on}
-use Rattle.handled_steps.proofs.Gots.{AreBeside, spot_gots, store_gots, put_gots, AreLeft, left_gots}
+use Rattle.handled_steps.proofs.Gots.{put_gots}
 
 module _ (handles : List ℕ) (here : List Kind) (z : Both handles here) where
   abbrev t : points.Turn
@@ -52,7 +54,7 @@ module _ (handles : List ℕ) (here : List Kind) (z : Both handles here) where
   put_alike at v n ks r looks is so =
       after_value v ks (led_kinds t here n) (λ zs m. points.on_got t m (points.put_words m at zs) (λ k. points.goes t k n)) (put u at n) r looks so
       (λ zs m s found us alike.
-      got_on handles here z alike.more here takes m s alike.beside (AreBeside (handles ++ alike.more) here takes m s alike.beside) (led_kinds t here n) (points.put_words m at zs) (put_words s at (all_renamed (handles ++ alike.more) ks zs))
+      got_on handles here z alike.more here takes m s alike.beside (Beside (handles ++ alike.more) here takes) (led_kinds t here n) (points.put_words m at zs) (put_words s at (all_renamed (handles ++ alike.more) ks zs))
       (λ k. points.goes t k n) (λ l. goes u l n)
       (put_gots (handles ++ alike.more) here takes m s alike.beside at ks zs (is zs m found) alike.known alike.names)
       (λ k l given both. goes_alike handles here z alike.more here takes k l both n))
@@ -69,9 +71,9 @@ module _ (handles : List ℕ) (here : List Kind) (z : Both handles here) where
       (spot_gots hs here takes m s alike.beside p (place zs m found).0)
       (λ q w at same.
       subst (λ x. Same (led_kinds t here n) (points.on_got t m (flat.stored m q (k ∷ []) zs) (λ l. points.goes t l n)) (on_got u s (stored s x (k ∷ []) (all_renamed hs (k ∷ []) zs)) (λ l. goes u l n))) (sym same)
-      (got_on handles here z alike.more here takes m s alike.beside (AreBeside hs here takes m s alike.beside) (led_kinds t here n) (flat.stored m q (k ∷ []) zs) (stored s (spot_renamed hs q) (k ∷ []) (all_renamed hs (k ∷ []) zs))
+      (got_on handles here z alike.more here takes m s alike.beside (Beside hs here takes) (led_kinds t here n) (flat.stored m q (k ∷ []) zs) (stored s (spot_renamed hs q) (k ∷ []) (all_renamed hs (k ∷ []) zs))
       (λ l. points.goes t l n) (λ l. goes u l n)
-      (store_gots hs here takes m s alike.beside q (k ∷ []) zs ((place zs m found).1 q at) alike.known alike.names)
+      (stored_gots hs here takes m s alike.beside q (k ∷ []) zs ((place zs m found).1 q at) alike.known alike.names)
       (λ l i given both. goes_alike handles here z alike.more here takes l i both n))))
 
   -- The memories are left with the leak checks.
@@ -92,6 +94,5 @@ module _ (handles : List ℕ) (here : List Kind) (z : Both handles here) where
       let words : List ℤ = all_renamed hs (kinds z.table of) zs in
       got_on handles here z alike.more here takes m s alike.beside (AreLeft hs here takes) (led_kinds t here n) (flat_assigned z.table p of checks zs m) (assigned z.table p of checks words s)
       (λ l. points.leaking_goes t l.leaks l.memory n) (left_goes u n)
-      (left_gots hs here takes (flat_assigned z.table p of checks zs m) (assigned z.table p of checks words s)
-      (assigned_alike hs here takes m s alike.beside z.table p of checks zs (to zs m found) (pointers of) alike.known alike.names))
+      (assigned_alike hs here takes m s alike.beside z.table p of checks zs (to zs m found) (pointers of) alike.known alike.names)
       (λ a b given both. left_alike alike.more m s n a b both)))

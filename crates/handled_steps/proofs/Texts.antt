@@ -10,21 +10,24 @@ use Rattle.run_values.specs.declared.items.Item.TheVariants as item
 use Rattle.run_values.specs.Images.{image}
 use Rattle.run_values.specs.Items.{next_item}
 use Rattle.machine.specs.Evaluate.{DataError, EndError, literals}
-use Rattle.run_codes.specs.Codes.{Place, Piece, Bytes, NumberImage, LiteralImage}
+use Rattle.run_codes.specs.Codes.{Code, Place, Piece, Bytes, NumberImage, LiteralImage}
 use Rattle.run_codes.specs.Flat.{Flat, Got, Given, Raises, and_then, constraint, is_between, Spot}
 use Rattle.run_codes.specs.Flat as flat
 use Rattle.run_codes.specs.Points as points
 use Rattle.handled_runs.specs.Slots.{Slots}
 use Rattle.handled_runs.specs.Slots as slots
 use Rattle.handled_runs.specs.Changes.{stored}
-use Rattle.handled_runs.specs.Beside.{spot_renamed, Beside}
+use Rattle.handled_runs.specs.Beside.{GotsAlike, spot_renamed, Beside}
 use Rattle.handled_runs.specs.Alike.{StandAt}
 use Rattle.handled_steps.specs.States.{State, Outcome, Goes, Turn, start, waiting, halted, on_got, after}
 use Rattle.handled_steps.specs.Steps.{piece_bytes, text, writing, output, reading, read, input}
 use Rattle.handled_steps.specs.Alike.{StatesAlike, OutcomesAlike, led_kinds}
-use Rattle.handled_steps.specs.Looks.{LooksPiece, LooksPieces, LooksPlace, taken_kinds}
-use Rattle.handled_steps.proofs.Turns.{gots_same, Both, flat_turn, slot_turn, start_more, got_on, halted_alike, after_alike, waiting_on}
-use Rattle.handled_steps.proofs.Gots.{AreBeside, data_same_word, spot_gots, store_gots}
+use Rattle.handled_steps.specs.Looks.{LooksData, LooksPiece, LooksPieces, LooksPlace, taken_kinds}
+use Rattle.handled_steps.proofs.Turns.{Both, flat_turn, slot_turn, start_more, got_on, halted_alike, after_alike, waiting_on}
+use Rattle.handled_runs.proofs.Gots.{gots_then}
+use Rattle.handled_runs.proofs.Places.{spot_gots}
+use Rattle.handled_runs.proofs.There.{stored_gots}
+use Rattle.handled_steps.proofs.Gots.{data_gots}
 
 module _ (handles : List ℕ) (here : List Kind) (z : Both handles here) where
   abbrev t : points.Turn
@@ -53,17 +56,26 @@ module _ (handles : List ℕ) (here : List Kind) (z : Both handles here) where
 
   -- ---- output
 
-  piece_same : (p : Piece) → LooksPiece m here takes p → piece_bytes z.table s p ≡ points.piece_bytes z.table m p
-  piece_same (Bytes bytes) looks = refl
-  piece_same (NumberImage c) looks = ap (λ g. and_then g (λ w. Given (image w))) (data_same_word hs here takes m s beside c looks)
-  piece_same (LiteralImage c of) looks =
-      ap (λ g. and_then g (λ w. Given (map to_ascii_uppercase (get_or (literals (shape_of z.table of)) (unsigned_abs w) [])))) (data_same_word hs here takes m s beside c looks)
+  abbrev SameBytes : Got (List ℕ) → Got (List ℕ) → Type 0
+  SameBytes = GotsAlike (λ a b. b ≡ a)
 
-  text_same : (pieces : List Piece) → LooksPieces m here takes pieces → text z.table s pieces ≡ points.text z.table m pieces
-  text_same [] looks = refl
-  text_same (p ∷ rest) looks =
-      ap (λ g. and_then g (λ bytes. and_then (text z.table s rest) (λ more. Given (bytes ++ more)))) (piece_same p looks.0)
-      ∙ ap (λ g. and_then (points.piece_bytes z.table m p) (λ bytes. and_then g (λ more. Given (bytes ++ more)))) (text_same rest looks.1)
+  word_piece : (c : Code) (f : ℤ → List ℕ) → LooksData m here takes c → SameBytes (and_then (flat.word m c) (λ w. Given (f w))) (and_then (slots.word s c) (λ w. Given (f w)))
+  word_piece c f looks =
+      gots_then (λ a b. b ≡ a) (λ a b. b ≡ a) (flat.word m c) (slots.word s c) (λ w. Given (f w)) (λ w. Given (f w)) (data_gots hs here takes m s beside c looks) (λ w v e same. ap f same)
+
+  piece_gots : (p : Piece) → LooksPiece m here takes p → SameBytes (points.piece_bytes z.table m p) (piece_bytes z.table s p)
+  piece_gots (Bytes bytes) looks = refl
+  piece_gots (NumberImage c) looks = word_piece c image looks
+  piece_gots (LiteralImage c of) looks = word_piece c (λ w. map to_ascii_uppercase (get_or (literals (shape_of z.table of)) (unsigned_abs w) [])) looks
+
+  text_gots : (pieces : List Piece) → LooksPieces m here takes pieces → SameBytes (points.text z.table m pieces) (text z.table s pieces)
+  text_gots [] looks = refl
+  text_gots (p ∷ rest) looks =
+      gots_then (λ a b. b ≡ a) (λ a b. b ≡ a) (points.piece_bytes z.table m p) (piece_bytes z.table s p)
+      (λ bytes. and_then (points.text z.table m rest) (λ more. Given (bytes ++ more))) (λ bytes. and_then (text z.table s rest) (λ more. Given (bytes ++ more))) (piece_gots p looks.0)
+      (λ bytes others e same.
+      gots_then (λ a b. b ≡ a) (λ a b. b ≡ a) (points.text z.table m rest) (text z.table s rest) (λ more. Given (bytes ++ more)) (λ more. Given (others ++ more)) (text_gots rest looks.1)
+      (λ more mores f same_more. ap (λ xs. xs ++ mores) same ∙ ap (λ ys. bytes ++ ys) same_more))
 
   written_alike : (ks : List Kind) (bytes : List ℕ) (a : points.State) (b : State) → StatesAlike z.table hs ks a b → StatesAlike z.table hs ks (record a { output = a.output ++ bytes }) (writing bytes b)
   written_alike ks bytes a b is = record {
@@ -81,7 +93,7 @@ module _ (handles : List ℕ) (here : List Kind) (z : Both handles here) where
       got_on handles here z [] here takes m s beside (λ a b. b ≡ a) (led_kinds t here n) (points.text z.table m pieces) (text z.table s pieces)
       (λ bytes. points.Goes (record (points.after t (points.waiting t) m n) { output = (points.after t (points.waiting t) m n).output ++ (bytes ++ (if line then 10 ∷ [] else [])) }))
       (λ bytes. Goes (writing (bytes ++ (if line then 10 ∷ [] else [])) (after u (waiting u) s n)))
-      (gots_same (points.text z.table m pieces) (text z.table s pieces) (text_same pieces looks))
+      (text_gots pieces looks)
       (λ bytes others found same.
       subst (λ xs. Same (led_kinds t here n) (points.Goes (record (points.after t (points.waiting t) m n) { output = (points.after t (points.waiting t) m n).output ++ (bytes ++ (if line then 10 ∷ [] else [])) }))
       (Goes (writing (xs ++ (if line then 10 ∷ [] else [])) (after u (waiting u) s n)))) (sym same) (
@@ -121,9 +133,9 @@ module _ (handles : List ℕ) (here : List Kind) (z : Both handles here) where
           (if c then points.on_got t m (flat.stored m q (sort.Int ∷ []) (v ∷ [])) (λ k. points.Goes (record (points.after t (points.waiting t) k n) { at = end })) else points.halted t constraint m)
           (if c then on_got u s (stored s (spot_renamed hs q) (sort.Int ∷ []) (v ∷ [])) (λ k. Goes (reading end (after u (waiting u) k n))) else halted u constraint s)
       by true =
-          got_on handles here z [] here takes m s beside (AreBeside hs here takes m s beside) (led_kinds t here n) (flat.stored m q (sort.Int ∷ []) (v ∷ [])) (stored s (spot_renamed hs q) (sort.Int ∷ []) (v ∷ []))
+          got_on handles here z [] here takes m s beside (Beside hs here takes) (led_kinds t here n) (flat.stored m q (sort.Int ∷ []) (v ∷ [])) (stored s (spot_renamed hs q) (sort.Int ∷ []) (v ∷ []))
           (λ k. points.Goes (record (points.after t (points.waiting t) k n) { at = end })) (λ k. Goes (reading end (after u (waiting u) k n)))
-          (store_gots hs here takes m s beside q (sort.Int ∷ []) (v ∷ []) stand refl (tt, tt))
+          (stored_gots hs here takes m s beside q (sort.Int ∷ []) (v ∷ []) stand refl (tt, tt))
           (λ i j found both. (
             [],
             moved_alike (led_kinds t here n) end (points.after t (points.waiting t) i n) (after u (waiting u) j n)

@@ -4,7 +4,7 @@ use Rattle.std.specs.Cmp.Lexicographic.{pointwise}
 use mathlib.Core.Logic.{inl, inr}
 use Rattle.type_definitions.specs.Types.{Table}
 use Rattle.run_values.specs.declared.value.Kind.{Kind}
-use Rattle.machine.specs.States.{Leak}
+use Rattle.machine.specs.States.{Leak, Normal, Raised, Spent, Trapped}
 use Rattle.run_codes.specs.Codes.{Point}
 use Rattle.run_codes.specs.Flat.{Flat, Got, Given, Stops, Broken, Stop, Raises, Traps, Memory, Made, Done, Halted, Failed}
 use Rattle.run_codes.specs.Points.{Held, Frame, sub_at}
@@ -12,7 +12,7 @@ use Rattle.run_codes.specs.Points as points
 use Rattle.run_codes.specs.Programs.{Program}
 use Rattle.handled_runs.specs.Slots.{Slots}
 use Rattle.handled_runs.specs.Values as values
-use Rattle.handled_runs.specs.Beside.{Beside}
+use Rattle.handled_runs.specs.Beside.{IsSilent, GotsAlike, Beside}
 use Rattle.handled_runs.specs.Alike.{Alike, AreAlike}
 use Rattle.handled_runs.proofs.Places.{as_long}
 use Rattle.handled_steps.specs.States.{State, Outcome, Wants, Fails, Turn, taken, waiting, are_taken, start, counted, given_up, halted, on_got, on_made, begun, led, after, goes, leaking, leaking_goes}
@@ -25,24 +25,12 @@ use Rattle.handled_steps.proofs.Frames.{frame_pushed}
 -- Over the heap memory may be out at any time.
 pub wants_alike : (table : Table) (handles : List ℕ) (here : List Kind) (r : points.Outcome) → OutcomesAlike table handles here r Wants
 wants_alike table handles here (points.Goes a) = tt
-wants_alike table handles here (points.Ends e a) = tt
+wants_alike table handles here (points.Ends Normal a) = tt
+wants_alike table handles here (points.Ends (Raised x p) a) = tt
+wants_alike table handles here (points.Ends Spent a) = tt
+wants_alike table handles here (points.Ends (Trapped x p) a) = tt
 wants_alike table handles here points.Wants = tt
 wants_alike table handles here points.Fails = tt
-
--- ---- what is read
-
--- Both are given, and in relation, or stop for the same reason.
-abbrev pub GotsAlike : {A B : Type 0} → (A → B → Type 0) → Got A → Got B → Type 0
-GotsAlike R (Given a) (Given b) = R a b
-GotsAlike R (Given a) (Stops y) = ⊥
-GotsAlike R (Given a) Broken = ⊥
-GotsAlike R (Stops x) g = g ≡ Stops x
-GotsAlike R Broken g = Unit {0}
-
-pub gots_same : {A : Type 0} (x y : Got A) → y ≡ x → GotsAlike (λ a b. b ≡ a) x y
-gots_same (Given a) y e = subst (GotsAlike (λ a b. b ≡ a) (Given a)) (sym e) refl
-gots_same (Stops s) y e = e
-gots_same Broken y e = tt
 
 -- ---- a step of both
 
@@ -199,7 +187,7 @@ module _ (handles : List ℕ) (here : List Kind) (z : Both handles here) where
 
     pub halted_alike : (there : List Kind) (x : Stop) → OutcomesAlike z.table handles there (points.halted flat_turn x m) (halted slot_turn x s)
     halted_alike there (Raises e) = (refl, (here, (more, ended_alike)))
-    halted_alike there (Traps e) = (refl, (here, (more, ended_alike)))
+    halted_alike there (Traps e) = tt
     halted_alike there Memory = tt
 
     -- after what is only read
@@ -209,7 +197,10 @@ module _ (handles : List ℕ) (here : List Kind) (z : Both handles here) where
     got_on R there (Given p) (Given q) F G alike on = on p q refl alike
     got_on R there (Given p) (Stops y) F G alike on = absurd alike
     got_on R there (Given p) Broken F G alike on = absurd alike
-    got_on R there (Stops x) y F G alike on = subst (λ v. OutcomesAlike z.table handles there (points.halted flat_turn x m) (on_got slot_turn s v G)) (sym alike) (halted_alike there x)
+    got_on R there (Stops (Raises e)) y F G alike on =
+        subst (λ v. OutcomesAlike z.table handles there (points.halted flat_turn (Raises e) m) (on_got slot_turn s v G)) (sym alike) (halted_alike there (Raises e))
+    got_on R there (Stops (Traps e)) y F G alike on = tt
+    got_on R there (Stops Memory) y F G alike on = tt
     got_on R there Broken y F G alike on = tt
 
     -- ---- how it goes on
@@ -239,6 +230,11 @@ module _ (handles : List ℕ) (here : List Kind) (z : Both handles here) where
 
   -- ---- after a value
 
+  pub silent_halts : (m : Flat) (there : List Kind) (x : Stop) (r : Outcome) → IsSilent x → OutcomesAlike z.table handles there (points.halted flat_turn x m) r
+  silent_halts m there (Raises e) r silent = absurd silent
+  silent_halts m there (Traps e) r silent = tt
+  silent_halts m there Memory r silent = tt
+
   pub made_on : (ks taken there : List Kind) (x : Made (List ℤ)) (y : values.Outcome) (F : List ℤ → Flat → points.Outcome) (G : List ℤ → Slots → Outcome) → AreAlike handles here taken ks x y
       → ((zs : List ℤ) (m : Flat) (us : List ℤ) (s : Slots) → x ≡ Done zs m → Alike handles here taken ks zs m us s → OutcomesAlike z.table handles there (F zs m) (G us s))
       → OutcomesAlike z.table handles there (points.on_made flat_turn x F) (on_made slot_turn y G)
@@ -246,14 +242,11 @@ module _ (handles : List ℕ) (here : List Kind) (z : Both handles here) where
   made_on ks taken there (Done zs m) (values.Ends x s) F G alike on =
       subst (λ e. OutcomesAlike z.table handles there (F zs m) (halted slot_turn e s)) (sym alike) (wants_alike z.table handles there (F zs m))
   made_on ks taken there (Done zs m) values.Fails F G alike on = absurd alike
-  made_on ks taken there (Halted x m) (values.Gives us s) F G alike on =
-      subst (λ e. OutcomesAlike z.table handles there (points.halted flat_turn e m) (G us s)) (sym alike) tt
-  made_on ks taken there (Halted x m) (values.Ends y s) F G (inl e) on =
-      subst (λ w. OutcomesAlike z.table handles there (points.halted flat_turn w m) (halted slot_turn y s)) (sym e) tt
+  made_on ks taken there (Halted x m) (values.Gives us s) F G alike on = silent_halts m there x (G us s) alike
+  made_on ks taken there (Halted x m) (values.Ends y s) F G (inl e) on = silent_halts m there x (halted slot_turn y s) e
   made_on ks taken there (Halted x m) (values.Ends y s) F G (inr (inl e)) on =
       subst (λ w. OutcomesAlike z.table handles there (points.halted flat_turn x m) (halted slot_turn w s)) (sym e) (wants_alike z.table handles there (points.halted flat_turn x m))
   made_on ks taken there (Halted x m) (values.Ends y s) F G (inr (inr both)) on =
       subst (λ w. OutcomesAlike z.table handles there (points.halted flat_turn x m) (halted slot_turn w s)) both.0 (halted_alike both.1.0 here taken m s both.1.1 there x)
-  made_on ks taken there (Halted x m) values.Fails F G alike on =
-      subst (λ e. OutcomesAlike z.table handles there (points.halted flat_turn e m) Fails) (sym alike) tt
+  made_on ks taken there (Halted x m) values.Fails F G alike on = silent_halts m there x Fails alike
   made_on ks taken there Failed y F G alike on = tt

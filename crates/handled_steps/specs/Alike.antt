@@ -3,6 +3,7 @@ use Rattle.std.specs.Prelude.{◌≡◌, ◌<◌, ℕ, ◌+◌, Bool, List, [], 
 use Rattle.type_definitions.specs.Types.{Table}
 use Rattle.run_values.specs.declared.value.Kind.{Kind}
 use Rattle.run_values.specs.declared.value.Kind.TheVariants as sort
+use Rattle.machine.specs.States.{Ending, Normal, Raised, Spent, Trapped}
 use Rattle.run_codes.specs.Codes.{Room, Object, Counter, Sub, Does, Go, Put, Store, Assign, Call, Output, Input, Release, Test, Choose, Start, Next, EvaluateLeft, EvaluateRight, Hold, EndPointer, EndScope, Finish, Fall}
 use Rattle.run_codes.specs.Flat.{Got, Given, Stops, Broken, and_then, found, is_zero, word, Spot, InStack, InCell, kinds}
 use Rattle.run_codes.specs.Points.{Held, Return, Frame, sub_at, next_value}
@@ -59,17 +60,23 @@ pub record StatesAlike (table : Table) (handles : List ℕ) (here : List Kind) (
 abbrev pub LaterAlike : Table → List ℕ → List Kind → points.State → State → Type 0
 LaterAlike table handles here a b = (more : List ℕ) × StatesAlike table (handles ++ more) here a b
 
--- Both go on, or end in the same way. Over the heap memory may be out. Where numbers are out, or something isn't
--- there, nothing is said. `here` has the kinds of the stack after the step.
+abbrev pub EndsAlike : Table → List ℕ → Ending → points.State → Outcome → Type 0
+EndsAlike table handles e a (Goes b) = ⊥
+EndsAlike table handles e a (Ends d b) = (d ≡ e) × ((ks : List Kind) × LaterAlike table handles ks a b)
+EndsAlike table handles e a Wants = Unit {0}
+EndsAlike table handles e a Fails = ⊥
+
+-- Both go on, or end in the same way. Over the heap memory may be out. Nothing is said where a freed cell is touched or
+-- freed again, where numbers are out, and where something isn't there. `here` has the kinds of the stack after the step.
 abbrev pub OutcomesAlike : Table → List ℕ → List Kind → points.Outcome → Outcome → Type 0
 OutcomesAlike table handles here (points.Goes a) (Goes b) = LaterAlike table handles here a b
 OutcomesAlike table handles here (points.Goes a) (Ends e b) = ⊥
 OutcomesAlike table handles here (points.Goes a) Wants = Unit {0}
 OutcomesAlike table handles here (points.Goes a) Fails = ⊥
-OutcomesAlike table handles here (points.Ends e a) (Goes b) = ⊥
-OutcomesAlike table handles here (points.Ends e a) (Ends d b) = (d ≡ e) × ((ks : List Kind) × LaterAlike table handles ks a b)
-OutcomesAlike table handles here (points.Ends e a) Wants = Unit {0}
-OutcomesAlike table handles here (points.Ends e a) Fails = ⊥
+OutcomesAlike table handles here (points.Ends Normal a) r = EndsAlike table handles Normal a r
+OutcomesAlike table handles here (points.Ends (Raised x p) a) r = EndsAlike table handles (Raised x p) a r
+OutcomesAlike table handles here (points.Ends Spent a) r = EndsAlike table handles Spent a r
+OutcomesAlike table handles here (points.Ends (Trapped x p) a) r = Unit {0}
 OutcomesAlike table handles here points.Wants r = Unit {0}
 OutcomesAlike table handles here points.Fails r = Unit {0}
 

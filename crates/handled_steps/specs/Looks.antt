@@ -1,19 +1,17 @@
 -- What is asked of a step, so that both heaps take it alike.
 --
--- Words have the kinds that the code is of. What is looked at, copied or moved isn't gone; what is reached in a cell is
--- in one that is there.
+-- Words have the kinds that the code is of. What is looked at, copied or moved isn't gone. What a leak check names is
+-- there.
 use Rattle.std.specs.Prelude.{◌≡◌, ℕ, zero, suc, ◌+◌, true, List, [], ◌∷◌, ◌++◌, drop, length, flat_map, slice_get, Option, Some, None, ℤ}
 use Rattle.type_definitions.specs.declared.judgement.View.{View}
 use Rattle.type_definitions.specs.declared.judgement.View.TheVariants as view
 use Rattle.type_definitions.specs.Types.{Table, full}
 use Rattle.type_definitions.specs.Entries.{boolean}
-use Rattle.run_values.specs.declared.value.Value.{Value as CellValue}
 use Rattle.run_values.specs.declared.value.Kind.{Kind}
 use Rattle.run_values.specs.declared.value.Kind.TheVariants as sort
 use Rattle.machine.specs.Words.{access_offsets}
-use Rattle.numbered_cells.specs.Follows.{IsThere}
 use Rattle.run_codes.specs.Codes.{Code, Place, Actual, ByValue, From, To, Piece, Bytes, NumberImage, LiteralImage, Does, Go, Put, Store, Assign, Call, Output, Input, Release, Test, Choose, Start, Next, EvaluateLeft, EvaluateRight, Hold, EndPointer, EndScope, Finish, Fall, Point}
-use Rattle.run_codes.specs.Flat.{Flat, Got, Given, Spot, InStack, InCell, Made, Done, found, kinds, are_pointers, spot, words_at, filled}
+use Rattle.run_codes.specs.Flat.{Flat, Got, Given, Spot, Made, Done, found, kinds, are_pointers, spot, words_at, filled}
 use Rattle.run_codes.specs.Flat as flat
 use Rattle.run_codes.specs.Points.{Held, Return, Frame, Passed, Value, FromSpot, ToSpot, passed, all_passed, with_frame, with_formal, sub_at, taken, start, are_taken}
 use Rattle.run_codes.specs.Points as points
@@ -100,15 +98,9 @@ LooksCall t here taken sub actuals =
 
 -- ---- the end of a call
 
--- It is in no cell that is freed.
-abbrev pub Reached : Flat → Spot → Type 0
-Reached m (InStack n) = Unit {0}
-Reached m (InCell n o) = (ws : List CellValue) × IsThere m.cells n ws
-
 abbrev pub LooksReturn : Table → Flat → List Kind → Return → Type 0
 LooksReturn table m here r =
-    Reached m r.to
-    × KeptAt table m here (points.in_stack m r.at) r.from
+    KeptAt table m here (points.in_stack m r.at) r.from
     × (kinds table r.from ≡ kinds table r.of)
     × FitsOf (full table r.of) (kinds table r.from)
     × ((n : Flat) → flat.moved_out m (points.in_stack m r.at) (kinds table r.from) (access_offsets table r.from) ≡ Given n → StandAt n here r.to (kinds table r.of))

@@ -3,8 +3,8 @@ use Rattle.std.specs.Prelude.{◌≡◌, ℕ, ◌+◌, Bool, true, false, List, 
 use Rattle.spark_base.specs.declared.position.Pos.{Pos}
 use Rattle.type_definitions.specs.Types.{Table}
 use Rattle.run_values.specs.declared.value.Kind.{Kind}
-use Rattle.machine.specs.Evaluate.{StorageError}
-use Rattle.machine.specs.States.{Ending, Raised, Spent, stack_words}
+use Rattle.machine.specs.Evaluate.{StorageError, Trap}
+use Rattle.machine.specs.States.{Ending, Raised, Spent, Trapped, stack_words}
 use Rattle.slot_heap.specs.Heaps.{no_heap}
 use Rattle.run_codes.specs.Points.{Frame, Ran, sub_at}
 use Rattle.run_codes.specs.Programs.{Program}
@@ -61,6 +61,10 @@ given (Goes s) = Some (ran_with Spent s)
 given (Ends e s) = Some (ran_with e s)
 given Wants = None
 given Fails = None
+
+-- No freed cell is touched, and none is freed again.
+abbrev pub NeverTraps : Ending → Type 0
+NeverTraps e = (x : Trap) (p : Pos) → e ≡ Trapped x p → ⊥
 
 -- ---- the kinds of the stack at the start
 

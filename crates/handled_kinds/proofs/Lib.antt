@@ -1,0 +1,4 @@
+pub mod Looks
+pub mod Parts
+pub mod Steps
+pub mod Lowered
