@@ -41,6 +41,7 @@ use Rattle.spark_base.specs.Lists.{Has}
 use Rattle.spark_base.proofs.Lists.{Has-append_right}
 use Rattle.std.specs.Prelude.{filter}
 use Rattle.place_names.specs.declared.fact.Fact.TheVariants.{Moved, Lent}
+use Rattle.place_names.specs.declared.rule.Loan.{Loan}
 use Rattle.place_names.specs.declared.rule.Loan.TheVariants.{Observed}
 use Rattle.place_names.specs.declared.rule.Rule.TheVariants.{O8}
 use Rattle.place_names.specs.Rules.{breaks_O8}
@@ -423,7 +424,7 @@ module _ (t : Turn) (settled : IsSettled (typing t).table) (own_law : OwnsByShap
   one_word : (x y u d : ℕ) (path : TypedTree) → Observes x y u d path → words s.table (object_at s x).of ≡ 1
   one_word x y u d path observes = settled.word_law (object_at s x).of ∙ ap (shape_words (words s.table)) observes.view
 
-  borrow_gets : (x y u d : ℕ) (path : TypedTree) (facts : List Fact) → Observes x y u d path → IsGood v facts t.state → Unused v facts x
+  borrow_gets : (x y u d : ℕ) (path : TypedTree) (facts : List Fact) → Observes x y u d path → IsGood v facts t.state → Unused other.lent v facts x
       → is_observer s x ≡ false → is_observer s y ≡ false → y < x → may x y → Allows facts (act.Borrow x (name_of y path))
       → Gets x y d (name_of y path) (effect (act.Borrow x (name_of y path)) facts)
   borrow_gets x y u d path facts observes good unused borrows plain older mine allowed w z named called is typed lifted =
@@ -510,7 +511,7 @@ module _ (t : Turn) (settled : IsSettled (typing t).table) (own_law : OwnsByShap
 
   -- A borrower is declared. Its source is an older object, or is rooted in one.
   pub borrower_leads : (x y u d : ℕ) (p : Pos) (path rest : TypedTree) → Observes x y u d path → is_borrower s x ≡ true → is_observer s x ≡ false
-      → is_observer s y ≡ false → y < x → may x y → has_call path ≡ false → (facts : List Fact) (good : IsGood v facts t.state) → Unused v facts x
+      → is_observer s y ≡ false → y < x → may x y → has_call path ≡ false → (facts : List Fact) (good : IsGood v facts t.state) → Unused other.lent v facts x
       → AllowsAll facts (acts (declared_acts s x (More (Name p y path u) rest)))
       → Leads_on (after (acts (declared_acts s x (More (Name p y path u) rest))) facts) (declare t x (More (Name p y path u) rest))
   borrower_leads x y u d p path rest observes is borrows plain older from calls facts good unused allowed =
@@ -564,7 +565,7 @@ module _ (t : Turn) (settled : IsSettled (typing t).table) (own_law : OwnsByShap
           let got = view_emptied s settled depth other v views m hands t.state.leaks facts good.viewed good.kept good.holds x z observes.mine observes.anonymous
           (one_word x y u d path observes) (of_type x y u d path observes z typed) (effect a facts) w w w (becomes_with v x (way_from z w) w w (number_in z)) null
           (lent.observer_unused (home s depth) (is_observer s) other v views (seen s m hands t.state.leaks) facts good.viewed x sees)
-          (λ n has. kept_fact a facts (Moved n) has refl) (λ seen q n. loan_kept a facts (λ l h k. refl) seen q n)
+          (λ n has. kept_fact a facts (Moved n) has refl) (loan_kept a facts (λ l h k. refl))
           (clear_same (is_observer s) facts good.viewed.clear a refl) in
           (views, (got.sound, got.words_kept, got.views_held, taken_none views x z w w w (effect a facts) (becomes_with v x (way_from z w) w w (number_in z)) null))
 
@@ -699,7 +700,7 @@ module _ (t : Turn) (settled : IsSettled (typing t).table) (own_law : OwnsByShap
           let got = view_emptied s settled depth other v views m hands t.state.leaks facts good.viewed good.kept good.holds x z observes.mine observes.anonymous
           (one_word x x u d path observes) (of_type x x u d path observes z typed) (effect a facts) w w w (becomes_with v x (way_from z w) w w (number_in z)) null
           (lent.reborrow_unused (home s depth) (is_observer s) other v views (seen s m hands t.state.leaks) facts good.viewed x (name_of x path) allowed)
-          (λ n has. kept_fact a facts (Moved n) has refl) (λ seen q n. loan_kept a facts (λ l h k. refl) seen q n)
+          (λ n has. kept_fact a facts (Moved n) has refl) (loan_kept a facts (λ l h k. refl))
           (clear_same (is_observer s) facts good.viewed.clear a refl) in
           (views, (got.sound, got.words_kept, got.views_held, taken_none views x z w w w (effect a facts) (becomes_with v x (way_from z w) w w (number_in z)) null))
 
@@ -776,7 +777,8 @@ module _ (t : Turn) (settled : IsSettled (typing t).table) (own_law : OwnsByShap
   pub record LeavesOthers (views : Views) (x : ℕ) (facts : List Fact) : Type 0 where
     pub no_value : views.way x ≡ None
     pub roots : (y : ℕ) (w : Way) → views.way y ≡ Some w → number_of w ≡ x → ⊥
-    pub loans : (y : ℕ) (w : Way) → views.way y ≡ Some w → is_observer s y ≡ true → HasLoan true y facts (ways.name_of (views.loan y))
+    pub loans : (y : ℕ) (w : Way) → views.way y ≡ Some w → is_observer s y ≡ true → HasLoan (is_observer s) true y facts (ways.name_of (views.loan y))
+    pub unlent : (l : Loan) (n : PlaceName) → other.lent l n → n.root ≡ x → ⊥
 
   -- What is left when a scope ends, with the memory then.
   abbrev pub Is_left : Views → ℕ → List Fact → Outcome → Type 0
@@ -808,7 +810,7 @@ module _ (t : Turn) (settled : IsSettled (typing t).table) (own_law : OwnsByShap
       (all_checks s t.point.pos m (run.variable_place (here t) x))
       (subst (λ f. Viewed (home s depth) (is_observer s) other views (seen s (undeclared f x m) hands (t.state.leaks ++ leaks)) (effect (act.EndScope x borrower) facts)) mine
       (ended_viewed s settled (home s depth) (is_observer s) other views m hands t.state.leaks (t.state.leaks ++ leaks) facts x borrower viewed checks
-      (record { none = leaves.no_value; roots = leaves.roots; loans = leaves.loans })))
+      (record { none = leaves.no_value; roots = leaves.roots; loans = leaves.loans; unlent = leaves.unlent })))
       (removed_kept s settled m depth x hands kept)
 
 -- what a borrower's end asks of facts

@@ -25,7 +25,7 @@ use Rattle.soundness.specs.Typed.{OwnsByShape}
 use Rattle.soundness.specs.Sound.{Accepted, IsNamedSub, IsAtPoint, IsProcedure}
 use Rattle.soundness.specs.Ready.{stored_at, AreActuals, AreNew}
 use Rattle.viewed_soundness.specs.Holds.{AllKeep}
-use Rattle.viewed_steps.specs.Sound.{IsViewClass, Lasts, LendOwn}
+use Rattle.viewed_steps.specs.Sound.{IsViewClass, Lasts}
 
 -- ---- scopes, package objects and calls
 
@@ -111,13 +111,6 @@ pub record ViewsAreOrderly (table : Table) (typed : TypedProgram) : Type 0 where
   pub kept : (sub : FlowSub) → Has (flow_program table typed).subs sub → (p : FlowPoint) → Has sub.points p
       → AllKeep (is_observer (flow_typing (flow_program table typed))) (map (λ (a : Placed). a.act) p.acts)
 
--- Where a procedure is called, what is lent is a part of an object of the caller.
-abbrev pub AreSpared : FlowProgram → Effects → Type 0
-AreSpared program effects =
-    (sub : FlowSub) → Has program.subs sub → (before : List ℕ) (last : ℕ) → ControlPath (path_points program effects sub) before last
-    → (n : ℕ) (actuals : TypedTree) (result : Option ℕ) → (get_or sub.points last no_point).instr ≡ Call n actuals result
-    → LendOwn (flow_typing program) (facts_before (path_points program effects sub) (last ∷ before))
-
 -- ---- all of it
 
 -- An accepted program of the class, of which this holds.
@@ -130,7 +123,6 @@ pub record IsReady (table : Table) (typed : TypedProgram) (effects : Effects) : 
   pub elaborated : AreElaborated (flow_program table typed)
   pub orderly : ViewsAreOrderly table typed
   pub called : AreCalled table typed
-  pub spared : AreSpared (flow_program table typed) effects
   pub packages : NamedSub
   pub stands : IsNamedSub (flow_named table typed) 0 packages
   pub main : ℕ
