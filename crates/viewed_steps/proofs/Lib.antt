@@ -12,5 +12,12 @@ pub mod Inherited
 pub mod Waiting
 pub mod Left
 pub mod Called
+pub mod Standing
+pub mod Packages
+pub mod Innermost
+pub mod EachInstruction
+pub mod ScopeEnds
+pub mod CallEnds
+pub mod Calling
 pub mod Stepping
 pub mod Main
