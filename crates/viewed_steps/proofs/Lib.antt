@@ -12,6 +12,7 @@ pub mod Inherited
 pub mod Waiting
 pub mod Left
 pub mod Called
+pub mod Eased
 pub mod Standing
 pub mod Packages
 pub mod Innermost

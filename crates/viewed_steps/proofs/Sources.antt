@@ -1,6 +1,6 @@
 -- Declarations of borrowers and observers and assignments to them, by what typing says of their
 -- sources.
-use Rattle.std.proofs.Common.{◌≡◌, refl, sym, ap, ◌∙◌, subst, ◌⊎◌, inl, inr, ℕ, ◌<◌, Bool, true, false, not, ◌&&◌, List, ◌∷◌, length, Some}
+use Rattle.std.proofs.Common.{◌≡◌, refl, sym, ap, ◌∙◌, subst, ◌⊎◌, inl, inr, ℕ, ◌<◌, Bool, true, false, not, ◌&&◌, List, [], ◌∷◌, length, Some}
 use Rattle.spark_base.specs.declared.position.Pos.{Pos}
 use Rattle.place_names.specs.declared.fact.Fact.{Fact}
 use Rattle.type_definitions.specs.declared.table.Shape.{Shape}
@@ -20,6 +20,7 @@ use Rattle.soundness.specs.Seen.{IsNear, is_view_formal, home}
 use Rattle.soundness.specs.Typed.{OwnsByShape}
 use Rattle.typed_laws.specs.Needed.{Leads, Gives, Source}
 use Rattle.soundness.proofs.Scalars.{acts}
+use Rattle.soundness.proofs.Taking.{Takes}
 use Rattle.owned_loans.specs.Views.{Around, Views, Unused}
 use Rattle.viewed_soundness.specs.Holds.{IsNamed, PartsAreNamed}
 use Rattle.viewed_soundness.proofs.Outcomes.{IsGood, Leads_on}

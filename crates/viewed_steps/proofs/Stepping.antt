@@ -15,10 +15,10 @@ use Rattle.machine.specs.Owners.{waiting_in}
 use Rattle.machine.specs.Run.{step}
 use Rattle.soundness.specs.Seen.{home}
 use Rattle.soundness.specs.Typed.{Kept}
-use Rattle.soundness.specs.Sound.{Stage, facts_of, AreStages, IsProcedure, InScope, IsNamedSub, IsAtPoint, view_of as view_here}
+use Rattle.soundness.specs.Sound.{Stage, facts_of, AreStages, IsRunnable, IsResting, AreAwaited, InScope, IsNamedSub, IsAtPoint, view_of as view_here}
 use Rattle.soundness.proofs.Successors.{calls_cases, finish_or}
 use Rattle.owned_loans.specs.Views.{known_gone, Views, Viewed}
-use Rattle.viewed_steps.specs.Sound.{IsResting, HoldsAt, ArePlaced, NoneAbove, ViewStage, stages_of, GoneElsewhere, AreWaiting, IsRunning, LeadsOn, StepsLeadOn}
+use Rattle.viewed_steps.specs.Sound.{HoldsAt, ArePlaced, NoneAbove, ViewStage, stages_of, GoneElsewhere, AreWaiting, IsRunning, LeadsOn, StepsLeadOn}
 use Rattle.viewed_steps.specs.Ready.{IsReady}
 use Rattle.viewed_steps.proofs.Standing as standing
 use Rattle.viewed_steps.proofs.Packages as packages
@@ -41,7 +41,8 @@ module _ (table : Table) (typed : TypedProgram) (effects : Effects) (input : Lis
   module _ (state : State) (top : Stage) (below : ViewStage) (more_frames : List ViewStage) (rest : List Frame) (named : NamedSub) (p : NamedPoint)
       (frames : state.frames ≡ top.frame ∷ (below.stage.frame ∷ rest)) (deep : top.depth ≡ suc (length rest))
       (stages : AreStages (stages_of (below ∷ more_frames)) (below.stage.frame ∷ rest))
-      (running : IsProcedure table typed top.frame.sub × IsResting s top × AreWaiting table typed effects state top.frame.sub (below ∷ more_frames))
+      (running : IsRunnable table typed top.frame.sub × IsResting s top × AreWaiting table typed effects state top.frame.sub (below ∷ more_frames))
+      (awaiting : AreAwaited table typed 0 (top ∷ stages_of (below ∷ more_frames)))
       (of_sub : IsNamedSub (flow_named table typed) top.frame.sub named) (at_point : IsAtPoint named.points top.frame.next p)
       (path : ControlPath (path_points program effects (sub_of program top.frame.sub)) top.before top.frame.next) (views : Views)
       (viewed_before : Viewed (home s (suc (length rest))) (is_observer s) (known_gone (home s (suc (length rest))) (GoneElsewhere program effects (below ∷ more_frames))) views
@@ -61,12 +62,12 @@ module _ (table : Table) (typed : TypedProgram) (effects : Effects) (input : Lis
     main_step =
         subst (LeadsOn table typed effects) (sym (standing.step_is table typed effects input ready state top older outer named p frames of_sub at_point))
         (elim (finish_or p.instr) [
-          | inl is ↦ subst (λ i. LeadsOn table typed effects (turn main_turn i)) (sym is) (ends.ends_call table typed effects input ready state top below more_frames rest named p frames deep stages running of_sub at_point path views viewed_before kept scope holds placed_before above is)
+          | inl is ↦ subst (λ i. LeadsOn table typed effects (turn main_turn i)) (sym is) (ends.ends_call table typed effects input ready state top below more_frames rest named p frames deep stages running awaiting of_sub at_point path views viewed_before kept scope holds placed_before above is)
           | inr end ↦ elim (end_or p.instr) [
-            | inl (y, is) ↦ subst (λ i. LeadsOn table typed effects (turn main_turn i)) (sym is) (scopes.ends_scope table typed effects input ready state top below more_frames rest named p frames deep stages running of_sub at_point path views viewed_before kept scope holds placed_before above y is)
+            | inl (y, is) ↦ subst (λ i. LeadsOn table typed effects (turn main_turn i)) (sym is) (scopes.ends_scope table typed effects input ready state top below more_frames rest named p frames deep stages running awaiting of_sub at_point path views viewed_before kept scope holds placed_before above y is)
             | inr going ↦ elim (calls_cases p.instr (standing.calls_there table typed effects input ready state top older outer named p frames of_sub at_point)) [
-              | inl calls ↦ each.goes_plainly table typed effects input ready state top below more_frames rest named p frames deep stages running of_sub at_point path views viewed_before kept scope holds placed_before above going calls end
-              | inr call ↦ subst (λ i. LeadsOn table typed effects (turn main_turn i)) (sym call.2) (calling.calls_it table typed effects input ready state top below more_frames rest named p frames deep stages running of_sub at_point path views viewed_before kept scope holds placed_before above call.0 call.1 call.2 call.3)
+              | inl calls ↦ each.goes_plainly table typed effects input ready state top below more_frames rest named p frames deep stages running awaiting of_sub at_point path views viewed_before kept scope holds placed_before above going calls end
+              | inr call ↦ subst (λ i. LeadsOn table typed effects (turn main_turn i)) (sym call.2) (calling.calls_it table typed effects input ready state top below more_frames rest named p frames deep stages running awaiting of_sub at_point path views viewed_before kept scope holds placed_before above call.0 call.1 call.2 call.3)
             ]
           ]
         ])
