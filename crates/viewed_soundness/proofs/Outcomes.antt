@@ -206,7 +206,7 @@ module _ (t : Turn) (settled : IsSettled (typing t).table) (own_law : OwnsByShap
   then_on P facts good (Traps e n) never k = absurd never
 
   -- a scalar expression
-  scalar_taken : (ws : List (List machine.Word)) (e : TypedTree) → Stays s e → Takes (waits_in e) ws [] → (facts : List Fact) → IsGood v facts t.state
+  pub scalar_taken : (ws : List (List machine.Word)) (e : TypedTree) → Stays s e → Takes (waits_in e) ws [] → (facts : List Fact) → IsGood v facts t.state
       → AllowsAll facts (acts (acts_in s e)) → Quiet now One (value (here t) e (at ws)) × (after (acts (acts_in s e)) facts ≡ facts)
   scalar_taken ws e stays takes facts good allowed =
       taking (here t) settled hands t.state.leaks t.state.memory [] other facts v good.kept good.viewed good.holds alone (live facts good)

@@ -1,6 +1,6 @@
 -- Each instruction leads on, but calls and their ends, operands that wait, returns with a value, and
 -- ends of scopes.
-use Rattle.std.proofs.Common.{◌≡◌, refl, sym, ap, ◌∙◌, subst, ◌⊎◌, inl, inr, ℕ, suc, ◌+◌, ◌<◌, Bool, true, false, not, ◌||◌, ◌==◌, List, [], ◌∷◌, ◌++◌, map, drop, length, arith, Option, Some, None, nat_lt, int_le, ◌&&◌, if◌then◌else◌}
+use Rattle.std.proofs.Common.{◌≡◌, refl, sym, ap, ◌∙◌, subst, ◌⊎◌, inl, inr, ℕ, suc, ◌+◌, ◌<◌, Bool, true, false, not, ◌||◌, ◌==◌, List, [], ◌∷◌, ◌++◌, map, drop, length, arith, append-nil, Option, Some, None, nat_lt, int_le, ◌&&◌, if◌then◌else◌}
 use Rattle.spark_base.specs.Lists.{Has}
 use Rattle.spark_base.specs.declared.position.Pos.{Pos}
 use Rattle.place_names.specs.declared.act.Act.{Act}
@@ -59,7 +59,7 @@ use Rattle.soundness.proofs.Eased.{eased, waits_same, goes_same, from_eased}
 use Rattle.soundness.proofs.Continued.{got_with, released_with, started_with, input_eased, release_eased, start_eased}
 use Rattle.soundness.proofs.Successors.{not_true, both_not, below_one, below_two, successor_there}
 use Rattle.owned_loans.specs.Views.{Around, known_gone, Views, Viewed, Unused}
-use Rattle.viewed_soundness.specs.Holds.{IsNamed, AllKeep}
+use Rattle.viewed_soundness.specs.Holds.{AllKeep}
 use Rattle.viewed_soundness.proofs.Names.{plain_named, true_false}
 use Rattle.viewed_soundness.proofs.Evaluated.{keep_both}
 use Rattle.viewed_soundness.proofs.Outcomes.{named_plain, IsGood, Leads_on, decides_on, choose_on, assign_on}

@@ -17,6 +17,8 @@ pub mod Standing
 pub mod Packages
 pub mod Innermost
 pub mod EachInstruction
+pub mod Operands
+pub mod Results
 pub mod ScopeEnds
 pub mod CallEnds
 pub mod Calling

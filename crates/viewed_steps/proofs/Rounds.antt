@@ -1,5 +1,5 @@
 -- Loops, output, and instructions that change nothing.
-use Rattle.std.proofs.Common.{◌≡◌, refl, sym, ap, ◌∙◌, subst, inl, inr, ℕ, ◌+◌, Bool, true, false, not, ◌&&◌, List, [], ◌∷◌, ◌++◌, flat_map, take, drop, length, get_or, int_le, append-nil, ℤ, Option, Some, None, if◌then◌else◌}
+use Rattle.std.proofs.Common.{◌≡◌, refl, sym, ap, ◌∙◌, subst, inl, inr, ℕ, ◌+◌, Bool, true, false, List, [], ◌∷◌, ◌++◌, flat_map, take, drop, length, get_or, append-nil, ℤ, Option, Some, None, if◌then◌else◌}
 use Rattle.place_names.specs.declared.fact.Fact.{Fact}
 use Rattle.type_definitions.specs.Types.{shape_of, words, is_scalar, full}
 use Rattle.typed_tree.specs.Trees.{TypedTree, Text, Parens, Image, Binary, NoMore, More}
@@ -105,7 +105,7 @@ module _ (t : Turn) (settled : IsSettled (typing t).table) (own_law : OwnsByShap
 
   -- ---- output
 
-  text_quiet : (before on : List (List machine.Word)) (e : TypedTree) → Writes s e → Takes (waits_in e) before on → (facts : List Fact) → Good facts
+  pub text_quiet : (before on : List (List machine.Word)) (e : TypedTree) → Writes s e → Takes (waits_in e) before on → (facts : List Fact) → Good facts
       → AllowsAll facts (acts (acts_in s e))
       → Quiet (at on) (Any {A = List ℕ}) (text_of (here t) e (at before)) × (after (acts (acts_in s e)) facts ≡ facts)
   unfolding Writes text_of acts_in waits_in

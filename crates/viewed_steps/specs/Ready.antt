@@ -1,6 +1,6 @@
 -- What is asked of an accepted program with borrowers and observers so that its runs are sound: what
 -- typing, the layout and the rules see to. Nothing here speaks of a run.
-use Rattle.std.specs.Prelude.{◌≡◌, ◌⊎◌, ◌<◌, ℕ, true, false, List, ◌∷◌, map, get_or, Option, Some}
+use Rattle.std.specs.Prelude.{◌≡◌, ◌<◌, ℕ, true, false, List, ◌∷◌, map, get_or, Option, Some}
 use Rattle.spark_base.specs.Lists.{Has}
 use Rattle.spark_base.specs.declared.position.Pos.{Pos}
 use Rattle.place_names.specs.declared.act.Placed.{Placed}
