@@ -13,12 +13,12 @@ use Rattle.flow_paths.specs.declared.report.Effects.{Effects}
 use Rattle.flow_paths.specs.Objects.{Typing, is_package_object}
 use Rattle.flow_paths.specs.Laid.{FlowSub, FlowProgram, NamedSub, flow_sub, typing_of, flow_typing, flow_program, flow_named}
 use Rattle.flow_paths.specs.Paths.{facts_before}
-use Rattle.flow_paths.specs.Effects.{act_writes, act_reads, flow_sub_at, path_points, AreEffects, written_by}
+use Rattle.flow_paths.specs.Effects.{flow_sub_at, path_points, AreEffects, written_by}
 use Rattle.machine.specs.States.{State}
 use Rattle.soundness.specs.Sound.{Stage, facts_of, Uses, IsNamedSub}
 use Rattle.soundness.proofs.Points.{sub_there, sub_at_number, sub_in_range}
 use Rattle.soundness.proofs.Used.{writes_used, reads_used, fact_added}
-use Rattle.viewed_steps.specs.Sound.{ViewStage, Disturbs, IsWaiting, AreWaiting}
+use Rattle.viewed_steps.specs.Sound.{ViewStage, Disturbs, AreWaiting}
 use Rattle.viewed_steps.proofs.Inherited.{lending_uses}
 use Rattle.viewed_steps.proofs.Uses.{writes_there, borrowing_writes, moving_writes}
 

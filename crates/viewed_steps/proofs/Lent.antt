@@ -22,7 +22,7 @@ use Rattle.flow_paths.specs.Names.{Written, has_call, name_of, written, first, s
 use Rattle.flow_paths.specs.Acts.{Frame, placed, naming, used, acts_in, index_acts, source_acts, observe, declared_acts, reborrow, target_pos, stored_acts, assigned_to, returned_acts, gives_variable, acts_of}
 use Rattle.owned_ways.specs.Ways.{after}
 use Rattle.owned_ways.proofs.Assigned.{kept_fact}
-use Rattle.soundness.specs.Sound.{calls_nothing}
+use Rattle.soundness.specs.Sound.{IsNoCall}
 use Rattle.soundness.proofs.Scalars.{acts}
 
 -- An act ends a scope or a call, is that of a call, gives a place to what is no borrower, or to a
@@ -193,14 +193,14 @@ module _ (s : Typing) where
   spare_returned result v plain =
       subst (λ b. Spare s (if b then source_acts s (first v) (λ m. act.Give m (gives_variable s result)) else acts_in s v)) (sym plain) (spare_in v)
 
--- an instruction that calls nothing and isn't the end of a scope or of a call has none such, but in
+-- an instruction that is no call and isn't the end of a scope or of a call has none such, but in
 -- traversal functions
-pub spare_acts : (f : Frame) (p : Pos) (i : Instruction) → traverses f.typing.table f.result ≡ false → calls_nothing i ≡ true → ((x : ℕ) → i ≡ EndScope x → ⊥) → (i ≡ Finish → ⊥)
+pub spare_acts : (f : Frame) (p : Pos) (i : Instruction) → traverses f.typing.table f.result ≡ false → IsNoCall i → ((x : ℕ) → i ≡ EndScope x → ⊥) → (i ≡ Finish → ⊥)
     → Spare f.typing (acts_of f p i)
 spare_acts f p Skip plain calls going end = tt
 spare_acts f p (Declare x v) plain calls going end = spare_declared f.typing x v
 spare_acts f p (Assign target e) plain calls going end = spare_assigned f.typing p (whole target) target e
-spare_acts f p (instruction.Call sub actuals result) plain calls going end = cc
+spare_acts f p (instruction.Call sub actuals result) plain calls going end = absurd (calls sub actuals result refl)
 spare_acts f p (Output text line) plain calls going end = spare_in f.typing text
 spare_acts f p (Input target) plain calls going end = spare_source f.typing target (λ m. act.Actual m mode.Out false false) (λ n. refl)
 spare_acts f p (Release m) plain calls going end = spare_source f.typing m act.Free (λ n. refl)

@@ -15,10 +15,13 @@ pub mod Waiting
 pub mod Apart
 pub mod Left
 pub mod Called
+pub mod Eased
 pub mod Standing
 pub mod Packages
 pub mod Innermost
 pub mod EachInstruction
+pub mod Operands
+pub mod Results
 pub mod ScopeEnds
 pub mod CallEnds
 pub mod Calling

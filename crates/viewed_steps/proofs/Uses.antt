@@ -1,25 +1,33 @@
 -- What subprograms write of package objects, by what their points do, and that an act which lends a part
 -- to a borrower, or moves one, writes.
-use Rattle.std.proofs.Common.{◌≡◌, refl, sym, ap, ◌∙◌, inl, inr, ℕ, ◌<◌, Bool, true, false, ◌&&◌, ◌||◌, ◌==◌, eq-eqb, List, [], ◌∷◌, map, length, IsTrue, Option}
-use Rattle.std.specs.List.{list_any}
+use Rattle.std.proofs.Common.{◌≡◌, refl, sym, ap, ◌∙◌, inl, inr, ℕ, suc, ◌<◌, Bool, true, false, ◌&&◌, ◌||◌, ◌==◌, eq-eqb, List, [], ◌∷◌, drop, length, IsTrue, Option, None}
 use Rattle.spark_base.specs.Lists.{Has}
-use Rattle.spark_base.proofs.Lists.{Has-map_from}
+use Rattle.spark_base.proofs.Lists.{Has-append_cases, Has-map_from}
 use Rattle.place_names.specs.declared.selector.Sel.{Sel}
-use Rattle.place_names.specs.declared.rule.Loan.TheVariants.{Borrowed}
+use Rattle.place_names.specs.declared.rule.Loan.{Loan}
+use Rattle.place_names.specs.declared.rule.Loan.TheVariants.{Borrowed, Observed}
+use Rattle.place_names.specs.declared.rule.Rule.TheVariants.{O11}
+use Rattle.place_names.specs.Rules.{forbids, breaks_O11}
 use Rattle.place_names.specs.declared.act.Act.{Act}
 use Rattle.place_names.specs.declared.act.Act.TheVariants as act
 use Rattle.place_names.specs.declared.act.Placed.{Placed}
+use Rattle.place_names.specs.declared.fact.Fact.{Fact}
 use Rattle.place_names.specs.declared.fact.Fact.TheVariants.{Moved, Lent}
-use Rattle.place_names.specs.Names.{Name, extend}
+use Rattle.place_names.specs.Names.{Name, object, extend, agree_along, overlaps}
 use Rattle.place_names.specs.Facts.{adds}
+use Rattle.typed_tree.specs.declared.object.Object.{Object}
 use Rattle.typed_tree.specs.Trees.{TypedTree}
 use Rattle.flow_paths.specs.declared.report.Effects.{Effects}
 use Rattle.flow_paths.specs.Instructions.{Call}
 use Rattle.flow_paths.specs.Objects.{Typing, is_package_object}
 use Rattle.flow_paths.specs.Points.{FlowPoint}
 use Rattle.flow_paths.specs.Laid.{FlowSub, FlowProgram, flow_typing}
-use Rattle.flow_paths.specs.Effects.{act_writes, writes_text, point_writes, is_global, own_writes, calls, sub_calls, flow_sub_at, ends, calls_on, AreEffects, written_by}
-use Rattle.soundness.proofs.Used.{any_has}
+use Rattle.flow_paths.specs.Effects.{is_in, act_writes, writes_text, point_writes, is_global, own_writes, calls, sub_calls, flow_sub_at, ends, calls_on, AreEffects, read_by, written_by, global_act, globals_from, globals_of}
+use Rattle.owned_ways.specs.Ways.{AllowsAll}
+use Rattle.soundness.proofs.Inherited.{global_allowed}
+use Rattle.soundness.proofs.Used.{any_has, used_global, globals_are}
+use Rattle.owned_loans.proofs.Clear.{refused}
+use Rattle.viewed_steps.specs.Sound.{Disturbs}
 
 or_second : (a b : Bool) → b ≡ true → a || b ≡ true
 or_second true b e = refl
@@ -54,6 +62,66 @@ module _ (program : FlowProgram) (effects : Effects) (are : AreEffects program e
       is_called =
           ap (λ z. sub_calls z callee) there
           ∙ any_has (λ (q : FlowPoint). calls callee q.instr) sub.points p point (ap (calls callee) is ∙ eq-eqb callee callee refl)
+
+-- ---- the acts of a call
+
+is_there : (x : ℕ) (xs : List ℕ) → Has xs x → is_in x xs ≡ true
+is_there x xs has = any_has (λ y. x == y) xs x has (eq-eqb x x refl)
+
+-- one that only reads is of what isn't written
+only_read : (objects : List Object) (k x : ℕ) (read written : List ℕ) → Has (globals_from k objects read written) (act.Global x false) → is_in x written ≡ false
+only_read [] k x read written has = absurd has
+only_read (o ∷ objects) k x read written has = elim (Has-append_cases (global_act k (is_in k read) (is_in k written)) _ (act.Global x false) has) [
+  | inr later ↦ only_read objects (suc k) x read written later
+  | inl here ↦ by_kind (is_in k read) (is_in k written) refl here
+]
+  where
+    same_object : (k x : ℕ) (a b : Bool) → act.Global k a ≡ act.Global x b → (k ≡ x) × (a ≡ b)
+    same_object k x a b e = (cc, cc)
+
+    by_kind : (r w : Bool) → is_in k written ≡ w → Has (global_act k r w) (act.Global x false) → is_in x written ≡ false
+    by_kind r true is (inl e) = (let never : true ≡ false = (same_object k x true false e).1 in cc)
+    by_kind r true is (inr never) = absurd never
+    by_kind true false is (inl e) = ap (λ z. is_in z written) (sym (same_object k x false false e).0) ∙ is
+    by_kind true false is (inr never) = absurd never
+    by_kind false false is never = absurd never
+
+module _ (program : FlowProgram) (effects : Effects) (are : AreEffects program effects) (callee : ℕ) (text : is_package_object (flow_typing program) 0 ≡ false) where
+  -- what the callee writes, the call does
+  pub written_global : (x : ℕ) → is_package_object (flow_typing program) x ≡ true → Has (written_by effects callee) x
+      → Has (globals_of program effects callee) (act.Global x true)
+  written_global x shared written = by_use (used_global program effects are callee x text shared (inr written))
+    where
+      by_use : (w : Bool) × Has (globals_of program effects callee) (act.Global x w) → Has (globals_of program effects callee) (act.Global x true)
+      by_use (true, has) = has
+      by_use (false, has) =
+          let no : true ≡ false =
+          sym (is_there x (written_by effects callee) written)
+          ∙ only_read (drop 1 program.objects) 1 x (read_by effects callee) (written_by effects callee) has in cc
+
+  overlaps_whole : (n : Name) → overlaps n (object n.root) ≡ true
+  overlaps_whole n = both (n.root == n.root) (agree_along n.sels []) (eq-eqb n.root n.root refl) (nothing n.sels)
+    where
+      nothing : (k : List Sel) → agree_along k [] ≡ true
+      nothing [] = refl
+      nothing (s ∷ k) = refl
+
+  -- so a call that the facts allow disturbs no package object of which a part is lent
+  pub lent_spared : (facts : List Fact) → AllowsAll facts (globals_of program effects callee) → (l : Loan) (h : ℕ) (n : Name) → Has facts (Lent l h n)
+      → is_package_object (flow_typing program) n.root ≡ true → Disturbs effects l callee n.root → ⊥
+  lent_spared facts allowed Borrowed h n has shared uses =
+      let there = used_global program effects are callee n.root text shared uses in
+      by_use there.0 (global_allowed (globals_of program effects callee) facts (globals_are program effects are callee) allowed (act.Global n.root there.0) there.1 (Lent Borrowed h n) has)
+    where
+      by_use : (w : Bool) → forbids (act.Global n.root w) (Lent Borrowed h n) ≡ None → ⊥
+      by_use true spared = refused (breaks_O11 n.root true (Lent Borrowed h n)) O11 (object n.root) (Lent Borrowed h n) (overlaps_whole n) spared
+      by_use false spared = refused (breaks_O11 n.root false (Lent Borrowed h n)) O11 (object n.root) (Lent Borrowed h n) (overlaps_whole n) spared
+  lent_spared facts allowed Observed h n has shared written =
+      refused (breaks_O11 n.root true (Lent Observed h n)) O11 (object n.root) (Lent Observed h n) (overlaps_whole n)
+      (global_allowed (globals_of program effects callee) facts (globals_are program effects are callee) allowed (act.Global n.root true)
+      (written_global n.root shared written) (Lent Observed h n) has)
+
+-- ---- what acts write
 
 -- a borrow writes its place
 pub borrowing_writes : (a : Act) (h : ℕ) (m : Name) → Has (adds a) (Lent Borrowed h m) → act_writes m.root a ≡ true

@@ -1,6 +1,6 @@
 -- Frames that wait for a call to end, with views: what they keep concerns the innermost frame as ways
 -- of others, and they wait still after its steps.
-use Rattle.std.proofs.Common.{◌≡◌, refl, sym, ap, ◌∙◌, subst, ◌⊎◌, inl, inr, ℕ, zero, suc, ◌<◌, ◌≤◌, Bool, true, false, ◌&&◌, ◌==◌, eqb-true, nat_lt, ltb-true, lt-ltb, List, [], ◌∷◌, ◌++◌, length, get_or, arith, Option, Some, None, if◌then◌else◌}
+use Rattle.std.proofs.Common.{◌≡◌, refl, sym, ap, ◌∙◌, subst, ◌⊎◌, inl, inr, ℕ, suc, ◌<◌, ◌≤◌, Bool, true, false, ◌&&◌, ◌==◌, eqb-true, nat_lt, ltb-true, lt-ltb, List, [], ◌∷◌, ◌++◌, length, get_or, arith, Option, Some, None, if◌then◌else◌}
 use Rattle.std.specs.Prelude.{flat_map}
 use Rattle.spark_base.specs.Lists.{Has}
 use Rattle.spark_base.proofs.Lists.{Has-append_left, Has-append_right, Has-append_cases, Has-map, Has-map_from}
@@ -554,7 +554,7 @@ module _ (table : Table) (typed : TypedProgram) (effects : Effects)
         → ((x : ℕ) (w : Way) → g.views.way x ≡ Some w → Reaches (view_here s next) w (OfCell (g.views.cell x)))
         → IsWaiting table typed effects state callee g → IsWaiting table typed effects next callee g
     waits_on callee g some less reach waits = record {
-      procedure = waits.procedure;
+      runs = waits.runs;
       plain = waits.plain;
       path = waits.path;
       named = waits.named;

@@ -2,7 +2,7 @@
 --
 -- A frame that waits for a call to end has its views still: what was called names no object of the
 -- frame, and leaves package objects alone of which a part is lent.
-use Rattle.std.specs.Prelude.{◌≡◌, ◌⊎◌, ◌<◌, ℕ, true, false, List, [], ◌∷◌, map, get_or, Option, Some, None}
+use Rattle.std.specs.Prelude.{◌≡◌, ◌⊎◌, ◌<◌, ℕ, true, List, [], ◌∷◌, map, get_or, Option, Some, None}
 use Rattle.spark_base.specs.Lists.{Has}
 use Rattle.place_names.specs.declared.fact.Fact.{Fact}
 use Rattle.place_names.specs.declared.fact.Fact.TheVariants.{Moved, Lent}
@@ -23,24 +23,27 @@ use Rattle.flow_paths.specs.Scopes.{is_within}
 use Rattle.flow_paths.specs.Views.{encloses, scope_of}
 use Rattle.machine.specs.Words.{Cell}
 use Rattle.machine.specs.Memory.{Memory, variable_slots, no_slot}
-use Rattle.machine.specs.States.{Return, State, Outcome, Goes, Ends, sub_of}
+use Rattle.machine.specs.States.{State, Outcome, Goes, Ends, sub_of}
 use Rattle.machine.specs.Owners.{WellOwned, waiting_in}
 use Rattle.machine.specs.Run.{step}
 use Rattle.owned_ways.specs.Ways.{Step, OfVariable, OfRoot, Held, Way, name_of, number_of}
 use Rattle.soundness.specs.Seen.{content, word_in, home}
 use Rattle.soundness.specs.Typed.{Kept}
-use Rattle.soundness.specs.Sound.{calls_procedures, AreCopied, IsCopied, IsNamedSub, IsAtPoint, IsProcedure, Stage, facts_of, AreStages, Uses, IsPlain, InScope, IsTrap}
+use Rattle.soundness.specs.Sound.{calls_procedures, AreCopied, is_temporary_object, ArePlainResults, IsNamedSub, IsAtPoint, IsRunnable, Stage, facts_of, AreStages, AreAwaited, Uses, IsPlain, IsResting, InScope, IsTrap}
 use Rattle.soundness.specs.Sound as owners
 use Rattle.owned_loans.specs.Views.{known_gone, Views, IsMovedBy, AreClear, AreViews, Viewed}
 use Rattle.viewed_soundness.specs.Holds.{PartsAreNamed}
 
 -- ---- the class
 
--- Anonymous access types are those of objects alone. Procedures are called; their formals are of
--- scalar types, and actuals that are copied back to go through no access value.
+-- Anonymous access types are those of objects alone. Procedures are called, or functions too, and
+-- then all have results of scalar types; formals are of scalar types, and actuals that are copied back
+-- to go through no access value.
 pub record IsViewClass (program : FlowProgram) : Type 0 where
   pub parts_named : PartsAreNamed program.table
-  pub calls : (sub : FlowSub) → Has program.subs sub → (p : FlowPoint) → Has sub.points p → calls_procedures p.instr ≡ true
+  pub results : ((sub : FlowSub) → Has program.subs sub → (p : FlowPoint) → Has sub.points p → calls_procedures p.instr ≡ true)
+      ⊎ ArePlainResults (flow_typing program)
+  pub temporaries : (x : ℕ) → is_temporary_object (flow_typing program) x ≡ true → is_scalar (full program.table (object_at (flow_typing program) x).of) ≡ true
   pub formals : (x : ℕ) → is_formal (flow_typing program) x ≡ true → is_scalar (full program.table (object_at (flow_typing program) x).of) ≡ true
   pub copied : (sub : FlowSub) → Has program.subs sub → (p : FlowPoint) → Has sub.points p → (n : ℕ) (actuals : TypedTree) (result : Option ℕ)
       → p.instr ≡ Call n actuals result → ((x : ℕ) → Has (sub_of program n).formals x → is_formal (flow_typing program) x ≡ true)
@@ -92,10 +95,6 @@ NoneAbove s depth m =
 
 -- ---- frames that wait
 
--- Nothing waits in a frame between two steps, and nothing that owns is copied back.
-abbrev pub IsResting : Typing → Stage → Type 0
-IsResting s g = (g.frame.waits ≡ []) × ((r : Return) → Has g.frame.returns r → IsCopied s r) × (g.returns ≡ [])
-
 -- A frame with its executed points and the ways of its views.
 pub record ViewStage : Type 0 where
   pub stage : Stage
@@ -120,7 +119,7 @@ Disturbs effects Observed n x = Has (written_by effects n) x
 -- callee disturbs no package object of which a part is lent, and uses none of which a part is moved.
 -- What the callee uses or writes, its caller does.
 pub record IsWaiting (table : Table) (typed : TypedProgram) (effects : Effects) (state : State) (callee : ℕ) (g : ViewStage) : Type 0 where
-  pub procedure : IsProcedure table typed g.stage.frame.sub
+  pub runs : IsRunnable table typed g.stage.frame.sub
   pub plain : IsResting (flow_typing (flow_program table typed)) g.stage
   pub path : ControlPath (path_points (flow_program table typed) effects (sub_of (flow_program table typed) g.stage.frame.sub)) g.stage.before g.stage.frame.next
   pub named : NamedSub
@@ -146,7 +145,7 @@ pub record IsWaiting (table : Table) (typed : TypedProgram) (effects : Effects) 
 abbrev pub IsFirst : ViewStage → Type 0
 IsFirst e = (e.stage.frame.sub ≡ 0) × IsPlain e.stage × ((x : ℕ) → e.views.way x ≡ None) × (e.stage.depth ≡ 0)
 
--- The frames around one that runs a procedure.
+-- The frames around one that runs a subprogram.
 abbrev pub AreWaiting : Table → TypedProgram → Effects → State → ℕ → List ViewStage → Type 0
 AreWaiting table typed effects state callee [] = ⊥
 AreWaiting table typed effects state callee (e ∷ []) = IsFirst e
@@ -155,11 +154,11 @@ AreWaiting table typed effects state callee (g ∷ (h ∷ older)) =
 
 -- ---- a state
 
--- The frame of the package objects alone; or that of a procedure with those around it.
+-- The frame of the package objects alone; or that of a subprogram with those around it.
 abbrev pub IsRunning : Table → TypedProgram → Effects → State → ViewStage → List ViewStage → Type 0
 IsRunning table typed effects state top [] = IsFirst top
 IsRunning table typed effects state top (g ∷ older) =
-    IsProcedure table typed top.stage.frame.sub × IsResting (flow_typing (flow_program table typed)) top.stage
+    IsRunnable table typed top.stage.frame.sub × IsResting (flow_typing (flow_program table typed)) top.stage
     × AreWaiting table typed effects state top.stage.frame.sub (g ∷ older)
 
 -- The innermost frame with its views, those around it, and what holds of them.
@@ -169,6 +168,8 @@ pub record IsSound (table : Table) (typed : TypedProgram) (effects : Effects) (s
   pub older : List ViewStage
   pub stages : AreStages (top ∷ stages_of older) state.frames
   pub running : IsRunning table typed effects state (record { stage = top; views = views }) older
+  -- what waits is what is in scope
+  pub awaited : AreAwaited table typed 0 (top ∷ stages_of older)
   pub path : ControlPath (path_points (flow_program table typed) effects (sub_of (flow_program table typed) top.frame.sub)) top.before top.frame.next
   -- the state is well owned, each view has a way to its cell, and what ways find gone is moved
   pub viewed : Viewed (home (flow_typing (flow_program table typed)) top.depth) (is_observer (flow_typing (flow_program table typed)))
