@@ -1,6 +1,7 @@
 -- The innermost frame of a run, beside those that wait: which acts its facts and theirs allow, where
 -- its variables own, and that the others wait still.
-use Rattle.std.proofs.Common.{◌≡◌, refl, sym, ap, ◌∙◌, subst, ◌⊎◌, inl, inr, ℕ, suc, ◌<◌, Bool, true, false, ◌&&◌, ◌||◌, ◌==◌, eq-eqb, List, [], ◌∷◌, ◌++◌, map, drop, length, arith, Some, None, if◌then◌else◌}
+use Rattle.std.proofs.Common.{◌≡◌, refl, sym, ap, ◌∙◌, subst, ◌⊎◌, inl, inr, ℕ, suc, ◌<◌, Bool, true, false, not, ◌&&◌, ◌||◌, ◌==◌, eq-eqb, List, [], ◌∷◌, ◌++◌, map, take, drop, length, get_or, arith, Some, None, if◌then◌else◌}
+use Rattle.std.specs.Prelude.{is_some}
 use Rattle.spark_base.specs.Lists.{Has}
 use Rattle.spark_base.proofs.Lists.{Has-append_left, Has-append_cases, Has-map_from}
 use Rattle.place_names.specs.declared.act.Act.{Act}
@@ -14,42 +15,53 @@ use Rattle.type_definitions.specs.Types.{Table}
 use Rattle.typed_tree.specs.Programs.{TypedProgram}
 use Rattle.flow_paths.specs.declared.report.Effects.{Effects}
 use Rattle.flow_paths.specs.Instructions.{Instruction, EndScope}
-use Rattle.flow_paths.specs.Objects.{Typing, object_at, is_anonymous, is_package_object, is_variable, is_borrower, is_observer, is_borrowing, is_observing, view_of}
+use Rattle.flow_paths.specs.Objects.{Typing, object_at, is_anonymous, is_package_object, is_variable, is_borrower, is_observer, is_borrowing, is_observing, has_scope_end, view_of}
 use Rattle.flow_paths.specs.Points.{NamedPoint, FlowPoint}
 use Rattle.flow_paths.specs.Laid.{FlowSub, FlowProgram, NamedSub, number_in, flow_sub, typing_of, flow_typing, flow_program, flow_named}
 use Rattle.flow_paths.specs.Paths.{ControlPath}
 use Rattle.flow_paths.specs.Effects.{act_reads, act_writes, flow_sub_at, path_points}
 use Rattle.place_names.specs.Rules.{forbids}
-use Rattle.flow_paths.specs.Scopes.{taken, brought, scope_behind, is_within, is_ready}
-use Rattle.machine.specs.Memory.{Memory}
+use Rattle.flow_paths.specs.Scopes.{taken, scope_behind, is_within, is_last, is_ready}
+use Rattle.machine.specs.Words as machine
+use Rattle.machine.specs.Memory.{Memory, given_up}
 use Rattle.machine.specs.Evaluate.{Exception}
-use Rattle.machine.specs.States.{Frame, State, sub_of}
-use Rattle.machine.specs.Step.{Turn}
+use Rattle.machine.specs.States.{Waiting, Frame, State, sub_of}
+use Rattle.machine.specs.Step.{Turn, start}
 use Rattle.machine.specs.Step as steps
 use Rattle.machine.specs.Typed.{successors}
-use Rattle.machine.specs.Owners.{waiting_in}
-use Rattle.owned_ways.specs.Ways.{Step, OfVariable, OfRoot, Way, Held, after, AllowsAll}
+use Rattle.machine.specs.Owners.{WellOwned, waiting_in}
+use Rattle.owned_ways.specs.Ways.{Step, OfVariable, OfRoot, Way, Held, after, AllowsAll, number_of}
 use Rattle.owned_ways.specs.Ways as ways
 use Rattle.soundness.specs.Seen.{IsNear, is_view_formal, content, word_in, home}
 use Rattle.soundness.specs.Typed.{Kept}
-use Rattle.soundness.specs.Sound.{Stage, facts_of, AreStages, Uses, IsProcedure, InScope, IsNamedSub, IsAtPoint, view_of as view_here}
-use Rattle.soundness.specs.Ready.{stored_at}
-use Rattle.soundness.proofs.Contents.{bool_cases}
-use Rattle.soundness.proofs.Points.{flow_at, sub_at_number, sub_in_range}
+use Rattle.soundness.specs.Sound.{Stage, facts_of, AreStages, Uses, IsRunnable, IsResting, AreAwaited, AreWaiting as AreWaitingValues, is_temporary_object, calls_procedures, returns_value, has_returned, awaited, InScope, IsNamedSub, IsAtPoint, view_of as view_here}
+use Rattle.soundness.specs.Ready.{stored_at, IsSupplied}
+use Rattle.soundness.proofs.Contents.{bool_cases, word_no}
+use Rattle.machine.specs.Run.{no_point}
+use Rattle.soundness.proofs.Points.{flow_at, point_there, sub_at_number, sub_in_range}
 use Rattle.soundness.proofs.Scoped.{MayHold, Inside}
 use Rattle.soundness.proofs.Inherited.{Splits, after_splits, allowed_beside}
 use Rattle.soundness.proofs.Used.{writes_used, reads_used, fact_added}
 use Rattle.soundness.proofs.Around.{IsFar, is_inherited, inherited_from}
 use Rattle.soundness.proofs.Waits.{drop_none}
+use Rattle.soundness.proofs.Taking.{Takes, TakesPlainly}
+use Rattle.soundness.proofs.Waited.{Shares, shares, within_left, FillsNone, brought_count}
+use Rattle.soundness.proofs.Eased.{eased, takes_all}
+use Rattle.soundness.proofs.Raised.{raised_owned}
+use Rattle.soundness.proofs.Passing.{plain_type}
+use Rattle.soundness.proofs.Steps.{no_leaf}
 use Rattle.owned_loans.specs.Views.{Around, known_gone, Views, Viewed}
 use Rattle.viewed_soundness.proofs.Names.{true_false}
-use Rattle.viewed_soundness.proofs.Outcomes.{raises}
-use Rattle.viewed_steps.specs.Sound.{IsResting, HoldsAt, ArePlaced, NoneAbove, ViewStage, stages_of, GoneElsewhere, AreWaiting, LeadsOn}
+use Rattle.viewed_soundness.proofs.Outcomes.{named_plain}
+use Rattle.viewed_steps.specs.Sound.{HoldsAt, ArePlaced, NoneAbove, Lasts, ViewStage, stages_of, GoneElsewhere, AreWaiting, LeadsOn}
 use Rattle.viewed_steps.specs.Ready.{AreOrderly, IsReady}
 use Rattle.viewed_steps.proofs.Lent.{ends, Spare, spare_has}
 use Rattle.viewed_steps.proofs.Inherited.{after_more, apart_act, lending_uses}
 use Rattle.viewed_steps.proofs.Beside.{OthersKept}
 use Rattle.viewed_steps.proofs.Waiting.{StandsBetween, all_between, KeptElsewhere, unused_there, around as concern, beside_them, handed, with_them, without_them, far, all_on}
+use Rattle.viewed_steps.proofs.Eased.{eased_viewed}
+use Rattle.viewed_steps.proofs.Placed.{view_ends}
+use Rattle.viewed_steps.proofs.Read.{scalar_named}
 use Rattle.viewed_steps.proofs.Standing.{or_right}
 use Rattle.viewed_steps.proofs.Standing as standing
 use Rattle.viewed_steps.proofs.Packages as packages
@@ -88,9 +100,6 @@ module _ (table : Table) (typed : TypedProgram) (effects : Effects) (input : Lis
   abbrev own : Typing
   own = typing_of table typed
 
-  abbrev same : s ≡ own
-  same = standing.same table typed effects input ready
-
   abbrev no_in_formals : (x : ℕ) → is_view_formal s x ≡ false
   no_in_formals = standing.no_in_formals table typed effects input ready
 
@@ -105,7 +114,8 @@ module _ (table : Table) (typed : TypedProgram) (effects : Effects) (input : Lis
   module _ (state : State) (top : Stage) (below : ViewStage) (more_frames : List ViewStage) (rest : List Frame) (named : NamedSub) (p : NamedPoint)
       (frames : state.frames ≡ top.frame ∷ (below.stage.frame ∷ rest)) (deep : top.depth ≡ suc (length rest))
       (stages : AreStages (stages_of (below ∷ more_frames)) (below.stage.frame ∷ rest))
-      (running : IsProcedure table typed top.frame.sub × IsResting s top × AreWaiting table typed effects state top.frame.sub (below ∷ more_frames))
+      (running : IsRunnable table typed top.frame.sub × IsResting s top × AreWaiting table typed effects state top.frame.sub (below ∷ more_frames))
+      (awaiting : AreAwaited table typed 0 (top ∷ stages_of (below ∷ more_frames)))
       (of_sub : IsNamedSub (flow_named table typed) top.frame.sub named) (at_point : IsAtPoint named.points top.frame.next p)
       (path : ControlPath (path_points program effects (sub_of program top.frame.sub)) top.before top.frame.next) (views : Views)
       (viewed_before : Viewed (home s (suc (length rest))) (is_observer s) (known_gone (home s (suc (length rest))) (GoneElsewhere program effects (below ∷ more_frames))) views
@@ -133,9 +143,6 @@ module _ (table : Table) (typed : TypedProgram) (effects : Effects) (input : Lis
 
     pub alone : (w : Way) → IsNear (suc (length rest)) w → IsFar (suc (length rest)) (GoneElsewhere program effects (below ∷ more_frames)) w → ⊥
     alone w near o = o.0 near
-
-    pub plain : top.frame.waits ≡ []
-    plain = running.1.0
 
     abbrev pub main_turn : Turn
     main_turn = standing.t table typed effects input ready state top older outer named p frames of_sub at_point
@@ -205,7 +212,7 @@ module _ (table : Table) (typed : TypedProgram) (effects : Effects) (input : Lis
     one_apart a has fits f there =
         let found = unused_here f there in
         let in_point : Has (flow_at own named p).acts a =
-        subst (λ z. Has (standing.acts_by table typed effects input ready state top older outer named p frames of_sub at_point z p.instr) a) same has in
+        subst (λ z. Has z a) (standing.acts_agree table typed effects input ready state top older outer named p frames of_sub at_point) has in
         let in_main = standing.in_sub table typed effects input ready state top older outer named p frames of_sub at_point in
         ap (forbids a.act) found.1
         ∙ apart_act s found.0 found.2 borrower_local a.act fits
@@ -281,11 +288,8 @@ module _ (table : Table) (typed : TypedProgram) (effects : Effects) (input : Lis
         let shared : is_package_object s x ≡ true = ap (is_package_object s) (sym root) ∙ (inherited_from program effects (stages_of older) (Moved name) has).3 in
         let none : depth ≡ 0 = at_home ∙ ap (λ b. if b then 0 else depth) shared in omega (arith, none)
 
-    pub none_takes : taken main_turn.point.instr ≡ 0
-    none_takes = standing.takes table typed effects input ready state top older outer named p frames of_sub at_point
-
-    pub no_result : named.sub.result ≡ None
-    no_result = (running.0).procedure named of_sub
+    pub none_takes : (i : Instruction) → p.instr ≡ i → taken i ≡ 0 → taken main_turn.point.instr ≡ 0
+    none_takes i e none = ap taken e ∙ none
 
     pub named_there : Has (flow_named table typed) named
     named_there = standing.named_in table typed effects input ready state top older outer named p frames of_sub at_point
@@ -302,8 +306,101 @@ module _ (table : Table) (typed : TypedProgram) (effects : Effects) (input : Lis
     pub orderly : AreOrderly program p (λ q. (n : ℕ) × Has (map (number_in named.points) p.next) n × IsAtPoint named.points n q)
     orderly = ready.orderly.points named named_there p point_there_now
 
-    pub scope_is : scope_behind p ≡ brought p.instr p.scope
-    scope_is = ap (λ n. brought p.instr (drop n p.scope)) none_takes ∙ ap (brought p.instr) (drop_none p.scope)
+    -- ---- what waits
+
+    abbrev pub count : ℕ
+    count = taken p.instr
+
+    abbrev pub left_scope : List ℕ
+    left_scope = drop count p.scope
+
+    pub waits_here : AreWaitingValues s top.frame.waits p.scope
+    waits_here = subst (AreWaitingValues s top.frame.waits) (drop_none p.scope) (awaiting.0 named of_sub p at_point).0
+
+    pub supplied_here : IsSupplied s p
+    supplied_here = standing.supplied table typed effects input ready state top older outer named p frames of_sub at_point
+
+    pub shared : Shares s count top.frame.waits p.scope
+    shared = shares s count top.frame.waits p.scope waits_here supplied_here.0
+
+    abbrev pub given_words : List (List machine.Word)
+    given_words = (start main_turn).waits
+
+    pub takes_here : Takes count given_words []
+    takes_here = takes_all s (take count top.frame.waits) count shared.count shared.plain
+
+    pub takes_of : (i : Instruction) → p.instr ≡ i → Takes (taken i) given_words []
+    takes_of i e = subst (λ z. Takes (taken z) given_words []) e takes_here
+
+    -- the step without the values that it takes
+    abbrev pub easy : Turn
+    easy = eased main_turn
+
+    pub viewed_easy : Viewed (home s depth) (is_observer s) other views (view_here s easy.state) facts_now × Kept s state.memory (waiting_in easy.state)
+    viewed_easy = eased_viewed main_turn ready.accepted.settled (home s depth) (is_observer s) other views facts_now frames shared.plain viewed kept
+
+    pub plainly : (i : Instruction) → p.instr ≡ i → (calls : Bool) → (calls_procedures i ≡ true → calls ≡ false) → TakesPlainly s calls
+    plainly i e calls none =
+        standing.takes_plainly table typed effects input ready (flow_sub own named) (standing.in_program table typed effects input ready state top older outer named p frames of_sub at_point)
+        main_turn.point (standing.in_sub table typed effects input ready state top older outer named p frames of_sub at_point) i e calls none
+
+    -- a temporary has no end of scope of its own
+    no_end : (x : ℕ) → is_temporary_object s x ≡ true → has_scope_end s x ≡ false
+    no_end x temporary =
+        let scalar = ready.class.temporaries x temporary in
+        (λ j. plain_type s ready.owns (object_at s x).of scalar j || named_plain s.table (object_at s x).of (scalar_named s.table (object_at s x).of scalar) j)
+
+    -- what has one is there still
+    pub left_within : (x : ℕ) → has_scope_end s x ≡ true → is_within x p.scope ≡ true → is_within x left_scope ≡ true
+    left_within x end within = elim (within_left s count p.scope supplied_here.0 x within) [
+      | inr left ↦ left
+      | inl temporary ↦ absurd (true_false (has_scope_end s x) end (no_end x temporary))
+    ]
+
+    pub lasts_left : (r x : ℕ) → Lasts program p.scope r x → Lasts program left_scope r x
+    lasts_left r x (inl shared_object) = inl shared_object
+    lasts_left r x (inr (within, end, around)) = inr (left_within r end within, end, around)
+
+    pub placed_left : (facts : List Fact) → ArePlaced program facts views p.scope → ArePlaced program facts views left_scope
+    placed_left facts there x w has = (let old = there x w has in record {
+      within = left_within x (view_ends s x (holds.only x w has)) old.within;
+      up = lasts_left (number_of (views.up x)) x old.up;
+      root = lasts_left (number_of w) x old.root;
+      holder = λ sees. (let h = old.holder sees in (h.0, h.1, lasts_left h.0 x h.2));
+    })
+
+    -- the values that wait on, after an instruction that fills no temporary
+    abbrev pub Left : List Waiting → Type 0
+    Left waits = AreWaitingValues s waits (scope_behind p)
+
+    pub left_after : FillsNone s p.instr → Left (steps.waiting main_turn)
+    left_after none = (
+      (shared.left).0,
+      (shared.left).1 ∙ sym (brought_count s p.instr left_scope none supplied_here.1 last_there),
+    )
+      where
+        last_there : (x : ℕ) → p.instr ≡ EndScope x → is_last x left_scope ≡ true
+        last_there x e =
+            ap (is_last x) (ap (λ n. drop n p.scope) (ap taken e) ∙ drop_none p.scope)
+            ∙ subst (λ z. is_ready p z ≡ true) e (standing.is_ready_there table typed effects input ready state top older outer named p frames of_sub at_point)
+
+    -- ---- what a caller awaits
+
+    abbrev pub sub_here : FlowSub
+    sub_here = sub_of program top.frame.sub
+
+    pub instr_there : (get_or sub_here.points top.frame.next no_point).instr ≡ p.instr
+    instr_there =
+        ap (λ (z : FlowSub). (get_or z.points top.frame.next no_point).instr) (standing.sub_is table typed effects input ready state top older outer named p frames of_sub at_point)
+        ∙ ap (λ (q : FlowPoint). q.instr) (point_there own named top.frame.next p at_point)
+
+    -- an instruction that returns no value leaves that as it is
+    still_awaited : returns_value p.instr ≡ false → awaited sub_here top.before ≡ awaited sub_here (top.frame.next ∷ top.before)
+    still_awaited none =
+        ap (λ b. if is_some sub_here.result && not (b || has_returned sub_here top.before) then 1 else 0) (sym (ap returns_value instr_there ∙ none))
+
+    pub others_await : returns_value p.instr ≡ false → AreAwaited table typed (awaited sub_here (top.frame.next ∷ top.before)) (stages_of older)
+    others_await none = subst (λ n. AreAwaited table typed n (stages_of older)) (still_awaited none) awaiting.1
 
     -- ---- which variables own
 
@@ -317,6 +414,19 @@ module _ (table : Table) (typed : TypedProgram) (effects : Effects) (input : Lis
     inside f x q n held = elim (scope f x q n held) [
       | inl less ↦ inl (less, inr (q, n, held))
       | inr mine ↦ inr mine
+    ]
+
+    -- what is taken owns nothing
+    pub inside_left : Inside s IsOld state.memory depth left_scope
+    inside_left f x q n held = elim (inside f x q n held) [
+      | inl old ↦ inl old
+      | inr mine ↦ elim (within_left s count p.scope supplied_here.0 x mine.1) [
+        | inr left ↦ inr (mine.0, left)
+        | inl temporary ↦ (
+            let none = word_no s.table (content s state.memory [] (OfRoot (OfVariable f x))) q
+            (no_leaf s.table ready.accepted.settled (object_at s x).of (ready.class.temporaries x temporary) q) in
+            let no_number : ways.Empty ≡ Held n = sym none ∙ held in cc)
+      ]
     ]
 
     pub in_scope : (m : Memory) (after_scope : List ℕ) → Inside s IsOld m depth after_scope → InScope s m depth after_scope
@@ -363,36 +473,29 @@ module _ (table : Table) (typed : TypedProgram) (effects : Effects) (input : Lis
     pub with_successors : (i : Instruction) (n : ℕ) → p.instr ≡ i → n < successors i → n < successors main_turn.point.instr
     with_successors i n e less = subst (λ z. n < successors z) (sym e) less
 
-    pub same_scope : (x : ℕ) → is_within x p.scope ≡ true → is_within x p.scope ≡ true
+    pub same_scope : (x : ℕ) → is_within x left_scope ≡ true → is_within x left_scope ≡ true
     same_scope x within = within
 
-    pub one_more : (y x : ℕ) → is_within x p.scope ≡ true → is_within x (y ∷ p.scope) ≡ true
-    one_more y x within = or_right (x == y) (is_within x p.scope) within
+    pub one_more : (y x : ℕ) → is_within x left_scope ≡ true → is_within x (y ∷ left_scope) ≡ true
+    one_more y x within = or_right (x == y) (is_within x left_scope) within
 
-    pub new_one : (x : ℕ) → is_within x (x ∷ p.scope) ≡ true
-    new_one x = ap (λ b. b || is_within x p.scope) (eq-eqb x x refl)
+    pub new_one : (x : ℕ) → is_within x (x ∷ left_scope) ≡ true
+    new_one x = ap (λ b. b || is_within x left_scope) (eq-eqb x x refl)
 
-    pub stored_which : (i : Instruction) → p.instr ≡ i → (x : ℕ) → Has (stored_at i) x → (is_package_object s x ≡ true) ⊎ (is_within x p.scope ≡ true)
+    pub stored_which : (i : Instruction) → p.instr ≡ i → (x : ℕ) → Has (stored_at i) x → (is_package_object s x ≡ true) ⊎ (is_within x left_scope ≡ true)
     stored_which i e x has = ready.scoped.stored named named_there p point_there_now x (subst (λ z. Has (stored_at z) x) (sym e) has)
 
-    pub stored_there : (i : Instruction) → p.instr ≡ i → (x : ℕ) → Has (stored_at i) x → MayHold s IsOld depth p.scope (home s depth x) x
-    stored_there i e x has = may_hold x p.scope (stored_which i e x has)
+    pub stored_there : (i : Instruction) → p.instr ≡ i → (x : ℕ) → Has (stored_at i) x → MayHold s IsOld depth left_scope (home s depth x) x
+    stored_there i e x has = may_hold x left_scope (stored_which i e x has)
 
     pub ready_there : (i : Instruction) → p.instr ≡ i → is_ready p i ≡ true
     ready_there i e = subst (λ z. is_ready p z ≡ true) e (standing.is_ready_there table typed effects input ready state top older outer named p frames of_sub at_point)
 
     -- ---- exceptions
 
-    abbrev pub none_taken : ℕ → ℕ → Type 0
-    none_taken a b = ⊥
-
     -- an exception ends the run
-    pub ends_raised : ((x : ℕ) → p.instr ≡ EndScope x → ⊥) → (how : Exception) (m : Memory) → LeadsOn table typed effects (steps.raised main_turn how m)
-    ends_raised not_end how m = (
-      (λ trap. trap),
-      raises main_turn ready.accepted.settled ready.owns other alone no_in_formals views ready.class.parts_named none_taken frames none_takes facts_now (record {
-        viewed = viewed;
-        kept = kept;
-        holds = record { held = λ x k view at. holds.held x k (λ fading. not_end fading.0 fading.1) view at; only = holds.only };
-      }) m,
-    )
+    pub raised_well : (m : Memory) → WellOwned s (steps.counted (record state { memory = given_up state.memory m }))
+    raised_well m = raised_owned s ready.accepted.settled ready.owns state viewed.owned viewed.covered m
+
+    pub ends_raised : (how : Exception) (m : Memory) → LeadsOn table typed effects (steps.raised main_turn how m)
+    ends_raised how m = ((λ trap. trap), raised_well m)

@@ -22,7 +22,7 @@ use Rattle.flow_paths.specs.Names.{Written, has_call, name_of, written, first, s
 use Rattle.flow_paths.specs.Acts.{Frame, placed, naming, used, acts_in, index_acts, source_acts, observe, declared_acts, reborrow, target_pos, stored_acts, assigned_to, returned_acts, gives_variable, acts_of}
 use Rattle.owned_ways.specs.Ways.{after}
 use Rattle.owned_ways.proofs.Assigned.{kept_fact}
-use Rattle.soundness.specs.Sound.{calls_nothing}
+use Rattle.soundness.specs.Sound.{IsNoCall}
 use Rattle.soundness.proofs.Scalars.{acts}
 
 -- An act ends a scope or a call, is that of a call, or gives a place to what is no borrower.
@@ -194,13 +194,13 @@ module _ (s : Typing) where
       by_kind true = spare_source (first v) (λ m. act.Give m (gives_variable s result)) (λ n. refl)
       by_kind false = spare_in v
 
--- an instruction that calls nothing and isn't the end of a scope or of a call has none such
-pub spare_acts : (f : Frame) (p : Pos) (i : Instruction) → calls_nothing i ≡ true → ((x : ℕ) → i ≡ EndScope x → ⊥) → (i ≡ Finish → ⊥)
+-- an instruction that is no call and isn't the end of a scope or of a call has none such
+pub spare_acts : (f : Frame) (p : Pos) (i : Instruction) → IsNoCall i → ((x : ℕ) → i ≡ EndScope x → ⊥) → (i ≡ Finish → ⊥)
     → Spare f.typing (acts_of f p i)
 spare_acts f p Skip calls going end = tt
 spare_acts f p (Declare x v) calls going end = spare_declared f.typing x v
 spare_acts f p (Assign target e) calls going end = spare_assigned f.typing p (whole target) target e
-spare_acts f p (instruction.Call sub actuals result) calls going end = cc
+spare_acts f p (instruction.Call sub actuals result) calls going end = absurd (calls sub actuals result refl)
 spare_acts f p (Output text line) calls going end = spare_in f.typing text
 spare_acts f p (Input target) calls going end = spare_source f.typing target (λ m. act.Actual m mode.Out false false) (λ n. refl)
 spare_acts f p (Release m) calls going end = spare_source f.typing m act.Free (λ n. refl)

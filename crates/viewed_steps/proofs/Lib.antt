@@ -12,10 +12,13 @@ pub mod Inherited
 pub mod Waiting
 pub mod Left
 pub mod Called
+pub mod Eased
 pub mod Standing
 pub mod Packages
 pub mod Innermost
 pub mod EachInstruction
+pub mod Operands
+pub mod Results
 pub mod ScopeEnds
 pub mod CallEnds
 pub mod Calling

@@ -384,7 +384,7 @@ module _ (table : Table) (typed : TypedProgram) (effects : Effects)
         → ((x : ℕ) (w : Way) → g.views.way x ≡ Some w → Reaches (view_here s next) w (OfCell (g.views.cell x)))
         → IsWaiting table typed effects state callee g → IsWaiting table typed effects next callee g
     waits_on callee g some less reach waits = record {
-      procedure = waits.procedure;
+      runs = waits.runs;
       plain = waits.plain;
       path = waits.path;
       named = waits.named;

@@ -24,24 +24,27 @@ use Rattle.flow_paths.specs.Scopes.{is_within}
 use Rattle.flow_paths.specs.Views.{encloses, scope_of}
 use Rattle.machine.specs.Words.{Cell}
 use Rattle.machine.specs.Memory.{Memory, variable_slots, no_slot}
-use Rattle.machine.specs.States.{Return, State, Outcome, Goes, Ends, sub_of}
+use Rattle.machine.specs.States.{Waiting, State, Outcome, Goes, Ends, sub_of}
 use Rattle.machine.specs.Owners.{WellOwned, waiting_in}
 use Rattle.machine.specs.Run.{step}
 use Rattle.owned_ways.specs.Ways.{Step, OfVariable, OfRoot, Held, Way, name_of, number_of}
 use Rattle.soundness.specs.Seen.{content, word_in, home}
 use Rattle.soundness.specs.Typed.{Kept}
-use Rattle.soundness.specs.Sound.{calls_procedures, AreCopied, IsCopied, IsNamedSub, IsAtPoint, IsProcedure, Stage, facts_of, AreStages, Uses, IsPlain, InScope, IsTrap}
+use Rattle.soundness.specs.Sound.{calls_procedures, AreCopied, is_temporary_object, ArePlainResults, IsNamedSub, IsAtPoint, IsRunnable, Stage, facts_of, AreStages, AreAwaited, Uses, IsPlain, IsResting, InScope, IsTrap}
 use Rattle.soundness.specs.Sound as owners
 use Rattle.owned_loans.specs.Views.{known_gone, Views, IsMovedBy, AreClear, AreViews, Viewed}
 use Rattle.viewed_soundness.specs.Holds.{PartsAreNamed}
 
 -- ---- the class
 
--- Anonymous access types are those of objects alone. Procedures are called; their formals are of
--- scalar types, and actuals that are copied back to go through no access value.
+-- Anonymous access types are those of objects alone. Procedures are called, or functions too, and
+-- then all have results of scalar types; formals are of scalar types, and actuals that are copied back
+-- to go through no access value.
 pub record IsViewClass (program : FlowProgram) : Type 0 where
   pub parts_named : PartsAreNamed program.table
-  pub calls : (sub : FlowSub) → Has program.subs sub → (p : FlowPoint) → Has sub.points p → calls_procedures p.instr ≡ true
+  pub results : ((sub : FlowSub) → Has program.subs sub → (p : FlowPoint) → Has sub.points p → calls_procedures p.instr ≡ true)
+      ⊎ ArePlainResults (flow_typing program)
+  pub temporaries : (x : ℕ) → is_temporary_object (flow_typing program) x ≡ true → is_scalar (full program.table (object_at (flow_typing program) x).of) ≡ true
   pub formals : (x : ℕ) → is_formal (flow_typing program) x ≡ true → is_scalar (full program.table (object_at (flow_typing program) x).of) ≡ true
   pub copied : (sub : FlowSub) → Has program.subs sub → (p : FlowPoint) → Has sub.points p → (n : ℕ) (actuals : TypedTree) (result : Option ℕ)
       → p.instr ≡ Call n actuals result → ((x : ℕ) → Has (sub_of program n).formals x → is_formal (flow_typing program) x ≡ true)
@@ -93,10 +96,6 @@ NoneAbove s depth m =
 
 -- ---- frames that wait
 
--- Nothing waits in a frame between two steps, and nothing that owns is copied back.
-abbrev pub IsResting : Typing → Stage → Type 0
-IsResting s g = (g.frame.waits ≡ []) × ((r : Return) → Has g.frame.returns r → IsCopied s r) × (g.returns ≡ [])
-
 -- A frame with its executed points and the ways of its views.
 pub record ViewStage : Type 0 where
   pub stage : Stage
@@ -119,7 +118,7 @@ LendOwn s facts = (l : Loan) (h : ℕ) (n : PlaceName) → Has facts (Lent l h n
 -- part of a package object is lent, and none that the callee uses is moved. What the callee uses, its
 -- caller uses.
 pub record IsWaiting (table : Table) (typed : TypedProgram) (effects : Effects) (state : State) (callee : ℕ) (g : ViewStage) : Type 0 where
-  pub procedure : IsProcedure table typed g.stage.frame.sub
+  pub runs : IsRunnable table typed g.stage.frame.sub
   pub plain : IsResting (flow_typing (flow_program table typed)) g.stage
   pub path : ControlPath (path_points (flow_program table typed) effects (sub_of (flow_program table typed) g.stage.frame.sub)) g.stage.before g.stage.frame.next
   pub named : NamedSub
@@ -143,7 +142,7 @@ pub record IsWaiting (table : Table) (typed : TypedProgram) (effects : Effects) 
 abbrev pub IsFirst : ViewStage → Type 0
 IsFirst e = (e.stage.frame.sub ≡ 0) × IsPlain e.stage × ((x : ℕ) → e.views.way x ≡ None)
 
--- The frames around one that runs a procedure.
+-- The frames around one that runs a subprogram.
 abbrev pub AreWaiting : Table → TypedProgram → Effects → State → ℕ → List ViewStage → Type 0
 AreWaiting table typed effects state callee [] = ⊥
 AreWaiting table typed effects state callee (e ∷ []) = IsFirst e
@@ -152,11 +151,11 @@ AreWaiting table typed effects state callee (g ∷ (h ∷ older)) =
 
 -- ---- a state
 
--- The frame of the package objects alone; or that of a procedure with those around it.
+-- The frame of the package objects alone; or that of a subprogram with those around it.
 abbrev pub IsRunning : Table → TypedProgram → Effects → State → ViewStage → List ViewStage → Type 0
 IsRunning table typed effects state top [] = IsFirst top
 IsRunning table typed effects state top (g ∷ older) =
-    IsProcedure table typed top.stage.frame.sub × IsResting (flow_typing (flow_program table typed)) top.stage
+    IsRunnable table typed top.stage.frame.sub × IsResting (flow_typing (flow_program table typed)) top.stage
     × AreWaiting table typed effects state top.stage.frame.sub (g ∷ older)
 
 -- The innermost frame with its views, those around it, and what holds of them.
@@ -166,6 +165,8 @@ pub record IsSound (table : Table) (typed : TypedProgram) (effects : Effects) (s
   pub older : List ViewStage
   pub stages : AreStages (top ∷ stages_of older) state.frames
   pub running : IsRunning table typed effects state (record { stage = top; views = views }) older
+  -- what waits is what is in scope
+  pub awaited : AreAwaited table typed 0 (top ∷ stages_of older)
   pub path : ControlPath (path_points (flow_program table typed) effects (sub_of (flow_program table typed) top.frame.sub)) top.before top.frame.next
   -- the state is well owned, each view has a way to its cell, and what ways find gone is moved
   pub viewed : Viewed (home (flow_typing (flow_program table typed)) top.depth) (is_observer (flow_typing (flow_program table typed)))
@@ -198,15 +199,19 @@ abbrev pub AreLeft : ℕ → Views → Views → Type 0
 AreLeft y before later = (x : ℕ) (w : Way) → later.way x ≡ Some w → (before.way x ≡ Some w) × (number_of w ≡ y → ⊥)
 
 -- How the frames after a step, with their views, come from those before it, of which `top` is the innermost one: it goes on; the
--- scope of an object ends; after the last package object the main procedure begins; a procedure is called, which has executed
--- nothing yet; or a call has ended. A call, and the end of one, changes nothing that owners see in the frames that are left, and
--- a call moves nothing.
+-- scope of an object ends; after the last package object the main procedure begins; a subprogram is called, which has executed
+-- nothing yet; a function gives its result to its caller; or a call has ended. A call, and the end of one, changes nothing that
+-- owners see in the frames that are left, and a call moves nothing.
 pub data Follows (program : FlowProgram) (effects : Effects) (i : Instruction) (m : Memory) (top : ViewStage) (older : List ViewStage) (n : Memory) (next : ViewStage) (around : List ViewStage) : Type 0 where
   steps_on : owners.IsNoCall i → (i ≡ Finish → ⊥) → ((y : ℕ) → i ≡ EndScope y → ⊥) → owners.IsOnward top.stage next.stage
       → AreTurned i top.views next.views → around ≡ older → Follows program effects i m top older n next around
   leaves_scope : (y : ℕ) → i ≡ EndScope y → owners.IsOnward top.stage next.stage → AreLeft y top.views next.views → around ≡ older
       → Follows program effects i m top older n next around
   begins_main : (below : ViewStage) → older ≡ [] → around ≡ below ∷ [] → owners.IsOnward top.stage below.stage → next.stage.before ≡ []
+      → Follows program effects i m top older n next around
+  returns_one : owners.IsNoCall i → (i ≡ Finish → ⊥) → ((y : ℕ) → i ≡ EndScope y → ⊥) → (below : ViewStage) (more : List ViewStage) (waits : List Waiting)
+      → older ≡ below ∷ more → owners.IsOnward top.stage next.stage → AreTurned i top.views next.views
+      → around ≡ record below { stage = record below.stage { frame = record below.stage.frame { waits = waits } } } ∷ more
       → Follows program effects i m top older n next around
   calls_one : (waits : Stage) → around ≡ record { stage = waits; views = top.views } ∷ older → owners.IsOnward top.stage waits → next.stage.before ≡ []
       → ((f : Fact) → Has (facts_of program effects waits) f → Has (facts_of program effects top.stage) f)
