@@ -63,8 +63,8 @@ use Rattle.owned_loans.specs.Views.{Around, known_gone, Views, Viewed, Unused}
 use Rattle.viewed_soundness.specs.Holds.{AllKeep}
 use Rattle.viewed_soundness.proofs.Names.{plain_named, true_false}
 use Rattle.viewed_soundness.proofs.Evaluated.{keep_both}
-use Rattle.viewed_soundness.proofs.Outcomes.{named_plain, IsGood, Leads_on, decides_on, choose_on, assign_on}
-use Rattle.viewed_steps.specs.Sound.{Lasts, HoldsAt, ArePlaced, NoneAbove, ViewStage, stages_of, GoneElsewhere, AreWaiting, IsSound, LeadsOn}
+use Rattle.viewed_soundness.proofs.Outcomes.{named_plain, IsGood, Leads_on, decides_on, choose_on, assign_on, Turned}
+use Rattle.viewed_steps.specs.Sound.{Lasts, HoldsAt, ArePlaced, NoneAbove, ViewStage, stages_of, GoneElsewhere, AreWaiting, IsStoredAt, AreTurned, steps_on, LeadsAlong}
 use Rattle.viewed_steps.specs.Ready.{AreOrderly, IsReady}
 use Rattle.viewed_steps.proofs.Declared.{IsElsewhere, not_gone, declare_on}
 use Rattle.viewed_steps.proofs.Released.{released_on}
@@ -303,9 +303,13 @@ module _ (table : Table) (typed : TypedProgram) (effects : Effects) (input : Lis
 
     -- ---- an instruction that is neither the end of a scope nor a call
 
+    -- where it leads, and how the frames come from those before
+    abbrev Along : Outcome → Type 0
+    Along outcome = LeadsAlong table typed effects p.instr state.memory (record { stage = top; views = views }) (below ∷ more_frames) outcome
+
     module _ (going : (x : ℕ) → p.instr ≡ EndScope x → ⊥) (no_calls : IsNoCall p.instr) where
       abbrev pub may : ℕ → ℕ → Type 0
-      may x y = MayBe program (scope_behind p) x y
+      may x y = MayBe program (scope_behind p) x y × IsStoredAt p.instr x
 
       more : (y : ℕ) → is_within y left_scope ≡ true → is_within y (scope_behind p) ≡ true
       more y within = brought_more p.instr going left_scope y within
@@ -462,7 +466,7 @@ module _ (table : Table) (typed : TypedProgram) (effects : Effects) (input : Lis
               (subst (λ z. Leads_on easy ready.accepted.settled ready.owns other alone no_in_formals views ready.class.parts_named may refl refl (after (acts_of_main (Declare x z)) facts_now) (Declared x (More (Name q y source u) NoMore) easy)) (sym here_is)
               (view_declared easy ready.accepted.settled ready.owns other alone no_in_formals views ready.class.parts_named may refl refl given_words
               q x y u source view (ready.orderly.local x view).0 (home_frame x (local x view)) text_there.1 takes
-              older_there (record { lasts = lasts_behind y x lasts; within = in_behind; view = view }) facts_now good (unused x v e (local x view))
+              older_there (record { lasts = lasts_behind y x lasts; within = in_behind; view = view }, inl (v, e)) facts_now good (unused x v e (local x view))
               (subst (λ z. AllowsAll facts_now (acts_of_main (Declare x z))) here_is allowed_there))))
 
           by_view : (b : Bool) → is_anonymous (view_of s x) ≡ b → LeadsFrom (Declare x v) (turn main_turn (Declare x v))
@@ -525,14 +529,17 @@ module _ (table : Table) (typed : TypedProgram) (effects : Effects) (input : Lis
                   → (is_observer s x ≡ false → y ≡ x) → Goal (Name q x NoMore (object_at s x).of) e
               from_name r y w rest here_is lasts itself =
                   let of : ℕ = (object_at s x).of in
-                  let from : may x y = record {
-                    lasts = elim (bool_cases (is_observer s x)) [
-                      | inl sees ↦ lasts_behind y x (lasts sees)
-                      | inr borrows ↦ subst (λ z. Lasts program (scope_behind p) z x) (sym (itself borrows)) (itself_lasts view (within_now view))
-                    ];
-                    within = within_now view;
-                    view = view;
-                  } in
+                  let from : may x y = (
+                    record {
+                      lasts = elim (bool_cases (is_observer s x)) [
+                        | inl sees ↦ lasts_behind y x (lasts sees)
+                        | inr borrows ↦ subst (λ z. Lasts program (scope_behind p) z x) (sym (itself borrows)) (itself_lasts view (within_now view))
+                      ];
+                      within = within_now view;
+                      view = view;
+                    },
+                    inr (q, (object_at s x).of, e, instr_is),
+                  ) in
                   let takes : Takes (waits_in rest) given_words [] =
                   takes_as (taken (Assign (Name q x NoMore of) (Name r y rest w))) (waits_in rest) given_words [] (nothing_more (waits_in rest))
                   (subst (λ z. Takes (taken (Assign (Name q x NoMore of) z)) given_words []) here_is (takes_of (Assign (Name q x NoMore of) e) instr_is)) in
@@ -751,16 +758,34 @@ module _ (table : Table) (typed : TypedProgram) (effects : Effects) (input : Lis
       lent_on : sparing → (h : ℕ) (n : PlaceName) → Has facts_now (Lent Observed h n) → Has (after (acts_of_main p.instr) facts_now) (Lent Observed h n)
       lent_on spare h n has = loans_stay s (standing.acts_by table typed effects input ready state top older outer named p frames of_sub at_point s p.instr) spare facts_now Observed h n has
 
+      -- which views turned
+      turned_so : (turned_views : Views) → {facts : List Fact}
+          → Turned easy ready.accepted.settled ready.owns other alone no_in_formals views ready.class.parts_named may refl refl turned_views facts
+          → AreTurned p.instr views turned_views
+      turned_so turned_views turned x w has = elim (turned x w has) [
+        | inl old ↦ inl (sym old.way ∙ has)
+        | inr (y, from, comes) ↦ inr from.1
+      ]
+
+      only_may : (turned_views : Views) (facts : List Fact)
+          → Turned easy ready.accepted.settled ready.owns other alone no_in_formals views ready.class.parts_named may refl refl turned_views facts
+          → Turned easy ready.accepted.settled ready.owns other alone no_in_formals views ready.class.parts_named (λ x y. MayBe program (scope_behind p) x y) refl refl
+          turned_views facts
+      only_may turned_views facts turned x w has = elim (turned x w has) [
+        | inl old ↦ inl (record { way = old.way; loan = old.loan; up = old.up })
+        | inr (y, from, comes) ↦ inr (y, from.0, record { up = comes.up; root = comes.root; loan = comes.loan })
+      ]
+
       pub goes_there : sparing → (p.instr ≡ Finish → ⊥) → returns_value p.instr ≡ false → (after_step : State) (waits : List Waiting) (loops : List Loop) (k : ℕ)
           → k < successors p.instr → ((n : ℕ) → successor main_turn k ≡ Some n → after_step.frames ≡ record top.frame { waits = waits; loops = loops; next = n } ∷ outer)
           → Left waits → Inside s IsOld after_step.memory depth (scope_behind p) → LeadsFrom p.instr (Goes after_step) → OthersKept s depth state.memory after_step.memory
-          → IsSound table typed effects after_step
+          → Along (Goes after_step)
       goes_there spare end none after_step waits loops k less frames_then are inside_then (turned_views, turned, well) stay =
           let next = successor_there main_turn k (subst (λ z. k < z) (sym successors_there) less) in
           let q = standing.next_at table typed effects input ready state top older outer named p frames of_sub at_point path next.0 next.2 in
           let there = turned_placed easy ready.accepted.settled ready.owns other alone no_in_formals views ready.class.parts_named left_scope (scope_behind p) refl refl
           ready.orderly.transitive ready.orderly.itself local holds.only more turned_views facts_now (after (acts_of_main p.instr) facts_now) (lent_on spare)
-          (placed_left facts_now placed) turned in
+          (placed_left facts_now placed) (only_may turned_views (after (acts_of_main p.instr) facts_now) turned) in
           let placed_next = placed_on program (after (acts_of_main p.instr) facts_now) turned_views (scope_behind p) (q.0).scope well.holds.only q.2 there in
           standing.goes_to_next table typed effects input ready state top older outer named p frames of_sub at_point path no_calls after_step waits loops next.0 next.2 q.0 q.1 (frames_then next.0 next.1) deep stages turned_views
           (running.0, running.1, wait_still after_step (scope_behind p) inside_then stay well.viewed.far)
@@ -773,16 +798,17 @@ module _ (table : Table) (typed : TypedProgram) (effects : Effects) (input : Lis
             only = well.holds.only;
           })
           (placed_by (after (acts_of_main p.instr) facts_now) (after (acts_of_main p.instr) own_facts) turned_views (q.0).scope (own_loans (acts_of_main p.instr)) placed_next)
-          (still_above after_step.memory stay)
+          (still_above after_step.memory stay) views
+          (steps_on no_calls end going (refl, refl, refl) (turned_so turned_views turned) refl)
 
       then_on : (left : Left (steps.waiting main_turn)) → sparing → (p.instr ≡ Finish → ⊥) → returns_value p.instr ≡ false → (outcome : Outcome)
           → LeadsFrom p.instr outcome → GoesFrom left p.instr outcome
-          → Each (λ (next : State). OthersKept s depth state.memory next.memory) outcome → LeadsOn table typed effects outcome
+          → Each (λ (next : State). OthersKept s depth state.memory next.memory) outcome → Along outcome
       then_on left spare end none (Ends how after_step) leads on stay = leads
       then_on left spare end none (Goes after_step) leads on stay =
           goes_there spare end none after_step on.waits on.loops on.k on.less on.frames on.are on.inside leads stay
 
-      pub goes_plainly : IsOther p.instr → FillsNone s p.instr → (p.instr ≡ Finish → ⊥) → returns_value p.instr ≡ false → LeadsOn table typed effects (turn main_turn p.instr)
+      pub goes_plainly : IsOther p.instr → FillsNone s p.instr → (p.instr ≡ Finish → ⊥) → returns_value p.instr ≡ false → Along (turn main_turn p.instr)
       goes_plainly other_one fills end none =
           let left = left_after fills in
           let text = standing.fine table typed effects input ready state top older outer named p frames of_sub at_point in

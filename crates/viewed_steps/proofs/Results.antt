@@ -50,7 +50,7 @@ use Rattle.soundness.proofs.Successors.{not_true, below_one}
 use Rattle.owned_loans.specs.Views.{Around, known_gone, Views, Viewed}
 use Rattle.viewed_soundness.specs.Holds.{IsNamed, AllKeep}
 use Rattle.viewed_soundness.proofs.Outcomes.{named_plain, IsGood, Leads_on}
-use Rattle.viewed_steps.specs.Sound.{Lasts, HoldsAt, ArePlaced, NoneAbove, ViewStage, stages_of, GoneElsewhere, AreWaiting, IsSound, LeadsOn}
+use Rattle.viewed_steps.specs.Sound.{Lasts, HoldsAt, ArePlaced, NoneAbove, ViewStage, stages_of, GoneElsewhere, AreWaiting, IsStoredAt, returns_one, LeadsAlong}
 use Rattle.viewed_steps.specs.Ready.{AreOrderly, IsReady}
 use Rattle.viewed_steps.proofs.Lent.{Spare, loans_stay}
 use Rattle.viewed_steps.proofs.Placed.{scope_on, placed_on, MayBe, turned_placed}
@@ -270,8 +270,12 @@ module _ (table : Table) (typed : TypedProgram) (effects : Effects) (input : Lis
     abbrev shared : Shares s (taken p.instr) top.frame.waits p.scope
     shared = innermost.shared table typed effects input ready state top below more_frames rest named p frames deep stages running awaiting of_sub at_point path views viewed_before kept scope holds placed_before above
 
+    -- where it leads, and how the frames come from those before
+    abbrev Along : Outcome → Type 0
+    Along outcome = LeadsAlong table typed effects p.instr state.memory (record { stage = top; views = views }) (below ∷ more_frames) outcome
+
     abbrev may : ℕ → ℕ → Type 0
-    may x y = MayBe program (scope_behind p) x y
+    may x y = MayBe program (scope_behind p) x y × IsStoredAt p.instr x
 
     abbrev LeadsFrom : Instruction → Outcome → Type 0
     LeadsFrom i outcome = Leads_on easy ready.accepted.settled ready.owns other alone no_in_formals views ready.class.parts_named may refl refl (after (acts_of_main i) facts_now) outcome
@@ -322,7 +326,7 @@ module _ (table : Table) (typed : TypedProgram) (effects : Effects) (input : Lis
           → Quiet (record { memory = state.memory; waits = [] }) One y → Gets (λ ws m. Inside s IsOld m depth (scope_behind p)) y
           → Gets (λ ws m. OthersKept s depth state.memory m) y
           → LeadsFrom p.instr (steps.evaluated main_turn y (λ ws m. Goes (steps.behind main_turn (waits ws) m (k ws))))
-          → LeadsOn table typed effects (steps.evaluated main_turn y (λ ws m. Goes (steps.behind main_turn (waits ws) m (k ws))))
+          → Along (steps.evaluated main_turn y (λ ws m. Goes (steps.behind main_turn (waits ws) m (k ws))))
       operand_on waits k less are (Done ws n) (same, one) inside_then stay leads =
           each.goes_there table typed effects input ready state top below more_frames rest named p frames deep stages running awaiting of_sub at_point path views viewed_before kept scope holds placed_before above going_here no_call_here
           (each.spares table typed effects input ready state top below more_frames rest named p frames deep stages running awaiting of_sub at_point path views viewed_before kept scope holds placed_before above going_here no_call_here no_finish) no_finish (ap returns_value is)
@@ -357,7 +361,7 @@ module _ (table : Table) (typed : TypedProgram) (effects : Effects) (input : Lis
           (subst (λ i. Leads_on easy ready.accepted.settled ready.owns other alone no_in_formals views ready.class.parts_named may refl refl (after (acts_of_main i) facts_now)
           (steps.evaluated easy (value (steps.here easy) e (start main_turn)) (λ ws m. Goes (steps.behind easy (easy_waits ws) m (k ws))))) (sym is) leads)
 
-    left_step : (temporary : ℕ) (e : TypedTree) (o : ShortCircuit) → p.instr ≡ Evaluate temporary e (Some o) → LeadsOn table typed effects (steps.operand main_turn e (Some o))
+    left_step : (temporary : ℕ) (e : TypedTree) (o : ShortCircuit) → p.instr ≡ Evaluate temporary e (Some o) → Along (steps.operand main_turn e (Some o))
     left_step temporary e o is =
         operand_on temporary e (Some o) is (λ ws. steps.truth_waiting ws ∷ steps.waiting main_turn) (λ ws. if run.decides o ws then 1 else 0)
         (λ ws. subst (λ i. (if run.decides o ws then 1 else 0) < successors i) (sym is) (first_two (run.decides o ws)))
@@ -378,7 +382,7 @@ module _ (table : Table) (typed : TypedProgram) (effects : Effects) (input : Lis
         first_two true = omega arith
         first_two false = omega arith
 
-    right_step : (temporary : ℕ) (e : TypedTree) → p.instr ≡ Evaluate temporary e None → LeadsOn table typed effects (steps.operand main_turn e None)
+    right_step : (temporary : ℕ) (e : TypedTree) → p.instr ≡ Evaluate temporary e None → Along (steps.operand main_turn e None)
     right_step temporary e is = by_waits (steps.waiting main_turn) refl
       where
         fills : (x : ℕ) × (rest_scope : List ℕ) × (left_scope ≡ x ∷ rest_scope) × (is_temporary_object s x ≡ true)
@@ -387,7 +391,7 @@ module _ (table : Table) (typed : TypedProgram) (effects : Effects) (input : Lis
         some_left : temporaries_in s left_scope ≡ suc (temporaries_in s fills.1)
         some_left = ap (temporaries_in s) fills.2 ∙ temporary_more s fills.0 fills.1 fills.3
 
-        by_waits : (vs : List Waiting) → steps.waiting main_turn ≡ vs → LeadsOn table typed effects (steps.operand main_turn e None)
+        by_waits : (vs : List Waiting) → steps.waiting main_turn ≡ vs → Along (steps.operand main_turn e None)
         by_waits [] none =
             (let long = sym (shared.left).1 ∙ ap (λ (z : List Waiting). length z) none in absurd (omega (arith, long, some_left)))
         by_waits (v ∷ vs) some =
@@ -410,7 +414,7 @@ module _ (table : Table) (typed : TypedProgram) (effects : Effects) (input : Lis
             (takes_of (Evaluate temporary e None) is) facts_now (good_there temporary e None is) (allowed_operand temporary e None is)))
 
     pub operand_step : (temporary : ℕ) (e : TypedTree) (op : Option ShortCircuit) → p.instr ≡ Evaluate temporary e op
-        → LeadsOn table typed effects (turn main_turn (Evaluate temporary e op))
+        → Along (turn main_turn (Evaluate temporary e op))
     operand_step temporary e (Some o) is = left_step temporary e o is
     operand_step temporary e None is = right_step temporary e is
 
@@ -573,7 +577,7 @@ module _ (table : Table) (typed : TypedProgram) (effects : Effects) (input : Lis
       returned_to : (ws : List machine.Word) (m : Memory)
           → Viewed (home s depth) (is_observer s) other views (seen s m (value_of ws ∷ waiting_in easy.state) state.leaks) (after (acts (acts_in s e)) facts_now)
           → Kept s m (value_of ws ∷ waiting_in easy.state) → Holds s depth views m → length ws ≡ words s.table of → Inside s IsOld m depth left_scope
-          → OthersKept s depth state.memory m → IsSound table typed effects (state_then ws m)
+          → OthersKept s depth state.memory m → Along (Goes (state_then ws m))
       returned_to ws m viewed_then kept_then holds_then long inside_then stay =
           let v : Waiting = value_of ws in
           let plain_value : IsPlainValue s v = (plain_result, long ∙ plain_word s ready.accepted.settled of plain_result) in
@@ -594,77 +598,79 @@ module _ (table : Table) (typed : TypedProgram) (effects : Effects) (input : Lis
           let there = turned_placed easy ready.accepted.settled ready.owns other alone no_in_formals views ready.class.parts_named left_scope (scope_behind p) refl refl
           ready.orderly.transitive ready.orderly.itself local holds.only more_behind views facts_now (after (acts_of_main p.instr) facts_now)
           (λ h n has. loans_stay s (standing.acts_by table typed effects input ready state top older outer named p frames of_sub at_point s p.instr) spare_value facts_now Observed h n has)
-          (placed_left facts_now placed) (unturned easy ready.accepted.settled ready.owns other alone no_in_formals views ready.class.parts_named may refl refl (after (acts_of_main p.instr) facts_now)) in
-          let placed_next = placed_on program (after (acts_of_main p.instr) facts_now) views (scope_behind p) (found.0).scope holds.only found.2 there in
-          record {
-            top = top_then;
-            views = views;
-            older = below_with v ∷ more_frames;
-            stages = (refl, deep, (refl, stages.1, stages.2));
-            running = (
-              running.0,
-              running.1,
-              wait_with v (state_then ws m) more_frames one_awaited
-                  (wait_still (state_then ws m) (scope_behind p) inside_behind stay
-                  (λ w n keeps. subst (λ z. ways.Reaches z w (ways.OfCell n)) view_same (well_all.far w n keeps))),
-            );
-            awaited = (
-              standing.waits_next table typed effects input ready state top older outer named p frames of_sub at_point path (steps.waiting main_turn) top.frame.loops next_number next_has left_values,
-              subst (λ n. AreAwaited table typed n (stages_of (below_with v ∷ more_frames))) (sym awaited_then) (await_with v plain_value more_frames one_awaited),
-            );
-            path = subst (λ (z : FlowSub). ControlPath (path_points program effects z) (top.frame.next ∷ top.before) next_number)
-                (sym (standing.sub_is table typed effects input ready state top older outer named p frames of_sub at_point))
-                (goes_on top.before top.frame.next next_number (standing.path_here table typed effects input ready state top older outer named p frames of_sub at_point path) step_on);
-            viewed = subst (λ z. Viewed (home s top.depth) (is_observer s) (known_gone (home s top.depth) (GoneElsewhere program effects (below_with v ∷ more_frames))) views z (facts_of program effects top_then)) view_same
-                (subst (λ d. Viewed (home s d) (is_observer s) (known_gone (home s d) (GoneElsewhere program effects (below_with v ∷ more_frames))) views view (facts_of program effects top_then)) (sym deep)
-                (subst (Viewed (home s depth) (is_observer s) (known_gone (home s depth) (GoneElsewhere program effects (below_with v ∷ more_frames))) views view) (sym facts_there)
-                (record {
-                  owned = well.owned;
-                  covered = well.covered;
-                  known = λ w l rooted r gone. elim (well.known w l rooted r gone) [ inl moved ↦ inl moved | inr elsewhere ↦ inr (elsewhere_with v w elsewhere) ];
-                  clear = well.clear;
-                  views = well.views;
-                  lends = well.lends;
-                  far = λ w n none. absurd none;
-                })));
-            kept = subst (Kept s m) (sym (hands_then ws m)) kept_then;
-            named = named;
-            of_sub = of_sub;
-            point = found.0;
-            at_point = found.1;
-            scope = subst (λ d. InScope s m d (found.0).scope) (sym deep)
-                (scope_on s ready.owns m depth (scope_behind p) (found.0).scope (in_scope m (scope_behind p) inside_behind) found.2);
-            holds = subst (λ d. HoldsAt s d views m found.0) (sym deep) (record {
-              held = λ x n lasts view_is at. holds_then.held x n view_is at;
-              within = λ x n view_is at. (let own_way = holds_then.held x n view_is at in (placed_next x own_way.0 own_way.1).within);
-              only = holds_then.only;
-            });
-            placed = subst (λ z. ArePlaced program z views (found.0).scope) (sym facts_there)
-                (placed_by (after (acts_of_main p.instr) facts_now) facts_then views (found.0).scope (own_loans (acts_of_main p.instr)) placed_next);
-            none_above = subst (λ d. NoneAbove s d m) (sym deep) (still_above m stay);
-          }
+          (placed_left facts_now placed) (unturned easy ready.accepted.settled ready.owns other alone no_in_formals views ready.class.parts_named (λ x y. MayBe program (scope_behind p) x y) refl refl (after (acts_of_main p.instr) facts_now)) in
+          let placed_next = placed_on program (after (acts_of_main p.instr) facts_now) views (scope_behind p) (found.0).scope holds.only found.2 there in (
+            record {
+              top = top_then;
+              views = views;
+              older = below_with v ∷ more_frames;
+              stages = (refl, deep, (refl, stages.1, stages.2));
+              running = (
+                running.0,
+                running.1,
+                wait_with v (state_then ws m) more_frames one_awaited
+                    (wait_still (state_then ws m) (scope_behind p) inside_behind stay
+                    (λ w n keeps. subst (λ z. ways.Reaches z w (ways.OfCell n)) view_same (well_all.far w n keeps))),
+              );
+              awaited = (
+                standing.waits_next table typed effects input ready state top older outer named p frames of_sub at_point path (steps.waiting main_turn) top.frame.loops next_number next_has left_values,
+                subst (λ n. AreAwaited table typed n (stages_of (below_with v ∷ more_frames))) (sym awaited_then) (await_with v plain_value more_frames one_awaited),
+              );
+              path = subst (λ (z : FlowSub). ControlPath (path_points program effects z) (top.frame.next ∷ top.before) next_number)
+                  (sym (standing.sub_is table typed effects input ready state top older outer named p frames of_sub at_point))
+                  (goes_on top.before top.frame.next next_number (standing.path_here table typed effects input ready state top older outer named p frames of_sub at_point path) step_on);
+              viewed = subst (λ z. Viewed (home s top.depth) (is_observer s) (known_gone (home s top.depth) (GoneElsewhere program effects (below_with v ∷ more_frames))) views z (facts_of program effects top_then)) view_same
+                  (subst (λ d. Viewed (home s d) (is_observer s) (known_gone (home s d) (GoneElsewhere program effects (below_with v ∷ more_frames))) views view (facts_of program effects top_then)) (sym deep)
+                  (subst (Viewed (home s depth) (is_observer s) (known_gone (home s depth) (GoneElsewhere program effects (below_with v ∷ more_frames))) views view) (sym facts_there)
+                  (record {
+                    owned = well.owned;
+                    covered = well.covered;
+                    known = λ w l rooted r gone. elim (well.known w l rooted r gone) [ inl moved ↦ inl moved | inr elsewhere ↦ inr (elsewhere_with v w elsewhere) ];
+                    clear = well.clear;
+                    views = well.views;
+                    lends = well.lends;
+                    far = λ w n none. absurd none;
+                  })));
+              kept = subst (Kept s m) (sym (hands_then ws m)) kept_then;
+              named = named;
+              of_sub = of_sub;
+              point = found.0;
+              at_point = found.1;
+              scope = subst (λ d. InScope s m d (found.0).scope) (sym deep)
+                  (scope_on s ready.owns m depth (scope_behind p) (found.0).scope (in_scope m (scope_behind p) inside_behind) found.2);
+              holds = subst (λ d. HoldsAt s d views m found.0) (sym deep) (record {
+                held = λ x n lasts view_is at. holds_then.held x n view_is at;
+                within = λ x n view_is at. (let own_way = holds_then.held x n view_is at in (placed_next x own_way.0 own_way.1).within);
+                only = holds_then.only;
+              });
+              placed = subst (λ z. ArePlaced program z views (found.0).scope) (sym facts_there)
+                  (placed_by (after (acts_of_main p.instr) facts_now) facts_then views (found.0).scope (own_loans (acts_of_main p.instr)) placed_next);
+              none_above = subst (λ d. NoneAbove s d m) (sym deep) (still_above m stay);
+            },
+            returns_one no_call_then no_finish_then going_then below more_frames (v ∷ below.stage.frame.waits) refl (refl, refl, refl) (λ x w has. inl has) refl,
+          )
 
       then_returned : (y : Evaluated (List machine.Word))
           → Given (steps.here main_turn) ready.accepted.settled state.leaks [] other alone (keeps s ready.accepted.settled ready.owns) no_in_formals index_law ready.owns views
           ready.class.parts_named of (waiting_in easy.state) (after (acts (acts_in s e)) facts_now) y
           → Gets (λ ws m. Inside s IsOld m depth left_scope) y → Gets (λ ws m. OthersKept s depth state.memory m) y
-          → LeadsOn table typed effects (steps.evaluated main_turn y (λ ws m. Goes (state_then ws m)))
+          → Along (steps.evaluated main_turn y (λ ws m. Goes (state_then ws m)))
       then_returned (Done ws n) (good, long, same) inside_then stay = returned_to ws n.memory good.viewed good.kept good.holds long inside_then stay
       then_returned (Raises x n) given inside_then stay = ((λ trap. trap), raised_well n.memory)
       then_returned (Traps x n) never inside_then stay = absurd never
 
-      value_step : LeadsOn table typed effects (steps.hold main_turn (More e last))
+      value_step : Along (steps.hold main_turn (More e last))
       value_step =
-          subst (LeadsOn table typed effects) (sym (hold_is program input main_turn.point state top.frame below.stage.frame rest e last of sub_result))
+          subst (Along) (sym (hold_is program input main_turn.point state top.frame below.stage.frame rest e last of sub_result))
           (then_returned (steps.taken_by main_turn of e (start main_turn))
           (source_given easy ready.accepted.settled ready.owns other alone no_in_formals views ready.class.parts_named may refl refl given_words of e named_result source plainly_value takes_value facts_now good_value allowed_value keeps_value)
           (source_inside main_turn AnyLeft tt IsOld left_scope left_scope inside_left (λ x within. within) of e)
           (source_stays main_turn of e))
 
-    pub return_step : (e last : TypedTree) → p.instr ≡ Hold (More e last) → LeadsOn table typed effects (turn main_turn (Hold (More e last)))
+    pub return_step : (e last : TypedTree) → p.instr ≡ Hold (More e last) → Along (turn main_turn (Hold (More e last)))
     return_step e last is = by_result named.sub.result refl (subst (IsFine s named.sub.result) is (standing.fine table typed effects input ready state top older outer named p frames of_sub at_point))
       where
-        by_result : (r : Option ℕ) → named.sub.result ≡ r → Returns s r (More e last) → LeadsOn table typed effects (steps.hold main_turn (More e last))
+        by_result : (r : Option ℕ) → named.sub.result ≡ r → Returns s r (More e last) → Along (steps.hold main_turn (More e last))
         by_result None none never = cc
         by_result (Some of) result (value_there, same, source) =
             value_step e last is of result (subst (Source s of) (sym (ap head_of same)) source) (ap last_of same)

@@ -10,7 +10,7 @@ use Rattle.flow_paths.specs.Points.{NamedPoint}
 use Rattle.flow_paths.specs.Laid.{FlowProgram, NamedSub, flow_typing, flow_program, flow_named}
 use Rattle.flow_paths.specs.Paths.{ControlPath}
 use Rattle.flow_paths.specs.Effects.{path_points}
-use Rattle.machine.specs.States.{Frame, State, sub_of}
+use Rattle.machine.specs.States.{Frame, State, sub_of, Outcome, Goes, Ends}
 use Rattle.machine.specs.Step.{Turn, turn}
 use Rattle.machine.specs.Owners.{waiting_in}
 use Rattle.machine.specs.Run.{step}
@@ -19,7 +19,7 @@ use Rattle.soundness.specs.Typed.{Kept}
 use Rattle.soundness.specs.Sound.{Stage, facts_of, AreStages, IsRunnable, IsResting, AreAwaited, returns_value, InScope, IsNamedSub, IsAtPoint, view_of as view_here}
 use Rattle.soundness.proofs.Waited.{FillsNone}
 use Rattle.owned_loans.specs.Views.{known_gone, Views, Viewed}
-use Rattle.viewed_steps.specs.Sound.{HoldsAt, ArePlaced, NoneAbove, ViewStage, stages_of, GoneElsewhere, AreWaiting, IsRunning, LeadsOn, StepsLeadOn}
+use Rattle.viewed_steps.specs.Sound.{HoldsAt, ArePlaced, NoneAbove, ViewStage, stages_of, GoneElsewhere, AreWaiting, IsRunning, LeadsAlong, StepsLeadAlong, LeadsOn, StepsLeadOn}
 use Rattle.viewed_steps.specs.Ready.{IsReady}
 use Rattle.viewed_steps.proofs.Beside.{IsOther}
 use Rattle.viewed_steps.proofs.Standing as standing
@@ -57,20 +57,24 @@ module _ (table : Table) (typed : TypedProgram) (effects : Effects) (input : Lis
     abbrev main_turn : Turn
     main_turn = standing.t table typed effects input ready state top older outer named p frames of_sub at_point
 
-    by_instruction : (i : Instruction) → p.instr ≡ i → LeadsOn table typed effects (turn main_turn i)
+    -- where it leads, and how the frames come from those before
+    abbrev Along : Outcome → Type 0
+    Along outcome = LeadsAlong table typed effects p.instr state.memory (record { stage = top; views = views }) (below ∷ more_frames) outcome
+
+    by_instruction : (i : Instruction) → p.instr ≡ i → Along (turn main_turn i)
     by_instruction Finish is = ends.ends_call table typed effects input ready state top below more_frames rest named p frames deep stages running awaiting of_sub at_point path views viewed_before kept scope holds placed_before above is
     by_instruction (Call n actuals result) is = calling.calls_it table typed effects input ready state top below more_frames rest named p frames deep stages running awaiting of_sub at_point path views viewed_before kept scope holds placed_before above n actuals result is
     by_instruction (Evaluate temporary e op) is = results.operand_step table typed effects input ready state top below more_frames rest named p frames deep stages running awaiting of_sub at_point path views viewed_before kept scope holds placed_before above temporary e op is
     by_instruction (Hold (More e last)) is = results.return_step table typed effects input ready state top below more_frames rest named p frames deep stages running awaiting of_sub at_point path views viewed_before kept scope holds placed_before above e last is
     by_instruction (EndScope y) is = scopes.ends_scope table typed effects input ready state top below more_frames rest named p frames deep stages running awaiting of_sub at_point path views viewed_before kept scope holds placed_before above y is
-    by_instruction i is = subst (λ z. LeadsOn table typed effects (turn main_turn z)) is
+    by_instruction i is = subst (λ z. Along (turn main_turn z)) is
         (each.goes_plainly table typed effects input ready state top below more_frames rest named p frames deep stages running awaiting of_sub at_point path views viewed_before kept scope holds placed_before above
         (λ x e. (let same = sym is ∙ e in cc)) (λ n actuals result e. (let same = sym is ∙ e in cc))
         (subst IsOther (sym is) tt) (subst (FillsNone s) (sym is) tt) (λ e. (let same = sym is ∙ e in cc)) (ap returns_value is))
 
-    pub main_step : LeadsOn table typed effects (step program input state)
+    pub main_step : Along (step program input state)
     main_step =
-        subst (LeadsOn table typed effects) (sym (standing.step_is table typed effects input ready state top older outer named p frames of_sub at_point))
+        subst Along (sym (standing.step_is table typed effects input ready state top older outer named p frames of_sub at_point))
         (by_instruction p.instr refl)
 
   -- ---- each step
@@ -82,7 +86,8 @@ module _ (table : Table) (typed : TypedProgram) (effects : Effects) (input : Lis
       → Kept s state.memory (waiting_in state)
       → (named : NamedSub) → IsNamedSub (flow_named table typed) top.frame.sub named → (p : NamedPoint) → IsAtPoint named.points top.frame.next p
       → InScope s state.memory top.depth p.scope → HoldsAt s top.depth views state.memory p → ArePlaced program (facts_of program effects top) views p.scope
-      → NoneAbove s top.depth state.memory → LeadsOn table typed effects (step program input state)
+      → NoneAbove s top.depth state.memory
+      → LeadsAlong table typed effects p.instr state.memory (record { stage = top; views = views }) older (step program input state)
   by_stages state top views [] (f ∷ []) is (frame, deep, none) running awaiting path seen_well kept named of_sub p at_point scope holds there above =
       packages.package_step table typed effects input ready state top named p (is ∙ ap (λ z. z ∷ []) (sym frame)) deep views running (subst (λ d. NoneAbove s d state.memory) deep above) of_sub at_point path
       (subst (λ d. Viewed (home s d) (is_observer s) (known_gone (home s d) (GoneElsewhere program effects [])) views (view_here s state) (facts_of program effects top)) deep seen_well) kept
@@ -97,7 +102,16 @@ module _ (table : Table) (typed : TypedProgram) (effects : Effects) (input : Lis
   by_stages state top views (below ∷ more) [] is stages running awaiting path seen_well kept named of_sub p at_point scope holds there above = absurd stages
   by_stages state top views (below ∷ more) (f ∷ []) is stages running awaiting path seen_well kept named of_sub p at_point scope holds there above = absurd stages.2
 
-  pub sound_step : StepsLeadOn table typed effects input
-  sound_step state sound =
+  pub sound_along : StepsLeadAlong table typed effects input
+  sound_along state sound =
       by_stages state sound.top sound.views sound.older state.frames refl sound.stages sound.running sound.awaited sound.path sound.viewed sound.kept sound.named sound.of_sub
       sound.point sound.at_point sound.scope sound.holds sound.placed sound.none_above
+
+  pub sound_step : StepsLeadOn table typed effects input
+  sound_step state sound = leads_on_there (step program input state) (sound_along state sound)
+    where
+      leads_on_there : (outcome : Outcome)
+          → LeadsAlong table typed effects sound.point.instr state.memory (record { stage = sound.top; views = sound.views }) sound.older outcome
+          → LeadsOn table typed effects outcome
+      leads_on_there (Goes next) leads = leads.0
+      leads_on_there (Ends how next) leads = leads
