@@ -8,3 +8,4 @@ pub mod Main
 -- with borrowers and observers
 pub mod Views
 pub mod ViewFacts
+pub mod ViewNulls

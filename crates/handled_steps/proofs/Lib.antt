@@ -24,3 +24,6 @@ pub mod Finishes
 -- steps and runs
 pub mod Steps
 pub mod Runs
+-- slots and greatest counts
+pub mod Greatest
+pub mod PeakSteps

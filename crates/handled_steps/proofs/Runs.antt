@@ -13,16 +13,20 @@ use Rattle.run_codes.specs.Flat.{Flat}
 use Rattle.run_codes.specs.Points.{Frame, Ran, sub_at, run_with, run_of, run_given, is_declaring, lowered_run}
 use Rattle.run_codes.specs.Points as points
 use Rattle.run_codes.specs.Programs.{Program, lowered_program}
+use Rattle.slot_heap.proofs.Greatest.{enough-none}
 use Rattle.numbered_cells.proofs.Numbering.{follows-none}
+use Rattle.numbered_cells.proofs.Peaks.{peaks-none}
 use Rattle.handled_runs.specs.Slots.{Slots}
 use Rattle.handled_runs.specs.Beside.{Beside}
 use Rattle.handled_runs.proofs.Places.{as_long}
 use Rattle.handled_steps.specs.States.{State, Outcome, Goes, Ends, Wants, Fails, frame_of, with_frame}
 use Rattle.handled_steps.specs.Alike.{FrameAlike, Paired, StatesAlike, OutcomesAlike, frame_kinds}
 use Rattle.handled_steps.specs.Looks.{HavePointers, LooksRun}
+use Rattle.handled_steps.specs.Greatest.{KeepsPeaks, EndsWithPeaks}
 use Rattle.handled_steps.specs.Runs.{no_memory, state_of, main_begun, state_at_start, RunsWithin, RunOf, ran_with, given, main_kinds, first_kinds}
 use Rattle.handled_steps.proofs.Frames.{frame_pushed}
 use Rattle.handled_steps.proofs.Steps.{within_alike}
+use Rattle.handled_steps.proofs.PeakSteps.{within_keeps}
 
 -- ---- the start
 
@@ -139,3 +143,19 @@ lowered_alike program p input n r q lowered pointers looks so e =
     given_same program.table [] [] (run_of program.table p (is_declaring program) (machine.sub_of program (main_of program.main)).pos (main_of program.main) input n) r q
     (run_alike program.table p pointers (is_declaring program) (machine.sub_of program (main_of program.main)).pos (main_of program.main) input n [] r looks so)
     (sym (ap (option_and_then (λ (x : Program). run_given (run_of program.table x (is_declaring program) (machine.sub_of program (main_of program.main)).pos (main_of program.main) input n))) lowered) ∙ e)
+
+-- As a run ends, its slots number the greatest counts of live cells.
+pub run_keeps : (table : Table) (program : Program) (declares : Bool) (at : Pos) (main : ℕ) (input : List ℕ) (n : ℕ) (r : Outcome) → RunOf table program declares at main input n r → EndsWithPeaks r
+run_keeps table program declares at main input n r so = by (nat_le ((sub_at program main).words + (sub_at program 0).words) stack_words) so
+  where
+    main_keeps : (x : Option ℕ) → KeepsPeaks (main_begun table program (with_frame table (sub_at program 0) no_memory) (frame_of no_memory (sub_at program 0) []) x).memory
+    main_keeps None = (enough-none, peaks-none)
+    main_keeps (Some x) = (enough-none, peaks-none)
+
+    start_keeps : (b : Bool) → KeepsPeaks (state_at_start table program b).memory
+    start_keeps true = (enough-none, peaks-none)
+    start_keeps false = main_keeps program.main
+
+    by : (b : Bool) → RunsWithin b table program declares at input n r → EndsWithPeaks r
+    by true so = within_keeps table program input n (state_at_start table program declares) r (start_keeps declares) so
+    by false so = subst EndsWithPeaks (sym so) (start_keeps declares).1

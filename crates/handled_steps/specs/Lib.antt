@@ -8,3 +8,5 @@ pub mod Alike
 pub mod Looks
 -- runs from their start
 pub mod Runs
+-- slots and greatest counts
+pub mod Greatest

@@ -201,6 +201,12 @@ module _ (t : Turn) (n : Memory) (agrees : Agrees t.state.memory n) where
             declared_only (typing t) m only (length t.outer) x b.low,
           )
 
+  -- a scope ends
+  pub end_scope_same : OnlyOwners (typing t) t.state.memory → (x : ℕ) → SameStep t (end_scope t x) (end_scope (twin t n) x)
+  end_scope_same only x =
+      leaks_same t n agrees t.point.pos (variable_place (here t) x) t.state.memory n (undeclared (length t.outer) x t.state.memory) (undeclared (length t.outer) x n) agrees
+      (undeclared_agree (length t.outer) x t.state.memory n agrees) (undeclared_only (typing t) t.state.memory only (length t.outer) x)
+
 -- ---- each instruction
 
 module _ (t : Turn) (settled : IsSettled (typing t).table) (own_law : OwnsByShape (typing t).table) (asks : Premises (here t))
@@ -272,16 +278,23 @@ module _ (t : Turn) (settled : IsSettled (typing t).table) (own_law : OwnsByShap
   first_same on u NoMore owner own gives calls takes compares allowed keep = (refl, at_start)
   first_same on u v owner own gives calls takes compares allowed keep = absurd gives
 
+  -- a declaration, by its first value
+  pub declared_by : (x : ℕ) (v : TypedTree)
+      → SameTo (typing t) (first_value t (object_at (typing t) x).of v (record { memory = t.state.memory; waits = (start t).waits }))
+      (first_value t (object_at (typing t) x).of v (start (twin t n)))
+      → Step (declare t x v) (declare (twin t n) x v)
+  declared_by x v same =
+      step_simply t n agrees (first_value t (object_at (typing t) x).of v at) (first_value t (object_at (typing t) x).of v (start (twin t n)))
+      (λ ws m. goes t (declared depth x ws m) 0) (λ ws m. goes (twin t n) (declared depth x ws m) 0) same
+      (λ ws i j now. goes_same t n agrees (declared depth x ws i.memory) (declared depth x ws j.memory) 0
+      (declared_agree depth x ws i.memory j.memory now.0) (declared_only (typing t) i.memory now.2 depth x ws))
+
   pub declare_on : (on : List (List machine.Word)) (x : ℕ) (v : TypedTree) → is_anonymous (full (typing t).table (object_at (typing t) x).of) ≡ false
       → asks.takes (object_at (typing t) x).of → FirstSource (typing t) (object_at (typing t) x).of v → asks.calls (has_call v)
       → Takes (waits_in v) (start t).waits on → Compares (typing t) v → AllowsAll facts (acts (acts_in (typing t) v))
       → asks.keeps (acts (acts_in (typing t) v)) → Step (declare t x v) (declare (twin t n) x v)
   declare_on on x v owner own gives calls takes compares allowed keep =
-      step_simply t n agrees (first_value t (object_at (typing t) x).of v at) (first_value t (object_at (typing t) x).of v (start (twin t n)))
-      (λ ws m. goes t (declared depth x ws m) 0) (λ ws m. goes (twin t n) (declared depth x ws m) 0)
-      (first_same on (object_at (typing t) x).of v owner own gives calls takes compares allowed keep)
-      (λ ws i j now. goes_same t n agrees (declared depth x ws i.memory) (declared depth x ws j.memory) 0
-      (declared_agree depth x ws i.memory j.memory now.0) (declared_only (typing t) i.memory now.2 depth x ws))
+      declared_by x v (first_same on (object_at (typing t) x).of v owner own gives calls takes compares allowed keep)
 
   -- ---- assignments
 
@@ -339,13 +352,6 @@ module _ (t : Turn) (settled : IsSettled (typing t).table) (own_law : OwnsByShap
       (taken_by t u e at) (taken_by t u e (start (twin t n))) placed placed (source_given mid u e owner own gives calls takes each.0 keep)
       (source_same mid u e owner own gives calls takes compares' each.0 keep)
       (λ ws i j given now. then_placed mid on p x u path lead takes' calls' compares (after a facts) each.1 ws i j given now))
-
-  -- ---- scopes
-
-  pub end_scope_same : (x : ℕ) → Step (end_scope t x) (end_scope (twin t n) x)
-  end_scope_same x =
-      leaks_same t n agrees t.point.pos (variable_place h x) t.state.memory n (undeclared depth x t.state.memory) (undeclared depth x n) agrees
-      (undeclared_agree depth x t.state.memory n agrees) (undeclared_only (typing t) t.state.memory only depth x)
 
   -- ---- a release
 

@@ -10,6 +10,7 @@ pub mod Scalars
 pub mod Evaluated
 pub mod Instructions
 pub mod Calls
+pub mod Direct
 -- programs without borrowers and observers
 pub mod Plain
 -- typed programs

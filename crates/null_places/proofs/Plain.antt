@@ -1,21 +1,19 @@
 -- Names and expressions in programs without borrowers and observers: how a name leads, and what its
 -- place has.
-use Rattle.std.proofs.Common.{◌≡◌, refl, sym, ap, ◌∙◌, subst, inl, inr, ℕ, Bool, true, false, ◌||◌, List, [], ◌∷◌, ◌++◌}
+use Rattle.std.proofs.Common.{◌≡◌, refl, sym, ap, ◌∙◌, subst, inl, inr, ℕ, Bool, true, false, ◌||◌, List, []}
 use Rattle.place_names.specs.declared.act.Act.TheVariants as act
 use Rattle.place_names.specs.declared.act.Mode.{Mode}
 use Rattle.place_names.specs.declared.fact.Fact.{Fact}
 use Rattle.place_names.specs.declared.fact.Fact.TheVariants.{Moved}
 use Rattle.place_names.specs.declared.rule.Rule.TheVariants.{O2}
 use Rattle.place_names.specs.declared.rule.State.TheVariants as state
-use Rattle.place_names.specs.declared.selector.Sel.{Sel}
-use Rattle.place_names.specs.declared.selector.Sel.TheVariants as sel
 use Rattle.place_names.specs.Names.{Name as PlaceName, leads_to}
 use Rattle.place_names.specs.Rules.{Forbidden}
 use Rattle.type_definitions.specs.declared.table.Shape.TheVariants as shape
 use Rattle.type_definitions.specs.Types.{shape_of, parts}
-use Rattle.typed_tree.specs.Trees.{TypedTree, Component as IntoComponent, Designated, Element}
+use Rattle.typed_tree.specs.Trees.{TypedTree}
 use Rattle.flow_paths.specs.Objects.{object_at}
-use Rattle.flow_paths.specs.Names.{waiting, name_of, selectors}
+use Rattle.flow_paths.specs.Names.{waiting, name_of}
 use Rattle.flow_paths.specs.Acts.{acts_in}
 use Rattle.machine.specs.Words as machine
 use Rattle.machine.specs.Memory.{Memory, Place, slots_of}
@@ -48,6 +46,7 @@ use Rattle.null_places.proofs.Memories.{NoneGone}
 use Rattle.null_places.proofs.Only.{OnlyOwners}
 use Rattle.null_places.proofs.Places.{IsWhole, spot_whole, access_whole, unmoved_whole}
 use Rattle.null_places.proofs.Walks.{SameNow, SameTo, walk_same}
+use Rattle.null_places.proofs.Direct.{has_deref, past_deref, selectors_direct}
 use Rattle.null_places.proofs.Laws.{Found, Premises, IsAt, IsWholeAt, LeadsSame, LeadsWhole, Behaves, GivenBy, Values}
 
 -- a comparison with null keeps what it names from being moved
@@ -55,40 +54,6 @@ look_clean : (at_home : ℕ → ℕ) (facts : List Fact) (w : Way) → Allows fa
 look_clean at_home facts w allowed h =
     test_fails Forbidden (record { rule = O2; name = ways.name_of w; word = state.Moved }) (leads_to (ways.name_of w) (ways.name_of w) || false)
     (either_left (leads_to (ways.name_of w) (ways.name_of w)) false (under_leads w w (under_itself w))) (allowed (Moved (ways.name_of w)) h.1)
-
--- ---- names that go through no access value
-
-abbrev has_deref : List Sel → Bool
-has_deref [] = false
-has_deref (sel.Deref ∷ rest) = true
-has_deref (sel.Field i ∷ rest) = has_deref rest
-has_deref (sel.Elem ∷ rest) = has_deref rest
-
-deref_front : (a b : List Sel) → has_deref a ≡ true → has_deref (a ++ b) ≡ true
-deref_front [] b e = cc
-deref_front (sel.Deref ∷ a) b e = refl
-deref_front (sel.Field i ∷ a) b e = deref_front a b e
-deref_front (sel.Elem ∷ a) b e = deref_front a b e
-
-deref_end : (a : List Sel) → has_deref (a ++ sel.Deref ∷ []) ≡ true
-deref_end [] = refl
-deref_end (sel.Deref ∷ a) = refl
-deref_end (sel.Field i ∷ a) = deref_end a
-deref_end (sel.Elem ∷ a) = deref_end a
-
--- what is past a number goes through it
-past_deref : (v w : Way) → Past v w → has_deref (ways.sels_of w) ≡ true
-past_deref v (Object r) past = absurd past
-past_deref v (ways.Lost n) past = absurd past
-past_deref v (ways.Into w i) past = deref_front (ways.sels_of w) (ways.sel_of i ∷ []) (past_deref v w past)
-past_deref v (ways.All w) past = deref_end (ways.sels_of w)
-
-selectors_direct : (path : TypedTree) → goes_through_none path ≡ true → has_deref (selectors path) ≡ false
-unfolding goes_through_none selectors
-selectors_direct (IntoComponent i rest) direct = selectors_direct rest direct
-selectors_direct (Designated rest) direct = cc
-selectors_direct (Element index low high rest) direct = selectors_direct rest direct
-selectors_direct path direct = refl
 
 -- ---- what is asked of the text
 

@@ -222,7 +222,7 @@ module _ (table : Table) (typed : TypedProgram) (effects : Effects) (input : Lis
     each_same (LeaveLoop e) calls going hold text takes plainly compares allowed_there = leaves e text takes plainly compares allowed_there
     each_same (Hold v) calls going hold text takes plainly compares allowed_there = hold v refl
     each_same (EndScope x) calls going hold text takes plainly compares allowed_there =
-        end_scope_same t ready.accepted.settled ready.owns asks ready_in laws facts so only n agrees x
+        end_scope_same t n agrees only x
     each_same Finish calls going hold text takes plainly compares allowed_there = absurd (going refl)
     each_same Fall calls going hold text takes plainly compares allowed_there =
         fall_same t ready.accepted.settled ready.owns asks ready_in laws facts so only n agrees

@@ -260,7 +260,7 @@ module _ (h : Here) (settled : IsSettled h.typing.table) (hands : List Waiting) 
   abbrev IsCopiedName : Mode → TypedTree → Type 0
   IsCopiedName m' e = is_in m' ≡ false → goes_through_none e ≡ true
 
-  one_given : (before on : List (List machine.Word)) (mode_of : Mode) (x : ℕ) (e : TypedTree) → IsActualBy h.typing mode_of e → IsCopiedName mode_of e → Takes (waits_in e) before on
+  pub one_given : (before on : List (List machine.Word)) (mode_of : Mode) (x : ℕ) (e : TypedTree) → IsActualBy h.typing mode_of e → IsCopiedName mode_of e → Takes (waits_in e) before on
       → AllowsAll facts (acts (head_acts h.typing own_law mode_of e)) → Quiet (at on) (λ a. IsGiven mode_of e a) (passed h (way_by h.typing own_law mode_of) x e (at before))
   one_given before on mode.In x e actual copied takes allowed = value_is on e (passed h ByValue x e (at before)) (value_given before on x e actual takes allowed)
   one_given before on mode.Out x e actual copied takes allowed =
@@ -295,7 +295,7 @@ module _ (h : Here) (settled : IsSettled h.typing.table) (hands : List Waiting) 
       (λ more are. (refl, (is, are))))
   all_given before on (x ∷ formals) actuals stay copied takes allowed = ((ap at takes), refl)
 
-  given_laid : (mode_of : Mode) (e : TypedTree) (a : Passed) → IsGiven mode_of e a → IsLaid h.typing a
+  pub given_laid : (mode_of : Mode) (e : TypedTree) (a : Passed) → IsGiven mode_of e a → IsLaid h.typing a
   given_laid mode.In e (Value ws) is = is
   given_laid mode.In e (From k) is = absurd is
   given_laid mode.In e (To k) is = absurd is
