@@ -461,7 +461,7 @@ module _ (table : Table) (typed : TypedProgram) (effects : Effects) (input : Lis
           called_then actuals None calls called = (let never : true ≡ false = sym (ap is_some sub_result) ∙ called.answers in cc)
           called_then actuals (Some t) calls called = cc
 
-      named_result : IsNamed s.table of
+      pub named_result : IsNamed s.table of
       named_result = scalar_named s.table of plain_result
 
       acts_then : acts_of_main p.instr ≡ acts (acts_in s e)
