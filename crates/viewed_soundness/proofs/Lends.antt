@@ -235,7 +235,7 @@ module _ (t : Turn) (settled : IsSettled (typing t).table) (own_law : OwnsByShap
   one_word : (x y u d : ℕ) (path : TypedTree) → Observes x y u d path → words s.table (object_at s x).of ≡ 1
   one_word x y u d path observes = settled.word_law (object_at s x).of ∙ ap (shape_words (words s.table)) observes.view
 
-  borrow_gets : (x y u d : ℕ) (path : TypedTree) (facts : List Fact) → Observes x y u d path → Good v facts t.state → Unused v facts x
+  borrow_gets : (x y u d : ℕ) (path : TypedTree) (facts : List Fact) → Observes x y u d path → Good v facts t.state → Unused other.lent v facts x
       → is_observer s x ≡ false → is_observer s y ≡ false → y < x → may x y → Allows facts (act.Borrow x (name_of y path))
       → Gets x y d (name_of y path) (effect (act.Borrow x (name_of y path)) facts)
   borrow_gets x y u d path facts observes good unused borrows plain older mine allowed w z named called is typed lifted =
@@ -331,7 +331,7 @@ module _ (t : Turn) (settled : IsSettled (typing t).table) (own_law : OwnsByShap
 
   -- A borrower is declared. Its source is an older object, or is rooted in one.
   pub borrower_on : (ws : List (List machine.Word)) (x y u d : ℕ) (p : Pos) (path rest : TypedTree) → Observes x y u d path → is_borrower s x ≡ true → is_observer s x ≡ false
-      → is_observer s y ≡ false → y < x → may x y → Takes (waits_in path) ws [] → (facts : List Fact) (good : Good v facts t.state) → Unused v facts x
+      → is_observer s y ≡ false → y < x → may x y → Takes (waits_in path) ws [] → (facts : List Fact) (good : Good v facts t.state) → Unused other.lent v facts x
       → AllowsAll facts (acts (declared_acts s x (More (Name p y path u) rest)))
       → Leads_here (after (acts (declared_acts s x (More (Name p y path u) rest))) facts) (Declares ws x (More (Name p y path u) rest))
   borrower_on ws x y u d p path rest observes is borrows plain older from takes facts good unused allowed =
@@ -385,7 +385,7 @@ module _ (t : Turn) (settled : IsSettled (typing t).table) (own_law : OwnsByShap
           let got = view_emptied s settled depth other v views m hands t.state.leaks facts good.viewed good.kept good.holds x z observes.mine observes.anonymous
           (one_word x y u d path observes) (of_type x y u d path observes z typed) (effect a facts) w w w (becomes_with v x (way_from z w) w w (number_in z)) null
           (lent.observer_unused (home s depth) (is_observer s) other v views (seen s m hands t.state.leaks) facts good.viewed x sees)
-          (λ n has. kept_fact a facts (Moved n) has refl) (λ seen q n. loan_kept a facts (λ l h k. refl) seen q n)
+          (λ n has. kept_fact a facts (Moved n) has refl) (loan_kept a facts (λ l h k. refl))
           (clear_same (is_observer s) facts good.viewed.clear a refl) in
           (views, (got.sound, got.words_kept, got.views_held, taken_none views x z w w w (effect a facts) (becomes_with v x (way_from z w) w w (number_in z)) null))
 
@@ -510,7 +510,7 @@ module _ (t : Turn) (settled : IsSettled (typing t).table) (own_law : OwnsByShap
           let got = view_emptied s settled depth other v views m hands t.state.leaks facts good.viewed good.kept good.holds x z observes.mine observes.anonymous
           (one_word x x u d path observes) (of_type x x u d path observes z typed) (effect a facts) w w w (becomes_with v x (way_from z w) w w (number_in z)) null
           (lent.reborrow_unused (home s depth) (is_observer s) other v views (seen s m hands t.state.leaks) facts good.viewed x (name_of x path) allowed)
-          (λ n has. kept_fact a facts (Moved n) has refl) (λ seen q n. loan_kept a facts (λ l h k. refl) seen q n)
+          (λ n has. kept_fact a facts (Moved n) has refl) (loan_kept a facts (λ l h k. refl))
           (clear_same (is_observer s) facts good.viewed.clear a refl) in
           (views, (got.sound, got.words_kept, got.views_held, taken_none views x z w w w (effect a facts) (becomes_with v x (way_from z w) w w (number_in z)) null))
 

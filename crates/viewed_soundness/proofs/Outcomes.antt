@@ -36,6 +36,7 @@ use Rattle.owned_loans.proofs.Clear.{refused}
 use Rattle.viewed_soundness.proofs.Moments.{ended_viewed}
 use Rattle.spark_base.specs.Lists.{Has}
 use Rattle.place_names.specs.declared.fact.Fact.TheVariants.{Moved, Lent}
+use Rattle.place_names.specs.declared.rule.Loan.{Loan}
 use Rattle.place_names.specs.declared.rule.Loan.TheVariants.{Observed}
 use Rattle.place_names.specs.declared.rule.Rule.TheVariants.{O8}
 use Rattle.place_names.specs.Rules.{breaks_O8}
@@ -296,7 +297,8 @@ module _ (t : Turn) (settled : IsSettled (typing t).table) (own_law : OwnsByShap
   pub record LeavesOthers (views : Views) (x : ℕ) (facts : List Fact) : Type 0 where
     pub no_value : views.way x ≡ None
     pub roots : (y : ℕ) (w : Way) → views.way y ≡ Some w → number_of w ≡ x → ⊥
-    pub loans : (y : ℕ) (w : Way) → views.way y ≡ Some w → is_observer s y ≡ true → HasLoan true y facts (ways.name_of (views.loan y))
+    pub loans : (y : ℕ) (w : Way) → views.way y ≡ Some w → is_observer s y ≡ true → HasLoan (is_observer s) true y facts (ways.name_of (views.loan y))
+    pub unlent : (l : Loan) (n : PlaceName) → other.lent l n → n.root ≡ x → ⊥
 
   -- What is left when a scope ends, with the memory then.
   abbrev pub Is_left : Views → ℕ → List Fact → Outcome → Type 0
@@ -328,7 +330,7 @@ module _ (t : Turn) (settled : IsSettled (typing t).table) (own_law : OwnsByShap
       (all_checks s t.point.pos m (run.variable_place (here t) x))
       (subst (λ f. Viewed (home s depth) (is_observer s) other views (seen s (undeclared f x m) hands (t.state.leaks ++ leaks)) (effect (act.EndScope x borrower) facts)) mine
       (ended_viewed s settled (home s depth) (is_observer s) other views m hands t.state.leaks (t.state.leaks ++ leaks) facts x borrower viewed checks
-      (record { none = leaves.no_value; roots = leaves.roots; loans = leaves.loans })))
+      (record { none = leaves.no_value; roots = leaves.roots; loans = leaves.loans; unlent = leaves.unlent })))
       (removed_kept s settled m depth x hands kept)
 
 -- what a borrower's end asks of facts

@@ -31,7 +31,7 @@ use Rattle.soundness.proofs.Taking.{Takes, no_takes}
 use Rattle.owned_loans.specs.Views.{Around, Down, Views, expand, ExcusedBy, Viewed}
 use Rattle.owned_loans.proofs.Ways.{Lifted, next_of, further, lifted_root}
 use Rattle.owned_loans.proofs.Meeting.{next}
-use Rattle.owned_loans.proofs.Safe.{clean_below, seen_below}
+use Rattle.owned_loans.proofs.Others.{clean_away, seen_away_below}
 use Rattle.owned_loans.proofs.Allowed.{Cleared, cleared_open}
 use Rattle.owned_loans.proofs.Moves.{named_way}
 use Rattle.viewed_soundness.specs.Holds.{IsNamed, PartsAreNamed, Holds}
@@ -100,11 +100,11 @@ module _ (h : Here) (settled : IsSettled h.typing.table) (hands : List Waiting) 
     where
       by_kind : (b : Bool) → is_observer s x ≡ b → ⊥
       by_kind false e =
-          clean_below (home s h.frame) (is_observer s) v view_here facts viewed.views viewed.clear u (expand v u) (named, ap (is_observer s) root ∙ e)
+          clean_away (home s h.frame) (is_observer s) other v view_here facts viewed u (expand v u) (named, ap (is_observer s) root ∙ e)
           (clears e).0 (clears e).1 (under_itself (expand v u)) moved
       by_kind true e =
           let l = lifted e in
-          seen_below (home s h.frame) (is_observer s) v view_here facts viewed.views viewed.clear u (expand v u) l named
+          seen_away_below (home s h.frame) (is_observer s) other v view_here facts viewed u (expand v u) l named
           (ap (is_observer s) (sym (lifted_root v u l) ∙ root) ∙ e) (under_itself (expand v u)) moved
 
   -- a name of a named access type

@@ -39,7 +39,7 @@ use Rattle.soundness.proofs.Waited.{plain_more}
 use Rattle.soundness.proofs.Used.{returns_whole}
 use Rattle.soundness.proofs.Around.{same_or_not}
 use Rattle.soundness.proofs.Returning.{returned_kept, left_same, left_held, returns_lead, ends_lead, left_waits, ended_owned}
-use Rattle.owned_loans.specs.Views.{known_gone, Views, IsMovedBy, Viewed}
+use Rattle.owned_loans.specs.Views.{known_gone, Views, IsMovedBy, Viewed, ExcusedBy}
 use Rattle.owned_loans.proofs.Moves.{view_on, same_viewed}
 use Rattle.owned_loans.proofs.Ended.{stands_itself}
 use Rattle.viewed_soundness.proofs.Names.{true_false}
@@ -288,13 +288,14 @@ module _ (table : Table) (typed : TypedProgram) (effects : Effects) (input : Lis
 
       -- what is gone is known to those that are left
       known_left : (w : Way) (l : ways.Loc) → ways.IsRooted w → ways.Reaches left_view w l → left_view.word l ≡ ways.Gone
-          → IsMovedBy (home s low) below.views (facts_of program effects below.stage) w ⊎ GoneElsewhere program effects (h ∷ others) w
+          → ExcusedBy (home s low) below.views (known_gone (home s low) (GoneElsewhere program effects (h ∷ others))) (facts_of program effects below.stage) w
       known_left w l rooted r gone =
           elim (well_mid.known w l rooted (reach_before s mid depth (waiting_in state) state.leaks nothing_mid w l r)
           (gone_before s mid depth (waiting_in state) state.leaks nothing_mid l gone)) [
-            | inr (g, inl same_stage, what) ↦ inl (subst (λ (z : ViewStage). IsMovedBy (home s z.stage.depth) z.views (facts_of program effects z.stage) w) (sym same_stage) what)
+            | inl (inr none) ↦ absurd none
+            | inr (g, inl same_stage, what) ↦ inl (inl (subst (λ (z : ViewStage). IsMovedBy (home s z.stage.depth) z.views (facts_of program effects z.stage) w) (sym same_stage) what))
             | inr (g, inr has, what) ↦ inr (g, has, what)
-            | inl (u, moved, leads) ↦ absurd (
+            | inl (inl (u, moved, leads)) ↦ absurd (
                 let same_way : u ≡ w =
                 sym (stands_itself (home s depth) (is_observer s) (known_gone (home s depth) (λ z. ⊥)) views u moved.0 (no_view_left is (number_of u))) ∙ leads in
                 elim (bool_cases (is_package_object s (number_of u))) [
@@ -315,6 +316,7 @@ module _ (table : Table) (typed : TypedProgram) (effects : Effects) (input : Lis
             view_on (home s low) (is_observer s) (known_gone (home s low) (λ z. ⊥)) below.views (view_here s mid_state) left_view
             (facts_of program effects below.stage) (facts_of program effects below.stage) x w (waits.views x w has) (λ b n loan. loan)
             (reach_left s mid depth (waiting_in state) state.leaks nothing_mid w (ways.OfCell (below.views.cell x)) (waits.views x w has).reaches);
+        lends = λ l n none. absurd none;
         far = λ w n none. absurd none;
       }
 

@@ -10,6 +10,7 @@ use Rattle.place_names.specs.declared.act.Act.TheVariants as act
 use Rattle.place_names.specs.declared.act.Placed.{Placed}
 use Rattle.place_names.specs.declared.fact.Fact.{Fact}
 use Rattle.place_names.specs.declared.fact.Fact.TheVariants.{Moved, Lent}
+use Rattle.place_names.specs.declared.rule.Loan.{Loan}
 use Rattle.place_names.specs.declared.rule.Loan.TheVariants.{Observed}
 use Rattle.place_names.specs.Names.{Name as PlaceName}
 use Rattle.type_definitions.specs.Types.{Table, is_scalar, full}
@@ -19,7 +20,7 @@ use Rattle.flow_paths.specs.declared.report.Effects.{Effects}
 use Rattle.flow_paths.specs.Instructions.{Instruction, Call, EndScope}
 use Rattle.flow_paths.specs.Objects.{Typing, Signature, object_at, sub_at, is_anonymous, is_package_object, is_observer, view_of, traverses, passings, Passing}
 use Rattle.flow_paths.specs.Acts as flow
-use Rattle.flow_paths.specs.Points.{NamedPoint, FlowPoint}
+use Rattle.flow_paths.specs.Points.{NamedPoint}
 use Rattle.flow_paths.specs.Laid.{FlowSub, FlowProgram, NamedSub, flow_sub, typing_of, flow_typing, flow_program, flow_named}
 use Rattle.flow_paths.specs.Paths.{PathPoint, is_some_point, ControlPath, begins, goes_on, facts_before}
 use Rattle.flow_paths.specs.Effects.{flow_sub_at, path_points, globals_of, called_acts}
@@ -43,7 +44,7 @@ use Rattle.soundness.proofs.Numbers.{index_law}
 use Rattle.soundness.proofs.Lasting.{keeps}
 use Rattle.soundness.proofs.Passing.{way_of, AreReads, reads_keep, values_read, AreLaid, returns_copied, entered, TakesAll, takes_each, call_on, signature_is, passed_by, call_adds}
 use Rattle.soundness.proofs.Scalars.{acts, acts_append, after_append, allows_both}
-use Rattle.soundness.proofs.Points.{sub_in_range, point_there, path_there}
+use Rattle.soundness.proofs.Points.{sub_in_range, path_there}
 use Rattle.soundness.proofs.Inherited.{AreGlobal, global_after, global_allowed, global_apart}
 use Rattle.soundness.proofs.Used.{called_used, used_global, called_are, globals_are, added_after}
 use Rattle.soundness.proofs.Around.{IsFar}
@@ -61,7 +62,7 @@ use Rattle.viewed_soundness.proofs.Evaluated.{live_trunk}
 use Rattle.viewed_soundness.proofs.Outcomes.{named_plain}
 use Rattle.viewed_steps.proofs.Read.{scalar_named}
 use Rattle.soundness.specs.Ready.{IsCalled, IsSupplied, Fills}
-use Rattle.viewed_steps.specs.Sound.{HoldsAt, ArePlaced, NoneAbove, ViewStage, stages_of, GoneElsewhere, LendOwn, IsWaiting, AreWaiting, calls_one, LeadsAlong}
+use Rattle.viewed_steps.specs.Sound.{HoldsAt, ArePlaced, NoneAbove, ViewStage, stages_of, GoneElsewhere, Disturbs, IsWaiting, AreWaiting, calls_one, LeadsAlong}
 use Rattle.viewed_steps.specs.Ready.{IsReady}
 use Rattle.viewed_steps.proofs.Lent.{Spare, spare_both, loans_stay}
 use Rattle.viewed_steps.proofs.Placed.{lasts_more, scope_on, placed_on}
@@ -69,6 +70,7 @@ use Rattle.viewed_steps.proofs.Ended.{none_some}
 use Rattle.viewed_steps.proofs.Waiting.{StandsBetween, beside_them, handed, all_on}
 use Rattle.viewed_steps.proofs.Called.{AreGiven, all_given, all_laid as all_laid_out, all_acted, spare_reads, spare_copies, Enters, all_entered}
 use Rattle.viewed_steps.proofs.Standing.{or_right}
+use Rattle.viewed_steps.proofs.Uses.{called_writes, lent_spared}
 use Rattle.viewed_steps.proofs.Standing as standing
 use Rattle.viewed_steps.proofs.Packages as packages
 use Rattle.viewed_steps.proofs.Innermost as innermost
@@ -394,13 +396,12 @@ module _ (table : Table) (typed : TypedProgram) (effects : Effects) (input : Lis
       callee_less : n < length program.subs
       callee_less = sub_in_range table typed n called.runs.named called.runs.stands
 
-      own_there : LendOwn s (facts_of program effects waits_stage)
-      own_there =
-          subst (λ (z : FlowSub). LendOwn s (facts_before (path_points program effects z) (top.frame.next ∷ top.before)))
-          (sym (standing.sub_is table typed effects input ready state top older outer named p frames of_sub at_point))
-          (ready.spared (flow_sub own named) (standing.in_program table typed effects input ready state top older outer named p frames of_sub at_point) top.before top.frame.next
-          (standing.path_here table typed effects input ready state top older outer named p frames of_sub at_point path) n actuals result
-          (ap (λ (q : FlowPoint). q.instr) (point_there own named top.frame.next p at_point) ∙ e))
+      -- nor is it disturbed where a part is lent
+      lends_there : (l : Loan) (h : ℕ) (name : PlaceName) → Has (facts_of program effects waits_stage) (Lent l h name) → is_package_object s name.root ≡ true
+          → Disturbs effects l n name.root → ⊥
+      lends_there l h name has shared disturbs =
+          lent_spared program effects ready.accepted.effects_are n called.text_io facts_called each_allowed.1 l h name
+          (subst (λ z. Has z (Lent l h name)) facts_there has) shared disturbs
 
       at_successor : (q : NamedPoint) × IsAtPoint named.points call_point.0 q × Leads s (scope_behind p) q.scope
       at_successor = standing.next_at table typed effects input ready state top older outer named p frames of_sub at_point path call_point.0 call_point.2
@@ -426,7 +427,7 @@ module _ (table : Table) (typed : TypedProgram) (effects : Effects) (input : Lis
             up = lasts_more program left_scope (scope_behind p) (ways.number_of (views.up x)) x more own_place.up;
             root = lasts_more program left_scope (scope_behind p) (ways.number_of w) x more own_place.root;
             holder = λ sees. (let h = own_place.holder sees in
-                (h.0, loans_called h.0 (ways.name_of (views.loan x)) h.1, lasts_more program left_scope (scope_behind p) h.0 x more h.2));
+                (h.0, loans_called h.0 (ways.name_of (views.loan x)) h.1, lasts_more program left_scope (scope_behind p) h.0 x more h.2, h.3));
           }))
 
       -- ---- what waits, before the callee has returned
@@ -523,10 +524,12 @@ module _ (table : Table) (typed : TypedProgram) (effects : Effects) (input : Lis
             | inl less ↦ absurd (omega (arith, less, deep))
             | inr mine ↦ mine.1
           ];
-          lends = own_there;
+          lends = lends_there;
           unmoved = λ name has shared uses. spared_then name (subst (λ z. Has z (Moved name)) facts_there has) shared uses;
           uses = λ x uses. called_used program effects ready.accepted.effects_are top.frame.sub (flow_sub own named) sub_at_all sub_less n callee_less
               main_turn.point (standing.in_sub table typed effects input ready state top older outer named p frames of_sub at_point) actuals result e x uses;
+          writes = λ x written. called_writes program effects ready.accepted.effects_are top.frame.sub (flow_sub own named) sub_at_all sub_less n callee_less
+              main_turn.point (standing.in_sub table typed effects input ready state top older outer named p frames of_sub at_point) actuals result e x written;
           clear = subst (AreClear (is_observer s)) (sym facts_there) well_called.clear;
           views = subst (λ z. AreViews (home s top.depth) (is_observer s) views (view_here s after_call) z) (sym facts_there)
               (subst (λ d. AreViews (home s d) (is_observer s) views (view_here s after_call) facts_called) (sym deep) well_called.views);
@@ -552,7 +555,8 @@ module _ (table : Table) (typed : TypedProgram) (effects : Effects) (input : Lis
             → GoneElsewhere program effects (waits_there ∷ older) w
         known_called w l rooted r gone = elim (well_called.known w l rooted r gone) [
           | inr (g, has, what) ↦ (g, inr has, what)
-          | inl moved ↦ (
+          | inl (inr none) ↦ absurd none
+          | inl (inl moved) ↦ (
             waits_there,
             inl refl,
             subst (λ d. IsMovedBy (home s d) views (facts_of program effects waits_stage) w) (sym deep)
@@ -593,6 +597,7 @@ module _ (table : Table) (typed : TypedProgram) (effects : Effects) (input : Lis
                 owned = λ k has. absurd has;
               };
               views = λ x w has. absurd (none_some w has);
+              lends = λ l k none. absurd none;
               far = λ w k none. absurd none;
             };
             kept = subst (Kept s with_all) (sym hands_there) enters.typed;

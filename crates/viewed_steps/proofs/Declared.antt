@@ -4,6 +4,8 @@ use Rattle.spark_base.specs.Lists.{Has}
 use Rattle.place_names.specs.declared.act.Act.TheVariants as act
 use Rattle.place_names.specs.declared.fact.Fact.{Fact}
 use Rattle.place_names.specs.declared.fact.Fact.TheVariants.{Moved}
+use Rattle.place_names.specs.declared.rule.Loan.{Loan}
+use Rattle.place_names.specs.declared.rule.Loan.TheVariants.{Borrowed}
 use Rattle.place_names.specs.Names.{Name as PlaceName}
 use Rattle.type_definitions.specs.Types.{words, full}
 use Rattle.typed_tree.specs.Trees.{TypedTree, NoMore, More}
@@ -21,6 +23,8 @@ use Rattle.machine.specs.Step as steps
 use Rattle.machine.specs.Owners.{waiting_in, WellOwned}
 use Rattle.owned_ways.specs.Ways.{Step, Root, OfVariable, OfHand, Loc, OfRoot, OfCell, Inside, Way, Object, Lost, Into, All, Empty, View, Reaches, Under, Named, part, along, base_of, after, AllowsAll, number_of}
 use Rattle.owned_ways.specs.Ways as ways
+use Rattle.owned_ways.proofs.Named.{longer}
+use Rattle.owned_ways.proofs.Dropped.{named_base}
 use Rattle.owned_ways.proofs.Locations.{reaches_along, named_along as rooted_along}
 use Rattle.owned_ways.proofs.Assigned.{is_false}
 use Rattle.part_offsets.specs.Parts.{offset_in, is_leaf, IsSettled}
@@ -135,6 +139,7 @@ module _ (s : Typing) (settled : IsSettled s.table) (home : ℕ → ℕ) (observ
         covered = sound.covered;
         known = all_known home observer other v b facts sound.known;
         clear = viewed.clear;
+        lends = viewed.lends;
         views = λ y w has. (let view = viewed.views y w has in
             view_on home observer other v a b facts facts y w view (λ seen n loan. loan)
             (reaches_off home a b f x (λ l off. word_off s m (got ∷ rest) rest leaks f x got.words l off) w (OfCell (v.cell y))
@@ -150,6 +155,13 @@ stands_root v u = elim (lifts v u) [
   | inl e ↦ inl (ap number_of e)
   | inr l ↦ inr (l.object, l.way, l.has, ap number_of (lifted_way v u l) ∙ root_on l.way l.rest)
 ]
+
+base_frame : (f x g y : ℕ) → OfRoot (OfVariable f x) ≡ OfRoot (OfVariable g y) → f ≡ g
+base_frame f x g y e = cc
+
+along_base : (w : Way) (p : List Step) → base_of (along w p) ≡ base_of w
+along_base w [] = refl
+along_base w (i ∷ p) = along_base w p
 
 in_home : (home : ℕ → ℕ) (f x : ℕ) (p : List Step) → Named home (along (Object (OfVariable f x)) p) → f ≡ home x
 in_home home f x [] named = named
@@ -203,22 +215,30 @@ module _ (t : Turn) (settled : IsSettled (typing t).table) (own_law : OwnsByShap
   abbrev pub IsUnmoved : ℕ → List Fact → Type 0
   IsUnmoved x facts = (name : PlaceName) → Has facts (Moved name) → name.root ≡ x → depth ≡ home s depth x → ⊥
 
-  -- no view has a way from it
+  -- no view has a way from it, and no part of it is lent to others
   abbrev pub IsFree : ℕ → Type 0
-  IsFree x = (y : ℕ) (w : Way) → v.way y ≡ Some w → IsElsewhere (home s depth) depth x w
+  IsFree x =
+      ((y : ℕ) (w : Way) → v.way y ≡ Some w → IsElsewhere (home s depth) depth x w)
+      × ((l : Loan) (name : PlaceName) → other.lent l name → name.root ≡ x → depth ≡ home s depth x → ⊥)
 
   -- a part of it that is gone would be known as moved
   pub not_gone : (x : ℕ) (facts : List Fact) (z : View) → Viewed (home s depth) (is_observer s) other v z facts → IsUnmoved x facts → IsFree x
       → (p : List Step) → ExcusedBy (home s depth) v other facts (along (Object (OfVariable depth x)) p) → ⊥
   not_gone x facts z viewed unmoved free p (inr o) = alone (along (Object (OfVariable depth x)) p) (near_along depth (Object (OfVariable depth x)) p (inr refl)) o
-  not_gone x facts z viewed unmoved free p (inl (u, moved, leads)) =
+  not_gone x facts z viewed unmoved free p (inl (inr away)) =
+      let t = other.through (along (Object (OfVariable depth x)) p) away in
+      let same = longer t.0 (along (Object (OfVariable depth x)) p) t.2 in
+      let base = sym (named_base (home s depth) t.0 t.1) ∙ sym same.base ∙ along_base (Object (OfVariable depth x)) p in
+      let root : number_of t.0 ≡ x = sym same.root ∙ number_part (Object (OfVariable depth x)) p in
+      free.1 Borrowed (ways.name_of t.0) t.3 root (sym (base_frame (home s depth (number_of t.0)) (number_of t.0) depth x base) ∙ ap (home s depth) root)
+  not_gone x facts z viewed unmoved free p (inl (inl (u, moved, leads))) =
       let root : number_of (expand v u) ≡ x = ap number_of leads ∙ number_part (Object (OfVariable depth x)) p in
       let named : Named (home s depth) (along (Object (OfVariable depth x)) p) = subst (Named (home s depth)) leads
       (named_way (home s depth) (is_observer s) other v z facts viewed.views (suc (number_of u)) u (omega arith)
       (moved.0, viewed.clear.owned (ways.name_of u) moved.1)) in
       elim (stands_root v u) [
         | inl e ↦ unmoved (ways.name_of u) moved.1 (sym e ∙ root) (in_home (home s depth) depth x p named)
-        | inr (y, k, has, e) ↦ free y k has (sym (in_home (home s depth) depth x p named)) (sym e ∙ root)
+        | inr (y, k, has, e) ↦ free.0 y k has (sym (in_home (home s depth) depth x p named)) (sym e ∙ root)
       ]
 
   blank_after : (x : ℕ) (facts : List Fact) (ws : List machine.Word) (n : Now) → Given_here (object_at s x).of facts (Done ws n)
@@ -305,7 +325,7 @@ module _ (t : Turn) (settled : IsSettled (typing t).table) (own_law : OwnsByShap
       (unturned t settled own_law other alone no_formals v parts_named may frames none facts)
       (declared_viewed s settled (home s depth) (is_observer s) other v n.memory (record { of = (object_at s x).of; words = ws }) hands t.state.leaks facts depth x
       ready.viewed (λ h w under o. alone w (near_under depth (Object (OfHand h)) w under tt) o) ready.kept (blank_after x facts ws n (ready, long, same) faint new unmoved free) (no_formals x) long
-      (alike s.table settled (object_at s x).of (object_at s x).of (inl refl)) free apart)
+      (alike s.table settled (object_at s x).of (object_at s x).of (inl refl)) free.0 apart)
       (declared_kept s settled n.memory depth x (record { of = (object_at s x).of; words = ws }) hands ready.kept long (inl refl))
       (holds_beside n.memory x ws named ready.holds)
   then_declared well x facts named (Raises e n) given faint new unmoved free apart = (λ trap. trap, well n.memory)

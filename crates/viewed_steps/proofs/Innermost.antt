@@ -1,6 +1,6 @@
 -- The innermost frame of a run, beside those that wait: which acts its facts and theirs allow, where
 -- its variables own, and that the others wait still.
-use Rattle.std.proofs.Common.{◌≡◌, refl, sym, ap, ◌∙◌, subst, ◌⊎◌, inl, inr, ℕ, suc, ◌<◌, Bool, true, false, not, ◌&&◌, ◌||◌, ◌==◌, eq-eqb, List, [], ◌∷◌, ◌++◌, map, take, drop, length, get_or, arith, Some, None, if◌then◌else◌}
+use Rattle.std.proofs.Common.{◌≡◌, refl, sym, ap, ◌∙◌, subst, ◌⊎◌, inl, inr, ℕ, suc, ◌<◌, Bool, true, false, not, ◌&&◌, ◌||◌, ◌==◌, eq-eqb, List, [], ◌∷◌, ◌++◌, map, take, drop, length, get_or, arith, Some, None, if◌then◌else◌, Option}
 use Rattle.std.specs.Prelude.{is_some}
 use Rattle.spark_base.specs.Lists.{Has}
 use Rattle.spark_base.proofs.Lists.{Has-append_left, Has-append_cases, Has-map_from}
@@ -9,17 +9,18 @@ use Rattle.place_names.specs.declared.act.Placed.{Placed}
 use Rattle.place_names.specs.declared.fact.Fact.{Fact}
 use Rattle.place_names.specs.declared.fact.Fact.TheVariants.{Moved, Lent}
 use Rattle.place_names.specs.declared.rule.Loan.{Loan}
-use Rattle.place_names.specs.declared.rule.Loan.TheVariants.{Observed}
+use Rattle.place_names.specs.declared.rule.Loan.TheVariants.{Borrowed, Observed}
 use Rattle.place_names.specs.Names.{Name as PlaceName}
-use Rattle.type_definitions.specs.Types.{Table}
+use Rattle.type_definitions.specs.Types.{Table, full, is_scalar}
+use Rattle.typed_tree.specs.Trees.{TypedTree}
 use Rattle.typed_tree.specs.Programs.{TypedProgram}
 use Rattle.flow_paths.specs.declared.report.Effects.{Effects}
-use Rattle.flow_paths.specs.Instructions.{Instruction, EndScope}
-use Rattle.flow_paths.specs.Objects.{Typing, object_at, is_anonymous, is_package_object, is_variable, is_borrower, is_observer, is_borrowing, is_observing, has_scope_end, view_of}
+use Rattle.flow_paths.specs.Instructions.{Instruction, Call, EndScope}
+use Rattle.flow_paths.specs.Objects.{Typing, Signature, traverses, object_at, is_anonymous, is_package_object, is_variable, is_borrower, is_observer, is_borrowing, is_observing, has_scope_end, view_of}
 use Rattle.flow_paths.specs.Points.{NamedPoint, FlowPoint}
 use Rattle.flow_paths.specs.Laid.{FlowSub, FlowProgram, NamedSub, number_in, flow_sub, typing_of, flow_typing, flow_program, flow_named}
 use Rattle.flow_paths.specs.Paths.{ControlPath}
-use Rattle.flow_paths.specs.Effects.{act_reads, act_writes, flow_sub_at, path_points}
+use Rattle.flow_paths.specs.Effects.{act_reads, act_writes, flow_sub_at, path_points, written_by}
 use Rattle.place_names.specs.Rules.{forbids}
 use Rattle.flow_paths.specs.Scopes.{taken, scope_behind, is_within, is_last, is_ready}
 use Rattle.machine.specs.Words as machine
@@ -32,33 +33,35 @@ use Rattle.machine.specs.Typed.{successors}
 use Rattle.machine.specs.Owners.{WellOwned, waiting_in}
 use Rattle.owned_ways.specs.Ways.{Step, OfVariable, OfRoot, Way, Held, after, AllowsAll, number_of}
 use Rattle.owned_ways.specs.Ways as ways
-use Rattle.soundness.specs.Seen.{IsNear, is_view_formal, content, word_in, home}
+use Rattle.soundness.specs.Seen.{IsNear, content, word_in, home}
 use Rattle.soundness.specs.Typed.{Kept}
 use Rattle.soundness.specs.Sound.{Stage, facts_of, AreStages, Uses, IsRunnable, IsResting, AreAwaited, AreWaiting as AreWaitingValues, is_temporary_object, calls_procedures, returns_value, has_returned, awaited, InScope, IsNamedSub, IsAtPoint, view_of as view_here}
-use Rattle.soundness.specs.Ready.{stored_at, IsSupplied}
+use Rattle.soundness.specs.Ready.{stored_at, IsCalled, IsSupplied}
 use Rattle.soundness.proofs.Contents.{bool_cases, word_no}
 use Rattle.machine.specs.Run.{no_point}
-use Rattle.soundness.proofs.Points.{flow_at, point_there, sub_at_number, sub_in_range}
+use Rattle.soundness.proofs.Points.{flow_at, point_there, sub_there, sub_at_number, sub_in_range}
 use Rattle.soundness.proofs.Scoped.{MayHold, Inside}
 use Rattle.soundness.proofs.Inherited.{Splits, after_splits, allowed_beside}
 use Rattle.soundness.proofs.Used.{writes_used, reads_used, fact_added}
-use Rattle.soundness.proofs.Around.{IsFar, is_inherited, inherited_from}
+use Rattle.soundness.proofs.Around.{IsFar}
 use Rattle.soundness.proofs.Waits.{drop_none}
 use Rattle.soundness.proofs.Taking.{Takes, TakesPlainly}
 use Rattle.soundness.proofs.Waited.{Shares, shares, within_left, FillsNone, brought_count}
 use Rattle.soundness.proofs.Eased.{eased, takes_all}
 use Rattle.soundness.proofs.Raised.{raised_owned}
-use Rattle.soundness.proofs.Passing.{plain_type}
+use Rattle.soundness.proofs.Passing.{plain_type, signature_is}
 use Rattle.soundness.proofs.Steps.{no_leaf}
 use Rattle.owned_loans.specs.Views.{Around, known_gone, Views, Viewed}
 use Rattle.viewed_soundness.proofs.Names.{true_false}
 use Rattle.viewed_soundness.proofs.Outcomes.{named_plain}
-use Rattle.viewed_steps.specs.Sound.{HoldsAt, ArePlaced, NoneAbove, Lasts, ViewStage, stages_of, GoneElsewhere, AreWaiting, LeadsOn}
+use Rattle.viewed_steps.specs.Sound.{HoldsAt, ArePlaced, NoneAbove, Lasts, ViewStage, stages_of, GoneElsewhere, Disturbs, AreWaiting, LeadsOn}
 use Rattle.viewed_steps.specs.Ready.{AreOrderly, IsReady}
 use Rattle.viewed_steps.proofs.Lent.{ends, Spare, spare_has}
-use Rattle.viewed_steps.proofs.Inherited.{after_more, apart_act, lending_uses}
+use Rattle.viewed_steps.proofs.Inherited.{after_more, apart_act, lending_uses, apart_borrowed, apart_seen}
 use Rattle.viewed_steps.proofs.Beside.{OthersKept}
-use Rattle.viewed_steps.proofs.Waiting.{StandsBetween, all_between, KeptElsewhere, unused_there, around as concern, beside_them, handed, with_them, without_them, far, all_on}
+use Rattle.viewed_steps.proofs.Waiting.{StandsBetween, all_between, KeptElsewhere, LentElsewhere, unused_there, beside_them, handed, handed_cases, moved_handed, lent_handed, AreApart, with_them, without_them, far, all_on}
+use Rattle.viewed_steps.proofs.Uses.{writes_there, borrowing_writes, moving_writes}
+use Rattle.viewed_steps.proofs.Apart.{spared_there, written_disturbs, moved_apart, seen_apart}
 use Rattle.viewed_steps.proofs.Eased.{eased_viewed}
 use Rattle.viewed_steps.proofs.Placed.{view_ends}
 use Rattle.viewed_steps.proofs.Read.{scalar_named}
@@ -69,9 +72,6 @@ use Rattle.viewed_steps.proofs.Packages as packages
 unless : (b : Bool) → (b ≡ true → ⊥) → b ≡ false
 unless true e = absurd (e refl)
 unless false e = refl
-
-moved_same : (name other : PlaceName) → Moved name ≡ Moved other → name ≡ other
-moved_same name other e = cc
 
 borrower_anonymous : (s : Typing) (x : ℕ) → is_borrower s x ≡ true → is_anonymous (view_of s x) ≡ true
 borrower_anonymous s x e = either_view (is_variable (object_at s x).kind) (is_borrowing (view_of s x)) (is_observing (view_of s x)) e
@@ -99,9 +99,6 @@ module _ (table : Table) (typed : TypedProgram) (effects : Effects) (input : Lis
 
   abbrev own : Typing
   own = typing_of table typed
-
-  abbrev no_in_formals : (x : ℕ) → is_view_formal s x ≡ false
-  no_in_formals = standing.no_in_formals table typed effects input ready
 
   abbrev local : (x : ℕ) → is_anonymous (view_of s x) ≡ true → is_package_object s x ≡ false
   local = standing.local table typed effects input ready
@@ -134,10 +131,7 @@ module _ (table : Table) (typed : TypedProgram) (effects : Effects) (input : Lis
     pub between : (g : ViewStage) → Has (below ∷ more_frames) g → StandsBetween table typed effects unmoved_stage local state (suc (length rest)) g
     between g has = all_between table typed effects unmoved_stage local state top.frame.sub (suc (length rest)) (below ∷ more_frames) (below.stage.frame ∷ rest) stages (omega arith) running.2 g has
 
-    -- what concerns it of them, and that with their facts on package objects beside its own
-    abbrev pub other_all : Around (home s (suc (length rest)))
-    other_all = concern table typed effects unmoved_stage local state (suc (length rest)) (below ∷ more_frames) between
-
+    -- what concerns it of them, with their facts on package objects beside its own
     abbrev pub other : Around (home s (suc (length rest)))
     other = beside_them table typed effects unmoved_stage local state (suc (length rest)) (below ∷ more_frames) between
 
@@ -174,18 +168,20 @@ module _ (table : Table) (typed : TypedProgram) (effects : Effects) (input : Lis
     sub_less = sub_in_range table typed top.frame.sub named of_sub
 
     -- none that a frame around has moved
-    pub unused_here : (f : Fact) → Has handed_on f
-        → (name : PlaceName) × (f ≡ Moved name) × (is_package_object s name.root ≡ true) × (Uses effects top.frame.sub name.root → ⊥)
-    unused_here f has =
-        let found = inherited_from program effects (stages_of older) f has in
-        let view = Has-map_from (λ (z : ViewStage). z.stage) older found.0 found.1 in
-        by_fact f view.0 view.1 (subst (λ z. Has (facts_of program effects z) f) (sym view.2) found.2) found.3
-      where
-        by_fact : (f : Fact) (g : ViewStage) → Has older g → Has (facts_of program effects g.stage) f → is_inherited s f ≡ true
-            → (name : PlaceName) × (f ≡ Moved name) × (is_package_object s name.root ≡ true) × (Uses effects top.frame.sub name.root → ⊥)
-        by_fact (Moved name) g has fact shared =
-            (name, refl, shared, λ uses. unused_there table typed effects unmoved_stage local state top.frame.sub older running.2 g has name fact shared uses)
-        by_fact (Lent l h n) g has fact shared = cc
+    pub unused_here : (name : PlaceName) → Has handed_on (Moved name) → (is_package_object s name.root ≡ true) × (Uses effects top.frame.sub name.root → ⊥)
+    unused_here name has =
+        let found = moved_handed table typed effects unmoved_stage local state (suc (length rest)) (below ∷ more_frames) between name has in (
+          found.3,
+          λ uses. unused_there table typed effects unmoved_stage local state top.frame.sub older running.2 found.0 found.1 name found.2 found.3 uses,
+        )
+
+    abbrev pub LentAround : Loan → PlaceName → Type 0
+    LentAround l name = LentElsewhere table typed effects unmoved_stage local (below ∷ more_frames) l name
+
+    -- and it disturbs none that one has lent
+    pub spared_here : (l : Loan) (name : PlaceName) → LentAround l name → Disturbs effects l top.frame.sub name.root → ⊥
+    spared_here l name (g, has, some, h, fact, shared_object) disturbs =
+        spared_there table typed effects ready.accepted.effects_are state top.frame.sub older running.2 g has some l h name fact shared_object disturbs
 
     pub act_uses : (x : ℕ) → is_package_object s x ≡ true → (q : FlowPoint) → Has (flow_sub own named).points q → (a : Placed) → Has q.acts a
         → (act_writes x a.act ≡ true) ⊎ (act_reads x a.act ≡ true) → Uses effects top.frame.sub x
@@ -194,15 +190,51 @@ module _ (table : Table) (typed : TypedProgram) (effects : Effects) (input : Lis
     act_uses x shared q point a has (inr e) =
         reads_used program effects ready.accepted.effects_are top.frame.sub (flow_sub own named) sub_at_all sub_less x shared q point a has e
 
-    -- and none of these is lent
-    pub unlent : (name : PlaceName) → Has handed_on (Moved name) → (l : Loan) (h : ℕ) (m : PlaceName) → Has own_facts (Lent l h m) → name.root ≡ m.root → ⊥
-    unlent name has l h m lends root =
-        let found = unused_here (Moved name) has in
-        let same_name : name ≡ found.0 = moved_same name found.0 found.1 in
-        let shared : is_package_object s m.root ≡ true = ap (is_package_object s) (sym root ∙ ap (λ (z : PlaceName). z.root) same_name) ∙ found.2 in
+    pub act_writes_it : (x : ℕ) → is_package_object s x ≡ true → (q : FlowPoint) → Has (flow_sub own named).points q → (a : Placed) → Has q.acts a
+        → act_writes x a.act ≡ true → Has (written_by effects top.frame.sub) x
+    act_writes_it x shared q point a has e =
+        writes_there program effects ready.accepted.effects_are top.frame.sub (flow_sub own named) sub_at_all sub_less x shared q point a has e
+
+    -- its own facts on package objects are of such that it uses, or writes
+    lent_uses : (l : Loan) (h : ℕ) (m : PlaceName) → Has own_facts (Lent l h m) → is_package_object s m.root ≡ true → Uses effects top.frame.sub m.root
+    lent_uses l h m lends shared =
         let from = fact_added program effects ready.accepted.effects_are (flow_sub own named) top.before (Lent l h m) lends in
-        found.3 (subst (Uses effects top.frame.sub) (sym root ∙ ap (λ (z : PlaceName). z.root) same_name)
-        (act_uses m.root shared from.0 from.2 from.1 from.3 (lending_uses (from.1).act l h m from.4)))
+        act_uses m.root shared from.0 from.2 from.1 from.3 (lending_uses (from.1).act l h m from.4)
+
+    borrowed_writes : (h : ℕ) (m : PlaceName) → Has own_facts (Lent Borrowed h m) → is_package_object s m.root ≡ true → Has (written_by effects top.frame.sub) m.root
+    borrowed_writes h m lends shared =
+        let from = fact_added program effects ready.accepted.effects_are (flow_sub own named) top.before (Lent Borrowed h m) lends in
+        act_writes_it m.root shared from.0 from.2 from.1 from.3 (borrowing_writes (from.1).act h m from.4)
+
+    moved_writes : (m : PlaceName) → Has own_facts (Moved m) → is_package_object s m.root ≡ true → Has (written_by effects top.frame.sub) m.root
+    moved_writes m moved shared =
+        let from = fact_added program effects ready.accepted.effects_are (flow_sub own named) top.before (Moved m) moved in
+        act_writes_it m.root shared from.0 from.2 from.1 from.3 (moving_writes (from.1).act m from.4)
+
+    -- so they meet none of what is handed on
+    pub apart : AreApart table typed effects unmoved_stage local state (suc (length rest)) (below ∷ more_frames) between own_facts
+    apart = record {
+      moved = λ n has l m (k, there, some, h, fact, shared) over. (
+          let found = moved_handed table typed effects unmoved_stage local state (suc (length rest)) (below ∷ more_frames) between n has in
+          moved_apart table typed effects ready.accepted.effects_are unmoved_stage (unused_there table typed effects unmoved_stage local) state top.frame.sub older running.2
+          found.0 k found.1 there some n found.2 found.3 l h m fact over);
+      seen = λ n m (g, has, deep_there, b, lends, shared) (k, there, some, h, fact, also) over.
+          seen_apart table typed effects ready.accepted.effects_are unmoved_stage (unused_there table typed effects unmoved_stage local) state top.frame.sub older running.2
+          g k has there deep_there some b n lends shared h m fact over;
+      own_lent = λ n has l h m lends root. (
+          let found = unused_here n has in
+          found.1 (subst (Uses effects top.frame.sub) (sym root) (lent_uses l h m lends (ap (is_package_object s) (sym root) ∙ found.0))));
+      own_moved = λ n moved l m lent root. (
+          let written = moved_writes n moved (ap (is_package_object s) root ∙ lent.5) in
+          spared_here l m lent (written_disturbs table typed effects ready.accepted.effects_are l top.frame.sub m.root
+          (subst (Has (written_by effects top.frame.sub)) root written)));
+      own_borrowed = λ b n lends l m lent root. (
+          let written = borrowed_writes b n lends (ap (is_package_object s) root ∙ lent.5) in
+          spared_here l m lent (written_disturbs table typed effects ready.accepted.effects_are l top.frame.sub m.root
+          (subst (Has (written_by effects top.frame.sub)) root written)));
+      own_seen = λ h m lends n lent root.
+          spared_here Borrowed n lent (subst (Uses effects top.frame.sub) (sym root) (lent_uses Observed h m lends (ap (is_package_object s) (sym root) ∙ lent.5)));
+    }
 
     pub borrower_local : (x : ℕ) → is_borrower s x ≡ true → is_package_object s x ≡ false
     borrower_local x borrows = local x (borrower_anonymous s x borrows)
@@ -210,14 +242,28 @@ module _ (table : Table) (typed : TypedProgram) (effects : Effects) (input : Lis
     pub one_apart : (a : Placed) → Has (standing.acts_by table typed effects input ready state top older outer named p frames of_sub at_point s p.instr) a → ends s a.act ≡ false
         → (f : Fact) → Has handed_on f → forbids a.act f ≡ None
     one_apart a has fits f there =
-        let found = unused_here f there in
         let in_point : Has (flow_at own named p).acts a =
         subst (λ z. Has z a) (standing.acts_agree table typed effects input ready state top older outer named p frames of_sub at_point) has in
         let in_main = standing.in_sub table typed effects input ready state top older outer named p frames of_sub at_point in
-        ap (forbids a.act) found.1
-        ∙ apart_act s found.0 found.2 borrower_local a.act fits
-        (unless (act_writes (found.0).root a.act) (λ e. found.3 (act_uses (found.0).root found.2 (flow_at own named p) in_main a in_point (inl e))))
-        (unless (act_reads (found.0).root a.act) (λ e. found.3 (act_uses (found.0).root found.2 (flow_at own named p) in_main a in_point (inr e))))
+        elim (handed_cases table typed effects unmoved_stage local state (suc (length rest)) (below ∷ more_frames) between f there) [
+          | inl (name, is, g, has_stage, fact, shared) ↦ (
+              let unused = (unused_here name (subst (Has handed_on) is there)).1 in
+              ap (forbids a.act) is
+              ∙ apart_act s name shared borrower_local a.act fits
+              (unless (act_writes name.root a.act) (λ e. unused (act_uses name.root shared (flow_at own named p) in_main a in_point (inl e))))
+              (unless (act_reads name.root a.act) (λ e. unused (act_uses name.root shared (flow_at own named p) in_main a in_point (inr e)))))
+          | inr (l, name, is, lent) ↦ ap (forbids a.act) is ∙ loan_apart l name lent in_main in_point
+        ]
+      where
+        loan_apart : (l : Loan) (name : PlaceName) → LentAround l name → Has (flow_sub own named).points (flow_at own named p) → Has (flow_at own named p).acts a
+            → forbids a.act (Lent l name.root name) ≡ None
+        loan_apart Borrowed name lent in_main in_point =
+            apart_borrowed s name lent.5 borrower_local name.root a.act fits
+            (unless (act_writes name.root a.act) (λ e. spared_here Borrowed name lent (act_uses name.root lent.5 (flow_at own named p) in_main a in_point (inl e))))
+            (unless (act_reads name.root a.act) (λ e. spared_here Borrowed name lent (act_uses name.root lent.5 (flow_at own named p) in_main a in_point (inr e))))
+        loan_apart Observed name lent in_main in_point =
+            apart_seen s name lent.5 borrower_local name.root a.act fits
+            (unless (act_writes name.root a.act) (λ e. spared_here Observed name lent (act_writes_it name.root lent.5 (flow_at own named p) in_main a in_point e)))
 
     pub acts_apart : Spare s (standing.acts_by table typed effects input ready state top older outer named p frames of_sub at_point s p.instr) → (a : Act) → Has (acts_of_main p.instr) a
         → (f : Fact) → Has handed_on f → forbids a f ≡ None
@@ -236,17 +282,19 @@ module _ (table : Table) (typed : TypedProgram) (effects : Effects) (input : Lis
     pub package_plain : (x : ℕ) → is_package_object s x ≡ true → is_observer s x ≡ false
     package_plain x shared = unless (is_observer s x) (λ sees. true_false (is_package_object s x) shared (local x (observer_anonymous s x sees)))
 
+    -- what is lent around is no part of an object of the frame
+    pub not_lent : (x : ℕ) → is_package_object s x ≡ false → (l : Loan) (name : PlaceName) → other.lent l name → name.root ≡ x → ⊥
+    not_lent x own_object l name lent root = true_false (is_package_object s x) (ap (is_package_object s) (sym root) ∙ lent.5) own_object
+
+    pub not_lent_home : (x : ℕ) (l : Loan) (name : PlaceName) → other.lent l name → name.root ≡ x → depth ≡ home s depth x → ⊥
+    not_lent_home x l name lent root at_home =
+        let shared : is_package_object s x ≡ true = ap (is_package_object s) (sym root) ∙ lent.5 in
+        let none : depth ≡ 0 = at_home ∙ ap (λ b. if b then 0 else depth) shared in omega (arith, none)
+
     -- with the views of those that wait, and their facts on package objects
     pub viewed : Viewed (home s depth) (is_observer s) other views (view_here s state) facts_now
-    viewed = with_them table typed effects unmoved_stage local state depth older between views (view_here s state) own_facts own_views package_plain unlent
-        (record {
-          owned = viewed_own.owned;
-          covered = viewed_own.covered;
-          known = viewed_own.known;
-          clear = viewed_own.clear;
-          views = viewed_own.views;
-          far = λ w n keeps. far table typed effects unmoved_stage local state depth older between w n keeps;
-        })
+    viewed = with_them table typed effects unmoved_stage local state depth older between views (view_here s state) own_facts own_views package_plain apart
+        (λ w n keeps. far table typed effects unmoved_stage local state depth older between w n keeps) viewed_own
 
     -- and without them
     pub apart_from_them : (done : List Act) (v : Views) (view : ways.View) → ((x : ℕ) (w : Way) → v.way x ≡ Some w → is_anonymous (view_of s x) ≡ true)
@@ -254,38 +302,42 @@ module _ (table : Table) (typed : TypedProgram) (effects : Effects) (input : Lis
         → Viewed (home s depth) (is_observer s) (known_gone (home s depth) (GoneElsewhere program effects older)) v view (after done own_facts)
     apart_from_them done v view only well =
         without_them table typed effects unmoved_stage local state depth older between v view (after done facts_now) (after done own_facts)
-        (λ x w has. local x (only x w has)) (after_more done own_facts facts_now (λ f has. Has-append_left own_facts handed_on f has))
+        (λ x w has. local x (only x w has)) package_plain (after_more done own_facts facts_now (λ f has. Has-append_left own_facts handed_on f has))
         (after_splits done facts_now own_facts handed_on from_both) well
 
     pub placed_own : ArePlaced program own_facts views p.scope
     placed_own = subst (λ z. ArePlaced program z views p.scope) (standing.facts_are table typed effects input ready state top older outer named p frames of_sub at_point path) placed_before
 
-    pub placed_by : (some all : List Fact) (v : Views) (scope_there : List ℕ) → ((h : ℕ) (m : PlaceName) → Has some (Lent Observed h m) → Has all (Lent Observed h m))
+    pub placed_by : (some all : List Fact) (v : Views) (scope_there : List ℕ)
+        → ((h : ℕ) (m : PlaceName) → is_observer s h ≡ true → Has some (Lent Observed h m) → Has all (Lent Observed h m))
         → ArePlaced program some v scope_there → ArePlaced program all v scope_there
     placed_by some all v scope_there lends there x w has = (let old = there x w has in record {
       within = old.within;
       up = old.up;
       root = old.root;
-      holder = λ sees. (let h = old.holder sees in (h.0, lends h.0 (ways.name_of (v.loan x)) h.1, h.2));
+      holder = λ sees. (let h = old.holder sees in (h.0, lends h.0 (ways.name_of (v.loan x)) h.3 h.1, h.2, h.3));
     })
 
     pub placed : ArePlaced program facts_now views p.scope
-    placed = placed_by own_facts facts_now views p.scope (λ h m has. Has-append_left own_facts handed_on (Lent Observed h m) has) placed_own
+    placed = placed_by own_facts facts_now views p.scope (λ h m sees has. Has-append_left own_facts handed_on (Lent Observed h m) has) placed_own
 
     -- loans are those of the frame
-    pub own_loans : (done : List Act) (h : ℕ) (m : PlaceName) → Has (after done facts_now) (Lent Observed h m) → Has (after done own_facts) (Lent Observed h m)
-    own_loans done h m has = elim (after_splits done facts_now own_facts handed_on from_both (Lent Observed h m) has) [
+    pub own_loans : (done : List Act) (h : ℕ) (m : PlaceName) → is_observer s h ≡ true → Has (after done facts_now) (Lent Observed h m)
+        → Has (after done own_facts) (Lent Observed h m)
+    own_loans done h m sees has = elim (after_splits done facts_now own_facts handed_on from_both (Lent Observed h m) has) [
       | inl mine ↦ mine
-      | inr there ↦ (let never : false ≡ true = (inherited_from program effects (stages_of older) (Lent Observed h m) there).3 in cc)
+      | inr there ↦ (
+          let lent = lent_handed table typed effects unmoved_stage local state (suc (length rest)) (below ∷ more_frames) between Observed h m there in
+          absurd (true_false (is_observer s h) sees (package_plain h (ap (is_package_object s) lent.0 ∙ (lent.1).5))))
     ]
 
     -- what is handed on is of no object of the frame
     pub not_handed : (name : PlaceName) → Has handed_on (Moved name) → is_package_object s name.root ≡ false → ⊥
-    not_handed name has own_root = true_false (is_package_object s name.root) (inherited_from program effects (stages_of older) (Moved name) has).3 own_root
+    not_handed name has own_root = true_false (is_package_object s name.root) (unused_here name has).0 own_root
 
     pub not_at_home : (x : ℕ) (name : PlaceName) → Has handed_on (Moved name) → name.root ≡ x → depth ≡ home s depth x → ⊥
     not_at_home x name has root at_home =
-        let shared : is_package_object s x ≡ true = ap (is_package_object s) (sym root) ∙ (inherited_from program effects (stages_of older) (Moved name) has).3 in
+        let shared : is_package_object s x ≡ true = ap (is_package_object s) (sym root) ∙ (unused_here name has).0 in
         let none : depth ≡ 0 = at_home ∙ ap (λ b. if b then 0 else depth) shared in omega (arith, none)
 
     pub none_takes : (i : Instruction) → p.instr ≡ i → taken i ≡ 0 → taken main_turn.point.instr ≡ 0
@@ -305,6 +357,47 @@ module _ (table : Table) (typed : TypedProgram) (effects : Effects) (input : Lis
 
     pub orderly : AreOrderly program p (λ q. (n : ℕ) × Has (map (number_in named.points) p.next) n × IsAtPoint named.points n q)
     orderly = ready.orderly.points named named_there p point_there_now
+
+    -- ---- its result
+
+    sub_result : (of : ℕ) → named.sub.result ≡ Some of → (sub_of program top.frame.sub).result ≡ Some of
+    sub_result of result =
+        ap (λ (z : FlowSub). z.result) (standing.sub_is table typed effects input ready state top older outer named p frames of_sub at_point) ∙ result
+
+    -- only functions give results
+    pub plain_result : (of : ℕ) → named.sub.result ≡ Some of → is_scalar (full s.table of) ≡ true
+    plain_result of result = elim ready.class.results [
+      | inr plain ↦ plain.0 top.frame.sub of (ap (λ (z : Signature). z.result) (signature_is program top.frame.sub) ∙ sub_result of result)
+      | inl procedures ↦ absurd (elim (running.0).entered [
+        | inl main ↦ (
+            let same : Some top.frame.sub ≡ Some ready.main = sym main ∙ ready.is_main in
+            let number : top.frame.sub ≡ ready.main = cc in
+            no_some (sym (sub_result of result) ∙ ap (λ n. (sub_of program n).result) number ∙ main_result))
+        | inr (sub, has, q, there, actuals, temporary, calls) ↦
+            called_then actuals temporary (sym (ap calls_procedures calls) ∙ procedures sub has q there) (ready.called sub has q there top.frame.sub actuals temporary calls)
+      ])
+    ]
+      where
+        no_some : Some of ≡ None → ⊥
+        no_some never = cc
+
+        main_result : (sub_of program ready.main).result ≡ None
+        main_result =
+            ap (λ (z : FlowSub). z.result) (sub_there table typed ready.main ready.main_there.named ready.main_there.stands)
+            ∙ ready.main_there.procedure ready.main_there.named ready.main_there.stands
+
+        called_then : (actuals : TypedTree) (temporary : Option ℕ) → calls_procedures (Call top.frame.sub actuals temporary) ≡ true
+            → IsCalled table typed top.frame.sub actuals temporary → ⊥
+        called_then actuals None calls called = (let never : true ≡ false = sym (ap is_some (sub_result of result)) ∙ called.answers in cc)
+        called_then actuals (Some t) calls called = cc
+
+    -- so the value is no view
+    pub plain_traversal : traverses s.table named.sub.result ≡ false
+    plain_traversal = by_result named.sub.result refl
+      where
+        by_result : (r : Option ℕ) → named.sub.result ≡ r → traverses s.table r ≡ false
+        by_result None is = refl
+        by_result (Some of) is = named_plain s.table of (scalar_named s.table of (plain_result of is))
 
     -- ---- what waits
 
@@ -366,7 +459,7 @@ module _ (table : Table) (typed : TypedProgram) (effects : Effects) (input : Lis
       within = left_within x (view_ends s x (holds.only x w has)) old.within;
       up = lasts_left (number_of (views.up x)) x old.up;
       root = lasts_left (number_of w) x old.root;
-      holder = λ sees. (let h = old.holder sees in (h.0, h.1, lasts_left h.0 x h.2));
+      holder = λ sees. (let h = old.holder sees in (h.0, h.1, lasts_left h.0 x h.2, h.3));
     })
 
     -- the values that wait on, after an instruction that fills no temporary

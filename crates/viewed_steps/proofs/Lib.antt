@@ -9,7 +9,10 @@ pub mod Ended
 pub mod Sources
 pub mod Beside
 pub mod Inherited
+pub mod Uses
+pub mod Roots
 pub mod Waiting
+pub mod Apart
 pub mod Left
 pub mod Called
 pub mod Eased

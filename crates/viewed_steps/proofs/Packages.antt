@@ -8,6 +8,7 @@ use Rattle.spark_base.proofs.Lists.{Has-append_cases, Has-map_from}
 use Rattle.place_names.specs.declared.act.Act.{Act}
 use Rattle.place_names.specs.declared.act.Placed.{Placed}
 use Rattle.place_names.specs.declared.fact.Fact.{Fact}
+use Rattle.place_names.specs.declared.rule.Loan.{Loan}
 use Rattle.place_names.specs.declared.fact.Fact.TheVariants.{Moved}
 use Rattle.place_names.specs.Facts.{adds}
 use Rattle.place_names.specs.Names.{Name as PlaceName}
@@ -176,9 +177,6 @@ module _ (table : Table) (typed : TypedProgram) (effects : Effects) (input : Lis
   abbrev HasNone : Views → Type 0
   HasNone v = (x : ℕ) → v.way x ≡ None
 
-  abbrev blank_views : Views
-  blank_views = record { way = λ x. None; loan = λ x. ways.Lost 0; up = λ x. ways.Lost 0; cell = λ x. 0 }
-
   no_views : {A : Type 0} (v : Views) → HasNone v → (x : ℕ) (w : Way) → v.way x ≡ Some w → A
   no_views v none x w has = absurd (none_some w (sym (none x) ∙ has))
 
@@ -212,7 +210,8 @@ module _ (table : Table) (typed : TypedProgram) (effects : Effects) (input : Lis
         owned = viewed.owned;
         covered = viewed.covered;
         known = λ w l rooted r gone. absurd (elim (viewed.known w l rooted r gone) [
-          | inl (u, moved, leads) ↦ unmoved (ways.name_of u) moved.1
+          | inl (inl (u, moved, leads)) ↦ unmoved (ways.name_of u) moved.1
+          | inl (inr none_away) ↦ none_away
           | inr (g, has, what) ↦ has
         ]);
         clear = record {
@@ -222,6 +221,7 @@ module _ (table : Table) (typed : TypedProgram) (effects : Effects) (input : Lis
           owned = λ n has. absurd has;
         };
         views = λ x w has. no_views views none x w has;
+        lends = λ l n lent. absurd lent;
         far = λ w n keeps. absurd keeps;
       };
       kept = kept;
@@ -240,7 +240,7 @@ module _ (table : Table) (typed : TypedProgram) (effects : Effects) (input : Lis
     }
 
   module _ (state : State) (top : Stage) (named : NamedSub) (p : NamedPoint) (frames : state.frames ≡ top.frame ∷ []) (deep : top.depth ≡ 0) (views : Views)
-      (running : (top.frame.sub ≡ 0) × IsPlain top × ((x : ℕ) → views.way x ≡ None)) (above : NoneAbove s 0 state.memory)
+      (running : (top.frame.sub ≡ 0) × IsPlain top × ((x : ℕ) → views.way x ≡ None) × (top.depth ≡ 0)) (above : NoneAbove s 0 state.memory)
       (of_sub : IsNamedSub (flow_named table typed) top.frame.sub named) (at_point : IsAtPoint named.points top.frame.next p)
       (path : ControlPath (path_points program effects (sub_of program top.frame.sub)) top.before top.frame.next)
       (viewed_before : Viewed (home s 0) (is_observer s) (known_gone (home s 0) (GoneElsewhere program effects [])) views (view_here s state) (facts_of program effects top))
@@ -298,8 +298,9 @@ module _ (table : Table) (typed : TypedProgram) (effects : Effects) (input : Lis
       owner : is_anonymous (view_of s x) ≡ false
       owner = ready.orderly.packages first_turn.point in_packages x v e
 
-      free_first : (y : ℕ) (w : Way) → views.way y ≡ Some w → IsElsewhere (home s 0) 0 x w
-      free_first y w has = no_views views running.2 y w has
+      free_first : ((y : ℕ) (w : Way) → views.way y ≡ Some w → IsElsewhere (home s 0) 0 x w)
+          × ((l : Loan) (name : PlaceName) → nowhere.lent l name → name.root ≡ x → 0 ≡ home s 0 x → ⊥)
+      free_first = (λ y w has. no_views views running.2 y w has, λ l name lent root at_home. lent)
 
       blank_first : (q : List Step) (w : ways.Word) → word_in s.table (content s state.memory [] (OfRoot (OfVariable 0 x))) q ≡ w
           → word_in s.table (content s state.memory [] (OfRoot (OfVariable 0 x))) q ≡ ways.Empty
@@ -375,7 +376,7 @@ module _ (table : Table) (typed : TypedProgram) (effects : Effects) (input : Lis
                 let lead : Leads s (scope_behind p) (q.0).scope = q.2 in
                 standing.goes_to_next table typed effects input ready state top [] [] named p frames of_sub at_point path (calls_plain x v e) after_step [] top.frame.loops found.0 found.2 q.0 q.1
                 (on.frames ∙ ap (led first_turn (record top.frame { waits = [] })) found.1) deep tt turned_views
-                (running.0, (refl, running.1.1, running.1.2), none_now) (refl, refl)
+                (running.0, (refl, running.1.1, running.1.2), none_now, deep) (refl, refl)
                 (subst (Viewed (home s 0) (is_observer s) nowhere turned_views (view_here s after_step)) facts_on_e well.viewed) well.kept
                 (scope_on s ready.owns after_step.memory 0 (scope_behind p) (q.0).scope (subst (InScope s after_step.memory 0) (sym scope_first) on.inside) lead)
                 (record {
@@ -394,7 +395,7 @@ module _ (table : Table) (typed : TypedProgram) (effects : Effects) (input : Lis
                 let same_facts : after (acts_first p.instr) facts_first ≡ facts_of program effects below =
                 sym (standing.facts_on table typed effects input ready state top [] [] named p frames of_sub at_point path (calls_plain x v e))
                 ∙ ap (λ (z : FlowSub). facts_before (path_points program effects z) (top.frame.next ∷ top.before)) (sym (standing.sub_is table typed effects input ready state top [] [] named p frames of_sub at_point)) in (
-                  main_begun (record { stage = below; views = turned_views }) (running.0, (refl, running.1.1, refl), none_now) refl after_step turned_views none_now main_frames (after (acts_first (Declare x v)) facts_first) well.viewed
+                  main_begun (record { stage = below; views = turned_views }) (running.0, (refl, running.1.1, refl), none_now, refl) refl after_step turned_views none_now main_frames (after (acts_first (Declare x v)) facts_first) well.viewed
                       (λ name has. unmoved_stage below running.0 name (subst (λ z. Has z (Moved name)) (facts_on_e ∙ same_facts) has)) well.kept
                       (λ f y q n held. elim (on.inside f y q n held) [
                         | inl less ↦ absurd (omega (arith, less))

@@ -52,13 +52,14 @@ use Rattle.soundness.proofs.Taking.{Takes}
 use Rattle.soundness.proofs.Numbers.{index_law}
 use Rattle.soundness.proofs.Lasting.{keeps, stored_kept, freed_kept}
 use Rattle.owned_ways.proofs.Unique.{one_way, one_location}
-use Rattle.owned_loans.specs.Views.{Around, Views, expand, ExcusedBy, IsMovedBy, Viewed}
+use Rattle.owned_loans.specs.Views.{Around, Views, expand, ExcusedBy, IsAway, Viewed}
 use Rattle.owned_loans.proofs.Ways.{meet_overlaps, under_on}
 use Rattle.owned_loans.proofs.Meeting.{IsPlain, meeting}
 use Rattle.owned_loans.proofs.Clear.{refused, clear_same}
 use Rattle.owned_loans.proofs.Safe.{loan_of}
 use Rattle.owned_loans.proofs.Allowed.{loan_kept, free_open, free_unlent}
-use Rattle.owned_loans.proofs.Moves.{IsPlace, named_way, view_on, expand_under}
+use Rattle.owned_loans.proofs.Others.{below_through}
+use Rattle.owned_loans.proofs.Moves.{IsPlace, named_way, view_on, own_loan, lends_on, expand_under}
 use Rattle.owned_loans.proofs.Freed as view
 use Rattle.viewed_soundness.specs.Holds.{IsNamed, PartsAreNamed, Holds}
 use Rattle.viewed_soundness.proofs.Names.{is_place}
@@ -87,8 +88,12 @@ module _ (view : View) (k : Way) (at : Loc) (target : Reaches view k at) (empty 
 module _ (home : ℕ → ℕ) (observer : ℕ → Bool) (other : Around home) (v : Views) (s : View) (facts : List Fact)
     (viewed : Viewed home observer other v s facts) where
   -- what is freed wasn't moved
-  pub free_clean : (k : Way) → Named home k → observer (number_of k) ≡ false → Allows facts (act.Free (ways.name_of k)) → IsMovedBy home v facts (expand v k) → ⊥
-  free_clean k named plain allowed (u, moved, same) =
+  pub free_clean : (k : Way) → Named home k → observer (number_of k) ≡ false → Allows facts (act.Free (ways.name_of k)) → IsAway home v other facts (expand v k) → ⊥
+  free_clean k named plain allowed (inr away) =
+      let t = other.through (expand v k) away in
+      below_through home observer other v s facts viewed t.0 t.1 t.3 k (expand v k) (named, plain) (λ h n. free_unlent facts k allowed Borrowed h n) t.2
+      (under_itself (expand v k))
+  free_clean k named plain allowed (inl (u, moved, same)) =
       elim (meeting home observer v s facts viewed.views u k (moved.0, viewed.clear.owned (ways.name_of u) moved.1) (named, plain)
       (subst (Under (expand v u)) same (under_itself (expand v u)))) [
         | inl under ↦ refused (breaks_O14 (ways.name_of k) (Moved (ways.name_of u))) O14 (ways.name_of k) (Moved (ways.name_of u))
@@ -117,7 +122,8 @@ module _ (home : ℕ → ℕ) (observer : ℕ → Bool) (other : Around home) (v
         covered = viewed.covered;
         known = λ w l rooted r h. elim (viewed.known w l rooted r h) [
           | inr o ↦ inr o
-          | inl (u, moved, leads) ↦ inl (
+          | inl (inr away) ↦ inl (inr away)
+          | inl (inl (u, moved, leads)) ↦ inl (inl (
             u,
             (
               moved.0,
@@ -128,11 +134,12 @@ module _ (home : ℕ → ℕ) (observer : ℕ → Bool) (other : Around home) (v
                   let gone : Gone ≡ Empty = sym h ∙ ap s.word b.1 ∙ empty b.0 in cc))),
             ),
             leads,
-          )
+          ))
         ];
         clear = clear_same observer facts viewed.clear a refl;
         views = λ x w has. (let own = viewed.views x w has in
-            view_on home observer other v s s facts (effect a facts) x w own (λ seen n. loan_kept a facts (λ l h z. refl) seen x n) own.reaches);
+            view_on home observer other v s s facts (effect a facts) x w own (λ seen n. own_loan observer facts (effect a facts) (loan_kept a facts (λ l h z. refl)) seen x n) own.reaches);
+        lends = λ l n lent. lends_on observer v facts (effect a facts) (loan_kept a facts (λ l h z. refl)) l n (viewed.lends l n lent);
         far = viewed.far;
       }
 
@@ -146,7 +153,8 @@ module _ (home : ℕ → ℕ) (observer : ℕ → Bool) (other : Around home) (v
         covered = viewed.covered;
         known = λ w l rooted r h. elim (viewed.known w l rooted r h) [
           | inr o ↦ inr o
-          | inl (u, moved, leads) ↦ inl (
+          | inl (inr away) ↦ inl (inr away)
+          | inl (inl (u, moved, leads)) ↦ inl (inl (
             u,
             (
               moved.0,
@@ -157,11 +165,12 @@ module _ (home : ℕ → ℕ) (observer : ℕ → Bool) (other : Around home) (v
                   let gone : Gone ≡ Empty = sym h ∙ ap s.word b.1 ∙ empty b.0 in cc))),
             ),
             leads,
-          )
+          ))
         ];
         clear = clear_same observer facts viewed.clear a refl;
         views = λ x w has. (let own = viewed.views x w has in
-            view_on home observer other v s s facts (effect a facts) x w own (λ seen n. loan_kept a facts (λ l h z. refl) seen x n) own.reaches);
+            view_on home observer other v s s facts (effect a facts) x w own (λ seen n. own_loan observer facts (effect a facts) (loan_kept a facts (λ l h z. refl)) seen x n) own.reaches);
+        lends = λ l n lent. lends_on observer v facts (effect a facts) (loan_kept a facts (λ l h z. refl)) l n (viewed.lends l n lent);
         far = viewed.far;
       }
 

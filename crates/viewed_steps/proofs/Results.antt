@@ -1,6 +1,6 @@
 -- An operand of a short circuit, whose value waits, and a return with a value, which waits in the frame
 -- of the caller, lead on.
-use Rattle.std.proofs.Common.{◌≡◌, refl, sym, ap, ◌∙◌, subst, ◌⊎◌, inl, inr, ℕ, suc, ◌+◌, ◌<◌, Bool, true, false, not, ◌||◌, ◌==◌, List, [], ◌∷◌, ◌++◌, map, drop, length, get_or, arith, append-nil, Option, Some, None, ◌&&◌, if◌then◌else◌}
+use Rattle.std.proofs.Common.{◌≡◌, refl, sym, ap, ◌∙◌, subst, ◌⊎◌, inl, inr, ℕ, suc, ◌+◌, ◌<◌, Bool, true, false, not, ◌||◌, ◌==◌, List, [], ◌∷◌, ◌++◌, drop, length, get_or, arith, append-nil, Option, Some, None, ◌&&◌, if◌then◌else◌}
 use Rattle.spark_base.specs.Lists.{Has}
 use Rattle.place_names.specs.declared.act.Act.{Act}
 use Rattle.place_names.specs.declared.act.Act.TheVariants as act
@@ -18,7 +18,7 @@ use Rattle.flow_paths.specs.Names.{has_call, waiting as waits_in}
 use Rattle.flow_paths.specs.Acts as flow
 use Rattle.flow_paths.specs.Acts.{acts_in}
 use Rattle.flow_paths.specs.Points.{NamedPoint}
-use Rattle.flow_paths.specs.Laid.{FlowProgram, NamedSub, number_in, typing_of, flow_typing, flow_program, flow_named}
+use Rattle.flow_paths.specs.Laid.{FlowProgram, NamedSub, typing_of, flow_typing, flow_program, flow_named}
 use Rattle.flow_paths.specs.Paths.{ControlPath}
 use Rattle.flow_paths.specs.Effects.{path_points}
 use Rattle.flow_paths.specs.Scopes.{taken, brought, scope_behind, is_within}
@@ -39,8 +39,7 @@ use Rattle.soundness.specs.Typed.{Kept}
 use Rattle.typed_laws.specs.Needed.{IsFine, Stays, Source, Returns}
 use Rattle.soundness.specs.Sound.{IsNoCall, calls_procedures, Stage, facts_of, AreStages, IsRunnable, IsResting, AreAwaited, AreWaiting as AreWaitingValues, returns_value, awaited, InScope, IsNamedSub, IsAtPoint, view_of as view_here}
 use Rattle.soundness.proofs.Scalars.{acts}
-use Rattle.soundness.proofs.Scoped.{MayHold, Inside}
-use Rattle.soundness.proofs.Inherited.{Splits}
+use Rattle.soundness.proofs.Scoped.{Inside}
 use Rattle.soundness.proofs.Around.{IsFar}
 use Rattle.soundness.proofs.Waits.{drop_none}
 use Rattle.soundness.proofs.Taking.{Takes, takes_as, TakesPlainly, nothing_more}
@@ -50,8 +49,8 @@ use Rattle.soundness.proofs.Successors.{not_true, below_one}
 use Rattle.owned_loans.specs.Views.{Around, known_gone, Views, Viewed}
 use Rattle.viewed_soundness.specs.Holds.{IsNamed, AllKeep}
 use Rattle.viewed_soundness.proofs.Outcomes.{named_plain, IsGood, Leads_on}
-use Rattle.viewed_steps.specs.Sound.{Lasts, HoldsAt, ArePlaced, NoneAbove, ViewStage, stages_of, GoneElsewhere, AreWaiting, IsStoredAt, returns_one, LeadsAlong}
-use Rattle.viewed_steps.specs.Ready.{AreOrderly, IsReady}
+use Rattle.viewed_steps.specs.Sound.{HoldsAt, ArePlaced, NoneAbove, ViewStage, stages_of, GoneElsewhere, AreWaiting, IsStoredAt, returns_one, LeadsAlong}
+use Rattle.viewed_steps.specs.Ready.{IsReady}
 use Rattle.viewed_steps.proofs.Lent.{Spare, loans_stay}
 use Rattle.viewed_steps.proofs.Placed.{scope_on, placed_on, MayBe, turned_placed}
 use Rattle.viewed_steps.proofs.Beside.{OthersKept}
@@ -65,7 +64,6 @@ use Rattle.std.specs.List.{AllByRecursion}
 use Rattle.type_definitions.specs.Entries.{boolean}
 use Rattle.type_definitions.specs.Types.{words}
 use Rattle.typed_tree.specs.declared.node.ShortCircuit.{ShortCircuit}
-use Rattle.flow_paths.specs.Objects.{Signature}
 use Rattle.flow_paths.specs.Laid.{FlowSub, flow_sub}
 use Rattle.flow_paths.specs.Paths.{PathPoint, path_point, goes_on, facts_before}
 use Rattle.machine.specs.Step.{led}
@@ -73,11 +71,10 @@ use Rattle.machine.specs.Evaluate.{Raises, Traps}
 use Rattle.machine.specs.Run.{no_point}
 use Rattle.soundness.specs.Seen.{seen}
 use Rattle.soundness.specs.Sound.{IsPlainValue, is_temporary_object, temporaries_in, has_returned}
-use Rattle.soundness.specs.Ready.{IsCalled, IsSupplied, Fills}
+use Rattle.soundness.specs.Ready.{IsSupplied, Fills}
 use Rattle.soundness.proofs.Onward.{Gets, value_inside, source_inside}
 use Rattle.soundness.proofs.Operands.{handed_over, hold_is}
-use Rattle.soundness.proofs.Passing.{signature_is}
-use Rattle.soundness.proofs.Points.{sub_there, path_there}
+use Rattle.soundness.proofs.Points.{path_there}
 use Rattle.soundness.proofs.Stays.{Quiet, One}
 use Rattle.soundness.proofs.Standing.{head_of, last_of}
 use Rattle.soundness.proofs.Waited.{Shares, counts, temporary_more}
@@ -155,9 +152,6 @@ module _ (table : Table) (typed : TypedProgram) (effects : Effects) (input : Lis
     abbrev facts_now : List Fact
     facts_now = own_facts ++ handed_on
 
-    abbrev from_both : Splits facts_now own_facts handed_on
-    from_both = innermost.from_both table typed effects input ready state top below more_frames rest named p frames deep stages running awaiting of_sub at_point path views viewed_before kept scope holds placed_before above
-
     abbrev acts_of_main : Instruction → List Act
     acts_of_main i = standing.acts_here table typed effects input ready state top older outer named p frames of_sub at_point i
 
@@ -173,24 +167,16 @@ module _ (table : Table) (typed : TypedProgram) (effects : Effects) (input : Lis
         → Viewed (home s depth) (is_observer s) (known_gone (home s depth) (GoneElsewhere program effects older)) v view (after done own_facts)
     apart_from_them = innermost.apart_from_them table typed effects input ready state top below more_frames rest named p frames deep stages running awaiting of_sub at_point path views viewed_before kept scope holds placed_before above
 
-    abbrev placed_by : (some all : List Fact) (v : Views) (scope_there : List ℕ) → ((h : ℕ) (m : PlaceName) → Has some (Lent Observed h m) → Has all (Lent Observed h m))
+    abbrev placed_by : (some all : List Fact) (v : Views) (scope_there : List ℕ) → ((h : ℕ) (m : PlaceName) → is_observer s h ≡ true → Has some (Lent Observed h m) → Has all (Lent Observed h m))
         → ArePlaced program some v scope_there → ArePlaced program all v scope_there
     placed_by = innermost.placed_by table typed effects input ready state top below more_frames rest named p frames deep stages running awaiting of_sub at_point path views viewed_before kept scope holds placed_before above
 
     abbrev placed : ArePlaced program facts_now views p.scope
     placed = innermost.placed table typed effects input ready state top below more_frames rest named p frames deep stages running awaiting of_sub at_point path views viewed_before kept scope holds placed_before above
 
-    abbrev own_loans : (done : List Act) (h : ℕ) (m : PlaceName) → Has (after done facts_now) (Lent Observed h m) → Has (after done own_facts) (Lent Observed h m)
+    abbrev own_loans : (done : List Act) (h : ℕ) (m : PlaceName) → is_observer s h ≡ true → Has (after done facts_now) (Lent Observed h m)
+        → Has (after done own_facts) (Lent Observed h m)
     own_loans = innermost.own_loans table typed effects input ready state top below more_frames rest named p frames deep stages running awaiting of_sub at_point path views viewed_before kept scope holds placed_before above
-
-    abbrev not_handed : (name : PlaceName) → Has handed_on (Moved name) → is_package_object s name.root ≡ false → ⊥
-    not_handed = innermost.not_handed table typed effects input ready state top below more_frames rest named p frames deep stages running awaiting of_sub at_point path views viewed_before kept scope holds placed_before above
-
-    abbrev not_at_home : (x : ℕ) (name : PlaceName) → Has handed_on (Moved name) → name.root ≡ x → depth ≡ home s depth x → ⊥
-    not_at_home = innermost.not_at_home table typed effects input ready state top below more_frames rest named p frames deep stages running awaiting of_sub at_point path views viewed_before kept scope holds placed_before above
-
-    abbrev none_takes : (i : Instruction) → p.instr ≡ i → taken i ≡ 0 → taken main_turn.point.instr ≡ 0
-    none_takes = innermost.none_takes table typed effects input ready state top below more_frames rest named p frames deep stages running awaiting of_sub at_point path views viewed_before kept scope holds placed_before above
 
     abbrev left_scope : List ℕ
     left_scope = drop (taken p.instr) p.scope
@@ -204,14 +190,8 @@ module _ (table : Table) (typed : TypedProgram) (effects : Effects) (input : Lis
     abbrev easy : Turn
     easy = eased main_turn
 
-    abbrev viewed_easy : Viewed (home s depth) (is_observer s) other views (view_here s easy.state) facts_now × Kept s state.memory (waiting_in easy.state)
-    viewed_easy = innermost.viewed_easy table typed effects input ready state top below more_frames rest named p frames deep stages running awaiting of_sub at_point path views viewed_before kept scope holds placed_before above
-
     abbrev plainly : (i : Instruction) → p.instr ≡ i → (calls : Bool) → (calls_procedures i ≡ true → calls ≡ false) → TakesPlainly s calls
     plainly = innermost.plainly table typed effects input ready state top below more_frames rest named p frames deep stages running awaiting of_sub at_point path views viewed_before kept scope holds placed_before above
-
-    abbrev lasts_left : (r x : ℕ) → Lasts program p.scope r x → Lasts program left_scope r x
-    lasts_left = innermost.lasts_left table typed effects input ready state top below more_frames rest named p frames deep stages running awaiting of_sub at_point path views viewed_before kept scope holds placed_before above
 
     abbrev placed_left : (facts : List Fact) → ArePlaced program facts views p.scope → ArePlaced program facts views left_scope
     placed_left = innermost.placed_left table typed effects input ready state top below more_frames rest named p frames deep stages running awaiting of_sub at_point path views viewed_before kept scope holds placed_before above
@@ -222,17 +202,11 @@ module _ (table : Table) (typed : TypedProgram) (effects : Effects) (input : Lis
     abbrev left_after : FillsNone s p.instr → Left (steps.waiting main_turn)
     left_after = innermost.left_after table typed effects input ready state top below more_frames rest named p frames deep stages running awaiting of_sub at_point path views viewed_before kept scope holds placed_before above
 
-    abbrev others_await : returns_value p.instr ≡ false → AreAwaited table typed (awaited (sub_of program top.frame.sub) (top.frame.next ∷ top.before)) (stages_of older)
-    others_await = innermost.others_await table typed effects input ready state top below more_frames rest named p frames deep stages running awaiting of_sub at_point path views viewed_before kept scope holds placed_before above
-
     abbrev raised_well : (m : Memory) → WellOwned s (steps.counted (record state { memory = given_up state.memory m }))
     raised_well = innermost.raised_well table typed effects input ready state top below more_frames rest named p frames deep stages running awaiting of_sub at_point path views viewed_before kept scope holds placed_before above
 
     abbrev successors_there : length main_turn.point.next ≡ successors p.instr
     successors_there = innermost.successors_there table typed effects input ready state top below more_frames rest named p frames deep stages running awaiting of_sub at_point path views viewed_before kept scope holds placed_before above
-
-    abbrev orderly : AreOrderly program p (λ q. (n : ℕ) × Has (map (number_in named.points) p.next) n × IsAtPoint named.points n q)
-    orderly = innermost.orderly table typed effects input ready state top below more_frames rest named p frames deep stages running awaiting of_sub at_point path views viewed_before kept scope holds placed_before above
 
     abbrev IsOld : ℕ → ℕ → Type 0
     IsOld f x =
@@ -244,12 +218,6 @@ module _ (table : Table) (typed : TypedProgram) (effects : Effects) (input : Lis
 
     abbrev in_scope : (m : Memory) (after_scope : List ℕ) → Inside s IsOld m depth after_scope → InScope s m depth after_scope
     in_scope = innermost.in_scope table typed effects input ready state top below more_frames rest named p frames deep stages running awaiting of_sub at_point path views viewed_before kept scope holds placed_before above
-
-    abbrev home_frame : (x : ℕ) → is_package_object s x ≡ false → home s depth x ≡ depth
-    home_frame = innermost.home_frame table typed effects input ready state top below more_frames rest named p frames deep stages running awaiting of_sub at_point path views viewed_before kept scope holds placed_before above
-
-    abbrev may_hold : (x : ℕ) (in_there : List ℕ) → (is_package_object s x ≡ true) ⊎ (is_within x in_there ≡ true) → MayHold s IsOld depth in_there (home s depth x) x
-    may_hold = innermost.may_hold table typed effects input ready state top below more_frames rest named p frames deep stages running awaiting of_sub at_point path views viewed_before kept scope holds placed_before above
 
     abbrev still_above : (m : Memory) → OthersKept s depth state.memory m → NoneAbove s depth m
     still_above = innermost.still_above table typed effects input ready state top below more_frames rest named p frames deep stages running awaiting of_sub at_point path views viewed_before kept scope holds placed_before above
@@ -434,32 +402,8 @@ module _ (table : Table) (typed : TypedProgram) (effects : Effects) (input : Lis
       no_finish_then : p.instr ≡ Finish → ⊥
       no_finish_then same = (let never : Hold (More e last) ≡ Finish = sym is ∙ same in cc)
 
-      -- only functions give results
       plain_result : is_scalar (full s.table of) ≡ true
-      plain_result = elim ready.class.results [
-        | inr plain ↦ plain.0 top.frame.sub of (ap (λ (z : Signature). z.result) (signature_is program top.frame.sub) ∙ sub_result)
-        | inl procedures ↦ absurd (elim (running.0).entered [
-          | inl main ↦ (
-              let same : Some top.frame.sub ≡ Some ready.main = sym main ∙ ready.is_main in
-              let number : top.frame.sub ≡ ready.main = cc in
-              no_some (sym sub_result ∙ ap (λ n. (sub_of program n).result) number ∙ main_result))
-          | inr (sub, has, q, there, actuals, temporary, calls) ↦
-              called_then actuals temporary (sym (ap calls_procedures calls) ∙ procedures sub has q there) (ready.called sub has q there top.frame.sub actuals temporary calls)
-        ])
-      ]
-        where
-          no_some : Some of ≡ None → ⊥
-          no_some never = cc
-
-          main_result : (sub_of program ready.main).result ≡ None
-          main_result =
-              ap (λ (z : FlowSub). z.result) (sub_there table typed ready.main ready.main_there.named ready.main_there.stands)
-              ∙ ready.main_there.procedure ready.main_there.named ready.main_there.stands
-
-          called_then : (actuals : TypedTree) (temporary : Option ℕ) → calls_procedures (Call top.frame.sub actuals temporary) ≡ true
-              → IsCalled table typed top.frame.sub actuals temporary → ⊥
-          called_then actuals None calls called = (let never : true ≡ false = sym (ap is_some sub_result) ∙ called.answers in cc)
-          called_then actuals (Some t) calls called = cc
+      plain_result = innermost.plain_result table typed effects input ready state top below more_frames rest named p frames deep stages running awaiting of_sub at_point path views viewed_before kept scope holds placed_before above of result
 
       pub named_result : IsNamed s.table of
       named_result = scalar_named s.table of plain_result
@@ -558,6 +502,7 @@ module _ (table : Table) (typed : TypedProgram) (effects : Effects) (input : Lis
               at_point = was.at_point;
               scope = was.scope;
               lends = was.lends;
+              writes = was.writes;
               unmoved = was.unmoved;
               uses = was.uses;
               clear = was.clear;
@@ -652,6 +597,7 @@ module _ (table : Table) (typed : TypedProgram) (effects : Effects) (input : Lis
                     known = λ w l rooted r gone. elim (well.known w l rooted r gone) [ inl moved ↦ inl moved | inr elsewhere ↦ inr (elsewhere_with v w elsewhere) ];
                     clear = well.clear;
                     views = well.views;
+                    lends = well.lends;
                     far = λ w n none. absurd none;
                   })));
               kept = subst (Kept s m) (sym (hands_then ws m)) kept_then;

@@ -5,6 +5,7 @@ use Rattle.place_names.specs.declared.act.Act.{Act}
 use Rattle.place_names.specs.declared.act.Act.TheVariants as act
 use Rattle.place_names.specs.declared.fact.Fact.{Fact}
 use Rattle.place_names.specs.declared.fact.Fact.TheVariants.{Moved, Lent}
+use Rattle.place_names.specs.declared.rule.Loan.{Loan}
 use Rattle.place_names.specs.declared.rule.Loan.TheVariants.{Observed}
 use Rattle.place_names.specs.Names.{Name as PlaceName}
 use Rattle.type_definitions.specs.Types.{Table}
@@ -13,7 +14,7 @@ use Rattle.flow_paths.specs.declared.report.Effects.{Effects}
 use Rattle.flow_paths.specs.Instructions.{Instruction, Call, EndScope}
 use Rattle.flow_paths.specs.Objects.{Typing, is_anonymous, is_package_object, is_borrower, is_observer, view_of}
 use Rattle.flow_paths.specs.Points.{NamedPoint}
-use Rattle.flow_paths.specs.Laid.{FlowProgram, NamedSub, number_in, typing_of, flow_typing, flow_program, flow_named}
+use Rattle.flow_paths.specs.Laid.{FlowProgram, NamedSub, number_in, flow_typing, flow_program, flow_named}
 use Rattle.flow_paths.specs.Paths.{ControlPath}
 use Rattle.flow_paths.specs.Effects.{path_points}
 use Rattle.place_names.specs.Rules.{forbids}
@@ -28,7 +29,7 @@ use Rattle.owned_ways.specs.Ways.{Step, OfVariable, OfRoot, Way, Held, after, Al
 use Rattle.owned_ways.specs.Ways as ways
 use Rattle.soundness.specs.Seen.{IsNear, is_view_formal, content, word_in, home}
 use Rattle.soundness.specs.Typed.{Kept}
-use Rattle.soundness.specs.Sound.{IsNoCall, Stage, facts_of, AreStages, Uses, IsRunnable, IsResting, AreAwaited, AreWaiting as AreWaitingValues, returns_value, awaited, InScope, IsNamedSub, IsAtPoint, view_of as view_here}
+use Rattle.soundness.specs.Sound.{IsNoCall, Stage, facts_of, AreStages, IsRunnable, IsResting, AreAwaited, AreWaiting as AreWaitingValues, returns_value, awaited, InScope, IsNamedSub, IsAtPoint, view_of as view_here}
 use Rattle.soundness.proofs.Scoped.{Inside}
 use Rattle.soundness.proofs.Inherited.{Splits, allowed_beside}
 use Rattle.soundness.proofs.Around.{IsFar}
@@ -41,11 +42,11 @@ use Rattle.owned_loans.specs.Views.{Around, known_gone, Views, Viewed}
 use Rattle.viewed_soundness.proofs.Outcomes.{Is_left}
 use Rattle.viewed_steps.specs.Sound.{HoldsAt, ArePlaced, NoneAbove, ViewStage, stages_of, GoneElsewhere, AreWaiting, AreLeft, leaves_scope, LeadsAlong}
 use Rattle.viewed_steps.specs.Ready.{AreOrderly, IsReady}
-use Rattle.viewed_steps.proofs.Inherited.{apart_end}
+use Rattle.viewed_steps.proofs.Inherited.{apart_end, lent_end}
 use Rattle.viewed_steps.proofs.Placed.{scope_on}
 use Rattle.viewed_steps.proofs.Ended.{views_left, ends_well, placed_left, holds_left, leaves, leaves_others}
 use Rattle.viewed_steps.proofs.Beside.{OthersKept, end_scope_keeps}
-use Rattle.viewed_steps.proofs.Waiting.{StandsBetween, KeptElsewhere, beside_them, handed}
+use Rattle.viewed_steps.proofs.Waiting.{StandsBetween, KeptElsewhere, beside_them, handed, handed_cases}
 use Rattle.viewed_steps.proofs.Standing as standing
 use Rattle.viewed_steps.proofs.Packages as packages
 use Rattle.viewed_steps.proofs.Innermost as innermost
@@ -60,9 +61,6 @@ module _ (table : Table) (typed : TypedProgram) (effects : Effects) (input : Lis
 
   abbrev s : Typing
   s = flow_typing program
-
-  abbrev own : Typing
-  own = typing_of table typed
 
   abbrev no_in_formals : (x : ℕ) → is_view_formal s x ≡ false
   no_in_formals = standing.no_in_formals table typed effects input ready
@@ -129,9 +127,8 @@ module _ (table : Table) (typed : TypedProgram) (effects : Effects) (input : Lis
     abbrev acts_of_main : Instruction → List Act
     acts_of_main i = standing.acts_here table typed effects input ready state top older outer named p frames of_sub at_point i
 
-    abbrev unused_here : (f : Fact) → Has handed_on f
-        → (name : PlaceName) × (f ≡ Moved name) × (is_package_object s name.root ≡ true) × (Uses effects top.frame.sub name.root → ⊥)
-    unused_here = innermost.unused_here table typed effects input ready state top below more_frames rest named p frames deep stages running awaiting of_sub at_point path views viewed_before kept scope holds placed_before above
+    abbrev not_lent : (x : ℕ) → is_package_object s x ≡ false → (l : Loan) (name : PlaceName) → other.lent l name → name.root ≡ x → ⊥
+    not_lent = innermost.not_lent table typed effects input ready state top below more_frames rest named p frames deep stages running awaiting of_sub at_point path views viewed_before kept scope holds placed_before above
 
     abbrev borrower_local : (x : ℕ) → is_borrower s x ≡ true → is_package_object s x ≡ false
     borrower_local = innermost.borrower_local table typed effects input ready state top below more_frames rest named p frames deep stages running awaiting of_sub at_point path views viewed_before kept scope holds placed_before above
@@ -144,14 +141,15 @@ module _ (table : Table) (typed : TypedProgram) (effects : Effects) (input : Lis
         → Viewed (home s depth) (is_observer s) (known_gone (home s depth) (GoneElsewhere program effects older)) v view (after done own_facts)
     apart_from_them = innermost.apart_from_them table typed effects input ready state top below more_frames rest named p frames deep stages running awaiting of_sub at_point path views viewed_before kept scope holds placed_before above
 
-    abbrev placed_by : (some all : List Fact) (v : Views) (scope_there : List ℕ) → ((h : ℕ) (m : PlaceName) → Has some (Lent Observed h m) → Has all (Lent Observed h m))
+    abbrev placed_by : (some all : List Fact) (v : Views) (scope_there : List ℕ) → ((h : ℕ) (m : PlaceName) → is_observer s h ≡ true → Has some (Lent Observed h m) → Has all (Lent Observed h m))
         → ArePlaced program some v scope_there → ArePlaced program all v scope_there
     placed_by = innermost.placed_by table typed effects input ready state top below more_frames rest named p frames deep stages running awaiting of_sub at_point path views viewed_before kept scope holds placed_before above
 
     abbrev placed : ArePlaced program facts_now views p.scope
     placed = innermost.placed table typed effects input ready state top below more_frames rest named p frames deep stages running awaiting of_sub at_point path views viewed_before kept scope holds placed_before above
 
-    abbrev own_loans : (done : List Act) (h : ℕ) (m : PlaceName) → Has (after done facts_now) (Lent Observed h m) → Has (after done own_facts) (Lent Observed h m)
+    abbrev own_loans : (done : List Act) (h : ℕ) (m : PlaceName) → is_observer s h ≡ true → Has (after done facts_now) (Lent Observed h m)
+        → Has (after done own_facts) (Lent Observed h m)
     own_loans = innermost.own_loans table typed effects input ready state top below more_frames rest named p frames deep stages running awaiting of_sub at_point path views viewed_before kept scope holds placed_before above
 
     abbrev none_takes : (i : Instruction) → p.instr ≡ i → taken i ≡ 0 → taken main_turn.point.instr ≡ 0
@@ -236,10 +234,12 @@ module _ (table : Table) (typed : TypedProgram) (effects : Effects) (input : Lis
           allowed_beside (acts_of_main (EndScope y)) facts_now own_facts handed_on from_both
           (subst (λ i. AllowsAll own_facts (acts_of_main i)) is (standing.allowed table typed effects input ready state top older outer named p frames of_sub at_point path no_call_here))
           (λ a has f there. elim has [
-            | inl end_act ↦ (
-                let found = unused_here f there in
-                ap (λ z. forbids z f) (sym end_act) ∙ ap (forbids (act.EndScope y (is_borrower s y))) found.1
-                ∙ apart_end s found.0 found.2 borrower_local y (is_borrower s y) not_shared)
+            | inl end_act ↦ ap (λ z. forbids z f) (sym end_act) ∙ elim (handed_cases table typed effects unmoved_stage local state (suc (length rest)) (below ∷ more_frames) between f there) [
+              | inl (name, same, g, has_stage, fact, shared) ↦ ap (forbids (act.EndScope y (is_borrower s y))) same
+                  ∙ apart_end s name shared borrower_local y (is_borrower s y) not_shared
+              | inr (l, name, same, lent) ↦ ap (forbids (act.EndScope y (is_borrower s y))) same
+                  ∙ lent_end s name lent.5 borrower_local l name.root y (is_borrower s y)
+            ]
             | inr never ↦ absurd never
           ])
 
@@ -248,7 +248,7 @@ module _ (table : Table) (typed : TypedProgram) (effects : Effects) (input : Lis
           views_left main_turn ready.accepted.settled ready.owns other alone no_in_formals views ready.class.parts_named no_source frames nothing_taken
           p at_next_point.0 y is (home_frame y not_shared) not_shared (ready_there (EndScope y) is) ready.orderly.local (λ x within off. orderly.ended y x is within off)
           (λ x within sees region. orderly.followed y x is at_next_point.0 (next_point.0, next_point.2, at_next_point.1) within sees region)
-          lead facts_now end_allowed.0 viewed kept holds placed
+          lead facts_now end_allowed.0 viewed kept holds placed (not_lent y not_shared)
 
       -- they had their ways before, and none begins at the object
       were_left : AreLeft y views left_views
@@ -256,11 +256,11 @@ module _ (table : Table) (typed : TypedProgram) (effects : Effects) (input : Lis
         ((leaves main_turn ready.accepted.settled ready.owns other alone no_in_formals views ready.class.parts_named no_source frames nothing_taken
             p at_next_point.0 y is (home_frame y not_shared) not_shared (ready_there (EndScope y) is) ready.orderly.local (λ x within off. orderly.ended y x is within off)
             (λ x within sees region. orderly.followed y x is at_next_point.0 (next_point.0, next_point.2, at_next_point.1) within sees region)
-            lead facts_now end_allowed.0 viewed kept holds placed).1.was x w has).2,
+            lead facts_now end_allowed.0 viewed kept holds placed (not_lent y not_shared)).1.was x w has).2,
         (leaves_others main_turn ready.accepted.settled ready.owns other alone no_in_formals views ready.class.parts_named no_source frames nothing_taken
             p at_next_point.0 y is (home_frame y not_shared) not_shared (ready_there (EndScope y) is) ready.orderly.local (λ x within off. orderly.ended y x is within off)
             (λ x within sees region. orderly.followed y x is at_next_point.0 (next_point.0, next_point.2, at_next_point.1) within sees region)
-            lead facts_now end_allowed.0 viewed kept holds placed).roots x w has,
+            lead facts_now end_allowed.0 viewed kept holds placed (not_lent y not_shared)).roots x w has,
       )
 
       then_left : (outcome : Outcome)
@@ -276,7 +276,7 @@ module _ (table : Table) (typed : TypedProgram) (effects : Effects) (input : Lis
           (holds_left main_turn ready.accepted.settled ready.owns other alone no_in_formals views ready.class.parts_named no_source frames nothing_taken
           p at_next_point.0 y is (home_frame y not_shared) not_shared (ready_there (EndScope y) is) ready.orderly.local (λ x within off. orderly.ended y x is within off)
           (λ x within sees region. orderly.followed y x is at_next_point.0 (next_point.0, next_point.2, at_next_point.1) within sees region)
-          lead facts_now end_allowed.0 viewed kept holds placed)) in
+          lead facts_now end_allowed.0 viewed kept holds placed (not_lent y not_shared))) in
           let frames_there = on.frames next_point.0 (ap (successor main_turn) (only_first on.k (subst (λ z. on.k < z) (ap successors is) on.less)) ∙ next_point.1) in
           standing.goes_to_next table typed effects input ready state top older outer named p frames of_sub at_point path no_call_here after_step on.waits on.loops next_point.0 next_point.2 at_next_point.0 at_next_point.1
           frames_there deep stages left_views (running.0, running.1, wait_still after_step (drop 1 p.scope) on.inside stay still_viewed.far)
@@ -290,7 +290,7 @@ module _ (table : Table) (typed : TypedProgram) (effects : Effects) (input : Lis
           (placed_left main_turn ready.accepted.settled ready.owns other alone no_in_formals views ready.class.parts_named no_source frames nothing_taken
           p at_next_point.0 y is (home_frame y not_shared) not_shared (ready_there (EndScope y) is) ready.orderly.local (λ x within off. orderly.ended y x is within off)
           (λ x within sees region. orderly.followed y x is at_next_point.0 (next_point.0, next_point.2, at_next_point.1) within sees region)
-          lead facts_now end_allowed.0 viewed kept holds placed))) (still_above after_step.memory stay) views
+          lead facts_now end_allowed.0 viewed kept holds placed (not_lent y not_shared)))) (still_above after_step.memory stay) views
           (leaves_scope y is (refl, refl, refl) were_left refl)
 
       pub ends_scope : Along (turn main_turn (EndScope y))
@@ -299,6 +299,6 @@ module _ (table : Table) (typed : TypedProgram) (effects : Effects) (input : Lis
           (ends_well main_turn ready.accepted.settled ready.owns other alone no_in_formals views ready.class.parts_named no_source frames nothing_taken
           p at_next_point.0 y is (home_frame y not_shared) not_shared (ready_there (EndScope y) is) ready.orderly.local (λ x within off. orderly.ended y x is within off)
           (λ x within sees region. orderly.followed y x is at_next_point.0 (next_point.0, next_point.2, at_next_point.1) within sees region)
-          lead facts_now end_allowed.0 viewed kept holds placed)
+          lead facts_now end_allowed.0 viewed kept holds placed (not_lent y not_shared))
           (end_scope_follows main_turn Left left_values IsOld p.scope (drop 1 p.scope) inside y (ready_there (EndScope y) is) refl (with_successors (EndScope y) 0 is below_one))
           (end_scope_keeps main_turn y)

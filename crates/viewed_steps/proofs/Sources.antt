@@ -135,7 +135,7 @@ module _ (t : Turn) (settled : IsSettled (typing t).table) (own_law : OwnsByShap
   -- a view is declared
   pub view_declared : (ws : List (List machine.Word)) (q : Pos) (x y u : ℕ) (path : TypedTree) → is_anonymous (view_of s x) ≡ true → is_variable (object_at s x).kind ≡ true
       → home s depth x ≡ depth → Source s (object_at s x).of (Name q y path u) → Takes (waits_in path) ws []
-      → (is_observer s x ≡ false → (is_observer s y ≡ false) × (y < x)) → may x y → (facts : List Fact) → Good facts → Unused v facts x
+      → (is_observer s x ≡ false → (is_observer s y ≡ false) × (y < x)) → may x y → (facts : List Fact) → Good facts → Unused other.lent v facts x
       → AllowsAll facts (acts (declared_acts s x (More (Name q y path u) NoMore)))
       → LeadsHere (after (acts (declared_acts s x (More (Name q y path u) NoMore))) facts) (Declares_here ws x (More (Name q y path u) NoMore))
   view_declared ws q x y u path view variable mine source takes older from facts good unused allowed =

@@ -1,6 +1,6 @@
 -- What is asked of an accepted program with borrowers and observers so that its runs are sound: what
 -- typing, the layout and the rules see to. Nothing here speaks of a run.
-use Rattle.std.specs.Prelude.{◌≡◌, ◌<◌, ℕ, true, false, List, ◌∷◌, map, get_or, Option, Some}
+use Rattle.std.specs.Prelude.{◌≡◌, ◌<◌, ℕ, true, false, List, map, Some}
 use Rattle.spark_base.specs.Lists.{Has}
 use Rattle.spark_base.specs.declared.position.Pos.{Pos}
 use Rattle.place_names.specs.declared.act.Placed.{Placed}
@@ -8,21 +8,18 @@ use Rattle.type_definitions.specs.Types.{Table}
 use Rattle.typed_tree.specs.Trees.{TypedTree, Name, NoMore, More}
 use Rattle.typed_tree.specs.Programs.{TypedProgram}
 use Rattle.flow_paths.specs.declared.report.Effects.{Effects}
-use Rattle.flow_paths.specs.Instructions.{Declare, Assign, Call, Input, EndScope}
+use Rattle.flow_paths.specs.Instructions.{Declare, Assign, Input, EndScope}
 use Rattle.flow_paths.specs.Objects.{object_at, is_variable, is_anonymous, is_observer, is_package_object, view_of}
 use Rattle.flow_paths.specs.Points.{NamedPoint, FlowPoint}
 use Rattle.flow_paths.specs.Laid.{FlowSub, FlowProgram, NamedSub, number_in, flow_typing, flow_program, flow_named}
-use Rattle.flow_paths.specs.Paths.{ControlPath, facts_before}
-use Rattle.flow_paths.specs.Effects.{path_points}
 use Rattle.flow_paths.specs.Scopes.{is_within}
 use Rattle.flow_paths.specs.Views.{encloses, scope_of}
 use Rattle.machine.specs.States.{sub_of}
-use Rattle.machine.specs.Run.{no_point}
 use Rattle.soundness.specs.Typed.{OwnsByShape}
 use Rattle.soundness.specs.Sound.{Accepted, IsNamedSub, IsAtPoint, IsProcedure}
 use Rattle.soundness.specs.Ready.{AreScoped, AreNew, AreElaborated, AreCalled, AreReturning}
 use Rattle.viewed_soundness.specs.Holds.{AllKeep}
-use Rattle.viewed_steps.specs.Sound.{IsViewClass, Lasts, LendOwn}
+use Rattle.viewed_steps.specs.Sound.{IsViewClass, Lasts}
 
 -- ---- borrowers and observers in order
 
@@ -73,13 +70,6 @@ pub record ViewsAreOrderly (table : Table) (typed : TypedProgram) : Type 0 where
   pub kept : (sub : FlowSub) → Has (flow_program table typed).subs sub → (p : FlowPoint) → Has sub.points p
       → AllKeep (is_observer (flow_typing (flow_program table typed))) (map (λ (a : Placed). a.act) p.acts)
 
--- Where a subprogram is called, what is lent is a part of an object of the caller.
-abbrev pub AreSpared : FlowProgram → Effects → Type 0
-AreSpared program effects =
-    (sub : FlowSub) → Has program.subs sub → (before : List ℕ) (last : ℕ) → ControlPath (path_points program effects sub) before last
-    → (n : ℕ) (actuals : TypedTree) (result : Option ℕ) → (get_or sub.points last no_point).instr ≡ Call n actuals result
-    → LendOwn (flow_typing program) (facts_before (path_points program effects sub) (last ∷ before))
-
 -- ---- all of it
 
 -- An accepted program of the class, of which this holds.
@@ -93,7 +83,6 @@ pub record IsReady (table : Table) (typed : TypedProgram) (effects : Effects) : 
   pub orderly : ViewsAreOrderly table typed
   pub called : AreCalled table typed
   pub returning : AreReturning (flow_program table typed) effects
-  pub spared : AreSpared (flow_program table typed) effects
   pub packages : NamedSub
   pub stands : IsNamedSub (flow_named table typed) 0 packages
   pub main : ℕ

@@ -1,14 +1,14 @@
 -- What holds at each moment of a run of an accepted program with borrowers and observers.
 --
--- A frame that waits for a call to end has its views still: it lends no part of a package object
--- then, and what was called names no other object of the frame.
-use Rattle.std.specs.Prelude.{◌≡◌, ◌⊎◌, ◌<◌, ℕ, true, false, List, [], ◌∷◌, map, get_or, Option, Some, None}
+-- A frame that waits for a call to end has its views still: what was called names no object of the
+-- frame, and leaves package objects alone of which a part is lent.
+use Rattle.std.specs.Prelude.{◌≡◌, ◌⊎◌, ◌<◌, ℕ, true, List, [], ◌∷◌, map, get_or, Option, Some, None}
 use Rattle.spark_base.specs.Lists.{Has}
 use Rattle.spark_base.specs.declared.position.Pos.{Pos}
 use Rattle.place_names.specs.declared.fact.Fact.{Fact}
 use Rattle.place_names.specs.declared.fact.Fact.TheVariants.{Moved, Lent}
 use Rattle.place_names.specs.declared.rule.Loan.{Loan}
-use Rattle.place_names.specs.declared.rule.Loan.TheVariants.{Observed}
+use Rattle.place_names.specs.declared.rule.Loan.TheVariants.{Borrowed, Observed}
 use Rattle.place_names.specs.Names.{Name as PlaceName}
 use Rattle.type_definitions.specs.Types.{Table, full, is_scalar}
 use Rattle.typed_tree.specs.Trees.{TypedTree, Name, NoMore}
@@ -19,7 +19,7 @@ use Rattle.flow_paths.specs.Objects.{Typing, object_at, is_formal, is_anonymous,
 use Rattle.flow_paths.specs.Points.{NamedPoint, FlowPoint}
 use Rattle.flow_paths.specs.Laid.{FlowSub, FlowProgram, NamedSub, flow_typing, flow_program, flow_named}
 use Rattle.flow_paths.specs.Paths.{ControlPath}
-use Rattle.flow_paths.specs.Effects.{path_points}
+use Rattle.flow_paths.specs.Effects.{written_by, path_points}
 use Rattle.flow_paths.specs.Scopes.{is_within}
 use Rattle.flow_paths.specs.Views.{encloses, scope_of}
 use Rattle.machine.specs.Words.{Cell}
@@ -84,7 +84,7 @@ pub record IsPlaced (program : FlowProgram) (facts : List Fact) (v : Views) (sco
   pub up : Lasts program scope (number_of (v.up x)) x
   pub root : Lasts program scope (number_of w) x
   pub holder : is_observer (flow_typing program) x ≡ true
-      → (h : ℕ) × Has facts (Lent Observed h (name_of (v.loan x))) × Lasts program scope h x
+      → (h : ℕ) × Has facts (Lent Observed h (name_of (v.loan x))) × Lasts program scope h x × (is_observer (flow_typing program) h ≡ true)
 
 abbrev pub ArePlaced : FlowProgram → List Fact → Views → List ℕ → Type 0
 ArePlaced program facts v scope = (x : ℕ) (w : Way) → v.way x ≡ Some w → IsPlaced program facts v scope x w
@@ -109,14 +109,16 @@ abbrev pub GoneElsewhere : FlowProgram → Effects → List ViewStage → Way �
 GoneElsewhere program effects older w =
     (g : ViewStage) × Has older g × IsMovedBy (home (flow_typing program) g.stage.depth) g.views (facts_of program effects g.stage) w
 
--- What is lent is a part of an object of the frame.
-abbrev pub LendOwn : Typing → List Fact → Type 0
-LendOwn s facts = (l : Loan) (h : ℕ) (n : PlaceName) → Has facts (Lent l h n) → is_package_object s n.root ≡ false
+-- What a callee may not do with a package object of which a part is lent: use it, where a borrower has
+-- the part, and write it, where an observer sees it.
+abbrev pub Disturbs : Effects → Loan → ℕ → ℕ → Type 0
+Disturbs effects Borrowed n x = Uses effects n x
+Disturbs effects Observed n x = Has (written_by effects n) x
 
 -- A frame that waits for a call to end. The points that it has executed form a control path to its
--- next point. What it owns is in scope there, and so are its views, which have their ways still. No
--- part of a package object is lent, and none that the callee uses is moved. What the callee uses, its
--- caller uses.
+-- next point. What it owns is in scope there, and so are its views, which have their ways still. The
+-- callee disturbs no package object of which a part is lent, and uses none of which a part is moved.
+-- What the callee uses or writes, its caller does.
 pub record IsWaiting (table : Table) (typed : TypedProgram) (effects : Effects) (state : State) (callee : ℕ) (g : ViewStage) : Type 0 where
   pub runs : IsRunnable table typed g.stage.frame.sub
   pub plain : IsResting (flow_typing (flow_program table typed)) g.stage
@@ -128,10 +130,12 @@ pub record IsWaiting (table : Table) (typed : TypedProgram) (effects : Effects) 
   pub scope : (x : ℕ) (p : List Step) (n : ℕ)
       → word_in (flow_program table typed).table (content (flow_typing (flow_program table typed)) state.memory [] (OfRoot (OfVariable g.stage.depth x))) p ≡ Held n
       → is_within x point.scope ≡ true
-  pub lends : LendOwn (flow_typing (flow_program table typed)) (facts_of (flow_program table typed) effects g.stage)
+  pub lends : (l : Loan) (h : ℕ) (name : PlaceName) → Has (facts_of (flow_program table typed) effects g.stage) (Lent l h name)
+      → is_package_object (flow_typing (flow_program table typed)) name.root ≡ true → Disturbs effects l callee name.root → ⊥
   pub unmoved : (name : PlaceName) → Has (facts_of (flow_program table typed) effects g.stage) (Moved name)
       → is_package_object (flow_typing (flow_program table typed)) name.root ≡ true → Uses effects callee name.root → ⊥
   pub uses : (x : ℕ) → Uses effects callee x → Uses effects g.stage.frame.sub x
+  pub writes : (x : ℕ) → Has (written_by effects callee) x → Has (written_by effects g.stage.frame.sub) x
   pub clear : AreClear (is_observer (flow_typing (flow_program table typed))) (facts_of (flow_program table typed) effects g.stage)
   pub views : AreViews (home (flow_typing (flow_program table typed)) g.stage.depth) (is_observer (flow_typing (flow_program table typed))) g.views
       (owners.view_of (flow_typing (flow_program table typed)) state) (facts_of (flow_program table typed) effects g.stage)
@@ -140,7 +144,7 @@ pub record IsWaiting (table : Table) (typed : TypedProgram) (effects : Effects) 
 
 -- The frame of the package objects has no views, and nothing waits in it.
 abbrev pub IsFirst : ViewStage → Type 0
-IsFirst e = (e.stage.frame.sub ≡ 0) × IsPlain e.stage × ((x : ℕ) → e.views.way x ≡ None)
+IsFirst e = (e.stage.frame.sub ≡ 0) × IsPlain e.stage × ((x : ℕ) → e.views.way x ≡ None) × (e.stage.depth ≡ 0)
 
 -- The frames around one that runs a subprogram.
 abbrev pub AreWaiting : Table → TypedProgram → Effects → State → ℕ → List ViewStage → Type 0
