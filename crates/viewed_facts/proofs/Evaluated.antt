@@ -1,5 +1,7 @@
 -- Facts without an element stay exact in expressions, with names through borrowers and observers.
-use Rattle.std.proofs.Common.{◌≡◌, refl, sym, ap, ◌∙◌, subst, inl, inr, ℕ, suc, ◌+◌, Bool, true, false, ◌||◌, List, [], ◌∷◌, ◌++◌, length, get_or, arith, append-nil, if◌then◌else◌}
+use Rattle.std.proofs.Common.{◌≡◌, refl, sym, ap, ◌∙◌, subst, inl, inr, ℕ, suc, ◌+◌, Bool, true, false, ◌||◌, List, [], ◌∷◌, ◌++◌, length, get_or, arith, append-nil, if◌then◌else◌, ◌⊎◌}
+use Rattle.viewed_facts.proofs.Steps.{IsOthers, of_others}
+use Rattle.place_names.specs.declared.rule.Loan.TheVariants.{Borrowed}
 use Rattle.std.specs.Prelude.{nat_le}
 use Rattle.place_names.specs.declared.act.Act.TheVariants as act
 use Rattle.place_names.specs.declared.fact.Fact.{Fact}
@@ -34,13 +36,12 @@ use Rattle.soundness.proofs.Scalars.{after_append, allows_both, acts, acts_appen
 use Rattle.soundness.proofs.Taking.{Takes, takes_as, takes_both, takes_zero, TakesPlainly, both_plainly, nothing_more}
 use Rattle.soundness.proofs.Stays.{Quiet, One}
 use Rattle.soundness.proofs.Evaluated.{Keeps, regrouped}
-use Rattle.owned_loans.specs.Views.{Around, Views, expand}
+use Rattle.owned_loans.specs.Views.{Around, Views, expand, IsThrough}
 use Rattle.owned_loans.proofs.Allowed.{read_open, move_open}
 use Rattle.owned_loans.proofs.Moves.{named_way}
 use Rattle.viewed_soundness.specs.Holds.{IsNamed, PartsAreNamed, KeepsObserved, AllKeep}
 use Rattle.viewed_soundness.proofs.Stays.{Goes, taking, steps_taking, waited_quiet, name_on}
 use Rattle.viewed_soundness.proofs.Evaluated.{keep_both, matches_named, Ready, GivenOn, live_trunk, checked_on, blank_ready, evaluated_on}
-use Rattle.exact_facts.proofs.Memories.{clear_names}
 use Rattle.viewed_facts.specs.Exact.{IsExact}
 use Rattle.viewed_facts.proofs.Memories.{taken_exact, made_exact}
 
@@ -57,7 +58,7 @@ module _ (h : Here) (settled : IsSettled h.typing.table) (leaks : List Leak) (wa
     (alone : (w : Way) → IsNear h.frame w → other.gone w → ⊥) (keeps : Keeps h.typing)
     (no_formals : (x : ℕ) → is_view_formal h.typing x ≡ false) (index_law : IndexLaw) (own_law : OwnsByShape h.typing.table)
     (v : Views) (parts_named : PartsAreNamed h.typing.table)
-    (elsewhere : Way → Type 0) (away : (w : Way) → IsNear h.frame w → elsewhere w → ⊥) where
+    (elsewhere : Way → Type 0) (away : (w : Way) → elsewhere w → (IsNear h.frame w → ⊥) ⊎ IsThrough (home h.typing h.frame) other.lent Borrowed w) where
   abbrev ReadyIn : Memory → List Waiting → List Fact → Type 0
   ReadyIn m hands facts = Ready h settled leaks waits other alone keeps no_formals index_law own_law v parts_named m hands facts
 
@@ -67,8 +68,8 @@ module _ (h : Here) (settled : IsSettled h.typing.table) (leaks : List Leak) (wa
   abbrev Exact : Memory → List Fact → Type 0
   Exact m facts = IsExact h.typing (home h.typing h.frame) v elsewhere m facts
 
-  apart : (k w : Way) → Under k w → Named (home h.typing h.frame) k → elsewhere w → ⊥
-  apart = clear_names h.typing h.frame elsewhere away
+  apart : (w : Way) → elsewhere w → IsOthers (home h.typing h.frame) other w
+  apart w e = of_others h.typing h.frame other w (away w e)
 
   -- Facts are exact where an evaluation is done.
   abbrev pub ExactTo : {A : Type 0} → List Fact → Evaluated A → Type 0

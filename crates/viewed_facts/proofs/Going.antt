@@ -265,7 +265,7 @@ module _ (table : Table) (typed : TypedProgram) (effects : Effects) (input : Lis
         leads.0,
         follows_told sound.point.instr state after_step (record { stage = sound.top; views = sound.views }) sound.older (packages_of state sound.top sound.views sound.older sound.running)
             (between_of state sound.top sound.views sound.older state.frames sound.stages sound.running)
-            (named_definite (home s sound.top.depth) (is_observer s) (known_gone (home s sound.top.depth) (GoneElsewhere program effects sound.older)) sound.views (λ z. ⊥) (λ k w under at none. none)
+            (named_definite (home s sound.top.depth) (is_observer s) (known_gone (home s sound.top.depth) (GoneElsewhere program effects sound.older)) sound.views (λ z. ⊥) (λ w none. absurd none)
             (view_here s state) (facts_of program effects sound.top) sound.viewed)
             exact (record { stage = (leads.0).top; views = (leads.0).views }) (leads.0).older
             (λ on stays. step_told state sound.top sound.views sound.older state.frames refl sound.stages sound.running sound.awaited sound.path sound.viewed sound.kept sound.named sound.of_sub sound.point

@@ -2,6 +2,8 @@
 -- checks don't fail. What is exact is said with the ways that views had before; that a view got another way is
 -- `told_turned` of `Steps`.
 use Rattle.std.proofs.Common.{◌≡◌, refl, sym, ap, ◌∙◌, subst, ◌⊎◌, inl, inr, ℕ, Bool, true, false, not, List, [], ◌∷◌, ◌++◌, map, length, ◌+◌, append-nil, Some, if◌then◌else◌}
+use Rattle.place_names.specs.declared.rule.Loan.{Loan}
+use Rattle.place_names.specs.declared.rule.Loan.TheVariants.{Borrowed}
 use Rattle.spark_base.specs.Lists.{Has}
 use Rattle.spark_base.specs.declared.position.Pos.{Pos}
 use Rattle.place_names.specs.declared.act.Act.TheVariants as act
@@ -39,7 +41,7 @@ use Rattle.soundness.proofs.Scalars.{acts}
 use Rattle.soundness.proofs.Stays.{Quiet, One}
 use Rattle.soundness.proofs.Numbers.{index_law}
 use Rattle.soundness.proofs.Lasting.{keeps}
-use Rattle.owned_loans.specs.Views.{Around, Views, expand, Viewed}
+use Rattle.owned_loans.specs.Views.{Around, Views, expand, Viewed, IsThrough}
 use Rattle.viewed_soundness.specs.Holds.{IsNamed, PartsAreNamed, AllKeep}
 use Rattle.viewed_soundness.proofs.Names.{true_false}
 use Rattle.viewed_soundness.proofs.Evaluated.{Given}
@@ -48,11 +50,10 @@ use Rattle.viewed_soundness.proofs.Outcomes.{named_plain, not_views, IsGood, sca
 use Rattle.viewed_steps.proofs.Declared.{IsUnmoved, IsFree, stands_root, first_given}
 use Rattle.exact_facts.specs.Exact.{NoneFails, Knows}
 use Rattle.exact_facts.proofs.Steps.{IsPlaced, keeps_placed}
-use Rattle.exact_facts.proofs.Memories.{clear_names}
 use Rattle.exact_facts.proofs.Instructions.{none_made}
 use Rattle.soundness.proofs.Taking.{Takes, takes_as, TakesPlainly, both_plainly, nothing_more}
 use Rattle.viewed_facts.specs.Exact.{IsDefinite, IsExact}
-use Rattle.viewed_facts.proofs.Steps.{named_definite, definite_variable, told_still, told_fewer, told_turned}
+use Rattle.viewed_facts.proofs.Steps.{named_definite, definite_variable, told_still, told_fewer, told_turned, IsOthers, of_others}
 use Rattle.viewed_facts.proofs.Memories.{told_seen, exact_from, declared_exact, ended_exact}
 use Rattle.viewed_facts.proofs.Evaluated.{ExactTo, checked_exact, exact_on}
 use Rattle.viewed_facts.proofs.Stored.{StoresExact, assigned_exact}
@@ -62,7 +63,7 @@ module _ (t : Turn) (settled : IsSettled (typing t).table) (own_law : OwnsByShap
     (alone : (w : Way) → IsNear (length t.outer) w → other.gone w → ⊥) (no_formals : (x : ℕ) → is_view_formal (typing t) x ≡ false)
     (v : Views) (parts_named : PartsAreNamed (typing t).table) (may : ℕ → ℕ → Type 0)
     (frames : t.state.frames ≡ t.frame ∷ t.outer) (none : taken t.point.instr ≡ 0)
-    (elsewhere : Way → Type 0) (away : (w : Way) → IsNear (length t.outer) w → elsewhere w → ⊥) (Excused : LeakSpot → Type 0) where
+    (elsewhere : Way → Type 0) (away : (w : Way) → elsewhere w → (IsNear (length t.outer) w → ⊥) ⊎ IsThrough (home (typing t) (length t.outer)) other.lent Borrowed w) (Excused : LeakSpot → Type 0) where
   abbrev s : Typing
   s = typing t
 
@@ -84,8 +85,8 @@ module _ (t : Turn) (settled : IsSettled (typing t).table) (own_law : OwnsByShap
   abbrev Exact : Memory → List Fact → Type 0
   Exact n facts = IsExact s (home s depth) v elsewhere n facts
 
-  apart : (k w : Way) → Under k w → Named (home s depth) k → elsewhere w → ⊥
-  apart = clear_names s depth elsewhere away
+  apart : (w : Way) → elsewhere w → IsOthers (home s depth) other w
+  apart w e = of_others s depth other w (away w e)
 
   -- before these values are taken
   abbrev at : List (List machine.Word) → Now
@@ -177,7 +178,16 @@ module _ (t : Turn) (settled : IsSettled (typing t).table) (own_law : OwnsByShap
 
   unspoken : (x : ℕ) (facts : List Fact) (z : View) → Viewed (home s depth) (is_observer s) other v z facts → Speaks_not x facts
       → (w : Way) → IsDefinite (home s depth) v elsewhere facts w → Under (Object (OfVariable depth x)) w → ⊥
-  unspoken x facts z viewed (unmoved, free) w (inr e) under = away w (near_under depth (Object (OfVariable depth x)) w under (inr refl)) e.1
+  unspoken x facts z viewed (unmoved, free) w (inr e) under = elim (away w e.1) [
+    | inl far ↦ far (near_under depth (Object (OfVariable depth x)) w under (inr refl))
+    | inr (k, named, begins_it, lent) ↦ (
+        let begins_there = longer (Object (OfVariable depth x)) w under in
+        let begins_lent = longer k w begins_it in
+        let root : number_of k ≡ x = sym begins_lent.root ∙ begins_there.root in
+        let at_home : home s depth (number_of k) ≡ depth =
+        same_frame (home s depth (number_of k)) (number_of k) depth x (sym (named_base (home s depth) k named) ∙ sym begins_lent.base ∙ begins_there.base) in
+        free.1 Borrowed (way_name k) lent root (sym at_home ∙ ap (home s depth) root))
+  ]
   unspoken x facts z viewed (unmoved, free) w (inl d) under =
       let begins_there = longer (Object (OfVariable depth x)) w under in
       let named : Named (home s depth) w = named_definite (home s depth) (is_observer s) other v elsewhere apart z facts viewed w d in
@@ -187,7 +197,7 @@ module _ (t : Turn) (settled : IsSettled (typing t).table) (own_law : OwnsByShap
       let root : number_of (expand v d.0) ≡ x = ap number_of d.3 ∙ begins_there.root in
       elim (stands_root v d.0) [
         | inl e ↦ unmoved (way_name d.0) d.1.1 (sym e ∙ root) (sym at_home)
-        | inr (y, k, has, e) ↦ free y k has at_home (sym e ∙ root)
+        | inr (y, k, has, e) ↦ free.0 y k has at_home (sym e ∙ root)
       ]
 
   then_declared : (x : ℕ) (facts : List Fact) (y : Evaluated (List machine.Word)) → Given_here (object_at s x).of facts y → ExactTo_here facts y → Speaks_not x facts
@@ -293,15 +303,15 @@ module _ (t : Turn) (settled : IsSettled (typing t).table) (own_law : OwnsByShap
       (record { base = refl; made = tt; at = refl; there = refl; of = inl refl }) refl refl Excused t.point.pos pos count known
 
   pub end_scope_exact : (left : Views) (x : ℕ) (borrower : Bool) → home s depth x ≡ depth → (facts : List Fact)
-      → Viewed (home s depth) (is_observer s) other v (seen s m hands t.state.leaks) facts
+      → Viewed (home s depth) (is_observer s) other v (seen s m hands t.state.leaks) facts → ((l : Loan) (n : PlaceName) → other.lent l n → n.root ≡ x → ⊥)
       → ((y : ℕ) (w : Way) → v.way y ≡ Some w → is_anonymous (view_of s y) ≡ true)
       → ((y : ℕ) (w : Way) → left.way y ≡ Some w → (v.way y ≡ Some w) × (number_of w ≡ x → ⊥)) → Exact m facts
       → IsExact s (home s depth) left elsewhere (undeclared depth x m) (effect (act.EndScope x borrower) facts)
-  end_scope_exact left x borrower mine facts viewed only was exact =
+  end_scope_exact left x borrower mine facts viewed unlent only was exact =
       let checks = checks_made s.table settled (content s m hands (OfRoot (OfVariable (home s depth x) x))) [] (object_at s x).of t.point.pos t.state.leaks refl
       (ap not (no_formals x)) (alike s.table settled (object_at s x).of (object_at s x).of (inl refl)) in
       subst (λ f. IsExact s (home s depth) left elsewhere (undeclared f x m) (effect (act.EndScope x borrower) facts)) mine
-      (ended_exact s settled (home s depth) (is_observer s) other v elsewhere apart m hands t.state.leaks _ facts left x borrower viewed checks was
+      (ended_exact s settled (home s depth) (is_observer s) other v elsewhere apart m hands t.state.leaks _ facts left x borrower viewed unlent checks was
       (λ y w n has. view_empty m hands t.state.leaks (home s depth y) y (only y w has) n) exact)
 
   -- ---- views with other ways

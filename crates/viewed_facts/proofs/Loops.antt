@@ -1,5 +1,7 @@
 -- Facts without an element stay exact in output, input and the iterations of loops, which change scalar places at most.
-use Rattle.std.proofs.Common.{◌≡◌, refl, sym, ap, ◌∙◌, subst, inl, inr, ℕ, suc, ◌+◌, Bool, true, false, List, [], ◌∷◌, ◌++◌, take, drop, length, append-nil, arith, ℤ, Option, Some, None, if◌then◌else◌}
+use Rattle.std.proofs.Common.{◌≡◌, refl, sym, ap, ◌∙◌, subst, inl, inr, ℕ, suc, ◌+◌, Bool, true, false, List, [], ◌∷◌, ◌++◌, take, drop, length, append-nil, arith, ℤ, Option, Some, None, if◌then◌else◌, ◌⊎◌}
+use Rattle.viewed_facts.proofs.Steps.{IsOthers, of_others}
+use Rattle.place_names.specs.declared.rule.Loan.TheVariants.{Borrowed}
 use Rattle.std.specs.Prelude as int
 use Rattle.spark_base.specs.declared.position.Pos.{Pos}
 use Rattle.place_names.specs.declared.act.Act.{Act}
@@ -46,7 +48,7 @@ use Rattle.soundness.proofs.Numbers.{index_law}
 use Rattle.soundness.proofs.Lasting.{keeps}
 use Rattle.soundness.proofs.Freeing.{switched}
 use Rattle.soundness.proofs.Loops.{scalar_same}
-use Rattle.owned_loans.specs.Views.{Around, Views, expand}
+use Rattle.owned_loans.specs.Views.{Around, Views, expand, IsThrough}
 use Rattle.owned_loans.proofs.Allowed.{write_open}
 use Rattle.owned_loans.proofs.Moves.{named_way}
 use Rattle.viewed_soundness.specs.Holds.{PartsAreNamed}
@@ -55,7 +57,6 @@ use Rattle.viewed_soundness.proofs.Evaluated.{Ready, live_trunk, blank_ready}
 use Rattle.viewed_soundness.proofs.Outcomes.{IsGood, start_is, live}
 use Rattle.viewed_steps.proofs.Rounds.{Starts, text_quiet}
 use Rattle.viewed_steps.proofs.Read.{Gets}
-use Rattle.exact_facts.proofs.Memories.{clear_names}
 use Rattle.viewed_facts.specs.Exact.{IsExact}
 use Rattle.viewed_facts.proofs.Memories.{stored_exact}
 use Rattle.viewed_facts.proofs.Instructions.{ExactOn, same_exact}
@@ -64,7 +65,7 @@ module _ (t : Turn) (settled : IsSettled (typing t).table) (own_law : OwnsByShap
     (alone : (w : Way) → IsNear (length t.outer) w → other.gone w → ⊥) (no_formals : (x : ℕ) → is_view_formal (typing t) x ≡ false)
     (v : Views) (parts_named : PartsAreNamed (typing t).table) (may : ℕ → ℕ → Type 0)
     (frames : t.state.frames ≡ t.frame ∷ t.outer) (none : taken t.point.instr ≡ 0)
-    (elsewhere : Way → Type 0) (away : (w : Way) → IsNear (length t.outer) w → elsewhere w → ⊥) (Excused : LeakSpot → Type 0) where
+    (elsewhere : Way → Type 0) (away : (w : Way) → elsewhere w → (IsNear (length t.outer) w → ⊥) ⊎ IsThrough (home (typing t) (length t.outer)) other.lent Borrowed w) (Excused : LeakSpot → Type 0) where
   abbrev s : Typing
   s = typing t
 
@@ -89,8 +90,8 @@ module _ (t : Turn) (settled : IsSettled (typing t).table) (own_law : OwnsByShap
   abbrev ExactHere : List Fact → Outcome → Type 0
   ExactHere facts outcome = ExactOn t settled own_law other alone no_formals v parts_named may frames none elsewhere away Excused facts [] outcome
 
-  away_from : (k w : Way) → Under k w → Named (home s depth) k → elsewhere w → ⊥
-  away_from = clear_names s depth elsewhere away
+  away_from : (w : Way) → elsewhere w → IsOthers (home s depth) other w
+  away_from w e = of_others s depth other w (away w e)
 
   -- before these values are taken
   abbrev at : List (List machine.Word) → Now

@@ -1,5 +1,6 @@
 -- Facts without an element stay exact in releases, and their excused leak checks don't fail.
-use Rattle.std.proofs.Common.{◌≡◌, refl, sym, ap, ◌∙◌, subst, inl, inr, ℕ, suc, Bool, true, false, not, List, [], ◌∷◌, ◌++◌, map, length, arith}
+use Rattle.std.proofs.Common.{◌≡◌, refl, sym, ap, ◌∙◌, subst, inl, inr, ℕ, suc, Bool, true, false, not, List, [], ◌∷◌, ◌++◌, map, length, arith, ◌⊎◌}
+use Rattle.place_names.specs.declared.rule.Loan.TheVariants.{Borrowed}
 use Rattle.spark_base.specs.Lists.{Has}
 use Rattle.spark_base.specs.declared.position.Pos.{Pos}
 use Rattle.place_names.specs.declared.selector.Sel.TheVariants as sel
@@ -46,7 +47,7 @@ use Rattle.soundness.proofs.Scalars.{acts, acts_append, after_append, allows_bot
 use Rattle.soundness.proofs.Taking.{Takes}
 use Rattle.soundness.proofs.Stays.{Quiet}
 use Rattle.soundness.proofs.Numbers.{index_law}
-use Rattle.owned_loans.specs.Views.{Around, Views, expand, ExcusedBy}
+use Rattle.owned_loans.specs.Views.{Around, Views, expand, ExcusedBy, IsThrough}
 use Rattle.owned_loans.proofs.Allowed.{free_open}
 use Rattle.owned_loans.proofs.Moves.{IsPlace, named_way}
 use Rattle.viewed_soundness.specs.Holds.{IsNamed, PartsAreNamed}
@@ -57,10 +58,9 @@ use Rattle.viewed_soundness.proofs.Outcomes.{IsGood, live}
 use Rattle.viewed_steps.proofs.Released.{free_clean, Releases}
 use Rattle.exact_facts.specs.Exact.{Knows}
 use Rattle.exact_facts.proofs.Steps.{fact_before}
-use Rattle.exact_facts.proofs.Memories.{clear_names}
 use Rattle.exact_facts.proofs.Instructions.{none_made}
 use Rattle.viewed_facts.specs.Exact.{IsExact}
-use Rattle.viewed_facts.proofs.Steps.{definite_variable, variables_after, told_released, told_fewer}
+use Rattle.viewed_facts.proofs.Steps.{definite_variable, variables_after, told_released, told_fewer, IsOthers, of_others}
 use Rattle.viewed_facts.proofs.Memories.{told_seen, exact_from}
 use Rattle.viewed_facts.proofs.Checks.{place_holds}
 use Rattle.viewed_facts.proofs.Instructions.{ExactOn}
@@ -69,7 +69,7 @@ module _ (t : Turn) (settled : IsSettled (typing t).table) (own_law : OwnsByShap
     (alone : (w : Way) → IsNear (length t.outer) w → other.gone w → ⊥) (no_formals : (x : ℕ) → is_view_formal (typing t) x ≡ false)
     (v : Views) (parts_named : PartsAreNamed (typing t).table) (may : ℕ → ℕ → Type 0)
     (frames : t.state.frames ≡ t.frame ∷ t.outer) (none : taken t.point.instr ≡ 0)
-    (elsewhere : Way → Type 0) (away : (w : Way) → IsNear (length t.outer) w → elsewhere w → ⊥) (Excused : LeakSpot → Type 0) where
+    (elsewhere : Way → Type 0) (away : (w : Way) → elsewhere w → (IsNear (length t.outer) w → ⊥) ⊎ IsThrough (home (typing t) (length t.outer)) other.lent Borrowed w) (Excused : LeakSpot → Type 0) where
   abbrev s : Typing
   s = typing t
 
@@ -97,8 +97,8 @@ module _ (t : Turn) (settled : IsSettled (typing t).table) (own_law : OwnsByShap
   abbrev Does : (Place → Memory → Outcome) → Pos → Type 0
   Does f pos = Releases t settled own_law other alone no_formals v parts_named may frames none f pos
 
-  away_from : (k w : Way) → Under k w → Named (home s depth) k → elsewhere w → ⊥
-  away_from = clear_names s depth elsewhere away
+  away_from : (w : Way) → elsewhere w → IsOthers (home s depth) other w
+  away_from w e = of_others s depth other w (away w e)
 
   abbrev spots_of : PlaceName → Pos → ℕ → ℕ → List LeakSpot
   spots_of name pos count u = map (spot pos (extend name (sel.Deref ∷ [])) count) (parts s.table (designated s.table u))

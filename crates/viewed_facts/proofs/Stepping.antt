@@ -1,6 +1,7 @@
 -- In a step of a procedure that is no call, of a program that is ready: facts of all frames stay exact, and no leak check
 -- fails that is excused.
-use Rattle.std.proofs.Common.{◌≡◌, eqb-true, refl, sym, ap, ◌∙◌, subst, inl, inr, ℕ, suc, Bool, true, false, not, ◌||◌, List, [], ◌∷◌, ◌++◌, map, drop, length, append_assoc, append-nil, ◌+◌, Option, Some, None, nat_lt, int_le, ◌&&◌, if◌then◌else◌}
+use Rattle.std.proofs.Common.{◌≡◌, eqb-true, refl, sym, ap, ◌∙◌, subst, inl, inr, ℕ, suc, Bool, true, false, not, ◌||◌, List, [], ◌∷◌, ◌++◌, map, drop, length, append_assoc, append-nil, ◌+◌, Option, Some, None, nat_lt, int_le, ◌&&◌, if◌then◌else◌, ◌⊎◌}
+use Rattle.place_names.specs.declared.rule.Loan.TheVariants.{Borrowed}
 use Rattle.spark_base.specs.Lists.{Has}
 use Rattle.spark_base.specs.declared.position.Pos.{Pos}
 use Rattle.spark_base.proofs.Lists.{Has-append_left, Has-append_right, Has-map_from}
@@ -60,7 +61,7 @@ use Rattle.soundness.proofs.Operands.{handed_over, hold_is}
 use Rattle.soundness.specs.Ready.{Fills}
 use Rattle.soundness.proofs.Inherited.{after_splits}
 use Rattle.soundness.proofs.Around.{IsFar}
-use Rattle.owned_loans.specs.Views.{Around, known_gone, Views, Viewed}
+use Rattle.owned_loans.specs.Views.{Around, known_gone, Views, Viewed, IsThrough}
 use Rattle.viewed_soundness.specs.Holds.{IsNamed, AllKeep}
 use Rattle.viewed_soundness.proofs.Names.{plain_named, true_false}
 use Rattle.viewed_soundness.proofs.Evaluated.{keep_both}
@@ -88,7 +89,7 @@ use Rattle.viewed_facts.proofs.Instructions.{ExactOn, value_on, waits_exact, sou
 use Rattle.viewed_facts.proofs.Viewing.{view_parts, view_declared_on, view_assigned_on, reborrow_unmoved}
 use Rattle.viewed_facts.proofs.Releases.{released_on}
 use Rattle.viewed_facts.proofs.Loops.{next_exact, started_on, output_on, line_exact, got_on}
-use Rattle.viewed_facts.proofs.Frames.{spare_keeps, IsDefiniteHere, beside_told, apart_told}
+use Rattle.viewed_facts.proofs.Frames.{elsewhere as moved_elsewhere, spare_keeps, IsDefiniteHere, beside_told, apart_told}
 
 module _ (table : Table) (typed : TypedProgram) (effects : Effects) (input : List ℕ) (ready : IsReady table typed effects) where
   abbrev program : FlowProgram
@@ -141,10 +142,11 @@ module _ (table : Table) (typed : TypedProgram) (effects : Effects) (input : Lis
     alone = innermost.alone table typed effects input ready state top below more_frames rest named p frames deep stages running awaiting of_sub at_point path views viewed_before kept scope holds placed_before above
 
     abbrev elsewhere : Way → Type 0
-    elsewhere = IsFar (suc (length rest)) (IsDefiniteOf program effects (below ∷ more_frames))
+    elsewhere = moved_elsewhere table typed effects unmoved_stage local state (suc (length rest)) (below ∷ more_frames) between views (innermost.own_views table typed effects input ready state top below more_frames rest named p frames deep stages running awaiting of_sub at_point path views viewed_before kept scope holds placed_before above)
 
-    away : (w : Way) → IsNear (suc (length rest)) w → IsFar (suc (length rest)) (IsDefiniteOf program effects (below ∷ more_frames)) w → ⊥
-    away w near e = e.0 near
+    away : (w : Way) → elsewhere w → (IsNear (suc (length rest)) w → ⊥) ⊎ IsThrough (home s (suc (length rest))) other.lent Borrowed w
+    away w (inl e) = inl e.0
+    away w (inr e) = inr e.0
 
     abbrev at : Turn
     at = standing.t table typed effects input ready state top older outer named p frames of_sub at_point
@@ -263,18 +265,18 @@ module _ (table : Table) (typed : TypedProgram) (effects : Effects) (input : Lis
     ]
 
     after_around : ((name : PlaceName) → (Uses effects top.frame.sub name.root → ⊥) → is_package_object s name.root ≡ true → (a : Placed) → Has (placed_by p.instr) a
-        → removes a.act (Moved name) ≡ false) → (f : Fact) → Has around f → Has (after (acts_by p.instr) facts_now) f
-    after_around leaves f has =
-        let found = innermost.unused_here table typed effects input ready state top below more_frames rest named p frames deep stages running awaiting of_sub at_point path views viewed_before kept scope holds placed_before above f has in
-        after_keeps (acts_by p.instr) facts_now f
+        → removes a.act (Moved name) ≡ false) → (name : PlaceName) → Has around (Moved name) → Has (after (acts_by p.instr) facts_now) (Moved name)
+    after_around leaves name has =
+        let found = innermost.unused_here table typed effects input ready state top below more_frames rest named p frames deep stages running awaiting of_sub at_point path views viewed_before kept scope holds placed_before above name has in
+        after_keeps (acts_by p.instr) facts_now (Moved name)
         (λ a there. (
         let from = Has-map_from (λ (z : Placed). z.act) (placed_by p.instr) a there in
-        ap (λ z. removes z f) (sym from.2) ∙ ap (removes (from.0).act) found.1 ∙ leaves found.0 found.3 found.2 from.0 from.1))
-        (Has-append_right own_facts around f has)
+        ap (λ z. removes z (Moved name)) (sym from.2) ∙ leaves name found.1 found.0 from.0 from.1))
+        (Has-append_right own_facts around (Moved name) has)
 
     -- what the frames have after the step, from what is exact for the innermost one
     all_told : (next : Memory) (later : Views) → ((x : ℕ) (w : Way) → later.way x ≡ Some w → is_anonymous (view_of s x) ≡ true) → IsNoCall p.instr
-        → ((f : Fact) → Has around f → Has (after (acts_by p.instr) facts_now) f)
+        → ((name : PlaceName) → Has around (Moved name) → Has (after (acts_by p.instr) facts_now) (Moved name))
         → IsExact s (home s depth) later elsewhere next (after (acts_by p.instr) facts_now)
         → Told (seen s next [] []) (IsDefiniteHere table typed effects unmoved_stage local depth later (facts_before points (top.frame.next ∷ top.before)) older)
     all_told next later only no_calls kept_around exact_there =
@@ -669,10 +671,10 @@ module _ (table : Table) (typed : TypedProgram) (effects : Effects) (input : Lis
 
       -- ---- facts of all frames
 
-      kept_around : (p.instr ≡ Finish → ⊥) → (f : Fact) → Has around f → Has (after (acts_by p.instr) facts_now) f
-      kept_around end f has =
+      kept_around : (p.instr ≡ Finish → ⊥) → (name : PlaceName) → Has around (Moved name) → Has (after (acts_by p.instr) facts_now) (Moved name)
+      kept_around end name has =
           after_around (λ name spared shared a there.
-          spare_keeps s name a.act (spare_has s (placed_by p.instr) (each.spares table typed effects input ready state top below more_frames rest named p frames deep stages running awaiting of_sub at_point path views viewed_before kept scope holds placed_before above going no_calls end) a there) (writes_none name spared shared a there)) f has
+          spare_keeps s name a.act (spare_has s (placed_by p.instr) (each.spares table typed effects input ready state top below more_frames rest named p frames deep stages running awaiting of_sub at_point path views viewed_before kept scope holds placed_before above going no_calls end) a there) (writes_none name spared shared a there)) name has
 
       -- no moved name is rooted in a view that is declared or assigned
       assigned_unmoved : (q : Pos) (x u : ℕ) (e : TypedTree) → p.instr ≡ Assign (Name q x NoMore u) e → (p.instr ≡ Finish → ⊥)
@@ -757,9 +759,9 @@ module _ (table : Table) (typed : TypedProgram) (effects : Effects) (input : Lis
       IsLeft (Goes next) = next.memory ≡ undeclared depth y state.memory
       IsLeft (Ends how next) = Unit {0}
 
-      ended_around : (f : Fact) → Has around f → Has (after (acts_by p.instr) facts_now) f
-      ended_around f has =
-          after_around (λ name spared shared a there. by_act name shared a (subst (λ i. Has (placed_by i) a) is there)) f has
+      ended_around : (name : PlaceName) → Has around (Moved name) → Has (after (acts_by p.instr) facts_now) (Moved name)
+      ended_around name has =
+          after_around (λ name spared shared a there. by_act name shared a (subst (λ i. Has (placed_by i) a) is there)) name has
         where
           by_root : (name : PlaceName) → is_package_object s name.root ≡ true → removes (act.EndScope y (is_borrower s y)) (Moved name) ≡ false
           by_root name shared = elim (bool_cases (removes (act.EndScope y (is_borrower s y)) (Moved name))) [
@@ -778,7 +780,7 @@ module _ (table : Table) (typed : TypedProgram) (effects : Effects) (input : Lis
           all_told next.memory later only no_call_there ended_around
           (subst (λ z. IsExact s (home s depth) later elsewhere z (after (acts_by p.instr) facts_now)) (sym memory_is)
           (subst (λ i. IsExact s (home s depth) later elsewhere (undeclared depth y state.memory) (after (acts_by i) facts_now)) (sym is)
-          (end_scope_exact easy ready.accepted.settled ready.owns other alone no_formals views ready.class.parts_named none_taken refl refl elsewhere away Excused later y (is_borrower s y) (home_frame y not_shared) facts_now viewed_easy.0 holds.only left exact)))
+          (end_scope_exact easy ready.accepted.settled ready.owns other alone no_formals views ready.class.parts_named none_taken refl refl elsewhere away Excused later y (is_borrower s y) (home_frame y not_shared) facts_now viewed_easy.0 (innermost.not_lent table typed effects input ready state top below more_frames rest named p frames deep stages running awaiting of_sub at_point path views viewed_before kept scope holds placed_before above y not_shared) holds.only left exact)))
         where
           left_there : IsLeft (step program input state)
           left_there = subst IsLeft (sym (standing.step_is table typed effects input ready state top older outer named p frames of_sub at_point)) (subst (λ i. IsLeft (turn at i)) (sym is) refl)

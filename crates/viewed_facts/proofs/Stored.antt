@@ -1,5 +1,6 @@
 -- Facts without an element stay exact in an assignment to what isn't a view, and its excused leak checks don't fail.
-use Rattle.std.proofs.Common.{◌≡◌, refl, sym, ap, ◌∙◌, subst, inl, ℕ, suc, false, List, [], ◌∷◌, ◌++◌, map, length, arith, append_assoc}
+use Rattle.std.proofs.Common.{◌≡◌, refl, sym, ap, ◌∙◌, subst, inl, ℕ, suc, false, List, [], ◌∷◌, ◌++◌, map, length, arith, append_assoc, ◌⊎◌}
+use Rattle.place_names.specs.declared.rule.Loan.TheVariants.{Borrowed}
 use Rattle.spark_base.specs.Lists.{Has}
 use Rattle.spark_base.specs.declared.position.Pos.{Pos}
 use Rattle.place_names.specs.declared.act.Act.{Act}
@@ -32,16 +33,15 @@ use Rattle.soundness.proofs.Scalars.{after_append, allows_both, acts, acts_appen
 use Rattle.soundness.proofs.Taking.{Takes, TakesPlainly}
 use Rattle.soundness.proofs.Stays.{Quiet}
 use Rattle.soundness.proofs.Evaluated.{regrouped, Keeps}
-use Rattle.owned_loans.specs.Views.{Around, Views, expand}
+use Rattle.owned_loans.specs.Views.{Around, Views, expand, IsThrough}
 use Rattle.owned_loans.proofs.Allowed.{write_open}
 use Rattle.owned_loans.proofs.Moves.{named_way}
 use Rattle.viewed_soundness.specs.Holds.{IsNamed, PartsAreNamed, AllKeep}
 use Rattle.viewed_soundness.proofs.Stays.{Goes, steps_taking, name_on}
 use Rattle.viewed_soundness.proofs.Evaluated.{keep_both, Ready, GivenOn, live_trunk, checked_on, evaluated_on}
 use Rattle.exact_facts.specs.Exact.{NoneFails, Knows}
-use Rattle.exact_facts.proofs.Memories.{clear_names}
 use Rattle.viewed_facts.specs.Exact.{IsExact}
-use Rattle.viewed_facts.proofs.Steps.{definite_variable}
+use Rattle.viewed_facts.proofs.Steps.{definite_variable, IsOthers, of_others}
 use Rattle.viewed_facts.proofs.Memories.{stored_exact}
 use Rattle.viewed_facts.proofs.Evaluated.{ExactTo, checked_exact, exact_on}
 use Rattle.viewed_facts.proofs.Checks.{place_holds}
@@ -50,15 +50,15 @@ module _ (h : Here) (settled : IsSettled h.typing.table) (leaks : List Leak) (wa
     (alone : (w : Way) → IsNear h.frame w → other.gone w → ⊥) (keeps : Keeps h.typing)
     (no_formals : (x : ℕ) → is_view_formal h.typing x ≡ false) (index_law : IndexLaw) (own_law : OwnsByShape h.typing.table)
     (v : Views) (parts_named : PartsAreNamed h.typing.table)
-    (elsewhere : Way → Type 0) (away : (w : Way) → IsNear h.frame w → elsewhere w → ⊥) (Excused : LeakSpot → Type 0) where
+    (elsewhere : Way → Type 0) (away : (w : Way) → elsewhere w → (IsNear h.frame w → ⊥) ⊎ IsThrough (home h.typing h.frame) other.lent Borrowed w) (Excused : LeakSpot → Type 0) where
   abbrev ReadyIn : Memory → List Waiting → List Fact → Type 0
   ReadyIn m hands facts = Ready h settled leaks waits other alone keeps no_formals index_law own_law v parts_named m hands facts
 
   abbrev Exact : Memory → List Fact → Type 0
   Exact m facts = IsExact h.typing (home h.typing h.frame) v elsewhere m facts
 
-  apart : (k w : Way) → Under k w → Named (home h.typing h.frame) k → elsewhere w → ⊥
-  apart = clear_names h.typing h.frame elsewhere away
+  apart : (w : Way) → elsewhere w → IsOthers (home h.typing h.frame) other w
+  apart w e = of_others h.typing h.frame other w (away w e)
 
   -- What it comes to: facts are exact once the value is stored, and no check of the place fails that
   -- is excused by the facts before.
