@@ -405,7 +405,7 @@ module _ (table : Table) (typed : TypedProgram) (effects : Effects) (input : Lis
       plain_result : is_scalar (full s.table of) ≡ true
       plain_result = innermost.plain_result table typed effects input ready state top below more_frames rest named p frames deep stages running awaiting of_sub at_point path views viewed_before kept scope holds placed_before above of result
 
-      named_result : IsNamed s.table of
+      pub named_result : IsNamed s.table of
       named_result = scalar_named s.table of plain_result
 
       acts_then : acts_of_main p.instr ≡ acts (acts_in s e)
