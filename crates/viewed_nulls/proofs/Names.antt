@@ -20,7 +20,8 @@ use Rattle.soundness.proofs.Walks.{way_along, Lead, Walked}
 use Rattle.soundness.proofs.Scalars.{number_along, named_along}
 use Rattle.owned_loans.specs.Views.{Around, Views, expand, ExcusedBy, Viewed}
 use Rattle.owned_loans.proofs.Ways.{Lifted, lifted_root}
-use Rattle.owned_loans.proofs.Safe.{OpenWhole, Unborrowed, Unmoved, open_itself, seen_below, clean_below}
+use Rattle.owned_loans.proofs.Safe.{OpenWhole, Unborrowed, Unmoved}
+use Rattle.owned_loans.proofs.Others.{itself_away, seen_away_below, clean_away}
 use Rattle.owned_loans.proofs.Moves.{named_way, view_named}
 use Rattle.viewed_soundness.specs.Holds.{PartsAreNamed, Holds}
 use Rattle.viewed_soundness.proofs.Names.{Starts, starts_leads, plain_named, plain_observer, true_false, view_access, way_live, Opens, IsRaised, one_slot, owner_clean, view_clean, name_walked, name_lifted}
@@ -184,10 +185,10 @@ module _ (h : Here) (settled : IsSettled h.typing.table) (hands : List Waiting) 
       where
         by_kind : (b : Bool) → is_observer s x ≡ b → ⊥
         by_kind false e =
-            open_itself (home s h.frame) (is_observer s) v view_here facts viewed.views viewed.clear u (named, ap (is_observer s) root ∙ e) (opens e) moved
+            itself_away (home s h.frame) (is_observer s) other v view_here facts viewed u (named, ap (is_observer s) root ∙ e) (opens e) moved
         by_kind true e =
             let l = lifted e in
-            seen_below (home s h.frame) (is_observer s) v view_here facts viewed.views viewed.clear u (expand v u) l named
+            seen_away_below (home s h.frame) (is_observer s) other v view_here facts viewed u (expand v u) l named
             (ap (is_observer s) (sym (lifted_root v u l) ∙ root) ∙ e) (under_itself (expand v u)) moved
 
     -- an access value that an owner has
@@ -238,7 +239,7 @@ module _ (h : Here) (settled : IsSettled h.typing.table) (hands : List Waiting) 
         found_whole (expand v u) t
         (λ k l spot reaches of. unmoved_whole s settled m hands leaks excused viewed.known (expand v u) l rooted reaches (live (expand v u) l rooted reaches)
         (λ p moved. elim moved [
-          | inl said ↦ clean_below (home s h.frame) (is_observer s) v view_here facts viewed.views viewed.clear u (along (expand v u) p) (named, seen_not) unborrowed clean
+          | inl said ↦ clean_away (home s h.frame) (is_observer s) other v view_here facts viewed u (along (expand v u) p) (named, seen_not) unborrowed clean
               (under_along (expand v u) (expand v u) p (under_itself (expand v u))) said
           | inr o ↦ alone (along (expand v u) p) (near_along h.frame (expand v u) p (named_near s h.frame (expand v u) stands)) o
         ]))

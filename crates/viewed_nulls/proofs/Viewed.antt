@@ -1,5 +1,5 @@
 -- Names and expressions in programs with borrowers and observers behave as instructions ask.
-use Rattle.std.proofs.Common.{◌≡◌, refl, sym, ap, ◌∙◌, subst, inl, ℕ, Bool, true, false, ◌||◌, List, [], ◌∷◌}
+use Rattle.std.proofs.Common.{◌≡◌, refl, sym, ap, ◌∙◌, subst, inl, ℕ, Bool, true, false, List, [], ◌∷◌}
 use Rattle.place_names.specs.declared.act.Act.TheVariants as act
 use Rattle.place_names.specs.declared.act.Mode.{Mode}
 use Rattle.place_names.specs.declared.fact.Fact.{Fact}
@@ -9,7 +9,7 @@ use Rattle.type_definitions.specs.declared.table.Shape.TheVariants as shape
 use Rattle.type_definitions.specs.Types.{Table, shape_of, view_of as view_of_shape, parts}
 use Rattle.typed_tree.specs.Trees.{TypedTree}
 use Rattle.flow_paths.specs.Objects.{object_at, is_anonymous, is_observer}
-use Rattle.flow_paths.specs.Names.{has_call, waiting, name_of}
+use Rattle.flow_paths.specs.Names.{waiting, name_of}
 use Rattle.flow_paths.specs.Acts.{acts_in}
 use Rattle.machine.specs.Words as machine
 use Rattle.machine.specs.Memory.{Memory, Place}
@@ -29,18 +29,17 @@ use Rattle.soundness.specs.Ready.{IsActualBy}
 use Rattle.typed_laws.specs.Needed.{IndexLaw}
 use Rattle.soundness.proofs.Walks.{way_along, past_along, Lead, walk}
 use Rattle.soundness.proofs.Scalars.{acts, number_along}
-use Rattle.soundness.proofs.Waits.{no_waits}
-use Rattle.soundness.proofs.Taking.{Takes, takes_as, takes_zero}
+use Rattle.soundness.proofs.Taking.{Takes, TakesPlainly, both_plainly}
 use Rattle.soundness.proofs.Passing.{IsLaid, way_by, head_acts}
-use Rattle.soundness.proofs.Stays.{Quiet, One}
+use Rattle.soundness.proofs.Stays.{Quiet}
 use Rattle.soundness.proofs.Lasting.{keeps}
 use Rattle.owned_loans.specs.Views.{Around, Views, expand, ExcusedBy}
 use Rattle.owned_loans.proofs.Safe.{Open, OpenWhole}
 use Rattle.owned_loans.proofs.Allowed.{read_open, look_open, look_whole, move_open, move_unlent, move_unmoved, write_open, free_open, free_whole}
 use Rattle.viewed_soundness.specs.Holds.{IsNamed, PartsAreNamed, AllKeep}
 use Rattle.viewed_soundness.proofs.Names.{Starts, name_walked}
-use Rattle.viewed_soundness.proofs.Stays.{Goes, quiet, steps_quiet}
-use Rattle.viewed_soundness.proofs.Evaluated.{keep_both, matches_named, part_named, Ready, Given, live_trunk, evaluated}
+use Rattle.viewed_soundness.proofs.Stays.{Goes, taking, steps_taking}
+use Rattle.viewed_soundness.proofs.Evaluated.{keep_both, matches_named, part_named, Ready, GivenOn, live_trunk, evaluated_on}
 use Rattle.viewed_steps.proofs.Called.{IsGiven, one_given, given_laid}
 use Rattle.null_places.proofs.Only.{OnlyOwners}
 use Rattle.null_places.proofs.Walks.{walk_same}
@@ -48,21 +47,17 @@ use Rattle.null_places.proofs.Direct.{has_deref, past_deref, selectors_direct}
 use Rattle.null_places.proofs.Laws.{Premises, LeadsSame, LeadsWhole, Behaves, GivenBy, Values}
 use Rattle.viewed_nulls.proofs.Names.{name_same, found_at, view_whole, access_found, owner_found}
 
-pub either_none : (a b : Bool) → a || b ≡ false → (a ≡ false) × (b ≡ false)
-either_none true b e = cc
-either_none false b e = (refl, e)
-
 -- the type of a view
 pub anonymous_access : (c : Bool) → is_anonymous (view_of_shape (shape.Access 0 c false)) ≡ true
 anonymous_access true = refl
 anonymous_access false = refl
 
--- Expressions have no call. Nothing is moved, written or freed through an observer, and no value is
+-- An expression has no call, or the results of all functions are of scalar types. Nothing is moved, written or freed through an observer, and no value is
 -- taken for a view.
 abbrev pub viewed_premises : (h : Here) → PartsAreNamed h.typing.table → Premises h
 viewed_premises h parts_named = record {
-  calls = λ calls. calls ≡ false;
-  both_calls = either_none;
+  calls = TakesPlainly h.typing;
+  both_calls = both_plainly h.typing;
   keeps = AllKeep (is_observer h.typing);
   both_keep = keep_both (is_observer h.typing);
   takes = IsNamed h.typing.table;
@@ -84,10 +79,6 @@ module _ (h : Here) (settled : IsSettled h.typing.table) (leaks : List Leak) (ot
     (own_law : OwnsByShape h.typing.table) (v : Views) (parts_named : PartsAreNamed h.typing.table) where
   abbrev pub IsReadyIn : Memory → List Waiting → List Fact → Type 0
   IsReadyIn m hands facts = Ready h settled leaks [] other alone (keeps h.typing settled own_law) no_formals index_law own_law v parts_named m hands facts
-
-  -- without calls no value is taken
-  none_taken : (e : TypedTree) (before on : List (List machine.Word)) → Takes (waiting e) before on → has_call e ≡ false → before ≡ on
-  none_taken e before on takes calls = takes_zero before on (takes_as (waiting e) 0 before on (no_waits e calls) takes)
 
   -- ---- names and scalar expressions
 
@@ -198,12 +189,11 @@ module _ (h : Here) (settled : IsSettled h.typing.table) (leaks : List Leak) (ot
     laid on mode_of e (Traps x n) is = is
 
     actual : (x : ℕ) (mode_of : Mode) (e : TypedTree) → IsActualBy h.typing mode_of e → (is_in mode_of ≡ false → goes_through_none e ≡ true)
-        → (before on : List (List machine.Word)) → Takes (waiting e) before on → has_call e ≡ false → AllowsAll facts (acts (head_acts h.typing own_law mode_of e))
+        → (before on : List (List machine.Word)) → Takes (waiting e) before on → AllowsAll facts (acts (head_acts h.typing own_law mode_of e))
         → Quiet (at on) (λ a. IsLaid h.typing a) (passed h (way_by h.typing own_law mode_of) x e (at before))
-    actual x mode_of e by direct before on takes calls allowed =
-        subst (λ z. Quiet (at on) (λ a. IsLaid h.typing a) (passed h (way_by h.typing own_law mode_of) x e (at z))) (sym (none_taken e before on takes calls))
-        (laid on mode_of e (passed h (way_by h.typing own_law mode_of) x e (at on))
-        (one_given h settled hands leaks m on other facts v ready.kept ready.viewed ready.holds alone live index_law own_law parts_named mode_of x e by direct calls allowed))
+    actual x mode_of e by direct before on takes allowed =
+        laid on mode_of e (passed h (way_by h.typing own_law mode_of) x e (at before))
+        (one_given h settled hands leaks m on other facts v ready.kept ready.viewed ready.holds alone live index_law own_law parts_named before on mode_of x e by direct takes allowed)
 
     -- ---- all together
 
@@ -212,13 +202,10 @@ module _ (h : Here) (settled : IsSettled h.typing.table) (leaks : List Leak) (ot
       kept = ready.kept;
       only = only;
       quiet = λ u e stays before on takes calls allowed.
-          subst (λ z. Quiet (at on) One (evaluate h u e (at z)) × (after (acts (acts_in h.typing e)) facts ≡ facts)) (sym (none_taken e before on takes calls))
-          (quiet h settled hands leaks m on other facts v ready.kept ready.viewed ready.holds alone live index_law own_law parts_named u e stays calls allowed);
+          taking h settled hands leaks m [] other facts v ready.kept ready.viewed ready.holds alone live index_law own_law parts_named u e stays before on takes allowed;
       steps = λ t u path lead before on takes calls allowed.
-          subst (λ z. Quiet (at on) (λ way. Goes h.typing.table t u path way) (steps_of h path (at z)) × (after (acts (acts_in h.typing path)) facts ≡ facts))
-          (sym (none_taken path before on takes calls))
-          (steps_quiet h settled hands leaks m on other facts v ready.kept ready.viewed ready.holds alone live index_law own_law parts_named t u path lead calls allowed);
-      passed = λ x mode_of e by direct before on takes calls allowed. actual x mode_of e by direct before on takes calls allowed;
+          steps_taking h settled hands leaks m [] other facts v ready.kept ready.viewed ready.holds alone live index_law own_law parts_named t u path lead before on takes allowed;
+      passed = λ x mode_of e by direct before on takes calls allowed. actual x mode_of e by direct before on takes allowed;
       read = λ on x t path way goes reads.
           leads on x t path way goes (read_open facts (way_along way (variable x)) (of_way x t path way goes (λ z. Allows facts (act.Read z)) reads));
       write = λ on x t path way goes writes.
@@ -231,20 +218,19 @@ module _ (h : Here) (settled : IsSettled h.typing.table) (leaks : List Leak) (ot
 
   -- ---- values
 
-  given_by : (before on : List (List machine.Word)) (want : ℕ) (hands : List Waiting) (facts : List Fact) (y : Evaluated (List machine.Word)) → before ≡ on
-      → Given h settled leaks before other alone (keeps h.typing settled own_law) no_formals index_law own_law v parts_named want hands facts y
+  given_by : (on : List (List machine.Word)) (want : ℕ) (hands : List Waiting) (facts : List Fact) (y : Evaluated (List machine.Word))
+      → GivenOn h settled leaks [] other alone (keeps h.typing settled own_law) no_formals index_law own_law v parts_named on want hands facts y
       → GivenBy h IsReadyIn on want hands facts y
-  given_by before on want hands facts (Done ws n) same (there, long, waits) =
-      (record { viewed = there.viewed; kept = there.kept; holds = there.holds }, long, waits ∙ same)
-  given_by before on want hands facts (Raises e n) same given = tt
-  given_by before on want hands facts (Traps e n) same none = none
+  given_by on want hands facts (Done ws n) given = given
+  given_by on want hands facts (Raises e n) given = tt
+  given_by on want hands facts (Traps e n) none = none
 
   pub viewed_values : Values h own_law (viewed_premises h parts_named)
       (λ m hands facts. Ready h settled leaks [] other alone (keeps h.typing settled own_law) no_formals index_law own_law v parts_named m hands facts)
   viewed_values = record {
     behaves = λ m hands facts ready only. viewed_behaves m hands facts ready only;
     given = λ e want gives calls before on takes m hands facts ready allowed own keep.
-        given_by before on want hands (after (acts (acts_in h.typing e)) facts) (evaluate h AsValue e (record { memory = m; waits = before })) (none_taken e before on takes calls)
-        (evaluated h settled leaks before other alone (keeps h.typing settled own_law) no_formals index_law own_law v parts_named e want gives calls m hands facts
-        (record { viewed = ready.viewed; kept = ready.kept; holds = ready.holds }) allowed own keep);
+        given_by on want hands (after (acts (acts_in h.typing e)) facts) (evaluate h AsValue e (record { memory = m; waits = before }))
+        (evaluated_on h settled leaks [] other alone (keeps h.typing settled own_law) no_formals index_law own_law v parts_named e want gives calls before on takes m hands facts
+        ready allowed own keep);
   }
