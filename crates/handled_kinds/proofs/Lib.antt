@@ -1,4 +1,6 @@
 pub mod Looks
 pub mod Parts
 pub mod Steps
+pub mod Places
 pub mod Lowered
+pub mod Filled

@@ -46,7 +46,7 @@ module _ (c : Site) (laws : IsTable c.typing.table) (m : Flat) (here taken : Lis
   zero_word : (o : ℤ) → Given (pos 0) ≡ Given o → unsigned_abs o ≡ 0
   zero_word o e = ap unsigned_abs (sym (given_same (pos 0) o e))
 
-  object_at_place : (x : ℕ) (p : Placed) → object_place c x ≡ Some p → IsAt p
+  pub object_at_place : (x : ℕ) (p : Placed) → object_place c x ≡ Some p → IsAt p
   unfolding word
   object_at_place x p is = by (is_package_object c.typing x) refl is
     where
