@@ -9,4 +9,3 @@ pub mod Facts
 pub mod Scoped
 pub mod Points
 pub mod Ready
-pub mod Written
