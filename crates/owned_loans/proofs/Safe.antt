@@ -10,7 +10,7 @@ use Rattle.place_names.specs.declared.fact.Fact.{Fact}
 use Rattle.place_names.specs.declared.fact.Fact.TheVariants.{Moved, Lent}
 use Rattle.place_names.specs.Names.{Name, overlaps, leads_to}
 use Rattle.owned_ways.specs.Ways.{OfVariable, Way, Object, Lost, Into, All, View, Under, Past, Named, IsMoved, name_of, number_of, sels_of, sel_of}
-use Rattle.owned_ways.proofs.Locations.{past_under, not_past}
+use Rattle.owned_ways.proofs.Locations.{past_under, not_past, under_itself}
 use Rattle.owned_ways.proofs.Named.{longer, under_leads}
 use Rattle.owned_loans.specs.Views.{Views, expand, expand_root, IsMovedBy, AreClear, HasLoan, AreViews}
 use Rattle.owned_loans.proofs.Ways.{Meet, meets_on, beginnings, under_on, meet_overlaps, Lifted, next_of}
@@ -44,6 +44,11 @@ pub record Open (facts : List Fact) (u : Way) : Type 0 where
   pub moved : (n : Name) → Has facts (Moved n) → leads_to n (name_of u) ≡ true → length n.sels < length (sels_of u) → ⊥
   pub lent : (h : ℕ) (n : Name) → Has facts (Lent Borrowed h n) → leads_to n (name_of u) ≡ true → length n.sels < length (sels_of u) → ⊥
 
+-- None leads to it, the name itself or a shorter one.
+pub record OpenWhole (facts : List Fact) (u : Way) : Type 0 where
+  pub moved : (n : Name) → Has facts (Moved n) → leads_to n (name_of u) ≡ true → ⊥
+  pub lent : (h : ℕ) (n : Name) → Has facts (Lent Borrowed h n) → leads_to n (name_of u) ≡ true → ⊥
+
 -- No place that is lent overlaps a name.
 abbrev pub Unlent : List Fact → Way → Type 0
 Unlent facts u = (l : Loan) (h : ℕ) (n : Name) → Has facts (Lent l h n) → overlaps n (name_of u) ≡ true → ⊥
@@ -63,9 +68,9 @@ module _ (home : ℕ → ℕ) (observer : ℕ → Bool) (v : Views) (s : View) (
 
   -- the loan of a borrower
   pub loan_of : (b : ℕ) → Lends home observer v s facts views b → Has facts (Lent Borrowed b (name_of (v.loan b)))
-  loan_of b l = subst (λ z. HasLoan z b facts (name_of (v.loan b))) l.2 (views b l.0 l.1).lent
+  loan_of b l = subst (λ z. HasLoan observer z b facts (name_of (v.loan b))) l.2 (views b l.0 l.1).lent
 
-  no_both : Both home observer v s facts views → ⊥
+  pub no_both : Both home observer v s facts views → ⊥
   no_both b =
       clear.lent b.one b.two (name_of (v.loan b.one)) (name_of (v.loan b.two)) (loan_of b.one b.lends) (loan_of b.two b.lent) b.differ
       (meet_overlaps (v.loan b.one) (v.loan b.two) b.meets)
@@ -106,12 +111,24 @@ module _ (home : ℕ → ℕ) (observer : ℕ → Bool) (v : Views) (s : View) (
         | inr less ↦ (omega arith)
       ]
 
+  -- nor is it the name itself, if that is open as a whole
+  pub open_itself : (u : Way) → IsName u → OpenWhole facts u → IsMovedBy home v facts (expand v u) → ⊥
+  open_itself u plain free (m, moved, same) =
+      elim (meeting home observer v s facts views m u (moved_plain m moved) plain (subst (λ z. Under z (expand v u)) (sym same) (under_itself (expand v u)))) [
+        | inl under ↦ free.moved (name_of m) moved.1 (under_leads m u under)
+        | inr more ↦ elim more [
+          | inl a ↦ free.lent a.object (name_of (v.loan a.object)) (loan_of a.object a.lends)
+              (under_leads (v.loan a.object) u (under_on (v.loan a.object) a.name u a.loan a.begins))
+          | inr more ↦ elim more [ inl b ↦ not_beside m u moved b | inr c ↦ no_both c ]
+        ]
+      ]
+
   -- nothing that was moved lies above a name through an observer
   pub seen_way : (u w : Way) (l : Lifted v u) → Named home u → observer l.object ≡ true → Past w (expand v u) → IsMovedBy home v facts w → ⊥
   seen_way u w l named is past (m, moved, same) =
       let on = next home observer v s facts views u l named in
       let y : Way = next_of v u l in
-      let loan = subst (λ z. HasLoan z l.object facts (name_of (v.loan l.object))) is (views l.object l.way l.has).lent in
+      let loan = subst (λ z. HasLoan observer z l.object facts (name_of (v.loan l.object))) is (views l.object l.way l.has).lent in
       let upper : Under (expand v m) (expand v y) =
       subst (Under (expand v m)) (sym on.same) (subst (λ z. Under z (expand v u)) (sym same) (past_under w (expand v u) past)) in
       elim (meeting home observer v s facts views m y (moved_plain m moved) on.plain upper) [
@@ -147,7 +164,7 @@ module _ (home : ℕ → ℕ) (observer : ℕ → Bool) (v : Views) (s : View) (
   seen_below u w l named is under (m, moved, same) =
       let on = next home observer v s facts views u l named in
       let y : Way = next_of v u l in
-      let loan = subst (λ z. HasLoan z l.object facts (name_of (v.loan l.object))) is (views l.object l.way l.has).lent in
+      let loan = subst (λ z. HasLoan observer z l.object facts (name_of (v.loan l.object))) is (views l.object l.way l.has).lent in
       let lower : Under (expand v y) (expand v m) = subst (λ z. Under z (expand v m)) (sym on.same) (subst (Under (expand v u)) (sym same) under) in
       elim (meeting home observer v s facts views y m on.plain (moved_plain m moved) lower) [
         | inl below ↦ unmoved_loan m Observed loan.0 (v.loan l.object) moved loan.1 (inr (under_on (v.loan l.object) y m on.loan below))
@@ -209,7 +226,7 @@ module _ (home : ℕ → ℕ) (observer : ℕ → Bool) (v : Views) (s : View) (
   off_observer : (u : Way) (x : ℕ) (w : Way) → IsName u → Unlent facts u → v.way x ≡ Some w → observer x ≡ true → Past (expand v u) w → ⊥
   off_observer u x w plain unlent has is past =
       let view = views x w has in
-      let loan = subst (λ z. HasLoan z x facts (name_of (v.loan x))) is view.lent in
+      let loan = subst (λ z. HasLoan observer z x facts (name_of (v.loan x))) is view.lent in
       let under : Under (expand v u) (expand v (v.up x)) = subst (Under (expand v u)) (sym view.leads) (past_under (expand v u) w past) in
       elim (meeting home observer v s facts views u (v.up x) plain (view.named, view.plain) under) [
         | inl above ↦ unlent Observed loan.0 (name_of (v.loan x)) loan.1

@@ -1,11 +1,21 @@
 //! The values that a point takes.
-ghost use Rattle.std.specs.Prelude.{◌≡◌, ◌≤◌, length, IfSome, OnSome, IsTrue};
+ghost use Rattle.std.specs.Prelude.{◌≡◌, ◌≤◌, [], length, IfSome, OnSome, IsTrue};
 ghost use Rattle.code_rows.specs.Points.{some, is_range};
 ghost use Rattle.run_frames.specs.Frames.{word_at, IsStacked, AreLatest};
 
 use code_rows::{Codes, Range};
 use run_frames::Frames;
 use run_memory::Memory;
+
+/// No value is taken.
+fn take_none(memory: &mut Memory, frames: &Frames) -> usize
+    requires stacked { IsStacked frames.now memory.old.waits }
+    ensures latest { AreLatest frames.now [] result }
+    ensures taken { memory.new ≡ record memory.old { taken = word_at frames.now.waits result (length memory.old.waits) } }
+{
+    memory.take_from(memory.waiting_words());
+    frames.waiting()
+}
 
 /// The values that wait are taken from a number on, which have some types. None: no such values wait.
 pub(crate) fn take(
@@ -20,6 +30,9 @@ pub(crate) fn take(
     ensures taken { IfSome result (λ k. memory.new ≡ record memory.old { taken = word_at frames.now.waits k (length memory.old.waits) }) }
     ensures input { memory.new.input ≡ memory.old.input }
 {
+    if takes.count == 0 {
+        return Some(take_none(memory, frames));
+    }
     let first = takes.first as usize;
     let k = frames.latest(&codes.types[first..first + takes.count as usize])?;
     let index = frames.first_word(k, memory.waiting_words());

@@ -1,6 +1,6 @@
 //! Operators on words.
 ghost use Rattle.std.specs.Prelude.{◌≡◌, ◌+◌, ◌*◌, ◌-ℤ◌, true, false, unsigned_abs};
-ghost use Rattle.run_values.specs.Arithmetic.{is_integer};
+ghost use Rattle.run_values.specs.Arithmetic.{is_integer, modulus};
 ghost use Rattle.code_rows.specs.Stops.{shown};
 ghost use Rattle.run_codes.specs.Flat as flat;
 ghost use Rattle.run_codes.specs.Flat.{is_broken};
@@ -33,6 +33,17 @@ pub(crate) fn truth(b: bool) -> i64
     b as i64
 }
 
+/// `A mod B`, where it is a value of Integer: the remainder, where no number is below zero.
+#[inline(always)]
+fn modulo(a: i32, b: i32) -> Option<i32>
+    ensures { result ≡ modulus a b }
+{
+    if 0 <= a && 0 < b {
+        return run_values::remainder(a, b);
+    }
+    run_values::modulo(a, b)
+}
+
 /// The value of an operator on two numbers or positions, or Constraint_Error.
 #[inline(always)]
 fn applied(operator: Operator, a: i32, b: i32) -> Result<i64, Stop>
@@ -44,7 +55,7 @@ fn applied(operator: Operator, a: i32, b: i32) -> Result<i64, Stop>
         Operator::Subtract => given(run_values::sub(a, b)),
         Operator::Multiply => given(run_values::mul(a, b)),
         Operator::Divide => given(run_values::div(a, b)),
-        Operator::Modulo => given(run_values::modulo(a, b)),
+        Operator::Modulo => given(modulo(a, b)),
         Operator::Remainder => given(run_values::remainder(a, b)),
         Operator::Equal => Ok(truth(a == b)),
         Operator::NotEqual => Ok(truth(a != b)),

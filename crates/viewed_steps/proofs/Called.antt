@@ -13,7 +13,7 @@ use Rattle.place_names.specs.Facts.{effect}
 use Rattle.type_definitions.specs.Types.{Table, shape_of, words, full, is_scalar}
 use Rattle.typed_tree.specs.Trees.{TypedTree, Name, Component as IntoComponent, Designated, Element, More}
 use Rattle.flow_paths.specs.Objects.{Typing, object_at, is_anonymous, is_observer, view_of, Passing, ByValue}
-use Rattle.flow_paths.specs.Names.{Written, written, has_call, name_of}
+use Rattle.flow_paths.specs.Names.{Written, written, waiting as waits_in, name_of}
 use Rattle.flow_paths.specs.Acts.{naming, acts_in, index_acts, actual_act, actual_acts, actual_values}
 use Rattle.machine.specs.Words.{access_offsets, fits_type}
 use Rattle.machine.specs.Words as machine
@@ -42,16 +42,16 @@ use Rattle.soundness.proofs.Lasting.{lengths, less_kept, put_away, declared_kept
 use Rattle.soundness.proofs.Fixed.{matches_scalar, plain_word, fixed_at, fixed_spot, fixed_one, put_word, put_same_view}
 use Rattle.soundness.proofs.Loops.{same_word, scalar_same}
 use Rattle.soundness.proofs.Scalars.{acts, acts_append, after_append, allows_both, read_effect, number_along, named_along}
-use Rattle.soundness.proofs.Stays.{One, Quiet, quiet_then}
+use Rattle.soundness.proofs.Stays.{One, Quiet, quiet_then, quiet_from}
+use Rattle.soundness.proofs.Taking.{Takes}
 use Rattle.soundness.proofs.Walks.{Lead, way_along, Walked, walk}
-use Rattle.soundness.proofs.Waits.{or_both}
-use Rattle.soundness.proofs.Passing.{IsRead, AreReads, IsLaid, AreLaid, way_by, way_of, reads_keep, head_acts, head_values, head_reads}
+use Rattle.soundness.proofs.Passing.{IsRead, AreReads, IsValue, IsLaid, AreLaid, TakesAll, way_by, way_of, reads_keep, head_acts, head_values, head_reads}
 use Rattle.soundness.proofs.Returning.{Backs, copied_is, formal_fixed}
 use Rattle.owned_loans.specs.Views.{Around, Views, expand, ExcusedBy, Viewed}
 use Rattle.owned_loans.proofs.Moves.{IsPlace}
 use Rattle.viewed_soundness.specs.Holds.{PartsAreNamed, Holds}
 use Rattle.viewed_soundness.proofs.Names.{Starts, true_false, view_access, is_place}
-use Rattle.viewed_soundness.proofs.Stays.{Goes as GoesAlong, quiet, steps_quiet}
+use Rattle.viewed_soundness.proofs.Stays.{Goes as GoesAlong, taking, steps_taking}
 use Rattle.viewed_soundness.proofs.Outcomes.{named_plain}
 use Rattle.viewed_steps.proofs.Read.{scalar_named}
 use Rattle.viewed_steps.proofs.Released.{nothing_written}
@@ -143,39 +143,34 @@ module _ (h : Here) (settled : IsSettled h.typing.table) (hands : List Waiting) 
     (index_law : IndexLaw)
     (own_law : OwnsByShape h.typing.table)
     (parts_named : PartsAreNamed h.typing.table) where
-  abbrev at : Now
-  at = record { memory = m; waits = waits }
+  abbrev at : List (List machine.Word) → Now
+  at ws = record { memory = m; waits = ws }
 
   abbrev ways_of : List ℕ → List Passing
   ways_of formals = map (way_of h.typing own_law) formals
 
   -- ---- values
 
-  abbrev IsValue : Passed → Type 0
-  IsValue (Value ws) = One ws
-  IsValue (From k) = ⊥
-  IsValue (To k) = ⊥
+  if_quiet : (on : List (List machine.Word)) (b : Bool) (x y : Evaluated (List machine.Word)) → Quiet (at on) One x → Quiet (at on) One y → Quiet (at on) One (if b then x else y)
+  if_quiet on true x y p q = p
+  if_quiet on false x y p q = q
 
-  if_quiet : (b : Bool) (x y : Evaluated (List machine.Word)) → Quiet at One x → Quiet at One y → Quiet at One (if b then x else y)
-  if_quiet true x y p q = p
-  if_quiet false x y p q = q
-
-  checked_quiet : (P : List machine.Word → Type 0) (t : ℕ) (ws : List machine.Word) → P ws → Quiet at P (checked h t ws at)
-  checked_quiet P t ws is = by_test (fits_type h.typing.table t ws)
+  checked_quiet : (on : List (List machine.Word)) (P : List machine.Word → Type 0) (t : ℕ) (ws : List machine.Word) → P ws → Quiet (at on) P (checked h t ws (at on))
+  checked_quiet on P t ws is = by_test (fits_type h.typing.table t ws)
     where
-      by_test : (b : Bool) → Quiet at P (if b then Done ws at else Raises ConstraintError at)
+      by_test : (b : Bool) → Quiet (at on) P (if b then Done ws (at on) else Raises ConstraintError (at on))
       by_test true = (refl, is)
       by_test false = refl
 
-  value_given : (x : ℕ) (e : TypedTree) → Stays h.typing e → has_call e ≡ false → AllowsAll facts (acts (acts_in h.typing e))
-      → Quiet at (λ a. IsValue a) (passed h ByValue x e at)
-  value_given x e stays none allowed =
-      let by_name = quiet h settled hands leaks m waits other facts v kept well holds alone live index_law own_law parts_named AsValue e stays none allowed in
-      let as_view = quiet h settled hands leaks m waits other facts v kept well holds alone live index_law own_law parts_named AsView e stays none allowed in
-      quiet_then at One (λ a. IsValue a) (if is_anonymous (view_of h.typing x) then viewed h e at else value h e at)
+  value_given : (before on : List (List machine.Word)) (x : ℕ) (e : TypedTree) → Stays h.typing e → Takes (waits_in e) before on → AllowsAll facts (acts (acts_in h.typing e))
+      → Quiet (at on) (λ a. IsValue a) (passed h ByValue x e (at before))
+  value_given before on x e stays takes allowed =
+      let by_name = taking h settled hands leaks m waits other facts v kept well holds alone live index_law own_law parts_named AsValue e stays before on takes allowed in
+      let as_view = taking h settled hands leaks m waits other facts v kept well holds alone live index_law own_law parts_named AsView e stays before on takes allowed in
+      quiet_then (at on) One (λ a. IsValue a) (if is_anonymous (view_of h.typing x) then viewed h e (at before) else value h e (at before))
       (λ ws now. followed_by (checked h (type_of h x) ws now) value_passed)
-      (if_quiet (is_anonymous (view_of h.typing x)) (viewed h e at) (value h e at) as_view.0 by_name.0)
-      (λ ws one. quiet_then at One (λ a. IsValue a) (checked h (type_of h x) ws at) value_passed (checked_quiet One (type_of h x) ws one)
+      (if_quiet on (is_anonymous (view_of h.typing x)) (viewed h e (at before)) (value h e (at before)) as_view.0 by_name.0)
+      (λ ws one. quiet_then (at on) One (λ a. IsValue a) (checked h (type_of h x) ws (at on)) value_passed (checked_quiet on One (type_of h x) ws one)
       (λ us single. (refl, single)))
 
   -- ---- places
@@ -190,10 +185,10 @@ module _ (h : Here) (settled : IsSettled h.typing.table) (hands : List Waiting) 
   abbrev IsPut : TypedTree → Place → Type 0
   IsPut e k = IsFixed h.typing k × Reached e k
 
-  from_walked : (p : Pos) (x u : ℕ) (path : TypedTree) (w : Way) → is_scalar (full h.typing.table u) ≡ true → Named (home h.typing h.frame) w
-      → ways.name_of w ≡ name_of x path → IsPlace v w → expand v w ≡ w → (y : Evaluated Place) → Walked h.typing settled hands leaks m waits w u y
-      → IsIn (memory.OfVariable (home h.typing h.frame x) x) y → Quiet at (λ k. IsPut (Name p x path u) k) y
-  from_walked p x u path w plain named called place itself (Done k n) (l, same, spot, reaches, of) base =
+  from_walked : (on : List (List machine.Word)) (p : Pos) (x u : ℕ) (path : TypedTree) (w : Way) → is_scalar (full h.typing.table u) ≡ true → Named (home h.typing h.frame) w
+      → ways.name_of w ≡ name_of x path → IsPlace v w → expand v w ≡ w → (y : Evaluated Place) → Walked h.typing settled hands leaks m on w u y
+      → IsIn (memory.OfVariable (home h.typing h.frame x) x) y → Quiet (at on) (λ k. IsPut (Name p x path u) k) y
+  from_walked on p x u path w plain named called place itself (Done k n) (l, same, spot, reaches, of) base =
       let b : trunk l ≡ OfRoot (OfVariable (home h.typing h.frame x) x) = spot.base ∙ ap loc_of base in (
         same,
         (
@@ -210,36 +205,36 @@ module _ (h : Here) (settled : IsSettled h.typing.table) (hands : List Waiting) 
           (w, l, named, called, place, subst (λ z. Reaches (seen h.typing m hands leaks) z l) (sym itself) reaches, spot),
         ),
       )
-  from_walked p x u path w plain named called place itself (Raises e n) is base = is
-  from_walked p x u path w plain named called place itself (Traps t n) never base = absurd never
+  from_walked on p x u path w plain named called place itself (Raises e n) is base = is
+  from_walked on p x u path w plain named called place itself (Traps t n) never base = absurd never
 
-  walk_given : (p : Pos) (x u : ℕ) (path : TypedTree) (way : List run.Step) → is_scalar (full h.typing.table u) ≡ true
+  walk_given : (on : List (List machine.Word)) (p : Pos) (x u : ℕ) (path : TypedTree) (way : List run.Step) → is_scalar (full h.typing.table u) ≡ true
       → GoesAlong h.typing.table (object_at h.typing x).of u path way → IsDirect way
-      → Quiet at (λ k. IsPut (Name p x path u) k) (walked h.typing way (variable_place h x) at)
-  walk_given p x u path way plain goes direct =
+      → Quiet (at on) (λ k. IsPut (Name p x path u) k) (walked h.typing way (variable_place h x) (at on))
+  walk_given on p x u path way plain goes direct =
       let root : Way = Object (OfVariable (home h.typing h.frame x) x) in
       let named : Named (home h.typing h.frame) (way_along way root) = named_along (home h.typing h.frame) way root refl in
-      from_walked p x u path (way_along way root) plain named
+      from_walked on p x u path (way_along way root) plain named
       (λ j. record { root = number_along way root j; sels = goes.sels root j })
       (is_place h.typing v (home h.typing h.frame x) x u way goes.lead (scalar_named h.typing.table u plain) holds.only)
       (direct_itself v way direct root refl)
-      (walked h.typing way (variable_place h x) at)
-      (walk h.typing settled hands leaks m waits (ExcusedBy (home h.typing h.frame) v other facts) kept well.owned well.known live way (variable_place h x)
+      (walked h.typing way (variable_place h x) (at on))
+      (walk h.typing settled hands leaks m on (ExcusedBy (home h.typing h.frame) v other facts) kept well.owned well.known live way (variable_place h x)
       (OfRoot (OfVariable (home h.typing h.frame x) x)) root u
       (record { base = refl; made = tt; at = refl; there = refl; of = inl refl }) tt refl (direct_leads h.typing.table (object_at h.typing x).of u way direct goes.lead)
       (λ z past moved. past_none way direct root (λ y never. never) z past))
-      (walked_in h.typing way direct (variable_place h x) at)
+      (walked_in h.typing way direct (variable_place h x) (at on))
 
-  place_given : (e : TypedTree) (t : ℕ) → IsPlaceOf h.typing e t → is_scalar (full h.typing.table t) ≡ true → has_call e ≡ false → goes_through_none e ≡ true
-      → AllowsAll facts (acts (index_acts h.typing e)) → Quiet at (λ k. IsPut e k) (place_of h e at)
-  unfolding has_call goes_through_none
-  place_given (Name p x path u) t (leads, type) plain none direct allowed =
-      let inner = steps_quiet h settled hands leaks m waits other facts v kept well holds alone live index_law own_law parts_named (object_at h.typing x).of u path leads none allowed in
-      quiet_then at (λ way. GoesAlong h.typing.table (object_at h.typing x).of u path way × IsDirect way) (λ k. IsPut (Name p x path u) k) (steps_of h path at)
+  place_given : (before on : List (List machine.Word)) (e : TypedTree) (t : ℕ) → IsPlaceOf h.typing e t → is_scalar (full h.typing.table t) ≡ true → Takes (waits_in e) before on → goes_through_none e ≡ true
+      → AllowsAll facts (acts (index_acts h.typing e)) → Quiet (at on) (λ k. IsPut e k) (place_of h e (at before))
+  unfolding waits_in goes_through_none
+  place_given before on (Name p x path u) t (leads, type) plain takes direct allowed =
+      let inner = steps_taking h settled hands leaks m waits other facts v kept well holds alone live index_law own_law parts_named (object_at h.typing x).of u path leads before on takes allowed in
+      quiet_then (at on) (λ way. GoesAlong h.typing.table (object_at h.typing x).of u path way × IsDirect way) (λ k. IsPut (Name p x path u) k) (steps_of h path (at before))
       (λ way now. walked h.typing way (variable_place h x) now)
-      (both_quiet at (λ way. GoesAlong h.typing.table (object_at h.typing x).of u path way) (steps_of h path at) inner.0 (steps_direct h path direct at))
-      (λ way both. walk_given p x u path way (subst (λ z. is_scalar (full h.typing.table z) ≡ true) (sym type) plain) both.0 both.1)
-  place_given e t place plain none direct allowed = absurd place
+      (both_quiet (at on) (λ way. GoesAlong h.typing.table (object_at h.typing x).of u path way) (steps_of h path (at before)) inner.0 (steps_direct h path direct (at before)))
+      (λ way both. walk_given on p x u path way (subst (λ z. is_scalar (full h.typing.table z) ≡ true) (sym type) plain) both.0 both.1)
+  place_given before on e t place plain takes direct allowed = absurd place
 
   -- ---- all of them
 
@@ -255,53 +250,52 @@ module _ (h : Here) (settled : IsSettled h.typing.table) (hands : List Waiting) 
   AreGiven (x ∷ formals) (More e rest) [] = ⊥
   AreGiven formals actuals passed = passed ≡ []
 
-  value_is : (e : TypedTree) (y : Evaluated Passed) → Quiet at (λ a. IsValue a) y → Quiet at (λ a. IsGiven mode.In e a) y
-  value_is e (Done (Value ws) n) is = is
-  value_is e (Done (From k) n) is = absurd is.1
-  value_is e (Done (To k) n) is = absurd is.1
-  value_is e (Raises x n) is = is
-  value_is e (Traps x n) is = is
+  value_is : (on : List (List machine.Word)) (e : TypedTree) (y : Evaluated Passed) → Quiet (at on) (λ a. IsValue a) y → Quiet (at on) (λ a. IsGiven mode.In e a) y
+  value_is on e (Done (Value ws) n) is = is
+  value_is on e (Done (From k) n) is = absurd is.1
+  value_is on e (Done (To k) n) is = absurd is.1
+  value_is on e (Raises x n) is = is
+  value_is on e (Traps x n) is = is
 
   abbrev IsCopiedName : Mode → TypedTree → Type 0
   IsCopiedName m' e = is_in m' ≡ false → goes_through_none e ≡ true
 
-  one_given : (mode_of : Mode) (x : ℕ) (e : TypedTree) → IsActualBy h.typing mode_of e → IsCopiedName mode_of e → has_call e ≡ false
-      → AllowsAll facts (acts (head_acts h.typing own_law mode_of e)) → Quiet at (λ a. IsGiven mode_of e a) (passed h (way_by h.typing own_law mode_of) x e at)
-  one_given mode.In x e actual copied none allowed = value_is e (passed h ByValue x e at) (value_given x e actual none allowed)
-  one_given mode.Out x e actual copied none allowed =
-      quiet_then at (λ k. IsPut e k) (λ a. IsGiven mode.Out e a) (place_of h e at) (λ k now. Done (To k) now)
-      (place_given e actual.0 actual.1 actual.2 none (copied refl) allowed) (λ k put. (refl, put))
-  one_given mode.InOut x e actual copied none allowed =
-      quiet_then at (λ k. IsPut e k) (λ a. IsGiven mode.InOut e a) (place_of h e at)
+  pub one_given : (before on : List (List machine.Word)) (mode_of : Mode) (x : ℕ) (e : TypedTree) → IsActualBy h.typing mode_of e → IsCopiedName mode_of e → Takes (waits_in e) before on
+      → AllowsAll facts (acts (head_acts h.typing own_law mode_of e)) → Quiet (at on) (λ a. IsGiven mode_of e a) (passed h (way_by h.typing own_law mode_of) x e (at before))
+  one_given before on mode.In x e actual copied takes allowed = value_is on e (passed h ByValue x e (at before)) (value_given before on x e actual takes allowed)
+  one_given before on mode.Out x e actual copied takes allowed =
+      quiet_then (at on) (λ k. IsPut e k) (λ a. IsGiven mode.Out e a) (place_of h e (at before)) (λ k now. Done (To k) now)
+      (place_given before on e actual.0 actual.1 actual.2 takes (copied refl) allowed) (λ k put. (refl, put))
+  one_given before on mode.InOut x e actual copied takes allowed =
+      quiet_then (at on) (λ k. IsPut e k) (λ a. IsGiven mode.InOut e a) (place_of h e (at before))
       (λ k now. followed_by (checked h (type_of h x) (words_of h.typing now.memory k) now) (λ ws now. Done (From k) now))
-      (place_given e actual.0 actual.1 actual.2 none (copied refl) allowed)
-      (λ k put. quiet_then at (λ (ws : List machine.Word). Unit {0}) (λ a. IsGiven mode.InOut e a) (checked h (type_of h x) (words_of h.typing m k) at)
-      (λ ws now. Done (From k) now) (checked_quiet (λ ws. Unit {0}) (type_of h x) (words_of h.typing m k) tt) (λ ws any. (refl, put)))
+      (place_given before on e actual.0 actual.1 actual.2 takes (copied refl) allowed)
+      (λ k put. quiet_then (at on) (λ (ws : List machine.Word). Unit {0}) (λ a. IsGiven mode.InOut e a) (checked h (type_of h x) (words_of h.typing m k) (at on))
+      (λ ws now. Done (From k) now) (checked_quiet on (λ ws. Unit {0}) (type_of h x) (words_of h.typing m k) tt) (λ ws any. (refl, put)))
 
-  pub all_given : (formals : List ℕ) (actuals : TypedTree) → AreActuals h.typing formals actuals → AreCopied h.typing formals actuals → has_call actuals ≡ false
+  pub all_given : (before on : List (List machine.Word)) (formals : List ℕ) (actuals : TypedTree) → AreActuals h.typing formals actuals → AreCopied h.typing formals actuals
+      → TakesAll formals actuals before on
       → AllowsAll facts (acts (actual_values h.typing (ways_of formals) actuals))
-      → Quiet at (λ passed. AreGiven formals actuals passed) (all_passed h (ways_of formals) formals actuals at)
-  unfolding has_call
-  all_given [] actuals stay copied none allowed = (refl, refl)
-  all_given (x ∷ formals) (More e rest) stay copied none allowed =
+      → Quiet (at on) (λ passed. AreGiven formals actuals passed) (all_passed h (ways_of formals) formals actuals (at before))
+  all_given before on [] actuals stay copied takes allowed = ((ap at takes), refl)
+  all_given before on (x ∷ formals) (More e rest) stay copied (mid, takes, more) allowed =
       let mode_of : Mode = (object_at h.typing x).mode in
-      let calls = or_both (has_call e) (has_call rest) none in
       let both : AllowsAll facts (acts (head_acts h.typing own_law mode_of e ++ actual_values h.typing (ways_of formals) rest)) =
       subst (λ z. AllowsAll facts (acts z)) (head_values h.typing own_law mode_of e (ways_of formals) rest) allowed in
       let each = allows_both facts (acts (head_acts h.typing own_law mode_of e)) (acts (actual_values h.typing (ways_of formals) rest))
       (subst (AllowsAll facts) (acts_append (head_acts h.typing own_law mode_of e) (actual_values h.typing (ways_of formals) rest)) both) in
       let same : after (acts (head_acts h.typing own_law mode_of e)) facts ≡ facts =
       reads_keep (head_acts h.typing own_law mode_of e) (head_reads h.typing own_law mode_of e stay.0) facts in
-      quiet_then at (λ a. IsGiven mode_of e a) (λ passed. AreGiven (x ∷ formals) (More e rest) passed) (passed h (way_by h.typing own_law mode_of) x e at)
+      quiet_from (at mid) (at on) (λ a. IsGiven mode_of e a) (λ passed. AreGiven (x ∷ formals) (More e rest) passed) refl (passed h (way_by h.typing own_law mode_of) x e (at before))
       (λ a now. followed_by (all_passed h (ways_of formals) formals rest now) (λ more now. Done (a ∷ more) now))
-      (one_given mode_of x e stay.0 copied.0 calls.0 each.0)
-      (λ a is. quiet_then at (λ passed. AreGiven formals rest passed) (λ passed. AreGiven (x ∷ formals) (More e rest) passed)
-      (all_passed h (ways_of formals) formals rest at) (λ more now. Done (a ∷ more) now)
-      (all_given formals rest stay.1 copied.1 calls.1 (subst (λ z. AllowsAll z (acts (actual_values h.typing (ways_of formals) rest))) same each.1))
+      (one_given before mid mode_of x e stay.0 copied.0 takes each.0)
+      (λ a is. quiet_then (at on) (λ passed. AreGiven formals rest passed) (λ passed. AreGiven (x ∷ formals) (More e rest) passed)
+      (all_passed h (ways_of formals) formals rest (at mid)) (λ more now. Done (a ∷ more) now)
+      (all_given mid on formals rest stay.1 copied.1 more (subst (λ z. AllowsAll z (acts (actual_values h.typing (ways_of formals) rest))) same each.1))
       (λ more are. (refl, (is, are))))
-  all_given (x ∷ formals) actuals stay copied none allowed = (refl, refl)
+  all_given before on (x ∷ formals) actuals stay copied takes allowed = ((ap at takes), refl)
 
-  given_laid : (mode_of : Mode) (e : TypedTree) (a : Passed) → IsGiven mode_of e a → IsLaid h.typing a
+  pub given_laid : (mode_of : Mode) (e : TypedTree) (a : Passed) → IsGiven mode_of e a → IsLaid h.typing a
   given_laid mode.In e (Value ws) is = is
   given_laid mode.In e (From k) is = absurd is
   given_laid mode.In e (To k) is = absurd is

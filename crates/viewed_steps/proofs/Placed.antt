@@ -1,5 +1,5 @@
 -- Where views are, their roots last.
-use Rattle.std.proofs.Common.{◌≡◌, refl, sym, ap, ◌∙◌, subst, ◌⊎◌, inl, inr, ℕ, Bool, true, false, not, ◌&&◌, ◌||◌, ◌==◌, eqb-true, List, [], ◌∷◌, Some, length}
+use Rattle.std.proofs.Common.{◌≡◌, refl, sym, ap, ◌∙◌, subst, ◌⊎◌, inl, inr, ℕ, Bool, true, false, not, ◌&&◌, ◌||◌, ◌==◌, eqb-true, List, [], ◌∷◌, Some, None, length}
 use Rattle.std.specs.List.{AllByRecursion}
 use Rattle.std.proofs.lemmas.List.Folds.{list_any-append}
 use Rattle.spark_base.specs.Lists.{Has}
@@ -8,9 +8,10 @@ use Rattle.place_names.specs.declared.fact.Fact.TheVariants.{Lent}
 use Rattle.place_names.specs.declared.rule.Loan.TheVariants.{Observed}
 use Rattle.place_names.specs.Names.{Name as PlaceName}
 use Rattle.type_definitions.specs.Types.{is_owning}
+use Rattle.flow_paths.specs.Instructions.{Instruction, Skip, Declare, Assign, Call, Output, Input, Release, Test, Choose, Start, Next, Evaluate, LeaveLoop, Hold, EndScope, Finish, Fall}
 use Rattle.flow_paths.specs.Objects.{Typing, object_at, is_anonymous, is_package_object, has_scope_end, view_of}
 use Rattle.flow_paths.specs.Laid.{FlowProgram, flow_typing}
-use Rattle.flow_paths.specs.Scopes.{taken, Leads, Silent, is_within, is_temporary}
+use Rattle.flow_paths.specs.Scopes.{taken, brought, Leads, Silent, is_within, is_temporary}
 use Rattle.flow_paths.specs.Views.{encloses, scope_of}
 use Rattle.machine.specs.Memory.{Memory}
 use Rattle.machine.specs.Step.{Turn, typing}
@@ -35,6 +36,28 @@ either false b e = inr e
 or_right : (a b : Bool) → b ≡ true → a || b ≡ true
 or_right true b e = refl
 or_right false b e = e
+
+-- what is in scope stays so, but where a scope ends
+pub brought_more : (i : Instruction) → ((x : ℕ) → i ≡ EndScope x → ⊥) → (scope : List ℕ) (y : ℕ) → is_within y scope ≡ true → is_within y (brought i scope) ≡ true
+brought_more (Declare x v) going scope y within = or_right (y == x) (is_within y scope) within
+brought_more (Start x reversed low high) going scope y within = or_right (y == x) (is_within y scope) within
+brought_more (Call sub actuals None) going scope y within = within
+brought_more (Call sub actuals (Some x)) going scope y within = or_right (y == x) (is_within y scope) within
+brought_more (Evaluate x e None) going scope y within = within
+brought_more (Evaluate x e (Some op)) going scope y within = or_right (y == x) (is_within y scope) within
+brought_more (EndScope x) going scope y within = absurd (going x refl)
+brought_more Skip going scope y within = within
+brought_more (Assign target e) going scope y within = within
+brought_more (Output text line) going scope y within = within
+brought_more (Input target) going scope y within = within
+brought_more (Release e) going scope y within = within
+brought_more (Test e) going scope y within = within
+brought_more (Choose e choices) going scope y within = within
+brought_more (Next x reversed low high) going scope y within = within
+brought_more (LeaveLoop e) going scope y within = within
+brought_more (Hold v) going scope y within = within
+brought_more Finish going scope y within = within
+brought_more Fall going scope y within = within
 
 -- ---- what leaves scope silently
 
@@ -110,7 +133,7 @@ module _ (program : FlowProgram) where
         within = within_on s a b x leads (view_ends s x (only x w has)) old.within;
         up = lasts_on a b (number_of (v.up x)) x leads old.up;
         root = lasts_on a b (number_of w) x leads old.root;
-        holder = λ sees. (let h = old.holder sees in (h.0, h.1, lasts_on a b h.0 x leads h.2));
+        holder = λ sees. (let h = old.holder sees in (h.0, h.1, lasts_on a b h.0 x leads h.2, h.3));
       }
 
   -- An object may be the source of a view.
@@ -142,7 +165,7 @@ module _ (t : Turn) (settled : IsSettled (typing t).table) (own_law : OwnsByShap
           up = subst (λ z. Lasts t.program b (number_of z) x) (sym same.up) (lasts_more t.program a b (number_of (v.up x)) x more old.up);
           root = lasts_more t.program a b (number_of w) x more old.root;
           holder = λ sees. (let h = old.holder sees in
-              (h.0, subst (λ z. Has facts' (Lent Observed h.0 (name_of z))) (sym same.loan) (lent h.0 (name_of (v.loan x)) h.1), lasts_more t.program a b h.0 x more h.2));
+              (h.0, subst (λ z. Has facts' (Lent Observed h.0 (name_of z))) (sym same.loan) (lent h.0 (name_of (v.loan x)) h.1), lasts_more t.program a b h.0 x more h.2, h.3));
         })
     | inr (y, from, comes) ↦ record {
       within = from.within;
@@ -155,10 +178,10 @@ module _ (t : Turn) (settled : IsSettled (typing t).table) (own_law : OwnsByShap
         | inr (k, has_y, is) ↦ subst (λ z. Lasts t.program b z x) (sym is) (through y k has_y from (number_of k) (placed y k has_y).root)
       ];
       holder = λ sees. elim (comes.loan sees) [
-        | inl own ↦ (x, own, inr (from.within, view_ends (typing t) x from.view, itself (scope_of (typing t) x)))
+        | inl own ↦ (x, own, inr (from.within, view_ends (typing t) x from.view, itself (scope_of (typing t) x)), sees)
         | inr (k, has_y, sees_y, is) ↦ (
             let h = (placed y k has_y).holder sees_y in
-            (h.0, subst (λ z. Has facts' (Lent Observed h.0 (name_of z))) (sym is) (lent h.0 (name_of (v.loan y)) h.1), through y k has_y from h.0 h.2))
+            (h.0, subst (λ z. Has facts' (Lent Observed h.0 (name_of z))) (sym is) (lent h.0 (name_of (v.loan y)) h.1), through y k has_y from h.0 h.2, h.3))
       ];
     }
   ]

@@ -1,0 +1,632 @@
+-- A call leads on, in the frame of what is called.
+use Rattle.place_names.specs.Facts.{adds}
+use Rattle.spark_base.proofs.Lists.{Has-map_from}
+use Rattle.viewed_steps.proofs.Left.{cells_same}
+use Rattle.std.proofs.Common.{◌≡◌, refl, sym, ap, ◌∙◌, subst, ◌⊎◌, inl, inr, ℕ, suc, ◌<◌, true, false, ◌&&◌, ◌==◌, List, [], ◌∷◌, ◌++◌, map, take, drop, length, get_or, arith, append-nil, Option, Some, None, if◌then◌else◌}
+use Rattle.std.specs.Prelude.{is_some}
+use Rattle.spark_base.specs.Lists.{Has}
+use Rattle.place_names.specs.declared.act.Act.{Act}
+use Rattle.place_names.specs.declared.act.Act.TheVariants as act
+use Rattle.place_names.specs.declared.act.Placed.{Placed}
+use Rattle.place_names.specs.declared.fact.Fact.{Fact}
+use Rattle.place_names.specs.declared.fact.Fact.TheVariants.{Moved, Lent}
+use Rattle.place_names.specs.declared.rule.Loan.{Loan}
+use Rattle.place_names.specs.declared.rule.Loan.TheVariants.{Observed}
+use Rattle.place_names.specs.Names.{Name as PlaceName}
+use Rattle.type_definitions.specs.Types.{Table, is_scalar, full}
+use Rattle.typed_tree.specs.Trees.{TypedTree}
+use Rattle.typed_tree.specs.Programs.{TypedProgram}
+use Rattle.flow_paths.specs.declared.report.Effects.{Effects}
+use Rattle.flow_paths.specs.Instructions.{Instruction, Call, EndScope}
+use Rattle.flow_paths.specs.Objects.{Typing, Signature, object_at, sub_at, is_anonymous, is_package_object, is_observer, view_of, traverses, passings, Passing}
+use Rattle.flow_paths.specs.Acts as flow
+use Rattle.flow_paths.specs.Points.{NamedPoint}
+use Rattle.flow_paths.specs.Laid.{FlowSub, FlowProgram, NamedSub, flow_sub, typing_of, flow_typing, flow_program, flow_named}
+use Rattle.flow_paths.specs.Paths.{PathPoint, is_some_point, ControlPath, begins, goes_on, facts_before}
+use Rattle.flow_paths.specs.Effects.{flow_sub_at, path_points, globals_of, called_acts}
+use Rattle.flow_paths.specs.Scopes.{taken, brought, scope_behind, is_within, Leads}
+use Rattle.machine.specs.Words as machine
+use Rattle.machine.specs.Memory.{Memory, no_slot, variable_slots}
+use Rattle.machine.specs.Evaluate.{Now, Exception}
+use Rattle.machine.specs.States.{Frame, State, sub_of, frame_at_start, Outcome, Goes}
+use Rattle.machine.specs.Step.{Turn, turn, start, led, successor}
+use Rattle.machine.specs.Step as steps
+use Rattle.machine.specs.Typed.{successors}
+use Rattle.machine.specs.Calls.{Passed, all_passed, with_formals, returns_of}
+use Rattle.machine.specs.Owners.{waiting_in}
+use Rattle.owned_ways.specs.Ways.{Way, after, AllowsAll}
+use Rattle.owned_ways.specs.Ways as ways
+use Rattle.soundness.specs.Seen.{IsNear, is_view_formal, content, word_in, seen, home, trunk}
+use Rattle.soundness.specs.Typed.{Kept}
+use Rattle.soundness.specs.Sound.{calls_procedures, Stage, facts_of, AreStages, AreCopied, Uses, IsRunnable, IsResting, AreAwaited, WaitsAt, temporaries_in, returns_value, awaited, InScope, IsNamedSub, IsAtPoint, view_of as view_here, AreSameWords}
+use Rattle.soundness.proofs.Stays.{Quiet}
+use Rattle.soundness.proofs.Numbers.{index_law}
+use Rattle.soundness.proofs.Lasting.{keeps}
+use Rattle.soundness.proofs.Passing.{way_of, AreReads, reads_keep, values_read, AreLaid, returns_copied, entered, TakesAll, takes_each, call_on, signature_is, passed_by, call_adds}
+use Rattle.soundness.proofs.Scalars.{acts, acts_append, after_append, allows_both}
+use Rattle.soundness.proofs.Points.{sub_in_range, path_there}
+use Rattle.soundness.proofs.Inherited.{AreGlobal, global_after, global_allowed, global_apart}
+use Rattle.soundness.proofs.Used.{called_used, used_global, called_are, globals_are, added_after}
+use Rattle.soundness.proofs.Around.{IsFar}
+use Rattle.soundness.proofs.Waits.{take_none, drop_none, led_waits}
+use Rattle.soundness.proofs.Taking.{Takes}
+use Rattle.soundness.proofs.Waited.{Shares, leads_count, leads_temporary, temporary_more}
+use Rattle.soundness.proofs.Eased.{eased}
+use Rattle.soundness.proofs.Scoped.{Inside}
+use Rattle.soundness.proofs.Beginning.{one_named, one_point}
+use Rattle.soundness.proofs.Successors.{below_one, successor_there}
+use Rattle.owned_loans.specs.Views.{Around, known_gone, Views, IsMovedBy, AreClear, AreViews, Viewed}
+use Rattle.owned_loans.proofs.Moves.{same_viewed}
+use Rattle.viewed_soundness.specs.Holds.{Holds}
+use Rattle.viewed_soundness.proofs.Evaluated.{live_trunk}
+use Rattle.viewed_soundness.proofs.Outcomes.{named_plain}
+use Rattle.viewed_steps.proofs.Read.{scalar_named}
+use Rattle.soundness.specs.Ready.{IsCalled, IsSupplied, Fills}
+use Rattle.viewed_steps.specs.Sound.{HoldsAt, ArePlaced, NoneAbove, ViewStage, stages_of, GoneElsewhere, Disturbs, IsWaiting, AreWaiting, calls_one, LeadsAlong}
+use Rattle.viewed_steps.specs.Ready.{IsReady}
+use Rattle.viewed_steps.proofs.Lent.{Spare, spare_both, loans_stay}
+use Rattle.viewed_steps.proofs.Placed.{lasts_more, scope_on, placed_on}
+use Rattle.viewed_steps.proofs.Ended.{none_some}
+use Rattle.viewed_steps.proofs.Waiting.{StandsBetween, beside_them, handed, all_on}
+use Rattle.viewed_steps.proofs.Called.{AreGiven, all_given, all_laid as all_laid_out, all_acted, spare_reads, spare_copies, Enters, all_entered}
+use Rattle.viewed_steps.proofs.Standing.{or_right}
+use Rattle.viewed_steps.proofs.Uses.{called_writes, lent_spared}
+use Rattle.viewed_steps.proofs.Standing as standing
+use Rattle.viewed_steps.proofs.Packages as packages
+use Rattle.viewed_steps.proofs.Innermost as innermost
+
+module _ (table : Table) (typed : TypedProgram) (effects : Effects) (input : List ℕ) (ready : IsReady table typed effects) where
+  abbrev program : FlowProgram
+  program = flow_program table typed
+
+  abbrev s : Typing
+  s = flow_typing program
+
+  abbrev own : Typing
+  own = typing_of table typed
+
+  abbrev no_in_formals : (x : ℕ) → is_view_formal s x ≡ false
+  no_in_formals = standing.no_in_formals table typed effects input ready
+
+  abbrev local : (x : ℕ) → is_anonymous (view_of s x) ≡ true → is_package_object s x ≡ false
+  local = standing.local table typed effects input ready
+
+  abbrev unmoved_stage : (e : Stage) → e.frame.sub ≡ 0 → (name : PlaceName) → Has (facts_of program effects e) (Moved name) → ⊥
+  unmoved_stage = packages.unmoved_stage table typed effects input ready
+
+  abbrev first_point : (k : ℕ) (named : NamedSub) → IsNamedSub (flow_named table typed) k named → (p : NamedPoint) (rest : List NamedPoint) → named.points ≡ p ∷ rest
+      → is_some_point (path_points program effects (sub_of program k))
+  first_point = packages.first_point table typed effects input ready
+
+  abbrev blank_views : Views
+  blank_views = record { way = λ x. None; loan = λ x. ways.Lost 0; up = λ x. ways.Lost 0; cell = λ x. 0 }
+
+  module _ (state : State) (top : Stage) (below : ViewStage) (more_frames : List ViewStage) (rest : List Frame) (named : NamedSub) (p : NamedPoint)
+      (frames : state.frames ≡ top.frame ∷ (below.stage.frame ∷ rest)) (deep : top.depth ≡ suc (length rest))
+      (stages : AreStages (stages_of (below ∷ more_frames)) (below.stage.frame ∷ rest))
+      (running : IsRunnable table typed top.frame.sub × IsResting s top × AreWaiting table typed effects state top.frame.sub (below ∷ more_frames))
+      (awaiting : AreAwaited table typed 0 (top ∷ stages_of (below ∷ more_frames)))
+      (of_sub : IsNamedSub (flow_named table typed) top.frame.sub named) (at_point : IsAtPoint named.points top.frame.next p)
+      (path : ControlPath (path_points program effects (sub_of program top.frame.sub)) top.before top.frame.next) (views : Views)
+      (viewed_before : Viewed (home s (suc (length rest))) (is_observer s) (known_gone (home s (suc (length rest))) (GoneElsewhere program effects (below ∷ more_frames))) views
+      (view_here s state) (facts_of program effects top))
+      (kept : Kept s state.memory (waiting_in state)) (scope : InScope s state.memory (suc (length rest)) p.scope) (holds : HoldsAt s (suc (length rest)) views state.memory p)
+      (placed_before : ArePlaced program (facts_of program effects top) views p.scope) (above : NoneAbove s (suc (length rest)) state.memory) where
+    abbrev outer : List Frame
+    outer = below.stage.frame ∷ rest
+
+    abbrev older : List ViewStage
+    older = below ∷ more_frames
+
+    abbrev depth : ℕ
+    depth = suc (length rest)
+
+    abbrev between : (g : ViewStage) → Has (below ∷ more_frames) g → StandsBetween table typed effects unmoved_stage local state (suc (length rest)) g
+    between = innermost.between table typed effects input ready state top below more_frames rest named p frames deep stages running awaiting of_sub at_point path views viewed_before kept scope holds placed_before above
+
+    abbrev other : Around (home s (suc (length rest)))
+    other = beside_them table typed effects unmoved_stage local state (suc (length rest)) (below ∷ more_frames) between
+
+    abbrev alone : (w : Way) → IsNear (suc (length rest)) w → IsFar (suc (length rest)) (GoneElsewhere program effects (below ∷ more_frames)) w → ⊥
+    alone = innermost.alone table typed effects input ready state top below more_frames rest named p frames deep stages running awaiting of_sub at_point path views viewed_before kept scope holds placed_before above
+
+    abbrev main_turn : Turn
+    main_turn = standing.t table typed effects input ready state top older outer named p frames of_sub at_point
+
+    abbrev own_facts : List Fact
+    own_facts = standing.facts table typed effects input ready state top older outer named p frames of_sub at_point path
+
+    abbrev handed_on : List Fact
+    handed_on = handed table typed effects unmoved_stage local state (suc (length rest)) (below ∷ more_frames) between
+
+    abbrev facts_now : List Fact
+    facts_now = own_facts ++ handed_on
+
+    abbrev acts_of_main : Instruction → List Act
+    acts_of_main i = standing.acts_here table typed effects input ready state top older outer named p frames of_sub at_point i
+
+    abbrev sub_at_all : flow_sub_at program top.frame.sub ≡ flow_sub own named
+    sub_at_all = innermost.sub_at_all table typed effects input ready state top below more_frames rest named p frames deep stages running awaiting of_sub at_point path views viewed_before kept scope holds placed_before above
+
+    abbrev sub_less : top.frame.sub < length program.subs
+    sub_less = innermost.sub_less table typed effects input ready state top below more_frames rest named p frames deep stages running awaiting of_sub at_point path views viewed_before kept scope holds placed_before above
+
+    abbrev allowed_now : Spare s (standing.acts_by table typed effects input ready state top older outer named p frames of_sub at_point s p.instr) → AllowsAll own_facts (acts_of_main p.instr)
+        → AllowsAll facts_now (acts_of_main p.instr)
+    allowed_now = innermost.allowed_now table typed effects input ready state top below more_frames rest named p frames deep stages running awaiting of_sub at_point path views viewed_before kept scope holds placed_before above
+
+    abbrev viewed : Viewed (home s depth) (is_observer s) other views (view_here s state) facts_now
+    viewed = innermost.viewed table typed effects input ready state top below more_frames rest named p frames deep stages running awaiting of_sub at_point path views viewed_before kept scope holds placed_before above
+
+    abbrev apart_from_them : (done : List Act) (v : Views) (view : ways.View) → ((x : ℕ) (w : Way) → v.way x ≡ Some w → is_anonymous (view_of s x) ≡ true)
+        → Viewed (home s depth) (is_observer s) other v view (after done facts_now)
+        → Viewed (home s depth) (is_observer s) (known_gone (home s depth) (GoneElsewhere program effects older)) v view (after done own_facts)
+    apart_from_them = innermost.apart_from_them table typed effects input ready state top below more_frames rest named p frames deep stages running awaiting of_sub at_point path views viewed_before kept scope holds placed_before above
+
+    abbrev placed_own : ArePlaced program own_facts views p.scope
+    placed_own = innermost.placed_own table typed effects input ready state top below more_frames rest named p frames deep stages running awaiting of_sub at_point path views viewed_before kept scope holds placed_before above
+
+    abbrev left_scope : List ℕ
+    left_scope = drop (taken p.instr) p.scope
+
+    abbrev supplied_here : IsSupplied s p
+    supplied_here = innermost.supplied_here table typed effects input ready state top below more_frames rest named p frames deep stages running awaiting of_sub at_point path views viewed_before kept scope holds placed_before above
+
+    abbrev shared : Shares s (taken p.instr) top.frame.waits p.scope
+    shared = innermost.shared table typed effects input ready state top below more_frames rest named p frames deep stages running awaiting of_sub at_point path views viewed_before kept scope holds placed_before above
+
+    abbrev given_words : List (List machine.Word)
+    given_words = (start main_turn).waits
+
+    abbrev takes_of : (i : Instruction) → p.instr ≡ i → Takes (taken i) given_words []
+    takes_of = innermost.takes_of table typed effects input ready state top below more_frames rest named p frames deep stages running awaiting of_sub at_point path views viewed_before kept scope holds placed_before above
+
+    abbrev easy : Turn
+    easy = eased main_turn
+
+    abbrev viewed_easy : Viewed (home s depth) (is_observer s) other views (view_here s easy.state) facts_now × Kept s state.memory (waiting_in easy.state)
+    viewed_easy = innermost.viewed_easy table typed effects input ready state top below more_frames rest named p frames deep stages running awaiting of_sub at_point path views viewed_before kept scope holds placed_before above
+
+    abbrev placed_left : (facts : List Fact) → ArePlaced program facts views p.scope → ArePlaced program facts views left_scope
+    placed_left = innermost.placed_left table typed effects input ready state top below more_frames rest named p frames deep stages running awaiting of_sub at_point path views viewed_before kept scope holds placed_before above
+
+    abbrev IsOld : ℕ → ℕ → Type 0
+    IsOld f x =
+        (f < suc (length rest)) × ((f ≡ 0)
+        ⊎ ((q : List ways.Step) × (k : ℕ) × (word_in s.table (content s state.memory [] (ways.OfRoot (ways.OfVariable f x))) q ≡ ways.Held k)))
+
+    abbrev inside_left : Inside s IsOld state.memory depth left_scope
+    inside_left = innermost.inside_left table typed effects input ready state top below more_frames rest named p frames deep stages running awaiting of_sub at_point path views viewed_before kept scope holds placed_before above
+
+    abbrev others_await : returns_value p.instr ≡ false → AreAwaited table typed (awaited (sub_of program top.frame.sub) (top.frame.next ∷ top.before)) (stages_of older)
+    others_await = innermost.others_await table typed effects input ready state top below more_frames rest named p frames deep stages running awaiting of_sub at_point path views viewed_before kept scope holds placed_before above
+
+    abbrev successors_there : length main_turn.point.next ≡ successors p.instr
+    successors_there = innermost.successors_there table typed effects input ready state top below more_frames rest named p frames deep stages running awaiting of_sub at_point path views viewed_before kept scope holds placed_before above
+
+    -- where it leads, and how the frames come from those before
+    abbrev Along : Outcome → Type 0
+    Along outcome = LeadsAlong table typed effects p.instr state.memory (record { stage = top; views = views }) (below ∷ more_frames) outcome
+
+    abbrev ends_raised : (how : Exception) (m : Memory) → Along (steps.raised main_turn how m)
+    ends_raised = innermost.ends_raised table typed effects input ready state top below more_frames rest named p frames deep stages running awaiting of_sub at_point path views viewed_before kept scope holds placed_before above
+
+    -- ---- a call
+
+    module _ (n : ℕ) (actuals : TypedTree) (result : Option ℕ) (e : p.instr ≡ Call n actuals result) where
+      pub called : IsCalled table typed n actuals result
+      called =
+          ready.called (flow_sub own named) (standing.in_program table typed effects input ready state top older outer named p frames of_sub at_point) main_turn.point
+          (standing.in_sub table typed effects input ready state top older outer named p frames of_sub at_point) n actuals result e
+
+      abbrev formals : List ℕ
+      formals = (sub_of program n).formals
+
+      pub scalar_formals : (x : ℕ) → Has formals x → is_scalar (full s.table (object_at s x).of) ≡ true
+      scalar_formals x has = ready.class.formals x (called.formals x has)
+
+      pub copied_there : AreCopied s formals actuals
+      copied_there =
+          ready.class.copied (flow_sub own named) (standing.in_program table typed effects input ready state top older outer named p frames of_sub at_point) main_turn.point
+          (standing.in_sub table typed effects input ready state top older outer named p frames of_sub at_point) n actuals result e called.formals
+
+      -- results are of scalar types
+      no_traversal : traverses s.table (sub_of program n).result ≡ false
+      no_traversal = by_result (sub_of program n).result refl
+        where
+          plain_result : (of : ℕ) → (sub_of program n).result ≡ Some of → is_scalar (full s.table of) ≡ true
+          plain_result of is = elim ready.class.results [
+            | inr plain ↦ plain.0 n of (ap (λ (z : Signature). z.result) (signature_is program n) ∙ is)
+            | inl procedures ↦ absurd (not_called result
+                (sym (ap calls_procedures e)
+                ∙ procedures (flow_sub own named) (standing.in_program table typed effects input ready state top older outer named p frames of_sub at_point) main_turn.point
+                (standing.in_sub table typed effects input ready state top older outer named p frames of_sub at_point)) (sym called.answers ∙ ap is_some is))
+          ]
+            where
+              not_called : (r : Option ℕ) → calls_procedures (Call n actuals r) ≡ true → is_some r ≡ true → ⊥
+              not_called None calls some = cc
+              not_called (Some t) calls some = cc
+
+          by_result : (r : Option ℕ) → (sub_of program n).result ≡ r → traverses s.table r ≡ false
+          by_result None is = refl
+          by_result (Some of) is = named_plain s.table of (scalar_named s.table of (plain_result of is))
+
+      abbrev ways_there : List Passing
+      ways_there = map (way_of s ready.owns) formals
+
+      pub ways_are : passings s (sub_at s n) ≡ ways_there
+      ways_are = passed_by program ready.owns n no_traversal scalar_formals
+
+      -- the acts: actuals are read, or their indexes are; then come those of what is copied back, and
+      -- those on package objects
+      abbrev pub values : List Placed
+      values = flow.actual_values s ways_there actuals
+
+      abbrev copies : List Placed
+      copies = flow.actual_acts ways_there actuals
+
+      values_are : standing.acts_by table typed effects input ready state top older outer named p frames of_sub at_point s p.instr ≡ values ++ copies
+      values_are =
+          ap (standing.acts_by table typed effects input ready state top older outer named p frames of_sub at_point s) e
+          ∙ ap (λ z. flow.actual_values s z actuals ++ flow.actual_acts z actuals) ways_are
+
+      pub reads_there : AreReads values
+      reads_there = values_read s ready.owns formals actuals called.actuals_stay
+
+      call_acts : standing.whole_acts table typed effects input ready state top older outer named p frames of_sub at_point p.instr ≡ acts (values ++ copies) ++ globals_of program effects n
+      call_acts =
+          ap (λ z. acts (z ++ called_acts program effects p.pos p.instr)) values_are
+          ∙ acts_append (values ++ copies) (called_acts program effects p.pos p.instr)
+          ∙ ap (λ i. acts (values ++ copies) ++ acts (called_acts program effects p.pos i)) e
+          ∙ ap (λ z. acts (values ++ copies) ++ z) (called_are program effects ready.accepted.effects_are p.pos n actuals result)
+
+      abbrev facts_called : List Fact
+      facts_called = after (acts (values ++ copies)) own_facts
+
+      abbrev called_beside : List Fact
+      called_beside = after (acts (values ++ copies)) facts_now
+
+      each_allowed : AllowsAll own_facts (acts (values ++ copies)) × AllowsAll facts_called (globals_of program effects n)
+      each_allowed =
+          allows_both own_facts (acts (values ++ copies)) (globals_of program effects n)
+          (subst (AllowsAll own_facts) call_acts (standing.allowed_whole table typed effects input ready state top older outer named p frames of_sub at_point path))
+
+      spare_call : Spare s (values ++ copies)
+      spare_call = spare_both s values copies (spare_reads s values reads_there) (spare_copies s ready.owns formals actuals)
+
+      pub values_allowed : AllowsAll facts_now (acts values)
+      values_allowed =
+          (allows_both facts_now (acts values) (acts copies) (subst (AllowsAll facts_now) (acts_append values copies)
+          (subst (λ z. AllowsAll facts_now (acts z)) values_are
+          (allowed_now (subst (Spare s) (sym values_are) spare_call) (subst (λ z. AllowsAll own_facts (acts z)) (sym values_are) each_allowed.0))))).0
+
+      not_end : (x : ℕ) → p.instr ≡ EndScope x → ⊥
+      not_end x is = (let no : Call n actuals result ≡ EndScope x = sym e ∙ is in cc)
+
+      pub holds_now : Holds s depth views state.memory
+      holds_now = record {
+        held = λ x k view at. holds.held x k (λ fading. not_end fading.0 fading.1) view at;
+        only = holds.only;
+      }
+
+      pub live_now : (w : Way) (l : ways.Loc) → ways.IsRooted w → ways.Reaches (seen s state.memory (waiting_in easy.state) state.leaks) w l
+          → (content s state.memory (waiting_in easy.state) (trunk l)).owns ≡ true
+      live_now =
+          live_trunk (steps.here main_turn) ready.accepted.settled state.leaks [] other alone (keeps s ready.accepted.settled ready.owns) no_in_formals index_law
+          ready.owns views ready.class.parts_named state.memory (waiting_in easy.state) (viewed_easy.0).owned
+
+      abbrev pub Given : List Passed → Type 0
+      Given passed =
+          AreGiven (steps.here main_turn) ready.accepted.settled (waiting_in easy.state) state.leaks state.memory [] other facts_now views viewed_easy.1 viewed_easy.0 holds_now alone live_now
+          index_law ready.owns ready.class.parts_named formals actuals passed
+
+      -- the values that the actuals take
+      pub taken_there : (on : List (List machine.Word)) × TakesAll formals actuals given_words on
+      taken_there = takes_each formals actuals given_words [] (takes_of (Call n actuals result) e)
+
+      abbrev pub then_now : Now
+      then_now = record { memory = state.memory; waits = taken_there.0 }
+
+      pub passed_quiet : Quiet then_now Given (all_passed (steps.here main_turn) ways_there formals actuals (start main_turn))
+      passed_quiet =
+          all_given (steps.here main_turn) ready.accepted.settled (waiting_in easy.state) state.leaks state.memory [] other facts_now views viewed_easy.1 viewed_easy.0 holds_now alone live_now
+          index_law ready.owns ready.class.parts_named given_words taken_there.0 formals actuals called.actuals_stay copied_there taken_there.1 values_allowed
+
+      given_laid : (passed : List Passed) → Given passed → AreLaid s passed
+      given_laid passed given =
+          all_laid_out (steps.here main_turn) ready.accepted.settled (waiting_in easy.state) state.leaks state.memory [] other facts_now views viewed_easy.1 viewed_easy.0 holds_now alone live_now
+          index_law ready.owns ready.class.parts_named formals actuals passed given
+
+      -- the state is sound with views under the facts after the acts
+      acted_now : (passed : List Passed) → Given passed → Viewed (home s depth) (is_observer s) other views (view_here s easy.state) called_beside
+      acted_now passed given =
+          subst (Viewed (home s depth) (is_observer s) other views (view_here s easy.state))
+          (sym (ap (λ z. after z facts_now) (acts_append values copies) ∙ after_append (acts values) (acts copies) facts_now
+          ∙ ap (after (acts copies)) (reads_keep values reads_there facts_now)))
+          (all_acted (steps.here main_turn) ready.accepted.settled (waiting_in easy.state) state.leaks state.memory [] other facts_now views viewed_easy.1 viewed_easy.0 holds_now alone live_now
+          index_law ready.owns ready.class.parts_named formals actuals passed facts_now given viewed_easy.0)
+
+      -- loans stay
+      loans_called : (h : ℕ) (m : PlaceName) → Has own_facts (Lent Observed h m) → Has facts_called (Lent Observed h m)
+      loans_called h m has = loans_stay s (values ++ copies) spare_call own_facts Observed h m has
+
+      globals : AreGlobal (globals_of program effects n)
+      globals = globals_are program effects ready.accepted.effects_are n
+
+      -- the successor, at which the frame waits
+      call_point : (k : ℕ) × (successor main_turn 0 ≡ Some k) × Has main_turn.point.next k
+      call_point = successor_there main_turn 0 (subst (λ z. 0 < z) (sym (successors_there ∙ ap successors e)) below_one)
+
+      abbrev waits_stage : Stage
+      waits_stage = record {
+        frame = record top.frame { waits = steps.waiting main_turn; next = call_point.0 };
+        depth = top.depth;
+        before = top.frame.next ∷ top.before;
+        returns = top.returns;
+      }
+
+      abbrev waits_there : ViewStage
+      waits_there = record { stage = waits_stage; views = views }
+
+      facts_there : facts_of program effects waits_stage ≡ facts_called
+      facts_there =
+          ap (λ (z : FlowSub). facts_before (path_points program effects z) (top.frame.next ∷ top.before)) (standing.sub_is table typed effects input ready state top older outer named p frames of_sub at_point)
+          ∙ standing.facts_whole table typed effects input ready state top older outer named p frames of_sub at_point path
+          ∙ ap (λ z. after z own_facts) call_acts ∙ after_append (acts (values ++ copies)) (globals_of program effects n) own_facts
+          ∙ global_after (globals_of program effects n) facts_called globals
+
+      -- nothing is moved by the call
+      none_new : (f : Fact) → Has (facts_of program effects waits_stage) f → Has (facts_of program effects top) f
+      none_new f has =
+          subst (λ z. Has z f) (sym (standing.facts_are table typed effects input ready state top older outer named p frames of_sub at_point path))
+          (elim (added_after program effects ready.accepted.effects_are (acts (values ++ copies)) own_facts f (subst (λ z. Has z f) facts_there has)) [
+            | inl was ↦ was
+            | inr (a, there, new) ↦ (
+                let from = Has-map_from (λ (z : Placed). z.act) (values ++ copies) a there in
+                absurd (call_adds s ready.owns formals actuals called.actuals_stay from.0 from.1 f (subst (λ z. Has (adds z) f) (sym from.2) new)))
+          ])
+
+      -- what the callee uses isn't moved
+      spared_then : (name : PlaceName) → Has facts_called (Moved name) → is_package_object s name.root ≡ true → Uses effects n name.root → ⊥
+      spared_then name has shared uses =
+          let there = used_global program effects ready.accepted.effects_are n name.root called.text_io shared uses in
+          global_apart name name.root refl there.0
+          (global_allowed (globals_of program effects n) facts_called globals each_allowed.1 (act.Global name.root there.0) there.1 (Moved name) has)
+
+      callee_less : n < length program.subs
+      callee_less = sub_in_range table typed n called.runs.named called.runs.stands
+
+      -- nor is it disturbed where a part is lent
+      lends_there : (l : Loan) (h : ℕ) (name : PlaceName) → Has (facts_of program effects waits_stage) (Lent l h name) → is_package_object s name.root ≡ true
+          → Disturbs effects l n name.root → ⊥
+      lends_there l h name has shared disturbs =
+          lent_spared program effects ready.accepted.effects_are n called.text_io facts_called each_allowed.1 l h name
+          (subst (λ z. Has z (Lent l h name)) facts_there has) shared disturbs
+
+      at_successor : (q : NamedPoint) × IsAtPoint named.points call_point.0 q × Leads s (scope_behind p) q.scope
+      at_successor = standing.next_at table typed effects input ready state top older outer named p frames of_sub at_point path call_point.0 call_point.2
+
+      brought_more : (r : Option ℕ) (x : ℕ) → is_within x left_scope ≡ true → is_within x (brought (Call n actuals r) left_scope) ≡ true
+      brought_more None x within = within
+      brought_more (Some t) x within = or_right (x == t) (is_within x left_scope) within
+
+      more : (x : ℕ) → is_within x left_scope ≡ true → is_within x (scope_behind p) ≡ true
+      more x within = subst (λ i. is_within x (brought i left_scope) ≡ true) (sym e) (brought_more result x within)
+
+      behind_scope : InScope s state.memory depth (scope_behind p)
+      behind_scope f x q k held = elim (inside_left f x q k held) [ inl old ↦ inl old.0 | inr mine ↦ inr (mine.0, more x mine.1) ]
+
+      next_scope : InScope s state.memory depth (at_successor.0).scope
+      next_scope = scope_on s ready.owns state.memory depth (scope_behind p) (at_successor.0).scope behind_scope at_successor.2
+
+      next_placed : ArePlaced program facts_called views (at_successor.0).scope
+      next_placed =
+          placed_on program facts_called views (scope_behind p) (at_successor.0).scope holds.only at_successor.2
+          (λ x w has. (let own_place = placed_left own_facts placed_own x w has in record {
+            within = more x own_place.within;
+            up = lasts_more program left_scope (scope_behind p) (ways.number_of (views.up x)) x more own_place.up;
+            root = lasts_more program left_scope (scope_behind p) (ways.number_of w) x more own_place.root;
+            holder = λ sees. (let h = own_place.holder sees in
+                (h.0, loans_called h.0 (ways.name_of (views.loan x)) h.1, lasts_more program left_scope (scope_behind p) h.0 x more h.2, h.3));
+          }))
+
+      -- ---- what waits, before the callee has returned
+
+      late_scope : (r : Option ℕ) → Fills s (Call n actuals r) left_scope → (empty : ℕ) → (is_some r ≡ false → empty ≡ 0) → (is_some r ≡ true → empty ≡ 1)
+          → (b : List ℕ) → Leads s (brought (Call n actuals r) left_scope) b
+          → (temporaries_in s (drop empty b) ≡ temporaries_in s left_scope) × (temporaries_in s (take empty b) ≡ empty)
+      late_scope None fills empty none some b leads = (
+        ap (λ k. temporaries_in s (drop k b)) (none refl) ∙ ap (temporaries_in s) (drop_none b) ∙ sym (leads_count s left_scope b leads),
+        ap (λ k. temporaries_in s (take k b)) (none refl) ∙ ap (temporaries_in s) (take_none b) ∙ sym (none refl),
+      )
+      late_scope (Some t) fills empty none some b leads = (
+        ap (λ k. temporaries_in s (drop k b)) (some refl) ∙ ap (λ z. temporaries_in s (drop 1 z)) (leads_temporary s t left_scope b fills leads)
+            ∙ ap (temporaries_in s) (drop_none left_scope),
+        ap (λ k. temporaries_in s (take k b)) (some refl) ∙ ap (λ z. temporaries_in s (take 1 z)) (leads_temporary s t left_scope b fills leads)
+            ∙ temporary_more s t (take 0 left_scope) fills ∙ ap (λ z. suc (temporaries_in s z)) (take_none left_scope) ∙ sym (some refl),
+      )
+
+      abbrev late : ℕ
+      late = awaited (sub_of program n) []
+
+      late_none : is_some result ≡ false → late ≡ 0
+      late_none none = ap (λ b. if b && true then 1 else 0) (called.answers ∙ none)
+
+      late_some : is_some result ≡ true → late ≡ 1
+      late_some some = ap (λ b. if b && true then 1 else 0) (called.answers ∙ some)
+
+      late_there : (temporaries_in s (drop late (at_successor.0).scope) ≡ temporaries_in s left_scope) × (temporaries_in s (take late (at_successor.0).scope) ≡ late)
+      late_there =
+          late_scope result (subst (λ i. Fills s i left_scope) e supplied_here.1) late late_none late_some (at_successor.0).scope
+          (subst (λ i. Leads s (brought i left_scope) (at_successor.0).scope) e at_successor.2)
+
+      waits_late : WaitsAt table typed late waits_stage
+      waits_late other_named other_stands q at_q =
+          let same_sub : other_named ≡ named = one_named (flow_named table typed) top.frame.sub other_named named other_stands of_sub in
+          let same_point : at_successor.0 ≡ q =
+          one_point named.points call_point.0 (at_successor.0) q at_successor.1 (subst (λ (z : NamedSub). IsAtPoint z.points call_point.0 q) same_sub at_q) in (
+            (
+              (shared.left).0,
+              (shared.left).1 ∙ sym (subst (λ (z : NamedPoint). temporaries_in s (drop late z.scope) ≡ temporaries_in s left_scope) same_point late_there.0),
+            ),
+            subst (λ (z : NamedPoint). temporaries_in s (take late z.scope) ≡ late) same_point late_there.1,
+          )
+
+      -- ---- what is passed
+
+      module _ (passed : List Passed) (given : Given passed) where
+        abbrev with_all : Memory
+        with_all = with_formals s (suc depth) formals passed state.memory
+
+        abbrev after_call : State
+        after_call = steps.leaking [] (entered main_turn ready.accepted.settled n actuals passed)
+
+        abbrev called_stage : Stage
+        called_stage = record { frame = frame_at_start n (returns_of formals passed); depth = suc depth; before = []; returns = [] }
+
+        enters : Enters s ready.accepted.settled ready.owns (waiting_in easy.state) state.leaks state.memory with_all
+        enters = all_entered s ready.accepted.settled ready.owns (waiting_in easy.state) state.leaks (suc depth) formals passed state.memory scalar_formals (given_laid passed given) viewed_easy.1
+
+        frames_there : after_call.frames ≡ frame_at_start n (returns_of formals passed) ∷ (waits_stage.frame ∷ outer)
+        frames_there =
+            ap (λ z. frame_at_start n (returns_of formals passed) ∷ led main_turn (record top.frame { waits = steps.waiting main_turn }) z) call_point.1
+
+        hands_there : waiting_in after_call ≡ waiting_in easy.state
+        hands_there = led_waits main_turn (record top.frame { waits = steps.waiting main_turn }) (successor main_turn 0)
+
+        abbrev called_view : ways.View
+        called_view = seen s with_all (waiting_in easy.state) state.leaks
+
+        view_called : called_view ≡ view_here s after_call
+        view_called = (λ j. seen s with_all (sym hands_there j) (sym (append-nil state.leaks) j))
+
+        well_beside : Viewed (home s depth) (is_observer s) other views (view_here s after_call) called_beside
+        well_beside =
+            subst (λ z. Viewed (home s depth) (is_observer s) other views z called_beside) view_called
+            (same_viewed (home s depth) (is_observer s) other views (view_here s easy.state) called_view called_beside enters.same (acted_now passed given))
+
+        well_called : Viewed (home s depth) (is_observer s) (known_gone (home s depth) (GoneElsewhere program effects older)) views (view_here s after_call) facts_called
+        well_called = apart_from_them (acts (values ++ copies)) views (view_here s after_call) holds.only well_beside
+
+        is_waiting : IsWaiting table typed effects after_call n waits_there
+        is_waiting = record {
+          runs = running.0;
+          plain = running.1;
+          path = subst (λ (z : FlowSub). ControlPath (path_points program effects z) (top.frame.next ∷ top.before) call_point.0)
+              (sym (standing.sub_is table typed effects input ready state top older outer named p frames of_sub at_point))
+              (goes_on top.before top.frame.next call_point.0 (standing.path_here table typed effects input ready state top older outer named p frames of_sub at_point path)
+              (subst (λ (z : PathPoint). Has z.next call_point.0) (sym (path_there own named top.frame.next p at_point program effects)) call_point.2));
+          named = named;
+          of_sub = of_sub;
+          point = at_successor.0;
+          at_point = at_successor.1;
+          scope = λ x q k held. elim (next_scope top.depth x q k (sym (enters.hold top.depth x q) ∙ held)) [
+            | inl less ↦ absurd (omega (arith, less, deep))
+            | inr mine ↦ mine.1
+          ];
+          lends = lends_there;
+          unmoved = λ name has shared uses. spared_then name (subst (λ z. Has z (Moved name)) facts_there has) shared uses;
+          uses = λ x uses. called_used program effects ready.accepted.effects_are top.frame.sub (flow_sub own named) sub_at_all sub_less n callee_less
+              main_turn.point (standing.in_sub table typed effects input ready state top older outer named p frames of_sub at_point) actuals result e x uses;
+          writes = λ x written. called_writes program effects ready.accepted.effects_are top.frame.sub (flow_sub own named) sub_at_all sub_less n callee_less
+              main_turn.point (standing.in_sub table typed effects input ready state top older outer named p frames of_sub at_point) actuals result e x written;
+          clear = subst (AreClear (is_observer s)) (sym facts_there) well_called.clear;
+          views = subst (λ z. AreViews (home s top.depth) (is_observer s) views (view_here s after_call) z) (sym facts_there)
+              (subst (λ d. AreViews (home s d) (is_observer s) views (view_here s after_call) facts_called) (sym deep) well_called.views);
+          holds = subst (λ d. HoldsAt s d views with_all at_successor.0) (sym deep) (record {
+            held = λ x k lasts view at. holds_now.held x k view (sym (enters.views (home s depth x) x view) ∙ at);
+            within = λ x k view at. (
+                let own_way = holds_now.held x k view (sym (enters.views (home s depth x) x view) ∙ at) in
+                (next_placed x own_way.0 own_way.1).within);
+            only = holds.only;
+          });
+          placed = subst (λ z. ArePlaced program z views (at_successor.0).scope) (sym facts_there) next_placed;
+        }
+
+        others_wait : AreWaiting table typed effects after_call top.frame.sub older
+        others_wait =
+            all_on table typed effects unmoved_stage local state after_call depth
+            (λ f x q k some less held. (q, k, sym (enters.hold f x q) ∙ held))
+            (λ f x some less view. enters.views f x view)
+            top.frame.sub older outer stages (omega arith) (λ g has x w is. well_beside.far w (g.views.cell x) (g, has, x, is, refl)) running.2
+
+        -- what is gone then is known to those that wait
+        known_called : (w : Way) (l : ways.Loc) → ways.IsRooted w → ways.Reaches (view_here s after_call) w l → (view_here s after_call).word l ≡ ways.Gone
+            → GoneElsewhere program effects (waits_there ∷ older) w
+        known_called w l rooted r gone = elim (well_called.known w l rooted r gone) [
+          | inr (g, has, what) ↦ (g, inr has, what)
+          | inl (inr none) ↦ absurd none
+          | inl (inl moved) ↦ (
+            waits_there,
+            inl refl,
+            subst (λ d. IsMovedBy (home s d) views (facts_of program effects waits_stage) w) (sym deep)
+                (subst (λ z. IsMovedBy (home s depth) views z w) (sym facts_there) moved),
+          )
+        ]
+
+        -- owners see nothing of the formals
+        called_words : AreSameWords s (λ f. Unit {0}) state.memory with_all
+        called_words = (λ f x q on. enters.hold f x q, λ c q. cells_same s state.memory with_all (waiting_in easy.state) state.leaks enters.same c q)
+
+        entered_sound : Along (Goes after_call)
+        entered_sound = (
+          record {
+            top = called_stage;
+            views = blank_views;
+            older = waits_there ∷ older;
+            stages = subst (AreStages (called_stage ∷ stages_of (waits_there ∷ older))) (sym frames_there) (refl, refl, (refl, deep, stages));
+            running = (
+              called.runs,
+              (returns_copied s ready.accepted.settled formals passed scalar_formals (given_laid passed given), refl),
+              (is_waiting, others_wait),
+            );
+            awaited = (
+              packages.first_waits table typed effects input ready (suc depth) n (returns_of formals passed) called.runs.named called.runs.stands called.runs.point
+                  called.runs.points called.runs.begins,
+              (waits_late, others_await (ap returns_value e)),
+            );
+            path = begins (first_point n called.runs.named called.runs.stands called.runs.point called.runs.points called.runs.begins);
+            viewed = record {
+              owned = well_called.owned;
+              covered = well_called.covered;
+              known = λ w l rooted r gone. inr (known_called w l rooted r gone);
+              clear = record {
+                moved = λ l h k m has there over. has;
+                lent = λ b h k m has there off over. has;
+                seen = λ b h k m has there over. has;
+                owned = λ k has. absurd has;
+              };
+              views = λ x w has. absurd (none_some w has);
+              lends = λ l k none. absurd none;
+              far = λ w k none. absurd none;
+            };
+            kept = subst (Kept s with_all) (sym hands_there) enters.typed;
+            named = called.runs.named;
+            of_sub = called.runs.stands;
+            point = called.runs.point;
+            at_point = ([], called.runs.points, called.runs.begins, refl);
+            scope = λ f x q k held. elim (scope f x q k (sym (enters.hold f x q) ∙ held)) [
+              | inl less ↦ inl (omega (arith, less))
+              | inr mine ↦ (let is = mine.0 in inl (omega (arith, is)))
+            ];
+            holds = record {
+              held = λ x k lasts view at. absurd (no_view x k view at);
+              within = λ x k view at. absurd (no_view x k view at);
+              only = λ x w has. absurd (none_some w has);
+            };
+            placed = λ x w has. absurd (none_some w has);
+            none_above = λ f x k less view at. above f x k (omega (arith, less)) view (sym (enters.views f x view) ∙ at);
+          },
+          calls_one waits_stage refl (refl, refl, refl) refl none_new called_words,
+        )
+          where
+            no_view : (x k : ℕ) → is_anonymous (view_of s x) ≡ true
+                → (get_or (variable_slots s (home s (suc depth) x) x with_all.variables) 0 no_slot).word ≡ machine.Cell k → ⊥
+            no_view x k view at =
+                let up : home s (suc depth) x ≡ suc depth = ap (λ b. if b then 0 else suc depth) (local x view) in
+                above (home s (suc depth) x) x k (omega (arith, up)) view (sym (enters.views (home s (suc depth) x) x view) ∙ at)
+
+      pub calls_it : Along (turn main_turn (Call n actuals result))
+      calls_it =
+          call_on main_turn ready.accepted.settled n actuals Along ends_raised Given given_laid entered_sound ways_there ways_are
+          (start main_turn) then_now refl refl passed_quiet
