@@ -4,3 +4,4 @@ pub mod Steps
 pub mod Places
 pub mod Lowered
 pub mod Filled
+pub mod Stacks

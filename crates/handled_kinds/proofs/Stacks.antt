@@ -1,0 +1,201 @@
+-- The words of frames have the kinds of their objects.
+use Rattle.std.proofs.Common.{◌≡◌, refl, sym, ap, ◌∙◌, subst, ℕ, zero, suc, ◌+◌, arith, Bool, true, false, ◌&&◌, ◌==◌, List, [], ◌∷◌, ◌++◌, map, take, drop, length, length-append, get_or, slice_get, append_assoc, Some, if◌then◌else◌}
+use Rattle.std.specs.Prelude.{flat_map, sum}
+use Rattle.std.specs.Cmp.Lexicographic.{pointwise}
+use Rattle.std.proofs.lemmas.Bool.Decides.{nat_tests}
+use Rattle.std.proofs.lemmas.List.{length-map}
+use Rattle.std.proofs.lemmas.List.Sums.{sum_by-cons}
+use Rattle.type_definitions.specs.Types.{Table, words}
+use Rattle.run_values.specs.declared.value.Kind.{Kind}
+use Rattle.run_values.specs.declared.value.Kind.TheVariants as sort
+use Rattle.flow_paths.specs.Objects.{Typing, object_at}
+use Rattle.flow_paths.specs.Laid.{FlowSub, FlowProgram, flow_typing}
+use Rattle.machine.specs.States.{sub_of}
+use Rattle.machine.specs.States as machine
+use Rattle.machine.specs.Typed.{sorts}
+use Rattle.run_codes.specs.Codes.{Object, Counter}
+use Rattle.run_codes.specs.Flat.{kind_of, kinds}
+use Rattle.run_codes.specs.Lowered.{Site, Kept, kept_words, loop_words, offset_from, words_before_value}
+use Rattle.run_codes.specs.Programs.{Program, objects_of, rooms, sub_rows}
+use Rattle.run_codes.specs.Points.{Held, no_sub, sub_at}
+use Rattle.run_codes.specs.Points as points
+use Rattle.run_codes.proofs.Parts.{many}
+use Rattle.run_codes.proofs.Places.{impossible, some_same}
+use Rattle.handled_runs.specs.Looks.{IsFront}
+use Rattle.handled_steps.specs.Alike.{room_kinds, frame_kinds}
+use Rattle.handled_steps.specs.Looks.{taken_kinds}
+use Rattle.handled_kinds.specs.Kinds.{HasKinds}
+use Rattle.handled_kinds.specs.Stacks.{stack_kinds, EndsWithPackages, site_of, HasRows}
+
+-- ---- fronts
+
+pub front_before : (ks js rest : List Kind) → IsFront ks js → IsFront ks (js ++ rest)
+front_before [] js rest is = tt
+front_before (k ∷ ks) [] rest is = absurd is
+front_before (k ∷ ks) (j ∷ js) rest is = (is.0, front_before ks js rest is.1)
+
+front_self : (ks rest : List Kind) → IsFront ks (ks ++ rest)
+front_self [] rest = tt
+front_self (k ∷ ks) rest = (refl, front_self ks rest)
+
+-- after some words
+pub drop_after : (first rest : List Kind) (n i : ℕ) → i ≡ length first + n → drop i (first ++ rest) ≡ drop n rest
+drop_after [] rest n i e = ap (λ j. drop j rest) (let same : i ≡ n = omega (arith, e) in same)
+drop_after (f ∷ first) rest n zero e = absurd (omega (arith, e))
+drop_after (f ∷ first) rest n (suc i) e = drop_after first rest n i (omega (arith, e))
+
+-- within some words
+drop_within : (first rest ks : List Kind) (n : ℕ) → IsFront ks (drop n first) → IsFront ks (drop n (first ++ rest))
+drop_within first rest ks zero is = front_before ks first rest is
+drop_within [] rest [] (suc n) is = tt
+drop_within [] rest (k ∷ ks) (suc n) is = absurd is
+drop_within (f ∷ first) rest ks (suc n) is = drop_within first rest ks n is
+
+-- ---- one frame
+
+kind_count : (table : Table) (t : ℕ) → length (kinds table t) ≡ words table t
+kind_count table t = length-map (sorts table t) kind_of ∙ many table t
+
+module _ (s : Typing) where
+  abbrev loop_kinds : Bool → List Kind
+  loop_kinds b = flat_map (room_kinds s.table) (if b then Counter ∷ [] else [])
+
+  abbrev kept_kinds : List Kept → List Kind
+  kept_kinds all = flat_map (room_kinds s.table) (rooms s all)
+
+  abbrev one_kept : Kept → List Kind
+  one_kept k = kinds s.table (object_at s k.object).of ++ loop_kinds k.loops
+
+  loop_count : (b : Bool) → length (loop_kinds b) ≡ (if b then loop_words else 0)
+  loop_count true = refl
+  loop_count false = refl
+
+  kept_count : (k : Kept) → length (one_kept k) ≡ kept_words s k
+  kept_count k =
+      let object = kind_count s.table (object_at s k.object).of in
+      let loops = loop_count k.loops in
+      let both = length-append (kinds s.table (object_at s k.object).of) (loop_kinds k.loops) in
+      both ∙ (ap (λ n. n + length (loop_kinds k.loops)) object ∙ ap (λ n. words s.table (object_at s k.object).of + n) loops)
+
+  first_kept : (k : Kept) (all : List Kept) → kept_kinds (k ∷ all) ≡ one_kept k ++ kept_kinds all
+  first_kept k all = by k.loops
+    where
+      by : (b : Bool)
+          → flat_map (room_kinds s.table) (Object (object_at s k.object).of ∷ (if b then Counter ∷ [] else []) ++ rooms s all)
+          ≡ kinds s.table (object_at s k.object).of ++ loop_kinds b ++ kept_kinds all
+      by true = sym (append_assoc (kinds s.table (object_at s k.object).of) (sort.Int ∷ sort.Int ∷ sort.Int ∷ []) (kept_kinds all))
+      by false = sym (append_assoc (kinds s.table (object_at s k.object).of) [] (kept_kinds all))
+
+  same_number : (a b : ℕ) → (a == b) ≡ true → a ≡ b
+  same_number a b e = grind (arith, nat_tests)
+
+  -- An object at an offset has the kinds of its type there.
+  offset_kinds : (all : List Kept) (start x at : ℕ) → offset_from s start all x ≡ Some at → (o : ℕ) × (at ≡ start + o) × IsFront (kinds s.table (object_at s x).of) (drop o (kept_kinds all))
+  offset_kinds [] start x at e = impossible at e
+  offset_kinds (k ∷ all) start x at e = by (k.object == x) refl e (λ f. offset_kinds all (start + kept_words s k) x at f)
+    where
+      by : (b : Bool) → (k.object == x) ≡ b → (if b then Some start else offset_from s (start + kept_words s k) all x) ≡ Some at
+          → (offset_from s (start + kept_words s k) all x ≡ Some at → (o : ℕ) × (at ≡ start + kept_words s k + o) × IsFront (kinds s.table (object_at s x).of) (drop o (kept_kinds all)))
+          → (o : ℕ) × (at ≡ start + o) × IsFront (kinds s.table (object_at s x).of) (drop o (kept_kinds (k ∷ all)))
+      by true is f rest =
+          let here = some_same start at f in
+          let object = same_number k.object x is in
+          let ks : List Kind = kinds s.table (object_at s k.object).of in
+          let front : IsFront ks (one_kept k ++ kept_kinds all) = front_before ks (one_kept k) (kept_kinds all) (front_self ks (loop_kinds k.loops)) in
+          (0, omega (arith, here), subst (λ y. IsFront (kinds s.table (object_at s y).of) (kept_kinds (k ∷ all))) object (subst (IsFront ks) (sym (first_kept k all)) front))
+      by false is f rest =
+          let on = rest f in
+          let count = kept_count k in
+          let far : kept_words s k + on.0 ≡ length (one_kept k) + on.0 = ap (λ n. n + on.0) (sym count) in
+          let same : drop (kept_words s k + on.0) (kept_kinds (k ∷ all)) ≡ drop on.0 (kept_kinds all)
+          = ap (drop (kept_words s k + on.0)) (first_kept k all) ∙ drop_after (one_kept k) (kept_kinds all) on.0 (kept_words s k + on.0) far in
+          let place = on.1 in
+          (kept_words s k + on.0, omega (arith, place), subst (IsFront (kinds s.table (object_at s x).of)) (sym same) on.2)
+
+  pub frame_offset : (all : List Kept) (x at : ℕ) → offset_from s 0 all x ≡ Some at → IsFront (kinds s.table (object_at s x).of) (drop at (kept_kinds all))
+  frame_offset all x at e =
+      let on = offset_kinds all 0 x at e in
+      let place = on.1 in
+      let same : at ≡ on.0 = omega (arith, place) in
+      subst (λ i. IsFront (kinds s.table (object_at s x).of) (drop i (kept_kinds all))) (sym same) on.2
+
+-- ---- the rooms of a subprogram
+
+rooms_row : (s : Typing) (subs : List FlowSub) (k n : ℕ) → (get_or (sub_rows s k subs) n no_sub).rooms ≡ rooms s (objects_of (get_or subs n machine.no_sub))
+rooms_row s [] k n = refl
+rooms_row s (sub ∷ rest) k zero = refl
+rooms_row s (sub ∷ rest) k (suc n) = rooms_row s rest (k + length sub.points) n
+
+frame_is : (program : FlowProgram) (p : Program) → HasRows program p → (n : ℕ) → frame_kinds (flow_typing program).table (sub_at p n) ≡ kept_kinds (flow_typing program) (objects_of (sub_of program n))
+frame_is program p rows n =
+    ap (λ all. flat_map (room_kinds (flow_typing program).table) (get_or all n no_sub).rooms) rows
+    ∙ ap (flat_map (room_kinds (flow_typing program).table)) (rooms_row (flow_typing program) program.subs 0 n)
+
+-- ---- all frames
+
+module _ (program : FlowProgram) (p : Program) (rows : HasRows program p) where
+  abbrev s : Typing
+  s = flow_typing program
+
+  -- The package objects stand first.
+  packages_first : (ns : List ℕ) → EndsWithPackages ns → (x at : ℕ) → offset_from s 0 (objects_of (sub_of program 0)) x ≡ Some at
+      → IsFront (kinds s.table (object_at s x).of) (drop at (stack_kinds s.table p ns))
+  packages_first [] ends x at e = absurd ends
+  packages_first (n ∷ []) ends x at e =
+      subst (λ k. IsFront (kinds s.table (object_at s x).of) (drop at (frame_kinds s.table (sub_at p k)))) (sym ends)
+      (subst (λ ks. IsFront (kinds s.table (object_at s x).of) (drop at ks)) (sym (frame_is program p rows 0)) (frame_offset s (objects_of (sub_of program 0)) x at e))
+  packages_first (n ∷ k ∷ rest) ends x at e =
+      drop_within (stack_kinds s.table p (k ∷ rest)) (frame_kinds s.table (sub_at p n)) (kinds s.table (object_at s x).of) at (packages_first (k ∷ rest) ends x at e)
+
+  -- The law: the words of the stack have the kinds of their objects, where the frame that runs begins after the others.
+  pub stack_has : (n : ℕ) (rest takes : List ℕ) (taken : List Kind) → EndsWithPackages (n ∷ rest)
+      → ((k t : ℕ) → slice_get takes k ≡ Some t → IsFront (kinds s.table t) (drop (words_before_value (site_of program n takes) k) taken))
+      → HasKinds (site_of program n takes) (length (stack_kinds s.table p rest)) (stack_kinds s.table p (n ∷ rest)) taken
+  stack_has n rest takes taken ends waits = record {
+    own = λ x at there own.
+        let same = drop_after (stack_kinds s.table p rest) (frame_kinds s.table (sub_at p n)) at (length (stack_kinds s.table p rest) + at) refl in
+        subst (IsFront (kinds s.table (object_at s x).of)) (sym same)
+        (subst (λ ks. IsFront (kinds s.table (object_at s x).of) (drop at ks)) (sym (frame_is program p rows n)) (frame_offset s (objects_of (sub_of program n)) x at there));
+    packages = λ x at there declared. packages_first (n ∷ rest) ends x at there;
+    waits = waits;
+  }
+
+-- ---- the values that a point takes
+
+takes_front : (table : Table) (takes : List ℕ) (k t : ℕ) → slice_get takes k ≡ Some t → IsFront (kinds table t) (drop (sum (map (words table) (take k takes))) (flat_map (kinds table) takes))
+takes_front table [] k t e = impossible t e
+takes_front table (u ∷ takes) zero t e =
+    subst (λ v. IsFront (kinds table v) (flat_map (kinds table) (u ∷ takes))) (some_same u t e) (front_self (kinds table u) (flat_map (kinds table) takes))
+takes_front table (u ∷ takes) (suc k) t e =
+    let next : sum (map (words table) (u ∷ take k takes)) ≡ words table u + sum (map (words table) (take k takes)) = sum_by-cons (λ n. n) (words table u) (map (words table) (take k takes)) in
+    let count = kind_count table u in
+    let far : sum (map (words table) (u ∷ take k takes)) ≡ length (kinds table u) + sum (map (words table) (take k takes)) = next ∙ ap (λ n. n + sum (map (words table) (take k takes))) (sym count) in
+    subst (IsFront (kinds table t))
+    (sym (drop_after (kinds table u) (flat_map (kinds table) takes) (sum (map (words table) (take k takes))) (sum (map (words table) (u ∷ take k takes))) far)) (takes_front table takes k t e)
+
+same_ofs : (takes : List ℕ) (all : List ℕ) → pointwise (λ a b. a == b) takes all ≡ true → takes ≡ all
+same_ofs [] [] e = refl
+same_ofs [] (b ∷ all) e = cc
+same_ofs (a ∷ takes) [] e = cc
+same_ofs (a ∷ takes) (b ∷ all) e = by (a == b) refl (pointwise (λ a b. a == b) takes all) refl e (λ g. same_ofs takes all g)
+  where
+    equal : (a == b) ≡ true → a ≡ b
+    equal f = grind (arith, nat_tests)
+
+    by : (x : Bool) → (a == b) ≡ x → (y : Bool) → pointwise (λ a b. a == b) takes all ≡ y → x && y ≡ true → (pointwise (λ a b. a == b) takes all ≡ true → takes ≡ all) → a ∷ takes ≡ b ∷ all
+    by true f true g e on = ap (λ c. c ∷ takes) (equal f) ∙ ap (λ rest. b ∷ rest) (on g)
+    by true f false g e on = cc
+    by false f y g e on = cc
+
+held_kinds : (table : Table) (hs : List Held) → flat_map (λ (h : Held). kinds table h.of) hs ≡ flat_map (kinds table) (map (λ (h : Held). h.of) hs)
+held_kinds table [] = refl
+held_kinds table (h ∷ hs) = ap (λ ks. kinds table h.of ++ ks) (held_kinds table hs)
+
+-- They have the kinds of the types that the point takes.
+pub taken_has : (t : points.Turn) (c : Site) → c.typing.table ≡ t.table → c.takes ≡ t.point.takes → points.are_taken t ≡ true
+    → (k u : ℕ) → slice_get c.takes k ≡ Some u → IsFront (kinds c.typing.table u) (drop (words_before_value c k) (taken_kinds t))
+taken_has t c table takes are k u e =
+    let ofs = same_ofs t.point.takes (map (λ (h : Held). h.of) (points.taken t)) are in
+    let all : taken_kinds t ≡ flat_map (kinds c.typing.table) c.takes
+    = held_kinds t.table (points.taken t) ∙ (ap (flat_map (kinds t.table)) (sym ofs) ∙ (ap (λ x. flat_map (kinds x) t.point.takes) (sym table) ∙ ap (flat_map (kinds c.typing.table)) (sym takes))) in
+    subst (λ ks. IsFront (kinds c.typing.table u) (drop (words_before_value c k) ks)) (sym all) (takes_front c.typing.table c.takes k u e)
