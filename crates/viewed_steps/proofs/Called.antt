@@ -487,7 +487,7 @@ module _ (s : Typing) (settled : IsSettled s.table) (own_law : OwnsByShape s.tab
             (ap (λ z. is_anonymous (view_of s z)) (sym (same_object f x g y e)) ∙ named_plain s.table u (scalar_named s.table u plain))));
       }
 
-  with_one : (f x : ℕ) (a : Passed) (m : Memory) → Scalar x → IsLaid s a → Kept s m hands → Enters m (with_formal s f x a m)
+  pub with_one : (f x : ℕ) (a : Passed) (m : Memory) → Scalar x → IsLaid s a → Kept s m hands → Enters m (with_formal s f x a m)
   with_one f x (Value ws) m plain laid typed = one_formal f x ws m plain laid typed
   with_one f x (From k) m plain laid typed =
       let first = moved_there k laid m typed in

@@ -11,6 +11,9 @@ pub mod Beside
 pub mod Inherited
 pub mod Waiting
 pub mod Left
+pub mod Between
+pub mod Carried
 pub mod Called
+pub mod Entered
 pub mod Stepping
 pub mod Main
