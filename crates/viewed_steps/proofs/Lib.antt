@@ -15,5 +15,13 @@ pub mod Between
 pub mod Carried
 pub mod Called
 pub mod Entered
+pub mod Backed
+pub mod Standing
+pub mod Packages
+pub mod Innermost
+pub mod EachInstruction
+pub mod ScopeEnds
+pub mod CallEnds
+pub mod Calling
 pub mod Stepping
 pub mod Main

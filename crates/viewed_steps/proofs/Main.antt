@@ -26,7 +26,8 @@ use Rattle.soundness.proofs.Points.{sub_there}
 use Rattle.owned_loans.specs.Views.{known_gone, Views, Viewed}
 use Rattle.viewed_steps.specs.Sound.{GoneElsewhere, IsSound, LeadsOn}
 use Rattle.viewed_steps.specs.Ready.{IsReady}
-use Rattle.viewed_steps.proofs.Stepping.{stage, first_point, sound_step}
+use Rattle.viewed_steps.proofs.Packages.{stage, first_point}
+use Rattle.viewed_steps.proofs.Stepping.{sound_step}
 
 -- ---- the start
 

@@ -1,0 +1,361 @@
+-- The end of a call leads on, in the frame below.
+use Rattle.std.proofs.Common.{◌≡◌, refl, sym, ap, ◌∙◌, subst, ◌⊎◌, inl, inr, ℕ, suc, ◌<◌, ◌≤◌, true, false, List, [], ◌∷◌, ◌++◌, length, get_or, arith, Option, Some, None, if◌then◌else◌}
+use Rattle.std.proofs.Math.Nat.{eq-or-lt_of_le}
+use Rattle.spark_base.specs.Lists.{Has}
+use Rattle.place_names.specs.declared.act.Act.{Act}
+use Rattle.place_names.specs.declared.fact.Fact.{Fact}
+use Rattle.place_names.specs.declared.fact.Fact.TheVariants.{Moved}
+use Rattle.place_names.specs.Names.{Name as PlaceName}
+use Rattle.type_definitions.specs.Types.{Table}
+use Rattle.typed_tree.specs.Programs.{TypedProgram}
+use Rattle.flow_paths.specs.declared.report.Effects.{Effects}
+use Rattle.flow_paths.specs.Instructions.{Instruction, EndScope, Finish}
+use Rattle.flow_paths.specs.Objects.{Typing, object_at, is_anonymous, is_package_object, is_observer, view_of}
+use Rattle.flow_paths.specs.Points.{NamedPoint}
+use Rattle.flow_paths.specs.Laid.{FlowProgram, NamedSub, typing_of, flow_typing, flow_program, flow_named}
+use Rattle.flow_paths.specs.Paths.{ControlPath}
+use Rattle.flow_paths.specs.Effects.{path_points}
+use Rattle.flow_paths.specs.Scopes.{is_within}
+use Rattle.machine.specs.Words as machine
+use Rattle.machine.specs.Memory.{Memory, no_slot, variable_slots, without_frame}
+use Rattle.machine.specs.Evaluate.{Exception}
+use Rattle.machine.specs.States.{Frame, State, sub_of}
+use Rattle.machine.specs.Step.{Turn, turn, counted}
+use Rattle.machine.specs.Step as steps
+use Rattle.machine.specs.Owners.{waiting_in}
+use Rattle.owned_ways.specs.Ways.{Step, OfVariable, OfRoot, Way, Held, AllowsAll, number_of}
+use Rattle.owned_ways.specs.Ways as ways
+use Rattle.soundness.specs.Seen.{content, word_in, seen, home}
+use Rattle.soundness.specs.Typed.{Kept}
+use Rattle.soundness.specs.Sound.{calls_nothing, Stage, facts_of, AreStages, IsProcedure, InScope, IsNamedSub, IsAtPoint, view_of as view_here}
+use Rattle.soundness.proofs.Contents.{bool_cases, word_no}
+use Rattle.soundness.proofs.Steps.{no_leaf}
+use Rattle.soundness.proofs.Used.{returns_whole}
+use Rattle.soundness.proofs.Around.{same_or_not}
+use Rattle.soundness.proofs.Returning.{returned_kept, left_held, returns_lead, ends_lead, left_waits, ended_owned}
+use Rattle.owned_loans.specs.Views.{known_gone, Views, IsMovedBy, Viewed}
+use Rattle.owned_loans.proofs.Moves.{view_on, same_viewed}
+use Rattle.owned_loans.proofs.Ended.{stands_itself}
+use Rattle.viewed_soundness.proofs.Names.{true_false}
+use Rattle.viewed_soundness.proofs.Outcomes.{named_plain}
+use Rattle.viewed_steps.specs.Sound.{IsResting, HoldsAt, ArePlaced, NoneAbove, ViewStage, stages_of, GoneElsewhere, IsWaiting, AreWaiting, IsSound, LeadsOn}
+use Rattle.viewed_steps.specs.Ready.{IsReady}
+use Rattle.viewed_steps.proofs.Read.{scalar_named}
+use Rattle.viewed_steps.proofs.Ended.{none_some}
+use Rattle.viewed_steps.proofs.Waiting.{StandsBetween, all_between, handed, all_on, all_same}
+use Rattle.viewed_steps.proofs.Left.{owned_left, covered_left, reach_left, reach_before, gone_before, own_whole, other_word, no_word}
+use Rattle.viewed_steps.proofs.Called.{Enters, all_back}
+use Rattle.viewed_steps.proofs.Standing as standing
+use Rattle.viewed_steps.proofs.Packages as packages
+use Rattle.viewed_steps.proofs.Innermost as innermost
+
+smaller : (f b low : ℕ) → f < suc b → (f ≡ low → ⊥) → low ≡ b → f < low
+smaller f b low less ne is =
+    let most : f ≤ b = omega (arith, less) in
+    elim (eq-or-lt_of_le most) [ inl same ↦ absurd (ne (same ∙ sym is)) | inr under ↦ omega (arith, under, is) ]
+
+higher : (f low b : ℕ) → low < f → low ≡ b → (f ≡ suc b → ⊥) → suc b < f
+higher f low b less is ne =
+    let most : suc b ≤ f = omega (arith, less, is) in
+    elim (eq-or-lt_of_le most) [ inl same ↦ absurd (ne (sym same)) | inr over ↦ over ]
+
+module _ (table : Table) (typed : TypedProgram) (effects : Effects) (input : List ℕ) (ready : IsReady table typed effects) where
+  abbrev program : FlowProgram
+  program = flow_program table typed
+
+  abbrev s : Typing
+  s = flow_typing program
+
+  abbrev own : Typing
+  own = typing_of table typed
+
+  abbrev same : s ≡ own
+  same = standing.same table typed effects input ready
+
+  abbrev local : (x : ℕ) → is_anonymous (view_of s x) ≡ true → is_package_object s x ≡ false
+  local = standing.local table typed effects input ready
+
+  abbrev unmoved_stage : (e : Stage) → e.frame.sub ≡ 0 → (name : PlaceName) → Has (facts_of program effects e) (Moved name) → ⊥
+  unmoved_stage = packages.unmoved_stage table typed effects input ready
+
+  module _ (state : State) (top : Stage) (below : ViewStage) (more_frames : List ViewStage) (rest : List Frame) (named : NamedSub) (p : NamedPoint)
+      (frames : state.frames ≡ top.frame ∷ (below.stage.frame ∷ rest)) (deep : top.depth ≡ suc (length rest))
+      (stages : AreStages (stages_of (below ∷ more_frames)) (below.stage.frame ∷ rest))
+      (running : IsProcedure table typed top.frame.sub × IsResting s top × AreWaiting table typed effects state top.frame.sub (below ∷ more_frames))
+      (of_sub : IsNamedSub (flow_named table typed) top.frame.sub named) (at_point : IsAtPoint named.points top.frame.next p)
+      (path : ControlPath (path_points program effects (sub_of program top.frame.sub)) top.before top.frame.next) (views : Views)
+      (viewed_before : Viewed (home s (suc (length rest))) (is_observer s) (known_gone (home s (suc (length rest))) (GoneElsewhere program effects (below ∷ more_frames))) views
+      (view_here s state) (facts_of program effects top))
+      (kept : Kept s state.memory (waiting_in state)) (scope : InScope s state.memory (suc (length rest)) p.scope) (holds : HoldsAt s (suc (length rest)) views state.memory p)
+      (placed_before : ArePlaced program (facts_of program effects top) views p.scope) (above : NoneAbove s (suc (length rest)) state.memory) where
+    abbrev outer : List Frame
+    outer = below.stage.frame ∷ rest
+
+    abbrev older : List ViewStage
+    older = below ∷ more_frames
+
+    abbrev depth : ℕ
+    depth = suc (length rest)
+
+    abbrev between : (g : ViewStage) → Has (below ∷ more_frames) g → StandsBetween table typed effects unmoved_stage local state (suc (length rest)) g
+    between = innermost.between table typed effects input ready state top below more_frames rest named p frames deep stages running of_sub at_point path views viewed_before kept scope holds placed_before above
+
+    abbrev plain : top.frame.waits ≡ []
+    plain = innermost.plain table typed effects input ready state top below more_frames rest named p frames deep stages running of_sub at_point path views viewed_before kept scope holds placed_before above
+
+    abbrev main_turn : Turn
+    main_turn = standing.t table typed effects input ready state top older outer named p frames of_sub at_point
+
+    abbrev own_facts : List Fact
+    own_facts = standing.facts table typed effects input ready state top older outer named p frames of_sub at_point path
+
+    abbrev handed_on : List Fact
+    handed_on = handed table typed effects unmoved_stage local state (suc (length rest)) (below ∷ more_frames) between
+
+    abbrev facts_now : List Fact
+    facts_now = own_facts ++ handed_on
+
+    abbrev acts_of_main : Instruction → List Act
+    acts_of_main i = standing.acts_here table typed effects input ready state top older outer named p frames of_sub at_point i
+
+    abbrev viewed_own : Viewed (home s depth) (is_observer s) (known_gone (home s depth) (GoneElsewhere program effects older)) views (view_here s state) own_facts
+    viewed_own = innermost.viewed_own table typed effects input ready state top below more_frames rest named p frames deep stages running of_sub at_point path views viewed_before kept scope holds placed_before above
+
+    abbrev placed : ArePlaced program facts_now views p.scope
+    placed = innermost.placed table typed effects input ready state top below more_frames rest named p frames deep stages running of_sub at_point path views viewed_before kept scope holds placed_before above
+
+    abbrev named_there : Has (flow_named table typed) named
+    named_there = innermost.named_there table typed effects input ready state top below more_frames rest named p frames deep stages running of_sub at_point path views viewed_before kept scope holds placed_before above
+
+    abbrev point_there_now : Has named.points p
+    point_there_now = innermost.point_there_now table typed effects input ready state top below more_frames rest named p frames deep stages running of_sub at_point path views viewed_before kept scope holds placed_before above
+
+    abbrev ends_raised : ((x : ℕ) → p.instr ≡ EndScope x → ⊥) → (how : Exception) (m : Memory) → LeadsOn table typed effects (steps.raised main_turn how m)
+    ends_raised = innermost.ends_raised table typed effects input ready state top below more_frames rest named p frames deep stages running of_sub at_point path views viewed_before kept scope holds placed_before above
+
+    -- ---- the end of a call
+
+    nothing_left : p.instr ≡ Finish → (x : ℕ) (q : List Step) (n : ℕ)
+        → word_in s.table (content s state.memory (waiting_in state) (OfRoot (OfVariable depth x))) q ≡ Held n → ⊥
+    nothing_left is x q n held = elim (scope depth x q n held) [
+      | inl less ↦ omega (arith, less)
+      | inr mine ↦ (
+          let formal = ready.scoped.finishes named named_there p point_there_now is x mine.1 in
+          let none = word_no s.table (content s state.memory (waiting_in state) (OfRoot (OfVariable depth x))) q
+          (no_leaf s.table ready.accepted.settled (object_at s x).of (ready.class.formals x formal) q) in
+          let no_number : ways.Empty ≡ Held n = sym none ∙ held in cc)
+    ]
+
+    -- no view has a way then
+    no_view_left : p.instr ≡ Finish → (x : ℕ) → views.way x ≡ None
+    no_view_left is x = by_way (views.way x) refl
+      where
+        by_way : (o : Option Way) → views.way x ≡ o → views.way x ≡ None
+        by_way None e = e
+        by_way (Some w) e =
+            let formal = ready.scoped.finishes named named_there p point_there_now is x (placed x w e).within in
+            absurd (true_false (is_anonymous (view_of s x)) (holds.only x w e)
+            (named_plain s.table (object_at s x).of (scalar_named s.table (object_at s x).of (ready.class.formals x formal))))
+
+    -- no part of a package object is moved then
+    whole_packages : p.instr ≡ Finish → (name : PlaceName) → Has own_facts (Moved name) → is_package_object s name.root ≡ true → ⊥
+    whole_packages is name has shared =
+        let finishing : AllowsAll own_facts (acts_of_main Finish) =
+        subst (λ i. AllowsAll own_facts (acts_of_main i)) is (standing.allowed table typed effects input ready state top older outer named p frames of_sub at_point path (ap calls_nothing is)) in
+        returns_whole program effects ready.accepted.effects_are own named top.before finishing.0 name has
+        (sym (ap (λ z. is_package_object z name.root) same) ∙ shared)
+
+    module _ (h : ViewStage) (others : List ViewStage) (stages_there : AreStages (stages_of (below ∷ (h ∷ others))) (below.stage.frame ∷ rest))
+        (waiting : AreWaiting table typed effects state top.frame.sub (below ∷ (h ∷ others)))
+        (well : Viewed (home s depth) (is_observer s) (known_gone (home s depth) (GoneElsewhere program effects (below ∷ (h ∷ others)))) views (view_here s state) own_facts)
+        (is : p.instr ≡ Finish) (mid : Memory)
+        (on : Enters s ready.accepted.settled ready.owns (waiting_in state) state.leaks state.memory mid) where
+      abbrev mid_state : State
+      mid_state = record state { memory = mid }
+
+      abbrev left_state : State
+      left_state = counted (record state { frames = below.stage.frame ∷ rest; memory = without_frame depth mid })
+
+      nothing_mid : (x : ℕ) (q : List Step) (n : ℕ) → word_in s.table (content s mid (waiting_in state) (OfRoot (OfVariable depth x))) q ≡ Held n → ⊥
+      nothing_mid x q n held = nothing_left is x q n (sym (on.hold depth x q) ∙ held)
+
+      well_mid : Viewed (home s depth) (is_observer s) (known_gone (home s depth) (GoneElsewhere program effects (below ∷ (h ∷ others)))) views (view_here s mid_state) own_facts
+      well_mid =
+          same_viewed (home s depth) (is_observer s) (known_gone (home s depth) (GoneElsewhere program effects (below ∷ (h ∷ others)))) views
+          (view_here s state) (view_here s mid_state) own_facts on.same well
+
+      scope_mid : InScope s mid depth p.scope
+      scope_mid f x q n held = scope f x q n (sym (on.hold f x q) ∙ held)
+
+      above_mid : NoneAbove s depth mid
+      above_mid f x n less view e = above f x n less view (sym (on.views f x view) ∙ e)
+
+      waiting_mid : AreWaiting table typed effects mid_state top.frame.sub (below ∷ (h ∷ others))
+      waiting_mid =
+          all_same table typed effects unmoved_stage local state mid_state depth (λ f x q n some less held. (q, n, sym (on.hold f x q) ∙ held))
+          (λ f x some less view. on.views f x view) on.same top.frame.sub (below ∷ (h ∷ others)) (below.stage.frame ∷ rest) stages_there (omega arith) waiting
+
+      abbrev left_memory : Memory
+      left_memory = without_frame depth mid
+
+      abbrev waits : IsWaiting table typed effects mid_state top.frame.sub below
+      waits = waiting_mid.0
+
+      hands_left : waiting_in left_state ≡ waiting_in state
+      hands_left = left_waits state top.frame outer left_memory frames plain
+
+      abbrev left_view : ways.View
+      left_view = seen s left_memory (waiting_in state) state.leaks
+
+      view_left : left_view ≡ view_here s left_state
+      view_left = ap (λ z. seen s left_memory z state.leaks) (sym hands_left)
+
+      reach_on : (w : Way) (n : ℕ) → ways.Reaches (view_here s mid_state) w (ways.OfCell n) → ways.Reaches (view_here s left_state) w (ways.OfCell n)
+      reach_on w n reach =
+          subst (λ z. ways.Reaches z w (ways.OfCell n)) view_left
+          (reach_left s mid depth (waiting_in state) state.leaks nothing_mid w (ways.OfCell n) reach)
+
+      -- what is in a variable of another frame was there before
+      held_before : (f x : ℕ) (q : List Step) (n : ℕ) → word_in s.table (content s left_memory [] (OfRoot (OfVariable f x))) q ≡ Held n
+          → (f ≡ depth → ⊥) × (word_in s.table (content s mid [] (OfRoot (OfVariable f x))) q ≡ Held n)
+      held_before f x q n held = left_held s mid depth (waiting_in state) state.leaks nothing_mid f x q n held
+
+      -- and views have there what they had
+      words_before : (f x : ℕ) → (f ≡ depth → ⊥)
+          → (get_or (variable_slots s f x left_memory.variables) 0 no_slot).word ≡ (get_or (variable_slots s f x mid.variables) 0 no_slot).word
+      words_before f x ne = other_word s mid depth f x ne
+
+      abbrev low : ℕ
+      low = below.stage.depth
+
+      low_is : below.stage.depth ≡ length rest
+      low_is = stages_there.1
+
+      scope_left : (f x : ℕ) (q : List Step) (n : ℕ) → word_in s.table (content s left_memory [] (OfRoot (OfVariable f x))) q ≡ Held n
+          → (f < low) ⊎ ((f ≡ low) × (is_within x (waits.point).scope ≡ true))
+      scope_left f x q n held =
+          let before = held_before f x q n held in
+          elim (same_or_not f low) [
+            | inl e ↦ inr (e, waits.scope x q n (subst (λ z. word_in s.table (content s mid [] (OfRoot (OfVariable z x))) q ≡ Held n) e before.1))
+            | inr other_low ↦ inl (elim (scope_mid f x q n before.1) [
+              | inr mine ↦ absurd (before.0 mine.0)
+              | inl less ↦ smaller f (length rest) low less other_low low_is
+            ])
+          ]
+
+      -- what is gone is known to those that are left
+      known_left : (w : Way) (l : ways.Loc) → ways.IsRooted w → ways.Reaches left_view w l → left_view.word l ≡ ways.Gone
+          → IsMovedBy (home s low) below.views (facts_of program effects below.stage) w ⊎ GoneElsewhere program effects (h ∷ others) w
+      known_left w l rooted r gone =
+          elim (well_mid.known w l rooted (reach_before s mid depth (waiting_in state) state.leaks nothing_mid w l r)
+          (gone_before s mid depth (waiting_in state) state.leaks nothing_mid l gone)) [
+            | inr (g, inl same_stage, what) ↦ inl (subst (λ (z : ViewStage). IsMovedBy (home s z.stage.depth) z.views (facts_of program effects z.stage) w) (sym same_stage) what)
+            | inr (g, inr has, what) ↦ inr (g, has, what)
+            | inl (u, moved, leads) ↦ absurd (
+                let same_way : u ≡ w =
+                sym (stands_itself (home s depth) (is_observer s) (known_gone (home s depth) (λ z. ⊥)) views u moved.0 (no_view_left is (number_of u))) ∙ leads in
+                elim (bool_cases (is_package_object s (number_of u))) [
+                  | inl shared ↦ whole_packages is (ways.name_of u) moved.1 shared
+                  | inr mine ↦ own_whole s mid depth (waiting_in state) state.leaks nothing_mid w l
+                      (subst (ways.Named (home s depth)) same_way moved.0) (ap (λ z. is_package_object s (number_of z)) (sym same_way) ∙ mine) r gone
+                ])
+          ]
+
+      viewed_left : Viewed (home s low) (is_observer s) (known_gone (home s low) (GoneElsewhere program effects (h ∷ others))) below.views left_view
+          (facts_of program effects below.stage)
+      viewed_left = record {
+        owned = owned_left s mid depth (waiting_in state) state.leaks nothing_mid well_mid.owned;
+        covered = covered_left s mid depth (waiting_in state) state.leaks nothing_mid well_mid.covered;
+        known = known_left;
+        clear = waits.clear;
+        views = λ x w has.
+            view_on (home s low) (is_observer s) (known_gone (home s low) (λ z. ⊥)) below.views (view_here s mid_state) left_view
+            (facts_of program effects below.stage) (facts_of program effects below.stage) x w (waits.views x w has) (λ b n loan. loan)
+            (reach_left s mid depth (waiting_in state) state.leaks nothing_mid w (ways.OfCell (below.views.cell x)) (waits.views x w has).reaches);
+        far = λ w n none. absurd none;
+      }
+
+      holds_there : HoldsAt s low below.views left_memory waits.point
+      holds_there = record {
+        held = λ x n lasts view e. waits.holds.held x n lasts view (word_there x n view e);
+        within = λ x n view e. waits.holds.within x n view (word_there x n view e);
+        only = waits.holds.only;
+      }
+        where
+          word_there : (x n : ℕ) → is_anonymous (view_of s x) ≡ true
+              → (get_or (variable_slots s (home s low x) x left_memory.variables) 0 no_slot).word ≡ machine.Cell n
+              → (get_or (variable_slots s (home s low x) x mid.variables) 0 no_slot).word ≡ machine.Cell n
+          word_there x n view e =
+              let at_low : home s low x ≡ low = ap (λ b. if b then 0 else low) (local x view) in
+              let below_it = low_is in
+              sym (words_before (home s low x) x (λ same_depth. omega (arith, at_low, below_it, same_depth))) ∙ e
+
+      above_left : NoneAbove s low left_memory
+      above_left f x n less view e = elim (same_or_not f depth) [
+        | inl same_depth ↦ no_word s mid depth x n
+            (subst (λ z. (get_or (variable_slots s z x left_memory.variables) 0 no_slot).word ≡ machine.Cell n) same_depth e)
+        | inr ne ↦ above_mid f x n (higher f low (length rest) less low_is ne) view (sym (words_before f x ne) ∙ e)
+      ]
+
+      others_left : AreWaiting table typed effects left_state below.stage.frame.sub (h ∷ others)
+      others_left =
+          all_on table typed effects unmoved_stage local mid_state left_state depth
+          (λ f x q n some less held. (q, n, (held_before f x q n held).1))
+          (λ f x some less view. words_before f x (λ same_depth. omega (arith, less, same_depth)))
+          below.stage.frame.sub (h ∷ others) rest stages_there.2 (omega arith)
+          (λ g has x w there. elim (all_between table typed effects unmoved_stage local mid_state below.stage.frame.sub depth (h ∷ others) rest stages_there.2 (omega arith) waiting_mid.1 g has) [
+            | inl first ↦ absurd (none_some w (sym (first.2 x) ∙ there))
+            | inr (some, less, under, waits_there) ↦ reach_on w (g.views.cell x) (waits_there.views x w there).reaches
+          ]) waiting_mid.1
+
+      -- the frame below goes on
+      returns_to : IsSound table typed effects left_state
+      returns_to = record {
+        top = below.stage;
+        views = below.views;
+        older = h ∷ others;
+        stages = stages_there;
+        running = (waits.procedure, waits.plain, others_left);
+        path = waits.path;
+        viewed = subst (λ z. Viewed (home s low) (is_observer s) (known_gone (home s low) (GoneElsewhere program effects (h ∷ others))) below.views z
+            (facts_of program effects below.stage)) view_left viewed_left;
+        kept = subst (Kept s left_memory) (sym hands_left)
+            (returned_kept s mid depth (waiting_in state) state.leaks nothing_mid on.typed);
+        named = waits.named;
+        of_sub = waits.of_sub;
+        point = waits.point;
+        at_point = waits.at_point;
+        scope = scope_left;
+        holds = holds_there;
+        placed = waits.placed;
+        none_above = above_left;
+      }
+
+    pub ends_call : p.instr ≡ Finish → LeadsOn table typed effects (turn main_turn Finish)
+    ends_call is = by_rest rest more_frames refl stages running.2 viewed_own
+      where
+        no_end : (x : ℕ) → p.instr ≡ EndScope x → ⊥
+        no_end x end = (let no : Finish ≡ EndScope x = sym is ∙ end in cc)
+
+        by_rest : (r : List Frame) (m : List ViewStage) → rest ≡ r → AreStages (stages_of (below ∷ m)) (below.stage.frame ∷ r)
+            → AreWaiting table typed effects state top.frame.sub (below ∷ m)
+            → Viewed (home s depth) (is_observer s) (known_gone (home s depth) (GoneElsewhere program effects (below ∷ m))) views (view_here s state) own_facts
+            → LeadsOn table typed effects (turn main_turn Finish)
+        by_rest [] [] same_rest stages_there waiting well =
+            ends_lead main_turn (LeadsOn table typed effects) (λ m. Enters s ready.accepted.settled ready.owns (waiting_in state) state.leaks state.memory m)
+            (ends_raised no_end) below.stage.frame (ap (λ z. below.stage.frame ∷ z) same_rest)
+            (λ m on. (
+            let well_then = same_viewed (home s depth) (is_observer s) (known_gone (home s depth) (GoneElsewhere program effects (below ∷ []))) views
+            (view_here s state) (view_here s (record state { memory = m })) own_facts on.same well in (
+              (λ trap. trap),
+              ended_owned s ready.accepted.settled ready.owns (record state { memory = m }) top.frame outer depth frames plain
+                  (λ x q n held. nothing_left is x q n (sym (on.hold depth x q) ∙ held)) well_then.owned well_then.covered,
+            )))
+            (all_back main_turn ready.accepted.settled ready.owns (waiting_in state) state.leaks top.frame.returns running.1.1 (steps.start main_turn) kept)
+        by_rest [] (h ∷ m) same_rest stages_there waiting well = absurd stages_there.2
+        by_rest (k ∷ r) [] same_rest stages_there waiting well = absurd stages_there.2
+        by_rest (k ∷ r) (h ∷ m) same_rest stages_there waiting well =
+            returns_lead main_turn (LeadsOn table typed effects) (λ m. Enters s ready.accepted.settled ready.owns (waiting_in state) state.leaks state.memory m)
+            (ends_raised no_end) below.stage.frame k r (ap (λ z. below.stage.frame ∷ z) same_rest)
+            (λ mid on. returns_to h m (subst (λ z. AreStages (stages_of (below ∷ (h ∷ m))) (below.stage.frame ∷ z)) (sym same_rest) stages_there) waiting well is mid on)
+            (all_back main_turn ready.accepted.settled ready.owns (waiting_in state) state.leaks top.frame.returns running.1.1 (steps.start main_turn) kept)

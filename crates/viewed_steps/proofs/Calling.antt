@@ -1,0 +1,506 @@
+-- A call leads on, in the frame of what is called.
+use Rattle.std.proofs.Common.{◌≡◌, refl, sym, ap, ◌∙◌, subst, inl, inr, ℕ, suc, ◌<◌, true, false, List, [], ◌∷◌, ◌++◌, map, drop, length, get_or, arith, append-nil, Some, None, if◌then◌else◌}
+use Rattle.spark_base.specs.Lists.{Has}
+use Rattle.place_names.specs.declared.act.Act.{Act}
+use Rattle.place_names.specs.declared.act.Act.TheVariants as act
+use Rattle.place_names.specs.declared.act.Placed.{Placed}
+use Rattle.place_names.specs.declared.fact.Fact.{Fact}
+use Rattle.place_names.specs.declared.fact.Fact.TheVariants.{Moved, Lent}
+use Rattle.place_names.specs.declared.rule.Loan.TheVariants.{Observed}
+use Rattle.place_names.specs.Names.{Name as PlaceName}
+use Rattle.type_definitions.specs.Types.{Table, is_scalar, full}
+use Rattle.typed_tree.specs.Trees.{TypedTree}
+use Rattle.typed_tree.specs.Programs.{TypedProgram}
+use Rattle.flow_paths.specs.declared.report.Effects.{Effects}
+use Rattle.flow_paths.specs.Instructions.{Instruction, Call, EndScope}
+use Rattle.flow_paths.specs.Objects.{Typing, object_at, sub_at, is_anonymous, is_package_object, is_observer, view_of, passings, Passing}
+use Rattle.flow_paths.specs.Names.{has_call}
+use Rattle.flow_paths.specs.Acts as flow
+use Rattle.flow_paths.specs.Points.{NamedPoint, FlowPoint}
+use Rattle.flow_paths.specs.Laid.{FlowSub, FlowProgram, NamedSub, flow_sub, typing_of, flow_typing, flow_program, flow_named}
+use Rattle.flow_paths.specs.Paths.{PathPoint, is_some_point, ControlPath, begins, goes_on, facts_before}
+use Rattle.flow_paths.specs.Effects.{flow_sub_at, path_points, globals_of, called_acts}
+use Rattle.flow_paths.specs.Scopes.{taken, brought, scope_behind, Leads}
+use Rattle.machine.specs.Words as machine
+use Rattle.machine.specs.Memory.{Memory, no_slot, variable_slots}
+use Rattle.machine.specs.Evaluate.{Now, Exception}
+use Rattle.machine.specs.States.{Frame, State, sub_of, frame_at_start}
+use Rattle.machine.specs.Step.{Turn, turn, led, successor}
+use Rattle.machine.specs.Step as steps
+use Rattle.machine.specs.Typed.{successors}
+use Rattle.machine.specs.Calls.{Passed, all_passed, with_formals, returns_of}
+use Rattle.machine.specs.Owners.{waiting_in}
+use Rattle.owned_ways.specs.Ways.{Way, after, AllowsAll}
+use Rattle.owned_ways.specs.Ways as ways
+use Rattle.soundness.specs.Seen.{IsNear, is_view_formal, content, seen, home, trunk}
+use Rattle.soundness.specs.Typed.{Kept}
+use Rattle.soundness.specs.Sound.{Stage, facts_of, AreStages, AreCopied, Uses, IsProcedure, InScope, IsNamedSub, IsAtPoint, view_of as view_here}
+use Rattle.soundness.proofs.Stays.{Quiet}
+use Rattle.soundness.proofs.Numbers.{index_law}
+use Rattle.soundness.proofs.Lasting.{keeps}
+use Rattle.soundness.proofs.Passing.{way_of, AreReads, reads_keep, values_read, AreLaid, returns_copied, entered, call_leads, passed_to}
+use Rattle.soundness.proofs.Scalars.{acts, acts_append, after_append, allows_both}
+use Rattle.soundness.proofs.Points.{sub_there, sub_in_range, point_there, path_there}
+use Rattle.soundness.proofs.Inherited.{AreGlobal, global_after, global_allowed, global_apart}
+use Rattle.soundness.proofs.Used.{called_used, used_global, called_are, globals_are}
+use Rattle.soundness.proofs.Around.{IsFar}
+use Rattle.soundness.proofs.Waits.{drop_none}
+use Rattle.soundness.proofs.Successors.{below_one, successor_there}
+use Rattle.owned_loans.specs.Views.{Around, known_gone, Views, IsMovedBy, AreClear, AreViews, Viewed}
+use Rattle.owned_loans.proofs.Moves.{same_viewed}
+use Rattle.viewed_soundness.specs.Holds.{Holds}
+use Rattle.viewed_soundness.proofs.Evaluated.{live_trunk}
+use Rattle.viewed_soundness.proofs.Outcomes.{start_is, hands_behind}
+use Rattle.viewed_steps.specs.Sound.{IsResting, HoldsAt, ArePlaced, NoneAbove, ViewStage, stages_of, GoneElsewhere, LendOwn, IsWaiting, AreWaiting, IsSound, LeadsOn}
+use Rattle.viewed_steps.specs.Ready.{IsCalled, IsReady}
+use Rattle.viewed_steps.proofs.Lent.{Spare, spare_both, loans_stay}
+use Rattle.viewed_steps.proofs.Placed.{scope_on, placed_on}
+use Rattle.viewed_steps.proofs.Ended.{none_some}
+use Rattle.viewed_steps.proofs.Waiting.{StandsBetween, beside_them, handed, all_on}
+use Rattle.viewed_steps.proofs.Called.{AreGiven, all_given, all_laid as all_laid_out, all_acted, spare_reads, spare_copies, Enters, all_entered}
+use Rattle.viewed_steps.proofs.Standing as standing
+use Rattle.viewed_steps.proofs.Packages as packages
+use Rattle.viewed_steps.proofs.Innermost as innermost
+
+module _ (table : Table) (typed : TypedProgram) (effects : Effects) (input : List ℕ) (ready : IsReady table typed effects) where
+  abbrev program : FlowProgram
+  program = flow_program table typed
+
+  abbrev s : Typing
+  s = flow_typing program
+
+  abbrev own : Typing
+  own = typing_of table typed
+
+  abbrev same : s ≡ own
+  same = standing.same table typed effects input ready
+
+  abbrev no_in_formals : (x : ℕ) → is_view_formal s x ≡ false
+  no_in_formals = standing.no_in_formals table typed effects input ready
+
+  abbrev local : (x : ℕ) → is_anonymous (view_of s x) ≡ true → is_package_object s x ≡ false
+  local = standing.local table typed effects input ready
+
+  abbrev unmoved_stage : (e : Stage) → e.frame.sub ≡ 0 → (name : PlaceName) → Has (facts_of program effects e) (Moved name) → ⊥
+  unmoved_stage = packages.unmoved_stage table typed effects input ready
+
+  abbrev first_point : (k : ℕ) (named : NamedSub) → IsNamedSub (flow_named table typed) k named → (p : NamedPoint) (rest : List NamedPoint) → named.points ≡ p ∷ rest
+      → is_some_point (path_points program effects (sub_of program k))
+  first_point = packages.first_point table typed effects input ready
+
+  abbrev blank_views : Views
+  blank_views = record { way = λ x. None; loan = λ x. ways.Lost 0; up = λ x. ways.Lost 0; cell = λ x. 0 }
+
+  module _ (state : State) (top : Stage) (below : ViewStage) (more_frames : List ViewStage) (rest : List Frame) (named : NamedSub) (p : NamedPoint)
+      (frames : state.frames ≡ top.frame ∷ (below.stage.frame ∷ rest)) (deep : top.depth ≡ suc (length rest))
+      (stages : AreStages (stages_of (below ∷ more_frames)) (below.stage.frame ∷ rest))
+      (running : IsProcedure table typed top.frame.sub × IsResting s top × AreWaiting table typed effects state top.frame.sub (below ∷ more_frames))
+      (of_sub : IsNamedSub (flow_named table typed) top.frame.sub named) (at_point : IsAtPoint named.points top.frame.next p)
+      (path : ControlPath (path_points program effects (sub_of program top.frame.sub)) top.before top.frame.next) (views : Views)
+      (viewed_before : Viewed (home s (suc (length rest))) (is_observer s) (known_gone (home s (suc (length rest))) (GoneElsewhere program effects (below ∷ more_frames))) views
+      (view_here s state) (facts_of program effects top))
+      (kept : Kept s state.memory (waiting_in state)) (scope : InScope s state.memory (suc (length rest)) p.scope) (holds : HoldsAt s (suc (length rest)) views state.memory p)
+      (placed_before : ArePlaced program (facts_of program effects top) views p.scope) (above : NoneAbove s (suc (length rest)) state.memory) where
+    abbrev outer : List Frame
+    outer = below.stage.frame ∷ rest
+
+    abbrev older : List ViewStage
+    older = below ∷ more_frames
+
+    abbrev depth : ℕ
+    depth = suc (length rest)
+
+    abbrev between : (g : ViewStage) → Has (below ∷ more_frames) g → StandsBetween table typed effects unmoved_stage local state (suc (length rest)) g
+    between = innermost.between table typed effects input ready state top below more_frames rest named p frames deep stages running of_sub at_point path views viewed_before kept scope holds placed_before above
+
+    abbrev other : Around (home s (suc (length rest)))
+    other = beside_them table typed effects unmoved_stage local state (suc (length rest)) (below ∷ more_frames) between
+
+    abbrev alone : (w : Way) → IsNear (suc (length rest)) w → IsFar (suc (length rest)) (GoneElsewhere program effects (below ∷ more_frames)) w → ⊥
+    alone = innermost.alone table typed effects input ready state top below more_frames rest named p frames deep stages running of_sub at_point path views viewed_before kept scope holds placed_before above
+
+    abbrev plain : top.frame.waits ≡ []
+    plain = innermost.plain table typed effects input ready state top below more_frames rest named p frames deep stages running of_sub at_point path views viewed_before kept scope holds placed_before above
+
+    abbrev main_turn : Turn
+    main_turn = standing.t table typed effects input ready state top older outer named p frames of_sub at_point
+
+    abbrev own_facts : List Fact
+    own_facts = standing.facts table typed effects input ready state top older outer named p frames of_sub at_point path
+
+    abbrev handed_on : List Fact
+    handed_on = handed table typed effects unmoved_stage local state (suc (length rest)) (below ∷ more_frames) between
+
+    abbrev facts_now : List Fact
+    facts_now = own_facts ++ handed_on
+
+    abbrev acts_of_main : Instruction → List Act
+    acts_of_main i = standing.acts_here table typed effects input ready state top older outer named p frames of_sub at_point i
+
+    abbrev sub_at_all : flow_sub_at program top.frame.sub ≡ flow_sub own named
+    sub_at_all = innermost.sub_at_all table typed effects input ready state top below more_frames rest named p frames deep stages running of_sub at_point path views viewed_before kept scope holds placed_before above
+
+    abbrev sub_less : top.frame.sub < length program.subs
+    sub_less = innermost.sub_less table typed effects input ready state top below more_frames rest named p frames deep stages running of_sub at_point path views viewed_before kept scope holds placed_before above
+
+    abbrev allowed_now : Spare s (standing.acts_by table typed effects input ready state top older outer named p frames of_sub at_point s p.instr) → AllowsAll own_facts (acts_of_main p.instr)
+        → AllowsAll facts_now (acts_of_main p.instr)
+    allowed_now = innermost.allowed_now table typed effects input ready state top below more_frames rest named p frames deep stages running of_sub at_point path views viewed_before kept scope holds placed_before above
+
+    abbrev viewed : Viewed (home s depth) (is_observer s) other views (view_here s state) facts_now
+    viewed = innermost.viewed table typed effects input ready state top below more_frames rest named p frames deep stages running of_sub at_point path views viewed_before kept scope holds placed_before above
+
+    abbrev apart_from_them : (done : List Act) (v : Views) (view : ways.View) → ((x : ℕ) (w : Way) → v.way x ≡ Some w → is_anonymous (view_of s x) ≡ true)
+        → Viewed (home s depth) (is_observer s) other v view (after done facts_now)
+        → Viewed (home s depth) (is_observer s) (known_gone (home s depth) (GoneElsewhere program effects older)) v view (after done own_facts)
+    apart_from_them = innermost.apart_from_them table typed effects input ready state top below more_frames rest named p frames deep stages running of_sub at_point path views viewed_before kept scope holds placed_before above
+
+    abbrev placed_own : ArePlaced program own_facts views p.scope
+    placed_own = innermost.placed_own table typed effects input ready state top below more_frames rest named p frames deep stages running of_sub at_point path views viewed_before kept scope holds placed_before above
+
+    abbrev none_takes : taken main_turn.point.instr ≡ 0
+    none_takes = innermost.none_takes table typed effects input ready state top below more_frames rest named p frames deep stages running of_sub at_point path views viewed_before kept scope holds placed_before above
+
+    abbrev successors_there : length main_turn.point.next ≡ successors p.instr
+    successors_there = innermost.successors_there table typed effects input ready state top below more_frames rest named p frames deep stages running of_sub at_point path views viewed_before kept scope holds placed_before above
+
+    abbrev scope_is : scope_behind p ≡ brought p.instr p.scope
+    scope_is = innermost.scope_is table typed effects input ready state top below more_frames rest named p frames deep stages running of_sub at_point path views viewed_before kept scope holds placed_before above
+
+    abbrev none_taken : ℕ → ℕ → Type 0
+    none_taken a b = ⊥
+
+    abbrev ends_raised : ((x : ℕ) → p.instr ≡ EndScope x → ⊥) → (how : Exception) (m : Memory) → LeadsOn table typed effects (steps.raised main_turn how m)
+    ends_raised = innermost.ends_raised table typed effects input ready state top below more_frames rest named p frames deep stages running of_sub at_point path views viewed_before kept scope holds placed_before above
+
+    -- ---- a call
+
+    module _ (n : ℕ) (actuals : TypedTree) (e : p.instr ≡ Call n actuals None) (no_call : has_call actuals ≡ false) where
+      pub called : IsCalled table typed n actuals
+      called =
+          ready.called (flow_sub own named) (standing.in_program table typed effects input ready state top older outer named p frames of_sub at_point) main_turn.point
+          (standing.in_sub table typed effects input ready state top older outer named p frames of_sub at_point) n actuals None e
+
+      abbrev formals : List ℕ
+      formals = (sub_of program n).formals
+
+      pub scalar_formals : (x : ℕ) → Has formals x → is_scalar (full s.table (object_at s x).of) ≡ true
+      scalar_formals x has = ready.class.formals x (called.formals x has)
+
+      pub copied_there : AreCopied s formals actuals
+      copied_there =
+          ready.class.copied (flow_sub own named) (standing.in_program table typed effects input ready state top older outer named p frames of_sub at_point) main_turn.point
+          (standing.in_sub table typed effects input ready state top older outer named p frames of_sub at_point) n actuals None e called.formals
+
+      pub no_callee_result : (sub_of program n).result ≡ None
+      no_callee_result =
+          ap (λ (z : FlowSub). z.result) (sub_there table typed n called.procedure.named called.procedure.stands)
+          ∙ called.procedure.procedure called.procedure.named called.procedure.stands
+
+      abbrev ways_there : List Passing
+      ways_there = map (way_of s ready.owns) formals
+
+      pub ways_are : passings s (sub_at s n) ≡ ways_there
+      ways_are = passed_to program ready.owns n no_callee_result scalar_formals
+
+      -- the acts: actuals are read, or their indexes are; then come those of what is copied back, and
+      -- those on package objects
+      abbrev pub values : List Placed
+      values = flow.actual_values s ways_there actuals
+
+      abbrev copies : List Placed
+      copies = flow.actual_acts ways_there actuals
+
+      values_are : standing.acts_by table typed effects input ready state top older outer named p frames of_sub at_point s p.instr ≡ values ++ copies
+      values_are =
+          ap (standing.acts_by table typed effects input ready state top older outer named p frames of_sub at_point s) e
+          ∙ ap (λ z. flow.actual_values s z actuals ++ flow.actual_acts z actuals) ways_are
+
+      pub reads_there : AreReads values
+      reads_there = values_read s ready.owns formals actuals called.actuals_stay
+
+      call_acts : standing.whole_acts table typed effects input ready state top older outer named p frames of_sub at_point p.instr ≡ acts (values ++ copies) ++ globals_of program effects n
+      call_acts =
+          ap (λ z. acts (z ++ called_acts program effects p.pos p.instr)) values_are
+          ∙ acts_append (values ++ copies) (called_acts program effects p.pos p.instr)
+          ∙ ap (λ i. acts (values ++ copies) ++ acts (called_acts program effects p.pos i)) e
+          ∙ ap (λ z. acts (values ++ copies) ++ z) (called_are program effects ready.accepted.effects_are p.pos n actuals None)
+
+      abbrev facts_called : List Fact
+      facts_called = after (acts (values ++ copies)) own_facts
+
+      abbrev called_beside : List Fact
+      called_beside = after (acts (values ++ copies)) facts_now
+
+      each_allowed : AllowsAll own_facts (acts (values ++ copies)) × AllowsAll facts_called (globals_of program effects n)
+      each_allowed =
+          allows_both own_facts (acts (values ++ copies)) (globals_of program effects n)
+          (subst (AllowsAll own_facts) call_acts (standing.allowed_whole table typed effects input ready state top older outer named p frames of_sub at_point path))
+
+      spare_call : Spare s (values ++ copies)
+      spare_call = spare_both s values copies (spare_reads s values reads_there) (spare_copies s ready.owns formals actuals)
+
+      pub values_allowed : AllowsAll facts_now (acts values)
+      values_allowed =
+          (allows_both facts_now (acts values) (acts copies) (subst (AllowsAll facts_now) (acts_append values copies)
+          (subst (λ z. AllowsAll facts_now (acts z)) values_are
+          (allowed_now (subst (Spare s) (sym values_are) spare_call) (subst (λ z. AllowsAll own_facts (acts z)) (sym values_are) each_allowed.0))))).0
+
+      abbrev now : Now
+      now = record { memory = state.memory; waits = [] }
+
+      not_end : (x : ℕ) → p.instr ≡ EndScope x → ⊥
+      not_end x is = (let no : Call n actuals None ≡ EndScope x = sym e ∙ is in cc)
+
+      pub holds_now : Holds s depth views state.memory
+      holds_now = record {
+        held = λ x k view at. holds.held x k (λ fading. not_end fading.0 fading.1) view at;
+        only = holds.only;
+      }
+
+      pub live_now : (w : Way) (l : ways.Loc) → ways.IsRooted w → ways.Reaches (seen s state.memory (waiting_in state) state.leaks) w l
+          → (content s state.memory (waiting_in state) (trunk l)).owns ≡ true
+      live_now =
+          live_trunk (steps.here main_turn) ready.accepted.settled state.leaks [] other alone (keeps s ready.accepted.settled ready.owns) no_in_formals index_law
+          ready.owns views ready.class.parts_named state.memory (waiting_in state) viewed.owned
+
+      abbrev pub Given : List Passed → Type 0
+      Given passed =
+          AreGiven (steps.here main_turn) ready.accepted.settled (waiting_in state) state.leaks state.memory [] other facts_now views kept viewed holds_now alone live_now
+          index_law ready.owns ready.class.parts_named formals actuals passed
+
+      pub passed_quiet : Quiet now Given (all_passed (steps.here main_turn) ways_there formals actuals now)
+      passed_quiet =
+          all_given (steps.here main_turn) ready.accepted.settled (waiting_in state) state.leaks state.memory [] other facts_now views kept viewed holds_now alone live_now
+          index_law ready.owns ready.class.parts_named formals actuals called.actuals_stay copied_there no_call values_allowed
+
+      given_laid : (passed : List Passed) → Given passed → AreLaid s passed
+      given_laid passed given =
+          all_laid_out (steps.here main_turn) ready.accepted.settled (waiting_in state) state.leaks state.memory [] other facts_now views kept viewed holds_now alone live_now
+          index_law ready.owns ready.class.parts_named formals actuals passed given
+
+      -- the state is sound with views under the facts after the acts
+      acted_now : (passed : List Passed) → Given passed → Viewed (home s depth) (is_observer s) other views (view_here s state) called_beside
+      acted_now passed given =
+          subst (Viewed (home s depth) (is_observer s) other views (view_here s state))
+          (sym (ap (λ z. after z facts_now) (acts_append values copies) ∙ after_append (acts values) (acts copies) facts_now
+          ∙ ap (after (acts copies)) (reads_keep values reads_there facts_now)))
+          (all_acted (steps.here main_turn) ready.accepted.settled (waiting_in state) state.leaks state.memory [] other facts_now views kept viewed holds_now alone live_now
+          index_law ready.owns ready.class.parts_named formals actuals passed facts_now given viewed)
+
+      -- loans stay
+      loans_called : (h : ℕ) (m : PlaceName) → Has own_facts (Lent Observed h m) → Has facts_called (Lent Observed h m)
+      loans_called h m has = loans_stay s (values ++ copies) spare_call own_facts Observed h m has
+
+      globals : AreGlobal (globals_of program effects n)
+      globals = globals_are program effects ready.accepted.effects_are n
+
+      -- the successor, at which the frame waits
+      call_point : (k : ℕ) × (successor main_turn 0 ≡ Some k) × Has main_turn.point.next k
+      call_point = successor_there main_turn 0 (subst (λ z. 0 < z) (sym (successors_there ∙ ap successors e)) below_one)
+
+      abbrev waits_stage : Stage
+      waits_stage = record {
+        frame = record top.frame { waits = []; next = call_point.0 };
+        depth = top.depth;
+        before = top.frame.next ∷ top.before;
+        returns = top.returns;
+      }
+
+      abbrev waits_there : ViewStage
+      waits_there = record { stage = waits_stage; views = views }
+
+      facts_there : facts_of program effects waits_stage ≡ facts_called
+      facts_there =
+          ap (λ (z : FlowSub). facts_before (path_points program effects z) (top.frame.next ∷ top.before)) (standing.sub_is table typed effects input ready state top older outer named p frames of_sub at_point)
+          ∙ standing.facts_whole table typed effects input ready state top older outer named p frames of_sub at_point path
+          ∙ ap (λ z. after z own_facts) call_acts ∙ after_append (acts (values ++ copies)) (globals_of program effects n) own_facts
+          ∙ global_after (globals_of program effects n) facts_called globals
+
+      -- what the callee uses isn't moved
+      spared_then : (name : PlaceName) → Has facts_called (Moved name) → is_package_object s name.root ≡ true → Uses effects n name.root → ⊥
+      spared_then name has shared uses =
+          let there = used_global program effects ready.accepted.effects_are n name.root called.text_io shared uses in
+          global_apart name name.root refl there.0
+          (global_allowed (globals_of program effects n) facts_called globals each_allowed.1 (act.Global name.root there.0) there.1 (Moved name) has)
+
+      callee_less : n < length program.subs
+      callee_less = sub_in_range table typed n called.procedure.named called.procedure.stands
+
+      own_there : LendOwn s (facts_of program effects waits_stage)
+      own_there =
+          subst (λ (z : FlowSub). LendOwn s (facts_before (path_points program effects z) (top.frame.next ∷ top.before)))
+          (sym (standing.sub_is table typed effects input ready state top older outer named p frames of_sub at_point))
+          (ready.spared (flow_sub own named) (standing.in_program table typed effects input ready state top older outer named p frames of_sub at_point) top.before top.frame.next
+          (standing.path_here table typed effects input ready state top older outer named p frames of_sub at_point path) n actuals None
+          (ap (λ (q : FlowPoint). q.instr) (point_there own named top.frame.next p at_point) ∙ e))
+
+      no_waiting : steps.waiting main_turn ≡ []
+      no_waiting = ap (λ k. drop k top.frame.waits) none_takes ∙ drop_none top.frame.waits ∙ plain
+
+      at_successor : (q : NamedPoint) × IsAtPoint named.points call_point.0 q × Leads own (scope_behind p) q.scope
+      at_successor = standing.next_at table typed effects input ready state top older outer named p frames of_sub at_point path call_point.0 call_point.2
+
+      call_scope : scope_behind p ≡ p.scope
+      call_scope = scope_is ∙ ap (λ i. brought i p.scope) e
+
+      lead_on : Leads s p.scope (at_successor.0).scope
+      lead_on = subst (λ z. Leads s z (at_successor.0).scope) call_scope (subst (λ z. Leads z (scope_behind p) (at_successor.0).scope) (sym same) at_successor.2)
+
+      next_scope : InScope s state.memory depth (at_successor.0).scope
+      next_scope = scope_on s ready.owns state.memory depth p.scope (at_successor.0).scope scope lead_on
+
+      next_placed : ArePlaced program facts_called views (at_successor.0).scope
+      next_placed =
+          placed_on program facts_called views p.scope (at_successor.0).scope holds.only lead_on
+          (λ x w has. (let own_place = placed_own x w has in record {
+            within = own_place.within;
+            up = own_place.up;
+            root = own_place.root;
+            holder = λ sees. (let h = own_place.holder sees in (h.0, loans_called h.0 (ways.name_of (views.loan x)) h.1, h.2));
+          }))
+
+      -- ---- what is passed
+
+      module _ (passed : List Passed) (given : Given passed) where
+        abbrev with_all : Memory
+        with_all = with_formals s (suc depth) formals passed state.memory
+
+        abbrev after_call : State
+        after_call = steps.leaking [] (entered main_turn ready.accepted.settled n actuals passed)
+
+        abbrev called_stage : Stage
+        called_stage = record { frame = frame_at_start n (returns_of formals passed); depth = suc depth; before = []; returns = [] }
+
+        enters : Enters s ready.accepted.settled ready.owns (waiting_in state) state.leaks state.memory with_all
+        enters = all_entered s ready.accepted.settled ready.owns (waiting_in state) state.leaks (suc depth) formals passed state.memory scalar_formals (given_laid passed given) kept
+
+        frames_there : after_call.frames ≡ frame_at_start n (returns_of formals passed) ∷ (waits_stage.frame ∷ outer)
+        frames_there =
+            ap (λ z. frame_at_start n (returns_of formals passed) ∷ led main_turn (record top.frame { waits = steps.waiting main_turn }) z) call_point.1
+            ∙ ap (λ z. frame_at_start n (returns_of formals passed) ∷ (record top.frame { waits = z; next = call_point.0 } ∷ outer)) no_waiting
+
+        hands_there : waiting_in after_call ≡ waiting_in state
+        hands_there =
+            hands_behind main_turn ready.accepted.settled ready.owns other alone no_in_formals views ready.class.parts_named none_taken frames none_takes state.memory 0
+
+        abbrev called_view : ways.View
+        called_view = seen s with_all (waiting_in state) state.leaks
+
+        view_called : called_view ≡ view_here s after_call
+        view_called = (λ j. seen s with_all (sym hands_there j) (sym (append-nil state.leaks) j))
+
+        well_beside : Viewed (home s depth) (is_observer s) other views (view_here s after_call) called_beside
+        well_beside =
+            subst (λ z. Viewed (home s depth) (is_observer s) other views z called_beside) view_called
+            (same_viewed (home s depth) (is_observer s) other views (view_here s state) called_view called_beside enters.same (acted_now passed given))
+
+        well_called : Viewed (home s depth) (is_observer s) (known_gone (home s depth) (GoneElsewhere program effects older)) views (view_here s after_call) facts_called
+        well_called = apart_from_them (acts (values ++ copies)) views (view_here s after_call) holds.only well_beside
+
+        is_waiting : IsWaiting table typed effects after_call n waits_there
+        is_waiting = record {
+          procedure = running.0;
+          plain = (refl, running.1.1, running.1.2);
+          path = subst (λ (z : FlowSub). ControlPath (path_points program effects z) (top.frame.next ∷ top.before) call_point.0)
+              (sym (standing.sub_is table typed effects input ready state top older outer named p frames of_sub at_point))
+              (goes_on top.before top.frame.next call_point.0 (standing.path_here table typed effects input ready state top older outer named p frames of_sub at_point path)
+              (subst (λ (z : PathPoint). Has z.next call_point.0) (sym (path_there own named top.frame.next p at_point program effects)) call_point.2));
+          named = named;
+          of_sub = of_sub;
+          point = at_successor.0;
+          at_point = at_successor.1;
+          scope = λ x q k held. elim (next_scope top.depth x q k (sym (enters.hold top.depth x q) ∙ held)) [
+            | inl less ↦ absurd (omega (arith, less, deep))
+            | inr mine ↦ mine.1
+          ];
+          lends = own_there;
+          unmoved = λ name has shared uses. spared_then name (subst (λ z. Has z (Moved name)) facts_there has) shared uses;
+          uses = λ x uses. called_used program effects ready.accepted.effects_are top.frame.sub (flow_sub own named) sub_at_all sub_less n callee_less
+              main_turn.point (standing.in_sub table typed effects input ready state top older outer named p frames of_sub at_point) actuals None e x uses;
+          clear = subst (AreClear (is_observer s)) (sym facts_there) well_called.clear;
+          views = subst (λ z. AreViews (home s top.depth) (is_observer s) views (view_here s after_call) z) (sym facts_there)
+              (subst (λ d. AreViews (home s d) (is_observer s) views (view_here s after_call) facts_called) (sym deep) well_called.views);
+          holds = subst (λ d. HoldsAt s d views with_all at_successor.0) (sym deep) (record {
+            held = λ x k lasts view at. holds_now.held x k view (sym (enters.views (home s depth x) x view) ∙ at);
+            within = λ x k view at. (
+                let own_way = holds_now.held x k view (sym (enters.views (home s depth x) x view) ∙ at) in
+                (next_placed x own_way.0 own_way.1).within);
+            only = holds.only;
+          });
+          placed = subst (λ z. ArePlaced program z views (at_successor.0).scope) (sym facts_there) next_placed;
+        }
+
+        others_wait : AreWaiting table typed effects after_call top.frame.sub older
+        others_wait =
+            all_on table typed effects unmoved_stage local state after_call depth
+            (λ f x q k some less held. (q, k, sym (enters.hold f x q) ∙ held))
+            (λ f x some less view. enters.views f x view)
+            top.frame.sub older outer stages (omega arith) (λ g has x w is. well_beside.far w (g.views.cell x) (g, has, x, is, refl)) running.2
+
+        -- what is gone then is known to those that wait
+        known_called : (w : Way) (l : ways.Loc) → ways.IsRooted w → ways.Reaches (view_here s after_call) w l → (view_here s after_call).word l ≡ ways.Gone
+            → GoneElsewhere program effects (waits_there ∷ older) w
+        known_called w l rooted r gone = elim (well_called.known w l rooted r gone) [
+          | inr (g, has, what) ↦ (g, inr has, what)
+          | inl moved ↦ (
+            waits_there,
+            inl refl,
+            subst (λ d. IsMovedBy (home s d) views (facts_of program effects waits_stage) w) (sym deep)
+                (subst (λ z. IsMovedBy (home s depth) views z w) (sym facts_there) moved),
+          )
+        ]
+
+        entered_sound : IsSound table typed effects after_call
+        entered_sound = record {
+          top = called_stage;
+          views = blank_views;
+          older = waits_there ∷ older;
+          stages = subst (AreStages (called_stage ∷ stages_of (waits_there ∷ older))) (sym frames_there) (refl, refl, (refl, deep, stages));
+          running = (
+            called.procedure,
+            (refl, returns_copied s ready.accepted.settled formals passed scalar_formals (given_laid passed given), refl),
+            (is_waiting, others_wait),
+          );
+          path = begins (first_point n called.procedure.named called.procedure.stands called.procedure.point called.procedure.points called.procedure.begins);
+          viewed = record {
+            owned = well_called.owned;
+            covered = well_called.covered;
+            known = λ w l rooted r gone. inr (known_called w l rooted r gone);
+            clear = record {
+              moved = λ l h k m has there over. has;
+              lent = λ b h k m has there off over. has;
+              seen = λ b h k m has there over. has;
+              owned = λ k has. absurd has;
+            };
+            views = λ x w has. absurd (none_some w has);
+            far = λ w k none. absurd none;
+          };
+          kept = subst (Kept s with_all) (sym hands_there) enters.typed;
+          named = called.procedure.named;
+          of_sub = called.procedure.stands;
+          point = called.procedure.point;
+          at_point = ([], called.procedure.points, called.procedure.begins, refl);
+          scope = λ f x q k held. elim (scope f x q k (sym (enters.hold f x q) ∙ held)) [
+            | inl less ↦ inl (omega (arith, less))
+            | inr mine ↦ (let is = mine.0 in inl (omega (arith, is)))
+          ];
+          holds = record {
+            held = λ x k lasts view at. absurd (no_view x k view at);
+            within = λ x k view at. absurd (no_view x k view at);
+            only = λ x w has. absurd (none_some w has);
+          };
+          placed = λ x w has. absurd (none_some w has);
+          none_above = λ f x k less view at. above f x k (omega (arith, less)) view (sym (enters.views f x view) ∙ at);
+        }
+          where
+            no_view : (x k : ℕ) → is_anonymous (view_of s x) ≡ true
+                → (get_or (variable_slots s (home s (suc depth) x) x with_all.variables) 0 no_slot).word ≡ machine.Cell k → ⊥
+            no_view x k view at =
+                let up : home s (suc depth) x ≡ suc depth = ap (λ b. if b then 0 else suc depth) (local x view) in
+                above (home s (suc depth) x) x k (omega (arith, up)) view (sym (enters.views (home s (suc depth) x) x view) ∙ at)
+
+      pub calls_it : LeadsOn table typed effects (turn main_turn (Call n actuals None))
+      calls_it =
+          call_leads main_turn ready.accepted.settled n actuals (LeadsOn table typed effects) (ends_raised not_end) Given given_laid entered_sound ways_there ways_are now
+          (start_is main_turn ready.accepted.settled ready.owns other alone no_in_formals views ready.class.parts_named none_taken frames none_takes) refl passed_quiet

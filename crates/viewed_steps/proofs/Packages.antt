@@ -1,0 +1,387 @@
+-- The package objects are elaborated: no part of theirs is moved, no object has a way, and the main
+-- procedure begins after them.
+use Rattle.std.proofs.Common.{◌≡◌, refl, sym, ap, ◌∙◌, subst, inl, inr, ℕ, ◌<◌, true, false, not, ◌||◌, ◌==◌, eq-eqb, List, [], ◌∷◌, ◌++◌, drop, get_or, arith, Option, Some, None, if◌then◌else◌}
+use Rattle.spark_base.specs.Lists.{Has}
+use Rattle.spark_base.specs.declared.position.Pos.{Pos}
+use Rattle.spark_base.proofs.Lists.{Has-append_cases, Has-map_from}
+use Rattle.place_names.specs.declared.act.Act.{Act}
+use Rattle.place_names.specs.declared.act.Placed.{Placed}
+use Rattle.place_names.specs.declared.fact.Fact.{Fact}
+use Rattle.place_names.specs.declared.fact.Fact.TheVariants.{Moved}
+use Rattle.place_names.specs.Facts.{adds}
+use Rattle.place_names.specs.Names.{Name as PlaceName}
+use Rattle.type_definitions.specs.Types.{Table}
+use Rattle.typed_tree.specs.Trees.{TypedTree}
+use Rattle.typed_tree.specs.Programs.{TypedProgram}
+use Rattle.flow_paths.specs.declared.report.Effects.{Effects}
+use Rattle.flow_paths.specs.Instructions.{Instruction, Declare, EndScope}
+use Rattle.flow_paths.specs.Objects.{Typing, object_at, is_anonymous, is_package_object, is_observer, view_of}
+use Rattle.flow_paths.specs.Names.{has_call}
+use Rattle.flow_paths.specs.Points.{NamedPoint, FlowPoint}
+use Rattle.flow_paths.specs.Laid.{FlowSub, FlowProgram, NamedSub, flow_sub, typing_of, flow_typing, flow_program, flow_named}
+use Rattle.flow_paths.specs.Paths.{PathPoint, is_some_point, path_point, ControlPath, begins, acts_at, facts_before}
+use Rattle.flow_paths.specs.Effects.{path_points, called_acts}
+use Rattle.flow_paths.specs.Scopes.{taken, brought, scope_behind, is_within, is_ready, Leads}
+use Rattle.machine.specs.Words as machine
+use Rattle.machine.specs.Memory.{no_slot, variable_slots}
+use Rattle.machine.specs.States.{Frame, State, Outcome, Goes, Ends, sub_of, frame_at_start}
+use Rattle.machine.specs.Step.{Turn, turn, led, main_frame}
+use Rattle.machine.specs.Owners.{waiting_in}
+use Rattle.machine.specs.Run.{no_point, step}
+use Rattle.owned_ways.specs.Ways.{Step, OfVariable, OfRoot, Way, Held, after, AllowsAll, along}
+use Rattle.owned_ways.specs.Ways as ways
+use Rattle.owned_ways.proofs.Locations.{reaches_along, named_along as rooted_along}
+use Rattle.soundness.specs.Seen.{IsNear, is_view_formal, content, word_in, home}
+use Rattle.soundness.specs.Typed.{Kept}
+use Rattle.typed_laws.specs.Needed.{IsFine}
+use Rattle.soundness.specs.Sound.{calls_nothing, calls_procedures, Stage, facts_of, AreStages, IsPlain, InScope, IsNamedSub, IsAtPoint, view_of as view_here}
+use Rattle.soundness.proofs.Contents.{word_root}
+use Rattle.soundness.proofs.Paths.{facts_next}
+use Rattle.soundness.proofs.Points.{sub_there, point_there}
+use Rattle.soundness.proofs.Used.{path_acts}
+use Rattle.soundness.proofs.Following.{Each, Declares, declare_on}
+use Rattle.soundness.proofs.Waits.{drop_none}
+use Rattle.soundness.proofs.Successors.{not_true, successor_cases, unmoved_after}
+use Rattle.owned_loans.specs.Views.{Around, known_gone, Views, Viewed}
+use Rattle.viewed_soundness.specs.Holds.{AllKeep}
+use Rattle.viewed_soundness.proofs.Names.{plain_named, true_false}
+use Rattle.viewed_soundness.proofs.Outcomes.{IsGood, Turned, Leads_on}
+use Rattle.viewed_steps.specs.Sound.{HoldsAt, NoneAbove, ViewStage, GoneElsewhere, IsFirst, IsSound, LeadsOn}
+use Rattle.viewed_steps.specs.Ready.{IsReady}
+use Rattle.viewed_steps.proofs.Declared.{IsElsewhere, OthersStay, not_gone, declare_leads, others_stay}
+use Rattle.viewed_steps.proofs.Placed.{scope_on}
+use Rattle.viewed_steps.proofs.Ended.{none_some}
+use Rattle.viewed_steps.proofs.Standing.{or_right}
+use Rattle.viewed_steps.proofs.Standing as standing
+
+module _ (table : Table) (typed : TypedProgram) (effects : Effects) (input : List ℕ) (ready : IsReady table typed effects) where
+  abbrev program : FlowProgram
+  program = flow_program table typed
+
+  abbrev s : Typing
+  s = flow_typing program
+
+  abbrev own : Typing
+  own = typing_of table typed
+
+  abbrev same : s ≡ own
+  same = standing.same table typed effects input ready
+
+  abbrev no_in_formals : (x : ℕ) → is_view_formal s x ≡ false
+  no_in_formals = standing.no_in_formals table typed effects input ready
+
+  abbrev local : (x : ℕ) → is_anonymous (view_of s x) ≡ true → is_package_object s x ≡ false
+  local = standing.local table typed effects input ready
+
+  -- ---- nothing is moved for the package objects
+
+  abbrev first_points : List PathPoint
+  first_points = path_points program effects (sub_of program 0)
+
+  no_callees : (pos : Pos) (i : Instruction) (x : ℕ) (v : TypedTree) → i ≡ Declare x v → (a : Placed) → Has (called_acts program effects pos i) a → ⊥
+  no_callees pos i x v e a has = subst (λ z. Has (called_acts program effects pos z) a) e has
+
+  nothing_added : (n : ℕ) (a : Act) → Has (acts_at first_points n) a → (name : PlaceName) → Has (adds a) (Moved name) → ⊥
+  nothing_added n a has name moved =
+      let placed = Has-map_from (λ (q : Placed). q.act) (path_point first_points n).acts a has in
+      let stands = path_acts program effects ready.accepted.effects_are (sub_of program 0).points n placed.0 placed.1 in
+      let declares = ready.elaborated.declared stands.0 stands.1 in
+      elim (Has-append_cases stands.0.acts (called_acts program effects stands.0.pos stands.0.instr) placed.0 stands.2) [
+        | inl mine ↦ ready.elaborated.unmoved stands.0 stands.1 placed.0 mine name (subst (λ z. Has (adds z) (Moved name)) (sym placed.2) moved)
+        | inr callee ↦ no_callees stands.0.pos stands.0.instr declares.0 declares.1 declares.2 placed.0 callee
+      ]
+
+  unmoved_along : (before : List ℕ) (name : PlaceName) → Has (facts_before first_points before) (Moved name) → ⊥
+  unmoved_along [] name has = absurd has
+  unmoved_along (n ∷ before) name has =
+      unmoved_after (acts_at first_points n) (facts_before first_points before) (unmoved_along before) (nothing_added n) name
+      (subst (λ z. Has z (Moved name)) (facts_next first_points before n) has)
+
+  pub unmoved_stage : (e : Stage) → e.frame.sub ≡ 0 → (name : PlaceName) → Has (facts_of program effects e) (Moved name) → ⊥
+  unmoved_stage e is name has =
+      unmoved_along e.before name (subst (λ n. Has (facts_before (path_points program effects (sub_of program n)) e.before) (Moved name)) is has)
+
+  -- where an object is declared, its facts say so of nothing that it was moved
+  module _ (state : State) (top : Stage) (older : List ViewStage) (outer : List Frame) (named : NamedSub) (p : NamedPoint)
+      (frames : state.frames ≡ top.frame ∷ outer) (of_sub : IsNamedSub (flow_named table typed) top.frame.sub named)
+      (at_point : IsAtPoint named.points top.frame.next p)
+      (path : ControlPath (path_points program effects (sub_of program top.frame.sub)) top.before top.frame.next)
+      (x : ℕ) (v : TypedTree) (e : p.instr ≡ Declare x v) where
+    declared_at : (get_or (flow_sub own named).points top.frame.next no_point).instr ≡ Declare x v
+    declared_at = ap (λ (q : FlowPoint). q.instr) (point_there own named top.frame.next p at_point) ∙ e
+
+    pub new_before : (name : PlaceName) → Has (standing.facts table typed effects input ready state top older outer named p frames of_sub at_point path) (Moved name) → name.root ≡ x → ⊥
+    new_before name has root =
+        (ready.new (flow_sub own named) (standing.in_program table typed effects input ready state top older outer named p frames of_sub at_point) top.before top.frame.next
+        (standing.path_here table typed effects input ready state top older outer named p frames of_sub at_point path) x v declared_at name root).0 has
+
+    pub new_after : calls_nothing p.instr ≡ true → (name : PlaceName) → Has (after (standing.acts_here table typed effects input ready state top older outer named p frames of_sub at_point p.instr) (standing.facts table typed effects input ready state top older outer named p frames of_sub at_point path)) (Moved name)
+        → name.root ≡ x → ⊥
+    new_after plain name has root =
+        (ready.new (flow_sub own named) (standing.in_program table typed effects input ready state top older outer named p frames of_sub at_point) top.before top.frame.next
+        (standing.path_here table typed effects input ready state top older outer named p frames of_sub at_point path) x v declared_at name root).1
+        (subst (λ z. Has z (Moved name)) (sym (standing.facts_on table typed effects input ready state top older outer named p frames of_sub at_point path plain)) has)
+
+  -- ---- frames at their start
+
+  abbrev pub stage : ℕ → ℕ → Stage
+  stage n depth = record { frame = frame_at_start n []; depth = depth; before = []; returns = [] }
+
+  -- the points of a subprogram are laid out of those by name
+  pub first_point : (k : ℕ) (named : NamedSub) → IsNamedSub (flow_named table typed) k named → (p : NamedPoint) (rest : List NamedPoint) → named.points ≡ p ∷ rest
+      → is_some_point (path_points program effects (sub_of program k))
+  first_point k named stands p rest is =
+      subst (λ (z : FlowSub). is_some_point (path_points program effects z)) (sym (sub_there table typed k named stands)) (there named is)
+    where
+      there : (named : NamedSub) → named.points ≡ p ∷ rest → is_some_point (path_points program effects (flow_sub own named))
+      there named is = by_points named.points is
+        where
+          by_points : (points : List NamedPoint) → points ≡ p ∷ rest
+              → is_some_point (path_points program effects (flow_sub own (record named { points = points })))
+          by_points [] is = cc
+          by_points (q ∷ others) is = tt
+
+  -- a state without views
+  abbrev HasNone : Views → Type 0
+  HasNone v = (x : ℕ) → v.way x ≡ None
+
+  abbrev blank_views : Views
+  blank_views = record { way = λ x. None; loan = λ x. ways.Lost 0; up = λ x. ways.Lost 0; cell = λ x. 0 }
+
+  no_views : {A : Type 0} (v : Views) → HasNone v → (x : ℕ) (w : Way) → v.way x ≡ Some w → A
+  no_views v none x w has = absurd (none_some w (sym (none x) ∙ has))
+
+  -- ---- a step of the package objects
+
+  -- the main procedure begins, over the frame of the package objects
+  module _ (below : ViewStage) (first : IsFirst below) (deep : below.stage.depth ≡ 0) (state : State) (views : Views) (none : HasNone views)
+      (begins_main : state.frames ≡ frame_at_start ready.main [] ∷ (below.stage.frame ∷ [])) (facts_there : List Fact)
+      (viewed : Viewed (home s 0) (is_observer s) (known_gone (home s 0) (GoneElsewhere program effects [])) views (view_here s state) facts_there)
+      (unmoved : (name : PlaceName) → Has facts_there (Moved name) → ⊥) (kept : Kept s state.memory (waiting_in state))
+      (scope : (f x : ℕ) (q : List Step) (n : ℕ) → word_in s.table (content s state.memory [] (OfRoot (OfVariable f x))) q ≡ Held n → f < 1)
+      (above : NoneAbove s 0 state.memory) where
+    nothing_there : (x n : ℕ) → is_anonymous (view_of s x) ≡ true → (get_or (variable_slots s (home s 1 x) x state.memory.variables) 0 no_slot).word ≡ machine.Cell n → ⊥
+    nothing_there x n view e =
+        above 1 x n (omega arith) view (subst (λ f. (get_or (variable_slots s f x state.memory.variables) 0 no_slot).word ≡ machine.Cell n)
+        (ap (λ b. if b then 0 else 1) (local x view)) e)
+
+    pub main_begun : IsSound table typed effects state
+    main_begun = record {
+      top = stage ready.main 1;
+      views = views;
+      older = below ∷ [];
+      stages = subst (AreStages (stage ready.main 1 ∷ (below.stage ∷ []))) (sym begins_main) (refl, refl, (refl, deep, tt));
+      running = (ready.main_there, (refl, (λ r has. absurd has), refl), first);
+      path = begins (first_point ready.main ready.main_there.named ready.main_there.stands ready.main_there.point ready.main_there.points ready.main_there.begins);
+      viewed = record {
+        owned = viewed.owned;
+        covered = viewed.covered;
+        known = λ w l rooted r gone. absurd (elim (viewed.known w l rooted r gone) [
+          | inl (u, moved, leads) ↦ unmoved (ways.name_of u) moved.1
+          | inr (g, has, what) ↦ has
+        ]);
+        clear = record {
+          moved = λ l h n m has there over. has;
+          lent = λ b h n m has there off over. has;
+          seen = λ b h n m has there over. has;
+          owned = λ n has. absurd has;
+        };
+        views = λ x w has. no_views views none x w has;
+        far = λ w n keeps. absurd keeps;
+      };
+      kept = kept;
+      named = ready.main_there.named;
+      of_sub = ready.main_there.stands;
+      point = ready.main_there.point;
+      at_point = ([], ready.main_there.points, ready.main_there.begins, refl);
+      scope = λ f x q n held. inl (scope f x q n held);
+      holds = record {
+        held = λ x n lasts view e. absurd (nothing_there x n view e);
+        within = λ x n view e. absurd (nothing_there x n view e);
+        only = λ x w has. no_views views none x w has;
+      };
+      placed = λ x w has. no_views views none x w has;
+      none_above = λ f x n less view e. above f x n (omega (arith, less)) view e;
+    }
+
+  module _ (state : State) (top : Stage) (named : NamedSub) (p : NamedPoint) (frames : state.frames ≡ top.frame ∷ []) (deep : top.depth ≡ 0) (views : Views)
+      (running : (top.frame.sub ≡ 0) × IsPlain top × ((x : ℕ) → views.way x ≡ None)) (above : NoneAbove s 0 state.memory)
+      (of_sub : IsNamedSub (flow_named table typed) top.frame.sub named) (at_point : IsAtPoint named.points top.frame.next p)
+      (path : ControlPath (path_points program effects (sub_of program top.frame.sub)) top.before top.frame.next)
+      (viewed_before : Viewed (home s 0) (is_observer s) (known_gone (home s 0) (GoneElsewhere program effects [])) views (view_here s state) (facts_of program effects top))
+      (kept : Kept s state.memory (waiting_in state)) (scope : InScope s state.memory 0 p.scope) (holds : HoldsAt s 0 views state.memory p) where
+    abbrev first_turn : Turn
+    first_turn = standing.t table typed effects input ready state top [] [] named p frames of_sub at_point
+
+    abbrev nowhere : Around (home s 0)
+    nowhere = known_gone (home s 0) (GoneElsewhere program effects [])
+
+    alone_first : (w : Way) → IsNear 0 w → GoneElsewhere program effects [] w → ⊥
+    alone_first w near (g, has, what) = has
+
+    abbrev no_sources : ℕ → ℕ → Type 0
+    no_sources a b = ⊥
+
+    abbrev facts_first : List Fact
+    facts_first = standing.facts table typed effects input ready state top [] [] named p frames of_sub at_point path
+
+    abbrev acts_first : Instruction → List Act
+    acts_first i = standing.acts_here table typed effects input ready state top [] [] named p frames of_sub at_point i
+
+    viewed_first : Viewed (home s 0) (is_observer s) (known_gone (home s 0) (GoneElsewhere program effects [])) views (view_here s state) facts_first
+    viewed_first = subst (Viewed (home s 0) (is_observer s) (known_gone (home s 0) (GoneElsewhere program effects [])) views (view_here s state)) (standing.facts_are table typed effects input ready state top [] [] named p frames of_sub at_point path) viewed_before
+
+    first_takes : taken first_turn.point.instr ≡ 0
+    first_takes = standing.takes table typed effects input ready state top [] [] named p frames of_sub at_point
+
+    in_packages : Has (sub_of program 0).points first_turn.point
+    in_packages =
+        subst (λ (z : FlowSub). Has z.points first_turn.point)
+        (sym (standing.sub_is table typed effects input ready state top [] [] named p frames of_sub at_point) ∙ ap (sub_of program) running.0)
+        (standing.in_sub table typed effects input ready state top [] [] named p frames of_sub at_point)
+
+    -- its instruction calls nothing
+    calls_plain : (x : ℕ) (v : TypedTree) → p.instr ≡ Declare x v → calls_nothing p.instr ≡ true
+    calls_plain x v e = ap calls_nothing e ∙ subst (λ i. calls_procedures i ≡ true) e (standing.calls_there table typed effects input ready state top [] [] named p frames of_sub at_point)
+
+    module _ (x : ℕ) (v : TypedTree) (e : p.instr ≡ Declare x v) where
+      scope_first : scope_behind p ≡ x ∷ p.scope
+      scope_first = ap (λ n. brought p.instr (drop n p.scope)) first_takes ∙ ap (brought p.instr) (drop_none p.scope) ∙ ap (λ i. brought i p.scope) e
+
+      within_more : (y : ℕ) → is_within y p.scope ≡ true → is_within y (x ∷ p.scope) ≡ true
+      within_more y w = or_right (y == x) (is_within y p.scope) w
+
+      undeclared_before : is_within x p.scope ≡ true → ⊥
+      undeclared_before within =
+          let out : not (is_within x p.scope) ≡ true = subst (λ i. is_ready p i ≡ true) e (standing.is_ready_there table typed effects input ready state top [] [] named p frames of_sub at_point) in
+          true_false (is_within x p.scope) within (not_true (is_within x p.scope) out)
+
+      owner : is_anonymous (view_of s x) ≡ false
+      owner = ready.orderly.packages first_turn.point in_packages x v e
+
+      free_first : (y : ℕ) (w : Way) → views.way y ≡ Some w → IsElsewhere (home s 0) 0 x w
+      free_first y w has = no_views views running.2 y w has
+
+      blank_first : (q : List Step) (w : ways.Word) → word_in s.table (content s state.memory [] (OfRoot (OfVariable 0 x))) q ≡ w
+          → word_in s.table (content s state.memory [] (OfRoot (OfVariable 0 x))) q ≡ ways.Empty
+      blank_first q ways.Empty is = is
+      blank_first q (ways.Held n) is = absurd (elim (scope 0 x q n is) [
+        | inl less ↦ omega (arith, less)
+        | inr mine ↦ undeclared_before mine.1
+      ])
+      blank_first q ways.Gone is =
+          let root : ways.Root = OfVariable 0 x in
+          let w : Way = along (ways.Object root) q in
+          absurd (not_gone first_turn ready.accepted.settled ready.owns nowhere alone_first no_in_formals views ready.class.parts_named no_sources frames first_takes
+          x facts_first (view_here s state) viewed_first (λ name has root at_home. new_before state top [] [] named p frames of_sub at_point path x v e name has root) free_first q
+          (viewed_first.known w (ways.part (OfRoot root) q) (rooted_along (ways.Object root) q tt)
+          (reaches_along (view_here s state) (ways.Object root) (OfRoot root) q refl)
+          (word_root s.table (content s state.memory (waiting_in state)) root q ∙ is)))
+
+      abbrev GoodFirst : State → Type 0
+      GoodFirst st = IsGood first_turn ready.accepted.settled ready.owns nowhere alone_first no_in_formals views ready.class.parts_named no_sources frames first_takes views facts_first st
+
+      same_declare : (a b : ℕ) (c : TypedTree) → Declare b c ≡ EndScope a → ⊥
+      same_declare a b c e = cc
+
+      good_first : GoodFirst state
+      good_first = record {
+        viewed = viewed_first;
+        kept = kept;
+        holds = record {
+          held = λ y n view at. holds.held y n (λ fading. same_declare fading.0 x v (sym e ∙ fading.1)) view at;
+          only = holds.only;
+        };
+      }
+
+      abbrev LeadsFirst : Outcome → Type 0
+      LeadsFirst outcome =
+          Leads_on first_turn ready.accepted.settled ready.owns nowhere alone_first no_in_formals views ready.class.parts_named no_sources frames first_takes
+          (after (acts_first (Declare x v)) facts_first) outcome
+
+      first_leads : LeadsFirst (turn first_turn (Declare x v))
+      first_leads =
+          let plain_calls = subst (λ i. calls_nothing i ≡ true) e (calls_plain x v e) in
+          declare_leads first_turn ready.accepted.settled ready.owns nowhere alone_first no_in_formals views ready.class.parts_named no_sources frames first_takes
+          x v (plain_named s.table (object_at s x).of owner) (subst (IsFine s named.sub.result) e (standing.fine table typed effects input ready state top [] [] named p frames of_sub at_point))
+          (not_true (has_call v) plain_calls) facts_first good_first
+          (subst (λ i. AllowsAll facts_first (acts_first i)) e (standing.allowed table typed effects input ready state top [] [] named p frames of_sub at_point path (calls_plain x v e)))
+          (subst (λ i. AllKeep (is_observer s) (acts_first i)) e (standing.keeps_there table typed effects input ready state top [] [] named p frames of_sub at_point))
+          (λ q. blank_first q (word_in s.table (content s state.memory [] (OfRoot (OfVariable 0 x))) q) refl)
+          (λ name has root at_home. new_after state top [] [] named p frames of_sub at_point path x v e (calls_plain x v e) name
+          (subst (λ i. Has (after (acts_first i) facts_first) (Moved name)) (sym e) has) root)
+          free_first (λ w n keeps base. keeps)
+
+      none_left : (turned_views : Views) → Turned first_turn ready.accepted.settled ready.owns nowhere alone_first no_in_formals views ready.class.parts_named no_sources frames first_takes
+          turned_views (after (acts_first (Declare x v)) facts_first) → HasNone turned_views
+      none_left turned_views turned y = by_way (turned_views.way y) refl
+        where
+          by_way : (o : Option Way) → turned_views.way y ≡ o → turned_views.way y ≡ None
+          by_way None is = is
+          by_way (Some w) is = absurd (elim (turned y w is) [
+            | inl same_there ↦ none_some w (sym (running.2 y) ∙ sym same_there.way ∙ is)
+            | inr (z, never, comes) ↦ never
+          ])
+
+      moment_leads : (outcome : Outcome) → LeadsFirst outcome
+          → Each (Declares first_turn running.1.0 (λ f y. f < 0) p.scope (x ∷ p.scope) scope) outcome
+          → Each (λ (st : State). NoneAbove s 0 st.memory) outcome → LeadsOn table typed effects outcome
+      moment_leads (Ends how after_step) leads on nones = leads
+      moment_leads (Goes after_step) (turned_views, turned, well) on nones =
+          let none_now : HasNone turned_views = none_left turned_views turned in
+          let facts_on_e : after (acts_first (Declare x v)) facts_first ≡ after (acts_first p.instr) facts_first = ap (λ i. after (acts_first i) facts_first) (sym e) in
+          elim (successor_cases first_turn 0) [
+            | inl found ↦ (
+                let q = standing.next_at table typed effects input ready state top [] [] named p frames of_sub at_point path found.0 found.2 in
+                let lead : Leads s (scope_behind p) (q.0).scope = subst (λ z. Leads z (scope_behind p) (q.0).scope) (sym same) q.2 in
+                standing.goes_to_next table typed effects input ready state top [] [] named p frames of_sub at_point path (calls_plain x v e) after_step top.frame.loops found.0 found.2 q.0 q.1
+                (on.frames ∙ ap (led first_turn (record top.frame { waits = [] })) found.1) deep tt turned_views
+                (running.0, (refl, running.1.1, running.1.2), none_now)
+                (subst (Viewed (home s 0) (is_observer s) nowhere turned_views (view_here s after_step)) facts_on_e well.viewed) well.kept
+                (scope_on s ready.owns after_step.memory 0 (scope_behind p) (q.0).scope (subst (InScope s after_step.memory 0) (sym scope_first) on.inside) lead)
+                (record {
+                  held = λ y n lasts view at. well.holds.held y n view at;
+                  within = λ y n view at. (let own_way = well.holds.held y n view at in no_views turned_views none_now y own_way.0 own_way.1);
+                  only = well.holds.only;
+                })
+                (λ y w has. no_views turned_views none_now y w has) nones)
+            | inr none ↦ (
+                let below : Stage = record { frame = record top.frame { waits = [] }; depth = 0; before = top.frame.next ∷ top.before; returns = [] } in
+                let begins_main : after_step.frames ≡ frame_at_start ready.main [] ∷ (record top.frame { waits = [] } ∷ []) =
+                on.frames ∙ ap (led first_turn (record top.frame { waits = [] })) none
+                ∙ ap (λ z. main_frame (record program { main = z }) ++ (record top.frame { waits = [] } ∷ [])) ready.is_main in
+                let same_facts : after (acts_first p.instr) facts_first ≡ facts_of program effects below =
+                sym (standing.facts_on table typed effects input ready state top [] [] named p frames of_sub at_point path (calls_plain x v e))
+                ∙ ap (λ (z : FlowSub). facts_before (path_points program effects z) (top.frame.next ∷ top.before)) (sym (standing.sub_is table typed effects input ready state top [] [] named p frames of_sub at_point)) in
+                main_begun (record { stage = below; views = turned_views }) (running.0, (refl, running.1.1, refl), none_now) refl after_step turned_views none_now begins_main (after (acts_first (Declare x v)) facts_first) well.viewed
+                (λ name has. unmoved_stage below running.0 name (subst (λ z. Has z (Moved name)) (facts_on_e ∙ same_facts) has)) well.kept
+                (λ f y q n held. elim (on.inside f y q n held) [
+                  | inl less ↦ absurd (omega (arith, less))
+                  | inr mine ↦ (let same_frame = mine.0 in omega (arith, same_frame))
+                ]) nones)
+          ]
+
+      have_none_on : Each (λ (st : State). NoneAbove s 0 st.memory) (turn first_turn (Declare x v))
+      have_none_on = each_on (turn first_turn (Declare x v))
+          (others_stay first_turn ready.accepted.settled ready.owns nowhere alone_first no_in_formals views ready.class.parts_named no_sources frames first_takes
+          x v (subst (IsFine s named.sub.result) e (standing.fine table typed effects input ready state top [] [] named p frames of_sub at_point)))
+        where
+          frame_is : (g x y : ℕ) → OfVariable 0 x ≡ OfVariable g y → 0 ≡ g
+          frame_is g x y same_there = cc
+
+          each_on : (outcome : Outcome) → Each (λ (st : State). OthersStay s state.memory 0 x st.memory) outcome → Each (λ (st : State). NoneAbove s 0 st.memory) outcome
+          each_on (Goes st) stay = λ g y n less view at.
+              above g y n less view (sym (stay g y (λ same_there. (let none = frame_is g x y same_there in omega (arith, less, none)))) ∙ at)
+          each_on (Ends how st) stay = tt
+
+      declares_first : LeadsOn table typed effects (turn first_turn (Declare x v))
+      declares_first =
+          moment_leads (turn first_turn (Declare x v)) first_leads
+          (declare_on first_turn running.1.0 (λ f y. f < 0) p.scope (x ∷ p.scope) scope within_more x v (ap (λ b. b || is_within x p.scope) (eq-eqb x x refl)))
+          have_none_on
+
+    pub package_step : LeadsOn table typed effects (step program input state)
+    package_step =
+        let declares = ready.elaborated.declared first_turn.point in_packages in
+        subst (LeadsOn table typed effects) (sym (standing.step_is table typed effects input ready state top [] [] named p frames of_sub at_point))
+        (subst (λ i. LeadsOn table typed effects (turn first_turn i)) (sym declares.2) (declares_first declares.0 declares.1 declares.2))

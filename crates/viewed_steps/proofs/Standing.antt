@@ -1,0 +1,236 @@
+-- A frame that stands at a point of a program that is ready: its acts, its facts and its successors.
+use Rattle.std.proofs.Common.{◌≡◌, refl, sym, ap, ◌∙◌, subst, inl, inr, ℕ, Bool, true, false, ◌&&◌, ◌||◌, List, [], ◌∷◌, ◌++◌, length, get_or, append-nil}
+use Rattle.spark_base.specs.Lists.{Has}
+use Rattle.place_names.specs.declared.act.Act.{Act}
+use Rattle.place_names.specs.declared.act.Placed.{Placed}
+use Rattle.place_names.specs.declared.fact.Fact.{Fact}
+use Rattle.type_definitions.specs.Types.{Table, is_owning}
+use Rattle.typed_tree.specs.Programs.{TypedProgram}
+use Rattle.flow_paths.specs.declared.report.Effects.{Effects}
+use Rattle.flow_paths.specs.Instructions.{Instruction, Skip, Declare, Assign, Call, Output, Input, Release, Test, Choose, Start, Next, Evaluate, LeaveLoop, Hold, EndScope, Finish, Fall}
+use Rattle.flow_paths.specs.Objects.{Typing, object_at, is_formal, is_anonymous, is_package_object, is_observer, view_of}
+use Rattle.flow_paths.specs.Acts.{acts_of}
+use Rattle.flow_paths.specs.Points.{NamedPoint, FlowPoint}
+use Rattle.flow_paths.specs.Laid.{FlowSub, FlowProgram, NamedSub, flow_sub, kept_roots, sub_facts, typing_of, flow_typing, flow_program, flow_named}
+use Rattle.flow_paths.specs.Paths.{PathPoint, path_point, ControlPath, goes_on, acts_at, facts_before}
+use Rattle.flow_paths.specs.Effects.{path_points, called_acts}
+use Rattle.flow_paths.specs.Scopes.{taken, scope_behind, is_ready, Leads}
+use Rattle.machine.specs.States.{Loop, Frame, State, sub_of}
+use Rattle.machine.specs.Step.{Turn, turn}
+use Rattle.machine.specs.Owners.{is_in, is_in_formal, waiting_in}
+use Rattle.machine.specs.Run.{no_point, stepped, step}
+use Rattle.owned_ways.specs.Ways.{after, AllowsAll}
+use Rattle.soundness.specs.Seen.{is_view_formal, home}
+use Rattle.soundness.specs.Typed.{Kept}
+use Rattle.typed_laws.specs.Needed.{IsFine}
+use Rattle.soundness.specs.Sound.{calls_nothing, calls_procedures, Stage, facts_of, AreStages, InScope, IsNamedSub, IsAtPoint, view_of as view_here}
+use Rattle.soundness.proofs.Contents.{bool_cases}
+use Rattle.soundness.proofs.Passing.{plain_type}
+use Rattle.soundness.proofs.Scalars.{acts}
+use Rattle.soundness.proofs.Paths.{accepted_point, facts_next}
+use Rattle.soundness.proofs.Points.{flow_at, named_has, point_has, sub_there, sub_has, typing_same, point_there, point_in, path_there, IsLaid, all_laid, next_there}
+use Rattle.soundness.proofs.Successors.{procedures_take_none}
+use Rattle.owned_loans.specs.Views.{known_gone, Views, Viewed}
+use Rattle.viewed_soundness.specs.Holds.{AllKeep}
+use Rattle.viewed_steps.specs.Sound.{HoldsAt, ArePlaced, NoneAbove, ViewStage, stages_of, GoneElsewhere, IsRunning, IsSound}
+use Rattle.viewed_steps.specs.Ready.{IsReady}
+
+no_second : (a b : Bool) → b ≡ false → a && b ≡ false
+no_second true b e = e
+no_second false b e = refl
+
+pub or_right : (a b : Bool) → b ≡ true → a || b ≡ true
+or_right true b e = refl
+or_right false b e = e
+
+module _ (table : Table) (typed : TypedProgram) (effects : Effects) (input : List ℕ) (ready : IsReady table typed effects) where
+  abbrev pub program : FlowProgram
+  program = flow_program table typed
+
+  abbrev pub s : Typing
+  s = flow_typing program
+
+  abbrev pub own : Typing
+  own = typing_of table typed
+
+  pub same : s ≡ own
+  same = typing_same table typed ready.scoped.objects
+
+  pub no_in_formals : (x : ℕ) → is_view_formal s x ≡ false
+  no_in_formals x = elim (bool_cases (is_formal s x)) [
+    | inl e ↦ no_second (is_in_formal s x) (is_owning s.table (object_at s x).of) (plain_type s ready.owns (object_at s x).of (ready.class.formals x e))
+    | inr e ↦ ap (λ b. (b && is_in (object_at s x).mode) && is_owning s.table (object_at s x).of) e
+  ]
+
+  pub laid : (named : NamedSub) → Has (flow_named table typed) named → IsLaid own named
+  laid named has = all_laid own typed.subs ready.scoped.bodies named has
+
+  pub local : (x : ℕ) → is_anonymous (view_of s x) ≡ true → is_package_object s x ≡ false
+  local x view = (ready.orderly.local x view).1
+
+  -- ---- a point
+
+  -- The innermost frame of a state, with those around it, at a point that is laid out.
+  module _ (state : State) (top : Stage) (older : List ViewStage) (outer : List Frame) (named : NamedSub) (p : NamedPoint)
+      (frames : state.frames ≡ top.frame ∷ outer) (of_sub : IsNamedSub (flow_named table typed) top.frame.sub named)
+      (at_point : IsAtPoint named.points top.frame.next p) where
+    abbrev pub sub : FlowSub
+    sub = flow_sub own named
+
+    abbrev pub here : FlowPoint
+    here = flow_at own named p
+
+    abbrev pub t : Turn
+    t = record { program = program; input = input; point = here; state = state; frame = top.frame; outer = outer }
+
+    abbrev pub points : List PathPoint
+    points = path_points program effects sub
+
+    pub sub_is : sub_of program top.frame.sub ≡ sub
+    sub_is = sub_there table typed top.frame.sub named of_sub
+
+    pub in_program : Has program.subs sub
+    in_program = sub_has table typed top.frame.sub named of_sub
+
+    pub in_sub : Has sub.points here
+    in_sub = point_in own named top.frame.next p at_point
+
+    pub point_in_named : Has named.points p
+    point_in_named = point_has named.points top.frame.next p at_point
+
+    pub named_in : Has (flow_named table typed) named
+    named_in = named_has (flow_named table typed) top.frame.sub named of_sub
+
+    pub step_is : step program input state ≡ turn t p.instr
+    step_is =
+        ap (stepped program input state) frames
+        ∙ ap (λ (q : FlowPoint). turn (record { program = program; input = input; point = q; state = state; frame = top.frame; outer = outer }) q.instr)
+        (ap (λ (z : FlowSub). get_or z.points top.frame.next no_point) sub_is ∙ point_there own named top.frame.next p at_point)
+
+    pub calls_there : calls_procedures p.instr ≡ true
+    calls_there = ready.class.calls sub in_program here in_sub
+
+    pub takes : taken here.instr ≡ 0
+    takes = procedures_take_none p.instr calls_there
+
+    pub fine : IsFine s named.sub.result p.instr
+    fine = ready.accepted.fine sub in_program here in_sub
+
+    pub is_ready_there : is_ready p p.instr ≡ true
+    is_ready_there = ready.scoped.ready named named_in p point_in_named
+
+    -- the acts of the point, in the typing of the machine
+    abbrev pub roots : List ℕ
+    roots = kept_roots own 0 own.objects (sub_facts own named.sub named.points)
+
+    abbrev pub acts_by : Typing → Instruction → List Placed
+    acts_by z i = acts_of (record { typing = z; result = named.sub.result; roots = roots }) p.pos i
+
+    pub no_callee : (i : Instruction) → calls_nothing i ≡ true → called_acts program effects p.pos i ≡ []
+    no_callee Skip calls = refl
+    no_callee (Declare x v) calls = refl
+    no_callee (Assign target e) calls = refl
+    no_callee (Call sub actuals result) calls = cc
+    no_callee (Output text line) calls = refl
+    no_callee (Input target) calls = refl
+    no_callee (Release e) calls = refl
+    no_callee (Test e) calls = refl
+    no_callee (Choose e choices) calls = refl
+    no_callee (Start x reversed low high) calls = refl
+    no_callee (Next x reversed low high) calls = refl
+    no_callee (Evaluate temporary e left) calls = refl
+    no_callee (LeaveLoop e) calls = refl
+    no_callee (Hold v) calls = refl
+    no_callee (EndScope x) calls = refl
+    no_callee Finish calls = refl
+    no_callee Fall calls = refl
+
+    abbrev pub acts_here : Instruction → List Act
+    acts_here i = acts (acts_by s i)
+
+    -- those of the instruction, and those of a call on package objects
+    abbrev pub whole_acts : Instruction → List Act
+    whole_acts i = acts (acts_by s i ++ called_acts program effects p.pos i)
+
+    pub acts_are : acts_at points top.frame.next ≡ whole_acts p.instr
+    acts_are =
+        ap (λ (z : PathPoint). acts z.acts) (path_there own named top.frame.next p at_point program effects)
+        ∙ ap (λ z. acts (acts_by z p.instr ++ called_acts program effects p.pos p.instr)) (sym same)
+
+    pub acts_plain : calls_nothing p.instr ≡ true → whole_acts p.instr ≡ acts_here p.instr
+    acts_plain plain = ap (λ z. acts (acts_by s p.instr ++ z)) (no_callee p.instr plain) ∙ ap acts (append-nil (acts_by s p.instr))
+
+    pub keeps_there : AllKeep (is_observer s) (acts_here p.instr)
+    keeps_there = subst (λ z. AllKeep (is_observer s) (acts (acts_by z p.instr))) (sym same) (ready.orderly.kept sub in_program here in_sub)
+
+    module _ (path : ControlPath (path_points program effects (sub_of program top.frame.sub)) top.before top.frame.next) where
+      pub path_here : ControlPath points top.before top.frame.next
+      path_here = subst (λ (z : FlowSub). ControlPath (path_points program effects z) top.before top.frame.next) sub_is path
+
+      abbrev pub facts : List Fact
+      facts = facts_before points top.before
+
+      pub facts_are : facts_of program effects top ≡ facts
+      facts_are = ap (λ (z : FlowSub). facts_before (path_points program effects z) top.before) sub_is
+
+      pub allowed_whole : AllowsAll facts (whole_acts p.instr)
+      allowed_whole = subst (AllowsAll facts) acts_are (accepted_point program effects ready.accepted.no_reports sub in_program top.before top.frame.next path_here)
+
+      pub facts_whole : facts_before points (top.frame.next ∷ top.before) ≡ after (whole_acts p.instr) facts
+      facts_whole = facts_next points top.before top.frame.next ∙ ap (λ z. after z facts) acts_are
+
+      -- of an instruction that calls nothing
+      pub allowed : calls_nothing p.instr ≡ true → AllowsAll facts (acts_here p.instr)
+      allowed plain = subst (AllowsAll facts) (acts_plain plain) allowed_whole
+
+      pub facts_on : calls_nothing p.instr ≡ true → facts_before points (top.frame.next ∷ top.before) ≡ after (acts_here p.instr) facts
+      facts_on plain = facts_whole ∙ ap (λ z. after z facts) (acts_plain plain)
+
+      -- ---- a successor
+
+      -- the frame at the successor with a number
+      abbrev pub at_next : List Loop → ℕ → Stage
+      at_next loops n = record {
+        frame = record top.frame { waits = []; loops = loops; next = n };
+        depth = top.depth;
+        before = top.frame.next ∷ top.before;
+        returns = top.returns;
+      }
+
+      -- the point there
+      pub next_at : (n : ℕ) → Has here.next n → (q : NamedPoint) × IsAtPoint named.points n q × Leads own (scope_behind p) q.scope
+      next_at n next = next_there own named (laid named named_in) p point_in_named n next
+
+      pub goes_to_next : calls_nothing p.instr ≡ true → (after_step : State) (loops : List Loop) (n : ℕ) (next : Has here.next n) (q : NamedPoint) → IsAtPoint named.points n q
+          → after_step.frames ≡ record top.frame { waits = []; loops = loops; next = n } ∷ outer
+          → top.depth ≡ length outer → AreStages (stages_of older) outer → (views : Views)
+          → IsRunning table typed effects after_step (record { stage = at_next loops n; views = views }) older
+          → Viewed (home s (length outer)) (is_observer s) (known_gone (home s (length outer)) (GoneElsewhere program effects older)) views (view_here s after_step) (after (acts_here p.instr) facts)
+          → Kept s after_step.memory (waiting_in after_step) → InScope s after_step.memory (length outer) q.scope
+          → HoldsAt s (length outer) views after_step.memory q → ArePlaced program (after (acts_here p.instr) facts) views q.scope
+          → NoneAbove s (length outer) after_step.memory → IsSound table typed effects after_step
+      goes_to_next plain after_step loops n next q at is deep stages views running viewed kept scope holds placed above =
+          let step_on : Has (path_point points top.frame.next).next n =
+          subst (λ (z : PathPoint). Has z.next n) (sym (path_there own named top.frame.next p at_point program effects)) next in
+          let facts_there : facts_of program effects (at_next loops n) ≡ after (acts_here p.instr) facts =
+          ap (λ (z : FlowSub). facts_before (path_points program effects z) (top.frame.next ∷ top.before)) sub_is ∙ facts_on plain in
+          record {
+            top = at_next loops n;
+            views = views;
+            older = older;
+            stages = subst (AreStages (at_next loops n ∷ stages_of older)) (sym is) (refl, deep, stages);
+            running = running;
+            path = subst (λ (z : FlowSub). ControlPath (path_points program effects z) (top.frame.next ∷ top.before) n) (sym sub_is)
+                (goes_on top.before top.frame.next n path_here step_on);
+            viewed = subst (λ d. Viewed (home s d) (is_observer s) (known_gone (home s d) (GoneElsewhere program effects older)) views (view_here s after_step) (facts_of program effects (at_next loops n))) (sym deep)
+                (subst (Viewed (home s (length outer)) (is_observer s) (known_gone (home s (length outer)) (GoneElsewhere program effects older)) views (view_here s after_step)) (sym facts_there) viewed);
+            kept = kept;
+            named = named;
+            of_sub = of_sub;
+            point = q;
+            at_point = at;
+            scope = subst (λ d. InScope s after_step.memory d q.scope) (sym deep) scope;
+            holds = subst (λ d. HoldsAt s d views after_step.memory q) (sym deep) holds;
+            placed = subst (λ z. ArePlaced program z views q.scope) (sym facts_there) placed;
+            none_above = subst (λ d. NoneAbove s d after_step.memory) (sym deep) above;
+          }
