@@ -411,7 +411,7 @@ module _ (s : Typing) (settled : IsSettled s.table) (own_law : OwnsByShape s.tab
     pub views : (g y : ℕ) → is_anonymous (view_of s y) ≡ true
         → (get_or (variable_slots s g y n.variables) 0 no_slot).word ≡ (get_or (variable_slots s g y m.variables) 0 no_slot).word
 
-  nothing : (m : Memory) → Kept s m hands → Enters m m
+  pub nothing : (m : Memory) → Kept s m hands → Enters m m
   nothing m typed = record {
     same = record { word = λ l. refl; made = refl; freed = λ n. refl; leaked = λ n. refl };
     typed = typed;
@@ -419,7 +419,7 @@ module _ (s : Typing) (settled : IsSettled s.table) (own_law : OwnsByShape s.tab
     views = λ g y view. refl;
   }
 
-  one_then : (a b c : Memory) → Enters a b → Enters b c → Enters a c
+  pub one_then : (a b c : Memory) → Enters a b → Enters b c → Enters a c
   one_then a b c first second = record {
     same = record {
       word = λ l. second.same.word l ∙ first.same.word l;
@@ -449,7 +449,7 @@ module _ (s : Typing) (settled : IsSettled s.table) (own_law : OwnsByShape s.tab
             (no_view_fixed s settled k fixed g y view));
       }
 
-  moved_there : (k : Place) → IsFixed s k → (m : Memory) → Kept s m hands → Enters m (moved_out s k m)
+  pub moved_there : (k : Place) → IsFixed s k → (m : Memory) → Kept s m hands → Enters m (moved_out s k m)
   moved_there k fixed m typed =
       let l : Loc = fixed_at s settled k fixed in
       let spot : Spot s m hands k l = fixed_spot s settled k fixed m hands in
@@ -459,7 +459,7 @@ module _ (s : Typing) (settled : IsSettled s.table) (own_law : OwnsByShape s.tab
       put_there k fixed marks m long typed
       (less_kept s settled (moved_out s k m) (record { of = k.of; words = words_of s m k }) hands ((keeps s settled own_law).moved m hands k l spot typed))
 
-  stored_there : (k : Place) → IsFixed s k → (ws : List machine.Word) → length ws ≡ 1 → (m : Memory) → Kept s m hands → Enters m (stored s k ws m)
+  pub stored_there : (k : Place) → IsFixed s k → (ws : List machine.Word) → length ws ≡ 1 → (m : Memory) → Kept s m hands → Enters m (stored s k ws m)
   stored_there k fixed ws one m typed =
       let got : Waiting = record { of = k.of; words = ws } in
       put_there k fixed (fresh ws) m (length-map ws (λ w. record { word = w; gone = false }) ∙ one ∙ sym (plain_word s settled k.of fixed.scalar)) typed
@@ -510,12 +510,12 @@ module _ (s : Typing) (settled : IsSettled s.table) (own_law : OwnsByShape s.tab
 
 -- ---- formals are copied back
 
-backs_on : (Q R : Memory → Type 0) → ((m : Memory) → Q m → R m) → (y : Evaluated Memory) → Backs Q y → Backs R y
+pub backs_on : (Q R : Memory → Type 0) → ((m : Memory) → Q m → R m) → (y : Evaluated Memory) → Backs Q y → Backs R y
 backs_on Q R on (Done m n) q = on m q
 backs_on Q R on (Raises e n) q = tt
 backs_on Q R on (Traps trap n) never = never
 
-if_back : (Q : Memory → Type 0) (b : Bool) (ws : List machine.Word) (begun : Now) (f : List machine.Word → Now → Evaluated Memory)
+pub if_back : (Q : Memory → Type 0) (b : Bool) (ws : List machine.Word) (begun : Now) (f : List machine.Word → Now → Evaluated Memory)
     → Backs Q (f ws begun) → Backs Q (followed_by (if b then Done ws begun else Raises ConstraintError begun) f)
 if_back Q true ws begun f q = q
 if_back Q false ws begun f q = tt

@@ -1,6 +1,6 @@
 -- What a place has is taken by a call, or by its end, and given to a place that has no number: the
 -- state stays sound with views.
-use Rattle.std.proofs.Common.{◌≡◌, refl, sym, ap, ◌∙◌, subst, inl, inr, ℕ, ◌+◌, Bool, true, false, not, List, [], ◌∷◌, ◌++◌, take, drop, length, get_or, append-nil, Some}
+use Rattle.std.proofs.Common.{◌≡◌, refl, sym, ap, ◌∙◌, subst, ◌⊎◌, inl, inr, ℕ, ◌+◌, Bool, true, false, not, List, [], ◌∷◌, ◌++◌, take, drop, length, get_or, append-nil, Some}
 use Rattle.spark_base.specs.Lists.{Has}
 use Rattle.place_names.specs.declared.fact.Fact.{Fact}
 use Rattle.type_definitions.specs.Types.{words}
@@ -16,7 +16,7 @@ use Rattle.owned_ways.proofs.Moving.{owner_before}
 use Rattle.owned_ways.proofs.Dropped.{named_base}
 use Rattle.part_offsets.specs.Parts.{type_in, offset_in, has_part, is_leaf, IsSettled}
 use Rattle.soundness.specs.Seen.{Content, content, trunk, steps_in, word_in, owner_at, seen_of, seen, is_view_formal}
-use Rattle.soundness.specs.Changes.{hand, Checks}
+use Rattle.soundness.specs.Changes.{hand, Checks, Stores}
 use Rattle.soundness.specs.Typed.{Matches, Kept, Spot, IsMade, loc_of}
 use Rattle.soundness.proofs.Joined.{trunk_part, steps_part}
 use Rattle.soundness.proofs.Contents.{bool_cases, word_yes, word_part, word_root, stored_step, stored_whole, taken_step}
@@ -167,32 +167,55 @@ module _ (s : Typing) (settled : IsSettled s.table) (home : ℕ → ℕ) (observ
         (λ j. seen_of s.table b (sym (put_count s m k.base (whole_slots m k (gone_at (access_offsets s.table k.of) (slots_of s m k)))) j)
         (λ n. sym (put_freed s m k.base (whole_slots m k (gone_at (access_offsets s.table k.of) (slots_of s m k))) n) j) leaks) done
 
-  -- What a hand has goes to a place that has no number. What was gone there isn't any more.
-  pub carried_to : (m : Memory) (got : Waiting) (rest : List Waiting) (leaks : List Leak) (facts : List Fact) (k : Place) (l : Loc) (u : Way) (f x : ℕ)
-      → Viewed home observer other v (seen s m (got ∷ rest) leaks) facts → Kept s m (got ∷ rest) → Spot s m (got ∷ rest) k l
-      → base_of u ≡ OfRoot (OfVariable f x) → Reaches (seen s m (got ∷ rest) leaks) u l → (content s m (got ∷ rest) (trunk l)).owns ≡ true
-      → length got.words ≡ words s.table k.of → Matches s.table got.of k.of
-      → ((p : List Step) (c : ℕ) → word_in s.table (content s m (got ∷ rest) (trunk l)) (p ++ steps_in l) ≡ Held c → ⊥)
-      → ((w : Way) → Under (Object (OfHand (length rest))) w → other.gone w → ⊥)
-      → IsClearOf home observer v other gone u → ((w : Way) → other.gone w → (Under u w → ⊥) → gone w)
-      → Viewed home observer (gone_also home other gone) v (seen s (stored s k got.words m) rest leaks) facts
-  carried_to m got rest leaks facts k l u f x viewed kept spot base reaches owns long fits bare hands clear stays =
-      let a : Loc → Content = content s m (got ∷ rest) in
-      let b : Loc → Content = content s (stored s k got.words m) rest in
-      let root : Way = Object (OfHand (length rest)) in
-      let change = stores s settled m got rest kept k l spot long fits owns in
-      let checks : Checks s.table (a (trunk l)) (steps_in l) leaks leaks =
-      record { keeps = λ n e. e; checks = λ p n h. absurd (bare p n h); only = λ n e. inl e } in
-      let move = stored_step s.table settled a b (length rest) got l (length m.cells) (λ n. (cell m n).freed) leaks leaks change checks in
-      let after : View = seen_of s.table b (length m.cells) (λ n. (cell m n).freed) leaks in
-      let done = moved_between home observer v other gone (seen s m (got ∷ rest) leaks) after root u (hand (length rest)) l facts
-      (given_apart (seen s m (got ∷ rest) leaks) after root u (hand (length rest)) l viewed.owned move refl reaches (λ e. hand_differs base (sym e))) viewed tt
-      (λ w under known. elim known [
-        | inl moved ↦ no_hand home observer other v (seen s m (got ∷ rest) leaks) facts viewed root w tt under moved
-        | inr o ↦ hands w under o
-      ]) stays
-      (λ p is. absurd (stored_whole s.table settled a b (length rest) got l (length m.cells) (λ n. (cell m n).freed) leaks change p is))
-      (hand_clear home observer v other gone (seen s m (got ∷ rest) leaks) facts viewed (length rest)) clear in
-      subst (λ z. Viewed home observer (gone_also home other gone) v z facts)
-      (λ j. seen_of s.table b (sym (put_count s m k.base (whole_slots m k (fresh got.words))) j)
-      (λ n. sym (put_freed s m k.base (whole_slots m k (fresh got.words)) n) j) leaks) done
+  -- What a hand has goes to a place that has no number.
+  module _ (m : Memory) (got : Waiting) (rest : List Waiting) (leaks : List Leak) (facts : List Fact) (k : Place) (l : Loc) (u : Way)
+      (viewed : Viewed home observer other v (seen s m (got ∷ rest) leaks) facts) (kept : Kept s m (got ∷ rest)) (spot : Spot s m (got ∷ rest) k l)
+      (reaches : Reaches (seen s m (got ∷ rest) leaks) u l) (owns : (content s m (got ∷ rest) (trunk l)).owns ≡ true)
+      (long : length got.words ≡ words s.table k.of) (fits : Matches s.table got.of k.of)
+      (bare : (p : List Step) (c : ℕ) → word_in s.table (content s m (got ∷ rest) (trunk l)) (p ++ steps_in l) ≡ Held c → ⊥) where
+    abbrev full : Loc → Content
+    full = content s m (got ∷ rest)
+
+    abbrev given : Loc → Content
+    given = content s (stored s k got.words m) rest
+
+    change : Stores s.table (content s m (got ∷ rest)) (content s (stored s k got.words m) rest) (length rest) got l
+    change = stores s settled m got rest kept k l spot long fits owns
+
+    checks : Checks s.table (content s m (got ∷ rest) (trunk l)) (steps_in l) leaks leaks
+    checks = record { keeps = λ n e. e; checks = λ p n h. absurd (bare p n h); only = λ n e. inl e }
+
+    abbrev then_seen : View
+    then_seen = seen_of s.table given (length m.cells) (λ n. (cell m n).freed) leaks
+
+    goes_there : IsMove (seen s m (got ∷ rest) leaks) then_seen (hand (length rest)) l
+    goes_there = stored_step s.table settled full given (length rest) got l (length m.cells) (λ n. (cell m n).freed) leaks leaks change checks
+
+    -- what has a number in a variable then had it before, or is in the place
+    pub carried_holds : (g y : ℕ) (p : List Step) (c : ℕ) → word_in s.table (content s (stored s k got.words m) [] (OfRoot (OfVariable g y))) p ≡ Held c
+        → (word_in s.table (content s m [] (OfRoot (OfVariable g y))) p ≡ Held c) ⊎ ((q : List Step) × (part (OfRoot (OfVariable g y)) p ≡ part l q))
+    carried_holds g y p c held =
+        elim (owner_before (seen s m (got ∷ rest) leaks) then_seen (hand (length rest)) l goes_there (part (OfRoot (OfVariable g y)) p) c
+        (word_root s.table given (OfVariable g y) p ∙ held)) [
+          | inl (q, is, word) ↦ inr (q, is)
+          | inr stays ↦ inl (sym (word_root s.table full (OfVariable g y) p) ∙ stays.word)
+        ]
+
+    -- What was gone there isn't any more.
+    pub carried_to : (f x : ℕ) → base_of u ≡ OfRoot (OfVariable f x)
+        → ((w : Way) → Under (Object (OfHand (length rest))) w → other.gone w → ⊥)
+        → IsClearOf home observer v other gone u → ((w : Way) → other.gone w → (Under u w → ⊥) → gone w)
+        → Viewed home observer (gone_also home other gone) v (seen s (stored s k got.words m) rest leaks) facts
+    carried_to f x base hands clear stays =
+        let root : Way = Object (OfHand (length rest)) in
+        let done = moved_between home observer v other gone (seen s m (got ∷ rest) leaks) then_seen root u (hand (length rest)) l facts
+        (given_apart (seen s m (got ∷ rest) leaks) then_seen root u (hand (length rest)) l viewed.owned goes_there refl reaches (λ e. hand_differs base (sym e))) viewed tt
+        (λ w under known. elim known [
+          | inl moved ↦ no_hand home observer other v (seen s m (got ∷ rest) leaks) facts viewed root w tt under moved
+          | inr o ↦ hands w under o
+        ]) stays
+        (λ p is. absurd (stored_whole s.table settled full given (length rest) got l (length m.cells) (λ n. (cell m n).freed) leaks change p is))
+        (hand_clear home observer v other gone (seen s m (got ∷ rest) leaks) facts viewed (length rest)) clear in
+        subst (λ z. Viewed home observer (gone_also home other gone) v z facts)
+        (λ j. seen_of s.table given (sym (put_count s m k.base (whole_slots m k (fresh got.words))) j)
+        (λ n. sym (put_freed s m k.base (whole_slots m k (fresh got.words)) n) j) leaks) done
