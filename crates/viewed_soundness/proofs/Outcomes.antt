@@ -97,7 +97,7 @@ whole_stored s pos x target e named =
     ∙ ap (λ b. if b then source_acts s e (observe s x) else stored_acts s target e) none.1
 
 -- a target of a named type isn't a view
-assigned_acts : (s : Typing) (pos : Pos) (x u : ℕ) (target path e : TypedTree) → IsNamed s.table u → Leads s (object_at s x).of path u
+pub assigned_acts : (s : Typing) (pos : Pos) (x u : ℕ) (target path e : TypedTree) → IsNamed s.table u → Leads s (object_at s x).of path u
     → assigned_to s pos (whole_object x path) target e ≡ stored_acts s target e
 unfolding Leads
 assigned_acts s pos x u target NoMore e named lead = whole_stored s pos x target e (subst (IsNamed s.table) (sym lead) named)
@@ -612,7 +612,7 @@ module _ (t : Turn) (settled : IsSettled (typing t).table) (own_law : OwnsByShap
   replaced (a ∷ []) z one = refl
   replaced (a ∷ b ∷ all) z one = absurd (omega (arith, one))
 
-  no_parts : (k : ℕ) (e o : Bool) → is_anonymous (view_of_shape (shape.Access k e o)) ≡ true → (f : ℕ → List (List Sel)) → parts_of f (shape.Access k e o) ≡ []
+  pub no_parts : (k : ℕ) (e o : Bool) → is_anonymous (view_of_shape (shape.Access k e o)) ≡ true → (f : ℕ → List (List Sel)) → parts_of f (shape.Access k e o) ≡ []
   no_parts k true true any f = cc
   no_parts k false true any f = cc
   no_parts k e false any f = refl
@@ -625,19 +625,19 @@ module _ (t : Turn) (settled : IsSettled (typing t).table) (own_law : OwnsByShap
       ∙ no_parts observes.k observes.e observes.o (sym (ap (λ z. is_anonymous (view_of_shape z)) observes.view) ∙ observes.anonymous) (parts s.table) in
       ap (λ z. checked_at pos 0 (slots_at s m (run.variable_place (here t) x).base) (flat_map (machine.offsets s.table (object_at s x).of) z)) empty
 
-  stored_is : (x y u d : ℕ) (path : TypedTree) (facts : List Fact) → Observes x y u d path → IsGood v facts t.state → (z : machine.Word)
+  pub stored_is : (x y u d : ℕ) (path : TypedTree) (facts : List Fact) → Observes x y u d path → IsGood v facts t.state → (z : machine.Word)
       → stored s (run.variable_place (here t) x) (z ∷ []) m ≡ declared depth x (z ∷ []) m
   stored_is x y u d path facts observes good z =
       ap (λ q. memory.put (memory.OfVariable (home s depth x) x) q m)
       (replaced (variable_slots s (home s depth x) x m.variables) z (good.kept.variables (home s depth x) x ∙ one_word x y u d path observes))
       ∙ ap (λ f. declared f x (z ∷ []) m) observes.mine
 
-  abbrev Puts : Pos → Pos → ℕ → ℕ → Evaluated (List machine.Word) → Outcome
+  abbrev pub Puts : Pos → Pos → ℕ → ℕ → Evaluated (List machine.Word) → Outcome
   Puts pos q x u e =
       steps.evaluated t (followed_by e (λ ws now. followed_by (place_of (here t) (Name q x NoMore u) now) (λ k now. Done (record { words = ws; place = k }) now)))
       (λ (st : Stored) m. leaking_goes (checks_at s pos m st.place) (goes t (stored s st.place st.words m) 0))
 
-  put_at : (pos q : Pos) (x u : ℕ) (ws : List machine.Word) (n : Now)
+  pub put_at : (pos q : Pos) (x u : ℕ) (ws : List machine.Word) (n : Now)
       → Puts pos q x u (Done ws n) ≡ leaking_goes (checks_at s pos n.memory (run.variable_place (here t) x)) (goes t (stored s (run.variable_place (here t) x) ws n.memory) 0)
   unfolding steps_of
   put_at pos q x u ws n = refl

@@ -101,7 +101,7 @@ module _ (h : Here) (settled : IsSettled h.typing.table) (hands : List Waiting) 
 -- ---- the variable of a view
 
 -- nothing in a view owns
-view_leaf : (table : Table) (settled : IsSettled table) (t : ℕ) → is_anonymous (full table t) ≡ true → (p : List Step) → is_leaf table t p ≡ false
+pub view_leaf : (table : Table) (settled : IsSettled table) (t : ℕ) → is_anonymous (full table t) ≡ true → (p : List Step) → is_leaf table t p ≡ false
 view_leaf table settled t view p = by_part (has_part table t p) refl
   where
     unowned : (sh : Shape) → is_anonymous (view_of_shape sh) ≡ true → owns_one sh ≡ false

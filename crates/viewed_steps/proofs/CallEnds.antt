@@ -19,7 +19,7 @@ use Rattle.flow_paths.specs.Scopes.{is_within}
 use Rattle.machine.specs.Words as machine
 use Rattle.machine.specs.Memory.{Memory, no_slot, variable_slots, without_frame}
 use Rattle.machine.specs.Evaluate.{Exception}
-use Rattle.machine.specs.States.{Frame, State, sub_of}
+use Rattle.machine.specs.States.{Frame, State, sub_of, Outcome, Goes}
 use Rattle.machine.specs.Step.{Turn, turn, counted}
 use Rattle.machine.specs.Step as steps
 use Rattle.machine.specs.Owners.{waiting_in}
@@ -27,23 +27,23 @@ use Rattle.owned_ways.specs.Ways.{Step, OfVariable, OfRoot, Way, Held, AllowsAll
 use Rattle.owned_ways.specs.Ways as ways
 use Rattle.soundness.specs.Seen.{content, word_in, seen, home}
 use Rattle.soundness.specs.Typed.{Kept}
-use Rattle.soundness.specs.Sound.{calls_nothing, Stage, facts_of, AreStages, IsProcedure, InScope, IsNamedSub, IsAtPoint, view_of as view_here}
+use Rattle.soundness.specs.Sound.{calls_nothing, Stage, facts_of, AreStages, IsProcedure, InScope, IsNamedSub, IsAtPoint, AreSameWords, view_of as view_here}
 use Rattle.soundness.proofs.Contents.{bool_cases, word_no}
 use Rattle.soundness.proofs.Steps.{no_leaf}
 use Rattle.soundness.proofs.Used.{returns_whole}
 use Rattle.soundness.proofs.Around.{same_or_not}
-use Rattle.soundness.proofs.Returning.{returned_kept, left_held, returns_lead, ends_lead, left_waits, ended_owned}
+use Rattle.soundness.proofs.Returning.{returned_kept, left_same, left_held, returns_lead, ends_lead, left_waits, ended_owned}
 use Rattle.owned_loans.specs.Views.{known_gone, Views, IsMovedBy, Viewed}
 use Rattle.owned_loans.proofs.Moves.{view_on, same_viewed}
 use Rattle.owned_loans.proofs.Ended.{stands_itself}
 use Rattle.viewed_soundness.proofs.Names.{true_false}
 use Rattle.viewed_soundness.proofs.Outcomes.{named_plain}
-use Rattle.viewed_steps.specs.Sound.{IsResting, HoldsAt, ArePlaced, NoneAbove, ViewStage, stages_of, GoneElsewhere, IsWaiting, AreWaiting, IsSound, LeadsOn}
+use Rattle.viewed_steps.specs.Sound.{IsResting, HoldsAt, ArePlaced, NoneAbove, ViewStage, stages_of, GoneElsewhere, IsWaiting, AreWaiting, LeadsOn, ends_one, LeadsAlong}
 use Rattle.viewed_steps.specs.Ready.{IsReady}
 use Rattle.viewed_steps.proofs.Read.{scalar_named}
 use Rattle.viewed_steps.proofs.Ended.{none_some}
 use Rattle.viewed_steps.proofs.Waiting.{StandsBetween, all_between, handed, all_on, all_same}
-use Rattle.viewed_steps.proofs.Left.{owned_left, covered_left, reach_left, reach_before, gone_before, own_whole, other_word, no_word}
+use Rattle.viewed_steps.proofs.Left.{cells_same, owned_left, covered_left, reach_left, reach_before, gone_before, own_whole, other_word, no_word}
 use Rattle.viewed_steps.proofs.Called.{Enters, all_back}
 use Rattle.viewed_steps.proofs.Standing as standing
 use Rattle.viewed_steps.proofs.Packages as packages
@@ -129,6 +129,10 @@ module _ (table : Table) (typed : TypedProgram) (effects : Effects) (input : Lis
 
     abbrev point_there_now : Has named.points p
     point_there_now = innermost.point_there_now table typed effects input ready state top below more_frames rest named p frames deep stages running of_sub at_point path views viewed_before kept scope holds placed_before above
+
+    -- where it leads, and how the frames come from those before
+    abbrev Along : Outcome → Type 0
+    Along outcome = LeadsAlong table typed effects p.instr state.memory (record { stage = top; views = views }) (below ∷ more_frames) outcome
 
     abbrev ends_raised : ((x : ℕ) → p.instr ≡ EndScope x → ⊥) → (how : Exception) (m : Memory) → LeadsOn table typed effects (steps.raised main_turn how m)
     ends_raised = innermost.ends_raised table typed effects input ready state top below more_frames rest named p frames deep stages running of_sub at_point path views viewed_before kept scope holds placed_before above
@@ -308,41 +312,52 @@ module _ (table : Table) (typed : TypedProgram) (effects : Effects) (input : Lis
             | inr (some, less, under, waits_there) ↦ reach_on w (g.views.cell x) (waits_there.views x w there).reaches
           ]) waiting_mid.1
 
-      -- the frame below goes on
-      returns_to : IsSound table typed effects left_state
-      returns_to = record {
-        top = below.stage;
-        views = below.views;
-        older = h ∷ others;
-        stages = stages_there;
-        running = (waits.procedure, waits.plain, others_left);
-        path = waits.path;
-        viewed = subst (λ z. Viewed (home s low) (is_observer s) (known_gone (home s low) (GoneElsewhere program effects (h ∷ others))) below.views z
-            (facts_of program effects below.stage)) view_left viewed_left;
-        kept = subst (Kept s left_memory) (sym hands_left)
-            (returned_kept s mid depth (waiting_in state) state.leaks nothing_mid on.typed);
-        named = waits.named;
-        of_sub = waits.of_sub;
-        point = waits.point;
-        at_point = waits.at_point;
-        scope = scope_left;
-        holds = holds_there;
-        placed = waits.placed;
-        none_above = above_left;
-      }
+      -- owners see the same of the frames that are left
+      left_words : AreSameWords s (λ f. f ≡ top.depth → ⊥) state.memory left_memory
+      left_words =
+          let left_there = left_same s mid depth (waiting_in state) state.leaks nothing_mid in (
+            λ f x q other_frame. left_there.0 f x q (λ e. other_frame (e ∙ sym deep)) ∙ on.hold f x q,
+            λ c q. left_there.1 c q ∙ cells_same s state.memory mid (waiting_in state) state.leaks on.same c q,
+          )
 
-    pub ends_call : p.instr ≡ Finish → LeadsOn table typed effects (turn main_turn Finish)
-    ends_call is = by_rest rest more_frames refl stages running.2 viewed_own
+      -- the frame below goes on
+      returns_to : more_frames ≡ h ∷ others → Along (Goes left_state)
+      returns_to same_more = (
+        record {
+          top = below.stage;
+          views = below.views;
+          older = h ∷ others;
+          stages = stages_there;
+          running = (waits.procedure, waits.plain, others_left);
+          path = waits.path;
+          viewed = subst (λ z. Viewed (home s low) (is_observer s) (known_gone (home s low) (GoneElsewhere program effects (h ∷ others))) below.views z
+              (facts_of program effects below.stage)) view_left viewed_left;
+          kept = subst (Kept s left_memory) (sym hands_left)
+              (returned_kept s mid depth (waiting_in state) state.leaks nothing_mid on.typed);
+          named = waits.named;
+          of_sub = waits.of_sub;
+          point = waits.point;
+          at_point = waits.at_point;
+          scope = scope_left;
+          holds = holds_there;
+          placed = waits.placed;
+          none_above = above_left;
+        },
+        ends_one (ap (λ z. below ∷ z) same_more) left_words,
+      )
+
+    pub ends_call : p.instr ≡ Finish → Along (turn main_turn Finish)
+    ends_call is = by_rest rest more_frames refl refl stages running.2 viewed_own
       where
         no_end : (x : ℕ) → p.instr ≡ EndScope x → ⊥
         no_end x end = (let no : Finish ≡ EndScope x = sym is ∙ end in cc)
 
-        by_rest : (r : List Frame) (m : List ViewStage) → rest ≡ r → AreStages (stages_of (below ∷ m)) (below.stage.frame ∷ r)
+        by_rest : (r : List Frame) (m : List ViewStage) → rest ≡ r → more_frames ≡ m → AreStages (stages_of (below ∷ m)) (below.stage.frame ∷ r)
             → AreWaiting table typed effects state top.frame.sub (below ∷ m)
             → Viewed (home s depth) (is_observer s) (known_gone (home s depth) (GoneElsewhere program effects (below ∷ m))) views (view_here s state) own_facts
-            → LeadsOn table typed effects (turn main_turn Finish)
-        by_rest [] [] same_rest stages_there waiting well =
-            ends_lead main_turn (LeadsOn table typed effects) (λ m. Enters s ready.accepted.settled ready.owns (waiting_in state) state.leaks state.memory m)
+            → Along (turn main_turn Finish)
+        by_rest [] [] same_rest same_more stages_there waiting well =
+            ends_lead main_turn Along (λ m. Enters s ready.accepted.settled ready.owns (waiting_in state) state.leaks state.memory m)
             (ends_raised no_end) below.stage.frame (ap (λ z. below.stage.frame ∷ z) same_rest)
             (λ m on. (
             let well_then = same_viewed (home s depth) (is_observer s) (known_gone (home s depth) (GoneElsewhere program effects (below ∷ []))) views
@@ -352,10 +367,10 @@ module _ (table : Table) (typed : TypedProgram) (effects : Effects) (input : Lis
                   (λ x q n held. nothing_left is x q n (sym (on.hold depth x q) ∙ held)) well_then.owned well_then.covered,
             )))
             (all_back main_turn ready.accepted.settled ready.owns (waiting_in state) state.leaks top.frame.returns running.1.1 (steps.start main_turn) kept)
-        by_rest [] (h ∷ m) same_rest stages_there waiting well = absurd stages_there.2
-        by_rest (k ∷ r) [] same_rest stages_there waiting well = absurd stages_there.2
-        by_rest (k ∷ r) (h ∷ m) same_rest stages_there waiting well =
-            returns_lead main_turn (LeadsOn table typed effects) (λ m. Enters s ready.accepted.settled ready.owns (waiting_in state) state.leaks state.memory m)
+        by_rest [] (h ∷ m) same_rest same_more stages_there waiting well = absurd stages_there.2
+        by_rest (k ∷ r) [] same_rest same_more stages_there waiting well = absurd stages_there.2
+        by_rest (k ∷ r) (h ∷ m) same_rest same_more stages_there waiting well =
+            returns_lead main_turn Along (λ m. Enters s ready.accepted.settled ready.owns (waiting_in state) state.leaks state.memory m)
             (ends_raised no_end) below.stage.frame k r (ap (λ z. below.stage.frame ∷ z) same_rest)
-            (λ mid on. returns_to h m (subst (λ z. AreStages (stages_of (below ∷ (h ∷ m))) (below.stage.frame ∷ z)) (sym same_rest) stages_there) waiting well is mid on)
+            (λ mid on. returns_to h m (subst (λ z. AreStages (stages_of (below ∷ (h ∷ m))) (below.stage.frame ∷ z)) (sym same_rest) stages_there) waiting well is mid on same_more)
             (all_back main_turn ready.accepted.settled ready.owns (waiting_in state) state.leaks top.frame.returns running.1.1 (steps.start main_turn) kept)

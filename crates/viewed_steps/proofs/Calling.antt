@@ -1,6 +1,7 @@
 -- A call leads on, in the frame of what is called.
 use Rattle.std.proofs.Common.{◌≡◌, refl, sym, ap, ◌∙◌, subst, inl, inr, ℕ, suc, ◌<◌, true, false, List, [], ◌∷◌, ◌++◌, map, drop, length, get_or, arith, append-nil, Some, None, if◌then◌else◌}
 use Rattle.spark_base.specs.Lists.{Has}
+use Rattle.spark_base.proofs.Lists.{Has-map_from}
 use Rattle.place_names.specs.declared.act.Act.{Act}
 use Rattle.place_names.specs.declared.act.Act.TheVariants as act
 use Rattle.place_names.specs.declared.act.Placed.{Placed}
@@ -8,6 +9,7 @@ use Rattle.place_names.specs.declared.fact.Fact.{Fact}
 use Rattle.place_names.specs.declared.fact.Fact.TheVariants.{Moved, Lent}
 use Rattle.place_names.specs.declared.rule.Loan.TheVariants.{Observed}
 use Rattle.place_names.specs.Names.{Name as PlaceName}
+use Rattle.place_names.specs.Facts.{adds}
 use Rattle.type_definitions.specs.Types.{Table, is_scalar, full}
 use Rattle.typed_tree.specs.Trees.{TypedTree}
 use Rattle.typed_tree.specs.Programs.{TypedProgram}
@@ -24,7 +26,7 @@ use Rattle.flow_paths.specs.Scopes.{taken, brought, scope_behind, Leads}
 use Rattle.machine.specs.Words as machine
 use Rattle.machine.specs.Memory.{Memory, no_slot, variable_slots}
 use Rattle.machine.specs.Evaluate.{Now, Exception}
-use Rattle.machine.specs.States.{Frame, State, sub_of, frame_at_start}
+use Rattle.machine.specs.States.{Frame, State, sub_of, frame_at_start, Outcome, Goes}
 use Rattle.machine.specs.Step.{Turn, turn, led, successor}
 use Rattle.machine.specs.Step as steps
 use Rattle.machine.specs.Typed.{successors}
@@ -34,15 +36,15 @@ use Rattle.owned_ways.specs.Ways.{Way, after, AllowsAll}
 use Rattle.owned_ways.specs.Ways as ways
 use Rattle.soundness.specs.Seen.{IsNear, is_view_formal, content, seen, home, trunk}
 use Rattle.soundness.specs.Typed.{Kept}
-use Rattle.soundness.specs.Sound.{Stage, facts_of, AreStages, AreCopied, Uses, IsProcedure, InScope, IsNamedSub, IsAtPoint, view_of as view_here}
+use Rattle.soundness.specs.Sound.{Stage, facts_of, AreStages, AreCopied, Uses, IsProcedure, InScope, IsNamedSub, IsAtPoint, AreSameWords, view_of as view_here}
 use Rattle.soundness.proofs.Stays.{Quiet}
 use Rattle.soundness.proofs.Numbers.{index_law}
 use Rattle.soundness.proofs.Lasting.{keeps}
-use Rattle.soundness.proofs.Passing.{way_of, AreReads, reads_keep, values_read, AreLaid, returns_copied, entered, call_leads, passed_to}
+use Rattle.soundness.proofs.Passing.{way_of, AreReads, reads_keep, values_read, call_adds, AreLaid, returns_copied, entered, call_leads, passed_to}
 use Rattle.soundness.proofs.Scalars.{acts, acts_append, after_append, allows_both}
 use Rattle.soundness.proofs.Points.{sub_there, sub_in_range, point_there, path_there}
 use Rattle.soundness.proofs.Inherited.{AreGlobal, global_after, global_allowed, global_apart}
-use Rattle.soundness.proofs.Used.{called_used, used_global, called_are, globals_are}
+use Rattle.soundness.proofs.Used.{called_used, added_after, used_global, called_are, globals_are}
 use Rattle.soundness.proofs.Around.{IsFar}
 use Rattle.soundness.proofs.Waits.{drop_none}
 use Rattle.soundness.proofs.Successors.{below_one, successor_there}
@@ -51,13 +53,14 @@ use Rattle.owned_loans.proofs.Moves.{same_viewed}
 use Rattle.viewed_soundness.specs.Holds.{Holds}
 use Rattle.viewed_soundness.proofs.Evaluated.{live_trunk}
 use Rattle.viewed_soundness.proofs.Outcomes.{start_is, hands_behind}
-use Rattle.viewed_steps.specs.Sound.{IsResting, HoldsAt, ArePlaced, NoneAbove, ViewStage, stages_of, GoneElsewhere, LendOwn, IsWaiting, AreWaiting, IsSound, LeadsOn}
+use Rattle.viewed_steps.specs.Sound.{IsResting, HoldsAt, ArePlaced, NoneAbove, ViewStage, stages_of, GoneElsewhere, LendOwn, IsWaiting, AreWaiting, LeadsOn, calls_one, LeadsAlong}
 use Rattle.viewed_steps.specs.Ready.{IsCalled, IsReady}
 use Rattle.viewed_steps.proofs.Lent.{Spare, spare_both, loans_stay}
 use Rattle.viewed_steps.proofs.Placed.{scope_on, placed_on}
 use Rattle.viewed_steps.proofs.Ended.{none_some}
 use Rattle.viewed_steps.proofs.Waiting.{StandsBetween, beside_them, handed, all_on}
 use Rattle.viewed_steps.proofs.Called.{AreGiven, all_given, all_laid as all_laid_out, all_acted, spare_reads, spare_copies, Enters, all_entered}
+use Rattle.viewed_steps.proofs.Left.{cells_same}
 use Rattle.viewed_steps.proofs.Standing as standing
 use Rattle.viewed_steps.proofs.Packages as packages
 use Rattle.viewed_steps.proofs.Innermost as innermost
@@ -169,6 +172,10 @@ module _ (table : Table) (typed : TypedProgram) (effects : Effects) (input : Lis
 
     abbrev none_taken : ℕ → ℕ → Type 0
     none_taken a b = ⊥
+
+    -- where it leads, and how the frames come from those before
+    abbrev Along : Outcome → Type 0
+    Along outcome = LeadsAlong table typed effects p.instr state.memory (record { stage = top; views = views }) (below ∷ more_frames) outcome
 
     abbrev ends_raised : ((x : ℕ) → p.instr ≡ EndScope x → ⊥) → (how : Exception) (m : Memory) → LeadsOn table typed effects (steps.raised main_turn how m)
     ends_raised = innermost.ends_raised table typed effects input ready state top below more_frames rest named p frames deep stages running of_sub at_point path views viewed_before kept scope holds placed_before above
@@ -317,6 +324,17 @@ module _ (table : Table) (typed : TypedProgram) (effects : Effects) (input : Lis
           ∙ ap (λ z. after z own_facts) call_acts ∙ after_append (acts (values ++ copies)) (globals_of program effects n) own_facts
           ∙ global_after (globals_of program effects n) facts_called globals
 
+      -- nothing is moved by the call
+      none_new : (f : Fact) → Has (facts_of program effects waits_stage) f → Has (facts_of program effects top) f
+      none_new f has =
+          subst (λ z. Has z f) (sym (standing.facts_are table typed effects input ready state top older outer named p frames of_sub at_point path))
+          (elim (added_after program effects ready.accepted.effects_are (acts (values ++ copies)) own_facts f (subst (λ z. Has z f) facts_there has)) [
+            | inl was ↦ was
+            | inr (a, there, new) ↦ (
+                let from = Has-map_from (λ (z : Placed). z.act) (values ++ copies) a there in
+                absurd (call_adds s ready.owns formals actuals called.actuals_stay from.0 from.1 f (subst (λ z. Has (adds z) f) (sym from.2) new)))
+          ])
+
       -- what the callee uses isn't moved
       spared_then : (name : PlaceName) → Has facts_called (Moved name) → is_package_object s name.root ≡ true → Uses effects n name.root → ⊥
       spared_then name has shared uses =
@@ -451,48 +469,55 @@ module _ (table : Table) (typed : TypedProgram) (effects : Effects) (input : Lis
           )
         ]
 
-        entered_sound : IsSound table typed effects after_call
-        entered_sound = record {
-          top = called_stage;
-          views = blank_views;
-          older = waits_there ∷ older;
-          stages = subst (AreStages (called_stage ∷ stages_of (waits_there ∷ older))) (sym frames_there) (refl, refl, (refl, deep, stages));
-          running = (
-            called.procedure,
-            (refl, returns_copied s ready.accepted.settled formals passed scalar_formals (given_laid passed given), refl),
-            (is_waiting, others_wait),
-          );
-          path = begins (first_point n called.procedure.named called.procedure.stands called.procedure.point called.procedure.points called.procedure.begins);
-          viewed = record {
-            owned = well_called.owned;
-            covered = well_called.covered;
-            known = λ w l rooted r gone. inr (known_called w l rooted r gone);
-            clear = record {
-              moved = λ l h k m has there over. has;
-              lent = λ b h k m has there off over. has;
-              seen = λ b h k m has there over. has;
-              owned = λ k has. absurd has;
+        -- owners see nothing of the formals
+        called_words : AreSameWords s (λ f. Unit {0}) state.memory with_all
+        called_words = (λ f x q on. enters.hold f x q, λ c q. cells_same s state.memory with_all (waiting_in state) state.leaks enters.same c q)
+
+        entered_sound : Along (Goes after_call)
+        entered_sound = (
+          record {
+            top = called_stage;
+            views = blank_views;
+            older = waits_there ∷ older;
+            stages = subst (AreStages (called_stage ∷ stages_of (waits_there ∷ older))) (sym frames_there) (refl, refl, (refl, deep, stages));
+            running = (
+              called.procedure,
+              (refl, returns_copied s ready.accepted.settled formals passed scalar_formals (given_laid passed given), refl),
+              (is_waiting, others_wait),
+            );
+            path = begins (first_point n called.procedure.named called.procedure.stands called.procedure.point called.procedure.points called.procedure.begins);
+            viewed = record {
+              owned = well_called.owned;
+              covered = well_called.covered;
+              known = λ w l rooted r gone. inr (known_called w l rooted r gone);
+              clear = record {
+                moved = λ l h k m has there over. has;
+                lent = λ b h k m has there off over. has;
+                seen = λ b h k m has there over. has;
+                owned = λ k has. absurd has;
+              };
+              views = λ x w has. absurd (none_some w has);
+              far = λ w k none. absurd none;
             };
-            views = λ x w has. absurd (none_some w has);
-            far = λ w k none. absurd none;
-          };
-          kept = subst (Kept s with_all) (sym hands_there) enters.typed;
-          named = called.procedure.named;
-          of_sub = called.procedure.stands;
-          point = called.procedure.point;
-          at_point = ([], called.procedure.points, called.procedure.begins, refl);
-          scope = λ f x q k held. elim (scope f x q k (sym (enters.hold f x q) ∙ held)) [
-            | inl less ↦ inl (omega (arith, less))
-            | inr mine ↦ (let is = mine.0 in inl (omega (arith, is)))
-          ];
-          holds = record {
-            held = λ x k lasts view at. absurd (no_view x k view at);
-            within = λ x k view at. absurd (no_view x k view at);
-            only = λ x w has. absurd (none_some w has);
-          };
-          placed = λ x w has. absurd (none_some w has);
-          none_above = λ f x k less view at. above f x k (omega (arith, less)) view (sym (enters.views f x view) ∙ at);
-        }
+            kept = subst (Kept s with_all) (sym hands_there) enters.typed;
+            named = called.procedure.named;
+            of_sub = called.procedure.stands;
+            point = called.procedure.point;
+            at_point = ([], called.procedure.points, called.procedure.begins, refl);
+            scope = λ f x q k held. elim (scope f x q k (sym (enters.hold f x q) ∙ held)) [
+              | inl less ↦ inl (omega (arith, less))
+              | inr mine ↦ (let is = mine.0 in inl (omega (arith, is)))
+            ];
+            holds = record {
+              held = λ x k lasts view at. absurd (no_view x k view at);
+              within = λ x k view at. absurd (no_view x k view at);
+              only = λ x w has. absurd (none_some w has);
+            };
+            placed = λ x w has. absurd (none_some w has);
+            none_above = λ f x k less view at. above f x k (omega (arith, less)) view (sym (enters.views f x view) ∙ at);
+          },
+          calls_one waits_stage refl (refl, refl, refl) refl none_new called_words,
+        )
           where
             no_view : (x k : ℕ) → is_anonymous (view_of s x) ≡ true
                 → (get_or (variable_slots s (home s (suc depth) x) x with_all.variables) 0 no_slot).word ≡ machine.Cell k → ⊥
@@ -500,7 +525,7 @@ module _ (table : Table) (typed : TypedProgram) (effects : Effects) (input : Lis
                 let up : home s (suc depth) x ≡ suc depth = ap (λ b. if b then 0 else suc depth) (local x view) in
                 above (home s (suc depth) x) x k (omega (arith, up)) view (sym (enters.views (home s (suc depth) x) x view) ∙ at)
 
-      pub calls_it : LeadsOn table typed effects (turn main_turn (Call n actuals None))
+      pub calls_it : Along (turn main_turn (Call n actuals None))
       calls_it =
-          call_leads main_turn ready.accepted.settled n actuals (LeadsOn table typed effects) (ends_raised not_end) Given given_laid entered_sound ways_there ways_are now
+          call_leads main_turn ready.accepted.settled n actuals Along (ends_raised not_end) Given given_laid entered_sound ways_there ways_are now
           (start_is main_turn ready.accepted.settled ready.owns other alone no_in_formals views ready.class.parts_named none_taken frames none_takes) refl passed_quiet

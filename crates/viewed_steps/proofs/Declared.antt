@@ -145,7 +145,7 @@ module _ (s : Typing) (settled : IsSettled s.table) (home : ℕ → ℕ) (observ
       }
 
 -- the root of what a name stands for
-stands_root : (v : Views) (u : Way) → (number_of (expand v u) ≡ number_of u) ⊎ ((y : ℕ) × (k : Way) × (v.way y ≡ Some k) × (number_of (expand v u) ≡ number_of k))
+pub stands_root : (v : Views) (u : Way) → (number_of (expand v u) ≡ number_of u) ⊎ ((y : ℕ) × (k : Way) × (v.way y ≡ Some k) × (number_of (expand v u) ≡ number_of k))
 stands_root v u = elim (lifts v u) [
   | inl e ↦ inl (ap number_of e)
   | inr l ↦ inr (l.object, l.way, l.has, ap number_of (lifted_way v u l) ∙ root_on l.way l.rest)
@@ -261,7 +261,7 @@ module _ (t : Turn) (settled : IsSettled (typing t).table) (own_law : OwnsByShap
       (evaluated (here t) settled t.state.leaks [] other alone (keeps s settled own_law) no_formals index_law own_law v parts_named e u gives calls
       m hands facts (record { viewed = good.viewed; kept = good.kept; holds = good.holds }) allowed named keep))
 
-  first_given : (u : ℕ) (e : TypedTree) → IsNamed s.table u → FirstSource s u e → has_call e ≡ false → (facts : List Fact) → Good facts
+  pub first_given : (u : ℕ) (e : TypedTree) → IsNamed s.table u → FirstSource s u e → has_call e ≡ false → (facts : List Fact) → Good facts
       → AllowsAll facts (acts (acts_in s e)) → AllKeep (is_observer s) (acts (acts_in s e)) → Given_here u (after (acts (acts_in s e)) facts) (first_value t u e now)
   unfolding acts_in has_call initial
   first_given u (More e rest) named (last, gives) calls facts good allowed keep =

@@ -49,8 +49,8 @@ use Rattle.owned_loans.specs.Views.{Around, known_gone, Views, Viewed, Unused}
 use Rattle.viewed_soundness.specs.Holds.{IsNamed, AllKeep}
 use Rattle.viewed_soundness.proofs.Names.{plain_named, true_false}
 use Rattle.viewed_soundness.proofs.Evaluated.{keep_both}
-use Rattle.viewed_soundness.proofs.Outcomes.{named_plain, IsGood, Leads_on, test_leads, choose_leads, assign_leads}
-use Rattle.viewed_steps.specs.Sound.{IsResting, Lasts, HoldsAt, ArePlaced, NoneAbove, ViewStage, stages_of, GoneElsewhere, AreWaiting, LeadsOn}
+use Rattle.viewed_soundness.proofs.Outcomes.{named_plain, IsGood, Turned, Leads_on, test_leads, choose_leads, assign_leads}
+use Rattle.viewed_steps.specs.Sound.{IsResting, Lasts, HoldsAt, ArePlaced, NoneAbove, ViewStage, stages_of, GoneElsewhere, AreWaiting, IsStoredAt, AreTurned, steps_on, LeadsAlong}
 use Rattle.viewed_steps.specs.Ready.{AreOrderly, IsReady}
 use Rattle.viewed_steps.proofs.Declared.{IsElsewhere, not_gone, declare_leads}
 use Rattle.viewed_steps.proofs.Released.{release_leads}
@@ -61,7 +61,7 @@ use Rattle.viewed_steps.proofs.Placed.{scope_on, view_ends, placed_on, MayBe, tu
 use Rattle.viewed_steps.proofs.Sources.{leads_or, view_declared, view_assigned}
 use Rattle.viewed_steps.proofs.Beside.{OthersKept, others_keep}
 use Rattle.viewed_steps.proofs.Waiting.{StandsBetween, KeptElsewhere, beside_them, handed, apart_elsewhere}
-use Rattle.viewed_steps.proofs.Standing.{or_right}
+use Rattle.viewed_steps.proofs.Standing.{or_right, calls_none}
 use Rattle.viewed_steps.proofs.Standing as standing
 use Rattle.viewed_steps.proofs.Packages as packages
 use Rattle.viewed_steps.proofs.Innermost as innermost
@@ -250,11 +250,15 @@ module _ (table : Table) (typed : TypedProgram) (effects : Effects) (input : Lis
     abbrev ready_there : (i : Instruction) → p.instr ≡ i → is_ready p i ≡ true
     ready_there = innermost.ready_there table typed effects input ready state top below more_frames rest named p frames deep stages running of_sub at_point path views viewed_before kept scope holds placed_before above
 
+    -- where it leads, and how the frames come from those before
+    abbrev Along : Outcome → Type 0
+    Along outcome = LeadsAlong table typed effects p.instr state.memory (record { stage = top; views = views }) (below ∷ more_frames) outcome
+
     -- ---- an instruction that isn't the end of a scope
 
     module _ (going : (x : ℕ) → p.instr ≡ EndScope x → ⊥) (plain_calls : calls_nothing p.instr ≡ true) where
       abbrev may : ℕ → ℕ → Type 0
-      may x y = MayBe program (scope_behind p) x y
+      may x y = MayBe program (scope_behind p) x y × IsStoredAt p.instr x
 
       more : (y : ℕ) → is_within y p.scope ≡ true → is_within y (scope_behind p) ≡ true
       more y within = subst (λ z. is_within y z ≡ true) (sym scope_is) (brought_more p.instr plain_calls going p.scope y within)
@@ -359,7 +363,7 @@ module _ (table : Table) (typed : TypedProgram) (effects : Effects) (input : Lis
               (view_declared main_turn ready.accepted.settled ready.owns other alone no_in_formals views ready.class.parts_named may frames none_takes
               q x y u source view (ready.orderly.local x view).0 (home_frame x (local x view)) text_there.1
               (or_both (has_call source) (has_call NoMore) (not_true (has_call source || has_call NoMore) calls_source)).0
-              older_there (record { lasts = lasts_behind y x lasts; within = in_behind; view = view }) facts_now good (unused x v e (local x view))
+              older_there (record { lasts = lasts_behind y x lasts; within = in_behind; view = view }, inl (v, e)) facts_now good (unused x v e (local x view))
               (subst (λ z. AllowsAll facts_now (acts_of_main (Declare x z))) here_is allowed_there))
             where
               lasts_behind : (r z : ℕ) → Lasts program p.scope r z → Lasts program (scope_behind p) r z
@@ -415,14 +419,17 @@ module _ (table : Table) (typed : TypedProgram) (effects : Effects) (input : Lis
               from_name : (r : Pos) (y w : ℕ) (rest : TypedTree) → e ≡ Name r y rest w → (is_observer s x ≡ true → Lasts program p.scope y x)
                   → (is_observer s x ≡ false → y ≡ x) → Goal (Name q x NoMore (object_at s x).of) e
               from_name r y w rest here_is lasts itself =
-                  let from : may x y = record {
-                    lasts = elim (bool_cases (is_observer s x)) [
-                      | inl sees ↦ lasts_behind y x (lasts sees)
-                      | inr borrows ↦ subst (λ z. Lasts program (scope_behind p) z x) (sym (itself borrows)) (itself_lasts view (within_now view))
-                    ];
-                    within = within_now view;
-                    view = view;
-                  } in
+                  let from : may x y = (
+                    record {
+                      lasts = elim (bool_cases (is_observer s x)) [
+                        | inl sees ↦ lasts_behind y x (lasts sees)
+                        | inr borrows ↦ subst (λ z. Lasts program (scope_behind p) z x) (sym (itself borrows)) (itself_lasts view (within_now view))
+                      ];
+                      within = within_now view;
+                      view = view;
+                    },
+                    inr (q, (object_at s x).of, e, instr_is),
+                  ) in
                   subst (λ z. Goal (Name q x NoMore (object_at s x).of) z) (sym here_is)
                   (view_assigned main_turn ready.accepted.settled ready.owns other alone no_in_formals views ready.class.parts_named may frames none_takes
                   p.pos q r x y w rest view (ready.orderly.local x view).0 (home_frame x (local x view)) (subst (Source s (object_at s x).of) here_is source)
@@ -573,15 +580,34 @@ module _ (table : Table) (typed : TypedProgram) (effects : Effects) (input : Lis
       lent_on : sparing → (h : ℕ) (n : PlaceName) → Has facts_now (Lent Observed h n) → Has (after (acts_of_main p.instr) facts_now) (Lent Observed h n)
       lent_on spare h n has = loans_stay s (standing.acts_by table typed effects input ready state top older outer named p frames of_sub at_point s p.instr) spare facts_now Observed h n has
 
+      -- which views turned
+      turned_so : (turned_views : Views) → {facts : List Fact}
+          → Turned main_turn ready.accepted.settled ready.owns other alone no_in_formals views ready.class.parts_named may frames none_takes turned_views facts
+          → AreTurned p.instr views turned_views
+      turned_so turned_views turned x w has = elim (turned x w has) [
+        | inl old ↦ inl (sym old.way ∙ has)
+        | inr (y, from, comes) ↦ inr from.1
+      ]
+
+      only_may : (turned_views : Views) (facts : List Fact)
+          → Turned main_turn ready.accepted.settled ready.owns other alone no_in_formals views ready.class.parts_named may frames none_takes turned_views facts
+          → Turned main_turn ready.accepted.settled ready.owns other alone no_in_formals views ready.class.parts_named (λ x y. MayBe program (scope_behind p) x y) frames none_takes
+          turned_views facts
+      only_may turned_views facts turned x w has = elim (turned x w has) [
+        | inl old ↦ inl (record { way = old.way; loan = old.loan; up = old.up })
+        | inr (y, from, comes) ↦ inr (y, from.0, record { up = comes.up; root = comes.root; loan = comes.loan })
+      ]
+
       then_on : sparing → (outcome : Outcome) → LeadsFrom p.instr outcome → GoesFrom p.instr outcome
-          → Each (λ (next : State). OthersKept s depth state.memory next.memory) outcome → LeadsOn table typed effects outcome
-      then_on spare (Ends how after_step) leads on stay = leads
-      then_on spare (Goes after_step) (turned_views, turned, well) on stay =
+          → Each (λ (next : State). OthersKept s depth state.memory next.memory) outcome → (p.instr ≡ Finish → ⊥) → Along outcome
+      then_on spare (Ends how after_step) leads on stay end = leads
+      then_on spare (Goes after_step) (turned_views, turned, well) on stay end =
           let next = successor_there main_turn on.k (subst (λ z. on.k < z) (sym successors_there) on.less) in
           let q = standing.next_at table typed effects input ready state top older outer named p frames of_sub at_point path next.0 next.2 in
           let lead : Leads s (scope_behind p) (q.0).scope = subst (λ z. Leads z (scope_behind p) (q.0).scope) (sym same) q.2 in
           let there = turned_placed main_turn ready.accepted.settled ready.owns other alone no_in_formals views ready.class.parts_named p.scope (scope_behind p) frames none_takes
-          ready.orderly.transitive ready.orderly.itself local holds.only more turned_views facts_now (after (acts_of_main p.instr) facts_now) (lent_on spare) placed turned in
+          ready.orderly.transitive ready.orderly.itself local holds.only more turned_views facts_now (after (acts_of_main p.instr) facts_now) (lent_on spare) placed
+          (only_may turned_views (after (acts_of_main p.instr) facts_now) turned) in
           let placed_next = placed_on program (after (acts_of_main p.instr) facts_now) turned_views (scope_behind p) (q.0).scope well.holds.only lead there in
           standing.goes_to_next table typed effects input ready state top older outer named p frames of_sub at_point path plain_calls after_step on.loops next.0 next.2 q.0 q.1 (on.frames next.0 next.1) deep stages turned_views
           (running.0, (refl, running.1.1, running.1.2), wait_still after_step (brought p.instr p.scope) on.inside stay well.viewed.far)
@@ -594,12 +620,13 @@ module _ (table : Table) (typed : TypedProgram) (effects : Effects) (input : Lis
             only = well.holds.only;
           })
           (placed_by (after (acts_of_main p.instr) facts_now) (after (acts_of_main p.instr) own_facts) turned_views (q.0).scope (own_loans (acts_of_main p.instr)) placed_next)
-          (still_above after_step.memory stay)
+          (still_above after_step.memory stay) views
+          (steps_on (calls_none p.instr plain_calls) end going (refl, refl, refl) (turned_so turned_views turned) refl)
 
-      pub goes_plainly : (p.instr ≡ Finish → ⊥) → LeadsOn table typed effects (turn main_turn p.instr)
+      pub goes_plainly : (p.instr ≡ Finish → ⊥) → Along (turn main_turn p.instr)
       goes_plainly end =
           let text = subst (λ r. IsFine s r p.instr) no_result (standing.fine table typed effects input ready state top older outer named p frames of_sub at_point) in
           let both = each_instruction p.instr refl end text plain_calls
           (allowed_now (spares end) (standing.allowed table typed effects input ready state top older outer named p frames of_sub at_point path plain_calls))
           (standing.keeps_there table typed effects input ready state top older outer named p frames of_sub at_point) in
-          then_on (spares end) (turn main_turn p.instr) both.0 both.1 (others_keep main_turn p.instr text plain_calls end)
+          then_on (spares end) (turn main_turn p.instr) both.0 both.1 (others_keep main_turn p.instr text plain_calls end) end

@@ -1,17 +1,25 @@
 -- The end of a call: the variables of its frame are removed, and what the others have stays.
-use Rattle.std.proofs.Common.{◌≡◌, sym, ap, ◌∙◌, subst, inl, inr, ℕ, false, not, List, get_or, if◌then◌else◌}
+use Rattle.std.proofs.Common.{◌≡◌, sym, ap, ◌∙◌, subst, inl, inr, ℕ, false, not, List, [], get_or, append-nil, if◌then◌else◌}
 use Rattle.flow_paths.specs.Objects.{Typing, object_at, is_package_object}
 use Rattle.machine.specs.Words.{default}
 use Rattle.machine.specs.Words as machine
 use Rattle.machine.specs.Memory.{Memory, Slot, no_slot, variable_slots, without_frame}
 use Rattle.machine.specs.States.{Waiting, Leak}
-use Rattle.owned_ways.specs.Ways.{Step, OfVariable, OfHand, Loc, OfRoot, OfCell, Inside, Way, Object, Lost, Into, All, Empty, Gone, Held, View, Reaches, Named, Owned, Covered, base_of, number_of}
+use Rattle.owned_ways.specs.Ways.{Step, OfVariable, OfHand, Loc, OfRoot, OfCell, Inside, Way, Object, Lost, Into, All, Empty, Gone, Held, View, Reaches, Named, Owned, Covered, IsSame, part, base_of, number_of}
 use Rattle.soundness.specs.Seen.{content, trunk, steps_in, word_in, seen, home, is_view_formal}
 use Rattle.soundness.proofs.Joined.{trunk_trunk, not_inside}
+use Rattle.soundness.proofs.Contents.{word_part}
 use Rattle.soundness.proofs.Defaults.{none_default, blank_word}
 use Rattle.soundness.proofs.Keeping.{cell_has}
 use Rattle.soundness.proofs.Around.{same_or_not}
 use Rattle.soundness.proofs.Endings.{SameNumbers, numbers_owned, numbers_covered, reaches_on, frame_other, frame_same, frame_ends, left_blank}
+
+-- where owners see the same, cells have the same words
+pub cells_same : (s : Typing) (m n : Memory) (hands : List Waiting) (leaks : List Leak) → IsSame (seen s m hands leaks) (seen s n hands leaks)
+    → (c : ℕ) (p : List Step) → word_in s.table (content s n [] (OfCell c)) p ≡ word_in s.table (content s m [] (OfCell c)) p
+cells_same s m n hands leaks same c p =
+    subst (λ q. word_in s.table (content s n [] (OfCell c)) q ≡ word_in s.table (content s m [] (OfCell c)) q) (append-nil p)
+    (sym (word_part s.table (content s n hands) (OfCell c) p) ∙ same.word (part (OfCell c) p) ∙ word_part s.table (content s m hands) (OfCell c) p)
 
 module _ (s : Typing) (m : Memory) (f : ℕ) (hands : List Waiting) (leaks : List Leak)
     (nothing : (x : ℕ) (p : List Step) (n : ℕ) → word_in s.table (content s m hands (OfRoot (OfVariable f x))) p ≡ Held n → ⊥) where

@@ -14,7 +14,7 @@ use Rattle.type_definitions.specs.Types.{Table}
 use Rattle.typed_tree.specs.Trees.{TypedTree}
 use Rattle.typed_tree.specs.Programs.{TypedProgram}
 use Rattle.flow_paths.specs.declared.report.Effects.{Effects}
-use Rattle.flow_paths.specs.Instructions.{Instruction, Declare, EndScope}
+use Rattle.flow_paths.specs.Instructions.{Instruction, Declare, EndScope, Finish}
 use Rattle.flow_paths.specs.Objects.{Typing, object_at, is_anonymous, is_package_object, is_observer, view_of}
 use Rattle.flow_paths.specs.Names.{has_call}
 use Rattle.flow_paths.specs.Points.{NamedPoint, FlowPoint}
@@ -46,12 +46,12 @@ use Rattle.owned_loans.specs.Views.{Around, known_gone, Views, Viewed}
 use Rattle.viewed_soundness.specs.Holds.{AllKeep}
 use Rattle.viewed_soundness.proofs.Names.{plain_named, true_false}
 use Rattle.viewed_soundness.proofs.Outcomes.{IsGood, Turned, Leads_on}
-use Rattle.viewed_steps.specs.Sound.{HoldsAt, NoneAbove, ViewStage, GoneElsewhere, IsFirst, IsSound, LeadsOn}
+use Rattle.viewed_steps.specs.Sound.{HoldsAt, NoneAbove, ViewStage, GoneElsewhere, IsFirst, steps_on, begins_main, IsSound, LeadsAlong}
 use Rattle.viewed_steps.specs.Ready.{IsReady}
 use Rattle.viewed_steps.proofs.Declared.{IsElsewhere, OthersStay, not_gone, declare_leads, others_stay}
 use Rattle.viewed_steps.proofs.Placed.{scope_on}
 use Rattle.viewed_steps.proofs.Ended.{none_some}
-use Rattle.viewed_steps.proofs.Standing.{or_right}
+use Rattle.viewed_steps.proofs.Standing.{or_right, calls_none}
 use Rattle.viewed_steps.proofs.Standing as standing
 
 module _ (table : Table) (typed : TypedProgram) (effects : Effects) (input : List ℕ) (ready : IsReady table typed effects) where
@@ -210,6 +210,10 @@ module _ (table : Table) (typed : TypedProgram) (effects : Effects) (input : Lis
       (path : ControlPath (path_points program effects (sub_of program top.frame.sub)) top.before top.frame.next)
       (viewed_before : Viewed (home s 0) (is_observer s) (known_gone (home s 0) (GoneElsewhere program effects [])) views (view_here s state) (facts_of program effects top))
       (kept : Kept s state.memory (waiting_in state)) (scope : InScope s state.memory 0 p.scope) (holds : HoldsAt s 0 views state.memory p) where
+    -- where it leads, and how the frames come from those before
+    abbrev Along : Outcome → Type 0
+    Along outcome = LeadsAlong table typed effects p.instr state.memory (record { stage = top; views = views }) [] outcome
+
     abbrev first_turn : Turn
     first_turn = standing.t table typed effects input ready state top [] [] named p frames of_sub at_point
 
@@ -325,7 +329,8 @@ module _ (table : Table) (typed : TypedProgram) (effects : Effects) (input : Lis
 
       moment_leads : (outcome : Outcome) → LeadsFirst outcome
           → Each (Declares first_turn running.1.0 (λ f y. f < 0) p.scope (x ∷ p.scope) scope) outcome
-          → Each (λ (st : State). NoneAbove s 0 st.memory) outcome → LeadsOn table typed effects outcome
+          → Each (λ (st : State). NoneAbove s 0 st.memory) outcome → Along outcome
+      unfolding main_begun
       moment_leads (Ends how after_step) leads on nones = leads
       moment_leads (Goes after_step) (turned_views, turned, well) on nones =
           let none_now : HasNone turned_views = none_left turned_views turned in
@@ -344,21 +349,25 @@ module _ (table : Table) (typed : TypedProgram) (effects : Effects) (input : Lis
                   within = λ y n view at. (let own_way = well.holds.held y n view at in no_views turned_views none_now y own_way.0 own_way.1);
                   only = well.holds.only;
                 })
-                (λ y w has. no_views turned_views none_now y w has) nones)
+                (λ y w has. no_views turned_views none_now y w has) nones views
+                (steps_on (calls_none p.instr (calls_plain x v e)) (λ end. (let never : Declare x v ≡ Finish = sym e ∙ end in cc))
+                (λ y end. (let never : Declare x v ≡ EndScope y = sym e ∙ end in cc)) (refl, refl, refl) (λ y w has. no_views turned_views none_now y w has) refl))
             | inr none ↦ (
                 let below : Stage = record { frame = record top.frame { waits = [] }; depth = 0; before = top.frame.next ∷ top.before; returns = [] } in
-                let begins_main : after_step.frames ≡ frame_at_start ready.main [] ∷ (record top.frame { waits = [] } ∷ []) =
+                let main_frames : after_step.frames ≡ frame_at_start ready.main [] ∷ (record top.frame { waits = [] } ∷ []) =
                 on.frames ∙ ap (led first_turn (record top.frame { waits = [] })) none
                 ∙ ap (λ z. main_frame (record program { main = z }) ++ (record top.frame { waits = [] } ∷ [])) ready.is_main in
                 let same_facts : after (acts_first p.instr) facts_first ≡ facts_of program effects below =
                 sym (standing.facts_on table typed effects input ready state top [] [] named p frames of_sub at_point path (calls_plain x v e))
-                ∙ ap (λ (z : FlowSub). facts_before (path_points program effects z) (top.frame.next ∷ top.before)) (sym (standing.sub_is table typed effects input ready state top [] [] named p frames of_sub at_point)) in
-                main_begun (record { stage = below; views = turned_views }) (running.0, (refl, running.1.1, refl), none_now) refl after_step turned_views none_now begins_main (after (acts_first (Declare x v)) facts_first) well.viewed
-                (λ name has. unmoved_stage below running.0 name (subst (λ z. Has z (Moved name)) (facts_on_e ∙ same_facts) has)) well.kept
-                (λ f y q n held. elim (on.inside f y q n held) [
-                  | inl less ↦ absurd (omega (arith, less))
-                  | inr mine ↦ (let same_frame = mine.0 in omega (arith, same_frame))
-                ]) nones)
+                ∙ ap (λ (z : FlowSub). facts_before (path_points program effects z) (top.frame.next ∷ top.before)) (sym (standing.sub_is table typed effects input ready state top [] [] named p frames of_sub at_point)) in (
+                  main_begun (record { stage = below; views = turned_views }) (running.0, (refl, running.1.1, refl), none_now) refl after_step turned_views none_now main_frames (after (acts_first (Declare x v)) facts_first) well.viewed
+                      (λ name has. unmoved_stage below running.0 name (subst (λ z. Has z (Moved name)) (facts_on_e ∙ same_facts) has)) well.kept
+                      (λ f y q n held. elim (on.inside f y q n held) [
+                        | inl less ↦ absurd (omega (arith, less))
+                        | inr mine ↦ (let same_frame = mine.0 in omega (arith, same_frame))
+                      ]) nones,
+                  begins_main (record { stage = below; views = turned_views }) refl refl (refl, sym deep, refl) refl,
+                ))
           ]
 
       have_none_on : Each (λ (st : State). NoneAbove s 0 st.memory) (turn first_turn (Declare x v))
@@ -374,14 +383,14 @@ module _ (table : Table) (typed : TypedProgram) (effects : Effects) (input : Lis
               above g y n less view (sym (stay g y (λ same_there. (let none = frame_is g x y same_there in omega (arith, less, none)))) ∙ at)
           each_on (Ends how st) stay = tt
 
-      declares_first : LeadsOn table typed effects (turn first_turn (Declare x v))
+      declares_first : Along (turn first_turn (Declare x v))
       declares_first =
           moment_leads (turn first_turn (Declare x v)) first_leads
           (declare_on first_turn running.1.0 (λ f y. f < 0) p.scope (x ∷ p.scope) scope within_more x v (ap (λ b. b || is_within x p.scope) (eq-eqb x x refl)))
           have_none_on
 
-    pub package_step : LeadsOn table typed effects (step program input state)
+    pub package_step : Along (step program input state)
     package_step =
         let declares = ready.elaborated.declared first_turn.point in_packages in
-        subst (LeadsOn table typed effects) (sym (standing.step_is table typed effects input ready state top [] [] named p frames of_sub at_point))
-        (subst (λ i. LeadsOn table typed effects (turn first_turn i)) (sym declares.2) (declares_first declares.0 declares.1 declares.2))
+        subst Along (sym (standing.step_is table typed effects input ready state top [] [] named p frames of_sub at_point))
+        (subst (λ i. Along (turn first_turn i)) (sym declares.2) (declares_first declares.0 declares.1 declares.2))

@@ -108,7 +108,7 @@ module _ (t : Turn) (settled : IsSettled (typing t).table) (own_law : OwnsByShap
 
   -- ---- output
 
-  text_quiet : (e : TypedTree) → Writes s e → has_call e ≡ false → (facts : List Fact) → Good facts → AllowsAll facts (acts (acts_in s e))
+  pub text_quiet : (e : TypedTree) → Writes s e → has_call e ≡ false → (facts : List Fact) → Good facts → AllowsAll facts (acts (acts_in s e))
       → Quiet now (Any {A = List ℕ}) (text_of (here t) e now) × (after (acts (acts_in s e)) facts ≡ facts)
   unfolding Writes text_of has_call acts_in
   text_quiet (Text b) writes calls facts good allowed = ((refl, tt), refl)

@@ -35,11 +35,11 @@ use Rattle.soundness.proofs.Following.{Each, GoesOn, end_scope_follows}
 use Rattle.soundness.proofs.Successors.{below_one, successor_there}
 use Rattle.owned_loans.specs.Views.{Around, known_gone, Views, Viewed}
 use Rattle.viewed_soundness.proofs.Outcomes.{Is_left}
-use Rattle.viewed_steps.specs.Sound.{IsResting, HoldsAt, ArePlaced, NoneAbove, ViewStage, stages_of, GoneElsewhere, AreWaiting, LeadsOn}
+use Rattle.viewed_steps.specs.Sound.{IsResting, HoldsAt, ArePlaced, NoneAbove, ViewStage, stages_of, GoneElsewhere, AreWaiting, AreLeft, leaves_scope, LeadsAlong}
 use Rattle.viewed_steps.specs.Ready.{AreOrderly, IsReady}
 use Rattle.viewed_steps.proofs.Inherited.{apart_end}
 use Rattle.viewed_steps.proofs.Placed.{scope_on}
-use Rattle.viewed_steps.proofs.Ended.{views_left, ends_well, placed_left, holds_left}
+use Rattle.viewed_steps.proofs.Ended.{views_left, ends_well, placed_left, holds_left, leaves, leaves_others}
 use Rattle.viewed_steps.proofs.Beside.{OthersKept, end_scope_keeps}
 use Rattle.viewed_steps.proofs.Waiting.{StandsBetween, KeptElsewhere, beside_them, handed}
 use Rattle.viewed_steps.proofs.Standing as standing
@@ -194,6 +194,10 @@ module _ (table : Table) (typed : TypedProgram) (effects : Effects) (input : Lis
 
     -- ---- the end of a scope
 
+    -- where it leads, and how the frames come from those before
+    abbrev Along : Outcome → Type 0
+    Along outcome = LeadsAlong table typed effects p.instr state.memory (record { stage = top; views = views }) (below ∷ more_frames) outcome
+
     module _ (y : ℕ) (is : p.instr ≡ EndScope y) where
       abbrev no_source : ℕ → ℕ → Type 0
       no_source a b = ⊥
@@ -230,11 +234,24 @@ module _ (table : Table) (typed : TypedProgram) (effects : Effects) (input : Lis
           (λ x within sees region. orderly.followed y x is at_next_point.0 (next_point.0, next_point.2, at_next_point.1) within sees region)
           lead facts_now end_allowed.0 viewed kept holds placed
 
+      -- they had their ways before, and none begins at the object
+      were_left : AreLeft y views left_views
+      were_left x w has = (
+        ((leaves main_turn ready.accepted.settled ready.owns other alone no_in_formals views ready.class.parts_named no_source frames none_takes
+            p at_next_point.0 y is (home_frame y not_shared) not_shared (ready_there (EndScope y) is) ready.orderly.local (λ x within off. orderly.ended y x is within off)
+            (λ x within sees region. orderly.followed y x is at_next_point.0 (next_point.0, next_point.2, at_next_point.1) within sees region)
+            lead facts_now end_allowed.0 viewed kept holds placed).1.was x w has).2,
+        (leaves_others main_turn ready.accepted.settled ready.owns other alone no_in_formals views ready.class.parts_named no_source frames none_takes
+            p at_next_point.0 y is (home_frame y not_shared) not_shared (ready_there (EndScope y) is) ready.orderly.local (λ x within off. orderly.ended y x is within off)
+            (λ x within sees region. orderly.followed y x is at_next_point.0 (next_point.0, next_point.2, at_next_point.1) within sees region)
+            lead facts_now end_allowed.0 viewed kept holds placed).roots x w has,
+      )
+
       then_left : (outcome : Outcome)
           → Is_left main_turn ready.accepted.settled ready.owns other alone no_in_formals views ready.class.parts_named no_source frames none_takes
           left_views y (after (acts_of_main (EndScope y)) facts_now) outcome
           → Each (GoesOn main_turn plain IsOld p.scope (drop 1 p.scope) inside) outcome
-          → Each (λ (next : State). OthersKept s depth state.memory next.memory) outcome → LeadsOn table typed effects outcome
+          → Each (λ (next : State). OthersKept s depth state.memory next.memory) outcome → Along outcome
       then_left (Ends how after_step) leads on stay = absurd leads
       then_left (Goes after_step) (still_viewed, still_kept, memory) on stay =
           let facts_are_there : after (acts_of_main (EndScope y)) facts_now ≡ after (acts_of_main p.instr) facts_now = ap (λ i. after (acts_of_main i) facts_now) (sym is) in
@@ -256,9 +273,10 @@ module _ (table : Table) (typed : TypedProgram) (effects : Effects) (input : Lis
           (placed_left main_turn ready.accepted.settled ready.owns other alone no_in_formals views ready.class.parts_named no_source frames none_takes
           p at_next_point.0 y is (home_frame y not_shared) not_shared (ready_there (EndScope y) is) ready.orderly.local (λ x within off. orderly.ended y x is within off)
           (λ x within sees region. orderly.followed y x is at_next_point.0 (next_point.0, next_point.2, at_next_point.1) within sees region)
-          lead facts_now end_allowed.0 viewed kept holds placed))) (still_above after_step.memory stay)
+          lead facts_now end_allowed.0 viewed kept holds placed))) (still_above after_step.memory stay) views
+          (leaves_scope y is (refl, refl, refl) were_left refl)
 
-      pub ends_scope : LeadsOn table typed effects (turn main_turn (EndScope y))
+      pub ends_scope : Along (turn main_turn (EndScope y))
       ends_scope =
           then_left (turn main_turn (EndScope y))
           (ends_well main_turn ready.accepted.settled ready.owns other alone no_in_formals views ready.class.parts_named no_source frames none_takes

@@ -63,7 +63,7 @@ no_and : (a b : Bool) → b ≡ false → a && b ≡ false
 no_and true b e = e
 no_and false b e = refl
 
-observer_only : (s : Typing) (x : ℕ) → is_observer s x ≡ true → is_borrower s x ≡ false
+pub observer_only : (s : Typing) (x : ℕ) → is_observer s x ≡ true → is_borrower s x ≡ false
 observer_only s x sees =
     no_and (is_variable (object_at s x).kind) (is_borrowing (view_of s x))
     (exclusive (shape_of s.table (object_at s x).of) (right_part (is_variable (object_at s x).kind) (is_observing (view_of s x)) sees))
@@ -107,7 +107,7 @@ module _ (t : Turn) (settled : IsSettled (typing t).table) (own_law : OwnsByShap
   abbrev Observes_here : ℕ → ℕ → ℕ → ℕ → TypedTree → Type 0
   Observes_here x y u d path = Observes t settled own_law other alone no_formals v parts_named may frames none x y u d path
 
-  observes : (q : Pos) (x y u : ℕ) (path : TypedTree) → is_anonymous (view_of s x) ≡ true → home s depth x ≡ depth
+  pub observes : (q : Pos) (x y u : ℕ) (path : TypedTree) → is_anonymous (view_of s x) ≡ true → home s depth x ≡ depth
       → Source s (object_at s x).of (Name q y path u) → (d : ℕ) × Observes_here x y u d path
   unfolding Gives
   observes q x y u path view mine (inl (is_view, (d, k, c, n, e, o, lead, source, want, fits))) = (

@@ -15,7 +15,7 @@ use Rattle.flow_paths.specs.Laid.{FlowSub, FlowProgram, NamedSub, flow_sub, kept
 use Rattle.flow_paths.specs.Paths.{PathPoint, path_point, ControlPath, goes_on, acts_at, facts_before}
 use Rattle.flow_paths.specs.Effects.{path_points, called_acts}
 use Rattle.flow_paths.specs.Scopes.{taken, scope_behind, is_ready, Leads}
-use Rattle.machine.specs.States.{Loop, Frame, State, sub_of}
+use Rattle.machine.specs.States.{Loop, Frame, State, sub_of, Goes}
 use Rattle.machine.specs.Step.{Turn, turn}
 use Rattle.machine.specs.Owners.{is_in, is_in_formal, waiting_in}
 use Rattle.machine.specs.Run.{no_point, stepped, step}
@@ -23,7 +23,7 @@ use Rattle.owned_ways.specs.Ways.{after, AllowsAll}
 use Rattle.soundness.specs.Seen.{is_view_formal, home}
 use Rattle.soundness.specs.Typed.{Kept}
 use Rattle.typed_laws.specs.Needed.{IsFine}
-use Rattle.soundness.specs.Sound.{calls_nothing, calls_procedures, Stage, facts_of, AreStages, InScope, IsNamedSub, IsAtPoint, view_of as view_here}
+use Rattle.soundness.specs.Sound.{IsNoCall, calls_nothing, calls_procedures, Stage, facts_of, AreStages, InScope, IsNamedSub, IsAtPoint, view_of as view_here}
 use Rattle.soundness.proofs.Contents.{bool_cases}
 use Rattle.soundness.proofs.Passing.{plain_type}
 use Rattle.soundness.proofs.Scalars.{acts}
@@ -32,7 +32,7 @@ use Rattle.soundness.proofs.Points.{flow_at, named_has, point_has, sub_there, su
 use Rattle.soundness.proofs.Successors.{procedures_take_none}
 use Rattle.owned_loans.specs.Views.{known_gone, Views, Viewed}
 use Rattle.viewed_soundness.specs.Holds.{AllKeep}
-use Rattle.viewed_steps.specs.Sound.{HoldsAt, ArePlaced, NoneAbove, ViewStage, stages_of, GoneElsewhere, IsRunning, IsSound}
+use Rattle.viewed_steps.specs.Sound.{HoldsAt, ArePlaced, NoneAbove, ViewStage, stages_of, GoneElsewhere, IsRunning, Follows, LeadsAlong}
 use Rattle.viewed_steps.specs.Ready.{IsReady}
 
 no_second : (a b : Bool) → b ≡ false → a && b ≡ false
@@ -42,6 +42,9 @@ no_second false b e = refl
 pub or_right : (a b : Bool) → b ≡ true → a || b ≡ true
 or_right true b e = refl
 or_right false b e = e
+
+pub calls_none : (i : Instruction) → calls_nothing i ≡ true → IsNoCall i
+calls_none i calls n actuals result is = (let no : false ≡ true = sym (ap calls_nothing is) ∙ calls in cc)
 
 module _ (table : Table) (typed : TypedProgram) (effects : Effects) (input : List ℕ) (ready : IsReady table typed effects) where
   abbrev pub program : FlowProgram
@@ -208,29 +211,33 @@ module _ (table : Table) (typed : TypedProgram) (effects : Effects) (input : Lis
           → Viewed (home s (length outer)) (is_observer s) (known_gone (home s (length outer)) (GoneElsewhere program effects older)) views (view_here s after_step) (after (acts_here p.instr) facts)
           → Kept s after_step.memory (waiting_in after_step) → InScope s after_step.memory (length outer) q.scope
           → HoldsAt s (length outer) views after_step.memory q → ArePlaced program (after (acts_here p.instr) facts) views q.scope
-          → NoneAbove s (length outer) after_step.memory → IsSound table typed effects after_step
-      goes_to_next plain after_step loops n next q at is deep stages views running viewed kept scope holds placed above =
+          → NoneAbove s (length outer) after_step.memory → (before : Views)
+          → Follows program effects p.instr state.memory (record { stage = top; views = before }) older after_step.memory (record { stage = at_next loops n; views = views }) older
+          → LeadsAlong table typed effects p.instr state.memory (record { stage = top; views = before }) older (Goes after_step)
+      goes_to_next plain after_step loops n next q at is deep stages views running viewed kept scope holds placed above before follows =
           let step_on : Has (path_point points top.frame.next).next n =
           subst (λ (z : PathPoint). Has z.next n) (sym (path_there own named top.frame.next p at_point program effects)) next in
           let facts_there : facts_of program effects (at_next loops n) ≡ after (acts_here p.instr) facts =
-          ap (λ (z : FlowSub). facts_before (path_points program effects z) (top.frame.next ∷ top.before)) sub_is ∙ facts_on plain in
-          record {
-            top = at_next loops n;
-            views = views;
-            older = older;
-            stages = subst (AreStages (at_next loops n ∷ stages_of older)) (sym is) (refl, deep, stages);
-            running = running;
-            path = subst (λ (z : FlowSub). ControlPath (path_points program effects z) (top.frame.next ∷ top.before) n) (sym sub_is)
-                (goes_on top.before top.frame.next n path_here step_on);
-            viewed = subst (λ d. Viewed (home s d) (is_observer s) (known_gone (home s d) (GoneElsewhere program effects older)) views (view_here s after_step) (facts_of program effects (at_next loops n))) (sym deep)
-                (subst (Viewed (home s (length outer)) (is_observer s) (known_gone (home s (length outer)) (GoneElsewhere program effects older)) views (view_here s after_step)) (sym facts_there) viewed);
-            kept = kept;
-            named = named;
-            of_sub = of_sub;
-            point = q;
-            at_point = at;
-            scope = subst (λ d. InScope s after_step.memory d q.scope) (sym deep) scope;
-            holds = subst (λ d. HoldsAt s d views after_step.memory q) (sym deep) holds;
-            placed = subst (λ z. ArePlaced program z views q.scope) (sym facts_there) placed;
-            none_above = subst (λ d. NoneAbove s d after_step.memory) (sym deep) above;
-          }
+          ap (λ (z : FlowSub). facts_before (path_points program effects z) (top.frame.next ∷ top.before)) sub_is ∙ facts_on plain in (
+            record {
+              top = at_next loops n;
+              views = views;
+              older = older;
+              stages = subst (AreStages (at_next loops n ∷ stages_of older)) (sym is) (refl, deep, stages);
+              running = running;
+              path = subst (λ (z : FlowSub). ControlPath (path_points program effects z) (top.frame.next ∷ top.before) n) (sym sub_is)
+                  (goes_on top.before top.frame.next n path_here step_on);
+              viewed = subst (λ d. Viewed (home s d) (is_observer s) (known_gone (home s d) (GoneElsewhere program effects older)) views (view_here s after_step) (facts_of program effects (at_next loops n))) (sym deep)
+                  (subst (Viewed (home s (length outer)) (is_observer s) (known_gone (home s (length outer)) (GoneElsewhere program effects older)) views (view_here s after_step)) (sym facts_there) viewed);
+              kept = kept;
+              named = named;
+              of_sub = of_sub;
+              point = q;
+              at_point = at;
+              scope = subst (λ d. InScope s after_step.memory d q.scope) (sym deep) scope;
+              holds = subst (λ d. HoldsAt s d views after_step.memory q) (sym deep) holds;
+              placed = subst (λ z. ArePlaced program z views q.scope) (sym facts_there) placed;
+              none_above = subst (λ d. NoneAbove s d after_step.memory) (sym deep) above;
+            },
+            follows,
+          )

@@ -9,7 +9,7 @@ use Rattle.flow_paths.specs.Points.{NamedPoint}
 use Rattle.flow_paths.specs.Laid.{FlowProgram, NamedSub, flow_typing, flow_program, flow_named}
 use Rattle.flow_paths.specs.Paths.{ControlPath}
 use Rattle.flow_paths.specs.Effects.{path_points}
-use Rattle.machine.specs.States.{Frame, State, sub_of}
+use Rattle.machine.specs.States.{Frame, State, Outcome, Goes, Ends, sub_of}
 use Rattle.machine.specs.Step.{Turn, turn}
 use Rattle.machine.specs.Owners.{waiting_in}
 use Rattle.machine.specs.Run.{step}
@@ -18,7 +18,7 @@ use Rattle.soundness.specs.Typed.{Kept}
 use Rattle.soundness.specs.Sound.{Stage, facts_of, AreStages, IsProcedure, InScope, IsNamedSub, IsAtPoint, view_of as view_here}
 use Rattle.soundness.proofs.Successors.{calls_cases, finish_or}
 use Rattle.owned_loans.specs.Views.{known_gone, Views, Viewed}
-use Rattle.viewed_steps.specs.Sound.{IsResting, HoldsAt, ArePlaced, NoneAbove, ViewStage, stages_of, GoneElsewhere, AreWaiting, IsRunning, LeadsOn, StepsLeadOn}
+use Rattle.viewed_steps.specs.Sound.{IsResting, HoldsAt, ArePlaced, NoneAbove, ViewStage, stages_of, GoneElsewhere, AreWaiting, IsRunning, LeadsAlong, StepsLeadAlong, LeadsOn, StepsLeadOn}
 use Rattle.viewed_steps.specs.Ready.{IsReady}
 use Rattle.viewed_steps.proofs.Standing as standing
 use Rattle.viewed_steps.proofs.Packages as packages
@@ -57,16 +57,20 @@ module _ (table : Table) (typed : TypedProgram) (effects : Effects) (input : Lis
     abbrev main_turn : Turn
     main_turn = standing.t table typed effects input ready state top older outer named p frames of_sub at_point
 
-    pub main_step : LeadsOn table typed effects (step program input state)
+    -- where it leads, and how the frames come from those before
+    abbrev Along : Outcome → Type 0
+    Along outcome = LeadsAlong table typed effects p.instr state.memory (record { stage = top; views = views }) (below ∷ more_frames) outcome
+
+    pub main_step : Along (step program input state)
     main_step =
-        subst (LeadsOn table typed effects) (sym (standing.step_is table typed effects input ready state top older outer named p frames of_sub at_point))
+        subst Along (sym (standing.step_is table typed effects input ready state top older outer named p frames of_sub at_point))
         (elim (finish_or p.instr) [
-          | inl is ↦ subst (λ i. LeadsOn table typed effects (turn main_turn i)) (sym is) (ends.ends_call table typed effects input ready state top below more_frames rest named p frames deep stages running of_sub at_point path views viewed_before kept scope holds placed_before above is)
+          | inl is ↦ subst (λ i. Along (turn main_turn i)) (sym is) (ends.ends_call table typed effects input ready state top below more_frames rest named p frames deep stages running of_sub at_point path views viewed_before kept scope holds placed_before above is)
           | inr end ↦ elim (end_or p.instr) [
-            | inl (y, is) ↦ subst (λ i. LeadsOn table typed effects (turn main_turn i)) (sym is) (scopes.ends_scope table typed effects input ready state top below more_frames rest named p frames deep stages running of_sub at_point path views viewed_before kept scope holds placed_before above y is)
+            | inl (y, is) ↦ subst (λ i. Along (turn main_turn i)) (sym is) (scopes.ends_scope table typed effects input ready state top below more_frames rest named p frames deep stages running of_sub at_point path views viewed_before kept scope holds placed_before above y is)
             | inr going ↦ elim (calls_cases p.instr (standing.calls_there table typed effects input ready state top older outer named p frames of_sub at_point)) [
               | inl calls ↦ each.goes_plainly table typed effects input ready state top below more_frames rest named p frames deep stages running of_sub at_point path views viewed_before kept scope holds placed_before above going calls end
-              | inr call ↦ subst (λ i. LeadsOn table typed effects (turn main_turn i)) (sym call.2) (calling.calls_it table typed effects input ready state top below more_frames rest named p frames deep stages running of_sub at_point path views viewed_before kept scope holds placed_before above call.0 call.1 call.2 call.3)
+              | inr call ↦ subst (λ i. Along (turn main_turn i)) (sym call.2) (calling.calls_it table typed effects input ready state top below more_frames rest named p frames deep stages running of_sub at_point path views viewed_before kept scope holds placed_before above call.0 call.1 call.2 call.3)
             ]
           ]
         ])
@@ -80,7 +84,8 @@ module _ (table : Table) (typed : TypedProgram) (effects : Effects) (input : Lis
       → Kept s state.memory (waiting_in state)
       → (named : NamedSub) → IsNamedSub (flow_named table typed) top.frame.sub named → (p : NamedPoint) → IsAtPoint named.points top.frame.next p
       → InScope s state.memory top.depth p.scope → HoldsAt s top.depth views state.memory p → ArePlaced program (facts_of program effects top) views p.scope
-      → NoneAbove s top.depth state.memory → LeadsOn table typed effects (step program input state)
+      → NoneAbove s top.depth state.memory
+      → LeadsAlong table typed effects p.instr state.memory (record { stage = top; views = views }) older (step program input state)
   by_stages state top views [] (f ∷ []) is (frame, deep, none) running path seen_well kept named of_sub p at_point scope holds there above =
       packages.package_step table typed effects input ready state top named p (is ∙ ap (λ z. z ∷ []) (sym frame)) deep views running (subst (λ d. NoneAbove s d state.memory) deep above) of_sub at_point path
       (subst (λ d. Viewed (home s d) (is_observer s) (known_gone (home s d) (GoneElsewhere program effects [])) views (view_here s state) (facts_of program effects top)) deep seen_well) kept
@@ -95,7 +100,16 @@ module _ (table : Table) (typed : TypedProgram) (effects : Effects) (input : Lis
   by_stages state top views (below ∷ more) [] is stages running path seen_well kept named of_sub p at_point scope holds there above = absurd stages
   by_stages state top views (below ∷ more) (f ∷ []) is stages running path seen_well kept named of_sub p at_point scope holds there above = absurd stages.2
 
-  pub sound_step : StepsLeadOn table typed effects input
-  sound_step state sound =
+  pub sound_along : StepsLeadAlong table typed effects input
+  sound_along state sound =
       by_stages state sound.top sound.views sound.older state.frames refl sound.stages sound.running sound.path sound.viewed sound.kept sound.named sound.of_sub
       sound.point sound.at_point sound.scope sound.holds sound.placed sound.none_above
+
+  pub sound_step : StepsLeadOn table typed effects input
+  sound_step state sound = leads_on_there (step program input state) (sound_along state sound)
+    where
+      leads_on_there : (outcome : Outcome)
+          → LeadsAlong table typed effects sound.point.instr state.memory (record { stage = sound.top; views = sound.views }) sound.older outcome
+          → LeadsOn table typed effects outcome
+      leads_on_there (Goes next) leads = leads.0
+      leads_on_there (Ends how next) leads = leads

@@ -4,16 +4,17 @@
 -- then, and what was called names no other object of the frame.
 use Rattle.std.specs.Prelude.{◌≡◌, ◌⊎◌, ◌<◌, ℕ, true, false, List, [], ◌∷◌, map, get_or, Option, Some, None}
 use Rattle.spark_base.specs.Lists.{Has}
+use Rattle.spark_base.specs.declared.position.Pos.{Pos}
 use Rattle.place_names.specs.declared.fact.Fact.{Fact}
 use Rattle.place_names.specs.declared.fact.Fact.TheVariants.{Moved, Lent}
 use Rattle.place_names.specs.declared.rule.Loan.{Loan}
 use Rattle.place_names.specs.declared.rule.Loan.TheVariants.{Observed}
 use Rattle.place_names.specs.Names.{Name as PlaceName}
 use Rattle.type_definitions.specs.Types.{Table, full, is_scalar}
-use Rattle.typed_tree.specs.Trees.{TypedTree}
+use Rattle.typed_tree.specs.Trees.{TypedTree, Name, NoMore}
 use Rattle.typed_tree.specs.Programs.{TypedProgram}
 use Rattle.flow_paths.specs.declared.report.Effects.{Effects}
-use Rattle.flow_paths.specs.Instructions.{Call, EndScope}
+use Rattle.flow_paths.specs.Instructions.{Instruction, Declare, Assign, Call, EndScope, Finish}
 use Rattle.flow_paths.specs.Objects.{Typing, object_at, is_formal, is_anonymous, is_observer, is_package_object, has_scope_end, view_of}
 use Rattle.flow_paths.specs.Points.{NamedPoint, FlowPoint}
 use Rattle.flow_paths.specs.Laid.{FlowSub, FlowProgram, NamedSub, flow_typing, flow_program, flow_named}
@@ -181,6 +182,51 @@ pub record IsSound (table : Table) (typed : TypedProgram) (effects : Effects) (s
   pub holds : HoldsAt (flow_typing (flow_program table typed)) top.depth views state.memory point
   pub placed : ArePlaced (flow_program table typed) (facts_of (flow_program table typed) effects top) views point.scope
   pub none_above : NoneAbove (flow_typing (flow_program table typed)) top.depth state.memory
+
+-- ---- where the frames come from
+
+-- An object is declared, or assigned as a whole.
+abbrev pub IsStoredAt : Instruction → ℕ → Type 0
+IsStoredAt i x = ((v : TypedTree) × (i ≡ Declare x v)) ⊎ ((q : Pos) × (u : ℕ) × (e : TypedTree) × (i ≡ Assign (Name q x NoMore u) e))
+
+-- Each view has the way that it had, or is declared or assigned.
+abbrev pub AreTurned : Instruction → Views → Views → Type 0
+AreTurned i before later = (x : ℕ) (w : Way) → later.way x ≡ Some w → (before.way x ≡ Some w) ⊎ IsStoredAt i x
+
+-- The views that are left where the scope of an object ends had their ways, and none begins at the object.
+abbrev pub AreLeft : ℕ → Views → Views → Type 0
+AreLeft y before later = (x : ℕ) (w : Way) → later.way x ≡ Some w → (before.way x ≡ Some w) × (number_of w ≡ y → ⊥)
+
+-- How the frames after a step, with their views, come from those before it, of which `top` is the innermost one: it goes on; the
+-- scope of an object ends; after the last package object the main procedure begins; a procedure is called, which has executed
+-- nothing yet; or a call has ended. A call, and the end of one, changes nothing that owners see in the frames that are left, and
+-- a call moves nothing.
+pub data Follows (program : FlowProgram) (effects : Effects) (i : Instruction) (m : Memory) (top : ViewStage) (older : List ViewStage) (n : Memory) (next : ViewStage) (around : List ViewStage) : Type 0 where
+  steps_on : owners.IsNoCall i → (i ≡ Finish → ⊥) → ((y : ℕ) → i ≡ EndScope y → ⊥) → owners.IsOnward top.stage next.stage
+      → AreTurned i top.views next.views → around ≡ older → Follows program effects i m top older n next around
+  leaves_scope : (y : ℕ) → i ≡ EndScope y → owners.IsOnward top.stage next.stage → AreLeft y top.views next.views → around ≡ older
+      → Follows program effects i m top older n next around
+  begins_main : (below : ViewStage) → older ≡ [] → around ≡ below ∷ [] → owners.IsOnward top.stage below.stage → next.stage.before ≡ []
+      → Follows program effects i m top older n next around
+  calls_one : (waits : Stage) → around ≡ record { stage = waits; views = top.views } ∷ older → owners.IsOnward top.stage waits → next.stage.before ≡ []
+      → ((f : Fact) → Has (facts_of program effects waits) f → Has (facts_of program effects top.stage) f)
+      → owners.AreSameWords (flow_typing program) (λ f. Unit {0}) m n → Follows program effects i m top older n next around
+  ends_one : older ≡ next ∷ around → owners.AreSameWords (flow_typing program) (λ f. f ≡ top.stage.depth → ⊥) m n
+      → Follows program effects i m top older n next around
+
+-- What a step leads to, with where its frames come from.
+abbrev pub LeadsAlong : Table → TypedProgram → Effects → Instruction → Memory → ViewStage → List ViewStage → Outcome → Type 0
+LeadsAlong table typed effects i m top older (Goes state) =
+    (next : IsSound table typed effects state)
+    × Follows (flow_program table typed) effects i m top older state.memory (record { stage = next.top; views = next.views }) next.older
+LeadsAlong table typed effects i m top older (Ends e state) = (IsTrap e → ⊥) × WellOwned (flow_typing (flow_program table typed)) state
+
+-- So it is of each step.
+abbrev pub StepsLeadAlong : Table → TypedProgram → Effects → List ℕ → Type 0
+StepsLeadAlong table typed effects input =
+    (state : State) (sound : IsSound table typed effects state)
+    → LeadsAlong table typed effects sound.point.instr state.memory (record { stage = sound.top; views = sound.views }) sound.older
+    (step (flow_program table typed) input state)
 
 -- ---- what is to be proved
 
