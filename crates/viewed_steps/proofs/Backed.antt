@@ -6,7 +6,7 @@ use Rattle.std.proofs.Common.{◌≡◌, refl, sym, ap, ◌∙◌, subst, ◌⊎
 use Rattle.std.proofs.lemmas.List.{length-map}
 use Rattle.spark_base.specs.Lists.{Has}
 use Rattle.place_names.specs.declared.fact.Fact.{Fact}
-use Rattle.type_definitions.specs.Types.{shape_of, words, full, is_scalar}
+use Rattle.type_definitions.specs.Types.{shape_of, words, full, is_scalar, is_owning}
 use Rattle.flow_paths.specs.Objects.{Typing, object_at, is_anonymous, is_observer, is_package_object, view_of}
 use Rattle.flow_paths.specs.Scopes.{is_within}
 use Rattle.machine.specs.Words.{access_offsets, fits_type}
@@ -22,7 +22,7 @@ use Rattle.owned_ways.proofs.Moving.{parts_apart}
 use Rattle.part_offsets.specs.Parts.{is_leaf, IsSettled}
 use Rattle.soundness.specs.Seen.{content, trunk, steps_in, word_in, seen, home, is_view_formal}
 use Rattle.soundness.specs.Typed.{Matches, OwnsByShape, Kept, Spot, IsFixed}
-use Rattle.soundness.specs.Sound.{IsCopied}
+use Rattle.soundness.specs.Sound.{IsCopied, AreSameWords}
 use Rattle.soundness.proofs.Joined.{trunk_part}
 use Rattle.soundness.proofs.Contents.{word_no}
 use Rattle.soundness.proofs.Steps.{matches_words, no_leaf, taken_slots, room}
@@ -34,6 +34,8 @@ use Rattle.owned_loans.proofs.Safe.{off_view}
 use Rattle.owned_loans.proofs.Moves.{far_named, named_way, same_viewed}
 use Rattle.viewed_soundness.proofs.Names.{true_false, not_view}
 use Rattle.viewed_soundness.proofs.Evaluated.{matches_named}
+use Rattle.viewed_steps.specs.Sound.{IsScalarObject}
+use Rattle.viewed_steps.proofs.Left.{cells_same}
 use Rattle.viewed_steps.specs.Taken.{TakenBy, IsInside, IsPassedOn, IsBare, IsTaken, IsApartFrom, IsAnother, AreTaken}
 use Rattle.viewed_steps.proofs.Between.{gone_also, more_gone, IsClearOf, base_along, base_under, same_variable, not_named, taken_less}
 use Rattle.viewed_steps.proofs.Carried.{inside_at, inside_spot, inside_reached, inside_base, inside_rooted, inside_owns, inside_word, variable_clear, carried_bare, carried_held, carried_off, carried_holds, carried_to}
@@ -74,7 +76,7 @@ module _ (t : Turn) (settled : IsSettled (typing t).table) (own_law : OwnsByShap
   ViewedAway returns ways m = Viewed (home (typing t) depth) (is_observer (typing t)) (away returns ways) v (seen (typing t) m hands leaks) facts
 
   -- All is given back: words are typed; a variable that has a number had it before, or is one of the caller in
-  -- scope; the formals have none; and views keep their words.
+  -- scope; the formals have none; views keep their words; and owners see nothing of scalar formals.
   pub record IsBack (returns : List Return) (m n : Memory) : Type 0 where
     pub typed : Kept (typing t) n hands
     pub viewed : ViewedAway [] [] n
@@ -84,6 +86,7 @@ module _ (t : Turn) (settled : IsSettled (typing t).table) (own_law : OwnsByShap
         → word_in (typing t).table (content (typing t) n [] (OfRoot (OfVariable (suc depth) r.formal))) p ≡ Held c → ⊥
     pub views : (g y : ℕ) → is_anonymous (view_of (typing t) y) ≡ true
         → (get_or (variable_slots (typing t) g y n.variables) 0 no_slot).word ≡ (get_or (variable_slots (typing t) g y m.variables) 0 no_slot).word
+    pub words : ((r : Return) → Has returns r → IsScalarObject (typing t) r.formal) → AreSameWords (typing t) (λ g. Unit {0}) m n
 
   left_more : (r : Return) (rest : List Return) (w : Way) → IsLeft (r ∷ rest) w → IsLeft rest w
   left_more r rest w (x, base, none) = (x, base, λ q has. none q (inr has))
@@ -273,11 +276,25 @@ module _ (t : Turn) (settled : IsSettled (typing t).table) (own_law : OwnsByShap
         same_variable g y depth inside.object
         (sym (trunk_part (OfRoot (OfVariable g y)) p) ∙ ap trunk is ∙ trunk_part at q ∙ trunk_part (OfRoot (OfVariable depth inside.object)) inside.steps)
 
+    -- an object with a number owns
+    owning_there : (y g : ℕ) (p : List Step) (c : ℕ) → word_in s.table (content s next [] (OfRoot (OfVariable g y))) p ≡ Held c → is_owning s.table (object_at s y).of ≡ true
+    owning_there y g p c held = by_type (is_owning s.table (object_at s y).of) refl
+      where
+        by_type : (b : Bool) → is_owning s.table (object_at s y).of ≡ b → b ≡ true
+        by_type true e = refl
+        by_type false e =
+            let none = word_no s.table (content s next [] (OfRoot (OfVariable g y))) p ((keeps s settled own_law).ownerless (object_at s y).of e p) in
+            absurd (no_number (sym none ∙ held))
+          where
+            no_number : Empty ≡ Held c → ⊥
+            no_number e = cc
+
     pub one_held : (g y : ℕ) (p : List Step) (c : ℕ) → word_in s.table (content s next [] (OfRoot (OfVariable g y))) p ≡ Held c
         → (word_in s.table (content s m [] (OfRoot (OfVariable g y))) p ≡ Held c) ⊎ ((g ≡ depth) × (is_within y scope ≡ true))
     one_held g y p c held = elim (holds_next g y p c held) [
       | inl before ↦ inl (held_mid g y p c before)
-      | inr (q, is) ↦ (let there = in_place g y p q is in inr (there.0, ap (λ z. is_within z scope) there.1 ∙ passed.within))
+      | inr (q, is) ↦ (let there = in_place g y p q is in
+          inr (there.0, ap (λ z. is_within z scope) there.1 ∙ passed.within (ap (λ z. is_owning s.table (object_at s z).of) (sym there.1) ∙ owning_there y g p c held)))
     ]
 
     pub one_empty : (p : List Step) (c : ℕ) → word_in s.table (content s next [] (OfRoot (OfVariable (suc depth) r.formal))) p ≡ Held c → ⊥
@@ -359,6 +376,10 @@ module _ (t : Turn) (settled : IsSettled (typing t).table) (own_law : OwnsByShap
       | inr later ↦ back.empty q later
     ];
     views = λ g y view. back.views g y view ∙ on.views g y view;
+    words = λ plain_all. (let more = back.words (λ q has. plain_all q (inr has)) in (
+        λ g y p any. more.0 g y p any ∙ on.hold g y p,
+        λ c p. more.1 c p ∙ cells_same s m later hands leaks on.same c p,
+      ));
   }
 
   copied_first : (r : Return) (rest : List Return) (ways : List Way) (begun : Now) → IsCopied s r → Kept s begun.memory hands
@@ -420,6 +441,7 @@ module _ (t : Turn) (settled : IsSettled (typing t).table) (own_law : OwnsByShap
           ])
         ];
         views = λ g y view. back.views g y view ∙ one_views r rest to ways m taken apart another begin typed viewed g y view;
+        words = λ plain_all. absurd (true_false (is_scalar (full s.table (object_at s r.formal).of)) (plain_all r (inl refl)) (taken.0).many);
       })
       (copied_back t rest (record begun { memory = next }))
       (more next (one_kept r rest to ways m taken apart another begin typed viewed) (one_viewed r rest to ways m taken apart another begin typed viewed)
@@ -433,6 +455,7 @@ module _ (t : Turn) (settled : IsSettled (typing t).table) (own_law : OwnsByShap
     held = λ g y p c held. inl held;
     empty = λ r has. absurd has;
     views = λ g y view. refl;
+    words = λ plain_all. ((λ g y p any. refl), (λ c p. refl));
   }
   all_given_back (r ∷ rest) [] begun taken typed viewed =
       copied_first r rest [] begun taken.0 typed viewed taken.1

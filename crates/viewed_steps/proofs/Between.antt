@@ -1,9 +1,9 @@
 -- A move that a call makes, or its end: no fact changes, and what is gone after it is known otherwise.
-use Rattle.std.proofs.Common.{◌≡◌, refl, sym, ap, ◌∙◌, subst, inl, inr, ℕ, suc, ◌<◌, Bool, List, [], ◌∷◌, arith, Some}
+use Rattle.std.proofs.Common.{◌≡◌, refl, sym, ap, ◌∙◌, subst, ◌⊎◌, inl, inr, ℕ, suc, ◌<◌, Bool, List, [], ◌∷◌, ◌++◌, arith, Some}
 use Rattle.spark_base.specs.Lists.{Has}
 use Rattle.place_names.specs.declared.fact.Fact.{Fact}
 use Rattle.place_names.specs.Names.{Name}
-use Rattle.owned_ways.specs.Ways.{Step, Root, OfVariable, OfHand, Loc, OfRoot, OfCell, Way, Object, Lost, Into, All, Gone, View, part, along, Reaches, IsRooted, Under, Past, Named, base_of, number_of}
+use Rattle.owned_ways.specs.Ways.{Step, Root, OfVariable, OfHand, Loc, OfRoot, OfCell, Way, Object, Lost, Into, All, Gone, Held, View, part, along, Reaches, IsRooted, Under, Past, Named, base_of, number_of}
 use Rattle.owned_ways.proofs.Locations.{past_under, under_along, under_itself}
 use Rattle.owned_ways.proofs.Named.{longer}
 use Rattle.owned_ways.proofs.Moving.{Given, keeps, owned_after, covered_after, known_after}
@@ -11,7 +11,11 @@ use Rattle.owned_ways.proofs.Dropped.{named_base}
 use Rattle.owned_loans.specs.Views.{Around, Views, IsMovedBy, ExcusedBy, Viewed}
 use Rattle.owned_loans.proofs.Ways.{beginnings}
 use Rattle.owned_loans.proofs.Moves.{view_on}
-use Rattle.viewed_steps.specs.Taken.{TakenBy}
+use Rattle.flow_paths.specs.Objects.{Typing}
+use Rattle.machine.specs.Memory.{Memory}
+use Rattle.machine.specs.States.{Return}
+use Rattle.soundness.specs.Seen.{IsNear, content, word_in}
+use Rattle.viewed_steps.specs.Taken.{TakenBy, AreTaken}
 
 -- ---- what is known elsewhere
 
@@ -89,3 +93,42 @@ same_variable f x g y e = (cc, cc)
 pub not_named : (home : ℕ → ℕ) (e x : ℕ) → ((y : ℕ) → home y ≡ e → ⊥) → (w : Way) → Named home w → base_of w ≡ OfRoot (OfVariable e x) → ⊥
 not_named home e x other w named base =
     other (number_of w) (same_variable (home (number_of w)) (number_of w) e x (sym (named_base home w named) ∙ base)).0
+
+-- what was taken is in variables of the frame
+pub taken_from : (s : Typing) (m : Memory) (depth : ℕ) (facts : List Fact) (scope : List ℕ) (returns : List Return) (ways : List Way)
+    → AreTaken s m depth facts scope returns ways → (k : Way) → Has ways k → (y : ℕ) × (base_of k ≡ OfRoot (OfVariable depth y))
+taken_from s m depth facts scope [] ways none k has = absurd (subst (λ z. Has z k) none has)
+taken_from s m depth facts scope (r ∷ rest) [] taken k has = absurd has
+taken_from s m depth facts scope (r ∷ rest) (to ∷ ways) (inl copied) k has = taken_from s m depth facts scope rest (to ∷ ways) copied.1 k has
+taken_from s m depth facts scope (r ∷ rest) (to ∷ ways) (inr (one, apart, another, more)) k (inl same) = (
+  (one.0).inside.object,
+  ap base_of (sym same ∙ (one.0).inside.way) ∙ base_along (Object (OfVariable depth (one.0).inside.object)) (one.0).inside.steps,
+)
+taken_from s m depth facts scope (r ∷ rest) (to ∷ ways) (inr (one, apart, another, more)) k (inr has) = taken_from s m depth facts scope rest ways more k has
+
+pub taken_base : (ways : List Way) (depth : ℕ) → ((k : Way) → Has ways k → (y : ℕ) × (base_of k ≡ OfRoot (OfVariable depth y))) → (w : Way) → TakenBy ways w
+    → (y : ℕ) × (base_of w ≡ OfRoot (OfVariable depth y))
+taken_base ways depth begin w (k, has, p, is) = (let base = begin k has in (base.0, ap base_of is ∙ base_along k p ∙ base.1))
+
+-- it stays so where nothing gets a number in them
+pub still_taken : (s : Typing) (m n : Memory) (depth : ℕ) (facts : List Fact) (scope : List ℕ)
+    → ((y : ℕ) (p : List Step) (c : ℕ) → word_in s.table (content s n [] (OfRoot (OfVariable depth y))) p ≡ Held c
+    → word_in s.table (content s m [] (OfRoot (OfVariable depth y))) p ≡ Held c)
+    → (returns : List Return) (ways : List Way) → AreTaken s m depth facts scope returns ways → AreTaken s n depth facts scope returns ways
+still_taken s m n depth facts scope still [] ways none = none
+still_taken s m n depth facts scope still (r ∷ rest) [] taken = (taken.0, still_taken s m n depth facts scope still rest [] taken.1)
+still_taken s m n depth facts scope still (r ∷ rest) (to ∷ ways) (inl copied) = inl (copied.0, still_taken s m n depth facts scope still rest (to ∷ ways) copied.1)
+still_taken s m n depth facts scope still (r ∷ rest) (to ∷ ways) (inr (one, apart, another, more)) = inr (
+  (one.0, (λ p c held. one.1 p c (still (one.0).inside.object (p ++ (one.0).inside.steps) c held))),
+  apart,
+  another,
+  still_taken s m n depth facts scope still rest ways more,
+)
+
+-- what begins at a variable of a frame between isn't near
+pub near_base : (b : ℕ) (w : Way) (f x : ℕ) → IsNear b w → base_of w ≡ OfRoot (OfVariable f x) → (f ≡ 0) ⊎ (f ≡ b)
+near_base b (Object (OfVariable g y)) f x near base = (let same = (same_variable g y f x base).0 in elim near [ inl e ↦ inl (sym same ∙ e) | inr e ↦ inr (sym same ∙ e) ])
+near_base b (Object (OfHand h)) f x near base = cc
+near_base b (Lost n) f x near base = absurd near
+near_base b (Into w i) f x near base = near_base b w f x near base
+near_base b (All w) f x near base = near_base b w f x near base

@@ -1,20 +1,26 @@
 -- Calls with formals of scalar types: actuals are values of one word, or scalar places in variables; and
 -- owners see nothing of the formals, nor of what is copied back.
-use Rattle.std.proofs.Common.{◌≡◌, refl, sym, ap, ◌∙◌, subst, inl, inr, ℕ, ◌+◌, Bool, true, false, List, [], ◌∷◌, ◌++◌, map, take, drop, length, get_or, Option, Some, None, if◌then◌else◌}
+use Rattle.std.proofs.Common.{◌≡◌, refl, sym, ap, ◌∙◌, subst, ◌⊎◌, inl, inr, ℕ, ◌+◌, append-nil, Bool, true, false, List, [], ◌∷◌, ◌++◌, map, take, drop, length, get_or, Option, Some, None, if◌then◌else◌}
 use Rattle.std.proofs.lemmas.List.{length-map}
 use Rattle.spark_base.specs.Lists.{Has}
+use Rattle.spark_base.proofs.Lists.{Has-append_cases}
 use Rattle.spark_base.specs.declared.position.Pos.{Pos}
+use Rattle.place_names.specs.declared.act.Act.{Act}
 use Rattle.place_names.specs.declared.act.Act.TheVariants as act
 use Rattle.place_names.specs.declared.act.Mode.{Mode}
 use Rattle.place_names.specs.declared.act.Mode.TheVariants as mode
 use Rattle.place_names.specs.declared.act.Placed.{Placed}
 use Rattle.place_names.specs.declared.fact.Fact.{Fact}
-use Rattle.place_names.specs.Facts.{effect}
-use Rattle.type_definitions.specs.Types.{Table, shape_of, words, full, is_scalar}
-use Rattle.typed_tree.specs.Trees.{TypedTree, Name, Component as IntoComponent, Designated, Element, More}
-use Rattle.flow_paths.specs.Objects.{Typing, object_at, is_anonymous, is_observer, view_of, Passing, ByValue}
-use Rattle.flow_paths.specs.Names.{Written, written, has_call, name_of}
-use Rattle.flow_paths.specs.Acts.{naming, acts_in, index_acts, actual_act, actual_acts, actual_values}
+use Rattle.place_names.specs.Names.{Name as PlaceName}
+use Rattle.place_names.specs.Facts.{adds, effect}
+use Rattle.type_definitions.specs.Types.{Table, shape_of, words, full, is_scalar, is_owning, parts}
+use Rattle.typed_tree.specs.Trees.{TypedTree, Number, Literal, Text, Name, Component as IntoComponent, Designated, Element, Call, EndOfFile, Parens, Image, Unary, Binary, Short, IsNull, Aggregate, Alike, New, NoMore, More}
+use Rattle.typed_tree.specs.Trees as typed
+use Rattle.flow_paths.specs.Objects.{Typing, object_at, sub_at, is_anonymous, is_observer, is_named_access, is_package_object, view_of, Passing, ByValue, passing, passing_by, passings}
+use Rattle.flow_paths.specs.Objects as objects
+use Rattle.flow_paths.specs.Names.{Written, written, is_empty, has_call, name_of}
+use Rattle.flow_paths.specs.Laid.{FlowProgram, flow_typing}
+use Rattle.flow_paths.specs.Acts.{placed, naming, used, acts_in, index_acts, actual_act, actual_acts, actual_values}
 use Rattle.machine.specs.Words.{access_offsets, fits_type}
 use Rattle.machine.specs.Words as machine
 use Rattle.machine.specs.Memory.{Slot, Memory, Base, Place, fresh, no_slot, variable_slots, slots_at, slots_of, words_of, gone_at, with_slots, stored, moved_out, declared}
@@ -22,19 +28,18 @@ use Rattle.machine.specs.Memory as memory
 use Rattle.machine.specs.Evaluate.{Here, Now, AsValue, AsView, Evaluated, Done, Raises, Traps, ConstraintError, followed_by, evaluate, indexed, steps_of, walked, place_of, variable_place, component_place, element_place, checked, value, viewed}
 use Rattle.machine.specs.Evaluate as run
 use Rattle.machine.specs.Calls.{Passed, Value, From, To, type_of, value_passed, passed, all_passed, with_formal, with_formals}
-use Rattle.machine.specs.States.{Waiting, Leak, Return}
+use Rattle.machine.specs.States.{Waiting, Leak, Return, sub_of}
 use Rattle.machine.specs.Step.{Turn, typing, here, copied_back}
 use Rattle.machine.specs.Owners.{is_in}
-use Rattle.owned_ways.specs.Ways.{Step, Component, OfVariable, Loc, OfRoot, Way, Object, Into, Empty, Named, Past, IsRooted, Reaches, IsSame, AllowsAll, after, part}
+use Rattle.owned_ways.specs.Ways.{Step, Root, Component, OfVariable, Loc, OfRoot, Way, Object, Into, Empty, Named, Past, IsRooted, Reaches, IsSame, AllowsAll, after, part, along}
 use Rattle.owned_ways.specs.Ways as ways
 use Rattle.part_offsets.specs.Parts.{type_in, offset_in, has_part, IsSettled}
 use Rattle.soundness.specs.Seen.{IsNear, Content, content, trunk, steps_in, word_in, seen, home}
 use Rattle.soundness.specs.Typed.{Matches, OwnsByShape, Kept, Spot, IsFixed, loc_of}
 use Rattle.soundness.specs.Sound.{goes_through_none, AreCopied, IsCopied}
-use Rattle.soundness.specs.Ready.{IsActualBy, AreActuals}
-use Rattle.typed_laws.specs.Needed.{Stays, IndexLaw, IsPlace as IsPlaceOf}
-use Rattle.soundness.proofs.Contents.{word_no, word_part}
-use Rattle.soundness.proofs.Joined.{leaf_join}
+use Rattle.typed_laws.specs.Needed.{Stays, Leads, IndexLaw, IsPlace as IsPlaceOf}
+use Rattle.soundness.proofs.Contents.{bool_cases, word_no, word_part}
+use Rattle.soundness.proofs.Joined.{leaf_join, steps_part}
 use Rattle.soundness.proofs.Memories.{put_other, marked_length}
 use Rattle.soundness.proofs.Steps.{no_leaf, plain_end, room, taken_slots}
 use Rattle.soundness.proofs.Keeping.{scalar}
@@ -45,14 +50,18 @@ use Rattle.soundness.proofs.Scalars.{acts, acts_append, after_append, allows_bot
 use Rattle.soundness.proofs.Stays.{One, Quiet, quiet_then}
 use Rattle.soundness.proofs.Walks.{Lead, way_along, Walked, walk}
 use Rattle.soundness.proofs.Waits.{or_both}
-use Rattle.soundness.proofs.Passing.{IsRead, AreReads, IsLaid, AreLaid, way_by, way_of, reads_keep, head_acts, head_values, head_reads}
+use Rattle.soundness.proofs.Passing.{IsRead, AreReads, AddNone, IsLaid, AreLaid, plain_type, reads_keep, read_adds_none, signature_is}
 use Rattle.soundness.proofs.Returning.{Backs, copied_is, formal_fixed}
 use Rattle.owned_loans.specs.Views.{Around, Views, expand, ExcusedBy, Viewed}
 use Rattle.owned_loans.proofs.Moves.{IsPlace}
-use Rattle.viewed_soundness.specs.Holds.{PartsAreNamed, Holds}
+use Rattle.viewed_soundness.specs.Holds.{IsNamed, PartsAreNamed, Holds}
 use Rattle.viewed_soundness.proofs.Names.{Starts, true_false, view_access, is_place}
 use Rattle.viewed_soundness.proofs.Stays.{Goes as GoesAlong, quiet, steps_quiet}
+use Rattle.viewed_soundness.proofs.Evaluated.{matches_named}
 use Rattle.viewed_soundness.proofs.Outcomes.{named_plain}
+use Rattle.viewed_steps.specs.Taken.{IsInside}
+use Rattle.viewed_steps.specs.Sound.{IsScalarObject, IsKindOfFormal}
+use Rattle.viewed_steps.specs.Ready.{IsOwnPlace, IsActualTo, AreActualsTo}
 use Rattle.viewed_steps.proofs.Read.{scalar_named}
 use Rattle.viewed_steps.proofs.Released.{nothing_written}
 use Rattle.viewed_steps.proofs.Beside.{put_beside}
@@ -131,6 +140,198 @@ both_quiet now P (Done way n) is direct = (is.0, (is.1, direct))
 both_quiet now P (Raises e n) is direct = is
 both_quiet now P (Traps t n) is direct = is
 
+-- the ways of such names are parts of variables
+direct_part : (r : Root) (way : List run.Step) → IsDirect way → (p : List Step) → (q : List Step) × (way_along way (along (Object r) p) ≡ along (Object r) q)
+direct_part r [] direct p = (p, refl)
+direct_part r (run.ToComponent i ∷ way) direct p = direct_part r way direct (Component i ∷ p)
+direct_part r (run.ToElement n ∷ way) direct p = direct_part r way direct (ways.Element n ∷ p)
+direct_part r (run.ToDesignated ∷ way) direct p = absurd direct
+
+part_reached : (view : ways.View) (r : Root) (q : List Step) (l : Loc) → Reaches view (along (Object r) q) l → l ≡ part (OfRoot r) q
+part_reached view r [] l is = is
+part_reached view r (i ∷ q) l (m, reach, is) = is ∙ ap (λ z. ways.Inside z i) (part_reached view r q m reach)
+
+-- ---- acts that read
+
+no_reads : AreReads []
+no_reads p has = absurd has
+
+one_read : (p : Placed) → IsRead p → AreReads (p ∷ [])
+one_read p read q (inl e) = subst IsRead e read
+one_read p read q (inr never) = absurd never
+
+both_reads : (ps qs : List Placed) → AreReads ps → AreReads qs → AreReads (ps ++ qs)
+both_reads ps qs h g p has = elim (Has-append_cases ps qs p has) [ inl l ↦ h p l | inr r ↦ g p r ]
+
+if_reads : (b : Bool) (ps : List Placed) → AreReads ps → AreReads (if b then [] else ps)
+if_reads true ps h = no_reads
+if_reads false ps h = h
+
+naming_adds : (w : Option Written) (act_of : PlaceName → Act) → ((m : PlaceName) → adds (act_of m) ≡ []) → AddNone (naming w act_of)
+naming_adds None act_of none p has f new = has
+naming_adds (Some w) act_of none p (inl e) f new = subst (λ z. Has z f) (ap (λ (z : Placed). adds z.act) (sym e) ∙ none w.name) new
+naming_adds (Some w) act_of none p (inr never) f new = never
+
+module _ (s : Typing) (own_law : OwnsByShape s.table) where
+  used_read : (m : PlaceName) (t : ℕ) → is_scalar (full s.table t) ≡ true → used s m t ≡ act.Read m
+  used_read m t e = ap (λ b. if b then act.Move m (parts s.table t) else act.Read m) (plain_type s own_law t e)
+
+  mutual
+    unfolding Stays Leads acts_in
+
+    reads_in : (e : TypedTree) → Stays s e → AreReads (acts_in s e)
+    reads_in (Name p x steps t) (leads, plain) =
+        both_reads (acts_in s steps) (placed p (used s (name_of x steps) t) ∷ []) (steps_read (object_at s x).of t steps leads)
+        (one_read (placed p (used s (name_of x steps) t)) (name_of x steps, inl (used_read (name_of x steps) t plain)))
+    reads_in (Parens e) stays = reads_in e stays
+    reads_in (Unary op e) stays = reads_in e stays
+    reads_in (Binary op a b) stays = both_reads (acts_in s a) (acts_in s b) (reads_in a stays.0) (reads_in b stays.1)
+    reads_in (Short op p a q b) stays =
+        if_reads (has_call b) (acts_in s a ++ acts_in s b) (both_reads (acts_in s a) (acts_in s b) (reads_in a stays.0) (reads_in b stays.1))
+    reads_in (IsNull equal (Name p x steps t)) leads =
+        both_reads (acts_in s steps) (placed p (act.Look (name_of x steps)) ∷ []) (steps_read (object_at s x).of t steps leads)
+        (one_read (placed p (act.Look (name_of x steps))) (name_of x steps, inr refl))
+    reads_in (IsNull equal (Call p sub actuals)) stays = no_reads
+    reads_in (IsNull equal e) stays = absurd stays
+    reads_in (Call p sub actuals) stays = no_reads
+    reads_in (Number v) stays = no_reads
+    reads_in (Literal n) stays = no_reads
+    reads_in typed.Null stays = no_reads
+    reads_in EndOfFile stays = no_reads
+    reads_in (Text b) stays = absurd stays
+    reads_in (Image t e) stays = absurd stays
+    reads_in NoMore stays = absurd stays
+    reads_in (More e rest) stays = absurd stays
+    reads_in (Aggregate t es) stays = absurd stays
+    reads_in (Alike t e) stays = absurd stays
+    reads_in (New t v) stays = absurd stays
+    reads_in (IntoComponent i rest) stays = absurd stays
+    reads_in (Designated rest) stays = absurd stays
+    reads_in (Element index low high rest) stays = absurd stays
+
+    steps_read : (t u : ℕ) (steps : TypedTree) → Leads s t steps u → AreReads (acts_in s steps)
+    steps_read t u (IntoComponent i rest) (less, leads) = steps_read _ u rest leads
+    steps_read t u (Designated rest) (d, c, n, is, leads) = steps_read d u rest leads
+    steps_read t u (Element index low high rest) (e, is, stays, leads) =
+        both_reads (acts_in s index) (acts_in s rest) (reads_in index stays) (steps_read e u rest leads)
+    steps_read t u NoMore leads = no_reads
+    steps_read t u steps leads = absurd leads
+
+  index_reads : (e : TypedTree) (t : ℕ) → IsPlaceOf s e t → AreReads (index_acts s e)
+  index_reads (Name p x path u) t place = steps_read (object_at s x).of u path place.0
+  index_reads e t place = absurd place
+
+-- ---- how actuals are passed to a procedure
+
+-- By the mode: those of mode `in` by value.
+abbrev pub ByModeFor : Mode → Bool → Type 0
+ByModeFor m owning = m ≡ mode.In → owning ≡ false
+
+module _ (s : Typing) (own_law : OwnsByShape s.table) where
+  abbrev pub way_to : ℕ → Passing
+  way_to x = passing s true x
+
+  -- a formal of mode `in` is of a scalar type
+  pub in_plain : (x : ℕ) → IsKindOfFormal s x → ByModeFor (object_at s x).mode (is_owning s.table (object_at s x).of)
+  in_plain x (inl plain) is = plain_type s own_law (object_at s x).of plain
+  in_plain x (inr (in_out, own)) is = (let no : mode.InOut ≡ mode.In = sym in_out ∙ is in cc)
+
+  abbrev pub head_of : Mode → TypedTree → List Placed
+  head_of mode.In e = acts_in s e
+  head_of m e = index_acts s e
+
+  head_is : (m : Mode) (owning access : Bool) → ByModeFor m owning → (e : TypedTree) (ways : List Passing) (rest : TypedTree)
+      → actual_values s (passing_by m owning access ∷ ways) (More e rest) ≡ head_of m e ++ actual_values s ways rest
+  head_is mode.In owning access fits e ways rest =
+      ap (λ b. actual_values s ((if b then objects.Place mode.In b access else ByValue) ∷ ways) (More e rest)) (fits refl)
+  head_is mode.Out owning access fits e ways rest = refl
+  head_is mode.InOut owning access fits e ways rest = refl
+
+  pub head_values_are : (x : ℕ) → IsKindOfFormal s x → (e : TypedTree) (ways : List Passing) (rest : TypedTree)
+      → actual_values s (way_to x ∷ ways) (More e rest) ≡ head_of (object_at s x).mode e ++ actual_values s ways rest
+  head_values_are x kind e ways rest =
+      head_is (object_at s x).mode (is_owning s.table (object_at s x).of) (is_named_access (view_of s x)) (in_plain x kind) e ways rest
+
+  pub head_of_reads : (x : ℕ) (m : Mode) (e : TypedTree) → IsActualTo s x m e → AreReads (head_of m e)
+  head_of_reads x mode.In e stays = reads_in s own_law e stays
+  head_of_reads x mode.Out e place = index_reads s own_law e place.0 place.1
+  head_of_reads x mode.InOut e place = index_reads s own_law e place.0 place.1
+
+  none_of : (m : Mode) (owning access : Bool) → ByModeFor m owning → (ways : List Passing) (actuals : TypedTree) → is_empty actuals ≡ true
+      → AreReads (actual_values s (passing_by m owning access ∷ ways) actuals)
+  none_of mode.In owning access fits ways actuals none =
+      subst (λ b. AreReads (actual_values s ((if b then objects.Place mode.In b access else ByValue) ∷ ways) actuals)) (sym (fits refl)) (by_value ways actuals none)
+    where
+      by_value : (ways : List Passing) (actuals : TypedTree) → is_empty actuals ≡ true → AreReads (actual_values s (ByValue ∷ ways) actuals)
+      by_value ways (More e rest) none = cc
+      by_value ways actuals none = λ p has. absurd has
+  none_of mode.Out owning access fits ways (More e rest) none = cc
+  none_of mode.Out owning access fits ways actuals none = λ p has. absurd has
+  none_of mode.InOut owning access fits ways (More e rest) none = cc
+  none_of mode.InOut owning access fits ways actuals none = λ p has. absurd has
+
+  pub values_are_read : (formals : List ℕ) (actuals : TypedTree) → ((x : ℕ) → Has formals x → IsKindOfFormal s x) → AreActualsTo s formals actuals
+      → AreReads (actual_values s (map way_to formals) actuals)
+  values_are_read [] actuals kinds stay = λ p has. absurd has
+  values_are_read (x ∷ formals) (More e rest) kinds stay =
+      subst AreReads (sym (head_values_are x (kinds x (inl refl)) e (map way_to formals) rest))
+      (both_reads (head_of (object_at s x).mode e) (actual_values s (map way_to formals) rest)
+      (head_of_reads x (object_at s x).mode e stay.0) (values_are_read formals rest (λ y has. kinds y (inr has)) stay.1))
+  values_are_read (x ∷ formals) actuals kinds stay =
+      none_of (object_at s x).mode (is_owning s.table (object_at s x).of) (is_named_access (view_of s x)) (in_plain x (kinds x (inl refl))) (map way_to formals) actuals refl
+
+  -- those of places that are copied back to add no fact, and end no scope
+  copy_adds : (m : Mode) (owning access : Bool) (e : TypedTree) → AddNone (actual_act (passing_by m owning access) e)
+  copy_adds mode.In true access e = naming_adds (written e) (λ k. act.Actual k mode.In true access) (λ n. refl)
+  copy_adds mode.In false access e = λ p has f new. has
+  copy_adds mode.Out owning access e = naming_adds (written e) (λ k. act.Actual k mode.Out owning access) (λ n. refl)
+  copy_adds mode.InOut owning access e = naming_adds (written e) (λ k. act.Actual k mode.InOut owning access) (λ n. refl)
+
+  pub copies_add : (formals : List ℕ) (actuals : TypedTree) → AddNone (actual_acts (map way_to formals) actuals)
+  copies_add [] actuals p has f new = has
+  copies_add (x ∷ formals) (More e rest) p has f new =
+      elim (Has-append_cases (actual_act (way_to x) e) (actual_acts (map way_to formals) rest) p has) [
+        | inl l ↦ copy_adds (object_at s x).mode (is_owning s.table (object_at s x).of) (is_named_access (view_of s x)) e p l f new
+        | inr r ↦ copies_add formals rest p r f new
+      ]
+  copies_add (x ∷ formals) actuals p has f new = has
+
+  pub call_adds_none : (formals : List ℕ) (actuals : TypedTree) → ((x : ℕ) → Has formals x → IsKindOfFormal s x) → AreActualsTo s formals actuals
+      → AddNone (actual_values s (map way_to formals) actuals ++ actual_acts (map way_to formals) actuals)
+  call_adds_none formals actuals kinds stay p has f new =
+      elim (Has-append_cases (actual_values s (map way_to formals) actuals) (actual_acts (map way_to formals) actuals) p has) [
+        | inl l ↦ read_adds_none p (values_are_read formals actuals kinds stay p l) f new
+        | inr r ↦ copies_add formals actuals p r f new
+      ]
+
+  spare_copy : (m : Mode) (owning access : Bool) (e : TypedTree) → Spare s (actual_act (passing_by m owning access) e)
+  spare_copy mode.In true access e = spare_naming s (written e) (λ k. act.Actual k mode.In true access) (λ n. refl)
+  spare_copy mode.In false access e = tt
+  spare_copy mode.Out owning access e = spare_naming s (written e) (λ k. act.Actual k mode.Out owning access) (λ n. refl)
+  spare_copy mode.InOut owning access e = spare_naming s (written e) (λ k. act.Actual k mode.InOut owning access) (λ n. refl)
+
+  pub spare_copies : (formals : List ℕ) (actuals : TypedTree) → Spare s (actual_acts (map way_to formals) actuals)
+  spare_copies [] actuals = tt
+  spare_copies (x ∷ formals) (More e rest) =
+      spare_both s (actual_act (way_to x) e) (actual_acts (map way_to formals) rest)
+      (spare_copy (object_at s x).mode (is_owning s.table (object_at s x).of) (is_named_access (view_of s x)) e) (spare_copies formals rest)
+  spare_copies (x ∷ formals) actuals = tt
+
+-- all formals of a procedure are passed so
+pub passes_to : (program : FlowProgram) (n : ℕ) → (sub_of program n).result ≡ None
+    → passings (flow_typing program) (sub_at (flow_typing program) n) ≡ map (passing (flow_typing program) true) (sub_of program n).formals
+passes_to program n none =
+    ap (passings (flow_typing program)) (signature_is program n)
+    ∙ ap (λ z. passings (flow_typing program) (record { formals = (sub_of program n).formals; result = z })) none
+
+pub spare_reads : (s : Typing) (ps : List Placed) → AreReads ps → Spare s ps
+spare_reads s [] reads = tt
+spare_reads s (p ∷ ps) reads = (one p (reads p (inl refl)), spare_reads s ps (λ q has. reads q (inr has)))
+  where
+    one : (p : Placed) → IsRead p → ends s p.act ≡ false
+    one p (m, inl e) = ap (ends s) e
+    one p (m, inr e) = ap (ends s) e
+
 -- ---- the actuals
 
 module _ (h : Here) (settled : IsSettled h.typing.table) (hands : List Waiting) (leaks : List Leak) (m : Memory) (waits : List (List machine.Word))
@@ -147,7 +348,10 @@ module _ (h : Here) (settled : IsSettled h.typing.table) (hands : List Waiting) 
   at = record { memory = m; waits = waits }
 
   abbrev ways_of : List ℕ → List Passing
-  ways_of formals = map (way_of h.typing own_law) formals
+  ways_of formals = map (way_to h.typing own_law) formals
+
+  abbrev IsKind : ℕ → Type 0
+  IsKind x = IsKindOfFormal h.typing x
 
   -- ---- values
 
@@ -189,6 +393,12 @@ module _ (h : Here) (settled : IsSettled h.typing.table) (hands : List Waiting) 
 
   abbrev IsPut : TypedTree → Place → Type 0
   IsPut e k = IsFixed h.typing k × Reached e k
+
+  -- A place in a variable of the frame: the way of the name.
+  abbrev pub IsOwnPut : ℕ → TypedTree → Place → Type 0
+  IsOwnPut x (Name p y path u) k =
+      (to : Way) × (inside : IsInside h.typing h.frame k to) × (ways.name_of to ≡ name_of y path) × (inside.object ≡ y) × Matches h.typing.table k.of (object_at h.typing x).of
+  IsOwnPut x e k = ⊥
 
   from_walked : (p : Pos) (x u : ℕ) (path : TypedTree) (w : Way) → is_scalar (full h.typing.table u) ≡ true → Named (home h.typing h.frame) w
       → ways.name_of w ≡ name_of x path → IsPlace v w → expand v w ≡ w → (y : Evaluated Place) → Walked h.typing settled hands leaks m waits w u y
@@ -241,82 +451,165 @@ module _ (h : Here) (settled : IsSettled h.typing.table) (hands : List Waiting) 
       (λ way both. walk_given p x u path way (subst (λ z. is_scalar (full h.typing.table z) ≡ true) (sym type) plain) both.0 both.1)
   place_given e t place plain none direct allowed = absurd place
 
+  own_walked : (p : Pos) (x y u : ℕ) (path : TypedTree) (q : List Step) (w : Way) → IsNamed h.typing.table u → Matches h.typing.table u (object_at h.typing x).of
+      → is_package_object h.typing y ≡ false → w ≡ along (Object (OfVariable (home h.typing h.frame y) y)) q
+      → ways.name_of w ≡ name_of y path → (z : Evaluated Place) → Walked h.typing settled hands leaks m waits w u z
+      → IsIn (memory.OfVariable (home h.typing h.frame y) y) z → Quiet at (λ k. IsOwnPut x (Name p y path u) k) z
+  own_walked p x y u path q w own fits local is called (Done k n) (l, same, spot, reaches, of) base =
+      let root : Root = OfVariable (home h.typing h.frame y) y in
+      let b : trunk l ≡ OfRoot root = spot.base ∙ ap loc_of base in
+      let at_home : home h.typing h.frame y ≡ h.frame = ap (λ z. if z then 0 else h.frame) local in
+      let stands : l ≡ part (OfRoot root) q = part_reached (seen h.typing m hands leaks) root q l (subst (λ z. Reaches (seen h.typing m hands leaks) z l) is reaches) in
+      let steps_are : steps_in l ≡ q = ap steps_in stands ∙ steps_part (OfRoot root) q ∙ append-nil q in (
+        same,
+        (
+          w,
+          record {
+            object = y;
+            steps = steps_in l;
+            way = is ∙ (λ j. along (Object (OfVariable (at_home j) y)) (sym steps_are j));
+            base = base ∙ ap (λ z. memory.OfVariable z y) at_home;
+            own = local;
+            there = ap (λ z. has_part h.typing.table (content h.typing m hands z).of (steps_in l)) (sym b) ∙ spot.there;
+            at = spot.at ∙ ap (λ z. offset_in h.typing.table (content h.typing m hands z).of (steps_in l)) b;
+            of = subst (λ z. Matches h.typing.table k.of (type_in h.typing.table (content h.typing m hands z).of (steps_in l))) b spot.of;
+            named = subst (IsNamed h.typing.table) (sym of) own;
+          },
+          called,
+          refl,
+          subst (λ z. Matches h.typing.table z (object_at h.typing x).of) (sym of) fits,
+        ),
+      )
+  own_walked p x y u path q w own fits local is called (Raises e n) there base = there
+  own_walked p x y u path q w own fits local is called (Traps t n) never base = absurd never
+
+  own_given : (x : ℕ) (p : Pos) (y u : ℕ) (path : TypedTree) (way : List run.Step) → IsNamed h.typing.table u → Matches h.typing.table u (object_at h.typing x).of
+      → is_package_object h.typing y ≡ false → GoesAlong h.typing.table (object_at h.typing y).of u path way → IsDirect way
+      → Quiet at (λ k. IsOwnPut x (Name p y path u) k) (walked h.typing way (variable_place h y) at)
+  own_given x p y u path way own fits local goes direct =
+      let root : Way = Object (OfVariable (home h.typing h.frame y) y) in
+      let flat = direct_part (OfVariable (home h.typing h.frame y) y) way direct [] in
+      own_walked p x y u path flat.0 (way_along way root) own fits local flat.1
+      (λ j. record { root = number_along way root j; sels = goes.sels root j })
+      (walked h.typing way (variable_place h y) at)
+      (walk h.typing settled hands leaks m waits (ExcusedBy (home h.typing h.frame) v other facts) kept well.owned well.known live way (variable_place h y)
+      (OfRoot (OfVariable (home h.typing h.frame y) y)) root u
+      (record { base = refl; made = tt; at = refl; there = refl; of = inl refl }) tt refl (direct_leads h.typing.table (object_at h.typing y).of u way direct goes.lead)
+      (λ z past moved. past_none way direct root (λ y never. never) z past))
+      (walked_in h.typing way direct (variable_place h y) at)
+
+  own_place_given : (x : ℕ) (e : TypedTree) (t : ℕ) → IsPlaceOf h.typing e t → IsNamed h.typing.table t → Matches h.typing.table t (object_at h.typing x).of
+      → IsOwnPlace h.typing e → has_call e ≡ false → goes_through_none e ≡ true
+      → AllowsAll facts (acts (index_acts h.typing e)) → Quiet at (λ k. IsOwnPut x e k) (place_of h e at)
+  unfolding has_call goes_through_none
+  own_place_given x (Name p y path u) t (leads, type) own fits local none direct allowed =
+      let inner = steps_quiet h settled hands leaks m waits other facts v kept well holds alone live index_law own_law parts_named (object_at h.typing y).of u path leads none allowed in
+      quiet_then at (λ way. GoesAlong h.typing.table (object_at h.typing y).of u path way × IsDirect way) (λ k. IsOwnPut x (Name p y path u) k) (steps_of h path at)
+      (λ way now. walked h.typing way (variable_place h y) now)
+      (both_quiet at (λ way. GoesAlong h.typing.table (object_at h.typing y).of u path way) (steps_of h path at) inner.0 (steps_direct h path direct at))
+      (λ way both. own_given x p y u path way (subst (IsNamed h.typing.table) (sym type) own) (subst (λ z. Matches h.typing.table z (object_at h.typing x).of) (sym type) fits)
+      (local y (inl refl)) both.0 both.1)
+  own_place_given x e t place own fits local none direct allowed = absurd place
+
   -- ---- all of them
 
-  -- What is passed for an actual, by the mode.
-  abbrev pub IsGiven : Mode → TypedTree → Passed → Type 0
-  IsGiven mode.In e (Value ws) = One ws
-  IsGiven mode.Out e (To k) = IsPut e k
-  IsGiven mode.InOut e (From k) = IsPut e k
-  IsGiven m' e a = ⊥
+  -- What is passed for an actual, by the mode: a scalar value, a scalar place in a variable, or another
+  -- place in a variable of the frame.
+  abbrev pub IsGiven : ℕ → Mode → TypedTree → Passed → Type 0
+  IsGiven x mode.In e (Value ws) = One ws
+  IsGiven x mode.Out e (To k) = IsPut e k
+  IsGiven x mode.InOut e (From k) =
+      (IsScalarObject h.typing x × IsPut e k) ⊎ ((is_scalar (full h.typing.table (object_at h.typing x).of) ≡ false) × IsOwnPut x e k)
+  IsGiven x m' e a = ⊥
 
   abbrev pub AreGiven : List ℕ → TypedTree → List Passed → Type 0
-  AreGiven (x ∷ formals) (More e rest) (a ∷ passed) = IsGiven (object_at h.typing x).mode e a × AreGiven formals rest passed
+  AreGiven (x ∷ formals) (More e rest) (a ∷ passed) = IsGiven x (object_at h.typing x).mode e a × AreGiven formals rest passed
   AreGiven (x ∷ formals) (More e rest) [] = ⊥
   AreGiven formals actuals passed = passed ≡ []
 
-  value_is : (e : TypedTree) (y : Evaluated Passed) → Quiet at (λ a. IsValue a) y → Quiet at (λ a. IsGiven mode.In e a) y
-  value_is e (Done (Value ws) n) is = is
-  value_is e (Done (From k) n) is = absurd is.1
-  value_is e (Done (To k) n) is = absurd is.1
-  value_is e (Raises x n) is = is
-  value_is e (Traps x n) is = is
+  value_is : (x : ℕ) (e : TypedTree) (y : Evaluated Passed) → Quiet at (λ a. IsValue a) y → Quiet at (λ a. IsGiven x mode.In e a) y
+  value_is x e (Done (Value ws) n) is = is
+  value_is x e (Done (From k) n) is = absurd is.1
+  value_is x e (Done (To k) n) is = absurd is.1
+  value_is x e (Raises y n) is = is
+  value_is x e (Traps y n) is = is
 
   abbrev IsCopiedName : Mode → TypedTree → Type 0
   IsCopiedName m' e = is_in m' ≡ false → goes_through_none e ≡ true
 
-  one_given : (mode_of : Mode) (x : ℕ) (e : TypedTree) → IsActualBy h.typing mode_of e → IsCopiedName mode_of e → has_call e ≡ false
-      → AllowsAll facts (acts (head_acts h.typing own_law mode_of e)) → Quiet at (λ a. IsGiven mode_of e a) (passed h (way_by h.typing own_law mode_of) x e at)
-  one_given mode.In x e actual copied none allowed = value_is e (passed h ByValue x e at) (value_given x e actual none allowed)
-  one_given mode.Out x e actual copied none allowed =
-      quiet_then at (λ k. IsPut e k) (λ a. IsGiven mode.Out e a) (place_of h e at) (λ k now. Done (To k) now)
-      (place_given e actual.0 actual.1 actual.2 none (copied refl) allowed) (λ k put. (refl, put))
-  one_given mode.InOut x e actual copied none allowed =
-      quiet_then at (λ k. IsPut e k) (λ a. IsGiven mode.InOut e a) (place_of h e at)
-      (λ k now. followed_by (checked h (type_of h x) (words_of h.typing now.memory k) now) (λ ws now. Done (From k) now))
-      (place_given e actual.0 actual.1 actual.2 none (copied refl) allowed)
-      (λ k put. quiet_then at (λ (ws : List machine.Word). Unit {0}) (λ a. IsGiven mode.InOut e a) (checked h (type_of h x) (words_of h.typing m k) at)
-      (λ ws now. Done (From k) now) (checked_quiet (λ ws. Unit {0}) (type_of h x) (words_of h.typing m k) tt) (λ ws any. (refl, put)))
+  abbrev from_place : ℕ → Place → Now → Evaluated Passed
+  from_place x k now = followed_by (checked h (type_of h x) (words_of h.typing now.memory k) now) (λ ws now. Done (From k) now)
 
-  pub all_given : (formals : List ℕ) (actuals : TypedTree) → AreActuals h.typing formals actuals → AreCopied h.typing formals actuals → has_call actuals ≡ false
+  from_given : (x : ℕ) (e : TypedTree) (P : Place → Type 0) → ((k : Place) → P k → IsGiven x mode.InOut e (From k)) → Quiet at P (place_of h e at)
+      → Quiet at (λ a. IsGiven x mode.InOut e a) (followed_by (place_of h e at) (from_place x))
+  from_given x e P on there =
+      quiet_then at P (λ a. IsGiven x mode.InOut e a) (place_of h e at) (from_place x) there
+      (λ k put. quiet_then at (λ (ws : List machine.Word). Unit {0}) (λ a. IsGiven x mode.InOut e a) (checked h (type_of h x) (words_of h.typing m k) at)
+      (λ ws now. Done (From k) now) (checked_quiet (λ ws. Unit {0}) (type_of h x) (words_of h.typing m k) tt) (λ ws any. (refl, on k put)))
+
+  scalar_type : (t u : ℕ) → Matches h.typing.table t u → is_scalar (full h.typing.table u) ≡ true → is_scalar (full h.typing.table t) ≡ true
+  scalar_type t u (inl e) plain = matches_scalar h.typing u t (inl (sym e)) plain
+  scalar_type t u (inr both) plain = both.0
+
+  in_out_given : (x : ℕ) (e : TypedTree) → IsKind x → IsActualTo h.typing x mode.InOut e → goes_through_none e ≡ true → has_call e ≡ false
+      → AllowsAll facts (acts (index_acts h.typing e)) → Quiet at (λ a. IsGiven x mode.InOut e a) (followed_by (place_of h e at) (from_place x))
+  in_out_given x e kind (t, place, fits, which) direct none allowed = elim (bool_cases (is_scalar (full h.typing.table (object_at h.typing x).of))) [
+    | inl plain ↦ from_given x e (λ k. IsPut e k) (λ k put. inl (plain, put))
+        (place_given e t place (scalar_type t (object_at h.typing x).of fits plain) none direct allowed)
+    | inr other_type ↦ from_given x e (λ k. IsOwnPut x e k) (λ k put. inr (other_type, put))
+        (own_place_given x e t place
+        (matches_named h.typing.table (object_at h.typing x).of t (matches_flip t (object_at h.typing x).of fits) (named_there kind other_type)) fits (own_there which other_type) none direct allowed)
+  ]
+    where
+      matches_flip : (t u : ℕ) → Matches h.typing.table t u → Matches h.typing.table u t
+      matches_flip t u (inl e) = inl (sym e)
+      matches_flip t u (inr (a, b)) = inr (b, a)
+
+      named_there : IsKind x → is_scalar (full h.typing.table (object_at h.typing x).of) ≡ false → IsNamed h.typing.table (object_at h.typing x).of
+      named_there (inl plain) other_type = absurd (true_false (is_scalar (full h.typing.table (object_at h.typing x).of)) plain other_type)
+      named_there (inr (in_out, own)) other_type = own
+
+      own_there : (is_scalar (full h.typing.table t) ≡ true) ⊎ IsOwnPlace h.typing e → is_scalar (full h.typing.table (object_at h.typing x).of) ≡ false → IsOwnPlace h.typing e
+      own_there (inl plain) other_type = absurd (true_false (is_scalar (full h.typing.table (object_at h.typing x).of))
+          (matches_scalar h.typing t (object_at h.typing x).of fits plain) other_type)
+      own_there (inr own) other_type = own
+
+  one_given : (mode_of : Mode) (owning access : Bool) (x : ℕ) (e : TypedTree) → ByModeFor mode_of owning → IsKind x → IsActualTo h.typing x mode_of e
+      → IsCopiedName mode_of e → has_call e ≡ false
+      → AllowsAll facts (acts (head_of h.typing own_law mode_of e)) → Quiet at (λ a. IsGiven x mode_of e a) (passed h (passing_by mode_of owning access) x e at)
+  one_given mode.In owning access x e fits kind actual copied none allowed =
+      subst (λ b. Quiet at (λ a. IsGiven x mode.In e a) (passed h (if b then objects.Place mode.In b access else ByValue) x e at)) (sym (fits refl))
+      (value_is x e (passed h ByValue x e at) (value_given x e actual none allowed))
+  one_given mode.Out owning access x e fits kind actual copied none allowed =
+      quiet_then at (λ k. IsPut e k) (λ a. IsGiven x mode.Out e a) (place_of h e at) (λ k now. Done (To k) now)
+      (place_given e actual.0 actual.1 actual.2 none (copied refl) allowed) (λ k put. (refl, put))
+  one_given mode.InOut owning access x e fits kind actual copied none allowed = in_out_given x e kind actual (copied refl) none allowed
+
+  pub all_given : (formals : List ℕ) (actuals : TypedTree) → ((x : ℕ) → Has formals x → IsKind x) → AreActualsTo h.typing formals actuals
+      → AreCopied h.typing formals actuals → has_call actuals ≡ false
       → AllowsAll facts (acts (actual_values h.typing (ways_of formals) actuals))
       → Quiet at (λ passed. AreGiven formals actuals passed) (all_passed h (ways_of formals) formals actuals at)
   unfolding has_call
-  all_given [] actuals stay copied none allowed = (refl, refl)
-  all_given (x ∷ formals) (More e rest) stay copied none allowed =
+  all_given [] actuals kinds stay copied none allowed = (refl, refl)
+  all_given (x ∷ formals) (More e rest) kinds stay copied none allowed =
       let mode_of : Mode = (object_at h.typing x).mode in
       let calls = or_both (has_call e) (has_call rest) none in
-      let both : AllowsAll facts (acts (head_acts h.typing own_law mode_of e ++ actual_values h.typing (ways_of formals) rest)) =
-      subst (λ z. AllowsAll facts (acts z)) (head_values h.typing own_law mode_of e (ways_of formals) rest) allowed in
-      let each = allows_both facts (acts (head_acts h.typing own_law mode_of e)) (acts (actual_values h.typing (ways_of formals) rest))
-      (subst (AllowsAll facts) (acts_append (head_acts h.typing own_law mode_of e) (actual_values h.typing (ways_of formals) rest)) both) in
-      let same : after (acts (head_acts h.typing own_law mode_of e)) facts ≡ facts =
-      reads_keep (head_acts h.typing own_law mode_of e) (head_reads h.typing own_law mode_of e stay.0) facts in
-      quiet_then at (λ a. IsGiven mode_of e a) (λ passed. AreGiven (x ∷ formals) (More e rest) passed) (passed h (way_by h.typing own_law mode_of) x e at)
+      let kind = kinds x (inl refl) in
+      let both : AllowsAll facts (acts (head_of h.typing own_law mode_of e ++ actual_values h.typing (ways_of formals) rest)) =
+      subst (λ z. AllowsAll facts (acts z)) (head_values_are h.typing own_law x kind e (ways_of formals) rest) allowed in
+      let each = allows_both facts (acts (head_of h.typing own_law mode_of e)) (acts (actual_values h.typing (ways_of formals) rest))
+      (subst (AllowsAll facts) (acts_append (head_of h.typing own_law mode_of e) (actual_values h.typing (ways_of formals) rest)) both) in
+      let same : after (acts (head_of h.typing own_law mode_of e)) facts ≡ facts =
+      reads_keep (head_of h.typing own_law mode_of e) (head_of_reads h.typing own_law x mode_of e stay.0) facts in
+      quiet_then at (λ a. IsGiven x mode_of e a) (λ passed. AreGiven (x ∷ formals) (More e rest) passed) (passed h (way_to h.typing own_law x) x e at)
       (λ a now. followed_by (all_passed h (ways_of formals) formals rest now) (λ more now. Done (a ∷ more) now))
-      (one_given mode_of x e stay.0 copied.0 calls.0 each.0)
+      (one_given mode_of (is_owning h.typing.table (object_at h.typing x).of) (is_named_access (view_of h.typing x)) x e (in_plain h.typing own_law x kind) kind
+      stay.0 copied.0 calls.0 each.0)
       (λ a is. quiet_then at (λ passed. AreGiven formals rest passed) (λ passed. AreGiven (x ∷ formals) (More e rest) passed)
       (all_passed h (ways_of formals) formals rest at) (λ more now. Done (a ∷ more) now)
-      (all_given formals rest stay.1 copied.1 calls.1 (subst (λ z. AllowsAll z (acts (actual_values h.typing (ways_of formals) rest))) same each.1))
+      (all_given formals rest (λ y has. kinds y (inr has)) stay.1 copied.1 calls.1 (subst (λ z. AllowsAll z (acts (actual_values h.typing (ways_of formals) rest))) same each.1))
       (λ more are. (refl, (is, are))))
-  all_given (x ∷ formals) actuals stay copied none allowed = (refl, refl)
-
-  given_laid : (mode_of : Mode) (e : TypedTree) (a : Passed) → IsGiven mode_of e a → IsLaid h.typing a
-  given_laid mode.In e (Value ws) is = is
-  given_laid mode.In e (From k) is = absurd is
-  given_laid mode.In e (To k) is = absurd is
-  given_laid mode.Out e (Value ws) is = absurd is
-  given_laid mode.Out e (From k) is = absurd is
-  given_laid mode.Out e (To k) is = is.0
-  given_laid mode.InOut e (Value ws) is = absurd is
-  given_laid mode.InOut e (From k) is = is.0
-  given_laid mode.InOut e (To k) is = absurd is
-
-  pub all_laid : (formals : List ℕ) (actuals : TypedTree) (passed : List Passed) → AreGiven formals actuals passed → AreLaid h.typing passed
-  all_laid (x ∷ formals) (More e rest) (a ∷ passed) are = (given_laid (object_at h.typing x).mode e a are.0, all_laid formals rest passed are.1)
-  all_laid (x ∷ formals) (More e rest) [] are = absurd are
-  all_laid [] actuals passed are = subst (AreLaid h.typing) (sym are) tt
-  all_laid (x ∷ formals) actuals passed are = subst (AreLaid h.typing) (sym are) tt
+  all_given (x ∷ formals) actuals kinds stay copied none allowed = (refl, refl)
 
   -- ---- what the facts say then
 
@@ -332,53 +625,36 @@ module _ (h : Here) (settled : IsSettled h.typing.table) (hands : List Waiting) 
       (leaf_join h.typing.table c.of (steps_in l) p spot.there
       ∙ no_leaf h.typing.table settled (type_in h.typing.table c.of (steps_in l)) (matches_scalar h.typing k.of (type_in h.typing.table c.of (steps_in l)) spot.of plain) p)
 
-  naming_keeps : (w : Option Written) (known : List Fact) → after (acts (naming w (λ k. act.Actual k mode.InOut false false))) known ≡ known
-  naming_keeps None known = refl
-  naming_keeps (Some w) known = read_effect w.name known
+  naming_keeps : (w : Option Written) (owning access : Bool) (known : List Fact) → after (acts (naming w (λ k. act.Actual k mode.InOut owning access))) known ≡ known
+  naming_keeps None owning access known = refl
+  naming_keeps (Some w) owning access known = read_effect w.name known
 
-  head_acted : (mode_of : Mode) (e : TypedTree) (a : Passed) (known : List Fact) → IsGiven mode_of e a → ViewedWith known
-      → ViewedWith (after (acts (actual_act (way_by h.typing own_law mode_of) e)) known)
-  head_acted mode.In e a known is there = there
-  head_acted mode.InOut e a known is there = subst ViewedWith (sym (naming_keeps (written e) known)) there
-  head_acted mode.Out (Name p x path u) (To k) known (fixed, (w, l, named, called, place, reaches, spot)) there =
+  head_acted : (mode_of : Mode) (owning access : Bool) (x : ℕ) (e : TypedTree) (a : Passed) (known : List Fact) → ByModeFor mode_of owning → IsGiven x mode_of e a → ViewedWith known
+      → ViewedWith (after (acts (actual_act (passing_by mode_of owning access) e)) known)
+  head_acted mode.In owning access x e a known fits is there =
+      subst (λ b. ViewedWith (after (acts (actual_act (if b then objects.Place mode.In b access else ByValue) e)) known)) (sym (fits refl)) there
+  head_acted mode.InOut owning access x e a known fits is there = subst ViewedWith (sym (naming_keeps (written e) owning access known)) there
+  head_acted mode.Out owning access x (Name p y path u) (To k) known fits (fixed, (w, l, named, called, place, reaches, spot)) there =
       subst (λ z. ViewedWith (effect (act.Write z) known)) called
       (nothing_written (home h.typing h.frame) (is_observer h.typing) other v (seen h.typing m hands leaks) known there w l named place reaches
       (plain_there k l spot fixed.scalar))
-  head_acted mode.Out e (To k) known is there = absurd is.1
-  head_acted mode.Out e (Value ws) known is there = absurd is
-  head_acted mode.Out e (From k) known is there = absurd is
+  head_acted mode.Out owning access x e (To k) known fits is there = absurd is.1
+  head_acted mode.Out owning access x e (Value ws) known fits is there = absurd is
+  head_acted mode.Out owning access x e (From k) known fits is there = absurd is
 
-  pub all_acted : (formals : List ℕ) (actuals : TypedTree) (passed : List Passed) (known : List Fact) → AreGiven formals actuals passed → ViewedWith known
+  pub all_acted : (formals : List ℕ) (actuals : TypedTree) (passed : List Passed) (known : List Fact) → ((x : ℕ) → Has formals x → IsKind x)
+      → AreGiven formals actuals passed → ViewedWith known
       → ViewedWith (after (acts (actual_acts (ways_of formals) actuals)) known)
-  all_acted (x ∷ formals) (More e rest) (a ∷ passed) known are there =
-      let first : List Placed = actual_act (way_of h.typing own_law x) e in
+  all_acted (x ∷ formals) (More e rest) (a ∷ passed) known kinds are there =
+      let first : List Placed = actual_act (way_to h.typing own_law x) e in
       let others : List Placed = actual_acts (ways_of formals) rest in
       subst ViewedWith (sym (ap (λ z. after z known) (acts_append first others) ∙ after_append (acts first) (acts others) known))
-      (all_acted formals rest passed (after (acts first) known) are.1 (head_acted (object_at h.typing x).mode e a known are.0 there))
-  all_acted (x ∷ formals) (More e rest) [] known are there = absurd are
-  all_acted [] actuals passed known are there = there
-  all_acted (x ∷ formals) actuals passed known are there = there
-
--- no act of a call ends a scope
-module _ (s : Typing) (own_law : OwnsByShape s.table) where
-  spare_copy : (m : Mode) (e : TypedTree) → Spare s (actual_act (way_by s own_law m) e)
-  spare_copy mode.In e = tt
-  spare_copy mode.Out e = spare_naming s (written e) (λ k. act.Actual k mode.Out false false) (λ n. refl)
-  spare_copy mode.InOut e = spare_naming s (written e) (λ k. act.Actual k mode.InOut false false) (λ n. refl)
-
-  pub spare_copies : (formals : List ℕ) (actuals : TypedTree) → Spare s (actual_acts (map (way_of s own_law) formals) actuals)
-  spare_copies [] actuals = tt
-  spare_copies (x ∷ formals) (More e rest) =
-      spare_both s (actual_act (way_of s own_law x) e) (actual_acts (map (way_of s own_law) formals) rest) (spare_copy (object_at s x).mode e) (spare_copies formals rest)
-  spare_copies (x ∷ formals) actuals = tt
-
-pub spare_reads : (s : Typing) (ps : List Placed) → AreReads ps → Spare s ps
-spare_reads s [] reads = tt
-spare_reads s (p ∷ ps) reads = (one p (reads p (inl refl)), spare_reads s ps (λ q has. reads q (inr has)))
-  where
-    one : (p : Placed) → IsRead p → ends s p.act ≡ false
-    one p (m, inl e) = ap (ends s) e
-    one p (m, inr e) = ap (ends s) e
+      (all_acted formals rest passed (after (acts first) known) (λ y has. kinds y (inr has)) are.1
+      (head_acted (object_at h.typing x).mode (is_owning h.typing.table (object_at h.typing x).of) (is_named_access (view_of h.typing x)) x e a known
+      (in_plain h.typing own_law x (kinds x (inl refl))) are.0 there))
+  all_acted (x ∷ formals) (More e rest) [] known kinds are there = absurd are
+  all_acted [] actuals passed known kinds are there = there
+  all_acted (x ∷ formals) actuals passed known kinds are there = there
 
 -- ---- memories that owners see alike
 

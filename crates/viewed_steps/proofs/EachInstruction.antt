@@ -115,7 +115,7 @@ module _ (table : Table) (typed : TypedProgram) (effects : Effects) (input : Lis
   module _ (state : State) (top : Stage) (below : ViewStage) (more_frames : List ViewStage) (rest : List Frame) (named : NamedSub) (p : NamedPoint)
       (frames : state.frames ≡ top.frame ∷ (below.stage.frame ∷ rest)) (deep : top.depth ≡ suc (length rest))
       (stages : AreStages (stages_of (below ∷ more_frames)) (below.stage.frame ∷ rest))
-      (running : IsProcedure table typed top.frame.sub × IsResting s top × AreWaiting table typed effects state top.frame.sub (below ∷ more_frames))
+      (running : IsProcedure table typed top.frame.sub × IsResting s top × AreWaiting table typed effects state top.frame.sub top.frame.returns (below ∷ more_frames))
       (of_sub : IsNamedSub (flow_named table typed) top.frame.sub named) (at_point : IsAtPoint named.points top.frame.next p)
       (path : ControlPath (path_points program effects (sub_of program top.frame.sub)) top.before top.frame.next) (views : Views)
       (viewed_before : Viewed (home s (suc (length rest))) (is_observer s) (known_gone (home s (suc (length rest))) (GoneElsewhere program effects (below ∷ more_frames))) views
@@ -226,7 +226,7 @@ module _ (table : Table) (typed : TypedProgram) (effects : Effects) (input : Lis
 
     abbrev wait_still : (next : State) (after_scope : List ℕ) → Inside s IsOld next.memory depth after_scope → OthersKept s depth state.memory next.memory
         → ((w : Way) (n : ℕ) → KeptElsewhere table typed effects unmoved_stage local older w n → ways.Reaches (view_here s next) w (ways.OfCell n))
-        → AreWaiting table typed effects next top.frame.sub older
+        → AreWaiting table typed effects next top.frame.sub top.frame.returns older
     wait_still = innermost.wait_still table typed effects input ready state top below more_frames rest named p frames deep stages running of_sub at_point path views viewed_before kept scope holds placed_before above
 
     abbrev with_successors : (i : Instruction) (n : ℕ) → p.instr ≡ i → n < successors i → n < successors main_turn.point.instr
@@ -610,7 +610,7 @@ module _ (table : Table) (typed : TypedProgram) (effects : Effects) (input : Lis
           (only_may turned_views (after (acts_of_main p.instr) facts_now) turned) in
           let placed_next = placed_on program (after (acts_of_main p.instr) facts_now) turned_views (scope_behind p) (q.0).scope well.holds.only lead there in
           standing.goes_to_next table typed effects input ready state top older outer named p frames of_sub at_point path plain_calls after_step on.loops next.0 next.2 q.0 q.1 (on.frames next.0 next.1) deep stages turned_views
-          (running.0, (refl, running.1.1, running.1.2), wait_still after_step (brought p.instr p.scope) on.inside stay well.viewed.far)
+          (running.0, (refl, running.1.1), wait_still after_step (brought p.instr p.scope) on.inside stay well.viewed.far)
           (apart_from_them (acts_of_main p.instr) turned_views (view_here s after_step) well.holds.only well.viewed) well.kept
           (scope_on s ready.owns after_step.memory depth (scope_behind p) (q.0).scope
           (subst (InScope s after_step.memory depth) (sym scope_is) (in_scope after_step.memory (brought p.instr p.scope) on.inside)) lead)

@@ -20,7 +20,7 @@ use Rattle.owned_ways.proofs.Locations.{same_loc, under_along, under_itself}
 use Rattle.part_offsets.specs.Parts.{type_in, has_part, IsSettled}
 use Rattle.soundness.specs.Seen.{content, word_in, seen, home, is_view_formal}
 use Rattle.soundness.specs.Typed.{Matches, OwnsByShape, Kept, Spot}
-use Rattle.soundness.specs.Sound.{IsCopied}
+use Rattle.soundness.specs.Sound.{AreSameWords}
 use Rattle.soundness.proofs.Memories.{put_other}
 use Rattle.soundness.proofs.Moments.{number_part}
 use Rattle.soundness.proofs.Steps.{matches_words, plain_end, alike, taken_slots, room}
@@ -33,6 +33,8 @@ use Rattle.owned_loans.proofs.Moves.{far_named, expand_along, same_viewed}
 use Rattle.viewed_soundness.specs.Holds.{IsNamed}
 use Rattle.viewed_soundness.proofs.Names.{true_false, view_access, not_view}
 use Rattle.viewed_soundness.proofs.Evaluated.{matches_named}
+use Rattle.viewed_steps.specs.Sound.{IsScalarObject}
+use Rattle.viewed_steps.proofs.Left.{cells_same}
 use Rattle.viewed_steps.specs.Taken.{TakenBy, IsInside, IsPassedOn, IsBare, IsApartFrom, IsAnother, AreTaken}
 use Rattle.viewed_steps.proofs.Between.{gone_also, more_gone, IsClearOf, base_along, base_under, same_variable, taken_more}
 use Rattle.viewed_steps.proofs.Carried.{inside_at, inside_spot, inside_reached, inside_base, inside_rooted, inside_owns, inside_word, inside_steps, carried_bare, carried_held, carried_off}
@@ -143,13 +145,15 @@ module _ (s : Typing) (settled : IsSettled s.table) (own_law : OwnsByShape s.tab
   AreBlank m formals =
       (x : ℕ) → Has formals x → (p : List Step) → word_in s.table (content s m [] (OfRoot (OfVariable (suc depth) x))) p ≡ Empty
 
-  -- Words are typed; a variable that has a number had it before, or is a formal; views keep their words.
+  -- Words are typed; a variable that has a number had it before, or is a formal; views keep their words; and
+  -- owners see nothing of scalar formals.
   pub record AreDeclared (formals : List ℕ) (m n : Memory) : Type 0 where
     pub typed : Kept s n hands
     pub held : (g y : ℕ) (p : List Step) (c : ℕ) → word_in s.table (content s n [] (OfRoot (OfVariable g y))) p ≡ Held c
         → (word_in s.table (content s m [] (OfRoot (OfVariable g y))) p ≡ Held c) ⊎ ((g ≡ suc depth) × Has formals y)
     pub views : (g y : ℕ) → is_anonymous (view_of s y) ≡ true
         → (get_or (variable_slots s g y n.variables) 0 no_slot).word ≡ (get_or (variable_slots s g y m.variables) 0 no_slot).word
+    pub words : ((x : ℕ) → Has formals x → IsScalarObject s x) → AreSameWords s (λ g. Unit {0}) m n
 
   abbrev pub Enter : Around (home s depth) → List ℕ → List Passed → List Way → Memory → Memory → Type 0
   Enter other formals passed ways m n =
@@ -349,7 +353,7 @@ module _ (s : Typing) (settled : IsSettled s.table) (own_law : OwnsByShape s.tab
   plain_returns n x (To k) formals passed (to ∷ ways) plain taken = inl (plain, taken)
 
   nothing_declared : (formals : List ℕ) (m : Memory) → Kept s m hands → AreDeclared formals m m
-  nothing_declared formals m typed = record { typed = typed; held = λ g y p c held. inl held; views = λ g y view. refl }
+  nothing_declared formals m typed = record { typed = typed; held = λ g y p c held. inl held; views = λ g y view. refl; words = λ plain. ((λ g y p any. refl), (λ c p. refl)) }
 
   nothing_entered : (other : Around (home s depth)) (formals : List ℕ) (passed : List Passed) (ways : List Way) (m : Memory)
       → returns_of formals passed ≡ [] → ways ≡ [] → Kept s m hands → ViewedIn other m → Enter other formals passed ways m m
@@ -370,6 +374,10 @@ module _ (s : Typing) (settled : IsSettled s.table) (own_law : OwnsByShape s.tab
         | inr h ↦ inr (h.0, inr h.1)
       ];
       views = λ g y view. later.0.views g y view ∙ on.views g y view;
+      words = λ plain_all. (let more = later.0.words (λ y has. plain_all y (inr has)) in (
+          λ g y p any. more.0 g y p any ∙ on.hold g y p,
+          λ c p. more.1 c p ∙ cells_same s m then_m hands leaks on.same c p,
+        ));
     },
     later.1,
     plain_returns n x a formals passed ways plain later.2,
@@ -392,6 +400,7 @@ module _ (s : Typing) (settled : IsSettled s.table) (own_law : OwnsByShape s.tab
         | inl h ↦ elim (held g y p c h) [ inl before ↦ inl before | inr mine ↦ inr (mine.0, inl (sym mine.1)) ]
       ];
       views = λ g y view. later.0.views g y view ∙ views g y view;
+      words = λ plain_all. absurd (true_false (is_scalar (full s.table (object_at s x).of)) (plain_all x (inl refl)) one.many);
     },
     more_gone (home s depth) (is_observer s) v
         (taken_also (gone_also (home s depth) other (λ w. other.gone w ⊎ ((p : List Step) × (w ≡ along to p)))) ways)

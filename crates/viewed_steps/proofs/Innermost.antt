@@ -48,7 +48,7 @@ use Rattle.viewed_steps.specs.Sound.{IsResting, HoldsAt, ArePlaced, NoneAbove, V
 use Rattle.viewed_steps.specs.Ready.{AreOrderly, IsReady}
 use Rattle.viewed_steps.proofs.Lent.{ends, Spare, spare_has}
 use Rattle.viewed_steps.proofs.Inherited.{after_more, apart_act, lending_uses}
-use Rattle.viewed_steps.proofs.Beside.{OthersKept}
+use Rattle.viewed_steps.proofs.Beside.{OthersKept, faint_held}
 use Rattle.viewed_steps.proofs.Waiting.{StandsBetween, all_between, KeptElsewhere, unused_there, around as concern, beside_them, handed, with_them, without_them, far, all_on}
 use Rattle.viewed_steps.proofs.Standing.{or_right}
 use Rattle.viewed_steps.proofs.Standing as standing
@@ -105,7 +105,7 @@ module _ (table : Table) (typed : TypedProgram) (effects : Effects) (input : Lis
   module _ (state : State) (top : Stage) (below : ViewStage) (more_frames : List ViewStage) (rest : List Frame) (named : NamedSub) (p : NamedPoint)
       (frames : state.frames ≡ top.frame ∷ (below.stage.frame ∷ rest)) (deep : top.depth ≡ suc (length rest))
       (stages : AreStages (stages_of (below ∷ more_frames)) (below.stage.frame ∷ rest))
-      (running : IsProcedure table typed top.frame.sub × IsResting s top × AreWaiting table typed effects state top.frame.sub (below ∷ more_frames))
+      (running : IsProcedure table typed top.frame.sub × IsResting s top × AreWaiting table typed effects state top.frame.sub top.frame.returns (below ∷ more_frames))
       (of_sub : IsNamedSub (flow_named table typed) top.frame.sub named) (at_point : IsAtPoint named.points top.frame.next p)
       (path : ControlPath (path_points program effects (sub_of program top.frame.sub)) top.before top.frame.next) (views : Views)
       (viewed_before : Viewed (home s (suc (length rest))) (is_observer s) (known_gone (home s (suc (length rest))) (GoneElsewhere program effects (below ∷ more_frames))) views
@@ -122,7 +122,7 @@ module _ (table : Table) (typed : TypedProgram) (effects : Effects) (input : Lis
     depth = suc (length rest)
 
     pub between : (g : ViewStage) → Has (below ∷ more_frames) g → StandsBetween table typed effects unmoved_stage local state (suc (length rest)) g
-    between g has = all_between table typed effects unmoved_stage local state top.frame.sub (suc (length rest)) (below ∷ more_frames) (below.stage.frame ∷ rest) stages (omega arith) running.2 g has
+    between g has = all_between table typed effects unmoved_stage local state top.frame.sub (suc (length rest)) top.frame.returns (below ∷ more_frames) (below.stage.frame ∷ rest) stages (omega arith) running.2 g has
 
     -- what concerns it of them, and that with their facts on package objects beside its own
     abbrev pub other_all : Around (home s (suc (length rest)))
@@ -177,7 +177,7 @@ module _ (table : Table) (typed : TypedProgram) (effects : Effects) (input : Lis
         by_fact : (f : Fact) (g : ViewStage) → Has older g → Has (facts_of program effects g.stage) f → is_inherited s f ≡ true
             → (name : PlaceName) × (f ≡ Moved name) × (is_package_object s name.root ≡ true) × (Uses effects top.frame.sub name.root → ⊥)
         by_fact (Moved name) g has fact shared =
-            (name, refl, shared, λ uses. unused_there table typed effects unmoved_stage local state top.frame.sub older running.2 g has name fact shared uses)
+            (name, refl, shared, λ uses. unused_there table typed effects unmoved_stage local state top.frame.sub top.frame.returns older running.2 g has name fact shared uses)
         by_fact (Lent l h n) g has fact shared = cc
 
     pub act_uses : (x : ℕ) → is_package_object s x ≡ true → (q : FlowPoint) → Has (flow_sub own named).points q → (a : Placed) → Has q.acts a
@@ -322,14 +322,12 @@ module _ (table : Table) (typed : TypedProgram) (effects : Effects) (input : Lis
     pub in_scope : (m : Memory) (after_scope : List ℕ) → Inside s IsOld m depth after_scope → InScope s m depth after_scope
     in_scope m after_scope in_there f x q n held = elim (in_there f x q n held) [ inl old ↦ inl old.0 | inr mine ↦ inr mine ]
 
-    pub still : (m : Memory) (after_scope : List ℕ) → Inside s IsOld m depth after_scope → (f x : ℕ) (q : List Step) (n : ℕ) → 0 < f → f < depth
+    -- what has a number in them had it before
+    pub still : (m : Memory) → OthersKept s depth state.memory m → (f x : ℕ) (q : List Step) (n : ℕ) → 0 < f → f < depth
         → word_in s.table (content s m [] (OfRoot (OfVariable f x))) q ≡ Held n
-        → (r : List Step) × (k : ℕ) × (word_in s.table (content s state.memory [] (OfRoot (OfVariable f x))) r ≡ Held k)
-    still m after_scope in_there f x q n some less held = elim (in_there f x q n held) [
-      | inr mine ↦ (let is = mine.0 in absurd (omega (arith, less, is)))
-      | inl (below_it, inl none) ↦ absurd (omega (arith, some, none))
-      | inl (below_it, inr before) ↦ before
-    ]
+        → word_in s.table (content s state.memory [] (OfRoot (OfVariable f x))) q ≡ Held n
+    still m stay f x q n some less held =
+        faint_held s state.memory m f x (λ o. stay f x (λ first. omega (arith, some, first)) (λ same_depth. omega (arith, less, same_depth)) o) q n held
 
     pub home_frame : (x : ℕ) → is_package_object s x ≡ false → home s depth x ≡ depth
     home_frame x own_frame = ap (λ b. if b then 0 else depth) own_frame
@@ -349,16 +347,16 @@ module _ (table : Table) (typed : TypedProgram) (effects : Effects) (input : Lis
     -- the variables of views above stay without numbers
     pub still_above : (m : Memory) → OthersKept s depth state.memory m → NoneAbove s depth m
     still_above m stay f x n less view e =
-        above f x n less view (sym (stay f x (λ first. omega (arith, less, first)) (λ same_depth. omega (arith, less, same_depth))) ∙ e)
+        above f x n less view (sym (stay f x (λ first. omega (arith, less, first)) (λ same_depth. omega (arith, less, same_depth)) 0).word ∙ e)
 
     -- those that wait do so still
     pub wait_still : (next : State) (after_scope : List ℕ) → Inside s IsOld next.memory depth after_scope → OthersKept s depth state.memory next.memory
         → ((w : Way) (n : ℕ) → KeptElsewhere table typed effects unmoved_stage local older w n → ways.Reaches (view_here s next) w (ways.OfCell n))
-        → AreWaiting table typed effects next top.frame.sub older
+        → AreWaiting table typed effects next top.frame.sub top.frame.returns older
     wait_still next after_scope in_there stay reach =
-        all_on table typed effects unmoved_stage local state next depth (still next.memory after_scope in_there)
-        (λ f x some less view. stay f x (λ first. omega (arith, some, first)) (λ same_depth. omega (arith, less, same_depth)))
-        top.frame.sub older outer stages (omega arith) (λ g has x w is. reach w (g.views.cell x) (g, has, x, is, refl)) running.2
+        all_on table typed effects unmoved_stage local state next depth (still next.memory stay)
+        (λ f x some less view. (stay f x (λ first. omega (arith, some, first)) (λ same_depth. omega (arith, less, same_depth)) 0).word)
+        top.frame.sub top.frame.returns older outer stages (omega arith) (λ g has x w is. reach w (g.views.cell x) (g, has, x, is, refl)) running.2
 
     pub with_successors : (i : Instruction) (n : ℕ) → p.instr ≡ i → n < successors i → n < successors main_turn.point.instr
     with_successors i n e less = subst (λ z. n < successors z) (sym e) less

@@ -16,6 +16,7 @@ pub mod Carried
 pub mod Called
 pub mod Entered
 pub mod Backed
+pub mod Whole
 pub mod Standing
 pub mod Packages
 pub mod Innermost

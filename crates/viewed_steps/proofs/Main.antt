@@ -104,7 +104,7 @@ module _ (table : Table) (typed : TypedProgram) (effects : Effects) (input : Lis
     views = no_views;
     older = record { stage = stage_of 0 0; views = no_views } ∷ [];
     stages = (refl, refl, (refl, refl, tt));
-    running = (ready.main_there, (refl, (λ r has. absurd has), refl), (refl, (refl, refl, refl), (λ x. refl)));
+    running = (ready.main_there, (refl, ((λ x has. inl (ready.main_plain x has)), (λ r has. absurd has))), ((refl, (refl, refl, refl), (λ x. refl)), refl));
     path = begins (first_point table typed effects input ready ready.main ready.main_there.named ready.main_there.stands
         ready.main_there.point ready.main_there.points ready.main_there.begins);
     viewed = empty_viewed s (home s 1) (GoneElsewhere program effects (record { stage = stage_of 0 0; views = no_views } ∷ []));

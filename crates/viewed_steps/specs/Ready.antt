@@ -1,18 +1,20 @@
 -- What is asked of an accepted program with borrowers and observers so that its runs are sound: what
 -- typing, the layout and the rules see to. Nothing here speaks of a run.
-use Rattle.std.specs.Prelude.{◌≡◌, ◌⊎◌, ◌<◌, ℕ, true, false, List, ◌∷◌, map, get_or, Option, Some}
+use Rattle.std.specs.Prelude.{◌≡◌, ◌⊎◌, ◌<◌, ℕ, true, false, List, [], ◌∷◌, ◌++◌, map, get_or, Option, Some}
 use Rattle.spark_base.specs.Lists.{Has}
 use Rattle.spark_base.specs.declared.position.Pos.{Pos}
+use Rattle.place_names.specs.declared.act.Mode.{Mode}
+use Rattle.place_names.specs.declared.act.Mode.TheVariants as mode
 use Rattle.place_names.specs.declared.act.Placed.{Placed}
 use Rattle.place_names.specs.declared.fact.Fact.TheVariants.{Moved}
 use Rattle.place_names.specs.Facts.{adds}
 use Rattle.place_names.specs.Names.{Name as PlaceName}
-use Rattle.type_definitions.specs.Types.{Table}
+use Rattle.type_definitions.specs.Types.{Table, full, is_scalar}
 use Rattle.typed_tree.specs.Trees.{TypedTree, Name, NoMore, More}
 use Rattle.typed_tree.specs.Programs.{TypedSub, TypedProgram}
 use Rattle.flow_paths.specs.declared.report.Effects.{Effects}
 use Rattle.flow_paths.specs.Instructions.{Declare, Assign, Call, Input, EndScope, Finish}
-use Rattle.flow_paths.specs.Objects.{object_at, is_formal, is_variable, is_anonymous, is_observer, is_package_object, view_of}
+use Rattle.flow_paths.specs.Objects.{Typing, object_at, sub_at, is_formal, is_variable, is_anonymous, is_observer, is_package_object, view_of}
 use Rattle.flow_paths.specs.Points.{NamedPoint, FlowPoint}
 use Rattle.flow_paths.specs.Laid.{FlowSub, FlowProgram, NamedSub, number_in, typing_of, flow_typing, flow_program, flow_named}
 use Rattle.flow_paths.specs.Paths.{ControlPath, facts_before}
@@ -23,11 +25,21 @@ use Rattle.machine.specs.States.{sub_of}
 use Rattle.machine.specs.Run.{no_point}
 use Rattle.soundness.specs.Typed.{OwnsByShape}
 use Rattle.soundness.specs.Sound.{Accepted, IsNamedSub, IsAtPoint, IsProcedure}
-use Rattle.soundness.specs.Ready.{stored_at, AreActuals, AreNew}
+use Rattle.soundness.specs.Ready.{root_of, stored_at, AreNew}
+use Rattle.typed_laws.specs.Needed.{Matches, Stays, IsPlace}
 use Rattle.viewed_soundness.specs.Holds.{AllKeep}
-use Rattle.viewed_steps.specs.Sound.{IsViewClass, Lasts, LendOwn}
+use Rattle.viewed_steps.specs.Sound.{IsScalarObject, IsViewClass, Lasts, LendOwn}
 
 -- ---- scopes, package objects and calls
+
+-- The objects that the names are rooted in that are passed.
+unfoldable pub roots_passed : TypedTree → List ℕ
+roots_passed (More e rest) = root_of e ++ roots_passed rest
+roots_passed _ = []
+
+abbrev pub AreDifferent : List ℕ → Type 0
+AreDifferent [] = Unit {0}
+AreDifferent (x ∷ rest) = ((y : ℕ) → Has rest y → y ≡ x → ⊥) × AreDifferent rest
 
 -- There are no temporaries, which hold the values of calls. Code is settled. At each point: the
 -- object that is declared isn't in scope, and the one whose scope ends is the last one in scope
@@ -42,19 +54,42 @@ pub record AreScoped (table : Table) (typed : TypedProgram) : Type 0 where
   pub ends : (sub : NamedSub) → Has (flow_named table typed) sub → (p : NamedPoint) → Has sub.points p → (x : ℕ) → p.instr ≡ EndScope x
       → is_package_object (flow_typing (flow_program table typed)) x ≡ false
   pub finishes : (sub : NamedSub) → Has (flow_named table typed) sub → (p : NamedPoint) → Has sub.points p → p.instr ≡ Finish
-      → (x : ℕ) → is_within x p.scope ≡ true → is_formal (flow_typing (flow_program table typed)) x ≡ true
+      → (x : ℕ) → is_within x p.scope ≡ true → (is_formal (flow_typing (flow_program table typed)) x ≡ true) × Has sub.sub.formals x
+  pub begins : (sub : NamedSub) → Has (flow_named table typed) sub → (p : NamedPoint) (rest : List NamedPoint) → sub.points ≡ p ∷ rest
+      → (x : ℕ) → Has sub.sub.formals x → is_within x p.scope ≡ true
+  pub passed : (sub : NamedSub) → Has (flow_named table typed) sub → (p : NamedPoint) → Has sub.points p → (n : ℕ) (actuals : TypedTree) (result : Option ℕ)
+      → p.instr ≡ Call n actuals result → (x : ℕ) → Has (roots_passed actuals) x
+      → (is_package_object (flow_typing (flow_program table typed)) x ≡ true) ⊎ (is_within x p.scope ≡ true)
+  pub differ : (sub : NamedSub) → Has (flow_named table typed) sub → AreDifferent sub.sub.formals
+  pub local : (x : ℕ) → is_formal (flow_typing (flow_program table typed)) x ≡ true → is_package_object (flow_typing (flow_program table typed)) x ≡ false
 
 -- The package objects are declared one by one, and nothing is moved for them.
 pub record AreElaborated (program : FlowProgram) : Type 0 where
   pub declared : (p : FlowPoint) → Has (sub_of program 0).points p → (x : ℕ) × (v : TypedTree) × (p.instr ≡ Declare x v)
   pub unmoved : (p : FlowPoint) → Has (sub_of program 0).points p → (a : Placed) → Has p.acts a → (name : PlaceName) → Has (adds a.act) (Moved name) → ⊥
 
+-- What is passed stays within what it names. One that is copied back to is a name: of a scalar type; or,
+-- of mode `in out`, of a place of the type of the formal in an object that belongs to no package.
+abbrev pub IsOwnPlace : Typing → TypedTree → Type 0
+IsOwnPlace s e = (y : ℕ) → Has (root_of e) y → is_package_object s y ≡ false
+
+abbrev pub IsActualTo : Typing → ℕ → Mode → TypedTree → Type 0
+IsActualTo s x mode.In e = Stays s e
+IsActualTo s x mode.Out e = (t : ℕ) × IsPlace s e t × (is_scalar (full s.table t) ≡ true)
+IsActualTo s x mode.InOut e =
+    (t : ℕ) × IsPlace s e t × Matches s.table t (object_at s x).of × ((is_scalar (full s.table t) ≡ true) ⊎ IsOwnPlace s e)
+
+-- So is each that there is a formal for.
+abbrev pub AreActualsTo : Typing → List ℕ → TypedTree → Type 0
+AreActualsTo s (x ∷ formals) (More e rest) = IsActualTo s x (object_at s x).mode e × AreActualsTo s formals rest
+AreActualsTo s formals actuals = Unit {0}
+
 -- A subprogram that is called is a procedure. (Where none is called, nothing is asked of object 0,
 -- which is Ada.Text_IO.)
 pub record IsCalled (table : Table) (typed : TypedProgram) (n : ℕ) (actuals : TypedTree) : Type 0 where
   pub procedure : IsProcedure table typed n
   pub formals : (x : ℕ) → Has (sub_of (flow_program table typed) n).formals x → is_formal (flow_typing (flow_program table typed)) x ≡ true
-  pub actuals_stay : AreActuals (flow_typing (flow_program table typed)) (sub_of (flow_program table typed) n).formals actuals
+  pub actuals_stay : AreActualsTo (flow_typing (flow_program table typed)) (sub_of (flow_program table typed) n).formals actuals
   pub text_io : is_package_object (flow_typing (flow_program table typed)) 0 ≡ false
 
 abbrev pub AreCalled : Table → TypedProgram → Type 0
@@ -136,3 +171,5 @@ pub record IsReady (table : Table) (typed : TypedProgram) (effects : Effects) : 
   pub main : ℕ
   pub is_main : (flow_program table typed).main ≡ Some main
   pub main_there : IsProcedure table typed main
+  -- its formals, if it has any, are of scalar types
+  pub main_plain : (x : ℕ) → Has (sub_at (flow_typing (flow_program table typed)) main).formals x → IsScalarObject (flow_typing (flow_program table typed)) x

@@ -7,6 +7,7 @@ use Rattle.place_names.specs.declared.fact.Fact.{Fact}
 use Rattle.place_names.specs.declared.fact.Fact.TheVariants.{Lent}
 use Rattle.place_names.specs.declared.rule.Loan.{Loan}
 use Rattle.place_names.specs.Names.{Name as PlaceName, overlaps}
+use Rattle.type_definitions.specs.Types.{full, is_scalar, is_owning}
 use Rattle.flow_paths.specs.Objects.{Typing, object_at, is_package_object}
 use Rattle.flow_paths.specs.Scopes.{is_within}
 use Rattle.machine.specs.Memory.{Memory, Place}
@@ -35,13 +36,14 @@ pub record IsInside (s : Typing) (depth : ℕ) (k : Place) (to : Way) : Type 0 w
   pub of : Matches s.table k.of (type_in s.table (object_at s object).of steps)
   pub named : IsNamed s.table k.of
 
--- What is passed for a formal that isn't scalar and is copied back: a place in a variable in scope,
--- which isn't lent, and whose value the formal may have.
+-- What is passed for a formal that isn't scalar and is copied back: a place in a variable, which is in
+-- scope if it may own and isn't lent, and whose value the formal may have.
 pub record IsPassedOn (s : Typing) (depth : ℕ) (facts : List Fact) (scope : List ℕ) (x : ℕ) (k : Place) (to : Way) : Type 0 where
   pub inside : IsInside s depth k to
   pub fits : Matches s.table k.of (object_at s x).of
   pub formal : is_package_object s x ≡ false
-  pub within : is_within inside.object scope ≡ true
+  pub many : is_scalar (full s.table (object_at s x).of) ≡ false
+  pub within : is_owning s.table (object_at s inside.object).of ≡ true → is_within inside.object scope ≡ true
   pub unlent : (l : Loan) (h : ℕ) (n : PlaceName) → Has facts (Lent l h n) → overlaps n (name_of to) ≡ true → ⊥
 
 -- No number stands in the place.
