@@ -6,20 +6,19 @@ use Rattle.std.proofs.Common.{◌≡◌, refl, sym, ap, ◌∙◌, subst, ◌⊎
 use Rattle.std.proofs.lemmas.List.{length-map}
 use Rattle.spark_base.specs.Lists.{Has}
 use Rattle.place_names.specs.declared.fact.Fact.{Fact}
-use Rattle.type_definitions.specs.Types.{shape_of, words, full, is_scalar, is_owning}
+use Rattle.type_definitions.specs.Types.{words, full, is_scalar, is_owning}
 use Rattle.flow_paths.specs.Objects.{Typing, object_at, is_anonymous, is_observer, is_package_object, view_of}
 use Rattle.flow_paths.specs.Scopes.{is_within}
 use Rattle.machine.specs.Words.{access_offsets, fits_type}
 use Rattle.machine.specs.Words as machine
 use Rattle.machine.specs.Memory.{Slot, Memory, Place, fresh, no_slot, variable_slots, slots_at, slots_of, words_of, gone_at, moved_out, stored}
 use Rattle.machine.specs.Memory as memory
-use Rattle.machine.specs.Evaluate.{Now, Evaluated, Done, Raises, Traps, followed_by, variable_place, checked}
+use Rattle.machine.specs.Evaluate.{Now, Evaluated, followed_by, variable_place, checked}
 use Rattle.machine.specs.States.{Waiting, Leak, Return}
 use Rattle.machine.specs.Step.{Turn, typing, here, copied_back}
-use Rattle.owned_ways.specs.Ways.{Step, OfVariable, OfHand, Loc, OfRoot, Inside, Way, Object, Empty, Held, View, Under, Past, Named, Reaches, along, part, base_of, number_of, name_of}
-use Rattle.owned_ways.proofs.Locations.{reaches_along}
+use Rattle.owned_ways.specs.Ways.{Step, OfVariable, OfHand, Loc, OfRoot, Inside, Way, Object, Empty, Held, Under, Past, Named, Reaches, part, base_of, number_of, name_of}
 use Rattle.owned_ways.proofs.Moving.{parts_apart}
-use Rattle.part_offsets.specs.Parts.{is_leaf, IsSettled}
+use Rattle.part_offsets.specs.Parts.{IsSettled}
 use Rattle.soundness.specs.Seen.{content, trunk, steps_in, word_in, seen, home, is_view_formal}
 use Rattle.soundness.specs.Typed.{Matches, OwnsByShape, Kept, Spot, IsFixed}
 use Rattle.soundness.specs.Sound.{IsCopied, AreSameWords}
@@ -29,16 +28,16 @@ use Rattle.soundness.proofs.Steps.{matches_words, no_leaf, taken_slots, room}
 use Rattle.soundness.proofs.Lasting.{keeps, put_away}
 use Rattle.soundness.proofs.Fixed.{fixed_one}
 use Rattle.soundness.proofs.Returning.{Backs, copied_is, formal_fixed}
-use Rattle.owned_loans.specs.Views.{Around, Views, expand, IsMovedBy, ExcusedBy, Viewed}
+use Rattle.owned_loans.specs.Views.{Around, Views, ExcusedBy, Viewed}
 use Rattle.owned_loans.proofs.Safe.{off_view}
 use Rattle.owned_loans.proofs.Moves.{far_named, named_way, same_viewed}
-use Rattle.viewed_soundness.proofs.Names.{true_false, not_view}
+use Rattle.viewed_soundness.proofs.Names.{true_false}
 use Rattle.viewed_soundness.proofs.Evaluated.{matches_named}
 use Rattle.viewed_steps.specs.Sound.{IsScalarObject}
 use Rattle.viewed_steps.proofs.Left.{cells_same}
 use Rattle.viewed_steps.specs.Taken.{TakenBy, IsInside, IsPassedOn, IsBare, IsTaken, IsApartFrom, IsAnother, AreTaken}
 use Rattle.viewed_steps.proofs.Between.{gone_also, more_gone, IsClearOf, base_along, base_under, same_variable, not_named, taken_less}
-use Rattle.viewed_steps.proofs.Carried.{inside_at, inside_spot, inside_reached, inside_base, inside_rooted, inside_owns, inside_word, variable_clear, carried_bare, carried_held, carried_off, carried_holds, carried_to}
+use Rattle.viewed_steps.proofs.Carried.{inside_at, inside_spot, inside_reached, inside_base, inside_owns, inside_word, variable_clear, carried_bare, carried_held, carried_off, carried_holds, carried_to}
 use Rattle.viewed_steps.proofs.Beside.{put_beside}
 use Rattle.viewed_steps.proofs.Called.{Enters, moved_there, stored_there, one_then, if_back, backs_on}
 use Rattle.viewed_steps.proofs.Entered.{matches_back, not_observing, inside_plain, inside_named, inside_number, inside_itself}

@@ -1,14 +1,13 @@
 -- A move that a call makes, or its end: no fact changes, and what is gone after it is known otherwise.
-use Rattle.std.proofs.Common.{◌≡◌, refl, sym, ap, ◌∙◌, subst, ◌⊎◌, inl, inr, ℕ, suc, ◌<◌, Bool, List, [], ◌∷◌, ◌++◌, arith, Some}
+use Rattle.std.proofs.Common.{◌≡◌, refl, sym, ap, ◌∙◌, subst, ◌⊎◌, inl, inr, ℕ, Bool, List, [], ◌∷◌, ◌++◌, Some}
 use Rattle.spark_base.specs.Lists.{Has}
 use Rattle.place_names.specs.declared.fact.Fact.{Fact}
-use Rattle.place_names.specs.Names.{Name}
-use Rattle.owned_ways.specs.Ways.{Step, Root, OfVariable, OfHand, Loc, OfRoot, OfCell, Way, Object, Lost, Into, All, Gone, Held, View, part, along, Reaches, IsRooted, Under, Past, Named, base_of, number_of}
-use Rattle.owned_ways.proofs.Locations.{past_under, under_along, under_itself}
+use Rattle.owned_ways.specs.Ways.{Step, OfVariable, OfHand, Loc, OfRoot, OfCell, Way, Object, Lost, Into, All, Gone, Held, View, part, along, IsRooted, Under, Past, Named, base_of, number_of}
+use Rattle.owned_ways.proofs.Locations.{under_along, under_itself}
 use Rattle.owned_ways.proofs.Named.{longer}
 use Rattle.owned_ways.proofs.Moving.{Given, keeps, owned_after, covered_after, known_after}
 use Rattle.owned_ways.proofs.Dropped.{named_base}
-use Rattle.owned_loans.specs.Views.{Around, Views, IsMovedBy, ExcusedBy, Viewed}
+use Rattle.owned_loans.specs.Views.{Around, Views, ExcusedBy, Viewed}
 use Rattle.owned_loans.proofs.Ways.{beginnings}
 use Rattle.owned_loans.proofs.Moves.{view_on}
 use Rattle.flow_paths.specs.Objects.{Typing}

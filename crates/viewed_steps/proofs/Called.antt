@@ -332,6 +332,27 @@ spare_reads s (p ∷ ps) reads = (one p (reads p (inl refl)), spare_reads s ps (
     one p (m, inl e) = ap (ends s) e
     one p (m, inr e) = ap (ends s) e
 
+-- ---- what is passed
+
+-- A place in a variable of a frame: the way of the name.
+abbrev pub IsOwnPut : Typing → ℕ → ℕ → TypedTree → Place → Type 0
+IsOwnPut s depth x (Name p y path u) k =
+    (to : Way) × (inside : IsInside s depth k to) × (ways.name_of to ≡ name_of y path) × (inside.object ≡ y) × Matches s.table k.of (object_at s x).of
+IsOwnPut s depth x e k = ⊥
+
+-- By the mode: a scalar value, a scalar place in a variable, or another place in a variable of the frame.
+abbrev pub IsLaidOne : Typing → ℕ → ℕ → Mode → TypedTree → Passed → Type 0
+IsLaidOne s depth x mode.In e (Value ws) = One ws
+IsLaidOne s depth x mode.Out e (To k) = IsFixed s k
+IsLaidOne s depth x mode.InOut e (From k) =
+    (IsScalarObject s x × IsFixed s k) ⊎ ((is_scalar (full s.table (object_at s x).of) ≡ false) × IsOwnPut s depth x e k)
+IsLaidOne s depth x m e a = ⊥
+
+abbrev pub AreLaidOut : Typing → ℕ → List ℕ → TypedTree → List Passed → Type 0
+AreLaidOut s depth (x ∷ formals) (More e rest) (a ∷ passed) = IsLaidOne s depth x (object_at s x).mode e a × AreLaidOut s depth formals rest passed
+AreLaidOut s depth (x ∷ formals) (More e rest) [] = ⊥
+AreLaidOut s depth formals actuals passed = passed ≡ []
+
 -- ---- the actuals
 
 module _ (h : Here) (settled : IsSettled h.typing.table) (hands : List Waiting) (leaks : List Leak) (m : Memory) (waits : List (List machine.Word))
@@ -394,12 +415,6 @@ module _ (h : Here) (settled : IsSettled h.typing.table) (hands : List Waiting) 
   abbrev IsPut : TypedTree → Place → Type 0
   IsPut e k = IsFixed h.typing k × Reached e k
 
-  -- A place in a variable of the frame: the way of the name.
-  abbrev pub IsOwnPut : ℕ → TypedTree → Place → Type 0
-  IsOwnPut x (Name p y path u) k =
-      (to : Way) × (inside : IsInside h.typing h.frame k to) × (ways.name_of to ≡ name_of y path) × (inside.object ≡ y) × Matches h.typing.table k.of (object_at h.typing x).of
-  IsOwnPut x e k = ⊥
-
   from_walked : (p : Pos) (x u : ℕ) (path : TypedTree) (w : Way) → is_scalar (full h.typing.table u) ≡ true → Named (home h.typing h.frame) w
       → ways.name_of w ≡ name_of x path → IsPlace v w → expand v w ≡ w → (y : Evaluated Place) → Walked h.typing settled hands leaks m waits w u y
       → IsIn (memory.OfVariable (home h.typing h.frame x) x) y → Quiet at (λ k. IsPut (Name p x path u) k) y
@@ -454,7 +469,7 @@ module _ (h : Here) (settled : IsSettled h.typing.table) (hands : List Waiting) 
   own_walked : (p : Pos) (x y u : ℕ) (path : TypedTree) (q : List Step) (w : Way) → IsNamed h.typing.table u → Matches h.typing.table u (object_at h.typing x).of
       → is_package_object h.typing y ≡ false → w ≡ along (Object (OfVariable (home h.typing h.frame y) y)) q
       → ways.name_of w ≡ name_of y path → (z : Evaluated Place) → Walked h.typing settled hands leaks m waits w u z
-      → IsIn (memory.OfVariable (home h.typing h.frame y) y) z → Quiet at (λ k. IsOwnPut x (Name p y path u) k) z
+      → IsIn (memory.OfVariable (home h.typing h.frame y) y) z → Quiet at (λ k. IsOwnPut h.typing h.frame x (Name p y path u) k) z
   own_walked p x y u path q w own fits local is called (Done k n) (l, same, spot, reaches, of) base =
       let root : Root = OfVariable (home h.typing h.frame y) y in
       let b : trunk l ≡ OfRoot root = spot.base ∙ ap loc_of base in
@@ -485,7 +500,7 @@ module _ (h : Here) (settled : IsSettled h.typing.table) (hands : List Waiting) 
 
   own_given : (x : ℕ) (p : Pos) (y u : ℕ) (path : TypedTree) (way : List run.Step) → IsNamed h.typing.table u → Matches h.typing.table u (object_at h.typing x).of
       → is_package_object h.typing y ≡ false → GoesAlong h.typing.table (object_at h.typing y).of u path way → IsDirect way
-      → Quiet at (λ k. IsOwnPut x (Name p y path u) k) (walked h.typing way (variable_place h y) at)
+      → Quiet at (λ k. IsOwnPut h.typing h.frame x (Name p y path u) k) (walked h.typing way (variable_place h y) at)
   own_given x p y u path way own fits local goes direct =
       let root : Way = Object (OfVariable (home h.typing h.frame y) y) in
       let flat = direct_part (OfVariable (home h.typing h.frame y) y) way direct [] in
@@ -500,11 +515,11 @@ module _ (h : Here) (settled : IsSettled h.typing.table) (hands : List Waiting) 
 
   own_place_given : (x : ℕ) (e : TypedTree) (t : ℕ) → IsPlaceOf h.typing e t → IsNamed h.typing.table t → Matches h.typing.table t (object_at h.typing x).of
       → IsOwnPlace h.typing e → has_call e ≡ false → goes_through_none e ≡ true
-      → AllowsAll facts (acts (index_acts h.typing e)) → Quiet at (λ k. IsOwnPut x e k) (place_of h e at)
+      → AllowsAll facts (acts (index_acts h.typing e)) → Quiet at (λ k. IsOwnPut h.typing h.frame x e k) (place_of h e at)
   unfolding has_call goes_through_none
   own_place_given x (Name p y path u) t (leads, type) own fits local none direct allowed =
       let inner = steps_quiet h settled hands leaks m waits other facts v kept well holds alone live index_law own_law parts_named (object_at h.typing y).of u path leads none allowed in
-      quiet_then at (λ way. GoesAlong h.typing.table (object_at h.typing y).of u path way × IsDirect way) (λ k. IsOwnPut x (Name p y path u) k) (steps_of h path at)
+      quiet_then at (λ way. GoesAlong h.typing.table (object_at h.typing y).of u path way × IsDirect way) (λ k. IsOwnPut h.typing h.frame x (Name p y path u) k) (steps_of h path at)
       (λ way now. walked h.typing way (variable_place h y) now)
       (both_quiet at (λ way. GoesAlong h.typing.table (object_at h.typing y).of u path way) (steps_of h path at) inner.0 (steps_direct h path direct at))
       (λ way both. own_given x p y u path way (subst (IsNamed h.typing.table) (sym type) own) (subst (λ z. Matches h.typing.table z (object_at h.typing x).of) (sym type) fits)
@@ -519,7 +534,7 @@ module _ (h : Here) (settled : IsSettled h.typing.table) (hands : List Waiting) 
   IsGiven x mode.In e (Value ws) = One ws
   IsGiven x mode.Out e (To k) = IsPut e k
   IsGiven x mode.InOut e (From k) =
-      (IsScalarObject h.typing x × IsPut e k) ⊎ ((is_scalar (full h.typing.table (object_at h.typing x).of) ≡ false) × IsOwnPut x e k)
+      (IsScalarObject h.typing x × IsPut e k) ⊎ ((is_scalar (full h.typing.table (object_at h.typing x).of) ≡ false) × IsOwnPut h.typing h.frame x e k)
   IsGiven x m' e a = ⊥
 
   abbrev pub AreGiven : List ℕ → TypedTree → List Passed → Type 0
@@ -556,7 +571,7 @@ module _ (h : Here) (settled : IsSettled h.typing.table) (hands : List Waiting) 
   in_out_given x e kind (t, place, fits, which) direct none allowed = elim (bool_cases (is_scalar (full h.typing.table (object_at h.typing x).of))) [
     | inl plain ↦ from_given x e (λ k. IsPut e k) (λ k put. inl (plain, put))
         (place_given e t place (scalar_type t (object_at h.typing x).of fits plain) none direct allowed)
-    | inr other_type ↦ from_given x e (λ k. IsOwnPut x e k) (λ k put. inr (other_type, put))
+    | inr other_type ↦ from_given x e (λ k. IsOwnPut h.typing h.frame x e k) (λ k put. inr (other_type, put))
         (own_place_given x e t place
         (matches_named h.typing.table (object_at h.typing x).of t (matches_flip t (object_at h.typing x).of fits) (named_there kind other_type)) fits (own_there which other_type) none direct allowed)
   ]
@@ -610,6 +625,24 @@ module _ (h : Here) (settled : IsSettled h.typing.table) (hands : List Waiting) 
       (all_given formals rest (λ y has. kinds y (inr has)) stay.1 copied.1 calls.1 (subst (λ z. AllowsAll z (acts (actual_values h.typing (ways_of formals) rest))) same each.1))
       (λ more are. (refl, (is, are))))
   all_given (x ∷ formals) actuals kinds stay copied none allowed = (refl, refl)
+
+  laid_one : (x : ℕ) (mode_of : Mode) (e : TypedTree) (a : Passed) → IsGiven x mode_of e a → IsLaidOne h.typing h.frame x mode_of e a
+  laid_one x mode.In e (Value ws) is = is
+  laid_one x mode.In e (From k) is = absurd is
+  laid_one x mode.In e (To k) is = absurd is
+  laid_one x mode.Out e (Value ws) is = absurd is
+  laid_one x mode.Out e (From k) is = absurd is
+  laid_one x mode.Out e (To k) is = is.0
+  laid_one x mode.InOut e (Value ws) is = absurd is
+  laid_one x mode.InOut e (From k) (inl (plain, put)) = inl (plain, put.0)
+  laid_one x mode.InOut e (From k) (inr own) = inr own
+  laid_one x mode.InOut e (To k) is = absurd is
+
+  pub all_laid_out : (formals : List ℕ) (actuals : TypedTree) (passed : List Passed) → AreGiven formals actuals passed → AreLaidOut h.typing h.frame formals actuals passed
+  all_laid_out (x ∷ formals) (More e rest) (a ∷ passed) are = (laid_one x (object_at h.typing x).mode e a are.0, all_laid_out formals rest passed are.1)
+  all_laid_out (x ∷ formals) (More e rest) [] are = absurd are
+  all_laid_out [] actuals passed are = are
+  all_laid_out (x ∷ formals) actuals passed are = are
 
   -- ---- what the facts say then
 

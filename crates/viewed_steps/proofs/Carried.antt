@@ -1,7 +1,6 @@
 -- What a place has is taken by a call, or by its end, and given to a place that has no number: the
 -- state stays sound with views.
-use Rattle.std.proofs.Common.{◌≡◌, refl, sym, ap, ◌∙◌, subst, ◌⊎◌, inl, inr, ℕ, ◌+◌, Bool, true, false, not, List, [], ◌∷◌, ◌++◌, take, drop, length, get_or, append-nil, Some}
-use Rattle.spark_base.specs.Lists.{Has}
+use Rattle.std.proofs.Common.{◌≡◌, refl, sym, ap, ◌∙◌, subst, ◌⊎◌, inl, inr, ℕ, ◌+◌, Bool, true, false, not, List, [], ◌∷◌, ◌++◌, take, drop, length, get_or, append-nil}
 use Rattle.place_names.specs.declared.fact.Fact.{Fact}
 use Rattle.type_definitions.specs.Types.{words}
 use Rattle.flow_paths.specs.Objects.{Typing, object_at}
@@ -9,7 +8,7 @@ use Rattle.machine.specs.Words.{access_offsets}
 use Rattle.machine.specs.Words as machine
 use Rattle.machine.specs.Memory.{Slot, Memory, Place, fresh, cell, no_slot, slots_of, slots_at, words_of, gone_at, stored, moved_out}
 use Rattle.machine.specs.States.{Waiting, Leak}
-use Rattle.owned_ways.specs.Ways.{Step, OfVariable, OfHand, Loc, OfRoot, Way, Object, Gone, Held, View, Reaches, IsMove, IsRooted, Under, Past, Named, part, along, base_of, number_of}
+use Rattle.owned_ways.specs.Ways.{Step, OfVariable, OfHand, Loc, OfRoot, Way, Object, Gone, Held, View, Reaches, IsMove, IsRooted, Under, part, along, base_of}
 use Rattle.owned_ways.proofs.Locations.{past_under, reaches_along, under_along, under_itself, named_along}
 use Rattle.owned_ways.proofs.Assigned.{given_apart}
 use Rattle.owned_ways.proofs.Moving.{owner_before}

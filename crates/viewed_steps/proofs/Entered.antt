@@ -4,20 +4,19 @@ use Rattle.std.proofs.Common.{◌≡◌, refl, sym, ap, ◌∙◌, subst, ◌⊎
 use Rattle.std.proofs.lemmas.List.{length-map}
 use Rattle.spark_base.specs.Lists.{Has}
 use Rattle.place_names.specs.declared.fact.Fact.{Fact}
-use Rattle.place_names.specs.declared.fact.Fact.TheVariants.{Moved, Lent}
+use Rattle.place_names.specs.declared.fact.Fact.TheVariants.{Moved}
 use Rattle.place_names.specs.declared.rule.Loan.TheVariants.{Borrowed}
 use Rattle.place_names.specs.Names.{Name as PlaceName, overlaps}
 use Rattle.type_definitions.specs.Types.{shape_of, words, full, is_scalar}
 use Rattle.flow_paths.specs.Objects.{Typing, object_at, is_variable, is_borrowing, is_observing, is_anonymous, is_observer, is_package_object, view_of}
 use Rattle.machine.specs.Words.{access_offsets}
-use Rattle.machine.specs.Words as machine
 use Rattle.machine.specs.Memory.{Slot, Memory, Base, Place, fresh, no_slot, variable_slots, slots_at, slots_of, words_of, gone_at, moved_out, declared}
 use Rattle.machine.specs.Memory as memory
-use Rattle.machine.specs.Calls.{Passed, Value, From, To, with_formal, with_formals, return_of, returns_of}
+use Rattle.machine.specs.Calls.{Passed, Value, From, To, with_formal, with_formals, returns_of}
 use Rattle.machine.specs.States.{Waiting, Leak, Return}
-use Rattle.owned_ways.specs.Ways.{Step, OfVariable, OfHand, Loc, OfRoot, Way, Object, Lost, Into, All, Empty, Held, View, Under, Past, Named, along, base_of, number_of, name_of}
+use Rattle.owned_ways.specs.Ways.{Step, OfVariable, OfHand, Loc, OfRoot, Way, Object, Empty, Held, Under, Past, Named, along, base_of, number_of, name_of}
 use Rattle.owned_ways.proofs.Locations.{same_loc, under_along, under_itself}
-use Rattle.part_offsets.specs.Parts.{type_in, has_part, IsSettled}
+use Rattle.part_offsets.specs.Parts.{type_in, IsSettled}
 use Rattle.soundness.specs.Seen.{content, word_in, seen, home, is_view_formal}
 use Rattle.soundness.specs.Typed.{Matches, OwnsByShape, Kept, Spot}
 use Rattle.soundness.specs.Sound.{AreSameWords}
@@ -30,14 +29,13 @@ use Rattle.owned_loans.specs.Views.{Around, Views, expand, ExcusedBy, Viewed}
 use Rattle.owned_loans.proofs.Ways.{beginnings}
 use Rattle.owned_loans.proofs.Safe.{clean_below, off_view}
 use Rattle.owned_loans.proofs.Moves.{far_named, expand_along, same_viewed}
-use Rattle.viewed_soundness.specs.Holds.{IsNamed}
 use Rattle.viewed_soundness.proofs.Names.{true_false, view_access, not_view}
 use Rattle.viewed_soundness.proofs.Evaluated.{matches_named}
 use Rattle.viewed_steps.specs.Sound.{IsScalarObject}
 use Rattle.viewed_steps.proofs.Left.{cells_same}
-use Rattle.viewed_steps.specs.Taken.{TakenBy, IsInside, IsPassedOn, IsBare, IsApartFrom, IsAnother, AreTaken}
+use Rattle.viewed_steps.specs.Taken.{TakenBy, IsInside, IsPassedOn, IsBare, IsApartFrom, AreTaken}
 use Rattle.viewed_steps.proofs.Between.{gone_also, more_gone, IsClearOf, base_along, base_under, same_variable, taken_more}
-use Rattle.viewed_steps.proofs.Carried.{inside_at, inside_spot, inside_reached, inside_base, inside_rooted, inside_owns, inside_word, inside_steps, carried_bare, carried_held, carried_off}
+use Rattle.viewed_steps.proofs.Carried.{inside_at, inside_spot, inside_reached, inside_base, inside_rooted, inside_owns, inside_word, carried_bare, carried_held, carried_off}
 use Rattle.viewed_steps.proofs.Called.{Enters, with_one}
 use Rattle.viewed_steps.proofs.Beside.{put_beside}
 use Rattle.viewed_steps.proofs.Declared.{declared_viewed}
@@ -110,6 +108,18 @@ ArePassedOn s depth facts scope (x ∷ formals) (a ∷ passed) (to ∷ ways) =
     ⊎ ((k : Place) × (a ≡ From k) × IsPassedOn s depth facts scope x k to × IsWhole facts to × IsApartFrom to ways × DiffersFrom x formals
     × ArePassedOn s depth facts scope formals passed ways)
 
+-- the ways of such places begin at variables of the frame
+pub passed_base : (s : Typing) (depth : ℕ) (facts : List Fact) (scope : List ℕ) (formals : List ℕ) (passed : List Passed) (ways : List Way)
+    → ArePassedOn s depth facts scope formals passed ways → (k : Way) → Has ways k → (y : ℕ) × (base_of k ≡ OfRoot (OfVariable depth y))
+passed_base s depth facts scope [] passed ways none k has = absurd (subst (λ z. Has z k) none has)
+passed_base s depth facts scope (x ∷ formals) [] ways none k has = absurd (subst (λ z. Has z k) none has)
+passed_base s depth facts scope (x ∷ formals) (a ∷ passed) [] are k has = absurd has
+passed_base s depth facts scope (x ∷ formals) (a ∷ passed) (to ∷ ways) (inl are) k has = passed_base s depth facts scope formals passed (to ∷ ways) are.1 k has
+passed_base s depth facts scope (x ∷ formals) (a ∷ passed) (to ∷ ways) (inr (place, is, one, whole, apart, differ, more)) k (inl same) =
+    (one.inside.object, ap base_of (sym same) ∙ inside_base s depth place to one.inside)
+passed_base s depth facts scope (x ∷ formals) (a ∷ passed) (to ∷ ways) (inr (place, is, one, whole, apart, differ, more)) k (inr has) =
+    passed_base s depth facts scope formals passed ways more k has
+
 -- ---- what the formals have then
 
 module _ (s : Typing) (settled : IsSettled s.table) (own_law : OwnsByShape s.table) (no_formals : (x : ℕ) → is_view_formal s x ≡ false)
@@ -120,7 +130,7 @@ module _ (s : Typing) (settled : IsSettled s.table) (own_law : OwnsByShape s.tab
   abbrev Scalar : ℕ → Type 0
   Scalar x = is_scalar (full s.table (object_at s x).of) ≡ true
 
-  not_above : (y : ℕ) → home s depth y ≡ suc depth → ⊥
+  pub not_above : (y : ℕ) → home s depth y ≡ suc depth → ⊥
   not_above y e = by_package (is_package_object s y) e
     where
       by_package : (b : Bool) → (if b then 0 else depth) ≡ suc depth → ⊥

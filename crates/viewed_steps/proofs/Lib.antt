@@ -17,6 +17,7 @@ pub mod Called
 pub mod Entered
 pub mod Backed
 pub mod Whole
+pub mod Passed
 pub mod Standing
 pub mod Packages
 pub mod Innermost

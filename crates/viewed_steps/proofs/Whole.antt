@@ -1,39 +1,32 @@
 -- A call that may end has moved no part of its formals, and none of a package object.
-use Rattle.std.proofs.Common.{◌≡◌, refl, sym, ap, ◌∙◌, subst, ◌⊎◌, inl, inr, ℕ, zero, suc, ◌+◌, ◌<◌, ◌≤◌, Bool, true, false, not, ◌&&◌, ◌||◌, ◌==◌, eq-eqb, eqb-true, List, [], ◌∷◌, map, drop, length, arith, IsTrue, Option, None, if◌then◌else◌}
+use Rattle.std.proofs.Common.{◌≡◌, refl, sym, ap, ◌∙◌, subst, inl, inr, ℕ, zero, suc, ◌+◌, ◌<◌, ◌≤◌, Bool, true, false, not, ◌&&◌, ◌||◌, ◌==◌, eq-eqb, eqb-true, List, [], ◌∷◌, length, arith, None, if◌then◌else◌}
 use Rattle.std.specs.Prelude.{filter, flat_map}
 use Rattle.std.specs.List.{list_any}
 use Rattle.spark_base.specs.Lists.{Has}
 use Rattle.spark_base.specs.declared.position.Pos.{Pos}
-use Rattle.spark_base.proofs.Lists.{Has-append_left, Has-append_right, Has-append_cases, Has-filter, Has-filter_passes, Has-map, Has-map_from}
+use Rattle.spark_base.proofs.Lists.{Has-append_left, Has-append_right, Has-filter_passes, Has-map, Has-map_from}
 use Rattle.place_names.specs.declared.act.Act.{Act}
 use Rattle.place_names.specs.declared.act.Act.TheVariants as act
 use Rattle.place_names.specs.declared.act.Placed.{Placed}
 use Rattle.place_names.specs.declared.fact.Fact.{Fact}
 use Rattle.place_names.specs.declared.fact.Fact.TheVariants.{Moved}
 use Rattle.place_names.specs.Names.{Name as PlaceName}
-use Rattle.place_names.specs.Facts.{place, adds, removes, effect, is_same_fact}
+use Rattle.place_names.specs.Facts.{place, adds, is_same_fact}
 use Rattle.place_names.specs.declared.rule.Rule.TheVariants.{O9}
 use Rattle.place_names.specs.Rules.{forbidden_if, forbids, moved_in}
 use Rattle.place_names.proofs.Facts.{is_same_fact-decides}
 use Rattle.typed_tree.specs.declared.object.Object.{Object}
-use Rattle.typed_tree.specs.Trees.{TypedTree}
 use Rattle.typed_tree.specs.Programs.{TypedSub}
 use Rattle.flow_paths.specs.declared.report.Effects.{Effects}
 use Rattle.flow_paths.specs.Instructions.{Instruction, Skip, Declare, Assign, Call, Output, Input, Release, Test, Choose, Start, Next, Evaluate, LeaveLoop, Hold, EndScope, Finish, Fall}
 use Rattle.flow_paths.specs.Objects.{Typing, is_formal, is_package_object}
-use Rattle.flow_paths.specs.Acts.{placed, acts_of}
+use Rattle.flow_paths.specs.Acts.{acts_of}
 use Rattle.flow_paths.specs.Points.{NamedPoint, FlowPoint}
-use Rattle.flow_paths.specs.Laid.{FlowSub, FlowProgram, NamedSub, distinct, frame_of, kept_roots, point_acts, sub_facts, flow_sub, flow_typing}
-use Rattle.flow_paths.specs.Paths.{path_point, acts_at, facts_before}
-use Rattle.flow_paths.specs.Effects.{is_in, act_writes, act_reads, writes_text, reads_text, point_writes, point_reads, is_global, own_writes, own_reads, calls, sub_calls, flow_sub_at, ends, calls_on, AreEffects, read_by, written_by, global_act, globals_from, globals_of, called_acts, all_acts, path_points}
-use Rattle.owned_ways.specs.Ways.{after}
-use Rattle.soundness.specs.Sound.{Uses}
+use Rattle.flow_paths.specs.Laid.{FlowSub, FlowProgram, NamedSub, distinct, frame_of, kept_roots, point_acts, sub_facts, flow_sub}
+use Rattle.flow_paths.specs.Paths.{facts_before}
+use Rattle.flow_paths.specs.Effects.{AreEffects, path_points}
 use Rattle.soundness.proofs.Contents.{bool_cases}
-use Rattle.soundness.proofs.Scalars.{acts}
-use Rattle.soundness.proofs.Paths.{facts_next}
-use Rattle.soundness.proofs.Points.{path_of, flow_at}
-use Rattle.soundness.proofs.Inherited.{AreGlobal}
-use Rattle.soundness.proofs.Waits.{drop_none}
+use Rattle.soundness.proofs.Points.{flow_at}
 use Rattle.soundness.proofs.Used.{any_has, fact_added}
 
 -- ---- the end of a call

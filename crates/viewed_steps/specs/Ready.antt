@@ -79,10 +79,10 @@ IsActualTo s x mode.Out e = (t : ℕ) × IsPlace s e t × (is_scalar (full s.tab
 IsActualTo s x mode.InOut e =
     (t : ℕ) × IsPlace s e t × Matches s.table t (object_at s x).of × ((is_scalar (full s.table t) ≡ true) ⊎ IsOwnPlace s e)
 
--- So is each that there is a formal for.
+-- So is each that there is a formal for; each formal that isn't of a scalar type has an actual.
 abbrev pub AreActualsTo : Typing → List ℕ → TypedTree → Type 0
 AreActualsTo s (x ∷ formals) (More e rest) = IsActualTo s x (object_at s x).mode e × AreActualsTo s formals rest
-AreActualsTo s formals actuals = Unit {0}
+AreActualsTo s formals actuals = (x : ℕ) → Has formals x → IsScalarObject s x
 
 -- A subprogram that is called is a procedure. (Where none is called, nothing is asked of object 0,
 -- which is Ada.Text_IO.)
