@@ -3,3 +3,4 @@ pub mod Parsed
 pub mod Main
 pub mod Functions
 pub mod Views
+pub mod ViewFacts

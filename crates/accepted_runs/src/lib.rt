@@ -6,5 +6,6 @@
 //! types and no limit, and that there are no reports (`specs/Passed.antt`, `proofs/Passing.antt`).
 //! The files are parsed then, as `file_positions` has it (`proofs/Parsed.antt`). So the laws of
 //! `sound_files`, of `excused_runs` and of `null_runs` speak of what `check` accepts
-//! (`proofs/Main.antt`), and so do those of `viewed_files` (`proofs/Views.antt`). Nothing here runs.
+//! (`proofs/Main.antt`), and so do those of `viewed_files` (`proofs/Views.antt`) and of `viewed_facts`
+//! (`proofs/ViewFacts.antt`). Nothing here runs.
 #![tactic(auto)]

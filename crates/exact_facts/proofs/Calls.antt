@@ -31,7 +31,7 @@ module _ (s : Typing) (settled : IsSettled s.table) (own_law : OwnsByShape s.tab
       ap (map (spot p (name_of x path) before)) (ap (parts s.table) same ∙ settled.part_law t ∙ plain_parts (parts s.table) (shape_of s.table t) scalar)
   one_spot mode.Out e (t, never, scalar) before = absurd never
 
-  all_spots : (formals : List ℕ) (actuals : TypedTree) → AreActuals s formals actuals → (before : ℕ)
+  pub all_spots : (formals : List ℕ) (actuals : TypedTree) → AreActuals s formals actuals → (before : ℕ)
       → call_spots s (map (way_of s own_law) formals) actuals before ≡ []
   all_spots [] actuals stay before = refl
   all_spots (x ∷ formals) (More e rest) stay before =

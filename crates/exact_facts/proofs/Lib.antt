@@ -20,4 +20,5 @@ pub mod Spots
 pub mod Stepping
 pub mod Main
 pub mod Going
+pub mod Budgets
 pub mod Runs

@@ -1,5 +1,5 @@
 -- At no step of the run of a program that is ready a leak check fails that is excused.
-use Rattle.std.proofs.Common.{◌≡◌, ◌⊎◌, inl, inr, refl, sym, ap, ◌∙◌, subst, ℕ, zero, suc, Bool, true, false, nat_le, List, [], ◌∷◌, ◌++◌, get_or, if◌then◌else◌}
+use Rattle.std.proofs.Common.{◌≡◌, inl, inr, refl, sym, ap, subst, ℕ, List, [], ◌∷◌, ◌++◌, get_or}
 use Rattle.spark_base.specs.Lists.{Has}
 use Rattle.place_names.specs.declared.fact.Fact.TheVariants.{Moved}
 use Rattle.type_definitions.specs.Types.{Table}
@@ -10,10 +10,9 @@ use Rattle.flow_paths.specs.Paths.{begins, facts_before}
 use Rattle.flow_paths.specs.Effects.{path_points}
 use Rattle.flow_paths.specs.LeakPlan.{IsExcused}
 use Rattle.flow_paths.specs.Laid.{FlowSub, FlowProgram, flow_sub, typing_of, flow_typing, flow_program}
-use Rattle.machine.specs.Evaluate.{StorageError}
-use Rattle.machine.specs.States.{Frame, Leak, State, Raised, Spent, Outcome, Goes, Ends, state_of, sub_of, frame_words, stack_words, frame_at_start}
+use Rattle.machine.specs.States.{Frame, Leak, State, Outcome, Goes, Ends, sub_of, frame_at_start}
 use Rattle.machine.specs.Step.{main_frame}
-use Rattle.machine.specs.Run.{frames_at_start, state_at_start, no_point, step, then_on, within, main_of, moment}
+use Rattle.machine.specs.Run.{frames_at_start, state_at_start, no_point, step}
 use Rattle.owned_ways.specs.Ways.{Way, name_of}
 use Rattle.soundness.specs.Seen.{home}
 use Rattle.soundness.specs.Sound.{Stage, Elsewhere, AreStages, IsDefiniteOf}
@@ -23,6 +22,7 @@ use Rattle.soundness.proofs.Beginning.{empty_sound, empty_kept, empty_scope, sta
 use Rattle.exact_facts.specs.Exact.{NoneFails, checks_of, IsExactly, LeadsExactly, StepHolds, RunHolds}
 use Rattle.exact_facts.proofs.Main.{excused_hold}
 use Rattle.exact_facts.proofs.Going.{exactly_step}
+use Rattle.exact_facts.proofs.Budgets.{LeadsBy, steps_hold}
 
 module _ (table : Table) (typed : TypedProgram) (effects : Effects) (ready : IsReady table typed effects) where
   abbrev program : FlowProgram
@@ -115,22 +115,6 @@ module _ (table : Table) (typed : TypedProgram) (effects : Effects) (ready : IsR
   -- ---- the run
 
   module _ (input : List ℕ) where
-    abbrev on : State → Outcome
-    on = step (flow_program table typed) input
-
-    -- the outcome after so many steps from one
-    abbrev going : Outcome → ℕ → Outcome
-    going o zero = o
-    going o (suc n) = then_on (going o n) on
-
-    go : (o : Outcome) → LeadsExactly table typed effects o → LeadsExactly table typed effects (then_on o on)
-    go (Goes state) exactly = exactly_step table typed effects input ready state exactly
-    go (Ends e state) exactly = tt
-
-    reached : (n : ℕ) → LeadsExactly table typed effects (going (Goes (state_at_start (flow_program table typed))) n)
-    reached zero = exactly_start
-    reached (suc n) = go (going (Goes (state_at_start (flow_program table typed))) n) (reached n)
-
     by_frames : (top : Stage) (older : List Stage) (fs : List Frame) (checks : List (List Leak)) → AreStages (top ∷ older) fs
         → NoneFails (IsExcused (path_points (flow_program table typed) effects (sub_of (flow_program table typed) top.frame.sub)) top.frame.next)
         (get_or (sub_of (flow_program table typed) top.frame.sub).points top.frame.next no_point).leaks checks
@@ -140,60 +124,16 @@ module _ (table : Table) (typed : TypedProgram) (effects : Effects) (ready : IsR
         NoneFails (IsExcused (path_points (flow_program table typed) effects (sub_of (flow_program table typed) g.sub)) g.next)
         (get_or (sub_of (flow_program table typed) g.sub).points g.next no_point).leaks checks) stages.0 holds
 
-    step_holds : (state : State) → IsExactly table typed effects state → StepHolds (flow_program table typed) effects state.frames (checks_of (on state))
+    step_holds : (state : State) → IsExactly table typed effects state → StepHolds (flow_program table typed) effects state.frames (checks_of (step (flow_program table typed) input state))
     step_holds state exactly =
-        by_frames exactly.0.top exactly.0.older state.frames (checks_of (on state)) exactly.0.stages (excused_hold table typed effects input ready state exactly.0 exactly.1)
+        by_frames exactly.0.top exactly.0.older state.frames (checks_of (step (flow_program table typed) input state)) exactly.0.stages
+        (excused_hold table typed effects input ready state exactly.0 exactly.1)
 
-    -- ---- a run with a budget takes these steps
-
-    abbrev spent : Outcome → Outcome
-    spent (Goes state) = Ends Spent state
-    spent (Ends e state) = Ends e state
-
-    first_step : (o : Outcome) (n : ℕ) → going (then_on o on) n ≡ then_on (going o n) on
-    first_step o zero = refl
-    first_step o (suc n) = ap (λ x. then_on x on) (first_step o n)
-
-    within_going : (n : ℕ) (o : Outcome) → then_on o (within n (flow_program table typed) input) ≡ spent (going o n)
-    unfolding within
-    within_going zero (Goes state) = refl
-    within_going zero (Ends e state) = refl
-    within_going (suc n) (Goes state) = within_going n (on state) ∙ ap spent (first_step (Goes state) n)
-    within_going (suc n) (Ends e state) = within_going n (Ends e state) ∙ ap spent (first_step (Ends e state) n)
-
-    checks_after : (o : Outcome) → (state_of (spent o)).checks ≡ checks_of o
-    checks_after (Goes state) = refl
-    checks_after (Ends e state) = refl
-
-    -- The run has ended, or it takes a step more.
-    abbrev Holds : Outcome → Outcome → Type 0
-    Holds now next = (next ≡ now) ⊎ StepHolds (flow_program table typed) effects (state_of now).frames (state_of next).checks
-
-    by_outcome : (o : Outcome) → LeadsExactly table typed effects o → Holds (spent o) (spent (then_on o on))
-    by_outcome (Ends e state) exactly = inl refl
-    by_outcome (Goes state) exactly = inr (subst (StepHolds (flow_program table typed) effects state.frames) (sym (checks_after (on state))) (step_holds state exactly))
-
-    abbrev begun : Outcome
-    begun = Goes (state_at_start (flow_program table typed))
-
-    within_holds : (n : ℕ) → Holds (within n (flow_program table typed) input (state_at_start (flow_program table typed)))
-        (within (suc n) (flow_program table typed) input (state_at_start (flow_program table typed)))
-    within_holds n =
-        subst (λ now. Holds now (within (suc n) (flow_program table typed) input (state_at_start (flow_program table typed)))) (sym (within_going n begun))
-        (subst (Holds (spent (going begun n))) (sym (within_going (suc n) begun)) (by_outcome (going begun n) (reached n)))
-
-    abbrev main : ℕ
-    main = main_of (flow_program table typed).main
-
-    abbrev run_if : Bool → ℕ → Outcome
-    run_if b m =
-        if b then within m (flow_program table typed) input (state_at_start (flow_program table typed))
-        else Ends (Raised StorageError (sub_of (flow_program table typed) main).pos) (state_at_start (flow_program table typed))
-
-    if_holds : (n : ℕ) (b : Bool) → Holds (run_if b n) (run_if b (suc n))
-    if_holds n true = within_holds n
-    if_holds n false = inl refl
+    leads_there : (outcome : Outcome) → LeadsExactly table typed effects outcome → LeadsBy (IsExactly table typed effects) outcome
+    leads_there (Goes state) leads = leads
+    leads_there (Ends e state) leads = leads
 
     pub run_holds : RunHolds (flow_program table typed) effects input
-    unfolding moment
-    run_holds n = if_holds n (nat_le (frame_words (flow_program table typed) (frame_at_start main [] ∷ frame_at_start 0 [] ∷ [])) stack_words)
+    run_holds =
+        steps_hold (flow_program table typed) effects input (IsExactly table typed effects) exactly_start
+        (λ state exactly. leads_there (step (flow_program table typed) input state) (exactly_step table typed effects input ready state exactly)) step_holds

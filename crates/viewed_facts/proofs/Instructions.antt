@@ -1,7 +1,7 @@
 -- Facts without an element stay exact in instructions of programs with borrowers and observers, and their excused leak
 -- checks don't fail. What is exact is said with the ways that views had before; that a view got another way is
 -- `told_turned` of `Steps`.
-use Rattle.std.proofs.Common.{◌≡◌, refl, sym, ap, ◌∙◌, subst, inl, ℕ, Bool, true, false, not, List, [], ◌∷◌, ◌++◌, map, length, nat_lt, append-nil, Some, if◌then◌else◌}
+use Rattle.std.proofs.Common.{◌≡◌, refl, sym, ap, ◌∙◌, subst, ◌⊎◌, inl, inr, ℕ, Bool, true, false, not, List, [], ◌∷◌, ◌++◌, map, length, nat_lt, append-nil, Some, if◌then◌else◌}
 use Rattle.spark_base.specs.Lists.{Has}
 use Rattle.spark_base.specs.declared.position.Pos.{Pos}
 use Rattle.place_names.specs.declared.act.Act.TheVariants as act
@@ -9,48 +9,54 @@ use Rattle.place_names.specs.declared.fact.Fact.{Fact}
 use Rattle.place_names.specs.declared.fact.Fact.TheVariants.{Moved}
 use Rattle.place_names.specs.Names.{Name as PlaceName, object}
 use Rattle.place_names.specs.Facts.{effect}
-use Rattle.type_definitions.specs.Types.{parts}
+use Rattle.type_definitions.specs.Types.{full, parts}
 use Rattle.typed_tree.specs.Trees.{TypedTree, TypedCode, Name, NoMore, More}
 use Rattle.flow_paths.specs.declared.point.LeakSpot.{LeakSpot}
 use Rattle.flow_paths.specs.Instructions.{Skip}
 use Rattle.flow_paths.specs.Objects.{Typing, object_at, is_observer, is_anonymous, view_of}
-use Rattle.flow_paths.specs.Names.{has_call, name_of}
+use Rattle.flow_paths.specs.Names.{has_call, name_of, first}
 use Rattle.flow_paths.specs.Scopes.{taken}
-use Rattle.flow_paths.specs.Acts.{acts_in, stored_acts, spot}
+use Rattle.flow_paths.specs.Acts.{acts_in, stored_acts, declared_acts, source_acts, observe, spot}
 use Rattle.machine.specs.Words as machine
 use Rattle.machine.specs.Memory.{Memory, declared, undeclared, stored}
-use Rattle.machine.specs.Evaluate.{Here, Now, AsValue, Evaluated, Done, Raises, Traps, followed_by, evaluate, checked, value, viewed, place_of, variable_place}
+use Rattle.machine.specs.Evaluate.{Here, Now, AsValue, Evaluated, Done, Raises, Traps, followed_by, evaluate, initial, checked, value, viewed, place_of, variable_place}
 use Rattle.machine.specs.Evaluate as run
 use Rattle.machine.specs.Calls.{checks_at}
-use Rattle.machine.specs.States.{Waiting, Outcome, Goes, Ends}
-use Rattle.machine.specs.Step.{Turn, typing, here, start, Stored, taken_by, assign, end_scope, goes, leaking_goes, target_pos}
+use Rattle.machine.specs.States.{Waiting, Leak, Outcome, Goes, Ends}
+use Rattle.machine.specs.Step.{Turn, typing, here, start, Stored, first_value, taken_by, declare, assign, goes, leaking_goes, target_pos}
 use Rattle.machine.specs.Step as steps
 use Rattle.machine.specs.Owners.{waiting_in}
-use Rattle.owned_ways.specs.Ways.{OfVariable, OfRoot, Way, Object, Under, Named, IsSame, after, AllowsAll, number_of}
+use Rattle.owned_ways.specs.Ways.{OfVariable, OfRoot, Way, Object, Empty, Held, View, Under, Named, IsSame, after, AllowsAll, number_of, name_of as way_name}
+use Rattle.owned_ways.proofs.Named.{longer}
+use Rattle.owned_ways.proofs.Dropped.{named_base}
 use Rattle.part_offsets.specs.Parts.{IsSettled}
 use Rattle.soundness.specs.Seen.{content, home, seen, IsNear, is_view_formal}
 use Rattle.soundness.specs.Typed.{OwnsByShape}
-use Rattle.typed_laws.specs.Needed.{Stays, Gives, Leads}
-use Rattle.soundness.proofs.Contents.{checks_made}
+use Rattle.typed_laws.specs.Needed.{Stays, Gives, Leads, Source, FirstSource}
+use Rattle.soundness.proofs.Near.{near_under}
+use Rattle.soundness.proofs.Contents.{word_no, checks_made}
 use Rattle.soundness.proofs.Steps.{alike}
 use Rattle.soundness.proofs.Scalars.{acts}
 use Rattle.soundness.proofs.Stays.{Quiet, One}
 use Rattle.soundness.proofs.Numbers.{index_law}
 use Rattle.soundness.proofs.Lasting.{keeps}
-use Rattle.owned_loans.specs.Views.{Around, Views}
+use Rattle.soundness.proofs.Waits.{or_both}
+use Rattle.owned_loans.specs.Views.{Around, Views, expand, Viewed}
 use Rattle.viewed_soundness.specs.Holds.{IsNamed, PartsAreNamed, AllKeep}
+use Rattle.viewed_soundness.proofs.Names.{true_false}
 use Rattle.viewed_soundness.proofs.Stays.{quiet}
 use Rattle.viewed_soundness.proofs.Evaluated.{Given}
-use Rattle.viewed_soundness.proofs.Viewing.{view_unseen}
-use Rattle.viewed_soundness.proofs.Outcomes.{named_plain, IsGood, start_is, live}
+use Rattle.viewed_soundness.proofs.Viewing.{view_leaf, view_unseen}
+use Rattle.viewed_soundness.proofs.Outcomes.{named_plain, not_views, IsGood, start_is, live}
+use Rattle.viewed_steps.proofs.Declared.{IsUnmoved, IsFree, stands_root, first_given}
 use Rattle.exact_facts.specs.Exact.{NoneFails, Knows}
 use Rattle.exact_facts.proofs.Steps.{IsPlaced, keeps_placed}
 use Rattle.exact_facts.proofs.Memories.{clear_names}
 use Rattle.exact_facts.proofs.Instructions.{none_made}
 use Rattle.viewed_facts.specs.Exact.{IsDefinite, IsExact}
-use Rattle.viewed_facts.proofs.Steps.{definite_variable, told_still, told_fewer}
+use Rattle.viewed_facts.proofs.Steps.{named_definite, definite_variable, told_still, told_fewer, told_turned}
 use Rattle.viewed_facts.proofs.Memories.{told_seen, exact_from, declared_exact, ended_exact}
-use Rattle.viewed_facts.proofs.Evaluated.{ExactTo}
+use Rattle.viewed_facts.proofs.Evaluated.{ExactTo, checked_exact, exact_after}
 use Rattle.viewed_facts.proofs.Stored.{StoresExact, assigned_exact}
 use Rattle.viewed_facts.proofs.Checks.{place_holds}
 
@@ -175,18 +181,86 @@ module _ (t : Turn) (settled : IsSettled (typing t).table) (own_law : OwnsByShap
 
   -- ---- a variable is declared that no fact speaks of
 
-  pub then_declared : (x : ℕ) (facts : List Fact) (y : Evaluated (List machine.Word))
-      → Given (here t) settled t.state.leaks [] other alone (keeps s settled own_law) no_formals index_law own_law v parts_named (object_at s x).of hands facts y
-      → ExactTo (here t) settled t.state.leaks [] other alone (keeps s settled own_law) no_formals index_law own_law v parts_named elsewhere away facts y
-      → ((w : Way) → IsDefinite (home s depth) v elsewhere facts w → Under (Object (OfVariable depth x)) w → ⊥)
+  abbrev Speaks_not : ℕ → List Fact → Type 0
+  Speaks_not x facts =
+      IsUnmoved t settled own_law other alone no_formals v parts_named may frames none x facts × IsFree t settled own_law other alone no_formals v parts_named may frames none x
+
+  abbrev ExactTo_here : List Fact → Evaluated (List machine.Word) → Type 0
+  ExactTo_here facts y = ExactTo (here t) settled t.state.leaks [] other alone (keeps s settled own_law) no_formals index_law own_law v parts_named elsewhere away facts y
+
+  abbrev Given_here : ℕ → List Fact → Evaluated (List machine.Word) → Type 0
+  Given_here u facts y = Given (here t) settled t.state.leaks [] other alone (keeps s settled own_law) no_formals index_law own_law v parts_named u hands facts y
+
+  same_frame : (f x g y : ℕ) → OfRoot (OfVariable f x) ≡ OfRoot (OfVariable g y) → f ≡ g
+  same_frame f x g y e = cc
+
+  unspoken : (x : ℕ) (facts : List Fact) (z : View) → Viewed (home s depth) (is_observer s) other v z facts → Speaks_not x facts
+      → (w : Way) → IsDefinite (home s depth) v elsewhere facts w → Under (Object (OfVariable depth x)) w → ⊥
+  unspoken x facts z viewed (unmoved, free) w (inr e) under = away w (near_under depth (Object (OfVariable depth x)) w under (inr refl)) e.1
+  unspoken x facts z viewed (unmoved, free) w (inl d) under =
+      let begins_there = longer (Object (OfVariable depth x)) w under in
+      let named : Named (home s depth) w = named_definite (home s depth) (is_observer s) other v elsewhere apart z facts viewed w d in
+      let at_home : home s depth x ≡ depth =
+      ap (home s depth) (sym begins_there.root)
+      ∙ same_frame (home s depth (number_of w)) (number_of w) depth x (sym (named_base (home s depth) w named) ∙ begins_there.base) in
+      let root : number_of (expand v d.0) ≡ x = ap number_of d.3 ∙ begins_there.root in
+      elim (stands_root v d.0) [
+        | inl e ↦ unmoved (way_name d.0) d.1.1 (sym e ∙ root) (sym at_home)
+        | inr (y, k, has, e) ↦ free y k has at_home (sym e ∙ root)
+      ]
+
+  then_declared : (x : ℕ) (facts : List Fact) (y : Evaluated (List machine.Word)) → Given_here (object_at s x).of facts y → ExactTo_here facts y → Speaks_not x facts
       → ExactOn facts [] (steps.evaluated t y (λ ws n. goes t (declared depth x ws n) 0))
-  then_declared x facts (Done ws n) (ready, long, same) exact no_fact = (
+  then_declared x facts (Done ws n) (ready, long, same) exact none_said = (
     declared_exact s settled (home s depth) (is_observer s) other v elsewhere apart n.memory (record { of = (object_at s x).of; words = ws }) hands t.state.leaks facts depth x
-        t.point.pos ready.viewed ready.kept (no_formals x) long (alike s.table settled (object_at s x).of (object_at s x).of (inl refl)) no_fact exact,
+        t.point.pos ready.viewed ready.kept (no_formals x) long (alike s.table settled (object_at s x).of (object_at s x).of (inl refl))
+        (unspoken x facts (seen s n.memory (record { of = (object_at s x).of; words = ws } ∷ hands) t.state.leaks) ready.viewed none_said) exact,
     tt,
   )
-  then_declared x facts (Raises e n) given exact no_fact = tt
-  then_declared x facts (Traps e n) never exact no_fact = tt
+  then_declared x facts (Raises e n) given exact none_said = tt
+  then_declared x facts (Traps e n) never exact none_said = tt
+
+  -- what it is declared with
+  source_exact : (u : ℕ) (e : TypedTree) → IsNamed s.table u → Source s u e → has_call e ≡ false → (facts : List Fact) → Good facts
+      → AllowsAll facts (acts (acts_in s e)) → AllKeep (is_observer s) (acts (acts_in s e)) → Exact m facts → ExactTo_here (after (acts (acts_in s e)) facts) (taken_by t u e now)
+  source_exact u e named (inl (view, is)) calls facts good allowed keep exact = absurd (true_false (is_anonymous (full s.table u)) view (named_plain s.table u named))
+  source_exact u e named (inr gives) calls facts good allowed keep exact =
+      subst (λ b. ExactTo_here (after (acts (acts_in s e)) facts) (if b then viewed (here t) e now else followed_by (value (here t) e now) (checked (here t) u)))
+      (sym (named_plain s.table u named))
+      (checked_exact (here t) settled t.state.leaks [] other alone (keeps s settled own_law) no_formals index_law own_law v parts_named elsewhere away u
+      (after (acts (acts_in s e)) facts) (evaluate (here t) AsValue e now)
+      (exact_after (here t) settled t.state.leaks [] other alone (keeps s settled own_law) no_formals index_law own_law v parts_named elsewhere away e u gives calls
+      m hands facts (record { viewed = good.viewed; kept = good.kept; holds = good.holds }) allowed named keep exact))
+
+  first_exact : (u : ℕ) (e : TypedTree) → IsNamed s.table u → FirstSource s u e → has_call e ≡ false → (facts : List Fact) → Good facts
+      → AllowsAll facts (acts (acts_in s e)) → AllKeep (is_observer s) (acts (acts_in s e)) → Exact m facts → ExactTo_here (after (acts (acts_in s e)) facts) (first_value t u e now)
+  unfolding acts_in has_call initial
+  first_exact u (More e rest) named (last, gives) calls facts good allowed keep exact =
+      let same : acts_in s e ++ acts_in s rest ≡ acts_in s e = ap (λ z. acts_in s e ++ acts_in s z) last ∙ append-nil (acts_in s e) in
+      subst (λ z. ExactTo_here (after (acts z) facts) (taken_by t u e now)) (sym same)
+      (source_exact u e named gives (or_both (has_call e) (has_call rest) calls).0 facts good (subst (λ z. AllowsAll facts (acts z)) same allowed)
+      (subst (λ z. AllKeep (is_observer s) (acts z)) same keep) exact)
+  first_exact u NoMore named gives calls facts good allowed keep exact = exact
+  first_exact u e named gives calls facts good allowed keep exact = absurd gives
+
+  -- An object is declared that isn't a view. No fact after the evaluation names it.
+  pub declare_exact : (x : ℕ) (e : TypedTree) → IsNamed s.table (object_at s x).of → FirstSource s (object_at s x).of e → has_call e ≡ false → (facts : List Fact)
+      → Good facts → AllowsAll facts (acts (declared_acts s x e)) → AllKeep (is_observer s) (acts (declared_acts s x e))
+      → Speaks_not x (after (acts (declared_acts s x e)) facts) → Exact m facts → ExactOn (after (acts (declared_acts s x e)) facts) [] (declare t x e)
+  declare_exact x e named gives calls facts good allowed keep none_said exact =
+      let kinds = not_views s x named in
+      let same : declared_acts s x e ≡ acts_in s e =
+      ap (λ b. if b then source_acts s (first e) (act.Borrow x) else
+      (if is_observer s x then source_acts s (first e) (observe s x) else acts_in s e)) kinds.0
+      ∙ ap (λ b. if b then source_acts s (first e) (observe s x) else acts_in s e) kinds.1 in
+      let allows = subst (λ z. AllowsAll facts (acts z)) same allowed in
+      let keep_there = subst (λ z. AllKeep (is_observer s) (acts z)) same keep in
+      subst (λ z. ExactOn (after (acts z) facts) [] (declare t x e)) (sym same)
+      (subst (λ z. ExactOn (after (acts (acts_in s e)) facts) [] (steps.evaluated t (first_value t (object_at s x).of e z) (λ ws n. goes t (declared depth x ws n) 0))) (sym started)
+      (then_declared x (after (acts (acts_in s e)) facts) (first_value t (object_at s x).of e now)
+      (first_given t settled own_law other alone no_formals v parts_named may frames none (object_at s x).of e named gives calls facts good allows keep_there)
+      (first_exact (object_at s x).of e named gives calls facts good allows keep_there exact)
+      (subst (λ z. Speaks_not x (after (acts z) facts)) same none_said)))
 
   -- ---- what owners don't see
 
@@ -214,20 +288,43 @@ module _ (t : Turn) (settled : IsSettled (typing t).table) (own_law : OwnsByShap
   view_declared P x view facts facts' good less exact (Raises e n) is = tt
   view_declared P x view facts facts' good less exact (Traps e n) never = tt
 
-  -- ---- the end of a scope, where no view begins
+  -- ---- the end of a scope, where none of the views that are left begins
+
+  -- the variable of a view owns nothing
+  pub view_empty : (n : Memory) (waiting : List Waiting) (leaks : List Leak) (f x : ℕ) → is_anonymous (view_of s x) ≡ true
+      → (c : ℕ) → (seen s n waiting leaks).word (OfRoot (OfVariable f x)) ≡ Held c → ⊥
+  view_empty n waiting leaks f x view c held =
+      let none = word_no s.table (content s n waiting (OfRoot (OfVariable f x))) [] (view_leaf s.table settled (object_at s x).of view []) in
+      let no_number : Empty ≡ Held c = sym none ∙ held in cc
 
   -- `mine`: the object is one of the frame
-  pub end_scope_exact : (x : ℕ) (borrower : Bool) → home s depth x ≡ depth → (facts : List Fact) → Good facts
-      → ((y : ℕ) (w : Way) → v.way y ≡ Some w → number_of w ≡ x → ⊥) → Exact m facts
-      → (pos : Pos) (count : ℕ) → Knows Excused pos (object x) count facts (parts s.table (object_at s x).of)
-      → ExactOn (effect (act.EndScope x borrower) facts) (map (spot pos (object x) count) (parts s.table (object_at s x).of)) (end_scope t x)
-  end_scope_exact x borrower mine facts good roots exact pos count known =
+  pub end_scope_checked : (x : ℕ) → (facts : List Fact) → Viewed (home s depth) (is_observer s) other v (seen s m hands t.state.leaks) facts
+      → Exact m facts → (pos : Pos) (count : ℕ) → Knows Excused pos (object x) count facts (parts s.table (object_at s x).of)
+      → NoneFails Excused (map (spot pos (object x) count) (parts s.table (object_at s x).of)) (checks_at s t.point.pos m (variable_place (here t) x))
+  end_scope_checked x facts viewed exact pos count known =
+      place_holds s settled (home s depth) v elsewhere m hands t.state.leaks facts
+      (definite_variable (home s depth) (is_observer s) other v elsewhere apart (seen s m hands t.state.leaks) facts viewed) exact
+      (variable_place (here t) x) (OfRoot (OfVariable (home s depth x) x)) (Object (OfVariable (home s depth x) x))
+      (record { base = refl; made = tt; at = refl; there = refl; of = inl refl }) refl refl Excused t.point.pos pos count known
+
+  pub end_scope_exact : (left : Views) (x : ℕ) (borrower : Bool) → home s depth x ≡ depth → (facts : List Fact)
+      → Viewed (home s depth) (is_observer s) other v (seen s m hands t.state.leaks) facts
+      → ((y : ℕ) (w : Way) → v.way y ≡ Some w → is_anonymous (view_of s y) ≡ true)
+      → ((y : ℕ) (w : Way) → left.way y ≡ Some w → (v.way y ≡ Some w) × (number_of w ≡ x → ⊥)) → Exact m facts
+      → IsExact s (home s depth) left elsewhere (undeclared depth x m) (effect (act.EndScope x borrower) facts)
+  end_scope_exact left x borrower mine facts viewed only was exact =
       let checks = checks_made s.table settled (content s m hands (OfRoot (OfVariable (home s depth x) x))) [] (object_at s x).of t.point.pos t.state.leaks refl
-      (ap not (no_formals x)) (alike s.table settled (object_at s x).of (object_at s x).of (inl refl)) in (
-        subst (λ f. Exact (undeclared f x m) (effect (act.EndScope x borrower) facts)) mine
-            (ended_exact s settled (home s depth) (is_observer s) other v elsewhere apart m hands t.state.leaks _ facts x borrower good.viewed checks roots exact),
-        place_holds s settled (home s depth) v elsewhere m hands t.state.leaks facts
-            (definite_variable (home s depth) (is_observer s) other v elsewhere apart (seen s m hands t.state.leaks) facts good.viewed) exact
-            (variable_place (here t) x) (OfRoot (OfVariable (home s depth x) x)) (Object (OfVariable (home s depth x) x))
-            (record { base = refl; made = tt; at = refl; there = refl; of = inl refl }) refl refl Excused t.point.pos pos count known,
-      )
+      (ap not (no_formals x)) (alike s.table settled (object_at s x).of (object_at s x).of (inl refl)) in
+      subst (λ f. IsExact s (home s depth) left elsewhere (undeclared f x m) (effect (act.EndScope x borrower) facts)) mine
+      (ended_exact s settled (home s depth) (is_observer s) other v elsewhere apart m hands t.state.leaks _ facts left x borrower viewed checks was
+      (λ y w n has. view_empty m hands t.state.leaks (home s depth y) y (only y w has) n) exact)
+
+  -- ---- views with other ways
+
+  -- where each view has the way that it had, or no moved name is rooted in it
+  pub turned_exact : (n : Memory) (turned : Views) (facts : List Fact) → ((x : ℕ) (w : Way) → v.way x ≡ Some w → is_anonymous (view_of s x) ≡ true)
+      → ((x : ℕ) (w : Way) → turned.way x ≡ Some w → (v.way x ≡ Some w) ⊎ ((name : PlaceName) → Has facts (Moved name) → name.root ≡ x → ⊥))
+      → Exact n facts → IsExact s (home s depth) turned elsewhere n facts
+  turned_exact n turned facts only turns exact =
+      told_turned (home s depth) (is_observer s) other v elsewhere apart (seen s n [] []) turned facts turns
+      (λ x w c has. view_empty n [] [] (home s depth x) x (only x w has) c) exact

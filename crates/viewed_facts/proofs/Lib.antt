@@ -6,3 +6,9 @@ pub mod Stored
 pub mod Instructions
 pub mod Releases
 pub mod Loops
+pub mod Viewing
+pub mod Frames
+pub mod Stepping
+pub mod Main
+pub mod Going
+pub mod Runs

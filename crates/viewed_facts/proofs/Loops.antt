@@ -1,5 +1,5 @@
 -- Facts without an element stay exact in output, input and the iterations of loops, which change scalar places at most.
-use Rattle.std.proofs.Common.{◌≡◌, refl, sym, ap, ◌∙◌, subst, inl, inr, ℕ, suc, ◌+◌, Bool, true, false, not, ◌&&◌, List, [], ◌∷◌, ◌++◌, take, drop, length, arith, ℤ, int_le, Option, Some, None, if◌then◌else◌}
+use Rattle.std.proofs.Common.{◌≡◌, refl, sym, ap, ◌∙◌, subst, inl, inr, ℕ, suc, ◌+◌, Bool, true, false, not, ◌&&◌, List, [], ◌∷◌, ◌++◌, take, drop, length, append-nil, arith, ℤ, int_le, Option, Some, None, if◌then◌else◌}
 use Rattle.std.specs.Prelude as int
 use Rattle.spark_base.specs.declared.position.Pos.{Pos}
 use Rattle.place_names.specs.declared.act.Act.{Act}
@@ -10,7 +10,7 @@ use Rattle.place_names.specs.Names.{Name as PlaceName}
 use Rattle.place_names.specs.Rules.{breaks_O3}
 use Rattle.place_names.specs.Facts.{effect}
 use Rattle.type_definitions.specs.Types.{shape_of, words, is_scalar, full}
-use Rattle.typed_tree.specs.Trees.{TypedTree, Name, NoMore}
+use Rattle.typed_tree.specs.Trees.{TypedTree, Name, NoMore, More}
 use Rattle.flow_paths.specs.declared.point.LeakSpot.{LeakSpot}
 use Rattle.flow_paths.specs.Objects.{Typing, object_at, is_observer}
 use Rattle.flow_paths.specs.Names.{has_call, name_of}
@@ -34,7 +34,7 @@ use Rattle.owned_ways.proofs.Assigned.{named_rooted}
 use Rattle.part_offsets.specs.Parts.{IsSettled}
 use Rattle.soundness.specs.Seen.{seen, home, IsNear, is_view_formal}
 use Rattle.soundness.specs.Typed.{OwnsByShape}
-use Rattle.typed_laws.specs.Needed.{Stays, Leads}
+use Rattle.typed_laws.specs.Needed.{Stays, Leads, Writes}
 use Rattle.soundness.proofs.Contents.{bool_cases}
 use Rattle.soundness.proofs.Memories.{put_other, removed_other}
 use Rattle.soundness.proofs.Walks.{way_along, Walked}
@@ -52,7 +52,7 @@ use Rattle.viewed_soundness.specs.Holds.{PartsAreNamed}
 use Rattle.viewed_soundness.proofs.Stays.{Goes as GoesAlong, quiet, steps_quiet, name_quiet}
 use Rattle.viewed_soundness.proofs.Evaluated.{Ready, live_trunk, blank_ready}
 use Rattle.viewed_soundness.proofs.Outcomes.{IsGood, start_is, live}
-use Rattle.viewed_steps.proofs.Rounds.{Starts}
+use Rattle.viewed_steps.proofs.Rounds.{Starts, text_quiet}
 use Rattle.viewed_steps.proofs.Read.{Gets}
 use Rattle.exact_facts.proofs.Memories.{clear_names}
 use Rattle.viewed_facts.specs.Exact.{IsExact}
@@ -179,13 +179,24 @@ module _ (t : Turn) (settled : IsSettled (typing t).table) (own_law : OwnsByShap
 
   -- ---- output, of a text that changes nothing
 
-  pub written_exact : (facts : List Fact) → Exact m facts → (line : Bool) (y : Evaluated (List ℕ)) → Quiet now (Any {A = List ℕ}) y
+  written_exact : (facts : List Fact) → Exact m facts → (line : Bool) (y : Evaluated (List ℕ)) → Quiet now (Any {A = List ℕ}) y
       → ExactHere facts (steps.evaluated t y (λ bytes m. Goes (record (behind t (waiting t) m 0) {
         output = t.state.output ++ bytes ++ (if line then 10 ∷ [] else []);
       })))
   written_exact facts exact line (Done a n) (same, p) = (subst (λ (z : Now). Exact z.memory facts) (sym same) exact, tt)
   written_exact facts exact line (Raises e n) is = tt
   written_exact facts exact line (Traps e n) never = tt
+
+  pub output_exact : (e rest : TypedTree) (line : Bool) → rest ≡ NoMore → Writes s e → has_call e ≡ false → (facts : List Fact) → Good facts
+      → AllowsAll facts (acts (acts_in s (More e rest))) → Exact m facts → ExactHere (after (acts (acts_in s (More e rest))) facts) (steps.output t (More e rest) line)
+  unfolding acts_in
+  output_exact e rest line last writes calls facts good allowed exact =
+      let same : acts_in s e ++ acts_in s rest ≡ acts_in s e = ap (λ z. acts_in s e ++ acts_in s z) last ∙ append-nil (acts_in s e) in
+      let q = text_quiet t settled own_law other alone no_formals v parts_named may frames none e writes calls facts good (subst (λ z. AllowsAll facts (acts z)) same allowed) in
+      subst (λ z. ExactHere z (steps.output t (More e rest) line)) (sym (ap (λ z. after (acts z) facts) same ∙ q.1))
+      (subst (λ z. ExactHere facts (steps.evaluated t (text_of (here t) e z) (λ bytes m. Goes (record (behind t (waiting t) m 0) {
+        output = t.state.output ++ bytes ++ (if line then 10 ∷ [] else []);
+      })))) (sym started) (written_exact facts exact line (text_of (here t) e now) q.0))
 
   -- a line that ends without a text
   pub line_exact : (line : Bool) (facts : List Fact) → Exact m facts → ExactHere facts (steps.output t NoMore line)

@@ -16,7 +16,7 @@ use Rattle.machine.specs.Words as machine
 use Rattle.machine.specs.Memory.{Memory, HeapCell, Place, cell, no_slot, words_of, stored, moved_out, declared, undeclared, with_new_cell}
 use Rattle.machine.specs.Calls.{checked_at}
 use Rattle.machine.specs.States.{Waiting, Leak}
-use Rattle.owned_ways.specs.Ways.{OfVariable, OfHand, Loc, OfRoot, OfCell, Inside, Way, Object, Gone, View, Step, Reaches, part, along, Told, Owned, Named, Spares, Allows, Under, sels_of, name_of, number_of}
+use Rattle.owned_ways.specs.Ways.{OfVariable, OfHand, Loc, OfRoot, OfCell, Inside, Way, Object, Gone, Held, View, Step, Reaches, part, along, Told, Owned, Named, Spares, Allows, Under, sels_of, name_of, number_of}
 use Rattle.owned_ways.proofs.Locations.{under_along, under_itself, named_along, reaches_along}
 use Rattle.owned_ways.proofs.Named.{same_way}
 use Rattle.owned_ways.proofs.Assigned.{named_rooted, given_apart}
@@ -34,11 +34,11 @@ use Rattle.owned_loans.proofs.Safe.{clean_below}
 use Rattle.owned_loans.proofs.Allowed.{move_unlent, move_unmoved}
 use Rattle.owned_loans.proofs.Moves.{named_way}
 use Rattle.exact_facts.specs.Exact.{IsOfVariable}
-use Rattle.exact_facts.proofs.Steps.{Keeps, IsPlaced, no_hand}
+use Rattle.exact_facts.proofs.Steps.{fact_before, Keeps, IsPlaced, no_hand}
 use Rattle.exact_facts.proofs.Parts.{plain_leaf}
 use Rattle.exact_facts.proofs.Memories.{sels_part, named_part, end_plain, Shows, same_told}
 use Rattle.viewed_facts.specs.Exact.{IsDefinite, IsExact}
-use Rattle.viewed_facts.proofs.Steps.{definite_variable, variables_after, told_still, told_put, told_given, told_taken, told_ended}
+use Rattle.viewed_facts.proofs.Steps.{definite_variable, variables_after, told_still, told_put, told_given, told_taken, left_variable, told_ended}
 
 marked : (x : machine.Word) (g : Bool) → g ≡ true → owner_at x g ≡ Gone
 marked x true e = refl
@@ -188,18 +188,26 @@ module _ (s : Typing) (settled : IsSettled s.table) (home : ℕ → ℕ) (observ
       (told_given home observer other v elsewhere apart (seen s m (x ∷ rest) leaks) after_it (length rest) (Object (OfVariable f y)) (OfRoot (OfVariable f y)) facts
       viewed given none (told_seen m (x ∷ rest) leaks facts viewed exact))
 
-  -- ---- the scope of an object ends, where no view begins
+  -- ---- the scope of an object ends, where none of the views that are left begins
 
-  pub ended_exact : (m : Memory) (rest : List Waiting) (leaks leaks' : List Leak) (facts : List Fact) (x : ℕ) (borrower : Bool)
+  pub ended_exact : (m : Memory) (rest : List Waiting) (leaks leaks' : List Leak) (facts : List Fact) (left : Views) (x : ℕ) (borrower : Bool)
       → Viewed home observer other v (seen s m rest leaks) facts → Checks s.table (content s m rest (OfRoot (OfVariable (home x) x))) [] leaks leaks'
-      → ((y : ℕ) (w : Way) → v.way y ≡ Some w → number_of w ≡ x → ⊥)
-      → Exact m facts → Exact (undeclared (home x) x m) (effect (EndScope x borrower) facts)
-  ended_exact m rest leaks leaks' facts x borrower viewed checks roots exact =
-      let after_it : View = seen s (undeclared (home x) x m) rest leaks' in
-      exact_from after_it (undeclared (home x) x m) rest (effect (EndScope x borrower) facts)
-      (variables_after home observer other v elsewhere apart (seen s m rest leaks) facts viewed (EndScope x borrower) (λ n none. absurd none)) (λ z. refl)
-      (told_ended home observer other v elsewhere apart (seen s m rest leaks) after_it x borrower facts viewed (drops s m (home x) x rest leaks leaks' checks) roots
-      (told_seen m rest leaks facts viewed exact))
+      → ((y : ℕ) (w : Way) → left.way y ≡ Some w → (v.way y ≡ Some w) × (number_of w ≡ x → ⊥))
+      → ((y : ℕ) (w : Way) (n : ℕ) → v.way y ≡ Some w → (seen s m rest leaks).word (OfRoot (OfVariable (home y) y)) ≡ Held n → ⊥)
+      → Exact m facts → IsExact s home left elsewhere (undeclared (home x) x m) (effect (EndScope x borrower) facts)
+  ended_exact m rest leaks leaks' facts left x borrower viewed checks was empty exact =
+      same_told s (seen s (undeclared (home x) x m) rest leaks') (seen s (undeclared (home x) x m) [] []) (undeclared (home x) x m) rest []
+      (IsDefinite home left elsewhere (effect (EndScope x borrower) facts)) variables (λ z. refl) (λ l. refl)
+      (told_ended home observer other v elsewhere apart (seen s m rest leaks) (seen s (undeclared (home x) x m) rest leaks') left x borrower facts viewed
+      (drops s m (home x) x rest leaks leaks' checks) was empty (told_seen m rest leaks facts viewed exact))
+    where
+      variables : (w : Way) → IsDefinite home left elsewhere (effect (EndScope x borrower) facts) w → IsOfVariable w
+      variables w (inr e) = e.0
+      variables w (inl d) = elim (fact_before (EndScope x borrower) facts (Moved (name_of d.0)) d.1.1) [
+        | inr none ↦ absurd none
+        | inl old ↦ left_variable home observer other v elsewhere apart (seen s m rest leaks) left facts viewed (λ y k has. (was y k has).0) w
+            (inl (d.0, (d.1.0, old.0), d.2, d.3))
+      ]
 
   -- ---- a cell is made
 

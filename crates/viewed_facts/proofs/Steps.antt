@@ -73,7 +73,7 @@ module _ (home : ℕ → ℕ) (observer : ℕ → Bool) (other : Around home) (v
   stands : (s : View) (facts : List Fact) (viewed : Viewed home observer other v s facts) (k : Way) → IsName s facts viewed k → Named home (expand v k)
   stands s facts viewed k plain = named_way home observer other v s facts viewed.views (suc (number_of k)) k (omega arith) plain
 
-  named_definite : (s : View) (facts : List Fact) (viewed : Viewed home observer other v s facts) (w : Way) → IsDefiniteBy home v facts w → Named home w
+  pub named_definite : (s : View) (facts : List Fact) (viewed : Viewed home observer other v s facts) (w : Way) → IsDefiniteBy home v facts w → Named home w
   named_definite s facts viewed w d =
       subst (Named home) d.3 (stands s facts viewed d.0 (d.1.0, viewed.clear.owned (name_of d.0) d.1.1))
 
@@ -220,47 +220,6 @@ module _ (home : ℕ → ℕ) (observer : ℕ → Bool) (other : Around home) (v
             let covered = under_covers k d.0 below d.2 in let kept = old.1 in cc)) reach
       ]
 
-  -- ---- the scope of an object of the frame ends
-
-  abbrev place : ℕ → Way
-  place x = Object (OfVariable (home x) x)
-
-  -- no view begins there
-  pub told_ended : (s t : View) (x : ℕ) (borrower : Bool) (facts : List Fact) → Viewed home observer other v s facts → IsDrop s t (OfVariable (home x) x)
-      → ((y : ℕ) (w : Way) → v.way y ≡ Some w → number_of w ≡ x → ⊥)
-      → Told s (Definite facts) → Told t (Definite (effect (EndScope x borrower) facts))
-  told_ended s t x borrower facts viewed step roots told = by
-    where
-      was : (l : Loc) (c : ℕ) → t.word l ≡ Held c → s.word l ≡ Held c
-      was l c h = sym (step.off l (λ b. (let is : Held c ≡ Empty = sym h ∙ ap t.word b.1 ∙ step.empty b.0 in cc))) ∙ h
-
-      stays : (w : Way) (l : Loc) → Definite facts w → (Under (place x) w → ⊥) → Reaches t w l → t.word l ≡ Gone
-      stays w l is off reach =
-          let before = reached_before s t was w l (rooted s facts viewed w is) reach in
-          step.off l (λ b. (
-          let there : Reaches s (along (place x) b.0) (part (OfRoot (OfVariable (home x) x)) b.0) = reaches_along s (place x) (OfRoot (OfVariable (home x) x)) b.0 refl in
-          let same : w ≡ along (place x) b.0 = one_way s viewed.owned w (along (place x) b.0) l before (subst (Reaches s (along (place x) b.0)) (sym b.1) there) in
-          off (subst (Under (place x)) (sym same) (under_along (place x) (place x) b.0 (under_itself (place x))))))
-          ∙ told w l is before
-
-      -- what stands for a way that begins there is rooted there
-      own_root : (u : Way) → number_of (expand v u) ≡ x → number_of u ≡ x
-      own_root u is = elim (lifts v u) [
-        | inl e ↦ ap number_of (sym e) ∙ is
-        | inr l ↦ absurd (roots l.object l.way l.has (sym (root_on l.way l.rest) ∙ ap number_of (sym (lifted_way v u l)) ∙ is))
-      ]
-
-      by : Told t (Definite (effect (EndScope x borrower) facts))
-      by w l (inr e) reach = stays w l (inr e) (λ under. apart (place x) w under refl e.1) reach
-      by w l (inl d) reach = elim (fact_before (EndScope x borrower) facts (Moved (name_of d.0)) d.1.1) [
-        | inr none ↦ absurd none
-        | inl old ↦ stays w l (inl (d.0, (d.1.0, old.0), d.2, d.3))
-            (λ under. (
-            let number : number_of d.0 ≡ x = own_root d.0 (ap number_of d.3 ∙ (longer (place x) w under).root) in
-            let ends = eq-eqb (number_of d.0) x number in
-            let kept = old.1 in cc)) reach
-      ]
-
   -- ---- acts that move nothing
 
   -- what is moved after it was moved before
@@ -308,4 +267,61 @@ module _ (home : ℕ → ℕ) (observer : ℕ → Bool) (other : Around home) (v
               let held = root_held b.rest s (OfVariable b.frame b.object) l at in
               empty b.object b.way held.0 b.has (subst (λ f. s.word (OfRoot (OfVariable f b.object)) ≡ Held held.0) frame held.1))
         ]
+      ]
+
+  -- ---- the scope of an object of the frame ends
+
+  abbrev place : ℕ → Way
+  place x = Object (OfVariable (home x) x)
+
+  -- where the views that are left have the ways that they had
+  pub left_variable : (s : View) (left : Views) (facts : List Fact) → Viewed home observer other v s facts
+      → ((y : ℕ) (w : Way) → left.way y ≡ Some w → v.way y ≡ Some w) → (w : Way) → IsDefinite home left elsewhere facts w → IsOfVariable w
+  left_variable s left facts viewed was w (inr e) = e.0
+  left_variable s left facts viewed was w (inl d) = elim (lifts left d.0) [
+    | inl e ↦ named_variable home w (subst (Named home) (sym e ∙ d.3) d.1.0)
+    | inr l ↦ (
+        let before : Lifted v d.0 = record { frame = l.frame; object = l.object; rest = l.rest; way = l.way; is = l.is; has = was l.object l.way l.has } in
+        definite_variable s facts viewed w (inl (d.0, d.1, d.2, lifted_way v d.0 before ∙ sym (lifted_way left d.0 l) ∙ d.3)))
+  ]
+
+  -- none of them begins there
+  pub told_ended : (s t : View) (left : Views) (x : ℕ) (borrower : Bool) (facts : List Fact) → Viewed home observer other v s facts
+      → IsDrop s t (OfVariable (home x) x)
+      → ((y : ℕ) (w : Way) → left.way y ≡ Some w → (v.way y ≡ Some w) × (number_of w ≡ x → ⊥))
+      → ((y : ℕ) (w : Way) (n : ℕ) → v.way y ≡ Some w → s.word (OfRoot (OfVariable (home y) y)) ≡ Held n → ⊥)
+      → Told s (Definite facts) → Told t (IsDefinite home left elsewhere (effect (EndScope x borrower) facts))
+  told_ended s t left x borrower facts viewed step was empty told = by
+    where
+      told_left : Told s (IsDefinite home left elsewhere facts)
+      told_left = told_turned s left facts (λ y w has. inl (was y w has).0) empty told
+
+      held_before : (l : Loc) (c : ℕ) → t.word l ≡ Held c → s.word l ≡ Held c
+      held_before l c h = sym (step.off l (λ b. (let is : Held c ≡ Empty = sym h ∙ ap t.word b.1 ∙ step.empty b.0 in cc))) ∙ h
+
+      stays : (w : Way) (l : Loc) → IsDefinite home left elsewhere facts w → (Under (place x) w → ⊥) → Reaches t w l → t.word l ≡ Gone
+      stays w l is off reach =
+          let before = reached_before s t held_before w l (variable_rooted w (left_variable s left facts viewed (λ y k has. (was y k has).0) w is)) reach in
+          step.off l (λ b. (
+          let there : Reaches s (along (place x) b.0) (part (OfRoot (OfVariable (home x) x)) b.0) = reaches_along s (place x) (OfRoot (OfVariable (home x) x)) b.0 refl in
+          let same : w ≡ along (place x) b.0 = one_way s viewed.owned w (along (place x) b.0) l before (subst (Reaches s (along (place x) b.0)) (sym b.1) there) in
+          off (subst (Under (place x)) (sym same) (under_along (place x) (place x) b.0 (under_itself (place x))))))
+          ∙ told_left w l is before
+
+      -- what stands for a way that begins there is rooted there
+      own_root : (u : Way) → number_of (expand left u) ≡ x → number_of u ≡ x
+      own_root u is = elim (lifts left u) [
+        | inl e ↦ ap number_of (sym e) ∙ is
+        | inr l ↦ absurd ((was l.object l.way l.has).1 (sym (root_on l.way l.rest) ∙ ap number_of (sym (lifted_way left u l)) ∙ is))
+      ]
+
+      by : Told t (IsDefinite home left elsewhere (effect (EndScope x borrower) facts))
+      by w l (inr e) reach = stays w l (inr e) (λ under. apart (place x) w under refl e.1) reach
+      by w l (inl d) reach = elim (fact_before (EndScope x borrower) facts (Moved (name_of d.0)) d.1.1) [
+        | inr none ↦ absurd none
+        | inl old ↦ stays w l (inl (d.0, (d.1.0, old.0), d.2, d.3))
+            (λ under. (
+            let number : number_of d.0 ≡ x = own_root d.0 (ap number_of d.3 ∙ (longer (place x) w under).root) in
+            let ends = eq-eqb (number_of d.0) x number in
+            let kept = old.1 in cc)) reach
       ]

@@ -74,7 +74,9 @@ use Rattle.sound_files.proofs.Main.{files_orderly}
 use Rattle.view_laws.specs.InOrder.{AreViewsInOrder}
 use Rattle.view_laws.specs.Program.{IsViewProgram}
 use Rattle.view_laws.proofs.Spared.{owners_spared}
-use Rattle.view_laws.proofs.Ready.{uncalled_spared, views_sound}
+use Rattle.viewed_steps.specs.Ready.{IsReady}
+use Rattle.viewed_steps.proofs.Main.{ready_sound}
+use Rattle.view_laws.proofs.Ready.{uncalled_spared, views_ready}
 use Rattle.viewed_files.specs.Class.{IsFormlessText, SparePackages}
 use Rattle.viewed_files.proofs.Sources.{scalar_plain}
 use Rattle.viewed_files.proofs.Main.{IsGiven, views_in_order}
@@ -216,10 +218,10 @@ module _ (files : List (List SourceUnit)) where
           subst (λ first. AreViewsInOrder table (typed_of p) first order.rest) (heads _ _ _ _ (sym subs_are ∙ order.subs))
           (subst (λ rest. AreViewsInOrder table (typed_of p) (elaboration (site_of (known_of p) p.units) p.units) rest) rest_is (files_views_in_order main is_main formals_plain))
 
-      called_sound : AreCallees table (typed_of p) (bodies_of p) → CopiesToVariables flow_of_files → ArePassed flow_of_files → SparePackages flow_of_files effects
-          → (input : List ℕ) → RunIsSound table (typed_of p) input
-      called_sound callees copied passed spare =
-          views_sound table (typed_of p) effects view_program
+      called_ready : AreCallees table (typed_of p) (bodies_of p) → CopiesToVariables flow_of_files → ArePassed flow_of_files → SparePackages flow_of_files effects
+          → IsReady table (typed_of p) effects
+      called_ready callees copied passed spare =
+          views_ready table (typed_of p) effects view_program
           (elim spare [
             | inl nothing ↦ owners_spared table (typed_of p) effects view_program nothing
             | inr spared ↦ spared
@@ -239,16 +241,20 @@ module _ (files : List (List SourceUnit)) where
             views = views_here;
           }
 
-      -- Where procedures are called that have bodies, and no package object owns, or no part of one is lent then, each
-      -- moment of each run is well owned, and none is a trap.
-      pub files_called_sound : HasNoFunction p → AreStepsTyped flow_of_files → CopiesToVariables flow_of_files → SparePackages flow_of_files effects
-          → (input : List ℕ) → RunIsSound table (typed_of p) input
-      files_called_sound procedures typed copied =
+      -- Where procedures are called that have bodies, and no package object owns, or no part of one is lent then, the
+      -- program is ready: each moment of each run is well owned, and none is a trap.
+      pub files_called_ready : HasNoFunction p → AreStepsTyped flow_of_files → CopiesToVariables flow_of_files → SparePackages flow_of_files effects
+          → IsReady table (typed_of p) effects
+      files_called_ready procedures typed copied =
           let same : table ≡ flow_of_files.table = sym (flow_table table (typed_of p)) in
-          called_sound (callees p (files_bodies files up named) procedures) copied
+          called_ready (callees p (files_bodies files up named) procedures) copied
           (scalar_passed flow_of_files formals (subst (λ (rows : Table). counts (shape_of rows integer) ≡ true) same laws.whole)
           (subst (λ (rows : Table). lists (shape_of rows boolean) ≡ true) same laws.listed)
           (subst (λ (rows : Table). (t : ℕ) → words rows t ≡ words_of (words rows) (shape_of rows t)) same laws.word_law) typed)
+
+      pub files_called_sound : HasNoFunction p → AreStepsTyped flow_of_files → CopiesToVariables flow_of_files → SparePackages flow_of_files effects
+          → (input : List ℕ) → RunIsSound table (typed_of p) input
+      files_called_sound procedures typed copied spare input = ready_sound table (typed_of p) effects input (files_called_ready procedures typed copied spare)
 
     -- So it is where there are no formals and nothing is called.
     module _ (text : IsFormlessText p) (effects : Effects) (are : AreEffects flow_of_files effects) (none : AreReports flow_of_files effects []) (calls : CallsNothing flow_of_files) where
@@ -261,19 +267,33 @@ module _ (files : List (List SourceUnit)) where
       no_call : (sub : FlowSub) → Has flow_of_files.subs sub → (q : FlowPoint) → Has sub.points q → (n : ℕ) (actuals : TypedTree) (result : Option ℕ) → q.instr ≡ Call n actuals result → ⊥
       no_call sub has q there n actuals result is = (let never : false ≡ true = sym (ap calls_nothing is) ∙ calls sub has q there in cc)
 
-      pub files_views_sound : (input : List ℕ) → RunIsSound table (typed_of p) input
-      files_views_sound =
-          called_sound text.main text.is_main effects are none calls_procedures (λ x is. (let no : true ≡ false = sym is ∙ unformed x in cc))
+      pub files_views_ready : IsReady table (typed_of p) effects
+      files_views_ready =
+          called_ready text.main text.is_main effects are none calls_procedures (λ x is. (let no : true ≡ false = sym is ∙ unformed x in cc))
           (λ sub has q there n actuals result is. absurd (no_call sub has q there n actuals result is))
           (λ sub has q there n actuals result is. absurd (no_call sub has q there n actuals result is))
           (formless_passed flow_of_files unformed) (inr (uncalled_spared flow_of_files effects calls))
 
+      pub files_views_sound : (input : List ℕ) → RunIsSound table (typed_of p) input
+      files_views_sound input = ready_sound table (typed_of p) effects input files_views_ready
+
   -- So it is if the files are parsed from texts: then their positions are as in a text.
+  pub parsed_views_ready : (texts : List (List Cut)) → AreParsed 0 texts files → name_fault files ≡ None → type_fault p ≡ None → IsFormlessText p
+      → (effects : Effects) → AreEffects flow_of_files effects → AreReports flow_of_files effects [] → CallsNothing flow_of_files → IsReady table (typed_of p) effects
+  parsed_views_ready texts parsed named no_fault =
+      files_views_ready (files_apart texts files parsed) (files_ended (identified files) texts files parsed) (events_ascend texts files parsed) named no_fault
+
   pub parsed_views_sound : (texts : List (List Cut)) → AreParsed 0 texts files → name_fault files ≡ None → type_fault p ≡ None → IsFormlessText p
       → (effects : Effects) → AreEffects flow_of_files effects → AreReports flow_of_files effects [] → CallsNothing flow_of_files
       → (input : List ℕ) → RunIsSound table (typed_of p) input
   parsed_views_sound texts parsed named no_fault =
       files_views_sound (files_apart texts files parsed) (files_ended (identified files) texts files parsed) (events_ascend texts files parsed) named no_fault
+
+  pub parsed_called_ready : (texts : List (List Cut)) → AreParsed 0 texts files → name_fault files ≡ None → type_fault p ≡ None → (main : ℕ) → (typed_of p).main ≡ Some main
+      → (effects : Effects) → AreEffects flow_of_files effects → AreReports flow_of_files effects [] → CallsProcedures flow_of_files → HasScalarFormals flow_of_files
+      → HasNoFunction p → AreStepsTyped flow_of_files → CopiesToVariables flow_of_files → SparePackages flow_of_files effects → IsReady table (typed_of p) effects
+  parsed_called_ready texts parsed named no_fault =
+      files_called_ready (files_apart texts files parsed) (files_ended (identified files) texts files parsed) (events_ascend texts files parsed) named no_fault
 
   pub parsed_called_sound : (texts : List (List Cut)) → AreParsed 0 texts files → name_fault files ≡ None → type_fault p ≡ None → (main : ℕ) → (typed_of p).main ≡ Some main
       → (effects : Effects) → AreEffects flow_of_files effects → AreReports flow_of_files effects [] → CallsProcedures flow_of_files → HasScalarFormals flow_of_files

@@ -299,7 +299,7 @@ module _ (table : Table) (typed : TypedProgram) (effects : Effects) (input : Lis
       unrooted x v e r z mine (inl shared) same_root = true_false (is_package_object s x) (ap (is_package_object s) (sym same_root) ∙ shared) mine
       unrooted x v e r z mine (inr (within, end, around)) same_root = not_within x v e (subst (λ z. is_within z p.scope ≡ true) same_root within)
 
-      free : (x : ℕ) (v : TypedTree) → p.instr ≡ Declare x v → (y : ℕ) (w : Way) → views.way y ≡ Some w → IsElsewhere (home s depth) depth x w
+      pub free : (x : ℕ) (v : TypedTree) → p.instr ≡ Declare x v → (y : ℕ) (w : Way) → views.way y ≡ Some w → IsElsewhere (home s depth) depth x w
       free x v e y w has at_home root = by_package (is_package_object s x) refl
         where
           by_package : (b : Bool) → is_package_object s x ≡ b → ⊥

@@ -1,6 +1,7 @@
 -- The state before the first step is sound, and so each moment of the run is well owned, and none is
 -- a trap.
 use Rattle.std.proofs.Common.{◌≡◌, refl, sym, ap, subst, ℕ, zero, suc, Bool, true, false, nat_le, List, [], ◌∷◌, ◌++◌, get_or, inl, inr, Some, None, if◌then◌else◌}
+use Rattle.spark_base.specs.Lists.{Has}
 use Rattle.type_definitions.specs.Types.{Table}
 use Rattle.typed_tree.specs.Programs.{TypedProgram}
 use Rattle.flow_paths.specs.declared.report.Effects.{Effects}
@@ -24,7 +25,7 @@ use Rattle.soundness.proofs.Owners.{well_owned}
 use Rattle.soundness.proofs.Beginning.{empty_sound, empty_kept, empty_scope}
 use Rattle.soundness.proofs.Points.{sub_there}
 use Rattle.owned_loans.specs.Views.{known_gone, Views, Viewed}
-use Rattle.viewed_steps.specs.Sound.{GoneElsewhere, IsSound, LeadsOn}
+use Rattle.viewed_steps.specs.Sound.{ViewStage, GoneElsewhere, IsSound, LeadsOn}
 use Rattle.viewed_steps.specs.Ready.{IsReady}
 use Rattle.viewed_steps.proofs.Packages.{stage, first_point}
 use Rattle.viewed_steps.proofs.Stepping.{sound_step}
@@ -72,71 +73,89 @@ module _ (table : Table) (typed : TypedProgram) (effects : Effects) (input : Lis
   abbrev stage_of : ℕ → ℕ → Stage
   stage_of n depth = stage table typed effects input ready n depth
 
+  -- A sound state none of whose frames has executed a point.
+  abbrev pub IsFresh : State → Type 0
+  IsFresh state =
+      (sound : IsSound table typed effects state)
+      × ((g : ViewStage) → Has (record { stage = sound.top; views = sound.views } ∷ sound.older) g → g.stage.before ≡ [])
+
   -- the package objects are declared first
-  packages_start : (p : NamedPoint) (rest : List NamedPoint) → ready.packages.points ≡ p ∷ rest → IsSound table typed effects (started (frame_at_start 0 [] ∷ []))
-  packages_start p rest is = record {
-    top = stage_of 0 0;
-    views = no_views;
-    older = [];
-    stages = (refl, refl, tt);
-    running = (refl, (refl, refl, refl), (λ x. refl));
-    path = begins (first_point table typed effects input ready 0 ready.packages ready.stands p rest is);
-    viewed = empty_viewed s (home s 0) (GoneElsewhere program effects []);
-    kept = empty_kept s;
-    named = ready.packages;
-    of_sub = ready.stands;
-    point = p;
-    at_point = ([], rest, is, refl);
-    scope = empty_scope s 0 p.scope;
-    holds = record {
-      held = λ x n lasts view e. absurd (empty_word s (home s 0 x) x n e);
-      within = λ x n view e. absurd (empty_word s (home s 0 x) x n e);
-      only = λ x w has. absurd (none_some w has);
-    };
-    placed = λ x w has. absurd (none_some w has);
-    none_above = λ f x n less view e. empty_word s f x n e;
-  }
+  packages_start : (p : NamedPoint) (rest : List NamedPoint) → ready.packages.points ≡ p ∷ rest → IsFresh (started (frame_at_start 0 [] ∷ []))
+  packages_start p rest is = (
+    record {
+      top = stage_of 0 0;
+      views = no_views;
+      older = [];
+      stages = (refl, refl, tt);
+      running = (refl, (refl, refl, refl), (λ x. refl));
+      path = begins (first_point table typed effects input ready 0 ready.packages ready.stands p rest is);
+      viewed = empty_viewed s (home s 0) (GoneElsewhere program effects []);
+      kept = empty_kept s;
+      named = ready.packages;
+      of_sub = ready.stands;
+      point = p;
+      at_point = ([], rest, is, refl);
+      scope = empty_scope s 0 p.scope;
+      holds = record {
+        held = λ x n lasts view e. absurd (empty_word s (home s 0 x) x n e);
+        within = λ x n view e. absurd (empty_word s (home s 0 x) x n e);
+        only = λ x w has. absurd (none_some w has);
+      };
+      placed = λ x w has. absurd (none_some w has);
+      none_above = λ f x n less view e. empty_word s f x n e;
+    },
+    λ g has. elim has [ inl e ↦ ap (λ (z : ViewStage). z.stage.before) (sym e) | inr none ↦ absurd none ],
+  )
 
   -- without any, the main procedure begins
-  main_start : IsSound table typed effects (started (frame_at_start ready.main [] ∷ (frame_at_start 0 [] ∷ [])))
-  main_start = record {
-    top = stage_of ready.main 1;
-    views = no_views;
-    older = record { stage = stage_of 0 0; views = no_views } ∷ [];
-    stages = (refl, refl, (refl, refl, tt));
-    running = (ready.main_there, (refl, ((λ x has. inl (ready.main_plain x has)), (λ r has. absurd has))), ((refl, (refl, refl, refl), (λ x. refl)), refl));
-    path = begins (first_point table typed effects input ready ready.main ready.main_there.named ready.main_there.stands
-        ready.main_there.point ready.main_there.points ready.main_there.begins);
-    viewed = empty_viewed s (home s 1) (GoneElsewhere program effects (record { stage = stage_of 0 0; views = no_views } ∷ []));
-    kept = empty_kept s;
-    named = ready.main_there.named;
-    of_sub = ready.main_there.stands;
-    point = ready.main_there.point;
-    at_point = ([], ready.main_there.points, ready.main_there.begins, refl);
-    scope = empty_scope s 1 ready.main_there.point.scope;
-    holds = record {
-      held = λ x n lasts view e. absurd (empty_word s (home s 1 x) x n e);
-      within = λ x n view e. absurd (empty_word s (home s 1 x) x n e);
-      only = λ x w has. absurd (none_some w has);
-    };
-    placed = λ x w has. absurd (none_some w has);
-    none_above = λ f x n less view e. empty_word s f x n e;
-  }
+  main_start : IsFresh (started (frame_at_start ready.main [] ∷ (frame_at_start 0 [] ∷ [])))
+  main_start = (
+    record {
+      top = stage_of ready.main 1;
+      views = no_views;
+      older = record { stage = stage_of 0 0; views = no_views } ∷ [];
+      stages = (refl, refl, (refl, refl, tt));
+      running = (ready.main_there, (refl, ((λ x has. inl (ready.main_plain x has)), (λ r has. absurd has))), ((refl, (refl, refl, refl), (λ x. refl)), refl));
+      path = begins (first_point table typed effects input ready ready.main ready.main_there.named ready.main_there.stands
+          ready.main_there.point ready.main_there.points ready.main_there.begins);
+      viewed = empty_viewed s (home s 1) (GoneElsewhere program effects (record { stage = stage_of 0 0; views = no_views } ∷ []));
+      kept = empty_kept s;
+      named = ready.main_there.named;
+      of_sub = ready.main_there.stands;
+      point = ready.main_there.point;
+      at_point = ([], ready.main_there.points, ready.main_there.begins, refl);
+      scope = empty_scope s 1 ready.main_there.point.scope;
+      holds = record {
+        held = λ x n lasts view e. absurd (empty_word s (home s 1 x) x n e);
+        within = λ x n view e. absurd (empty_word s (home s 1 x) x n e);
+        only = λ x w has. absurd (none_some w has);
+      };
+      placed = λ x w has. absurd (none_some w has);
+      none_above = λ f x n less view e. empty_word s f x n e;
+    },
+    λ g has. elim has [
+      | inl e ↦ ap (λ (z : ViewStage). z.stage.before) (sym e)
+      | inr more ↦ elim more [ inl e ↦ ap (λ (z : ViewStage). z.stage.before) (sym e) | inr none ↦ absurd none ]
+    ],
+  )
 
   -- by the points of the package objects
   abbrev numbered_there : List NamedPoint → List FlowPoint
   numbered_there points = (flow_sub (typing_of table typed) (record ready.packages { points = points })).points
 
-  by_points : (points : List NamedPoint) → ready.packages.points ≡ points → IsSound table typed effects (started (frames_at_start program (numbered_there points)))
+  by_points : (points : List NamedPoint) → ready.packages.points ≡ points → IsFresh (started (frames_at_start program (numbered_there points)))
   by_points [] is =
-      subst (λ fs. IsSound table typed effects (started fs))
+      subst (λ fs. IsFresh (started fs))
       (sym (ap (λ z. main_frame (record program { main = z }) ++ (frame_at_start 0 [] ∷ [])) ready.is_main)) main_start
   by_points (p ∷ rest) is = packages_start p rest is
 
-  pub sound_start : IsSound table typed effects (state_at_start program)
-  sound_start =
-      subst (λ (z : FlowSub). IsSound table typed effects (started (frames_at_start program z.points)))
+  pub fresh_start : IsFresh (state_at_start program)
+  fresh_start =
+      subst (λ (z : FlowSub). IsFresh (started (frames_at_start program z.points)))
       (sym (sub_there table typed 0 ready.packages ready.stands)) (by_points ready.packages.points refl)
+
+  pub sound_start : IsSound table typed effects (state_at_start program)
+  sound_start = fresh_start.0
 
   -- ---- runs
 

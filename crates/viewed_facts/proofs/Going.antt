@@ -1,0 +1,265 @@
+-- Each step of a sound state whose facts are exact leads to such a state, in a program that is ready.
+use Rattle.std.proofs.Common.{◌≡◌, refl, sym, ◌∙◌, subst, ◌⊎◌, inl, inr, ℕ, suc, true, false, List, [], ◌∷◌, length, arith, Some, None}
+use Rattle.spark_base.specs.Lists.{Has}
+use Rattle.place_names.specs.declared.fact.Fact.{Fact}
+use Rattle.place_names.specs.declared.fact.Fact.TheVariants.{Moved}
+use Rattle.place_names.specs.Names.{Name as PlaceName}
+use Rattle.type_definitions.specs.Types.{Table}
+use Rattle.typed_tree.specs.Programs.{TypedProgram}
+use Rattle.flow_paths.specs.declared.report.Effects.{Effects}
+use Rattle.flow_paths.specs.Instructions.{Instruction, EndScope, Finish}
+use Rattle.flow_paths.specs.Objects.{Typing, is_anonymous, is_observer, is_package_object, view_of}
+use Rattle.flow_paths.specs.Points.{NamedPoint}
+use Rattle.flow_paths.specs.Laid.{FlowSub, FlowProgram, NamedSub, flow_typing, flow_program, flow_named}
+use Rattle.flow_paths.specs.Paths.{ControlPath, facts_before}
+use Rattle.flow_paths.specs.Effects.{path_points}
+use Rattle.machine.specs.Memory.{Memory}
+use Rattle.machine.specs.States.{Frame, State, Outcome, Goes, Ends, sub_of}
+use Rattle.machine.specs.Owners.{waiting_in}
+use Rattle.machine.specs.Run.{step}
+use Rattle.owned_ways.specs.Ways.{Way, Loc, Gone, Reaches, Told, Named, name_of}
+use Rattle.soundness.specs.Seen.{home, seen}
+use Rattle.soundness.specs.Typed.{Kept}
+use Rattle.soundness.specs.Sound.{Stage, facts_of, AreStages, IsProcedure, InScope, IsNamedSub, IsAtPoint, IsNoCall, IsOnward, AreSameWords, view_of as view_here}
+use Rattle.soundness.proofs.Points.{sub_there}
+use Rattle.soundness.proofs.Successors.{calls_cases}
+use Rattle.owned_loans.specs.Views.{known_gone, Views, Viewed}
+use Rattle.viewed_steps.specs.Sound.{IsResting, HoldsAt, ArePlaced, NoneAbove, ViewStage, stages_of, GoneElsewhere, AreWaiting, IsRunning, AreTurned, AreLeft, Follows, steps_on, leaves_scope, begins_main, calls_one, ends_one, LeadsAlong}
+use Rattle.viewed_steps.specs.Ready.{IsReady}
+use Rattle.viewed_steps.proofs.Waiting.{StandsBetween, all_between}
+use Rattle.viewed_steps.proofs.Standing as standing
+use Rattle.viewed_steps.proofs.Packages as packages
+use Rattle.viewed_steps.proofs.Stepping.{sound_along}
+use Rattle.exact_facts.proofs.Steps.{Begins}
+use Rattle.exact_facts.proofs.Frames.{IsOn, words_told, named_begins}
+use Rattle.viewed_facts.specs.Exact.{IsDefiniteBy, IsDefiniteOf, LeadsExactly, StepsLeadExactly}
+use Rattle.viewed_facts.proofs.Steps.{named_definite}
+use Rattle.viewed_facts.proofs.Frames.{between_named, IsDefiniteHere}
+use Rattle.viewed_facts.proofs.Stepping.{told_next, told_left}
+
+module _ (table : Table) (typed : TypedProgram) (effects : Effects) (input : List ℕ) (ready : IsReady table typed effects) where
+  abbrev program : FlowProgram
+  program = flow_program table typed
+
+  abbrev s : Typing
+  s = flow_typing program
+
+  abbrev local : (x : ℕ) → is_anonymous (view_of s x) ≡ true → is_package_object s x ≡ false
+  local = standing.local table typed effects input ready
+
+  abbrev unmoved_stage : (e : Stage) → e.frame.sub ≡ 0 → (name : PlaceName) → Has (facts_of program effects e) (Moved name) → ⊥
+  unmoved_stage = packages.unmoved_stage table typed effects input ready
+
+  abbrev Between : State → ℕ → ViewStage → Type 0
+  Between state depth g = StandsBetween table typed effects unmoved_stage local state depth g
+
+  abbrev Definite : ViewStage → Way → Type 0
+  Definite g w = IsDefiniteBy (home s g.stage.depth) g.views (facts_of program effects g.stage) w
+
+  abbrev Here : ℕ → Views → List Fact → List ViewStage → Way → Type 0
+  Here depth v own older w = IsDefiniteHere table typed effects unmoved_stage local depth v own older w
+
+  abbrev AllTold : Memory → List ViewStage → Type 0
+  AllTold m stages = Told (seen s m [] []) (IsDefiniteOf program effects stages)
+
+  unmoved : (g : ViewStage) → g.stage.frame.sub ≡ 0 → (w : Way) → Definite g w → ⊥
+  unmoved g is w definite = unmoved_stage g.stage is (name_of definite.0) definite.1.1
+
+  -- ---- one more point
+
+  -- the facts of a frame then
+  abbrev facts_then : Stage → List Fact
+  facts_then g = facts_before (path_points program effects (sub_of program g.frame.sub)) (g.frame.next ∷ g.before)
+
+  facts_onward : (g h : Stage) → IsOnward g h → facts_of program effects h ≡ facts_then g
+  facts_onward g h on = (λ j. facts_before (path_points program effects (sub_of program (on.0 j))) (on.2 j))
+
+  then_there : (g h : Stage) → IsOnward g h → (v : Views) (w : Way) → IsDefiniteBy (home s h.depth) v (facts_of program effects h) w
+      → IsDefiniteBy (home s g.depth) v (facts_then g) w
+  then_there g h on v w definite =
+      subst (λ d. IsDefiniteBy (home s d) v (facts_then g) w) on.1 (subst (λ z. IsDefiniteBy (home s h.depth) v z w) (facts_onward g h on) definite)
+
+  none_yet : (g : ViewStage) → g.stage.before ≡ [] → (w : Way) → Definite g w → ⊥
+  none_yet g fresh w definite =
+      subst (λ z. Has (facts_before (path_points program effects (sub_of program g.stage.frame.sub)) z) (Moved (name_of definite.0))) fresh definite.1.1
+
+  same_stage : (g h : ViewStage) → g ≡ h → (w : Way) → Definite h w → Definite g w
+  same_stage g h is w definite = subst (λ (z : ViewStage). Definite z w) (sym is) definite
+
+  -- ---- a call, and the end of one
+
+  told_called : (m n : Memory) (stages : List ViewStage) → ((g : ViewStage) → Has stages g → (w : Way) → Definite g w → Named (home s g.stage.depth) w)
+      → AreSameWords s (λ f. Unit {0}) m n → AllTold m stages → AllTold n stages
+  told_called m n stages named same told =
+      words_told s (λ f. Unit {0}) m n same (IsDefiniteOf program effects stages)
+      (λ w is. named_begins s (λ f. Unit {0}) m n same (is.0).stage.depth tt tt w (named is.0 is.1 w is.2)) told
+
+  told_ended : (state : State) (depth : ℕ) (m n : Memory) (stages : List ViewStage) → ((g : ViewStage) → Has stages g → Between state depth g)
+      → AreSameWords s (λ f. f ≡ depth → ⊥) m n → AllTold m stages → AllTold n stages
+  told_ended state depth m n stages between same told =
+      words_told s (λ f. f ≡ depth → ⊥) m n same (IsDefiniteOf program effects stages) begins_there told
+    where
+      begins_there : (w : Way) → IsDefiniteOf program effects stages w → Begins (IsOn s (λ f. f ≡ depth → ⊥) m n same) w
+      begins_there w (g, has, definite) = elim (between g has) [
+        | inl first ↦ absurd (unmoved g first.0 w definite)
+        | inr (some, less, callee, waits) ↦ named_begins s (λ f. f ≡ depth → ⊥) m n same g.stage.depth
+            (λ e. omega (arith, less, some, e)) (λ e. omega (arith, less, e)) w
+            (between_named table typed effects unmoved_stage local state depth g (inr (some, less, callee, waits)) w definite)
+      ]
+
+  -- ---- the frames after a step
+
+  -- A step goes on in its frame, or the scope of an object ends there.
+  abbrev Stays : Instruction → Views → Views → Type 0
+  Stays i before later =
+      (IsNoCall i × (i ≡ Finish → ⊥) × ((y : ℕ) → i ≡ EndScope y → ⊥) × AreTurned i before later) ⊎ ((y : ℕ) × (i ≡ EndScope y) × AreLeft y before later)
+
+  module _ (i : Instruction) (state after_step : State) (top : ViewStage) (older : List ViewStage) (packages_first : older ≡ [] → top.stage.frame.sub ≡ 0)
+      (between : (g : ViewStage) → Has older g → StandsBetween table typed effects unmoved_stage local state top.stage.depth g)
+      (top_named : (w : Way) → IsDefiniteBy (home (flow_typing (flow_program table typed)) top.stage.depth) top.views (facts_of (flow_program table typed) effects top.stage) w
+      → Named (home (flow_typing (flow_program table typed)) top.stage.depth) w)
+      (told : Told (seen (flow_typing (flow_program table typed)) state.memory [] []) (IsDefiniteOf (flow_program table typed) effects (top ∷ older)))
+      (next : ViewStage) (around : List ViewStage)
+      (told_step : IsOnward top.stage next.stage → Stays i top.views next.views
+      → Told (seen (flow_typing (flow_program table typed)) after_step.memory [] [])
+      (IsDefiniteHere table typed effects unmoved_stage local top.stage.depth next.views
+      (facts_before (path_points (flow_program table typed) effects (sub_of (flow_program table typed) top.stage.frame.sub)) (top.stage.frame.next ∷ top.stage.before)) older)) where
+    all_named : (g : ViewStage) → Has (top ∷ older) g → (w : Way) → Definite g w → Named (home s g.stage.depth) w
+    all_named g (inl is) w definite = subst (λ (z : ViewStage). Named (home s z.stage.depth) w) is (top_named w (same_stage top g is w definite))
+    all_named g (inr has) w definite = between_named table typed effects unmoved_stage local state top.stage.depth g (between g has) w definite
+
+    onward_told : IsOnward top.stage next.stage → Stays i top.views next.views → around ≡ older → AllTold after_step.memory (next ∷ around)
+    onward_told on stays same w l (g, inl is, definite) reaches =
+        told_step on stays w l (inl (then_there top.stage next.stage on next.views w (same_stage next g is w definite))) reaches
+    onward_told on stays same w l (g, inr has, definite) reaches =
+        told_step on stays w l (inr (g, subst (λ gs. Has gs g) same has, definite)) reaches
+
+    follows_told : Follows program effects i state.memory top older after_step.memory next around → AllTold after_step.memory (next ∷ around)
+    follows_told (steps_on calls end going on turned same) = onward_told on (inl (calls, end, going, turned)) same
+    follows_told (leaves_scope y is on left same) = onward_told on (inr (y, is, left)) same
+    follows_told (begins_main below none same on fresh) = λ w l (g, has, definite) reaches. absurd (by_frame below none same on fresh w g has definite)
+      where
+        by_frame : (below : ViewStage) → older ≡ [] → around ≡ below ∷ [] → IsOnward top.stage below.stage → next.stage.before ≡ [] → (w : Way) (g : ViewStage)
+            → Has (next ∷ around) g → Definite g w → ⊥
+        by_frame below none same on fresh w g (inl is) definite = none_yet next fresh w (same_stage next g is w definite)
+        by_frame below none same on fresh w g (inr has) definite = elim (subst (λ gs. Has gs g) same has) [
+          | inl is ↦ unmoved below (on.0 ∙ packages_first none) w (same_stage below g is w definite)
+          | inr never ↦ never
+        ]
+    follows_told (calls_one waits same on fresh fewer words) = λ w l (g, has, definite) reaches. by_frame waits same on fresh fewer words w l g has definite reaches
+      where
+        by_frame : (waits : Stage) → around ≡ record { stage = waits; views = top.views } ∷ older → IsOnward top.stage waits → next.stage.before ≡ []
+            → ((f : Fact) → Has (facts_of program effects waits) f → Has (facts_of program effects top.stage) f) → AreSameWords s (λ f. Unit {0}) state.memory after_step.memory
+            → (w : Way) (l : Loc) (g : ViewStage) → Has (next ∷ around) g → Definite g w → Reaches (seen s after_step.memory [] []) w l
+            → (seen s after_step.memory [] []).word l ≡ Gone
+        by_frame waits same on fresh fewer words w l g (inl is) definite reaches = absurd (none_yet next fresh w (same_stage next g is w definite))
+        by_frame waits same on fresh fewer words w l g (inr has) definite reaches =
+            let all : AllTold after_step.memory (top ∷ older) = told_called state.memory after_step.memory (top ∷ older) all_named words told in
+            elim (subst (λ gs. Has gs g) same has) [
+              | inr there ↦ all w l (g, inr there, definite) reaches
+              | inl is ↦ (
+                  let waiting = same_stage (record { stage = waits; views = top.views }) g is w definite in
+                  let before : IsDefiniteBy (home s waits.depth) top.views (facts_of program effects top.stage) w =
+                  (waiting.0, (waiting.1.0, fewer (Moved (name_of waiting.0)) waiting.1.1), waiting.2, waiting.3) in
+                  all w l (top, inl refl, subst (λ d. IsDefiniteBy (home s d) top.views (facts_of program effects top.stage) w) on.1 before) reaches)
+            ]
+    follows_told (ends_one same words) = λ w l (g, has, definite) reaches.
+        told_ended state top.stage.depth state.memory after_step.memory older between words
+        (λ v k (h, there, is) r. told v k (h, inr there, is) r) w l (g, subst (λ gs. Has gs g) (sym same) has, definite) reaches
+
+  -- ---- what holds at a step
+
+  packages_of : (state : State) (top : Stage) (views : Views) (older : List ViewStage) → IsRunning table typed effects state (record { stage = top; views = views }) older
+      → older ≡ [] → top.frame.sub ≡ 0
+  packages_of state top views [] running none = running.0
+  packages_of state top views (below ∷ more) running none = cc
+
+  between_of : (state : State) (top : Stage) (views : Views) (older : List ViewStage) (fs : List Frame) → AreStages (top ∷ stages_of older) fs
+      → IsRunning table typed effects state (record { stage = top; views = views }) older → (g : ViewStage) → Has older g → Between state top.depth g
+  between_of state top views older [] stages running g has = absurd stages
+  between_of state top views [] (f ∷ outer) stages running g has = absurd has
+  between_of state top views (below ∷ more) (f ∷ outer) stages running g has =
+      all_between table typed effects unmoved_stage local state top.frame.sub top.depth (below ∷ more) outer stages.2
+      (let deep = stages.1 in omega (arith, deep)) running.2 g has
+
+  none_then : (top : Stage) → top.frame.sub ≡ 0 → (v : Views) (w : Way) → Here top.depth v (facts_then top) [] w → ⊥
+  none_then top first v w (inr (g, has, definite)) = has
+  none_then top first v w (inl definite) =
+      unmoved (record { stage = record { frame = top.frame; depth = top.depth; before = top.frame.next ∷ top.before; returns = top.returns }; views = v }) first w definite
+
+  -- the views afterwards are views, and nothing is moved through an observer
+  abbrev AreClearThen : Stage → Views → Type 0
+  AreClearThen top later =
+      ((x : ℕ) (w : Way) → later.way x ≡ Some w → is_anonymous (view_of s x) ≡ true)
+      × ((n : PlaceName) → Has (facts_then top) (Moved n) → is_observer s n.root ≡ false)
+
+  module _ (state : State) (top : Stage) (below : ViewStage) (more_frames : List ViewStage) (rest : List Frame) (named : NamedSub) (p : NamedPoint)
+      (frames : state.frames ≡ top.frame ∷ (below.stage.frame ∷ rest)) (deep : top.depth ≡ suc (length rest))
+      (stages : AreStages (stages_of (below ∷ more_frames)) (below.stage.frame ∷ rest))
+      (running : IsProcedure table typed top.frame.sub × IsResting s top × AreWaiting table typed effects state top.frame.sub (below ∷ more_frames))
+      (of_sub : IsNamedSub (flow_named table typed) top.frame.sub named) (at_point : IsAtPoint named.points top.frame.next p)
+      (path : ControlPath (path_points program effects (sub_of program top.frame.sub)) top.before top.frame.next) (views : Views)
+      (viewed_before : Viewed (home s (suc (length rest))) (is_observer s) (known_gone (home s (suc (length rest))) (GoneElsewhere program effects (below ∷ more_frames))) views
+      (view_here s state) (facts_of program effects top))
+      (kept : Kept s state.memory (waiting_in state)) (scope : InScope s state.memory (suc (length rest)) p.scope) (holds : HoldsAt s (suc (length rest)) views state.memory p)
+      (placed_before : ArePlaced program (facts_of program effects top) views p.scope) (above : NoneAbove s (suc (length rest)) state.memory)
+      (exact_before : Told (seen s state.memory [] []) (IsDefiniteOf program effects (record { stage = top; views = views } ∷ (below ∷ more_frames)))) where
+    main_told : (next : State) → step program input state ≡ Goes next → (later : Views) → AreClearThen top later → Stays p.instr views later
+        → Told (seen s next.memory [] []) (Here (suc (length rest)) later (facts_then top) (below ∷ more_frames))
+    main_told next goes later (only, clear) (inr (y, is, left)) =
+        subst (λ (z : FlowSub). Told (seen s next.memory [] []) (Here (suc (length rest)) later (facts_before (path_points program effects z) (top.frame.next ∷ top.before)) (below ∷ more_frames)))
+        (sym (sub_there table typed top.frame.sub named of_sub)) (told_left table typed effects input ready state top below more_frames rest named p frames deep stages running of_sub at_point path views viewed_before kept scope holds placed_before above exact_before y is next goes later only left)
+    main_told next goes later (only, clear) (inl (calls, end, going, turned)) =
+        elim (calls_cases p.instr (standing.calls_there table typed effects input ready state top (below ∷ more_frames) (below.stage.frame ∷ rest) named p frames of_sub at_point)) [
+          | inr call ↦ absurd (calls call.0 call.1 None call.2)
+          | inl plain ↦
+              subst (λ (z : FlowSub). Told (seen s next.memory [] []) (Here (suc (length rest)) later (facts_before (path_points program effects z) (top.frame.next ∷ top.before)) (below ∷ more_frames)))
+              (sym (sub_there table typed top.frame.sub named of_sub))
+              (told_next table typed effects input ready state top below more_frames rest named p frames deep stages running of_sub at_point path views viewed_before kept scope holds placed_before above exact_before going plain end next goes later only
+              (λ n has. clear n (subst (λ (z : FlowSub). Has (facts_before (path_points program effects z) (top.frame.next ∷ top.before)) (Moved n))
+              (sym (sub_there table typed top.frame.sub named of_sub)) has)) turned)
+        ]
+
+  step_told : (state : State) (top : Stage) (views : Views) (older : List ViewStage) (fs : List Frame) → state.frames ≡ fs → AreStages (top ∷ stages_of older) fs
+      → IsRunning table typed effects state (record { stage = top; views = views }) older
+      → ControlPath (path_points program effects (sub_of program top.frame.sub)) top.before top.frame.next
+      → Viewed (home s top.depth) (is_observer s) (known_gone (home s top.depth) (GoneElsewhere program effects older)) views (view_here s state) (facts_of program effects top)
+      → Kept s state.memory (waiting_in state)
+      → (named : NamedSub) → IsNamedSub (flow_named table typed) top.frame.sub named → (p : NamedPoint) → IsAtPoint named.points top.frame.next p
+      → InScope s state.memory top.depth p.scope → HoldsAt s top.depth views state.memory p → ArePlaced program (facts_of program effects top) views p.scope
+      → NoneAbove s top.depth state.memory → Told (seen s state.memory [] []) (IsDefiniteOf program effects (record { stage = top; views = views } ∷ older))
+      → (next : State) → step program input state ≡ Goes next → (later : Views) → AreClearThen top later → Stays p.instr views later
+      → Told (seen s next.memory [] []) (Here top.depth later (facts_then top) older)
+  step_told state top views [] fs is stages running path well kept named of_sub p at_point scope holds there above exact next goes later clear stays =
+      λ w l definite reaches. absurd (none_then top running.0 later w definite)
+  step_told state top views (below ∷ more) (f ∷ (g ∷ rest)) is (frame, deep, (around_frame, deeper, others)) running path well kept named of_sub p at_point scope holds there above exact
+      next goes later clear stays =
+      subst (λ d. Told (seen s next.memory [] []) (Here d later (facts_then top) (below ∷ more))) (sym deep)
+      (main_told state top below more rest named p (is ∙ (λ j. sym frame j ∷ (sym around_frame j ∷ rest))) deep (refl, deeper, others) running of_sub at_point path views
+      (subst (λ d. Viewed (home s d) (is_observer s) (known_gone (home s d) (GoneElsewhere program effects (below ∷ more))) views (view_here s state) (facts_of program effects top)) deep well) kept
+      (subst (λ d. InScope s state.memory d p.scope) deep scope) (subst (λ d. HoldsAt s d views state.memory p) deep holds) there
+      (subst (λ d. NoneAbove s d state.memory) deep above) exact next goes later clear stays)
+  step_told state top views (below ∷ more) [] is stages running path well kept named of_sub p at_point scope holds there above exact next goes later clear stays = absurd stages
+  step_told state top views (below ∷ more) (f ∷ []) is stages running path well kept named of_sub p at_point scope holds there above exact next goes later clear stays = absurd stages.2
+
+  pub exactly_step : StepsLeadExactly table typed effects input
+  exactly_step state (sound, exact) = by (step program input state) refl (sound_along table typed effects input ready state sound)
+    where
+      by : (outcome : Outcome) → step program input state ≡ outcome
+          → LeadsAlong table typed effects sound.point.instr state.memory (record { stage = sound.top; views = sound.views }) sound.older outcome
+          → LeadsExactly table typed effects outcome
+      by (Ends how after_step) is leads = tt
+      by (Goes after_step) is leads = (
+        leads.0,
+        follows_told sound.point.instr state after_step (record { stage = sound.top; views = sound.views }) sound.older (packages_of state sound.top sound.views sound.older sound.running)
+            (between_of state sound.top sound.views sound.older state.frames sound.stages sound.running)
+            (named_definite (home s sound.top.depth) (is_observer s) (known_gone (home s sound.top.depth) (GoneElsewhere program effects sound.older)) sound.views (λ z. ⊥) (λ k w under at none. none)
+            (view_here s state) (facts_of program effects sound.top) sound.viewed)
+            exact (record { stage = (leads.0).top; views = (leads.0).views }) (leads.0).older
+            (λ on stays. step_told state sound.top sound.views sound.older state.frames refl sound.stages sound.running sound.path sound.viewed sound.kept sound.named sound.of_sub sound.point
+            sound.at_point sound.scope sound.holds sound.placed sound.none_above exact after_step is (leads.0).views (
+              (leads.0).holds.only,
+              λ n has. (leads.0).viewed.clear.owned n (subst (λ z. Has z (Moved n)) (sym (facts_onward sound.top (leads.0).top on)) has),
+            ) stays)
+            leads.1,
+      )
