@@ -1,5 +1,5 @@
 -- A call leads on, in the frame of what is called.
-use Rattle.std.proofs.Common.{◌≡◌, refl, sym, ap, ◌∙◌, subst, ◌⊎◌, inl, inr, ℕ, suc, ◌<◌, true, false, ◌||◌, List, [], ◌∷◌, ◌++◌, map, flat_map, is_some, drop, length, get_or, arith, append-nil, Some, None, if◌then◌else◌}
+use Rattle.std.proofs.Common.{◌≡◌, refl, sym, ap, ◌∙◌, subst, ◌⊎◌, inl, inr, ℕ, suc, ◌<◌, Bool, true, false, ◌||◌, List, [], ◌∷◌, ◌++◌, map, flat_map, is_some, drop, length, get_or, arith, append-nil, Some, None, if◌then◌else◌}
 use Rattle.spark_base.specs.Lists.{Has}
 use Rattle.spark_base.proofs.Lists.{Has-append_left, Has-map_from}
 use Rattle.place_names.specs.declared.act.Act.{Act}
@@ -39,7 +39,7 @@ use Rattle.owned_ways.specs.Ways.{Step, Way, after, AllowsAll}
 use Rattle.owned_ways.specs.Ways as ways
 use Rattle.owned_ways.proofs.Locations.{reaches_along, named_along as rooted_along}
 use Rattle.soundness.specs.Seen.{IsNear, is_view_formal, content, seen, home, trunk, word_in}
-use Rattle.soundness.proofs.Contents.{word_root}
+use Rattle.soundness.proofs.Contents.{word_root, word_no}
 use Rattle.soundness.specs.Typed.{Kept}
 use Rattle.soundness.specs.Sound.{Stage, facts_of, AreStages, AreCopied, Uses, IsProcedure, InScope, IsNamedSub, IsAtPoint, view_of as view_here}
 use Rattle.soundness.proofs.Stays.{Quiet}
@@ -47,7 +47,7 @@ use Rattle.soundness.proofs.Numbers.{index_law}
 use Rattle.soundness.proofs.Lasting.{keeps}
 use Rattle.soundness.proofs.Passing.{AreReads, reads_keep, entered, signature_is}
 use Rattle.soundness.proofs.Scalars.{acts, acts_append, after_append, allows_both}
-use Rattle.soundness.proofs.Points.{named_has, sub_there, sub_in_range, point_there, path_there}
+use Rattle.soundness.proofs.Points.{sub_there, sub_in_range, point_there, path_there}
 use Rattle.soundness.proofs.Inherited.{AreGlobal, global_after, global_allowed, global_apart}
 use Rattle.soundness.proofs.Used.{called_used, added_after, used_global, called_are, globals_are}
 use Rattle.soundness.proofs.Around.{IsFar}
@@ -61,7 +61,7 @@ use Rattle.viewed_soundness.proofs.Evaluated.{live_trunk}
 use Rattle.viewed_soundness.proofs.Outcomes.{start_is, hands_behind}
 use Rattle.viewed_steps.specs.Sound.{IsResting, HoldsAt, ArePlaced, NoneAbove, ViewStage, stages_of, GoneElsewhere, LendOwn, IsWaiting, AreWaiting, LeadsOn, IsKindOfFormal, AreReturned, calls_one, LeadsAlong}
 use Rattle.viewed_steps.specs.Taken.{TakenBy, AreTaken}
-use Rattle.viewed_steps.specs.Ready.{roots_passed, AreDifferent, IsCalled, IsReady}
+use Rattle.viewed_steps.specs.Ready.{roots_passed, IsCalled, IsReady}
 use Rattle.viewed_steps.proofs.Lent.{Spare, spare_both, loans_stay}
 use Rattle.viewed_steps.proofs.Placed.{within_on, scope_on, placed_on}
 use Rattle.viewed_steps.proofs.Ended.{none_some}
@@ -386,9 +386,6 @@ module _ (table : Table) (typed : TypedProgram) (effects : Effects) (input : Lis
 
       -- ---- what is passed
 
-      callee_formals : formals ≡ called.procedure.named.sub.formals
-      callee_formals = ap (λ (z : FlowSub). z.formals) (sub_there table typed n called.procedure.named called.procedure.stands)
-
       abbrev next_there : List ℕ
       next_there = (at_successor.0).scope
 
@@ -434,8 +431,7 @@ module _ (table : Table) (typed : TypedProgram) (effects : Effects) (input : Lis
             × ((k : Way) → Has ways_taken k → IsNamedBy s formals actuals k)
         all_passed_ways =
             all_passed_on s ready.owns depth facts_called next_there formals actuals passed own_facts (given_laid passed given) kinds
-            (λ x has. ready.scoped.local x (called.formals x has))
-            (subst AreDifferent (sym callee_formals) (ready.scoped.differ called.procedure.named (named_has (flow_named table typed) n called.procedure.named called.procedure.stands)))
+            called.local called.differ
             within_next no_overlap
             (ap (λ z. after z own_facts) (acts_append values copies) ∙ after_append (acts values) (acts copies) own_facts
             ∙ ap (after (acts copies)) (reads_keep values reads_there own_facts))
@@ -637,11 +633,7 @@ module _ (table : Table) (typed : TypedProgram) (effects : Effects) (input : Lis
                 | inl less ↦ inl (omega (arith, less))
                 | inr mine ↦ (let is = mine.0 in inl (omega (arith, is)))
               ]
-              | inr mine ↦ inr (
-                mine.0,
-                ready.scoped.begins called.procedure.named (named_has (flow_named table typed) n called.procedure.named called.procedure.stands) called.procedure.point called.procedure.points
-                    called.procedure.begins x (subst (λ z. Has z x) callee_formals mine.1),
-              )
+              | inr mine ↦ inr (mine.0, called.begins x mine.1 (owning_there f x q k held))
             ];
             holds = record {
               held = λ x k lasts view at. absurd (no_view x k view at);
@@ -654,6 +646,21 @@ module _ (table : Table) (typed : TypedProgram) (effects : Effects) (input : Lis
           calls_one waits_stage refl (refl, refl, refl) refl none_new (λ scalars. declared_there.words (λ x has. scalars x (called.formals x has))),
         )
           where
+            -- what has a number owns
+            owning_there : (f x : ℕ) (q : List Step) (k : ℕ) → word_in s.table (content s with_all [] (ways.OfRoot (ways.OfVariable f x))) q ≡ ways.Held k
+                → is_owning s.table (object_at s x).of ≡ true
+            owning_there f x q k held = by_type (is_owning s.table (object_at s x).of) refl
+              where
+                by_type : (b : Bool) → is_owning s.table (object_at s x).of ≡ b → b ≡ true
+                by_type true is = refl
+                by_type false is =
+                    let none = word_no s.table (content s with_all [] (ways.OfRoot (ways.OfVariable f x))) q
+                    ((keeps s ready.accepted.settled ready.owns).ownerless (object_at s x).of is q) in
+                    absurd (no_number (sym none ∙ held))
+                  where
+                    no_number : ways.Empty ≡ ways.Held k → ⊥
+                    no_number same_word = cc
+
             no_view : (x k : ℕ) → is_anonymous (view_of s x) ≡ true
                 → (get_or (variable_slots s (home s (suc depth) x) x with_all.variables) 0 no_slot).word ≡ machine.Cell k → ⊥
             no_view x k view at =

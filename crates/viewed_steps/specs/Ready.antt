@@ -9,7 +9,7 @@ use Rattle.place_names.specs.declared.act.Placed.{Placed}
 use Rattle.place_names.specs.declared.fact.Fact.TheVariants.{Moved}
 use Rattle.place_names.specs.Facts.{adds}
 use Rattle.place_names.specs.Names.{Name as PlaceName}
-use Rattle.type_definitions.specs.Types.{Table, full, is_scalar}
+use Rattle.type_definitions.specs.Types.{Table, full, is_scalar, is_owning}
 use Rattle.typed_tree.specs.Trees.{TypedTree, Name, NoMore, More}
 use Rattle.typed_tree.specs.Programs.{TypedSub, TypedProgram}
 use Rattle.flow_paths.specs.declared.report.Effects.{Effects}
@@ -55,13 +55,9 @@ pub record AreScoped (table : Table) (typed : TypedProgram) : Type 0 where
       → is_package_object (flow_typing (flow_program table typed)) x ≡ false
   pub finishes : (sub : NamedSub) → Has (flow_named table typed) sub → (p : NamedPoint) → Has sub.points p → p.instr ≡ Finish
       → (x : ℕ) → is_within x p.scope ≡ true → (is_formal (flow_typing (flow_program table typed)) x ≡ true) × Has sub.sub.formals x
-  pub begins : (sub : NamedSub) → Has (flow_named table typed) sub → (p : NamedPoint) (rest : List NamedPoint) → sub.points ≡ p ∷ rest
-      → (x : ℕ) → Has sub.sub.formals x → is_within x p.scope ≡ true
   pub passed : (sub : NamedSub) → Has (flow_named table typed) sub → (p : NamedPoint) → Has sub.points p → (n : ℕ) (actuals : TypedTree) (result : Option ℕ)
       → p.instr ≡ Call n actuals result → (x : ℕ) → Has (roots_passed actuals) x
       → (is_package_object (flow_typing (flow_program table typed)) x ≡ true) ⊎ (is_within x p.scope ≡ true)
-  pub differ : (sub : NamedSub) → Has (flow_named table typed) sub → AreDifferent sub.sub.formals
-  pub local : (x : ℕ) → is_formal (flow_typing (flow_program table typed)) x ≡ true → is_package_object (flow_typing (flow_program table typed)) x ≡ false
 
 -- The package objects are declared one by one, and nothing is moved for them.
 pub record AreElaborated (program : FlowProgram) : Type 0 where
@@ -84,11 +80,16 @@ abbrev pub AreActualsTo : Typing → List ℕ → TypedTree → Type 0
 AreActualsTo s (x ∷ formals) (More e rest) = IsActualTo s x (object_at s x).mode e × AreActualsTo s formals rest
 AreActualsTo s formals actuals = (x : ℕ) → Has formals x → IsScalarObject s x
 
--- A subprogram that is called is a procedure. (Where none is called, nothing is asked of object 0,
+-- A subprogram that is called is a procedure. Its formals differ, belong to no package, and are in scope at
+-- first if they may own. (Where none is called, nothing is asked of object 0,
 -- which is Ada.Text_IO.)
 pub record IsCalled (table : Table) (typed : TypedProgram) (n : ℕ) (actuals : TypedTree) : Type 0 where
   pub procedure : IsProcedure table typed n
   pub formals : (x : ℕ) → Has (sub_of (flow_program table typed) n).formals x → is_formal (flow_typing (flow_program table typed)) x ≡ true
+  pub differ : AreDifferent (sub_of (flow_program table typed) n).formals
+  pub local : (x : ℕ) → Has (sub_of (flow_program table typed) n).formals x → is_package_object (flow_typing (flow_program table typed)) x ≡ false
+  pub begins : (x : ℕ) → Has (sub_of (flow_program table typed) n).formals x
+      → is_owning (flow_program table typed).table (object_at (flow_typing (flow_program table typed)) x).of ≡ true → is_within x procedure.point.scope ≡ true
   pub actuals_stay : AreActualsTo (flow_typing (flow_program table typed)) (sub_of (flow_program table typed) n).formals actuals
   pub text_io : is_package_object (flow_typing (flow_program table typed)) 0 ≡ false
 
